@@ -1,0 +1,12 @@
+pub mod Admission
+pub mod Emission
+pub mod History
+pub mod Leader
+pub mod Lists
+pub mod Message
+pub mod Names
+pub mod Numbers
+pub mod Order
+pub mod Place
+pub mod Ring
+pub mod Texts

@@ -1,0 +1,35 @@
+-- Runs of a ring of n nodes.
+use Rattle.std.specs.Prelude.{ℕ, ◌≡◌, ◌==◌, ◌≤◌, if◌then◌else◌, List, [], length, Option, Some, None, slice_get}
+use Rattle.std.specs.List.{filter_map}
+use Rattle.ring_records.specs.declared.input.Input.{Input}
+use Rattle.ring_records.specs.declared.input.Input.TheVariants.{Stand, Take, Acked}
+use Rattle.ring_records.specs.Admission.{Base, fresh, IsAllowed, Fits}
+use Rattle.ring_records.specs.Emission.{sent}
+use Rattle.ring_records.specs.History.{taken}
+use Rattle.ring_records.specs.Lists.{EachAfter}
+use Rattle.ring_records.specs.Place.{before, after}
+
+unfoldable pub item_at : {A : Type 0} → ℕ → ℕ × A → Option A
+item_at i step = if step.0 == i then Some step.1 else None
+
+-- what belongs to node i, as its inputs in a run
+unfoldable pub part : {A : Type 0} → List (ℕ × A) → ℕ → List A
+part run i = filter_map (item_at i) run
+
+-- a message that is taken was sent by the node before, and the node after took as many as are credited
+unfoldable pub IsCarried : ℕ → List (ℕ × Input) → ℕ → Input → Type 0
+IsCarried n run i (Stand key bid) = Unit {0}
+IsCarried n run i (Take place msg) = slice_get (sent (before n i) (part run (before n i))) place ≡ Some msg
+IsCarried n run i (Acked upto) = upto ≤ length (taken (part run (after n i)))
+
+-- the step, an input at a node, may come after the run
+pub record MayFollow (n capacity : ℕ) (run : List (ℕ × Input)) (step : ℕ × Input) : Type 0 where
+  pub first : 1 ≤ step.0
+  pub last : step.0 ≤ n
+  pub allowed : IsAllowed step.0 n (part run step.0) step.1
+  pub fits : Fits capacity fresh (part run step.0) step.1
+  pub carried : IsCarried n run step.0 step.1
+
+-- Ring run: each step may come after those before it
+unfoldable pub IsLegal : ℕ → ℕ → List (ℕ × Input) → Type 0
+IsLegal n capacity run = EachAfter (MayFollow n capacity) [] run
