@@ -1,1 +1,9 @@
-mod NameLemmas
+pub mod Admission
+pub mod Emission
+pub mod Growth
+pub mod History
+pub mod Keys
+pub mod Leader
+pub mod Lists
+mod Names
+pub mod Ring

@@ -3,7 +3,7 @@ use Rattle.std.specs.Prelude.{ℕ, ◌≡◌, ◌==◌, ◌≤◌, if◌then◌e
 use Rattle.std.specs.List.{filter_map}
 use Rattle.ring_records.specs.declared.input.Input.{Input}
 use Rattle.ring_records.specs.declared.input.Input.TheVariants.{Stand, Take, Acked}
-use Rattle.ring_records.specs.Admission.{Base, fresh, IsAllowed, Fits}
+use Rattle.ring_records.specs.Admission.{fresh, IsAllowed, Fits}
 use Rattle.ring_records.specs.Emission.{sent}
 use Rattle.ring_records.specs.History.{taken}
 use Rattle.ring_records.specs.Lists.{EachAfter}
