@@ -1,8 +1,10 @@
 pub mod Admission
+pub mod Compare
 pub mod Emission
 pub mod Growth
 pub mod History
 pub mod Keys
+pub mod Latest
 pub mod Leader
 pub mod Lists
 mod Names

@@ -50,3 +50,9 @@ greater_term (Some a) b = if nat_lt a.0 b.0 then Some b else Some a
 -- the greatest term of the group with a leader, and that leader: only a term that a message was taken for can have one
 unfoldable pub latest : ℕ → List Input → List ℕ → Option (ℕ × Candidate)
 latest me h group = fold greater_term None (filter_map (term_led me h group) (taken h))
+
+-- the latest leader of a group, once the leader for a key went from `before` to `now`
+abbrev pub noted : Option Candidate → Option Candidate → Key → List ℕ → Option (ℕ × Candidate) → Option (ℕ × Candidate)
+noted None None key group known = known
+noted None (Some c) key group known = if bytes_eq key.group group then greater_term known (key.term, c) else known
+noted (Some b) now key group known = known

@@ -37,6 +37,13 @@ impl NodeNo {
         }
     }
 
+    /// The first node of every ring.
+    pub fn first() -> NodeNo
+        ensures { result ≡ 1 }
+    {
+        NodeNo { number: 1 }
+    }
+
     /// Its number, 1 to 16.
     pub fn number(self) -> u8
         ensures value { result ≡ self }
@@ -50,7 +57,8 @@ impl NodeNo {
     pub fn successor(self, size: u8) -> NodeNo
         requires inside { self ≤ size }
         requires limit { size ≤ 16 }
-        ensures { result ≡ after size self }
+        ensures value { result ≡ after size self }
+        ensures inside { result ≤ size }
     {
         if self.number == size {
             NodeNo { number: 1 }
@@ -66,7 +74,8 @@ impl NodeNo {
     pub fn predecessor(self, size: u8) -> NodeNo
         requires inside { self ≤ size }
         requires limit { size ≤ 16 }
-        ensures { result ≡ before size self }
+        ensures value { result ≡ before size self }
+        ensures inside { result ≤ size }
     {
         if self.number == 1 {
             NodeNo { number: size }

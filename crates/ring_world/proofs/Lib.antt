@@ -1,0 +1,4 @@
+mod Members
+mod Runs
+mod Sweeps
+mod Tables

@@ -1,0 +1,6 @@
+pub mod Answer
+pub mod State
+pub mod Step
+pub mod Table
+pub mod Member
+pub mod Sound

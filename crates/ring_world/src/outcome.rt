@@ -1,0 +1,13 @@
+// What an event brings.
+use ring_records::Reply;
+
+/// What an event brings.
+#[derive(Drop)]
+pub struct Outcome {
+    /// The ticket number that it took, from 1 on.
+    pub ticket: Option<u64>,
+    /// How many deliveries were accepted, for the event that makes them all.
+    pub delivered: Option<u32>,
+    /// The tickets that are answered now, each with its reply, in order.
+    pub replies: Vec<(u64, Reply)>,
+}

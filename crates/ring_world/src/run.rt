@@ -1,0 +1,85 @@
+// The run of a ring: what its nodes accepted.
+ghost use Rattle.std.specs.Prelude.{◌≡◌, ◌+◌, ◌-◌, ◌<◌, ◌≤◌, ◌++◌, ◌∷◌, [], ℕ, IfOk, OnOk, map};
+ghost use Rattle.std.specs.List.{cons_option};
+ghost use Rattle.ring_records.specs.Ring.{part};
+ghost use Rattle.ring_world.specs.Answer.{input_of, accepted_by, gained, answer};
+ghost use Rattle.ring_world.specs.Sound.{Shows};
+
+use crate::member::Member;
+use ring_records::{
+    Bid, Candidate, GroupName, Input, Key, Msg, NodeNo, Refusal, Reply, Request, Term,
+};
+use std::alloc::AllocError;
+use std::marker::Model;
+
+/// An input, with the node that accepted it.
+#[derive(Drop)]
+pub struct Step {
+    node: NodeNo,
+    input: Input,
+}
+
+impl Model for Step {
+    ghost use Rattle.std.specs.Prelude.{ℕ};
+    ghost use Rattle.ring_records.specs.declared.input.Input.{Input};
+
+    ghost Value = { ℕ × Input };
+
+    ghost view = { λ step. (step.node, step.input) };
+}
+
+#[tactic(auto, unfolding(crate::specs::Answer::input_of))]
+fn input_of(request: &Request) -> Option<Input>
+    ensures { result ≡ input_of request.now }
+{
+    match *request {
+        Request::Stand(key, bid) => Some(Input::Stand { key, bid }),
+        Request::Take(no, msg) => Some(Input::Take { no, msg }),
+        Request::Acked(upto) => Some(Input::Acked { upto }),
+        Request::Who(_) => None,
+        Request::Latest(_) => None,
+    }
+}
+
+fn accepted(request: &Request, reply: &Reply) -> Option<Input>
+    ensures { result ≡ accepted_by request.now reply.now }
+{
+    match reply {
+        Reply::Stood => input_of(request),
+        Reply::Taken => input_of(request),
+        Reply::Acked => input_of(request),
+        Reply::Leader(_) => None,
+        Reply::Latest(_) => None,
+        Reply::Refused(_) => None,
+    }
+}
+
+fn record(run: &mut Vec<Step>, node: NodeNo, accepted: Option<Input>) -> Result<(), AllocError>
+    ensures { OnOk result (run.new.items ≡ run.old.items ++ map (λ x. (node, x)) (cons_option accepted [])) }
+{
+    if let Some(input) = accepted {
+        run.push(Step { node, input })?;
+    }
+    Ok(())
+}
+
+/// Asks a node, and records the input that it accepts.
+pub fn ask(
+    members: &mut [Member],
+    run: &mut Vec<Step>,
+    size: u8,
+    node: NodeNo,
+    request: &Request,
+) -> Result<Reply, AllocError>
+    requires inside { node ≤ size }
+    requires shows { Shows size members.old run.old.items }
+    ensures reply { IfOk result (λ reply. reply ≡ answer node size (part run.old.items node) request.now) }
+    ensures run { OnOk result (run.new.items ≡ run.old.items ++ map (λ x. (node, x)) (gained size (part run.old.items node) request.now)) }
+    ensures shows { OnOk result (Shows size members.new run.new.items) }
+{
+    let member = &mut members[node.number() as usize - 1];
+    let reply = member.ask(size, request)?;
+    let input = accepted(request, &reply);
+    record(run, node, input)?;
+    Ok(reply)
+}
