@@ -101,3 +101,6 @@ impl Ballot {
         }
     }
 }
+
+#[cfg(test)]
+mod tests;
