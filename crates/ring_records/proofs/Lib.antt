@@ -5,5 +5,6 @@ pub mod History
 pub mod Keys
 pub mod Leader
 pub mod Lists
+pub mod LookBack
 mod Names
 pub mod Ring
