@@ -8,3 +8,4 @@ pub mod Lists
 pub mod LookBack
 mod Names
 pub mod Ring
+pub mod WorkedRun

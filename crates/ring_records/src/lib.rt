@@ -10,6 +10,7 @@ mod decision;
 mod group_name;
 mod input;
 mod key;
+pub mod laws;
 pub mod look_back;
 mod msg;
 mod node_no;
