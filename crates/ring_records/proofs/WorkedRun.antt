@@ -1,6 +1,5 @@
 -- That the worked run is legal, and who leads at its end.
 use Rattle.std.proofs.Common.{◌≡◌, Some, refl, lit<, lit≤}
-use Rattle.std.specs.Str.{bytes_eq}
 use Rattle.ring_records.specs.Admission.{cost, used, IsInTurn, Fits}
 use Rattle.ring_records.specs.Emission.{is_below, emit, sent}
 use Rattle.ring_records.specs.History.{names, touched, bid_for, first_stand, stood, message_of, taken, is_stand, stands}

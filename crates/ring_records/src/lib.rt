@@ -19,6 +19,8 @@ mod refusal;
 mod reply;
 mod request;
 mod term;
+#[cfg(test)]
+mod tests;
 
 pub use bid::Bid;
 pub use candidate::Candidate;

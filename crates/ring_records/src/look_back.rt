@@ -11,6 +11,9 @@ ghost use Rattle.ring_records.specs.Leader.{is_bid, makes_leader, leader, greate
 use crate::{Bid, Candidate, GroupName, Input, Key, Msg, NodeNo, Refusal, Term};
 use std::alloc::{AllocError, Global};
 
+#[cfg(test)]
+mod tests;
+
 /// Whether some Stand or Take of the history names the key.
 #[tactic(auto, unfolding(crate::specs::History::touched))]
 pub fn touched(history: &[Input], key: &Key) -> bool
