@@ -2,6 +2,7 @@
 //!
 //! `specs/` has the definitions that every promise of the service stands on: what a node's history says
 //! (History, Leader, Emission), what a node may accept next (Admission), and which runs of a ring are legal (Ring).
+//! `look_back` computes these definitions plainly, and `laws` says what follows from them alone.
 #![tactic(auto)]
 
 mod bid;

@@ -164,9 +164,6 @@ fn orders_names_keys_and_candidates(rt: HostRuntime) -> Result<(), Fail> {
 #[test]
 fn goes_round_the_ring(rt: HostRuntime) -> Result<(), Fail> {
     let (first, second, last) = (NodeNo::new(1)?, NodeNo::new(2)?, NodeNo::new(3)?);
-    if last.number() > 3 || second.number() > 3 || first.number() > 3 {
-        return Ok(());
-    }
     assert_eq!(rt; (first.successor(3), last.successor(3)), (second, first));
     assert_eq!(rt;
         (first.predecessor(3), second.predecessor(3)),
