@@ -7,5 +7,7 @@ pub mod Keys
 pub mod Latest
 pub mod Leader
 pub mod Lists
+pub mod LookBack
 mod Names
 pub mod Ring
+pub mod WorkedRun

@@ -10,3 +10,4 @@ pub mod Order
 pub mod Place
 pub mod Ring
 pub mod Texts
+pub mod WorkedRun

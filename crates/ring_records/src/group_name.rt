@@ -1,5 +1,5 @@
 // The name of a group.
-ghost use Rattle.std.specs.Prelude.{◌≡◌, ℕ, List, take, length, if◌then◌else◌};
+ghost use Rattle.std.specs.Prelude.{◌≡◌, ℕ, ◌≤◌, List, take, length, if◌then◌else◌};
 ghost use Rattle.std.specs.Ordering.{as_partial_cmp, nat_cmp};
 ghost use Rattle.std.specs.Str.{bytes_eq};
 ghost use Rattle.std.specs.List.{list_all};
@@ -50,7 +50,8 @@ impl GroupName {
 
     /// Its bytes, 1 to 16.
     pub fn as_bytes(&self) -> &[u8]
-        ensures { result.now ≡ self.now }
+        ensures value { result.now ≡ self.now }
+        ensures range { (1 ≤ length result.now) × (length result.now ≤ 16) }
     {
         &self.text[..self.size as usize]
     }

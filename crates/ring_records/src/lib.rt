@@ -2,6 +2,7 @@
 //!
 //! `specs/` has the definitions that every promise of the service stands on: what a node's history says
 //! (History, Leader, Emission), what a node may accept next (Admission), and which runs of a ring are legal (Ring).
+//! `look_back` computes these definitions plainly, and `laws` says what follows from them alone.
 #![tactic(auto)]
 
 mod bid;
@@ -10,6 +11,8 @@ mod decision;
 mod group_name;
 mod input;
 mod key;
+pub mod laws;
+pub mod look_back;
 mod msg;
 mod node_no;
 mod packet;
@@ -17,6 +20,8 @@ mod refusal;
 mod reply;
 mod request;
 mod term;
+#[cfg(test)]
+mod tests;
 
 pub use bid::Bid;
 pub use candidate::Candidate;

@@ -1,0 +1,67 @@
+//! Laws of the definitions: public functions with an empty body, whose contracts say what follows from `specs/` alone.
+ghost use Rattle.std.specs.Prelude.{◌≡◌, ◌↔◌, ◌≤◌, ◌+◌, ◌||◌, ℕ, true, false, if◌then◌else◌, List, [], ◌∷◌, ◌++◌, Some, None, slice_get, unwrap_or};
+ghost use Rattle.std.specs.List.{cons_option};
+ghost use Rattle.ring_records.specs.declared.candidate.Candidate.{Candidate};
+ghost use Rattle.ring_records.specs.declared.input.Input.{Input};
+ghost use Rattle.ring_records.specs.declared.key.Key.{Key};
+ghost use Rattle.ring_records.specs.declared.msg.Msg.{Msg};
+ghost use Rattle.ring_records.specs.Admission.{Base, IsAllowed, IsAdmitted, objection, refusal};
+ghost use Rattle.ring_records.specs.Emission.{emit, sent};
+ghost use Rattle.ring_records.specs.History.{names, touched, bid_for, stood, message_of, taken, upto_of, credit, is_stand, stands};
+ghost use Rattle.ring_records.specs.Leader.{makes_leader, leader, latest};
+ghost use Rattle.ring_records.specs.Lists.{or_else};
+ghost use Rattle.ring_records.specs.Ring.{IsLegal, part};
+ghost use Rattle.ring_records.specs.WorkedRun.{red_5, winner, first_election};
+
+/// What one more input at the end changes: each look-back of the longer history is that of the shorter one, joined
+/// with what the new input says.
+pub fn one_more_input()
+    ensures touched { (h : List Input) (x : Input) (key : Key) → touched (h ++ x ∷ []) key ≡ (touched h key || names key x) }
+    ensures stood { (h : List Input) (x : Input) (key : Key) → stood (h ++ x ∷ []) key ≡ or_else (stood h key) (bid_for key x) }
+    ensures taken { (h : List Input) (x : Input) → taken (h ++ x ∷ []) ≡ taken h ++ cons_option (message_of x) [] }
+    ensures credit { (h : List Input) (x : Input) → credit (h ++ x ∷ []) ≡ unwrap_or (upto_of x) (credit h) }
+    ensures stands { (h : List Input) (x : Input) → stands (h ++ x ∷ []) ≡ stands h + (if is_stand x then 1 else 0) }
+    ensures leader { (me : ℕ) (h : List Input) (x : Input) (key : Key) → leader me (h ++ x ∷ []) key ≡ or_else (leader me h key) (makes_leader me key h x) }
+    ensures sent { (me : ℕ) (h : List Input) (x : Input) → sent me (h ++ x ∷ []) ≡ sent me h ++ cons_option (emit me h x) [] }
+{}
+
+/// What never changes as a history grows: the bid of a Stand, a leader, and each message that was sent or taken.
+pub fn firsts_stay()
+    ensures stood { (h rest : List Input) (key : Key) (bid : ℕ) → stood h key ≡ Some bid → stood (h ++ rest) key ≡ Some bid }
+    ensures leader { (me : ℕ) (h rest : List Input) (key : Key) (c : Candidate) → leader me h key ≡ Some c → leader me (h ++ rest) key ≡ Some c }
+    ensures sent { (me : ℕ) (h rest : List Input) (place : ℕ) (m : Msg) → slice_get (sent me h) place ≡ Some m → slice_get (sent me (h ++ rest)) place ≡ Some m }
+    ensures taken { (h rest : List Input) → taken (h ++ rest) ≡ taken h ++ taken rest }
+{}
+
+/// An input that does not name a key changes nothing there. What a node sends for an input is the same before and
+/// after one that names no key of it.
+pub fn keys_apart()
+    ensures touched { (h : List Input) (x : Input) (key : Key) → names key x ≡ false → touched (h ++ x ∷ []) key ≡ touched h key }
+    ensures stood { (h : List Input) (x : Input) (key : Key) → names key x ≡ false → stood (h ++ x ∷ []) key ≡ stood h key }
+    ensures leader { (me : ℕ) (h : List Input) (x : Input) (key : Key) → names key x ≡ false → leader me (h ++ x ∷ []) key ≡ leader me h key }
+    ensures emission { (me : ℕ) (h : List Input) (x y : Input) → ((key : Key) → names key y ≡ true → names key x ≡ false) → emit me (h ++ x ∷ []) y ≡ emit me h y }
+{}
+
+/// The latest leader of a group leads in its term, and no greater term of the group has a leader. So where there is
+/// no latest, no term of the group has one.
+pub fn latest_leads()
+    ensures leads { (me : ℕ) (h : List Input) (group : List ℕ) (term : ℕ) (c : Candidate) → latest me h group ≡ Some (term, c) → leader me h (record { group = group; term = term }) ≡ Some c }
+    ensures greatest { (me : ℕ) (h : List Input) (key : Key) (c : Candidate) → leader me h key ≡ Some c → ((led : ℕ × Candidate) × (latest me h key.group ≡ Some led) × (key.term ≤ led.0)) }
+    ensures none { (me : ℕ) (h : List Input) (group : List ℕ) (term : ℕ) → latest me h group ≡ None → leader me h (record { group = group; term = term }) ≡ None }
+{}
+
+/// An input is admitted exactly where no cause to refuse it is found, and the history alone allows it exactly where
+/// none is found there.
+pub fn admission()
+    ensures history { (me n : ℕ) (h : List Input) (x : Input) → ((objection me n h x ≡ None) ↔ IsAllowed me n h x) }
+    ensures whole { (me n capacity : ℕ) (base : Base) (h : List Input) (x : Input) → ((refusal me n capacity base h x ≡ None) ↔ IsAdmitted me n capacity base h x) }
+{}
+
+/// There is a legal run with a leader: three nodes stand for one key, and at its end each of them knows the one of
+/// the greatest bid.
+pub fn worked_run()
+    ensures legal { IsLegal 3 65536 first_election }
+    ensures node_1 { leader 1 (part first_election 1) red_5 ≡ Some winner }
+    ensures node_2 { leader 2 (part first_election 2) red_5 ≡ Some winner }
+    ensures node_3 { leader 3 (part first_election 3) red_5 ≡ Some winner }
+{}

@@ -1,0 +1,432 @@
+//! The definitions of `specs/`, computed by looking back over a history: the plain reading of them, quadratic, meant
+//! for small histories and as the yardstick of the faster bodies.
+ghost use Rattle.std.specs.Prelude.{◌≡◌, ◌<◌, ◌≤◌, ◌*◌, ◌^◌, length, IfOk, Some};
+ghost use Rattle.std.specs.Option.{option_and_then};
+ghost use Rattle.ring_records.specs.Admission.{fresh, too_many, objection, used, refusal};
+ghost use Rattle.ring_records.specs.Emission.{is_below, emit, sent};
+ghost use Rattle.ring_records.specs.History.{names, touched, bid_for, is_stand, message_of, upto_of, stood, taken, credit, stands};
+ghost use Rattle.ring_records.specs.Order.{is_key};
+ghost use Rattle.ring_records.specs.Leader.{is_bid, makes_leader, leader, greater_term, term_led, latest};
+
+use crate::{Bid, Candidate, GroupName, Input, Key, Msg, NodeNo, Refusal, Term};
+use std::alloc::{AllocError, Global};
+
+#[cfg(test)]
+mod tests;
+
+/// Whether some Stand or Take of the history names the key.
+#[tactic(auto, unfolding(crate::specs::History::touched))]
+pub fn touched(history: &[Input], key: &Key) -> bool
+    ensures { result ≡ touched history.now key.now }
+{
+    history.iter().any(|input| names(key, input))
+}
+
+/// The bid of the Stand for the key, if there is one.
+pub fn stood(history: &[Input], key: &Key) -> Option<Bid>
+    ensures { result ≡ stood history.now key.now }
+{
+    for input in history {
+        let bid = bid_for(key, input);
+        if bid.is_some() {
+            return bid;
+        }
+    }
+    None
+}
+
+/// How many Stands there are.
+#[tactic(auto, unfolding(crate::specs::History::stands))]
+pub fn stands(history: &[Input]) -> u64
+    ensures { result ≡ stands history.now }
+{
+    history.iter().filter(|input| is_stand(input)).count() as u64
+}
+
+/// The upto of the last Acked, 0 if there is none.
+pub fn credit(history: &[Input]) -> u64
+    ensures { result ≡ credit history.now }
+{
+    let mut credit = 0;
+    for input in history {
+        credit = upto_of(input).unwrap_or(credit);
+    }
+    credit
+}
+
+/// The messages of the Takes, in order.
+pub fn taken(alloc: Global, history: &[Input]) -> Result<Vec<Msg>, AllocError>
+    ensures { IfOk result (λ messages. messages.items ≡ taken history.now) }
+{
+    let mut messages = Vec::new(alloc);
+    for input in history {
+        if let Some(msg) = message_of(input) {
+            messages.push(msg)?;
+        }
+    }
+    Ok(messages)
+}
+
+/// The leader for the key, if node `me` knows one by its history.
+pub fn leader(me: NodeNo, history: &[Input], key: &Key) -> Option<Candidate>
+    ensures { result ≡ leader me history.now key.now }
+{
+    for (place, input) in history.iter().enumerate() {
+        let shown = shown_leader(me, key, &history[..place], input);
+        if shown.is_some() {
+            return shown;
+        }
+    }
+    None
+}
+
+/// The greatest term of the group with a leader, and that leader.
+pub fn latest(me: NodeNo, history: &[Input], group: &GroupName) -> Option<(Term, Candidate)>
+    ensures { result ≡ latest me history.now group.now }
+{
+    let mut latest: Option<(Term, Candidate)> = None;
+    for input in history {
+        if let Some(led) = led_by(me, history, group, input) {
+            latest = Some(greater_term(latest, led));
+        }
+    }
+    latest
+}
+
+/// What node `me` sends on when it accepts the input after the history.
+#[tactic(auto, unfolding(crate::specs::Emission::emit))]
+pub fn emit(me: NodeNo, history: &[Input], input: &Input) -> Option<Msg>
+    ensures { result ≡ emit me history.now input.now }
+{
+    match input {
+        Input::Stand { key, bid } => Some(Msg::Token {
+            key: *key,
+            candidate: Candidate {
+                bid: *bid,
+                node: me,
+            },
+        }),
+        Input::Take { msg, .. } => pass_on(me, history, msg),
+        Input::Acked { .. } => None,
+    }
+}
+
+/// All that node `me` sent, in order.
+pub fn sent(alloc: Global, me: NodeNo, history: &[Input]) -> Result<Vec<Msg>, AllocError>
+    ensures { IfOk result (λ messages. messages.items ≡ sent me history.now) }
+{
+    let mut messages = Vec::new(alloc);
+    for (place, input) in history.iter().enumerate() {
+        if let Some(msg) = emit(me, &history[..place], input) {
+            messages.push(msg)?;
+        }
+    }
+    Ok(messages)
+}
+
+/// Why node `me` of a ring of `n` refuses the input after the history, where nothing is summarised: the first cause
+/// that there is. None means that the input is admitted.
+pub fn refusal(
+    me: NodeNo,
+    n: u8,
+    capacity: u32,
+    history: &[Input],
+    input: &Input,
+) -> Option<Refusal>
+    ensures { result ≡ refusal me n capacity fresh history.now input.now }
+{
+    let objection = objection(me, n, history, input);
+    if objection.is_some() {
+        return objection;
+    }
+    if (capacity as u64) < used(history) + input.cost() as u64 {
+        return Some(Refusal::Full);
+    }
+    None
+}
+
+#[tactic(auto, unfolding(crate::specs::History::names))]
+fn names(key: &Key, input: &Input) -> bool
+    ensures { result ≡ names key.now input.now }
+{
+    match input {
+        Input::Stand { key: named, .. } => is_key(named, key),
+        Input::Take { msg, .. } => is_key(&msg.key(), key),
+        Input::Acked { .. } => false,
+    }
+}
+
+#[tactic(auto, unfolding(crate::specs::Order::is_key))]
+fn is_key(a: &Key, b: &Key) -> bool
+    ensures { result ≡ is_key a.now b.now }
+{
+    a == b
+}
+
+#[tactic(auto, unfolding(crate::specs::History::is_stand))]
+fn is_stand(input: &Input) -> bool
+    ensures { result ≡ is_stand input.now }
+{
+    matches!(input, Input::Stand { .. })
+}
+
+#[tactic(auto, unfolding(crate::specs::History::bid_for))]
+fn bid_for(key: &Key, input: &Input) -> Option<Bid>
+    ensures { result ≡ bid_for key.now input.now }
+{
+    match input {
+        Input::Stand { key: named, bid } if is_key(named, key) => Some(*bid),
+        _ => None,
+    }
+}
+
+#[tactic(auto, unfolding(crate::specs::History::message_of))]
+fn message_of(input: &Input) -> Option<Msg>
+    ensures { result ≡ message_of input.now }
+{
+    match input {
+        Input::Take { msg, .. } => Some(*msg),
+        _ => None,
+    }
+}
+
+#[tactic(auto, unfolding(crate::specs::History::upto_of))]
+fn upto_of(input: &Input) -> Option<u64>
+    ensures { result ≡ upto_of input.now }
+{
+    match input {
+        Input::Acked { upto } => Some(*upto),
+        _ => None,
+    }
+}
+
+#[tactic(auto, unfolding(crate::specs::Leader::is_bid))]
+fn is_bid(stood: Option<Bid>, bid: Bid) -> bool
+    ensures { result ≡ is_bid stood bid }
+{
+    match stood {
+        None => false,
+        Some(own) => own == bid,
+    }
+}
+
+#[tactic(auto, unfolding(crate::specs::Leader::makes_leader))]
+fn shown_leader(me: NodeNo, key: &Key, before: &[Input], input: &Input) -> Option<Candidate>
+    ensures { result ≡ makes_leader me key.now before.now input.now }
+{
+    match input {
+        Input::Take { msg, .. } => named_leader(me, key, before, msg),
+        _ => None,
+    }
+}
+
+#[tactic(auto, unfolding(crate::specs::Leader::makes_leader, crate::specs::History::stood))]
+fn named_leader(me: NodeNo, key: &Key, before: &[Input], msg: &Msg) -> Option<Candidate>
+    ensures { result ≡ makes_leader me key.now before.now (Input.Take 0 msg.now) }
+{
+    let candidate = msg.candidate();
+    let shows = match msg {
+        Msg::Token { key: named, .. } => {
+            is_key(named, key) && candidate.node == me && is_bid(stood(before, key), candidate.bid)
+        }
+        Msg::Elected { key: named, .. } => is_key(named, key) && candidate.node != me,
+    };
+    if shows { Some(candidate) } else { None }
+}
+
+#[tactic(auto, unfolding(crate::specs::Leader::term_led, crate::specs::Leader::with_term))]
+fn led_term(
+    me: NodeNo,
+    history: &[Input],
+    group: &GroupName,
+    msg: &Msg,
+) -> Option<(Term, Candidate)>
+    ensures { result ≡ term_led me history.now group.now msg.now }
+{
+    let key = msg.key();
+    if key.group != *group {
+        return None;
+    }
+    match leader(me, history, &key) {
+        None => None,
+        Some(candidate) => Some((key.term, candidate)),
+    }
+}
+
+#[tactic(auto, unfolding(crate::specs::Leader::greater_term))]
+fn greater_term(old: Option<(Term, Candidate)>, new: (Term, Candidate)) -> (Term, Candidate)
+    ensures { Some result ≡ greater_term old new }
+{
+    match old {
+        Some(led) if led.0 >= new.0 => led,
+        _ => new,
+    }
+}
+
+fn led_by(
+    me: NodeNo,
+    history: &[Input],
+    group: &GroupName,
+    input: &Input,
+) -> Option<(Term, Candidate)>
+    ensures { result ≡ option_and_then (term_led me history.now group.now) (message_of input.now) }
+{
+    match input {
+        Input::Take { msg, .. } => led_term(me, history, group, msg),
+        _ => None,
+    }
+}
+
+#[tactic(auto, unfolding(crate::specs::Emission::is_below))]
+fn is_below(stood: Option<Bid>, me: NodeNo, candidate: &Candidate) -> bool
+    ensures { result ≡ is_below stood me candidate.now }
+{
+    match stood {
+        None => true,
+        Some(bid) => Candidate { bid, node: me }.is_below(candidate),
+    }
+}
+
+#[tactic(auto, unfolding(crate::specs::Emission::emit))]
+fn pass_on(me: NodeNo, history: &[Input], msg: &Msg) -> Option<Msg>
+    ensures { result ≡ emit me history.now (Input.Take 0 msg.now) }
+{
+    let (key, candidate) = (msg.key(), msg.candidate());
+    let own = candidate.node == me;
+    match msg {
+        Msg::Token { .. } if !own => {
+            if is_below(stood(history, &key), me, &candidate) {
+                Some(*msg)
+            } else {
+                None
+            }
+        }
+        Msg::Token { .. } => {
+            let home = is_bid(stood(history, &key), candidate.bid)
+                && leader(me, history, &key).is_none();
+            if home {
+                Some(Msg::Elected { key, candidate })
+            } else {
+                None
+            }
+        }
+        Msg::Elected { .. } => {
+            if !own && leader(me, history, &key).is_none() {
+                Some(*msg)
+            } else {
+                None
+            }
+        }
+    }
+}
+
+fn takes(history: &[Input]) -> u64
+    ensures { result ≡ length (taken history.now) }
+{
+    let mut takes = 0;
+    for input in history {
+        if message_of(input).is_some() {
+            takes += 1;
+        }
+    }
+    takes
+}
+
+fn sent_count(me: NodeNo, history: &[Input]) -> u64
+    ensures { result ≡ length (sent me history.now) }
+{
+    let mut count = 0;
+    for (place, input) in history.iter().enumerate() {
+        if emit(me, &history[..place], input).is_some() {
+            count += 1;
+        }
+    }
+    count
+}
+
+#[tactic(auto, unfolding(crate::specs::Admission::objection))]
+fn objection(me: NodeNo, n: u8, history: &[Input], input: &Input) -> Option<Refusal>
+    ensures { result ≡ objection me n history.now input.now }
+{
+    match input {
+        Input::Stand { key, .. } => objection_to_stand(me, history, key),
+        Input::Take { no, msg } => objection_to_take(n, history, *no, msg),
+        Input::Acked { upto } => objection_to_ack(me, history, *upto),
+    }
+}
+
+#[tactic(auto, unfolding(crate::specs::Admission::objection, crate::specs::Admission::is_touched, crate::specs::Admission::already, crate::specs::Admission::stale))]
+fn objection_to_stand(me: NodeNo, history: &[Input], key: &Key) -> Option<Refusal>
+    ensures { result ≡ objection me 0 history.now (Input.Stand key.now 0) }
+{
+    if let Some(bid) = stood(history, key) {
+        return Some(Refusal::Already(bid));
+    }
+    if touched(history, key) {
+        return Some(Refusal::Late);
+    }
+    if let Some((greater, _)) = latest(me, history, &key.group) {
+        if key.term < greater {
+            return Some(Refusal::Stale(greater));
+        }
+    }
+    if stands(history) >= 1024 {
+        return Some(Refusal::Limit);
+    }
+    too_many(history)
+}
+
+#[tactic(auto, unfolding(crate::specs::Admission::objection, crate::specs::Admission::out_of_turn))]
+fn objection_to_take(n: u8, history: &[Input], no: u64, msg: &Msg) -> Option<Refusal>
+    ensures { result ≡ objection 0 n history.now (Input.Take no msg.now) }
+{
+    if n < msg.candidate().node.number() {
+        return Some(Refusal::BadNumber);
+    }
+    let expected = takes(history);
+    if no < expected {
+        return Some(Refusal::Old(expected));
+    }
+    if no > expected {
+        return Some(Refusal::Gap(expected));
+    }
+    too_many(history)
+}
+
+#[tactic(auto, unfolding(crate::specs::Admission::objection))]
+fn objection_to_ack(me: NodeNo, history: &[Input], upto: u64) -> Option<Refusal>
+    ensures { result ≡ objection me 0 history.now (Input.Acked upto) }
+{
+    let credit = credit(history);
+    if upto <= credit {
+        return Some(Refusal::Old(credit));
+    }
+    let sent = sent_count(me, history);
+    if upto > sent {
+        return Some(Refusal::AckAhead(sent));
+    }
+    too_many(history)
+}
+
+#[tactic(auto, unfolding(crate::specs::Admission::too_many))]
+fn too_many(history: &[Input]) -> Option<Refusal>
+    ensures { result ≡ too_many history.now }
+{
+    if history.len() >= 1 << 56 {
+        Some(Refusal::Limit)
+    } else {
+        None
+    }
+}
+
+fn used(history: &[Input]) -> u64
+    requires { length history.now < 2 ^ 56 }
+    ensures value { result ≡ used fresh history.now }
+    ensures bound { result ≤ 42 * length history.now }
+{
+    let mut used = 0;
+    for input in history {
+        used += input.cost() as u64;
+    }
+    used
+}
