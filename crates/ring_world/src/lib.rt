@@ -9,6 +9,8 @@ mod member;
 mod outcome;
 mod run;
 mod table;
+#[cfg(test)]
+mod tests;
 mod world;
 
 pub use event::Event;
