@@ -11,7 +11,7 @@ ghost use Rattle.ring_world.specs.Answer.{cause};
 
 use crate::table::Table;
 use cr_automaton::Ballot;
-use ring_records::{Bid, Candidate, GroupName, Key, Msg, NodeNo, Refusal, Reply, Request, Term};
+use ring_records::{Bid, GroupName, Key, Msg, NodeNo, Refusal, Reply, Request};
 use std::alloc::{AllocError, Global};
 
 /// A node, as the inputs that it accepted have left it. After a refused growth it is of no use.

@@ -6,9 +6,7 @@ ghost use Rattle.ring_world.specs.Answer.{input_of, accepted_by, gained, answer}
 ghost use Rattle.ring_world.specs.Sound.{Shows};
 
 use crate::member::Member;
-use ring_records::{
-    Bid, Candidate, GroupName, Input, Key, Msg, NodeNo, Refusal, Reply, Request, Term,
-};
+use ring_records::{Input, NodeNo, Reply, Request};
 use std::alloc::AllocError;
 use std::marker::Model;
 

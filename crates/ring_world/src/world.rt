@@ -11,7 +11,7 @@ use crate::event::Event;
 use crate::member::Member;
 use crate::outcome::Outcome;
 use crate::run::{Step, ask};
-use ring_records::{Bid, Candidate, GroupName, Key, Msg, NodeNo, Refusal, Reply, Request, Term};
+use ring_records::{Msg, NodeNo, Refusal, Reply, Request};
 use std::alloc::{AllocError, Global};
 use std::marker::Model;
 
