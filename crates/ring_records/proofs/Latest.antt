@@ -46,11 +46,11 @@ one_latest leads (Some p) None l m = none≢some p.1 (sym (m p.0) ∙ l.0)
 one_latest leads (Some p) (Some q) l m = elim (cases_lt p.0 q.0) [
   | inl lt ↦ none≢some q.1 (sym (l.1 q.0 lt) ∙ m.0)
   | inr ge ↦ elim (cases_lt q.0 p.0) [
-      | inl lt ↦ none≢some p.1 (sym (m.1 p.0 lt) ∙ l.0)
-      | inr le ↦ (let terms : p.0 ≡ q.0 = omega arith in
-          let leaders : p.1 ≡ q.1 = same_Some p.1 q.1 (sym l.0 ∙ (ap leads terms ∙ m.0)) in
-          λ i. Some (terms i, leaders i))
-    ]
+    | inl lt ↦ none≢some p.1 (sym (m.1 p.0 lt) ∙ l.0)
+    | inr le ↦ (let terms : p.0 ≡ q.0 = omega arith in
+        let leaders : p.1 ≡ q.1 = same_Some p.1 q.1 (sym l.0 ∙ (ap leads terms ∙ m.0)) in
+        λ i. Some (terms i, leaders i))
+  ]
 ]
 
 pub latest-same : (me : ℕ) (g h : List Input) (group : List ℕ) → ((term : ℕ) → leads_by me h group term ≡ leads_by me g group term) → latest me h group ≡ latest me g group

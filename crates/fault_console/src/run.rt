@@ -1,0 +1,120 @@
+// Reading a script, and writing what it prints.
+ghost use Rattle.std.specs.Prelude.{◌≡◌, ◌<◌, ◌≤◌, ℕ, List, IfErr, IfOk, IfSome, IsErrOf, OnOk, length};
+ghost use Rattle.std.specs.Io.KnownBytes.{Appends};
+ghost use Rattle.fault_console.specs.Script.{Wrote, IsFront};
+
+use crate::console::Console;
+use crate::words::first_line;
+use std::alloc::Global;
+use std::io::{Read, Write};
+use thiserror::Error;
+
+/// Why a run ended before its script did. Displayed as a text without the program's name.
+#[derive(Clone, Copy, Debug, PartialEq, Eq, Error)]
+pub enum RunFault {
+    /// The reader failed.
+    #[error("script cannot be read")]
+    Read,
+    /// The writer failed, or took nothing.
+    #[error("output cannot be written")]
+    Write,
+    /// A growth was refused.
+    #[error("out of memory")]
+    Memory,
+    /// The script has more than 1,000,000 bytes.
+    #[error("script too long")]
+    Long,
+}
+
+/// The most bytes of a script.
+const SCRIPT_BYTES: usize = 1_000_000;
+
+// Reads the whole script, by at most 1,000,001 reads.
+fn read_script<R: Read>(alloc: Global, reader: &mut R) -> Result<Vec<u8>, RunFault>
+    ensures ok { IfOk result (λ v. IfSome (R.remaining reader.old) (λ script. script ≡ v.items)) }
+    ensures few { IfOk result (λ v. length v.items ≤ 1000000) }
+    ensures long { IsErrOf result RunFault.Long → IfSome (R.remaining reader.old) (λ script. 1000000 < length script) }
+    ensures other { IsErrOf result RunFault.Write → ⊥ }
+{
+    let mut script = Vec::new(alloc);
+    let mut piece = [0u8; 4096];
+    for _ in 0..SCRIPT_BYTES + 1 {
+        let count = match reader.read(&mut piece) {
+            Ok(count) => count,
+            Err(_) => return Err(RunFault::Read),
+        };
+        if count == 0 {
+            return Ok(script);
+        }
+        if script.len() + count > SCRIPT_BYTES {
+            return Err(RunFault::Long);
+        }
+        if script.extend_from_slice(&piece[..count]).is_err() {
+            return Err(RunFault::Memory);
+        }
+    }
+    Err(RunFault::Long)
+}
+
+// Writes the bytes, by at most as many writes. At an `Err` a front of them was written.
+fn write_bytes<W: Write>(writer: &mut W, bytes: &[u8]) -> Result<(), RunFault>
+    ensures ok { OnOk result (Appends (W.contents writer.old) (W.contents writer.new) bytes.now) }
+    ensures front { (front : List ℕ) × IsFront front bytes.now × Appends (W.contents writer.old) (W.contents writer.new) front }
+    ensures err { IfErr result (λ e. e ≡ RunFault.Write) }
+{
+    let mut rest = bytes;
+    for _ in 0..bytes.len() {
+        if rest.is_empty() {
+            return Ok(());
+        }
+        match writer.write(rest) {
+            Ok(0) => return Err(RunFault::Write),
+            Ok(count) => rest = rest.split_at(count).1,
+            Err(_) => return Err(RunFault::Write),
+        }
+    }
+    Ok(())
+}
+
+// Prints what a script prints, one line of it after the other, so that want of memory leaves whole lines.
+fn play<W: Write>(alloc: Global, script: &[u8], writer: &mut W) -> Result<u64, RunFault>
+    requires { length script.now ≤ 1000000 }
+    ensures { (bytes : List ℕ) × Appends (W.contents writer.old) (W.contents writer.new) bytes × Wrote script.now result bytes }
+{
+    let mut console = Console::new();
+    let mut out = String::new(alloc);
+    let mut rest = script;
+    let mut count: u64 = 0;
+    while !rest.is_empty() {
+        let (line, after) = first_line(rest);
+        out.clear();
+        let lines = match console.obey(alloc, line, &mut out) {
+            Ok(lines) => lines,
+            Err(_) => return Err(RunFault::Memory),
+        };
+        match write_bytes(writer, out.as_bytes()) {
+            Ok(()) => count += lines,
+            Err(_) => return Err(RunFault::Write),
+        }
+        rest = after;
+    }
+    Ok(count)
+}
+
+/// Reads a script to its end and writes what it prints, of specs/Script; gives the number of lines printed. A script
+/// has at most 1,000,000 bytes, and is read whole, by at most 1,000,001 reads, before the first byte is written.
+/// Refused as `Long` above that, and as `Read`, with nothing written; as `Write` after a front of the text; as `Memory`
+/// after the lines of the commands before. A read or write that was interrupted counts as failed.
+pub fn run<R: Read, W: Write>(
+    alloc: Global,
+    reader: &mut R,
+    writer: &mut W,
+) -> Result<u64, RunFault>
+    ensures { (script : List ℕ) × IfSome (R.remaining reader.old) (λ all. script ≡ all)
+        × ((bytes : List ℕ) × Appends (W.contents writer.old) (W.contents writer.new) bytes × Wrote script result bytes) }
+{
+    match read_script(alloc, reader) {
+        Ok(script) => play(alloc, &script, writer),
+        Err(fault) => Err(fault),
+    }
+}

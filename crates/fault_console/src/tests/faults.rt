@@ -1,0 +1,155 @@
+// Readers and writers that fail, or that do little at a time.
+use crate::run::{RunFault, run};
+use crate::tests::rows::FIRST_ELECTION;
+use std::io::{self, ErrorKind, Read, Write};
+use std::test::Fail;
+
+// Gives at most `size` bytes a read, and fails after `reads` reads.
+#[derive(Drop)]
+struct Drip<'a> {
+    rest: &'a [u8],
+    size: usize,
+    reads: usize,
+}
+
+impl<'a> Read for Drip<'a> {
+    fn read(&mut self, buf: &mut [u8]) -> io::Result<usize> {
+        if self.reads == 0 {
+            return Err(io::Error::from(ErrorKind::BrokenPipe));
+        }
+        self.reads -= 1;
+        let count = self.size.min(buf.len()).min(self.rest.len());
+        buf[..count].copy_from_slice(&self.rest[..count]);
+        self.rest = &self.rest[count..];
+        Ok(count)
+    }
+}
+
+// Takes at most `size` bytes a write; after `writes` writes it fails, or takes nothing.
+#[derive(Drop)]
+struct Narrow {
+    text: Vec<u8>,
+    size: usize,
+    writes: usize,
+    takes_nothing: bool,
+}
+
+impl Write for Narrow {
+    fn write(&mut self, buf: &[u8]) -> io::Result<usize> {
+        if self.writes == 0 {
+            if self.takes_nothing {
+                return Ok(0);
+            }
+            return Err(io::Error::from(ErrorKind::BrokenPipe));
+        }
+        self.writes -= 1;
+        let count = self.size.min(buf.len());
+        self.text.extend_from_slice(&buf[..count])?;
+        Ok(count)
+    }
+
+    fn flush(&mut self) -> io::Result<()> {
+        Ok(())
+    }
+}
+
+#[test]
+fn each_read_fails_in_turn(rt: HostRuntime) {
+    let (script, text) = FIRST_ELECTION;
+    // one byte a read, and one read that finds the end
+    for reads in 0..script.len() + 2 {
+        let mut reader = Drip {
+            rest: script,
+            size: 1,
+            reads,
+        };
+        let mut out = Vec::new(rt.alloc());
+        let answer = run(rt.alloc(), &mut reader, &mut out);
+        if reads <= script.len() {
+            assert_eq!(rt; answer, Err(RunFault::Read), "after {reads} reads");
+            assert!(rt; out.is_empty(), "after {reads} reads");
+        } else {
+            assert_eq!(rt; answer, Ok(8));
+            assert!(rt; out.as_slice() == text.as_bytes());
+        }
+    }
+}
+
+#[test]
+fn each_write_fails_in_turn(rt: HostRuntime) {
+    let (script, text) = FIRST_ELECTION;
+    for (size, takes_nothing) in [
+        (1, false),
+        (1, true),
+        (3, false),
+        (1_000, false),
+        (1_000, true),
+    ] {
+        for writes in 0..text.len() + 1 {
+            let mut reader = script;
+            let mut writer = Narrow {
+                text: Vec::new(rt.alloc()),
+                size,
+                writes,
+                takes_nothing,
+            };
+            let answer = run(rt.alloc(), &mut reader, &mut writer);
+            let out = writer.text.as_slice();
+            if out == text.as_bytes() {
+                assert_eq!(rt; answer, Ok(8), "{writes} writes of {size}");
+            } else {
+                assert_eq!(rt; answer, Err(RunFault::Write), "{writes} writes of {size}");
+                assert!(rt;
+                    text.as_bytes().starts_with(out),
+                    "{writes} writes of {size}"
+                );
+                assert!(rt; out.len() >= writes, "{writes} writes of {size}");
+            }
+        }
+    }
+}
+
+// Gives one byte a read, and counts the reads.
+#[derive(Drop)]
+struct Slow {
+    left: usize,
+    reads: usize,
+}
+
+impl Read for Slow {
+    fn read(&mut self, buf: &mut [u8]) -> io::Result<usize> {
+        self.reads = self.reads.wrapping_add(1);
+        if self.left == 0 || buf.is_empty() {
+            return Ok(0);
+        }
+        self.left -= 1;
+        buf[0] = b'#';
+        Ok(1)
+    }
+}
+
+#[test]
+fn reads_are_bounded(rt: HostRuntime) {
+    for (left, answer) in [(1_000_000, Ok(0)), (2_000_000, Err(RunFault::Long))] {
+        let mut reader = Slow { left, reads: 0 };
+        let mut out = Vec::new(rt.alloc());
+        assert_eq!(rt; run(rt.alloc(), &mut reader, &mut out), answer);
+        assert_eq!(rt; reader.reads, 1_000_001);
+        assert!(rt; out.is_empty());
+    }
+}
+
+#[test]
+fn faults_have_texts(rt: HostRuntime) -> Result<(), Fail> {
+    let table = [
+        (RunFault::Read, "script cannot be read"),
+        (RunFault::Write, "output cannot be written"),
+        (RunFault::Memory, "out of memory"),
+        (RunFault::Long, "script too long"),
+    ];
+    for (fault, text) in table {
+        let shown = format!(in rt.alloc(); "{fault}")?;
+        assert_eq!(rt; shown.as_str(), text);
+    }
+    Ok(())
+}
