@@ -41,7 +41,7 @@ impl NodeNo {
     pub fn first() -> NodeNo
         ensures { result ≡ 1 }
     {
-        NodeNo { number: 1 }
+        Self { number: 1 }
     }
 
     /// Its number, 1 to 16.
