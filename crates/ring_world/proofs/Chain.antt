@@ -5,7 +5,7 @@
 -- key is touched there, and a Stand finds its key untouched. A leader is a candidate whose token came home, so it beats
 -- the candidate of every other node, and two leaders of different nodes would beat each other.
 --
--- All of it is told of the run's end, where each node's bid for the key is the one that the token met.
+-- All of it is told of the run's end, where each node still has the bid for the key, or none, that the token met.
 use Rattle.std.proofs.Common.{ℕ, zero, suc, ◌-◌, ◌≡◌, ◌≢◌, ◌≤◌, ◌<◌, true, List, Option, Some, refl, sym, ap, ◌∙◌, subst, inl, inr, arith}
 use Rattle.std.specs.List.{Contains}
 use Rattle.std.proofs.lemmas.Bool.{cases_eq}
