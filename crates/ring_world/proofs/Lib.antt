@@ -1,3 +1,4 @@
+mod Chain
 mod Members
 mod Runs
 mod Sweeps

@@ -1,3 +1,4 @@
+pub mod Agreement
 pub mod Answer
 pub mod State
 pub mod Step
