@@ -1,5 +1,6 @@
 // What one node knows of one key.
 ghost use Rattle.std.specs.Prelude.{◌≡◌, ℕ, List, ◌++◌, ◌∷◌, [], Some, None};
+ghost use Rattle.ring_records.specs.declared.candidate.Candidate.{Candidate};
 ghost use Rattle.ring_records.specs.declared.input.Input.{Input};
 ghost use Rattle.ring_records.specs.declared.input.Input.TheVariants.{Stand, Take};
 ghost use Rattle.ring_records.specs.declared.key.Key.{Key};
@@ -56,6 +57,7 @@ impl Ballot {
         ensures sends { (h : List Input) (place : ℕ) → StandsFor self.old me h key → emit me h (Take place (Token key candidate)) ≡ result }
         ensures next { (h : List Input) (place : ℕ) → StandsFor self.old me h key → StandsFor self.new me (h ++ Take place (Token key candidate) ∷ []) key }
         ensures stood { self.new.stood ≡ self.old.stood }
+        ensures leader { (c : Candidate) → self.old.leader ≡ Some c → self.new.leader ≡ Some c }
     {
         if candidate.node == me {
             if self.stood == Some(candidate.bid) && self.leader.is_none() {
@@ -78,6 +80,7 @@ impl Ballot {
         ensures sends { (h : List Input) (place : ℕ) → StandsFor self.old me h key → emit me h (Take place (Elected key candidate)) ≡ result }
         ensures next { (h : List Input) (place : ℕ) → StandsFor self.old me h key → StandsFor self.new me (h ++ Take place (Elected key candidate) ∷ []) key }
         ensures stood { self.new.stood ≡ self.old.stood }
+        ensures leader { (c : Candidate) → self.old.leader ≡ Some c → self.new.leader ≡ Some c }
     {
         if candidate.node == me || self.leader.is_some() {
             return None;

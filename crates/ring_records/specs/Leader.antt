@@ -1,5 +1,5 @@
 -- Who leads, as node me knows by its history.
-use Rattle.std.specs.Prelude.{ℕ, Bool, false, nat_lt, ◌==◌, ◌&&◌, not, if◌then◌else◌, List, [], Option, Some, None}
+use Rattle.std.specs.Prelude.{ℕ, ◌≡◌, ◌<◌, Bool, false, nat_lt, ◌==◌, ◌&&◌, not, if◌then◌else◌, List, [], Option, Some, None}
 use Rattle.std.specs.List.{filter_map, fold}
 use Rattle.std.specs.Str.{bytes_eq}
 use Rattle.ring_records.specs.declared.candidate.Candidate.{Candidate}
@@ -50,6 +50,11 @@ greater_term (Some a) b = if nat_lt a.0 b.0 then Some b else Some a
 -- the greatest term of the group with a leader, and that leader: only a term that a message was taken for can have one
 unfoldable pub latest : ℕ → List Input → List ℕ → Option (ℕ × Candidate)
 latest me h group = fold greater_term None (filter_map (term_led me h group) (taken h))
+
+-- by the leaders of a group's terms: o is the greatest term that has one, and that leader
+abbrev pub IsLatest : (ℕ → Option Candidate) → Option (ℕ × Candidate) → Type 0
+IsLatest leads None = (term : ℕ) → leads term ≡ None
+IsLatest leads (Some p) = (leads p.0 ≡ Some p.1) × ((term : ℕ) → p.0 < term → leads term ≡ None)
 
 -- the latest leader of a group, once the leader for a key went from `before` to `now`
 abbrev pub noted : Option Candidate → Option Candidate → Key → List ℕ → Option (ℕ × Candidate) → Option (ℕ × Candidate)

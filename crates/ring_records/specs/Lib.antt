@@ -1,6 +1,7 @@
 pub mod Admission
 pub mod Emission
 pub mod History
+pub mod KeyOrder
 pub mod Leader
 pub mod Lists
 pub mod Message

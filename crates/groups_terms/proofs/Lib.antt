@@ -1,0 +1,2 @@
+mod Leaders
+mod Tables

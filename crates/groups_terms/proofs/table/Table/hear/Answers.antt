@@ -1,0 +1,27 @@
+use Rattle.std.proofs.Common.{◌∷◌, ◌++◌, [], ap, ◌∙◌}
+use Rattle.std.specs.FinMap as map
+use Rattle.ring_records.specs.declared.input.Input.TheVariants.{Take}
+use Rattle.ring_records.specs.declared.key.Key.{Key}
+use Rattle.ring_records.specs.Message.{key_of}
+use Rattle.groups_terms.specs.Table.{TableView, ballot_at}
+use Rattle.groups_terms.proofs.Tables.{hear_kept, hear_next, put_seen, one_key_put, moved}
+use Rattle.groups_terms.proofs.table.Table.hear.Goals as goal
+
+pub invariant_of-self-2 : goal.invariant_of-self-2
+invariant_of-self-2 c =
+    hear_kept c.args.self.now _ _ c.self.inside.latest c.keep_place.new.latest c.note.new.latest c.key-key.result c.known-ballot.result c.hear-on.new.ballot (ap (λ (t : TableView). t.ballots) c.self.view_is) c.self.invariant
+    c.known-ballot.ensures c.keep_place.ensures.same c.in_ok-put.ensures.ok c.hear-on.ensures.leader c.note.ensures
+
+pub returns-clause-next : goal.returns-clause-next
+returns-clause-next c = λ h place stands.
+    let me = ap (λ (t : TableView). t.me) c.self.view_is in
+    hear_next c.args.self.now _ h place c.args.msg.now c.key-key.result c.hear-on.new.ballot stands c.key-key.ensures me
+    (put_seen c.args.self.now _ _ c.key-key.result c.hear-on.new.ballot (ap (λ (t : TableView). t.ballots) c.self.view_is) c.in_ok-put.ensures.ok)
+    (ap (λ (t : TableView). t.stands) c.self.view_is)
+    (moved c.known-ballot.result (ballot_at c.args.self.now c.key-key.result) c.hear-on.new.ballot _ _ h (h ++ Take place c.args.msg.now ∷ []) (key_of c.args.msg.now) me c.known-ballot.ensures (c.hear-on.ensures.next h place))
+
+pub returns-clause-one_key : goal.returns-clause-one_key
+returns-clause-one_key c =
+    one_key_put c.args.self.now _ (key_of c.args.msg.now) c.hear-on.new.ballot
+    (put_seen c.args.self.now _ _ c.key-key.result c.hear-on.new.ballot (ap (λ (t : TableView). t.ballots) c.self.view_is) c.in_ok-put.ensures.ok
+    ∙ ap (λ (k : Key). map.insert c.args.self.now.ballots k c.hear-on.new.ballot) c.key-key.ensures)

@@ -1,0 +1,161 @@
+// The ballots of one node.
+ghost use Rattle.std.specs.Prelude.{◌≡◌, ◌+◌, ◌<◌, ◌^◌, ℕ, false, List, ◌++◌, ◌∷◌, [], Some, None, IfOk, OnOk, OnErr};
+ghost use Rattle.std.specs.FinMap as map;
+ghost use Rattle.ring_records.specs.declared.candidate.Candidate.{Candidate};
+ghost use Rattle.ring_records.specs.declared.input.Input.{Input};
+ghost use Rattle.ring_records.specs.declared.input.Input.TheVariants.{Stand, Take};
+ghost use Rattle.ring_records.specs.declared.key.Key.{Key};
+ghost use Rattle.ring_records.specs.Emission.{emit};
+ghost use Rattle.ring_records.specs.KeyOrder.{key_cmp};
+ghost use Rattle.ring_records.specs.Leader.{IsLatest, latest};
+ghost use Rattle.ring_records.specs.Message.{key_of};
+ghost use Rattle.cr_automaton.specs.Ballot.{StandsFor};
+
+use crate::latest::{Latest, keep_place, latest_leader, note};
+use cr_automaton::Ballot;
+use ring_records::{Bid, Candidate, GroupName, Key, Msg, NodeNo, Term};
+use std::alloc::{AllocError, Global};
+use std::collections::BTreeMap;
+use std::marker::Model;
+
+/// What one node knows of each key, as a finite map from key to ballot: a key that no input named has none.
+#[derive(Drop)]
+pub struct Table {
+    me: NodeNo,
+    ballots: BTreeMap<Key, Ballot>,
+    latest: Latest,
+    stands: u32,
+}
+
+impl Model for Table {
+    ghost use Rattle.groups_terms.specs.Table.{TableView, coded_table, AreLatest};
+    ghost use Rattle.std.specs.FinMap as map;
+
+    ghost Value = { TableView };
+
+    ghost coded = { coded_table };
+
+    ghost view = { λ t. record { me = t.me; ballots = map.from_entries t.ballots.entries; stands = t.stands } };
+
+    ghost invariant = { λ t. AreLatest (map.from_entries t.ballots.entries) t.latest };
+}
+
+impl Table {
+    ghost use Rattle.groups_terms.specs.Table.{TableView, ballot_at, leads, TableStandsFor};
+
+    /// The table of a node that has accepted nothing.
+    pub fn new(alloc: Global, me: NodeNo) -> Table
+        ensures value { result ≡ record { me = me; ballots = map.empty; stands = 0 } }
+        ensures empty { TableStandsFor result [] }
+    {
+        Table {
+            me,
+            ballots: BTreeMap::new(alloc),
+            latest: BTreeMap::new(alloc),
+            stands: 0,
+        }
+    }
+
+    /// The ballot of the key, where an input named it.
+    pub fn ballot(&self, key: &Key) -> Option<Ballot>
+        ensures { result ≡ map.get self.now.ballots key.now }
+    {
+        self.ballots.get(key).copied()
+    }
+
+    /// The leader for the key, if one is known.
+    pub fn who(&self, key: &Key) -> Option<Candidate>
+        ensures { result ≡ (ballot_at self.now key.now).leader }
+    {
+        match self.ballot(key) {
+            Some(ballot) => ballot.leader,
+            None => None,
+        }
+    }
+
+    /// The greatest term of the group with a known leader, and that leader.
+    pub fn latest(&self, group: &GroupName) -> Option<(Term, Candidate)>
+        ensures value { IsLatest (leads self.now.ballots group.now) result }
+        ensures known { (h : List Input) → TableStandsFor self.now h → result ≡ latest self.now.me h group.now }
+    {
+        latest_leader(&self.latest, group)
+    }
+
+    /// How many Stands it made.
+    pub fn stands(&self) -> u32
+        ensures { result ≡ self.now.stands }
+    {
+        self.stands
+    }
+
+    /// Stands for a key for which the node has not stood: the token that it sends. An `Err` changes nothing.
+    pub fn stand(&mut self, key: Key, bid: Bid) -> Result<Msg, AllocError>
+        requires fresh { (ballot_at self.old key).stood ≡ None }
+        requires few { self.old.stands + 1 < 2 ^ 32 }
+        ensures me { self.new.me ≡ self.old.me }
+        ensures sends { IfOk result (λ token. (h : List Input) → emit self.old.me h (Stand key bid) ≡ Some token) }
+        ensures next { OnOk result ((h : List Input) → TableStandsFor self.old h → TableStandsFor self.new (h ++ Stand key bid ∷ [])) }
+        ensures one_key { OnOk result (self.new.ballots ≡ map.insert self.old.ballots key (ballot_at self.new key)) }
+        ensures stands { OnOk result (self.new.stands ≡ self.old.stands + 1) }
+        ensures err { OnErr result (self.new ≡ self.old) }
+    {
+        let mut ballot = self.known(&key);
+        let token = ballot.stand(self.me, key, bid);
+        put(&mut self.ballots, &key, &ballot)?;
+        self.stands += 1;
+        Ok(token)
+    }
+
+    /// Takes a message: what the node sends on. An `Err` changes nothing.
+    pub fn hear(&mut self, msg: &Msg) -> Result<Option<Msg>, AllocError>
+        ensures me { self.new.me ≡ self.old.me }
+        ensures sends { IfOk result (λ on. (h : List Input) (place : ℕ) → TableStandsFor self.old h → emit self.old.me h (Take place msg.now) ≡ on) }
+        ensures next { OnOk result ((h : List Input) (place : ℕ) → TableStandsFor self.old h → TableStandsFor self.new (h ++ Take place msg.now ∷ [])) }
+        ensures one_key { OnOk result (self.new.ballots ≡ map.insert self.old.ballots (key_of msg.now) (ballot_at self.new (key_of msg.now))) }
+        ensures stands { self.new.stands ≡ self.old.stands }
+        ensures err { OnErr result (self.new ≡ self.old) }
+    {
+        let key = msg.key();
+        let mut ballot = self.known(&key);
+        let before = ballot.leader;
+        let on = hear(&mut ballot, self.me, msg);
+        keep_place(&mut self.latest, &key.group)?;
+        put(&mut self.ballots, &key, &ballot)?;
+        note(&mut self.latest, &key, before, ballot.leader);
+        Ok(on)
+    }
+
+    // The ballot of the key, an empty one where no input named it.
+    fn known(&self, key: &Key) -> Ballot
+        ensures { result ≡ ballot_at self.now key.now }
+    {
+        match self.ballot(key) {
+            Some(ballot) => ballot,
+            None => Ballot::new(),
+        }
+    }
+}
+
+fn put(ballots: &mut BTreeMap<Key, Ballot>, key: &Key, ballot: &Ballot) -> Result<(), AllocError>
+    ensures ok { OnOk result (map.from_entries {R = key_cmp} ballots.new.entries ≡ map.insert (map.from_entries ballots.old.entries) key.now ballot.now) }
+    ensures err { OnErr result (ballots.new.entries ≡ ballots.old.entries) }
+{
+    let stood: Option<Bid> = ballot.stood;
+    let leader: Option<Candidate> = ballot.leader;
+    ballots.insert(*key, Ballot { stood, leader })?;
+    Ok(())
+}
+
+fn hear(ballot: &mut Ballot, me: NodeNo, msg: &Msg) -> Option<Msg>
+    ensures sends { (h : List Input) (place : ℕ) → StandsFor ballot.old me h (key_of msg.now) → emit me h (Take place msg.now) ≡ result }
+    ensures next { (h : List Input) (place : ℕ) → StandsFor ballot.old me h (key_of msg.now) → StandsFor ballot.new me (h ++ Take place msg.now ∷ []) (key_of msg.now) }
+    ensures leader { (c : Candidate) → ballot.old.leader ≡ Some c → ballot.new.leader ≡ Some c }
+{
+    match msg {
+        Msg::Token { key, candidate } => ballot.hear_token(me, *key, *candidate),
+        Msg::Elected { key, candidate } => ballot.hear_elected(me, *key, *candidate),
+    }
+}
+
+#[cfg(test)]
+mod tests;
