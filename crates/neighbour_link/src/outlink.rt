@@ -1,0 +1,145 @@
+// The link to the successor.
+ghost use Rattle.std.specs.Prelude.{◌≡◌, ℕ, ◌+◌, ◌-◌, ◌<◌, ◌^◌, List, [], ◌++◌, ◌∷◌, drop, length, OnOk, OnErr, IfOk};
+ghost use Rattle.std.specs.Result.{result_err};
+ghost use Rattle.ring_records.specs.declared.input.Input.{Input};
+ghost use Rattle.ring_records.specs.declared.input.Input.TheVariants.{Acked};
+ghost use Rattle.ring_records.specs.declared.msg.Msg.{Msg};
+ghost use Rattle.ring_records.specs.Admission.{objection, too_many};
+ghost use Rattle.ring_records.specs.Emission as emission;
+ghost use Rattle.ring_records.specs.History as history;
+ghost use Rattle.ring_records.specs.Lists.{or_else};
+ghost use Rattle.neighbour_link.specs.Outlink.{credit_objection, sent_count, OutlinkStandsFor};
+
+use ring_records::{Msg, Refusal};
+use std::alloc::{AllocError, Global};
+use std::marker::Model;
+
+/// The link to the successor: how many of its messages the successor is known to have taken, and those sent after
+/// these. Its messages are numbered from 0.
+#[derive(Drop)]
+pub struct Outlink {
+    // The messages from number `first` on. The dead are those of them that are credited; they stand in front, so that
+    // the window is one slice, and leave once they are more than half.
+    kept: Vec<Msg>,
+    first: u64,
+    dead: usize,
+}
+
+impl Model for Outlink {
+    ghost use Rattle.std.specs.Prelude.{◌+◌, drop, length};
+    ghost use Rattle.neighbour_link.specs.Outlink.{LinkView, IsKept};
+
+    ghost Value = { LinkView };
+
+    ghost view = { λ link. record { credited = link.first + link.dead; window = drop link.dead link.kept.items } };
+
+    ghost invariant = { λ link. IsKept link.first link.dead (length link.kept.items) };
+}
+
+impl Outlink {
+    /// A link on which nothing was sent.
+    pub fn new(alloc: Global) -> Outlink
+        ensures credited { result.credited ≡ 0 }
+        ensures window { result.window ≡ [] }
+        ensures stands { OutlinkStandsFor result [] 0 }
+    {
+        Outlink {
+            kept: Vec::new(alloc),
+            first: 0,
+            dead: 0,
+        }
+    }
+
+    /// How many messages were sent, which is the number of the next one.
+    pub fn sent(&self) -> u64
+        ensures value { result ≡ sent_count self.now }
+        ensures stands { (sent : List Msg) (credit : ℕ) → OutlinkStandsFor self.now sent credit → result ≡ length sent }
+    {
+        self.first + self.kept.len() as u64
+    }
+
+    /// How many messages the successor is known to have taken: the greatest credit so far, 0 at first.
+    pub fn credited(&self) -> u64
+        ensures value { result ≡ self.now.credited }
+        ensures stands { (sent : List Msg) (credit : ℕ) → OutlinkStandsFor self.now sent credit → result ≡ credit }
+    {
+        self.first + self.dead as u64
+    }
+
+    /// The messages sent and not credited, oldest first: those numbered from `credited()` to below `sent()`.
+    pub fn window(&self) -> &[Msg]
+        ensures value { result.now ≡ self.now.window }
+        ensures stands { (sent : List Msg) (credit : ℕ) → OutlinkStandsFor self.now sent credit → result.now ≡ drop credit sent }
+    {
+        &self.kept[self.dead..]
+    }
+
+    /// Sends one more message: its number. The caller sees that `sent()` is below 2^64 - 1. A refused growth changes
+    /// nothing.
+    pub fn queue(&mut self, msg: Msg) -> Result<u64, AllocError>
+        requires { sent_count self.old + 1 < 2 ^ 64 }
+        ensures number { IfOk result (λ no. no ≡ sent_count self.old) }
+        ensures credited { self.new.credited ≡ self.old.credited }
+        ensures window { OnOk result (self.new.window ≡ self.old.window ++ msg ∷ []) }
+        ensures err { OnErr result (self.new ≡ self.old) }
+        ensures stands { IfOk result (λ no. (sent : List Msg) (credit : ℕ) → OutlinkStandsFor self.old sent credit → (no ≡ length sent) × OutlinkStandsFor self.new (sent ++ msg ∷ []) credit) }
+    {
+        let no = self.sent();
+        self.kept.push(msg)?;
+        Ok(no)
+    }
+
+    /// Whether the successor may have taken the first `upto` messages now: refused as 13 (Old) where that is not above
+    /// the credit so far, else as 14 (AckAhead) where it is above the count sent.
+    #[tactic(auto, unfolding(ring_records::specs::Admission::objection))]
+    pub fn judge(&self, upto: u64) -> Result<(), Refusal>
+        ensures value { result_err result ≡ credit_objection self.now.credited (sent_count self.now) upto }
+        ensures admission { (me n : ℕ) (h : List Input) → OutlinkStandsFor self.now (emission.sent me h) (history.credit h) → objection me n h (Acked upto) ≡ or_else (result_err result) (too_many h) }
+    {
+        if upto <= self.credited() {
+            Err(Refusal::Old(self.credited()))
+        } else if upto > self.sent() {
+            Err(Refusal::AckAhead(self.sent()))
+        } else {
+            Ok(())
+        }
+    }
+
+    /// The successor has taken the first `upto` messages. Refused as `judge` says; a refusal changes nothing.
+    pub fn credit(&mut self, upto: u64) -> Result<(), Refusal>
+        ensures judged { result_err result ≡ credit_objection self.old.credited (sent_count self.old) upto }
+        ensures credited { OnOk result (self.new.credited ≡ upto) }
+        ensures window { OnOk result (self.new.window ≡ drop (upto - self.old.credited) self.old.window) }
+        ensures err { OnErr result (self.new ≡ self.old) }
+        ensures stands { OnOk result ((sent : List Msg) (credit : ℕ) → OutlinkStandsFor self.old sent credit → OutlinkStandsFor self.new sent upto) }
+    {
+        self.judge(upto)?;
+        self.dead = (upto - self.first) as usize;
+        self.bury();
+        Ok(())
+    }
+
+    /// A link that has the same messages and the same credit.
+    pub fn try_copy(&self) -> Result<Outlink, AllocError>
+        ensures { IfOk result (λ copy. copy ≡ self.now) }
+    {
+        let kept = Vec::from_slice(*self.kept.allocator(), self.window())?;
+        Ok(Outlink {
+            kept,
+            first: self.credited(),
+            dead: 0,
+        })
+    }
+
+    // Drops the credited messages once they are more than half of those kept: fewer than these move up then, so over
+    // all credits no message costs more than a few steps.
+    fn bury(&mut self)
+        ensures { self.new ≡ self.old }
+    {
+        if self.dead > self.kept.len() - self.dead {
+            self.kept.drain(..self.dead);
+            self.first += self.dead as u64;
+            self.dead = 0;
+        }
+    }
+}
