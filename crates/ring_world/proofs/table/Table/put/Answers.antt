@@ -2,7 +2,8 @@ use Rattle.std.proofs.Common.{ap, sym, ◌∙◌, cond, Some}
 use Rattle.std.specs.Map.{lookup}
 use Rattle.std.specs.Ordering.{is_eq}
 use Rattle.ring_records.specs.Order.{is_key}
-use Rattle.ring_records.proofs.Compare.{lookup-key, is_eq-key_cmp, key_cmp}
+use Rattle.ring_records.specs.KeyOrder.{key_cmp}
+use Rattle.ring_records.proofs.Compare.{lookup-key, is_eq-key_cmp}
 use Rattle.ring_world.specs.Table.{ballot_of}
 use Rattle.ring_world.proofs.table.Table.put.Goals as goal
 
