@@ -1,4 +1,4 @@
-# A script of so many lines (-v lines=50000) over many groups on a ring of 16: at each node in turn a stand, the delivery
+# A script of so many lines (-v lines=58000) over many groups on a ring of 16: at each node in turn a stand, the delivery
 # of the next message of its link, and a question.
 BEGIN {
     print "ring 16"
