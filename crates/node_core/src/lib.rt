@@ -2,7 +2,7 @@
 //! as a look-back over that history would.
 #![tactic(auto)]
 
-mod core;
 mod judge;
+mod node;
 
-pub use core::NodeCore;
+pub use node::NodeCore;

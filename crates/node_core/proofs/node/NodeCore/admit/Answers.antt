@@ -1,7 +1,7 @@
 use Rattle.std.proofs.Common.{◌+◌, ◌<◌, ◌≤◌, subst, sym, ap, ◌∙◌}
 use Rattle.node_core.specs.Core.{CoreView}
 use Rattle.node_core.proofs.Cores.{refused_before, refused_last, not_refused}
-use Rattle.node_core.proofs.core.NodeCore.admit.Goals as goal
+use Rattle.node_core.proofs.node.NodeCore.admit.Goals as goal
 
 pub returns-in-Some : goal.returns-in-Some
 returns-in-Some c = λ h s. refused_before _ _ _ h _ _ (sym c.in-Some.is ∙ c.objection.ensures h s)

@@ -1,10 +1,8 @@
 // A whole node.
 ghost use Rattle.std.specs.Prelude.{◌≡◌, ℕ, List, []};
-ghost use Rattle.std.specs.FinMap as map;
 ghost use Rattle.std.specs.Result.{result_err};
 ghost use Rattle.ring_records.specs.declared.input.Input.{Input};
 ghost use Rattle.ring_records.specs.Admission.{fresh, objection, refusal};
-ghost use Rattle.ring_records.specs.History as history;
 ghost use Rattle.ring_records.specs.Leader.{leader, latest};
 ghost use Rattle.groups_terms.specs.Table.{ballot_at};
 ghost use Rattle.node_core.specs.Core.{CoreStandsFor};
@@ -24,6 +22,7 @@ pub struct NodeCore {
     table: Table,
     outlink: Outlink,
     inlink: Inlink,
+    // How many inputs it accepted, and the bytes of the capacity that they take.
     inputs: u64,
     used: u32,
 }

@@ -3,7 +3,7 @@ use Rattle.ring_records.specs.declared.input.Input.{Input}
 use Rattle.ring_records.specs.Admission.{objection}
 use Rattle.node_core.specs.Core.{CoreView, CoreStandsFor}
 use Rattle.node_core.proofs.Cores.{take_judged, acked_judged}
-use Rattle.node_core.proofs.core.NodeCore.objection.Goals as goal
+use Rattle.node_core.proofs.node.NodeCore.objection.Goals as goal
 
 pub returns-in-Take : goal.returns-in-Take
 returns-in-Take c = subst (λ (core : CoreView). (h : List Input) → CoreStandsFor core h → c.against_take.result ≡ objection core.table.me core.size h c.args.input.now) c.self.view_is

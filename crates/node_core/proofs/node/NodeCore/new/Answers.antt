@@ -3,7 +3,7 @@ use Rattle.ring_records.specs.Admission.{used}
 use Rattle.ring_records.specs.History.{taken, credit}
 use Rattle.ring_records.specs.Emission.{sent}
 use Rattle.ring_records.specs.Lists.{found_after}
-use Rattle.node_core.proofs.core.NodeCore.new.Goals as goal
+use Rattle.node_core.proofs.node.NodeCore.new.Goals as goal
 
 pub returns-clause-empty : goal.returns-clause-empty
 unfolding used taken sent credit found_after
