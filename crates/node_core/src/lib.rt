@@ -1,5 +1,5 @@
-//! A whole node as a machine over its inputs: it keeps ballots, numbers and a window in place of a history, and judges
-//! as a look-back over that history would.
+//! A node that keeps ballots, numbers and a window in place of a history, and judges inputs as a look-back over that
+//! history would. It does not take inputs yet.
 #![tactic(auto)]
 
 mod judge;
