@@ -1,2 +1,2 @@
 mod Leaders
-mod Tables
+pub mod Tables

@@ -125,6 +125,18 @@ impl Table {
         Ok(on)
     }
 
+    /// A table that has the same ballots.
+    pub fn try_copy(&self) -> Result<Table, AllocError>
+        ensures { IfOk result (λ copy. copy ≡ self.now) }
+    {
+        Ok(Table {
+            me: self.me,
+            ballots: self.ballots.clone()?,
+            latest: self.latest.clone()?,
+            stands: self.stands,
+        })
+    }
+
     // The ballot of the key, an empty one where no input named it.
     fn known(&self, key: &Key) -> Ballot
         ensures { result ≡ ballot_at self.now key.now }

@@ -1,5 +1,5 @@
 -- What the link to the successor is seen as.
-use Rattle.std.specs.Prelude.{ℕ, ◌≡◌, ◌+◌, ◌<◌, ◌≤◌, ◌^◌, nat_le, nat_lt, List, drop, length, Option}
+use Rattle.std.specs.Prelude.{ℕ, ◌≡◌, ◌+◌, ◌<◌, ◌≤◌, ◌^◌, Bool, nat_le, nat_lt, List, drop, length, Option}
 use Rattle.ring_records.specs.declared.msg.Msg.{Msg}
 use Rattle.ring_records.specs.declared.refusal.Refusal.{Refusal}
 use Rattle.ring_records.specs.declared.refusal.Refusal.TheVariants as refused
@@ -10,6 +10,11 @@ use Rattle.ring_records.specs.Lists.{or_else}
 pub record LinkView : Type 0 where
   pub credited : ℕ
   pub window : List Msg
+
+-- the same, and whether one more message is queued without a growth
+pub record OutlinkView : Type 0 where
+  pub link : LinkView
+  pub ready : Bool
 
 -- how many were sent
 abbrev pub sent_count : LinkView → ℕ

@@ -1,5 +1,5 @@
 // The link to the successor.
-ghost use Rattle.std.specs.Prelude.{◌≡◌, ℕ, ◌+◌, ◌-◌, ◌<◌, ◌^◌, List, [], ◌++◌, ◌∷◌, drop, length, OnOk, OnErr, IfOk};
+ghost use Rattle.std.specs.Prelude.{◌≡◌, ℕ, ◌+◌, ◌-◌, ◌<◌, ◌^◌, true, List, [], ◌++◌, ◌∷◌, drop, length, OnOk, OnErr, IfOk, IsOk};
 ghost use Rattle.std.specs.Result.{result_err};
 ghost use Rattle.ring_records.specs.declared.input.Input.{Input};
 ghost use Rattle.ring_records.specs.declared.input.Input.TheVariants.{Acked};
@@ -26,12 +26,12 @@ pub struct Outlink {
 }
 
 impl Model for Outlink {
-    ghost use Rattle.std.specs.Prelude.{◌+◌, drop, length};
-    ghost use Rattle.neighbour_link.specs.Outlink.{LinkView, IsKept};
+    ghost use Rattle.std.specs.Prelude.{◌+◌, nat_lt, drop, length, vec_len, vec_capacity};
+    ghost use Rattle.neighbour_link.specs.Outlink.{OutlinkView, IsKept};
 
-    ghost Value = { LinkView };
+    ghost Value = { OutlinkView };
 
-    ghost view = { λ link. record { credited = link.first + link.dead; window = drop link.dead link.kept.items } };
+    ghost view = { λ link. record { link = record { credited = link.first + link.dead; window = drop link.dead link.kept.items }; ready = nat_lt (vec_len link.kept) (vec_capacity link.kept) } };
 
     ghost invariant = { λ link. IsKept link.first link.dead (length link.kept.items) };
 }
@@ -39,9 +39,9 @@ impl Model for Outlink {
 impl Outlink {
     /// A link on which nothing was sent.
     pub fn new(alloc: Global) -> Outlink
-        ensures credited { result.credited ≡ 0 }
-        ensures window { result.window ≡ [] }
-        ensures stands { OutlinkStandsFor result [] 0 }
+        ensures credited { result.link.credited ≡ 0 }
+        ensures window { result.link.window ≡ [] }
+        ensures stands { OutlinkStandsFor result.link [] 0 }
     {
         Outlink {
             kept: Vec::new(alloc),
@@ -52,37 +52,46 @@ impl Outlink {
 
     /// How many messages were sent, which is the number of the next one.
     pub fn sent(&self) -> u64
-        ensures value { result ≡ sent_count self.now }
-        ensures stands { (sent : List Msg) (credit : ℕ) → OutlinkStandsFor self.now sent credit → result ≡ length sent }
+        ensures value { result ≡ sent_count self.now.link }
+        ensures stands { (sent : List Msg) (credit : ℕ) → OutlinkStandsFor self.now.link sent credit → result ≡ length sent }
     {
         self.first + self.kept.len() as u64
     }
 
     /// How many messages the successor is known to have taken: the greatest credit so far, 0 at first.
     pub fn credited(&self) -> u64
-        ensures value { result ≡ self.now.credited }
-        ensures stands { (sent : List Msg) (credit : ℕ) → OutlinkStandsFor self.now sent credit → result ≡ credit }
+        ensures value { result ≡ self.now.link.credited }
+        ensures stands { (sent : List Msg) (credit : ℕ) → OutlinkStandsFor self.now.link sent credit → result ≡ credit }
     {
         self.first + self.dead as u64
     }
 
     /// The messages sent and not credited, oldest first: those numbered from `credited()` to below `sent()`.
     pub fn window(&self) -> &[Msg]
-        ensures value { result.now ≡ self.now.window }
-        ensures stands { (sent : List Msg) (credit : ℕ) → OutlinkStandsFor self.now sent credit → result.now ≡ drop credit sent }
+        ensures value { result.now ≡ self.now.link.window }
+        ensures stands { (sent : List Msg) (credit : ℕ) → OutlinkStandsFor self.now.link sent credit → result.now ≡ drop credit sent }
     {
         &self.kept[self.dead..]
     }
 
+    /// Makes room for one more message, which is queued without a growth then.
+    pub fn reserve(&mut self) -> Result<(), AllocError>
+        ensures same { self.new.link ≡ self.old.link }
+        ensures ready { OnOk result (self.new.ready ≡ true) }
+    {
+        self.kept.reserve(1)
+    }
+
     /// Sends one more message: its number. The caller sees that `sent()` is below 2^64 - 1. A refused growth changes
-    /// nothing.
+    /// nothing; where there is room none is needed.
     pub fn queue(&mut self, msg: Msg) -> Result<u64, AllocError>
-        requires { sent_count self.old + 1 < 2 ^ 64 }
-        ensures number { IfOk result (λ no. no ≡ sent_count self.old) }
-        ensures credited { self.new.credited ≡ self.old.credited }
-        ensures window { OnOk result (self.new.window ≡ self.old.window ++ msg ∷ []) }
-        ensures err { OnErr result (self.new ≡ self.old) }
-        ensures stands { IfOk result (λ no. (sent : List Msg) (credit : ℕ) → OutlinkStandsFor self.old sent credit → (no ≡ length sent) × OutlinkStandsFor self.new (sent ++ msg ∷ []) credit) }
+        requires { sent_count self.old.link + 1 < 2 ^ 64 }
+        ensures number { IfOk result (λ no. no ≡ sent_count self.old.link) }
+        ensures credited { self.new.link.credited ≡ self.old.link.credited }
+        ensures window { OnOk result (self.new.link.window ≡ self.old.link.window ++ msg ∷ []) }
+        ensures ready { self.old.ready ≡ true → IsOk result }
+        ensures err { OnErr result (self.new.link ≡ self.old.link) }
+        ensures stands { IfOk result (λ no. (sent : List Msg) (credit : ℕ) → OutlinkStandsFor self.old.link sent credit → (no ≡ length sent) × OutlinkStandsFor self.new.link (sent ++ msg ∷ []) credit) }
     {
         let no = self.sent();
         self.kept.push(msg)?;
@@ -93,8 +102,8 @@ impl Outlink {
     /// the credit so far, else as 14 (AckAhead) where it is above the count sent.
     #[tactic(auto, unfolding(ring_records::specs::Admission::objection))]
     pub fn judge(&self, upto: u64) -> Result<(), Refusal>
-        ensures value { result_err result ≡ credit_objection self.now.credited (sent_count self.now) upto }
-        ensures admission { (me n : ℕ) (h : List Input) → OutlinkStandsFor self.now (emission.sent me h) (history.credit h) → objection me n h (Acked upto) ≡ or_else (result_err result) (too_many h) }
+        ensures value { result_err result ≡ credit_objection self.now.link.credited (sent_count self.now.link) upto }
+        ensures admission { (me n : ℕ) (h : List Input) → OutlinkStandsFor self.now.link (emission.sent me h) (history.credit h) → objection me n h (Acked upto) ≡ or_else (result_err result) (too_many h) }
     {
         if upto <= self.credited() {
             Err(Refusal::Old(self.credited()))
@@ -107,11 +116,11 @@ impl Outlink {
 
     /// The successor has taken the first `upto` messages. Refused as `judge` says; a refusal changes nothing.
     pub fn credit(&mut self, upto: u64) -> Result<(), Refusal>
-        ensures judged { result_err result ≡ credit_objection self.old.credited (sent_count self.old) upto }
-        ensures credited { OnOk result (self.new.credited ≡ upto) }
-        ensures window { OnOk result (self.new.window ≡ drop (upto - self.old.credited) self.old.window) }
+        ensures judged { result_err result ≡ credit_objection self.old.link.credited (sent_count self.old.link) upto }
+        ensures credited { OnOk result (self.new.link.credited ≡ upto) }
+        ensures window { OnOk result (self.new.link.window ≡ drop (upto - self.old.link.credited) self.old.link.window) }
         ensures err { OnErr result (self.new ≡ self.old) }
-        ensures stands { OnOk result ((sent : List Msg) (credit : ℕ) → OutlinkStandsFor self.old sent credit → OutlinkStandsFor self.new sent upto) }
+        ensures stands { OnOk result ((sent : List Msg) (credit : ℕ) → OutlinkStandsFor self.old.link sent credit → OutlinkStandsFor self.new.link sent upto) }
     {
         self.judge(upto)?;
         self.dead = (upto - self.first) as usize;
@@ -121,7 +130,7 @@ impl Outlink {
 
     /// A link that has the same messages and the same credit.
     pub fn try_copy(&self) -> Result<Outlink, AllocError>
-        ensures { IfOk result (λ copy. copy ≡ self.now) }
+        ensures { IfOk result (λ copy. copy.link ≡ self.now.link) }
     {
         let kept = Vec::from_slice(*self.kept.allocator(), self.window())?;
         Ok(Outlink {
@@ -134,7 +143,7 @@ impl Outlink {
     // Drops the credited messages once they are more than half of those kept: fewer than these move up then, so over
     // all credits no message costs more than a few steps.
     fn bury(&mut self)
-        ensures { self.new ≡ self.old }
+        ensures { self.new.link ≡ self.old.link }
     {
         if self.dead > self.kept.len() - self.dead {
             self.kept.drain(..self.dead);

@@ -1,1 +1,2 @@
+mod Accepts
 mod Cores

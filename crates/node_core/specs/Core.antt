@@ -24,6 +24,11 @@ pub record CoreView : Type 0 where
   pub inputs : ℕ
   pub used : ℕ
 
+-- its ballots and its link to the successor have what the history h of its node says
+pub record Keeps (table : TableView) (link : LinkView) (h : List Input) : Type 0 where
+  pub ballots : TableStandsFor table h
+  pub messages : OutlinkStandsFor link (sent table.me h) (credit h)
+
 -- it has what the history h of its node says
 pub record CoreStandsFor (core : CoreView) (h : List Input) : Type 0 where
   pub table : TableStandsFor core.table h

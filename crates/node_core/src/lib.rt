@@ -1,8 +1,11 @@
 //! A node that keeps ballots, numbers and a window in place of a history, and judges inputs as a look-back over that
-//! history would. It does not take inputs yet.
+//! history would.
 #![tactic(auto)]
 
+mod accept;
+mod effects;
 mod judge;
 mod node;
 
+pub use effects::Effects;
 pub use node::NodeCore;

@@ -1,17 +1,21 @@
 // A node by what it keeps.
-ghost use Rattle.std.specs.Prelude.{◌≡◌, ℕ, List, []};
+ghost use Rattle.std.specs.Prelude.{◌≡◌, ℕ, List, [], ◌∷◌, ◌++◌, length, drop, None, IfOk, OnOk, OnErr};
 ghost use Rattle.std.specs.Result.{result_err};
 ghost use Rattle.ring_records.specs.declared.input.Input.{Input};
-ghost use Rattle.ring_records.specs.Admission.{fresh, objection, refusal};
-ghost use Rattle.ring_records.specs.Leader.{leader, latest};
+ghost use Rattle.ring_records.specs.Admission.{fresh, used, objection, refusal};
+ghost use Rattle.ring_records.specs.Emission.{sent, carry};
+ghost use Rattle.ring_records.specs.History.{taken, credit, stands};
+ghost use Rattle.ring_records.specs.Leader.{leader, latest, decided};
 ghost use Rattle.groups_terms.specs.Table.{ballot_at};
 ghost use Rattle.node_core.specs.Core.{CoreStandsFor};
 
+use crate::accept::accept;
+use crate::effects::Effects;
 use crate::judge::{against_acked, against_stand, against_take};
 use groups_terms::Table;
 use neighbour_link::{Inlink, Outlink};
 use ring_records::{Candidate, GroupName, Input, Key, Msg, NodeNo, Refusal, Term};
-use std::alloc::Global;
+use std::alloc::{AllocError, Global};
 use std::marker::Model;
 
 /// A node of a ring: its ballots, its two links and its counts, in place of the history of its accepted inputs.
@@ -35,7 +39,7 @@ impl Model for NodeCore {
 
     ghost coded = { coded_core };
 
-    ghost view = { λ c. record { size = c.size; capacity = c.capacity; table = c.table; out = c.outlink; expected = c.inlink; inputs = c.inputs; used = c.used } };
+    ghost view = { λ c. record { size = c.size; capacity = c.capacity; table = c.table; out = c.outlink.link; expected = c.inlink; inputs = c.inputs; used = c.used } };
 }
 
 impl NodeCore {
@@ -74,6 +78,40 @@ impl NodeCore {
         Ok(())
     }
 
+    /// Accepts an input that `admit` answers Ok of: what it brings. An `Err` changes nothing.
+    pub fn apply(&mut self, input: Input) -> Result<Effects, AllocError>
+        requires { (h : List Input) × CoreStandsFor self.old h × (refusal self.old.table.me self.old.size self.old.capacity fresh h input ≡ None) }
+        ensures me { self.new.table.me ≡ self.old.table.me }
+        ensures ring { self.new.size ≡ self.old.size }
+        ensures capacity { self.new.capacity ≡ self.old.capacity }
+        ensures carry { IfOk result (λ effects. (h : List Input) → CoreStandsFor self.old h → effects.carry ≡ carry self.old.table.me h input) }
+        ensures decided { IfOk result (λ effects. (h : List Input) → CoreStandsFor self.old h → effects.decided ≡ decided self.old.table.me h input) }
+        ensures stands { OnOk result ((h : List Input) → CoreStandsFor self.old h → CoreStandsFor self.new (h ++ input ∷ [])) }
+        ensures err { OnErr result (self.new ≡ self.old) }
+    {
+        self.outlink.reserve()?;
+        let cost = input.cost();
+        let effects = accept(&mut self.table, &mut self.outlink, &mut self.inlink, input)?;
+        self.inputs += 1;
+        self.used += cost;
+        Ok(effects)
+    }
+
+    /// A core that stands for the same history.
+    pub fn try_copy(&self) -> Result<NodeCore, AllocError>
+        ensures { IfOk result (λ copy. copy ≡ self.now) }
+    {
+        Ok(NodeCore {
+            size: self.size,
+            capacity: self.capacity,
+            table: self.table.try_copy()?,
+            outlink: self.outlink.try_copy()?,
+            inlink: self.inlink,
+            inputs: self.inputs,
+            used: self.used,
+        })
+    }
+
     /// The leader for the key, if one is known.
     pub fn who(&self, key: &Key) -> Option<Candidate>
         ensures value { result ≡ (ballot_at self.now.table key.now).leader }
@@ -87,6 +125,58 @@ impl NodeCore {
         ensures { (h : List Input) → CoreStandsFor self.now h → result ≡ latest self.now.table.me h group.now }
     {
         self.table.latest(group)
+    }
+
+    /// How many inputs it accepted, at most 2^56.
+    pub fn inputs(&self) -> u64
+        ensures value { result ≡ self.now.inputs }
+        ensures known { (h : List Input) → CoreStandsFor self.now h → result ≡ length h }
+    {
+        self.inputs
+    }
+
+    /// The bytes of the capacity that they take.
+    pub fn used(&self) -> u32
+        ensures value { result ≡ self.now.used }
+        ensures known { (h : List Input) → CoreStandsFor self.now h → result ≡ used fresh h }
+    {
+        self.used
+    }
+
+    /// How many messages it sent.
+    pub fn sent(&self) -> u64
+        ensures { (h : List Input) → CoreStandsFor self.now h → result ≡ length (sent self.now.table.me h) }
+    {
+        self.outlink.sent()
+    }
+
+    /// How many messages it took, which is the number that it expects.
+    pub fn taken(&self) -> u64
+        ensures value { result ≡ self.now.expected }
+        ensures known { (h : List Input) → CoreStandsFor self.now h → result ≡ length (taken h) }
+    {
+        self.inlink.expected()
+    }
+
+    /// How many of its messages its successor is known to have taken.
+    pub fn credit(&self) -> u64
+        ensures { (h : List Input) → CoreStandsFor self.now h → result ≡ credit h }
+    {
+        self.outlink.credited()
+    }
+
+    /// The messages sent and not credited, oldest first.
+    pub fn window(&self) -> &[Msg]
+        ensures { (h : List Input) → CoreStandsFor self.now h → result.now ≡ drop (credit h) (sent self.now.table.me h) }
+    {
+        self.outlink.window()
+    }
+
+    /// How many Stands it made, at most 1,024.
+    pub fn stands(&self) -> u32
+        ensures { (h : List Input) → CoreStandsFor self.now h → result ≡ stands h }
+    {
+        self.table.stands()
     }
 
     fn objection(&self, input: &Input) -> Option<Refusal>

@@ -1,5 +1,6 @@
 pub mod Admission
 pub mod Compare
+pub mod Counts
 pub mod Emission
 pub mod Growth
 pub mod History

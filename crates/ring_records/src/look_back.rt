@@ -1,14 +1,14 @@
 //! The definitions of `specs/`, computed by looking back over a history: the plain reading of them, quadratic, meant
 //! for small histories and as the yardstick of the faster bodies.
-ghost use Rattle.std.specs.Prelude.{◌≡◌, ◌<◌, ◌≤◌, ◌*◌, ◌^◌, length, IfOk, Some};
+ghost use Rattle.std.specs.Prelude.{◌≡◌, ℕ, ◌<◌, ◌≤◌, ◌*◌, ◌^◌, length, IfOk, Some};
 ghost use Rattle.std.specs.Option.{option_and_then};
 ghost use Rattle.ring_records.specs.Admission.{fresh, too_many, objection, used, refusal};
-ghost use Rattle.ring_records.specs.Emission.{is_below, emit, sent};
+ghost use Rattle.ring_records.specs.Emission.{is_below, emit, sent, carry};
 ghost use Rattle.ring_records.specs.History.{names, touched, bid_for, is_stand, message_of, upto_of, stood, taken, credit, stands};
 ghost use Rattle.ring_records.specs.Order.{is_key};
-ghost use Rattle.ring_records.specs.Leader.{is_bid, makes_leader, leader, greater_term, term_led, latest};
+ghost use Rattle.ring_records.specs.Leader.{is_bid, makes_leader, leader, decided, greater_term, term_led, latest};
 
-use crate::{Bid, Candidate, GroupName, Input, Key, Msg, NodeNo, Refusal, Term};
+use crate::{Bid, Candidate, Decision, GroupName, Input, Key, Msg, NodeNo, Packet, Refusal, Term};
 use std::alloc::{AllocError, Global};
 
 #[cfg(test)]
@@ -122,6 +122,31 @@ pub fn sent(alloc: Global, me: NodeNo, history: &[Input]) -> Result<Vec<Msg>, Al
         }
     }
     Ok(messages)
+}
+
+/// The packet in which it goes to the successor, under its number: that of the messages sent before.
+#[tactic(auto, unfolding(crate::specs::Emission::carry))]
+pub fn carry(me: NodeNo, history: &[Input], input: &Input) -> Option<Packet>
+    ensures { result ≡ carry me history.now input.now }
+{
+    match emit(me, history, input) {
+        Some(msg) => Some(Packet::Carry {
+            no: sent_count(me, history),
+            msg,
+        }),
+        None => None,
+    }
+}
+
+/// What the input after the history decides: the key that it names has a leader now, and had none before.
+pub fn decided(me: NodeNo, history: &[Input], input: &Input) -> Option<Decision>
+    ensures { result ≡ decided me history.now input.now }
+{
+    match input {
+        Input::Stand { .. } => None,
+        Input::Take { msg, .. } => decided_by(me, history, msg),
+        Input::Acked { .. } => None,
+    }
 }
 
 /// Why node `me` of a ring of `n` refuses the input after the history, where nothing is summarised: the first cause
@@ -317,6 +342,19 @@ fn pass_on(me: NodeNo, history: &[Input], msg: &Msg) -> Option<Msg>
                 None
             }
         }
+    }
+}
+
+fn decided_by(me: NodeNo, history: &[Input], msg: &Msg) -> Option<Decision>
+    ensures { (place : ℕ) → result ≡ decided me history.now (Input.Take place msg.now) }
+{
+    let key = msg.key();
+    if leader(me, history, &key).is_some() {
+        return None;
+    }
+    match named_leader(me, &key, history, msg) {
+        Some(leader) => Some(Decision { key, leader }),
+        None => None,
     }
 }
 
