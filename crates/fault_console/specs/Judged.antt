@@ -7,9 +7,9 @@ use Rattle.ring_records.specs.Names.{is_name}
 use Rattle.ring_records.specs.declared.key.Key.{Key}
 use Rattle.ring_records.specs.declared.refusal.Refusal.{Refusal}
 use Rattle.ring_records.specs.declared.refusal.Refusal.TheVariants.{BadName, BadNumber, BadLine}
-use Rattle.ring_records.specs.declared.request.Request.TheVariants.{Stand, Who}
+use Rattle.ring_records.specs.declared.request.Request.TheVariants.{Stand, Who, Latest}
 use Rattle.ring_world.specs.declared.event.Event.{Event}
-use Rattle.ring_world.specs.declared.event.Event.TheVariants.{Submit, Deliver, DeliverAll}
+use Rattle.ring_world.specs.declared.event.Event.TheVariants.{Submit, Deliver, Credit, DeliverAll}
 use Rattle.fault_console.specs.Words.{words_of, number_in}
 
 -- Lines without a word, and lines whose first byte is '#', print nothing.
@@ -52,11 +52,23 @@ who_words nodes i g t = do
   key ← key_words g t
   Ok (Submit node (Who key))
 
+abbrev pub latest_words : ℕ → List ℕ → List ℕ → Result Event Refusal
+latest_words nodes i g = do
+  node ← number_word 1 nodes i
+  group ← name_word g
+  Ok (Submit node (Latest group))
+
 abbrev pub deliver_words : ℕ → List ℕ → List ℕ → Result Event Refusal
 deliver_words nodes i number = do
   node ← number_word 1 nodes i
   place ← number_word 0 9999999999 number
   Ok (Deliver node place)
+
+abbrev pub credit_words : ℕ → List ℕ → List ℕ → Result Event Refusal
+credit_words nodes i number = do
+  node ← number_word 1 nodes i
+  upto ← number_word 0 9999999999 number
+  Ok (Credit node upto)
 
 -- Before that, their count and the words that are fixed.
 
@@ -72,10 +84,18 @@ unfoldable pub who_of : ℕ → List (List ℕ) → Result Event Refusal
 who_of nodes (i ∷ g ∷ t ∷ []) = who_words nodes i g t
 who_of nodes _ = Err BadLine
 
+unfoldable pub latest_of : ℕ → List (List ℕ) → Result Event Refusal
+latest_of nodes (i ∷ g ∷ []) = latest_words nodes i g
+latest_of nodes _ = Err BadLine
+
 unfoldable pub deliver_of : ℕ → List (List ℕ) → Result Event Refusal
 deliver_of nodes (word ∷ []) = if bytes_eq word (codes "all") then Ok DeliverAll else Err BadLine
 deliver_of nodes (i ∷ number ∷ []) = deliver_words nodes i number
 deliver_of nodes _ = Err BadLine
+
+unfoldable pub credit_of : ℕ → List (List ℕ) → Result Event Refusal
+credit_of nodes (i ∷ number ∷ []) = credit_words nodes i number
+credit_of nodes _ = Err BadLine
 
 -- Before a ring is made `ring` alone is a command: the number of its nodes.
 unfoldable pub opening_of : List (List ℕ) → Result ℕ Refusal
@@ -88,7 +108,9 @@ command_of nodes [] = Err BadLine
 command_of nodes (verb ∷ words) =
     if bytes_eq verb (codes "stand") then stand_of nodes words
     else (if bytes_eq verb (codes "who") then who_of nodes words
-    else (if bytes_eq verb (codes "deliver") then deliver_of nodes words else Err BadLine))
+    else (if bytes_eq verb (codes "latest") then latest_of nodes words
+    else (if bytes_eq verb (codes "deliver") then deliver_of nodes words
+    else (if bytes_eq verb (codes "credit") then credit_of nodes words else Err BadLine))))
 
 -- what a line that is not silent says, unless it is longer than 200 bytes
 unfoldable pub judged : {A : Type 0} → (List (List ℕ) → Result A Refusal) → List ℕ → Result A Refusal

@@ -7,7 +7,7 @@ use Rattle.ring_records.specs.declared.reply.Reply.{Reply}
 use Rattle.ring_world.specs.State.{State, opened}
 use Rattle.ring_world.specs.Step.{Told, Steps, refusal_of}
 use Rattle.ring_world.specs.declared.event.Event.{Event}
-use Rattle.ring_world.specs.declared.event.Event.TheVariants.{Submit, Deliver, DeliverAll}
+use Rattle.ring_world.specs.declared.event.Event.TheVariants.{Submit, Deliver, Credit, DeliverAll}
 use Rattle.fault_console.specs.Words.{lines_of}
 use Rattle.fault_console.specs.Judged.{is_silent, judged, opening_of, command_of}
 use Rattle.fault_console.specs.declared.run.RunFault.{RunFault}
@@ -29,6 +29,7 @@ delivered_line count = codes "delivered " ++ decimal count
 abbrev pub lines_told : Event → Told → List (List ℕ)
 lines_told (Submit node request) o = map reply_line o.replies
 lines_told (Deliver from place) o = map reply_line o.replies
+lines_told (Credit from upto) o = map reply_line o.replies
 lines_told DeliverAll o = delivered_line (unwrap_or o.delivered 0) ∷ []
 
 -- ---- the lines of a script

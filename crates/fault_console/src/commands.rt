@@ -1,7 +1,7 @@
 // Lines to commands.
 ghost use Rattle.std.specs.Prelude.{◌≡◌, ◌==◌, ◌≤◌, map, IfOk};
 ghost use Rattle.std.specs.List.{list_all};
-ghost use Rattle.fault_console.specs.Judged.{judged, opening_of, command_of, ring_of, stand_of, stand_words, who_of, who_words, deliver_of, deliver_words, number_word, name_word, key_words, is_silent};
+ghost use Rattle.fault_console.specs.Judged.{judged, opening_of, command_of, ring_of, stand_of, stand_words, who_of, who_words, latest_of, latest_words, deliver_of, deliver_words, credit_of, credit_words, number_word, name_word, key_words, is_silent};
 
 use crate::words::{number, words};
 use ring_records::{Bid, GroupName, Key, NodeNo, Refusal, Request, Term};
@@ -109,6 +109,25 @@ fn who(nodes: u8, words: &[&[u8]]) -> Result<Event, Refusal>
     }
 }
 
+fn read_latest(nodes: u8, node: &[u8], group: &[u8]) -> Result<Event, Refusal>
+    requires { nodes ≤ 16 }
+    ensures { result ≡ latest_words nodes node.now group.now }
+{
+    let node = read_node(nodes, node)?;
+    Ok(Event::Submit(node, Request::Latest(read_group(group)?)))
+}
+
+#[tactic(auto, unfolding(crate::specs::Judged::latest_of))]
+fn latest(nodes: u8, words: &[&[u8]]) -> Result<Event, Refusal>
+    requires { nodes ≤ 16 }
+    ensures { result ≡ latest_of nodes (map (λ x. x.now) words.now) }
+{
+    match words {
+        [node, group] => read_latest(nodes, node, group),
+        _ => Err(Refusal::BadLine),
+    }
+}
+
 fn read_deliver(nodes: u8, from: &[u8], no: &[u8]) -> Result<Event, Refusal>
     requires { nodes ≤ 16 }
     ensures { result ≡ deliver_words nodes from.now no.now }
@@ -126,6 +145,26 @@ fn deliver(nodes: u8, words: &[&[u8]]) -> Result<Event, Refusal>
     match words {
         [word] if *word == b"all".as_slice() => Ok(Event::DeliverAll),
         [from, no] => read_deliver(nodes, from, no),
+        _ => Err(Refusal::BadLine),
+    }
+}
+
+fn read_credit(nodes: u8, from: &[u8], upto: &[u8]) -> Result<Event, Refusal>
+    requires { nodes ≤ 16 }
+    ensures { result ≡ credit_words nodes from.now upto.now }
+{
+    let from = read_node(nodes, from)?;
+    let upto = read_number(upto, 0, 9_999_999_999)?;
+    Ok(Event::Credit { from, upto })
+}
+
+#[tactic(auto, unfolding(crate::specs::Judged::credit_of))]
+fn credit(nodes: u8, words: &[&[u8]]) -> Result<Event, Refusal>
+    requires { nodes ≤ 16 }
+    ensures { result ≡ credit_of nodes (map (λ x. x.now) words.now) }
+{
+    match words {
+        [from, upto] => read_credit(nodes, from, upto),
         _ => Err(Refusal::BadLine),
     }
 }
@@ -153,8 +192,12 @@ fn read_command(nodes: u8, words: &[&[u8]]) -> Result<Event, Refusal>
         stand(nodes, words)
     } else if *verb == b"who".as_slice() {
         who(nodes, words)
+    } else if *verb == b"latest".as_slice() {
+        latest(nodes, words)
     } else if *verb == b"deliver".as_slice() {
         deliver(nodes, words)
+    } else if *verb == b"credit".as_slice() {
+        credit(nodes, words)
     } else {
         Err(Refusal::BadLine)
     }

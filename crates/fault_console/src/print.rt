@@ -48,7 +48,9 @@ pub fn print_outcome(out: &mut String, event: &Event, outcome: &Outcome) -> Resu
     ensures { OnOk result (AddsLines (string_bytes out.old) (string_bytes out.new) (lines_told event.now (told outcome.now))) }
 {
     match event {
-        Event::Submit(..) | Event::Deliver { .. } => print_replies(out, &outcome.replies),
+        Event::Submit(..) | Event::Deliver { .. } | Event::Credit { .. } => {
+            print_replies(out, &outcome.replies)
+        }
         Event::DeliverAll => print_delivered(out, outcome.delivered.unwrap_or(0)),
     }
 }
@@ -58,7 +60,9 @@ pub fn count_lines(event: &Event, outcome: &Outcome) -> u64
     ensures { result ≡ length (lines_told event.now (told outcome.now)) }
 {
     match event {
-        Event::Submit(..) | Event::Deliver { .. } => outcome.replies.len() as u64,
+        Event::Submit(..) | Event::Deliver { .. } | Event::Credit { .. } => {
+            outcome.replies.len() as u64
+        }
         Event::DeliverAll => 1,
     }
 }

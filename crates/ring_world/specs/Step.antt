@@ -16,7 +16,7 @@ use Rattle.ring_records.specs.Place.{after, before}
 use Rattle.ring_world.specs.Answer.{gained, answer}
 use Rattle.ring_world.specs.State.{State, history}
 use Rattle.ring_world.specs.declared.event.Event.{Event}
-use Rattle.ring_world.specs.declared.event.Event.TheVariants.{Submit, Deliver, DeliverAll}
+use Rattle.ring_world.specs.declared.event.Event.TheVariants.{Submit, Deliver, Credit, DeliverAll}
 use Rattle.ring_world.specs.declared.outcome.Outcome.{Outcome}
 
 -- an outcome without where it lies in memory
@@ -104,6 +104,7 @@ put s (Some delivery) = submitted delivery.0 delivery.1 s
 unfoldable pub stepped : State → Event → Told × State
 stepped s (Submit node q) = submitted node q s
 stepped s (Deliver from place) = put s (carried s from place)
+stepped s (Credit from upto) = submitted (before s.size from) (ask.Acked upto) s
 stepped s DeliverAll = delivered_all s
 
 -- The relation of a step: the event may tell o and lead from s to t.
@@ -116,11 +117,15 @@ abbrev pub is_sent : Option Msg → Msg → Bool
 is_sent None msg = false
 is_sent (Some m) msg = is_msg m msg
 
+-- node i has taken `upto` messages, at least one: it may tell its predecessor so
+abbrev pub is_earned : State → ℕ → ℕ → Bool
+is_earned s i upto = nat_le 1 upto && nat_le upto (length (taken (history s i)))
+
 -- a packet that the request brings was released to node i by its neighbour
 unfoldable pub is_released : State → ℕ → Request → Bool
 is_released s i (ask.Stand key bid) = true
 is_released s i (ask.Take place msg) = let from = before s.size i in is_sent (slice_get (sent from (history s from)) place) msg
-is_released s i (ask.Acked upto) = nat_le 1 upto && nat_le upto (length (taken (history s (after s.size i))))
+is_released s i (ask.Acked upto) = is_earned s (after s.size i) upto
 is_released s i (ask.Who key) = true
 is_released s i (ask.Latest group) = true
 
@@ -135,6 +140,7 @@ spent s = where_so (nat_le (2 ^ 60) s.tickets) refused.Limit
 unfoldable pub objection_to : State → Event → Option Refusal
 objection_to s (Submit node q) = or_else (where_so (nat_lt s.size node) refused.BadNumber) (or_else (where_so (not (is_released s node q)) refused.Unknown) (spent s))
 objection_to s (Deliver from place) = or_else (where_so (nat_lt s.size from) refused.BadNumber) (or_else (unknown (carried s from place)) (spent s))
+objection_to s (Credit from upto) = or_else (where_so (nat_lt s.size from) refused.BadNumber) (or_else (where_so (not (is_earned s from upto)) refused.Unknown) (spent s))
 objection_to s DeliverAll = None
 
 -- the first cause to refuse the event, want of memory aside

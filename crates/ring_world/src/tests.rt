@@ -35,6 +35,11 @@ fn deliver(world: &mut World, from: u8, no: u64) -> Result<Outcome, Refusal> {
     world.step(Event::Deliver { from, no })
 }
 
+fn credit(world: &mut World, from: u8, upto: u64) -> Result<Outcome, Refusal> {
+    let from = NodeNo::new(from)?;
+    world.step(Event::Credit { from, upto })
+}
+
 /// Why a step was refused.
 fn refused(step: Result<Outcome, Refusal>) -> Option<Refusal> {
     step.err()
@@ -156,6 +161,34 @@ fn packets_come_from_neighbours_alone(rt: HostRuntime) -> Result<(), Refusal> {
         reply(&rt, &again, 6),
         Reply::Refused(Refusal::Already(Bid::new(10)?))
     );
+    Ok(())
+}
+
+#[test]
+fn credits_are_earned_and_go_to_the_predecessor(rt: HostRuntime) -> Result<(), Refusal> {
+    let mut world = ring(rt.alloc(), 3)?;
+    let stood = stand(&mut world, 1, 5, 10)?;
+    assert_eq!(rt; reply(&rt, &stood, 1), Reply::Stood);
+    let early = refused(credit(&mut world, 2, 1));
+    assert_eq!(rt; early, Some(Refusal::Unknown));
+    let taken = deliver(&mut world, 1, 0)?;
+    assert_eq!(rt; reply(&rt, &taken, 2), Reply::Taken);
+    for (from, upto, refusal) in [
+        (1, 1, Refusal::Unknown),
+        (2, 0, Refusal::Unknown),
+        (2, 2, Refusal::Unknown),
+        (3, 1, Refusal::Unknown),
+        (4, 1, Refusal::BadNumber),
+    ] {
+        let was = refused(credit(&mut world, from, upto));
+        assert_eq!(rt; was, Some(refusal), "{upto} from node {from}");
+    }
+    let acked = credit(&mut world, 2, 1)?;
+    assert_eq!(rt; reply(&rt, &acked, 3), Reply::Acked);
+    let known = submit(&mut world, 1, Request::Acked(1))?;
+    assert_eq!(rt; reply(&rt, &known, 4), Reply::Refused(Refusal::Old(1)));
+    let old = credit(&mut world, 2, 1)?;
+    assert_eq!(rt; reply(&rt, &old, 5), Reply::Refused(Refusal::Old(1)));
     Ok(())
 }
 

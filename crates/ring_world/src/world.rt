@@ -4,8 +4,9 @@ ghost use Rattle.ring_world.specs.declared.event.Event.TheVariants as event;
 ghost use Rattle.ring_records.specs.Emission.{sent};
 ghost use Rattle.ring_records.specs.History.{taken};
 ghost use Rattle.ring_records.specs.Order.{is_msg};
+ghost use Rattle.ring_records.specs.Place.{before};
 ghost use Rattle.ring_world.specs.Sound.{Shows};
-ghost use Rattle.ring_world.specs.Step.{is_taken, is_sent, spent, told, nothing_told};
+ghost use Rattle.ring_world.specs.Step.{is_taken, is_sent, is_earned, spent, told, nothing_told};
 
 use crate::event::Event;
 use crate::member::Member;
@@ -111,6 +112,7 @@ impl World {
         match event {
             Event::Submit(node, request) => self.submit_objection(*node, request),
             Event::Deliver { from, no } => self.deliver_objection(*from, *no),
+            Event::Credit { from, upto } => self.credit_objection(*from, *upto),
             Event::DeliverAll => None,
         }
     }
@@ -145,6 +147,21 @@ impl World {
         self.ticket_objection()
     }
 
+    #[tactic(auto, unfolding(crate::specs::Step::objection_to))]
+    fn credit_objection(&self, from: NodeNo, upto: u64) -> Option<Refusal>
+        requires { self.now.failed ≡ false }
+        ensures value { result ≡ objection_to self.now (event.Credit from upto) }
+        ensures memory { IfSome result (λ refusal. refusal ≡ Refusal.OutOfMemory → ⊥) }
+    {
+        if from.number() > self.size {
+            return Some(Refusal::BadNumber);
+        }
+        if !self.is_earned(from, upto) {
+            return Some(Refusal::Unknown);
+        }
+        self.ticket_objection()
+    }
+
     fn ticket_objection(&self) -> Option<Refusal>
         ensures value { result ≡ spent self.now }
         ensures memory { IfSome result (λ refusal. refusal ≡ Refusal.OutOfMemory → ⊥) }
@@ -165,7 +182,7 @@ impl World {
         match request {
             Request::Stand(_, _) => true,
             Request::Take(no, msg) => self.has_sent(node.predecessor(self.size), *no, msg),
-            Request::Acked(upto) => { 1 <= *upto && *upto <= self.taken(node.successor(self.size)) }
+            Request::Acked(upto) => self.is_earned(node.successor(self.size), *upto),
             Request::Who(_) => true,
             Request::Latest(_) => true,
         }
@@ -189,6 +206,14 @@ impl World {
     {
         let member = &self.members[from.number() as usize - 1];
         member.message(no)
+    }
+
+    fn is_earned(&self, node: NodeNo, upto: u64) -> bool
+        requires sound { self.now.failed ≡ false }
+        requires inside { node ≤ self.now.size }
+        ensures { result ≡ is_earned self.now node upto }
+    {
+        1 <= upto && upto <= self.taken(node)
     }
 
     fn taken(&self, node: NodeNo) -> u64
@@ -242,6 +267,7 @@ impl World {
         match event {
             Event::Submit(node, request) => self.submit(node, &request),
             Event::Deliver { from, no } => self.deliver(from, no),
+            Event::Credit { from, upto } => self.credit(from, upto),
             Event::DeliverAll => self.deliver_all(),
         }
     }
@@ -278,6 +304,18 @@ impl World {
             Some(delivery) => self.submit(delivery.0, &delivery.1),
             None => Ok(quiet(self.allocator(), None)),
         }
+    }
+
+    fn credit(&mut self, from: NodeNo, upto: u64) -> Result<Outcome, AllocError>
+        requires sound { self.old.failed ≡ false }
+        requires inside { from ≤ self.old.size }
+        requires room { self.old.tickets < 2 ^ 60 }
+        ensures step { IfOk result (λ outcome. (told outcome, self.new) ≡ submitted (before self.old.size from) (Request.Acked upto) self.old) }
+        ensures size { self.new.size ≡ self.old.size }
+        ensures few { IfOk result (λ outcome. length outcome.replies.items ≤ 1) }
+        ensures tickets { OnOk result (self.new.tickets ≡ self.old.tickets + 1) }
+    {
+        self.submit(from.predecessor(self.size), &Request::Acked(upto))
     }
 
     #[tactic(auto, unfolding(crate::specs::Step::delivered_all))]

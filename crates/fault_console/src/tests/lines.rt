@@ -51,8 +51,8 @@ const LINES: [(&str, &[u8], &str); 21] = [
     ),
     (
         "before the ring is made `ring` alone is a command",
-        b"stand 1 red 5 10\nwho 1 Red 5\ndeliver 1 0\ndeliver all\nring\nring 2 eager\nring 17 foo\nring 2 4096\nRing 2\nrings 2\nring2\n",
-        "no 25 line\nno 25 line\nno 25 line\nno 25 line\nno 25 line\nno 25 line\nno 25 line\nno 25 line\nno 25 line\nno 25 line\nno 25 line\n",
+        b"stand 1 red 5 10\nwho 1 Red 5\nlatest 1 red\ndeliver 1 0\ndeliver all\ncredit 1 1\nring\nring 2 eager\nring 17 foo\nring 2 4096\nRing 2\nrings 2\nring2\n",
+        "no 25 line\nno 25 line\nno 25 line\nno 25 line\nno 25 line\nno 25 line\nno 25 line\nno 25 line\nno 25 line\nno 25 line\nno 25 line\nno 25 line\nno 25 line\n",
     ),
     (
         "a ring has 2 to 16 nodes",
@@ -66,33 +66,33 @@ const LINES: [(&str, &[u8], &str); 21] = [
     ),
     (
         "a second ring, and commands that there are not",
-        b"ring 2\nring 2\nlatest 1 red\ncredit 1 1\nflush 1\ncrash 1\nstop 1 1 old\nshow 1\ncheckpoint 1\nretire 1 red 1\naudit\n",
-        "ring 2\nno 25 line\nno 25 line\nno 25 line\nno 25 line\nno 25 line\nno 25 line\nno 25 line\nno 25 line\nno 25 line\nno 25 line\n",
+        b"ring 2\nring 2\nlast 1 red\nlatests 1 red\nLatest 1 red\ncredits 1 1\nflush 1\ncrash 1\nstop 1 1 old\nshow 1\ncheckpoint 1\nretire 1 red 1\naudit\n",
+        "ring 2\nno 25 line\nno 25 line\nno 25 line\nno 25 line\nno 25 line\nno 25 line\nno 25 line\nno 25 line\nno 25 line\nno 25 line\nno 25 line\nno 25 line\n",
     ),
     (
         "counts of words",
-        b"ring 2\nstand 1 red 5\nstand 1 red 5 10 1\nwho 1 red\nwho 1 red 5 1\ndeliver\ndeliver 1\ndeliver 1 0 0\nstand\nwho\n",
-        "ring 2\nno 25 line\nno 25 line\nno 25 line\nno 25 line\nno 25 line\nno 25 line\nno 25 line\nno 25 line\nno 25 line\n",
+        b"ring 2\nstand 1 red 5\nstand 1 red 5 10 1\nwho 1 red\nwho 1 red 5 1\ndeliver\ndeliver 1\ndeliver 1 0 0\nstand\nwho\nlatest\nlatest 1\nlatest 1 red 5\ncredit\ncredit 1\ncredit 1 1 1\n",
+        "ring 2\nno 25 line\nno 25 line\nno 25 line\nno 25 line\nno 25 line\nno 25 line\nno 25 line\nno 25 line\nno 25 line\nno 25 line\nno 25 line\nno 25 line\nno 25 line\nno 25 line\nno 25 line\n",
     ),
     (
         "fixed words",
-        b"ring 2\ndeliver all 3\ndeliver All\ndeliver al\ndeliver 9 all\n",
-        "ring 2\nno 2 number\nno 25 line\nno 25 line\nno 2 number\n",
+        b"ring 2\ndeliver all 3\ndeliver All\ndeliver al\ndeliver 9 all\ncredit all\ncredit all 1\n",
+        "ring 2\nno 2 number\nno 25 line\nno 25 line\nno 2 number\nno 25 line\nno 2 number\n",
     ),
     (
         "names",
-        b"ring 2\nwho 1 abcdefghijklmnopq 1\nwho 1 -a 1\nwho 1 1a 1\nwho 1 aB 1\nwho 1 a_b 1\nwho 1 A 1\n",
-        "ring 2\nno 1 name\nno 1 name\nno 1 name\nno 1 name\nno 1 name\nno 1 name\n",
+        b"ring 2\nwho 1 abcdefghijklmnopq 1\nwho 1 -a 1\nwho 1 1a 1\nwho 1 aB 1\nwho 1 a_b 1\nwho 1 A 1\nlatest 1 abcdefghijklmnopq\nlatest 1 1a\n",
+        "ring 2\nno 1 name\nno 1 name\nno 1 name\nno 1 name\nno 1 name\nno 1 name\nno 1 name\nno 1 name\n",
     ),
     (
         "numbers out of their ranges",
-        b"ring 2\nwho 0 red 1\nwho 3 red 1\nwho 1 red 0\nwho 1 red 1000000000\nstand 1 red 1 1000000000\nstand 1 red 0 1\ndeliver 0 0\ndeliver 3 0\ndeliver 1 10000000000\ndeliver 1 -1\n",
-        "ring 2\nno 2 number\nno 2 number\nno 2 number\nno 2 number\nno 2 number\nno 2 number\nno 2 number\nno 2 number\nno 2 number\nno 2 number\n",
+        b"ring 2\nwho 0 red 1\nwho 3 red 1\nwho 1 red 0\nwho 1 red 1000000000\nstand 1 red 1 1000000000\nstand 1 red 0 1\ndeliver 0 0\ndeliver 3 0\ndeliver 1 10000000000\ndeliver 1 -1\nlatest 0 red\nlatest 3 red\ncredit 0 1\ncredit 3 1\ncredit 1 10000000000\ncredit 1 -1\n",
+        "ring 2\nno 2 number\nno 2 number\nno 2 number\nno 2 number\nno 2 number\nno 2 number\nno 2 number\nno 2 number\nno 2 number\nno 2 number\nno 2 number\nno 2 number\nno 2 number\nno 2 number\nno 2 number\nno 2 number\n",
     ),
     (
         "the first fault from the left",
-        b"ring 2\nstand 3 Red 0 x\nstand 1 Red 0 x\nwho 3 Red 1\nwho 1 Red 0\nwho 3 Red\n",
-        "ring 2\nno 2 number\nno 1 name\nno 2 number\nno 1 name\nno 25 line\n",
+        b"ring 2\nstand 3 Red 0 x\nstand 1 Red 0 x\nwho 3 Red 1\nwho 1 Red 0\nwho 3 Red\nlatest 3 Red\nlatest 1 Red\nlatest 3 Red 0\n",
+        "ring 2\nno 2 number\nno 1 name\nno 2 number\nno 1 name\nno 25 line\nno 2 number\nno 1 name\nno 25 line\n",
     ),
 ];
 

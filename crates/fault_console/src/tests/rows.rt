@@ -7,7 +7,7 @@ pub const FIRST_ELECTION: (&[u8], &str) = (
     "ring 3\n1: stood\n2: stood\n3: stood\ndelivered 9\n4: leader 2 30\n5: leader 2 30\n6: leader 2 30\n",
 );
 
-const ROWS: [(&str, &[u8], &str); 10] = [
+const ROWS: [(&str, &[u8], &str); 13] = [
     (
         "equal_bids",
         b"ring 3\nstand 1 red 5 10\nstand 3 red 5 10\ndeliver all\nwho 2 red 5\n",
@@ -48,6 +48,21 @@ const ROWS: [(&str, &[u8], &str); 10] = [
         "what is refused takes no ticket",
         b"ring 2\nstand 3 red 5 10\ndeliver 1 0\nstand 1 Red 5 10\nshow 1\nstand 1 red 5 10\n",
         "ring 2\nno 2 number\nno 21 unknown\nno 1 name\nno 25 line\n1: stood\n",
+    ),
+    (
+        "a credit is earned by a take",
+        b"ring 2\ncredit 2 1\nstand 1 red 5 10\ncredit 2 1\ndeliver 1 0\ncredit 2 0\ncredit 2 2\ncredit 2 9999999999\ncredit 1 1\ncredit 2 1\ncredit 2 0000000001\n",
+        "ring 2\nno 21 unknown\n1: stood\nno 21 unknown\n2: taken\nno 21 unknown\nno 21 unknown\nno 21 unknown\nno 21 unknown\n3: acked\n4: no 13 old 1\n",
+    ),
+    (
+        "the latest leader of a group",
+        b"ring 2\nlatest 1 red\nstand 1 red 9 5\nlatest 1 red\ndeliver all\nlatest 1 red\nlatest 2 red\nlatest 2 blue\n",
+        "ring 2\n1: none\n2: stood\n3: none\ndelivered 4\n4: term 9 leader 1 5\n5: term 9 leader 1 5\n6: none\n",
+    ),
+    (
+        "a leader is known at home first",
+        b"ring 2\nstand 1 red 9 5\ndeliver 1 0\ndeliver 2 0\nlatest 1 red\nlatest 2 red\n",
+        "ring 2\n1: stood\n2: taken\n3: taken\n4: term 9 leader 1 5\n5: none\n",
     ),
     (
         "names and numbers at their ends",
