@@ -12,7 +12,7 @@ use Rattle.ring_records.specs.declared.refusal.Refusal.{Refusal}
 use Rattle.ring_world.specs.declared.event.Event.{Event}
 use Rattle.fault_console.specs.Words.{lines_of}
 use Rattle.fault_console.specs.Judged.{is_silent, judged, opening_of, command_of}
-use Rattle.fault_console.specs.Script.{LinePrints, Where, Speaks, Opens, Happens, Obeys, ring_line, lines_told, MayPrint, text_of, Wrote, IsFront}
+use Rattle.fault_console.specs.Script.{LinePrints, Where, Speaks, Opens, Happens, Obeys, capacity, ring_line, lines_told, MayPrint, text_of, Wrote, IsFront}
 use Rattle.fault_console.specs.declared.run.RunFault.{RunFault}
 use Rattle.fault_console.specs.declared.run.RunFault.TheVariants.{Read, Write, Memory, Long}
 use Rattle.fault_console.proofs.Texts.{text_of-append}
@@ -37,7 +37,7 @@ Goes P s = (out : List (List ℕ)) × (t : Option State) × P s out t
 
 opens : (s : Option State) (r : Result ℕ Refusal) → Goes (Opens r) s
 opens s (Err refusal) = (refusal_text refusal ∷ [], s, (refl, refl))
-opens s (Ok nodes) = (ring_line nodes ∷ [], Some (opened nodes), (refl, refl))
+opens s (Ok nodes) = (ring_line nodes ∷ [], Some (opened nodes capacity), (refl, refl))
 
 -- here the world has to go on after any event
 happens : (w : State) (event : Event) (refusal : Option Refusal) (s : Option State) → Goes (Happens w event refusal) s

@@ -46,10 +46,14 @@ Nothing s out t = (out ≡ []) × (t ≡ s)
 abbrev pub Refuses : Refusal → Prints
 Refuses refusal s out t = (out ≡ refusal_text refusal ∷ []) × (t ≡ s)
 
+-- of each node, in bytes
+abbrev pub capacity : ℕ
+capacity = 65536
+
 -- before the ring is made
 abbrev pub Opens : Result ℕ Refusal → Prints
 Opens (Err refusal) s out t = Refuses refusal s out t
-Opens (Ok nodes) s out t = (out ≡ ring_line nodes ∷ []) × (t ≡ Some (opened nodes))
+Opens (Ok nodes) s out t = (out ≡ ring_line nodes ∷ []) × (t ≡ Some (opened nodes capacity))
 
 -- an event of the world w: its refusal where there is one, else the lines of what it tells
 abbrev pub Happens : State → Event → Option Refusal → Prints

@@ -3,7 +3,7 @@ ghost use Rattle.std.specs.Prelude.{◌≡◌, ◌∷◌, [], ◌≤◌, Ok, Som
 ghost use Rattle.ring_records.specs.Texts.{refusal_text};
 ghost use Rattle.ring_world.specs.State.{opened};
 ghost use Rattle.fault_console.specs.Judged.{judged, command_of};
-ghost use Rattle.fault_console.specs.Script.{Does, LinePrints, Obeys, Opens, ring_line};
+ghost use Rattle.fault_console.specs.Script.{Does, LinePrints, Obeys, Opens, capacity, ring_line};
 
 use crate::commands::{judge, judge_opening, line_is_silent};
 use crate::print::{count_lines, print_outcome, print_refusal, print_ring};
@@ -72,7 +72,7 @@ fn speak(alloc: Global, world: &mut World, line: &[u8], out: &mut String) -> Res
 
 fn make(alloc: Global, nodes: u8, out: &mut String) -> Result<World, AllocError>
     requires { (2 ≤ nodes) × (nodes ≤ 16) }
-    ensures world { IfOk result (λ w. w ≡ opened nodes) }
+    ensures world { IfOk result (λ w. w ≡ opened nodes capacity) }
     ensures prints { OnOk result (Does (string_bytes out.old) (string_bytes out.new) 1 (λ lines. lines ≡ ring_line nodes ∷ [])) }
 {
     let world = match World::new(alloc, nodes, true, CAPACITY) {

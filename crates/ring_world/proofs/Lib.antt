@@ -1,5 +1,5 @@
 mod Chain
 mod Members
+mod Releases
 mod Runs
 mod Sweeps
-mod Tables

@@ -1,6 +1,6 @@
 -- What one more request changes in the run of a ring.
-use Rattle.std.proofs.Common.{ℕ, ◌≡◌, ◌+◌, ◌<◌, ◌≤◌, cond, List, [], ◌∷◌, ◌++◌, length, map, set, get_or, Option, Some, None, refl, sym, ap, ◌∙◌, subst, arith, inl, inr, append-nil}
-use Rattle.std.specs.List.{cons_option, filter_map}
+use Rattle.std.proofs.Common.{ℕ, ◌≡◌, ◌+◌, ◌<◌, ◌≤◌, cond, List, [], ◌∷◌, ◌++◌, map, set, get_or, Option, Some, None, refl, sym, ap, ◌∙◌, subst, arith, inl, inr, append-nil}
+use Rattle.std.specs.List.{cons_option}
 use Rattle.std.proofs.lemmas.Bool.{eq-eqb, ne_eqb, cases_eq}
 use Rattle.std.proofs.lemmas.List.{get_or-set_same, get_or-set_other, length-set}
 use Rattle.std.proofs.lemmas.List.Elements.{filter_map-append}
@@ -12,22 +12,17 @@ use Rattle.ring_records.specs.declared.reply.Reply.{Reply}
 use Rattle.ring_records.specs.declared.reply.Reply.TheVariants as say
 use Rattle.ring_records.specs.declared.request.Request.{Request}
 use Rattle.ring_records.specs.declared.request.Request.TheVariants as ask
-use Rattle.ring_records.specs.History.{message_of, taken}
-use Rattle.ring_records.specs.Ring.{item_at, part}
+use Rattle.ring_records.specs.Admission.{fresh, refusal}
+use Rattle.ring_records.specs.Lists.{EachAfter}
+use Rattle.ring_records.specs.Ring.{item_at, part, IsCarried, MayFollow, IsLegal}
+use Rattle.ring_records.proofs.Admission.{refusal-admitted}
+use Rattle.ring_records.proofs.Lists.{EachAfter-push}
 use Rattle.ring_world.specs.declared.member.Member.{Member}
-use Rattle.ring_world.specs.Answer.{cause, input_of, if_free, gained, unless, answer, accepted_by}
+use Rattle.ring_world.specs.Answer.{input_of, if_free, if_input, gained, unless, answer, accepted_by}
 use Rattle.ring_world.specs.Member.{MemberStandsFor, Obeys}
-use Rattle.ring_world.specs.Sound.{ShowsNode, Shows}
+use Rattle.ring_world.specs.Sound.{ShowsNode, Shows, IsBrought}
 
 -- ---- lists
-
-pub length-filter_map : {A B : Type 0} (f : A → Option B) (xs : List A) → length (filter_map f xs) ≤ length xs
-length-filter_map f [] = omega arith
-length-filter_map {A = A} {B = B} f (x ∷ xs) = one (f x) (length-filter_map f xs)
-  where
-    one : (o : Option B) → length (filter_map f xs) ≤ length xs → length (cons_option o (filter_map f xs)) ≤ length (x ∷ xs)
-    one None le = omega arith
-    one (Some y) le = omega arith
 
 part-map_same : (i : ℕ) (xs : List Input) → part (map (λ x. (i, x)) xs) i ≡ xs
 unfolding part item_at
@@ -67,61 +62,78 @@ if_acked None upto = refl
 if_acked (Some r) upto = refl
 
 -- what a node gained is what its reply tells
-pub gained-accepted : (me n : ℕ) (h : List Input) (q : Request) → cons_option (accepted_by q (answer me n h q)) [] ≡ gained n h q
+pub gained-accepted : (me n capacity : ℕ) (h : List Input) (q : Request) → cons_option (accepted_by q (answer me n capacity h q)) [] ≡ gained me n capacity h q
 unfolding gained answer input_of
-gained-accepted me n h (ask.Stand key bid) = if_stood (cause n h (Stand key bid)) key bid
-gained-accepted me n h (ask.Take place msg) = if_taken (cause n h (Take place msg)) place msg
-gained-accepted me n h (ask.Acked upto) = if_acked (cause n h (Acked upto)) upto
-gained-accepted me n h (ask.Who key) = refl
-gained-accepted me n h (ask.Latest group) = refl
-
--- a node took no more messages than the run has inputs
-pub few_taken : (size : ℕ) (members : List Member) (run : List (ℕ × Input)) (at : ℕ) (other : Member) → Shows size members run → at < size → (get_or members at other).taken ≤ length run
-unfolding taken part
-few_taken size members run at other s lt =
-    let n = s.node at other lt in
-    let is = n.stands.taken in
-    let some = length-filter_map message_of (part run (at + 1)) in
-    let part = length-filter_map (item_at (at + 1)) run in
-    omega arith
+gained-accepted me n capacity h (ask.Stand key bid) = if_stood (refusal me n capacity fresh h (Stand key bid)) key bid
+gained-accepted me n capacity h (ask.Take place msg) = if_taken (refusal me n capacity fresh h (Take place msg)) place msg
+gained-accepted me n capacity h (ask.Acked upto) = if_acked (refusal me n capacity fresh h (Acked upto)) upto
+gained-accepted me n capacity h (ask.Who key) = refl
+gained-accepted me n capacity h (ask.Latest group) = refl
 
 -- the request that node i obeyed
-pub shows_next : (size : ℕ) (members : List Member) (run grown : List (ℕ × Input)) (at i : ℕ) (q : Request) (reply : Reply) (other new : Member) → Shows size members run → at < size → i ≡ at + 1
-    → new.table.me ≡ (get_or members at other).table.me → Obeys size (get_or members at other) q reply new → grown ≡ run ++ map (λ x. (i, x)) (cons_option (accepted_by q reply) [])
-    → (reply ≡ answer i size (part run i) q) × (grown ≡ run ++ map (λ x. (i, x)) (gained size (part run i) q)) × Shows size (set members at new) grown
+pub shows_next : (size capacity : ℕ) (members : List Member) (run grown : List (ℕ × Input)) (at i : ℕ) (q : Request) (reply : Reply) (other new : Member) → Shows size capacity members run → at < size → i ≡ at + 1
+    → new.core.table.me ≡ (get_or members at other).core.table.me → new.core.size ≡ (get_or members at other).core.size → new.core.capacity ≡ (get_or members at other).core.capacity
+    → Obeys (get_or members at other) q reply new → grown ≡ run ++ map (λ x. (i, x)) (cons_option (accepted_by q reply) [])
+    → (reply ≡ answer i size capacity (part run i) q) × (grown ≡ run ++ map (λ x. (i, x)) (gained i size capacity (part run i) q)) × Shows size capacity (set members at new) grown
 unfolding Obeys
-shows_next size members run grown at i q reply other new s lt is me obeys grows = (told, gains, record { count = length-set members at new ∙ s.count; node = each })
+shows_next size capacity members run grown at i q reply other new s lt is me ring room obeys grows = (told, gains, record { count = length-set members at new ∙ s.count; node = each })
   where
-    node_is : ShowsNode run i (get_or members at other)
-    node_is = subst (λ k. ShowsNode run k (get_or members at other)) (sym is) (s.node at other lt)
+    node_is : ShowsNode size capacity run i (get_or members at other)
+    node_is = subst (λ k. ShowsNode size capacity run k (get_or members at other)) (sym is) (s.node at other lt)
 
-    obeyed : (reply ≡ answer (get_or members at other).table.me size (part run i) q) × MemberStandsFor new (part run i ++ gained size (part run i) q)
-    obeyed = obeys (part run i) node_is.stands
+    same : (m n k : ℕ) → (get_or members at other).core.table.me ≡ m → (get_or members at other).core.size ≡ n → (get_or members at other).core.capacity ≡ k
+        → (reply ≡ answer m n k (part run i) q) × MemberStandsFor new (part run i ++ gained m n k (part run i) q)
+    same m n k e f g = subst (λ (t : ℕ × (ℕ × ℕ)). (reply ≡ answer t.0 t.1.0 t.1.1 (part run i) q) × MemberStandsFor new (part run i ++ gained t.0 t.1.0 t.1.1 (part run i) q))
+        (λ j. (e j, (f j, g j))) (obeys (part run i) node_is.stands)
 
-    told : reply ≡ answer i size (part run i) q
-    told = obeyed.0 ∙ ap (λ m. answer m size (part run i) q) node_is.me
+    obeyed : (reply ≡ answer i size capacity (part run i) q) × MemberStandsFor new (part run i ++ gained i size capacity (part run i) q)
+    obeyed = same i size capacity node_is.me node_is.ring node_is.room
 
-    gains : grown ≡ run ++ map (λ x. (i, x)) (gained size (part run i) q)
-    gains = grows ∙ ap (λ (xs : List Input). run ++ map (λ x. (i, x)) xs) (ap (λ r. cons_option (accepted_by q r) []) told ∙ gained-accepted i size (part run i) q)
+    told : reply ≡ answer i size capacity (part run i) q
+    told = obeyed.0
 
-    mine : ShowsNode grown i new
+    gains : grown ≡ run ++ map (λ x. (i, x)) (gained i size capacity (part run i) q)
+    gains = grows ∙ ap (λ (xs : List Input). run ++ map (λ x. (i, x)) xs) (ap (λ r. cons_option (accepted_by q r) []) told ∙ gained-accepted i size capacity (part run i) q)
+
+    mine : ShowsNode size capacity grown i new
     mine = record {
       me = me ∙ node_is.me;
-      stands = subst (MemberStandsFor new) (sym (ap (λ r. part r i) gains ∙ part-same run i (gained size (part run i) q))) obeyed.1;
+      ring = ring ∙ node_is.ring;
+      room = room ∙ node_is.room;
+      stands = subst (MemberStandsFor new) (sym (ap (λ r. part r i) gains ∙ part-same run i (gained i size capacity (part run i) q))) obeyed.1;
     }
 
-    each : (j : ℕ) (d : Member) → j < size → ShowsNode grown (j + 1) (get_or (set members at new) j d)
+    each : (j : ℕ) (d : Member) → j < size → ShowsNode size capacity grown (j + 1) (get_or (set members at new) j d)
     each j d less = elim (cases_eq j at) [
-      | inl same ↦ subst (λ k. ShowsNode grown (k + 1) (get_or (set members at new) k d)) (sym same)
-          (subst (ShowsNode grown (at + 1)) (sym (get_or-set_same members at new d (let count = s.count in omega arith))) (subst (λ k. ShowsNode grown k new) is mine))
+      | inl same ↦ subst (λ k. ShowsNode size capacity grown (k + 1) (get_or (set members at new) k d)) (sym same)
+          (subst (ShowsNode size capacity grown (at + 1)) (sym (get_or-set_same members at new d (let count = s.count in omega arith))) (subst (λ k. ShowsNode size capacity grown k new) is mine))
       | inr ne ↦ (let node = s.node j d less in
           let apart : i ≡ j + 1 → ⊥ = λ e. ne (omega arith) in
-          subst (ShowsNode grown (j + 1)) (sym (get_or-set_other members at j new d ne))
+          subst (ShowsNode size capacity grown (j + 1)) (sym (get_or-set_other members at j new d ne))
           (record {
             me = node.me;
-            stands = subst (MemberStandsFor (get_or members j d)) (sym (ap (λ r. part r (j + 1)) gains ∙ part-other run i (j + 1) (gained size (part run i) q) apart)) node.stands;
+            ring = node.ring;
+            room = node.room;
+            stands = subst (MemberStandsFor (get_or members j d)) (sym (ap (λ r. part r (j + 1)) gains ∙ part-other run i (j + 1) (gained i size capacity (part run i) q) apart)) node.stands;
           }))
     ]
+
+-- ---- legal runs
+
+-- what a node gains may follow, where what it was brought was released to it
+pub legal_next : (size capacity : ℕ) (run : List (ℕ × Input)) (i : ℕ) (q : Request) → 1 ≤ i → i ≤ size → IsBrought size run i q → IsLegal size capacity run → IsLegal size capacity (run ++ map (λ x. (i, x)) (gained i size capacity (part run i) q))
+unfolding IsBrought gained IsLegal
+legal_next size capacity run i q first last brought legal = go (input_of q) (λ x e. brought x e)
+  where
+    free : (o : Option Refusal) (x : Input) → refusal i size capacity fresh (part run i) x ≡ o → IsCarried size run i x → EachAfter (MayFollow size capacity) [] (run ++ map (λ x. (i, x)) (if_free o x))
+    free None x none carried =
+        let a = refusal-admitted i size capacity fresh (part run i) x none in
+        EachAfter-push (MayFollow size capacity) [] run (i, x) legal (record { first = first; last = last; allowed = a.allowed; fits = a.fits; carried = carried })
+    free (Some r) x e carried = subst (EachAfter (MayFollow size capacity) []) (sym (append-nil run)) legal
+
+    go : (o : Option Input) → ((x : Input) → o ≡ Some x → IsCarried size run i x) → EachAfter (MayFollow size capacity) [] (run ++ map (λ x. (i, x)) (if_input i size capacity (part run i) o))
+    go None brings = subst (EachAfter (MayFollow size capacity) []) (sym (append-nil run)) legal
+    go (Some x) brings = free (refusal i size capacity fresh (part run i) x) x refl (brings x refl)
 
 -- what is recorded is what the reply tells
 pub recorded : (run grown : List (ℕ × Input)) (i : ℕ) (o p : Option Input) → o ≡ p → grown ≡ run ++ map (λ x. (i, x)) (cons_option o []) → grown ≡ run ++ map (λ x. (i, x)) (cons_option p [])

@@ -85,19 +85,19 @@ goes all rest after count number state e =
 
 -- ---- new nodes
 
-pub shows_more : (ms : List Member) (m : Member) (counter : ℕ) → length ms ≡ counter → ((at : ℕ) (other : Member) → at < counter → ShowsNode [] (at + 1) (get_or ms at other)) → m.table.me ≡ counter + 1 → MemberStandsFor m []
-    → (at : ℕ) (other : Member) → at < counter + 1 → ShowsNode [] (at + 1) (get_or (ms ++ m ∷ []) at other)
+pub shows_more : (size capacity : ℕ) (ms : List Member) (m : Member) (counter : ℕ) → length ms ≡ counter → ((at : ℕ) (other : Member) → at < counter → ShowsNode size capacity [] (at + 1) (get_or ms at other)) → m.core.table.me ≡ counter + 1 → m.core.size ≡ size → m.core.capacity ≡ capacity → MemberStandsFor m []
+    → (at : ℕ) (other : Member) → at < counter + 1 → ShowsNode size capacity [] (at + 1) (get_or (ms ++ m ∷ []) at other)
 unfolding part
-shows_more ms m counter count each me empty at other lt = elim (cases_lt at counter) [
-  | inl less ↦ subst (ShowsNode [] (at + 1)) (sym (get_or_append_left ms (m ∷ []) other at (omega arith))) (each at other less)
+shows_more size capacity ms m counter count each me ring room empty at other lt = elim (cases_lt at counter) [
+  | inl less ↦ subst (ShowsNode size capacity [] (at + 1)) (sym (get_or_append_left ms (m ∷ []) other at (omega arith))) (each at other less)
   | inr ge ↦ (let same : at ≡ counter = omega arith in
       let last : get_or (ms ++ m ∷ []) at other ≡ m = ap (λ k. get_or (ms ++ m ∷ []) k other) (same ∙ sym count) ∙ get_or-append_seam ms m [] other in
-      subst (ShowsNode [] (at + 1)) (sym last) (record { me = me ∙ ap (λ k. k + 1) (sym same); stands = empty }))
+      subst (ShowsNode size capacity [] (at + 1)) (sym last) (record { me = me ∙ ap (λ k. k + 1) (sym same); ring = ring; room = room; stands = empty }))
 ]
 
-pub shows_pushed : (ms more : List Member) (m : Member) (counter : ℕ) → more ≡ ms ++ m ∷ [] → length ms ≡ counter → ((at : ℕ) (other : Member) → at < counter → ShowsNode [] (at + 1) (get_or ms at other)) → m.table.me ≡ counter + 1 → MemberStandsFor m []
-    → (length more ≡ counter + 1) × ((at : ℕ) (other : Member) → at < counter + 1 → ShowsNode [] (at + 1) (get_or more at other))
-shows_pushed ms more m counter is count each me empty = (
+pub shows_pushed : (size capacity : ℕ) (ms more : List Member) (m : Member) (counter : ℕ) → more ≡ ms ++ m ∷ [] → length ms ≡ counter → ((at : ℕ) (other : Member) → at < counter → ShowsNode size capacity [] (at + 1) (get_or ms at other)) → m.core.table.me ≡ counter + 1 → m.core.size ≡ size → m.core.capacity ≡ capacity → MemberStandsFor m []
+    → (length more ≡ counter + 1) × ((at : ℕ) (other : Member) → at < counter + 1 → ShowsNode size capacity [] (at + 1) (get_or more at other))
+shows_pushed size capacity ms more m counter is count each me ring room empty = (
   ap length is ∙ omega (arith, length-append ms (m ∷ [])),
-  λ at other lt. subst (λ xs. ShowsNode [] (at + 1) (get_or xs at other)) (sym is) (shows_more ms m counter count each me empty at other lt),
+  λ at other lt. subst (λ xs. ShowsNode size capacity [] (at + 1) (get_or xs at other)) (sym is) (shows_more size capacity ms m counter count each me ring room empty at other lt),
 )

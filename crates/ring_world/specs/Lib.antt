@@ -2,6 +2,5 @@ pub mod Agreement
 pub mod Answer
 pub mod State
 pub mod Step
-pub mod Table
 pub mod Member
 pub mod Sound

@@ -1,21 +1,37 @@
 -- What a node of the ring stands for.
-use Rattle.std.specs.Prelude.{ℕ, ◌≡◌, List, ◌++◌, length}
+use Rattle.std.specs.Prelude.{◌≡◌, List, ◌++◌, Option, Some, None}
 use Rattle.ring_records.specs.declared.input.Input.{Input}
+use Rattle.ring_records.specs.declared.msg.Msg.{Msg}
+use Rattle.ring_records.specs.declared.packet.Packet.{Packet}
+use Rattle.ring_records.specs.declared.packet.Packet.TheVariants.{Carry, Credit}
+use Rattle.ring_records.specs.declared.refusal.Refusal.{Refusal}
 use Rattle.ring_records.specs.declared.reply.Reply.{Reply}
 use Rattle.ring_records.specs.declared.request.Request.{Request}
+use Rattle.ring_records.specs.Admission.{fresh, refusal}
 use Rattle.ring_records.specs.Emission.{sent}
-use Rattle.ring_records.specs.History.{taken, credit}
-use Rattle.ring_world.specs.Answer.{gained, answer}
-use Rattle.ring_world.specs.Table.{TableStandsFor}
+use Rattle.node_core.specs.Core.{CoreView, CoreStandsFor}
+use Rattle.ring_world.specs.Answer.{if_free, gained, unless, answer}
 use Rattle.ring_world.specs.declared.member.Member.{Member}
 
--- it has what its history h says of keys, of what it sent and took, and of its credit
+-- its core stands for its history h, and it has all that was sent
 pub record MemberStandsFor (member : Member) (h : List Input) : Type 0 where
-  pub table : TableStandsFor member.table h
-  pub sent : member.sent.items ≡ sent member.table.me h
-  pub taken : member.taken ≡ length (taken h)
-  pub credit : member.credit ≡ credit h
+  pub core : CoreStandsFor member.core h
+  pub sent : member.sent.items ≡ sent member.core.table.me h
 
--- whatever history old stood for: the reply is its answer to q in a ring of n, and new stands for what it becomes
-unfoldable pub Obeys : ℕ → Member → Request → Reply → Member → Type 0
-Obeys n old q reply new = (h : List Input) → MemberStandsFor old h → (reply ≡ answer old.table.me n h q) × MemberStandsFor new (h ++ gained n h q)
+-- what the core has against the input, where it stands for h
+abbrev pub refusal_by : CoreView → List Input → Input → Option Refusal
+refusal_by core h x = refusal core.table.me core.size core.capacity fresh h x
+
+-- whatever history old stood for: the input is accepted with this reply, or refused, and new stands for what it becomes
+unfoldable pub Judges : Member → Input → Reply → Reply → Member → Type 0
+Judges old x accepted reply new = (h : List Input) → MemberStandsFor old h → (reply ≡ unless (refusal_by old.core h x) accepted) × MemberStandsFor new (h ++ if_free (refusal_by old.core h x) x)
+
+-- the reply is its answer to q, and new stands for what the history becomes
+unfoldable pub Obeys : Member → Request → Reply → Member → Type 0
+Obeys old q reply new = (h : List Input) → MemberStandsFor old h → (reply ≡ answer old.core.table.me old.core.size old.core.capacity h q) × MemberStandsFor new (h ++ gained old.core.table.me old.core.size old.core.capacity h q)
+
+-- the message that a packet carries
+abbrev pub message_in : Option Packet → Option Msg
+message_in None = None
+message_in (Some (Carry place msg)) = Some msg
+message_in (Some (Credit upto)) = None

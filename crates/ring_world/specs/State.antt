@@ -3,17 +3,18 @@ use Rattle.std.specs.Prelude.{ℕ, Bool, false, nat_le, ◌&&◌, List, []}
 use Rattle.ring_records.specs.declared.input.Input.{Input}
 use Rattle.ring_records.specs.Ring.{part}
 
--- its nodes, numbered from 1; whether a growth was refused in a step of it; the inputs that were accepted, each with
+-- how many nodes it has, numbered from 1, and their capacity; whether a growth was refused in a step of it; the inputs that were accepted, each with
 -- its node, oldest first; how many ticket numbers are taken
 pub record State : Type 0 where
   pub size : ℕ
+  pub capacity : ℕ
   pub failed : Bool
   pub run : List (ℕ × Input)
   pub tickets : ℕ
 
 -- a ring in which nothing has happened
-abbrev pub opened : ℕ → State
-opened size = record { size = size; failed = false; run = []; tickets = 0 }
+abbrev pub opened : ℕ → ℕ → State
+opened size capacity = record { size = size; capacity = capacity; failed = false; run = []; tickets = 0 }
 
 -- the history of node i
 abbrev pub history : State → ℕ → List Input

@@ -35,11 +35,11 @@ nothing_told = record { ticket = None; delivered = None; replies = [] }
 
 -- the world after node i is asked q
 unfoldable pub asked : ℕ → Request → State → State
-asked i q s = record s { run = s.run ++ map (λ x. (i, x)) (gained s.size (history s i) q) }
+asked i q s = record s { run = s.run ++ map (λ x. (i, x)) (gained i s.size s.capacity (history s i) q) }
 
 -- what node i answers to q
 abbrev pub reply_at : ℕ → Request → State → Reply
-reply_at i q s = answer i s.size (history s i) q
+reply_at i q s = answer i s.size s.capacity (history s i) q
 
 -- node i is asked q under the next ticket number, and answers at once
 unfoldable pub submitted : ℕ → Request → State → Told × State

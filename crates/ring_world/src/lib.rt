@@ -10,7 +10,6 @@ pub mod laws;
 mod member;
 mod outcome;
 mod run;
-mod table;
 #[cfg(test)]
 mod tests;
 mod world;

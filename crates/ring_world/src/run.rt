@@ -1,9 +1,9 @@
 // The run of a ring: what its nodes accepted.
 ghost use Rattle.std.specs.Prelude.{◌≡◌, ◌+◌, ◌-◌, ◌<◌, ◌≤◌, ◌++◌, ◌∷◌, [], ℕ, IfOk, OnOk, map};
 ghost use Rattle.std.specs.List.{cons_option};
-ghost use Rattle.ring_records.specs.Ring.{part};
+ghost use Rattle.ring_records.specs.Ring.{part, IsLegal};
 ghost use Rattle.ring_world.specs.Answer.{input_of, accepted_by, gained, answer};
-ghost use Rattle.ring_world.specs.Sound.{Shows};
+ghost use Rattle.ring_world.specs.Sound.{Shows, IsBrought};
 
 use crate::member::Member;
 use ring_records::{Input, NodeNo, Reply, Request};
@@ -65,18 +65,17 @@ fn record(run: &mut Vec<Step>, node: NodeNo, accepted: Option<Input>) -> Result<
 pub fn ask(
     members: &mut [Member],
     run: &mut Vec<Step>,
-    size: u8,
     node: NodeNo,
     request: &Request,
 ) -> Result<Reply, AllocError>
-    requires inside { node ≤ size }
-    requires shows { Shows size members.old run.old.items }
-    ensures reply { IfOk result (λ reply. reply ≡ answer node size (part run.old.items node) request.now) }
-    ensures run { OnOk result (run.new.items ≡ run.old.items ++ map (λ x. (node, x)) (gained size (part run.old.items node) request.now)) }
-    ensures shows { OnOk result (Shows size members.new run.new.items) }
+    requires { (size : ℕ) × (capacity : ℕ) × Shows size capacity members.old run.old.items × (node ≤ size) }
+    ensures reply { IfOk result (λ reply. (size capacity : ℕ) → Shows size capacity members.old run.old.items → node ≤ size → reply ≡ answer node size capacity (part run.old.items node) request.now) }
+    ensures run { OnOk result ((size capacity : ℕ) → Shows size capacity members.old run.old.items → node ≤ size → run.new.items ≡ run.old.items ++ map (λ x. (node, x)) (gained node size capacity (part run.old.items node) request.now)) }
+    ensures shows { OnOk result ((size capacity : ℕ) → Shows size capacity members.old run.old.items → node ≤ size → Shows size capacity members.new run.new.items) }
+    ensures legal { OnOk result ((size capacity : ℕ) → Shows size capacity members.old run.old.items → node ≤ size → IsBrought size run.old.items node request.now → IsLegal size capacity run.old.items → IsLegal size capacity run.new.items) }
 {
     let member = &mut members[node.number() as usize - 1];
-    let reply = member.ask(size, request)?;
+    let reply = member.ask(request)?;
     let input = accepted(request, &reply);
     record(run, node, input)?;
     Ok(reply)

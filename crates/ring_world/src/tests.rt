@@ -207,3 +207,27 @@ fn refused_steps_take_no_ticket(rt: HostRuntime) -> Result<(), Refusal> {
     assert_eq!(rt; reply(&rt, &old, 3), Reply::Refused(Refusal::Old(1)));
     Ok(())
 }
+
+#[test]
+fn a_node_refuses_what_admission_does(rt: HostRuntime) -> Result<(), Refusal> {
+    let mut world = World::new(rt.alloc(), 2, true, 4_096)?;
+    // Node 1 stands for 203 terms, 20 bytes each, and leads in the first of them.
+    for term in 2..205 {
+        let stood = stand(&mut world, 1, term, 10)?;
+        assert_eq!(rt; reply(&rt, &stood, term as u64 - 1), Reply::Stood);
+    }
+    // 4,060 of its 4,096 bytes are taken: its token fits, 29 bytes, and then nothing of 20.
+    let taken = deliver(&mut world, 1, 0)?;
+    assert_eq!(rt; reply(&rt, &taken, 204), Reply::Taken);
+    let home = deliver(&mut world, 2, 0)?;
+    assert_eq!(rt; reply(&rt, &home, 205), Reply::Taken);
+    let full = stand(&mut world, 1, 205, 10)?;
+    assert_eq!(rt; reply(&rt, &full, 206), Reply::Refused(Refusal::Full));
+    // What the history says comes before that: term 2 has a leader.
+    let stale = stand(&mut world, 1, 1, 10)?;
+    assert_eq!(rt;
+        reply(&rt, &stale, 207),
+        Reply::Refused(Refusal::Stale(Term::new(2)?))
+    );
+    Ok(())
+}

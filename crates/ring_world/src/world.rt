@@ -5,7 +5,8 @@ ghost use Rattle.ring_records.specs.Emission.{sent};
 ghost use Rattle.ring_records.specs.History.{taken};
 ghost use Rattle.ring_records.specs.Order.{is_msg};
 ghost use Rattle.ring_records.specs.Place.{before};
-ghost use Rattle.ring_world.specs.Sound.{Shows};
+ghost use Rattle.ring_records.specs.Ring.{IsLegal};
+ghost use Rattle.ring_world.specs.Sound.{Shows, IsBrought};
 ghost use Rattle.ring_world.specs.Step.{is_taken, is_sent, is_earned, spent, told, nothing_told};
 
 use crate::event::Event;
@@ -20,6 +21,7 @@ use std::marker::Model;
 #[derive(Drop)]
 pub struct World {
     size: u8,
+    capacity: u32,
     // Set while a node changes, so that a refused growth leaves it set.
     failed: bool,
     members: Vec<Member>,
@@ -34,9 +36,9 @@ impl Model for World {
 
     ghost Value = { State };
 
-    ghost view = { λ w. record { size = w.size; failed = w.failed; run = w.run.items; tickets = w.tickets } };
+    ghost view = { λ w. record { size = w.size; capacity = w.capacity; failed = w.failed; run = w.run.items; tickets = w.tickets } };
 
-    ghost invariant = { λ w. IsSound w.size w.failed w.members.items w.run.items };
+    ghost invariant = { λ w. IsSound w.size w.capacity w.failed w.members.items w.run.items };
 }
 
 impl World {
@@ -44,10 +46,10 @@ impl World {
     ghost use Rattle.ring_world.specs.Step.{Steps, refusal_of, objection_to, asked, reply_at, submitted, carried, ready, put, swept, delivered_all, stepped, is_released};
 
     /// A ring of n nodes in which nothing has happened, whose inputs are durable as they are accepted. Refused as 2
-    /// where n is not 2 to 16 or the capacity not 4,096 to 1,048,576 bytes, and as 8. The capacity bounds nothing yet.
+    /// where n is not 2 to 16 or the capacity of each node not 4,096 to 1,048,576 bytes, and as 8.
     pub fn new(alloc: Global, n: u8, eager: bool, capacity: u32) -> Result<World, Refusal>
         requires eager { eager ≡ true }
-        ensures made { IfOk result (λ world. world ≡ opened n) }
+        ensures made { IfOk result (λ world. world ≡ opened n capacity) }
         ensures accepted { OnOk result (is_ring n capacity ≡ true) }
         ensures refused { IfErr result (λ refusal. MatchBool (is_ring n capacity) (refusal ≡ Refusal.OutOfMemory) (refusal ≡ Refusal.BadNumber)) }
     {
@@ -55,9 +57,10 @@ impl World {
         if n < 2 || n > 16 || capacity < 4_096 || capacity > 1_048_576 {
             return Err(Refusal::BadNumber);
         }
-        match members(alloc, n) {
+        match members(alloc, n, capacity) {
             Ok(members) => Ok(World {
                 size: n,
+                capacity,
                 failed: false,
                 members,
                 run: Vec::new(alloc),
@@ -86,6 +89,7 @@ impl World {
         ensures refused { IfErr result (λ refusal. ((refusal ≡ Refusal.OutOfMemory) × (self.new.failed ≡ true)) ⊎ ((refusal_of self.old event ≡ Some refusal) × (self.new ≡ self.old))) }
         ensures memory_last { IfErr result (λ refusal. refusal ≡ Refusal.OutOfMemory → refusal_of self.old event ≡ None) }
         ensures size { self.new.size ≡ self.old.size }
+        ensures legal { OnOk result (IsLegal self.new.size self.new.capacity self.new.run) }
         ensures few { IfOk result (λ outcome. length outcome.replies.items ≤ 1) }
         ensures tickets { OnOk result (self.new.tickets ≤ self.old.tickets + 1) }
     {
@@ -93,7 +97,11 @@ impl World {
             return Err(refusal);
         }
         match self.perform(event) {
-            Ok(outcome) => Ok(outcome),
+            Ok(outcome) => {
+                // Opened, a sound world shows that its run is legal.
+                let _ = &self.run;
+                Ok(outcome)
+            }
             Err(_) => {
                 self.failed = true;
                 Err(Refusal::OutOfMemory)
@@ -231,6 +239,7 @@ impl World {
         requires inside { from ≤ self.now.size }
         ensures value { result ≡ carried self.now from no }
         ensures within { IfSome result (λ delivery. delivery.0 ≤ self.now.size) }
+        ensures brought { IfSome result (λ delivery. IsBrought self.now.size self.now.run delivery.0 delivery.1) }
     {
         match self.message(from, no) {
             Some(msg) => Some((from.successor(self.size), Request::Take(no, msg))),
@@ -243,6 +252,7 @@ impl World {
         requires { self.now.failed ≡ false }
         ensures value { result ≡ ready self.now 1 self.now.size }
         ensures within { IfSome result (λ delivery. delivery.0 ≤ self.now.size) }
+        ensures brought { IfSome result (λ delivery. IsBrought self.now.size self.now.run delivery.0 delivery.1) }
     {
         let mut from = NodeNo::first();
         for _ in 0..self.size {
@@ -261,6 +271,7 @@ impl World {
         requires { refusal_of self.old event ≡ None }
         ensures step { IfOk result (λ outcome. (told outcome, self.new) ≡ stepped self.old event) }
         ensures size { self.new.size ≡ self.old.size }
+        ensures sound { OnOk result (self.new.failed ≡ false) }
         ensures few { IfOk result (λ outcome. length outcome.replies.items ≤ 1) }
         ensures tickets { OnOk result (self.new.tickets ≤ self.old.tickets + 1) }
     {
@@ -276,9 +287,11 @@ impl World {
     fn submit(&mut self, node: NodeNo, request: &Request) -> Result<Outcome, AllocError>
         requires sound { self.old.failed ≡ false }
         requires inside { node ≤ self.old.size }
+        requires brought { IsBrought self.old.size self.old.run node request.now }
         requires room { self.old.tickets < 2 ^ 60 }
         ensures step { IfOk result (λ outcome. (told outcome, self.new) ≡ submitted node request.now self.old) }
         ensures size { self.new.size ≡ self.old.size }
+        ensures sound { OnOk result (self.new.failed ≡ false) }
         ensures few { IfOk result (λ outcome. length outcome.replies.items ≤ 1) }
         ensures tickets { OnOk result (self.new.tickets ≡ self.old.tickets + 1) }
     {
@@ -297,6 +310,7 @@ impl World {
         requires room { self.old.tickets < 2 ^ 60 }
         ensures step { IfOk result (λ outcome. (told outcome, self.new) ≡ put self.old (carried self.old from no)) }
         ensures size { self.new.size ≡ self.old.size }
+        ensures sound { OnOk result (self.new.failed ≡ false) }
         ensures few { IfOk result (λ outcome. length outcome.replies.items ≤ 1) }
         ensures tickets { OnOk result (self.new.tickets ≤ self.old.tickets + 1) }
     {
@@ -309,9 +323,11 @@ impl World {
     fn credit(&mut self, from: NodeNo, upto: u64) -> Result<Outcome, AllocError>
         requires sound { self.old.failed ≡ false }
         requires inside { from ≤ self.old.size }
+        requires earned { is_earned self.old from upto ≡ true }
         requires room { self.old.tickets < 2 ^ 60 }
         ensures step { IfOk result (λ outcome. (told outcome, self.new) ≡ submitted (before self.old.size from) (Request.Acked upto) self.old) }
         ensures size { self.new.size ≡ self.old.size }
+        ensures sound { OnOk result (self.new.failed ≡ false) }
         ensures few { IfOk result (λ outcome. length outcome.replies.items ≤ 1) }
         ensures tickets { OnOk result (self.new.tickets ≡ self.old.tickets + 1) }
     {
@@ -323,6 +339,7 @@ impl World {
         requires { self.old.failed ≡ false }
         ensures step { IfOk result (λ outcome. (told outcome, self.new) ≡ delivered_all self.old) }
         ensures size { self.new.size ≡ self.old.size }
+        ensures sound { OnOk result (self.new.failed ≡ false) }
         ensures few { IfOk result (λ outcome. length outcome.replies.items ≤ 1) }
         ensures tickets { OnOk result (self.new.tickets ≡ self.old.tickets) }
     {
@@ -334,6 +351,7 @@ impl World {
         requires { self.old.failed ≡ false }
         ensures swept { IfOk result (λ count. (count, self.new) ≡ swept 10000 self.old) }
         ensures size { self.new.size ≡ self.old.size }
+        ensures sound { OnOk result (self.new.failed ≡ false) }
         ensures tickets { OnOk result (self.new.tickets ≡ self.old.tickets) }
     {
         let mut count: u32 = 0;
@@ -352,6 +370,7 @@ impl World {
     fn is_delivered(&mut self, node: NodeNo, request: &Request) -> Result<bool, AllocError>
         requires sound { self.old.failed ≡ false }
         requires inside { node ≤ self.old.size }
+        requires brought { IsBrought self.old.size self.old.run node request.now }
         ensures taken { IfOk result (λ taken. taken ≡ is_taken (reply_at node request.now self.old)) }
         ensures next { OnOk result (self.new ≡ asked node request.now self.old) }
         ensures size { self.new.size ≡ self.old.size }
@@ -368,6 +387,7 @@ impl World {
     fn ask(&mut self, node: NodeNo, request: &Request) -> Result<Reply, AllocError>
         requires sound { self.old.failed ≡ false }
         requires inside { node ≤ self.old.size }
+        requires brought { IsBrought self.old.size self.old.run node request.now }
         ensures reply { IfOk result (λ reply. reply ≡ reply_at node request.now self.old) }
         ensures next { OnOk result (self.new ≡ asked node request.now self.old) }
         ensures size { self.new.size ≡ self.old.size }
@@ -375,7 +395,7 @@ impl World {
         ensures sound { OnOk result (self.new.failed ≡ false) }
     {
         self.failed = true;
-        let reply = ask(&mut self.members, &mut self.run, self.size, node, request)?;
+        let reply = ask(&mut self.members, &mut self.run, node, request)?;
         self.failed = false;
         Ok(reply)
     }
@@ -397,15 +417,15 @@ impl World {
 /// The most ticket numbers.
 const TICKETS: u64 = 1 << 60;
 
-fn members(alloc: Global, n: u8) -> Result<Vec<Member>, AllocError>
+fn members(alloc: Global, n: u8, capacity: u32) -> Result<Vec<Member>, AllocError>
     requires least { 2 ≤ n }
     requires most { n ≤ 16 }
-    ensures { IfOk result (λ all. Shows n all.items []) }
+    ensures { IfOk result (λ all. Shows n capacity all.items []) }
 {
     let mut all = Vec::new(alloc);
     let mut node = NodeNo::first();
     for _ in 0..n {
-        all.push(Member::new(alloc, node))?;
+        all.push(Member::new(alloc, node, n, capacity))?;
         node = node.successor(n);
     }
     Ok(all)

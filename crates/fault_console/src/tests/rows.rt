@@ -1,13 +1,14 @@
 // Scripts whose text is known by the protocol.
 use super::assert_prints;
 use crate::tests::played;
+use std::alloc::AllocError;
 
 pub const FIRST_ELECTION: (&[u8], &str) = (
     b"ring 3\nstand 1 red 5 10\nstand 2 red 5 30\nstand 3 red 5 20\ndeliver all\nwho 1 red 5\nwho 2 red 5\nwho 3 red 5\n",
     "ring 3\n1: stood\n2: stood\n3: stood\ndelivered 9\n4: leader 2 30\n5: leader 2 30\n6: leader 2 30\n",
 );
 
-const ROWS: [(&str, &[u8], &str); 13] = [
+const ROWS: [(&str, &[u8], &str); 14] = [
     (
         "equal_bids",
         b"ring 3\nstand 1 red 5 10\nstand 3 red 5 10\ndeliver all\nwho 2 red 5\n",
@@ -65,6 +66,11 @@ const ROWS: [(&str, &[u8], &str); 13] = [
         "ring 2\n1: stood\n2: taken\n3: taken\n4: term 9 leader 1 5\n5: none\n",
     ),
     (
+        "stale_after_crash, without its crash",
+        b"ring 2\nstand 1 red 9 5\ndeliver all\nstand 1 red 4 5\nlatest 1 red\nlatest 1 red\n",
+        "ring 2\n1: stood\ndelivered 4\n2: no 5 stale 9\n3: term 9 leader 1 5\n4: term 9 leader 1 5\n",
+    ),
+    (
         "names and numbers at their ends",
         b"ring 2\nstand 1 a 1 0\nstand 2 abcdefghijklmnop 999999999 999999999\nwho 1 z-0 0000000001\ndeliver 2 0000000000\ndeliver 1 9999999999\n",
         "ring 2\n1: stood\n2: stood\n3: none\n4: taken\nno 21 unknown\n",
@@ -93,4 +99,28 @@ fn a_run_is_shown(rt: HostRuntime) {
     let _ = println!(rt; "{text}{answer:?}");
     assert_eq!(rt; answer, Ok(8));
     assert_eq!(rt; text, FIRST_ELECTION.1);
+}
+
+// Row stand_limit: node 1 stands for 1,024 terms, and not for one more.
+#[test]
+fn stand_limit(rt: HostRuntime) -> Result<(), AllocError> {
+    let mut script = String::new(rt.alloc());
+    let mut text = String::new(rt.alloc());
+    writeln!(script, "ring 2")?;
+    writeln!(text, "ring 2")?;
+    for term in 1..1_026_u32 {
+        writeln!(script, "stand 1 red {term} 10")?;
+        if term <= 1_024 {
+            writeln!(text, "{term}: stood")?;
+        }
+    }
+    writeln!(text, "1025: no 6 limit")?;
+    assert_prints(
+        &rt,
+        rt.alloc(),
+        "stand_limit",
+        script.as_bytes(),
+        text.as_str(),
+    );
+    Ok(())
 }

@@ -10,5 +10,5 @@ invariant-loop l = record {
   count : length l.all.items ≡ l.counter;
   next : l.counter < l.n → l.node ≡ l.counter + 1;
   inside : l.node ≤ l.n;
-  shows : (at : ℕ) (other : Member) → at < l.counter → ShowsNode [] (at + 1) (slice_index_or l.all.items at other);
+  shows : (at : ℕ) (other : Member) → at < l.counter → ShowsNode l.n l.capacity [] (at + 1) (slice_index_or l.all.items at other);
 }
