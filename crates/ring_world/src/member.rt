@@ -7,7 +7,7 @@ ghost use Rattle.ring_records.specs.History.{taken};
 ghost use Rattle.ring_world.specs.Member.{message_in};
 
 use node_core::NodeCore;
-use ring_records::{Decision, Input, Msg, NodeNo, Packet, Reply, Request};
+use ring_records::{Input, Msg, NodeNo, Packet, Reply, Request};
 use std::alloc::{AllocError, Global};
 
 /// A node, as the inputs that it accepted have left it, and all that it sent, as any of it may arrive again. After a
@@ -76,9 +76,10 @@ impl Member {
         if let Err(refusal) = self.core.admit(&input) {
             return Ok(Reply::Refused(refusal));
         }
-        let effects = self.core.apply(input)?;
-        keep(&mut self.sent, effects.carry)?;
-        leave(effects.decided);
+        match self.core.apply(input) {
+            Ok(effects) => keep(&mut self.sent, effects.carry)?,
+            Err(error) => return Err(error),
+        }
         Ok(accepted)
     }
 }
@@ -91,7 +92,3 @@ fn keep(sent: &mut Vec<Msg>, carry: Option<Packet>) -> Result<(), AllocError>
     }
     Ok(())
 }
-
-// The core's ballots have what is decided, and tell it when they are asked. The check wants each type within Effects
-// named in some signature of the crate.
-fn leave(_decided: Option<Decision>) {}

@@ -5,4 +5,4 @@ pub returns-in-Err-clause-judges : goal.returns-in-Err-clause-judges
 returns-in-Err-clause-judges c = refuses c.args.self.now c.args.input c.args.accepted c.in-Err.refusal c.in-Err.ensures
 
 pub returns-clause-judges : goal.returns-clause-judges
-returns-clause-judges c = accepts c.args.self.now _ c.args.input c.args.accepted _ c.in_default.ensures c.apply.ensures.me c.in_ok-effects.ensures.carry c.in_ok-effects.ensures.stands c.in_ok-keep.ensures
+returns-clause-judges c = accepts c.args.self.now _ c.args.input c.args.accepted _ c.in_default.ensures c.apply.ensures.me c.in-Ok.ensures.carry c.in-Ok.ensures.stands c.in_ok-keep-in-Ok.ensures
