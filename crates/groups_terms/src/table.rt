@@ -11,7 +11,7 @@ ghost use Rattle.ring_records.specs.Leader.{IsLatest, latest};
 ghost use Rattle.ring_records.specs.Message.{key_of};
 ghost use Rattle.cr_automaton.specs.Ballot.{StandsFor};
 
-use crate::latest::{Latest, keep_place, latest_leader, note};
+use crate::latest::{Latest, latest_leader, make_room, note};
 use cr_automaton::Ballot;
 use ring_records::{Bid, Candidate, GroupName, Key, Msg, NodeNo, Term};
 use std::alloc::{AllocError, Global};
@@ -119,7 +119,7 @@ impl Table {
         let mut ballot = self.known(&key);
         let before = ballot.leader;
         let on = hear(&mut ballot, self.me, msg);
-        keep_place(&mut self.latest, &key.group)?;
+        make_room(&mut self.latest, &key.group, &before, &ballot.leader)?;
         put(&mut self.ballots, &key, &ballot)?;
         note(&mut self.latest, &key, before, ballot.leader);
         Ok(on)

@@ -9,15 +9,15 @@ ghost use Rattle.ring_records.specs.declared.packet.Packet.TheVariants.{Carry};
 ghost use Rattle.ring_records.specs.Admission.{IsAllowed};
 ghost use Rattle.ring_records.specs.Emission.{carry};
 ghost use Rattle.ring_records.specs.History.{taken};
-ghost use Rattle.ring_records.specs.Leader.{newly, decided};
+ghost use Rattle.ring_records.specs.Leader.{decided};
 ghost use Rattle.neighbour_link.specs.Outlink.{OutlinkStandsFor, sent_count};
 ghost use Rattle.groups_terms.specs.Table.{ballot_at};
-ghost use Rattle.node_core.specs.Core.{Keeps};
+ghost use Rattle.node_core.specs.Core.{Keeps, told_by};
 
 use crate::effects::Effects;
 use groups_terms::Table;
 use neighbour_link::{Inlink, Outlink};
-use ring_records::{Bid, Candidate, Decision, Input, Key, Msg, Packet};
+use ring_records::{Bid, Decision, Input, Key, Msg, Packet};
 use std::alloc::AllocError;
 
 /// Accepts an input that the history allows. An `Err` changes nothing.
@@ -77,11 +77,9 @@ fn take(table: &mut Table, link: &mut Outlink, msg: &Msg) -> Result<Effects, All
     ensures keeps { OnOk result ((h : List Input) (place : ℕ) → Keeps table.old link.old.link h → Keeps table.new link.new.link (h ++ Take place msg.now ∷ [])) }
     ensures err { OnErr result ((table.new ≡ table.old) × (link.new.link ≡ link.old.link)) }
 {
-    let key = msg.key();
-    let before = table.who(&key);
     let on = table.hear(msg)?;
+    let decided = decision(&on);
     let carry = send(link, on);
-    let decided = newly(key, before, table.who(&key));
     Ok(Effects { carry, decided })
 }
 
@@ -126,11 +124,15 @@ fn carry(link: &mut Outlink, msg: &Msg) -> Packet
     }
 }
 
-fn newly(key: Key, before: Option<Candidate>, now: Option<Candidate>) -> Option<Decision>
-    ensures { result ≡ newly key before now }
+// A node makes a leader known exactly where it sends an Elected on.
+fn decision(on: &Option<Msg>) -> Option<Decision>
+    ensures { result ≡ told_by on.now }
 {
-    match (before, now) {
-        (None, Some(leader)) => Some(Decision { key, leader }),
+    match on {
+        Some(Msg::Elected { key, candidate }) => Some(Decision {
+            key: *key,
+            leader: *candidate,
+        }),
         _ => None,
     }
 }

@@ -9,8 +9,8 @@ use Rattle.groups_terms.proofs.table.Table.hear.Goals as goal
 
 pub invariant_of-self-2 : goal.invariant_of-self-2
 invariant_of-self-2 c =
-    hear_kept c.args.self.now _ _ c.self.inside.latest c.keep_place.new.latest c.note.new.latest c.key-key.result c.known-ballot.result c.hear-on.new.ballot (ap (λ (t : TableView). t.ballots) c.self.view_is) c.self.invariant
-    c.known-ballot.ensures c.keep_place.ensures.same c.in_ok-put.ensures.ok c.hear-on.ensures.leader c.note.ensures
+    hear_kept c.args.self.now _ _ c.self.inside.latest c.make_room.new.latest c.note.new.latest c.key-key.result c.known-ballot.result c.hear-on.new.ballot (ap (λ (t : TableView). t.ballots) c.self.view_is) c.self.invariant
+    c.known-ballot.ensures c.make_room.ensures.same c.in_ok-put.ensures.ok c.hear-on.ensures.leader c.note.ensures
 
 pub returns-clause-next : goal.returns-clause-next
 returns-clause-next c = λ h place stands.
