@@ -140,7 +140,14 @@ fn a_credit_is_above_the_last_and_not_above_what_was_sent(rt: HostRuntime) -> Re
         (&sent, u64::MAX, Some(Refusal::AckAhead(3))),
     ];
     for (inputs, upto, want) in rows {
-        judges(&rt, rt.alloc(), "", inputs, Input::Acked { upto }, want)?;
+        judges(
+            &rt,
+            rt.alloc(),
+            "credit",
+            inputs,
+            Input::Acked { upto },
+            want,
+        )?;
     }
     Ok(())
 }
