@@ -1,5 +1,5 @@
-# run: an example, before any proof. test: the merge gate. ringctl: the proved program. bench: its times.
-.PHONY: run test ringctl bench clean
+# run: an example, before any proof. test: the merge gate. ringctl, core_bench: the proved programs. bench: their times.
+.PHONY: run test ringctl core_bench bench clean
 
 run:
 	@bench/try.sh examples/first_election.ring
@@ -12,8 +12,13 @@ ringctl:
 	cd crates/ringctl && rt run < /dev/null
 	cp crates/ringctl/out/ringctl bin/ringctl
 
-bench: ringctl
-	@bench/measure.sh bin/ringctl
+core_bench:
+	@mkdir -p bin
+	cd crates/core_bench && rt run < /dev/null
+	cp crates/core_bench/out/core_bench bin/core_bench
+
+bench: ringctl core_bench
+	@bench/measure.sh bin/ringctl bin/core_bench
 
 clean:
 	rm -rf bin crates/*/out

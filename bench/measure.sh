@@ -1,26 +1,30 @@
 #!/usr/bin/env bash
-# measure.sh RINGCTL: times the program on a script of 29,000 lines and on one of twice the lines, the best of five
-# runs each, and prints the times, their ratio and the replies that were counted. It asserts nothing.
+# measure.sh RINGCTL CORE_BENCH: times both programs on some work and on more of it, the best of fifteen runs each, and
+# prints the times, their ratios and what was counted. It asserts nothing.
 set -eu
-program=$(realpath "$1")
+ringctl=$(realpath "$1")
+core_bench=$(realpath "$2")
 cd "$(dirname "$0")"
 work=$(mktemp -d)
 trap 'rm -rf "$work"' EXIT
 
+# best IN OUT PROGRAM WORD..: the nanoseconds of the fastest of fifteen runs.
 best() {
-    local least=0 begin end
-    for _ in 1 2 3 4 5; do
+    local input=$1 output=$2 least=0 begin end
+    shift 2
+    for _ in 1 2 3 4 5 6 7 8 9 10 11 12 13 14 15; do
         begin=$(date +%s%N)
-        "$program" < "$1" > "$2"
+        "$@" < "$input" > "$output"
         end=$(date +%s%N)
         if [ "$least" -eq 0 ] || [ $((end - begin)) -lt "$least" ]; then least=$((end - begin)); fi
     done
     echo "$least"
 }
 
+echo "ringctl, a script:"
 for lines in 29000 58000; do
     awk -v lines="$lines" -f script.awk > "$work/$lines.ring"
-    eval "time_$lines=$(best "$work/$lines.ring" "$work/$lines.out")"
+    eval "time_$lines=$(best "$work/$lines.ring" "$work/$lines.out" "$ringctl")"
 done
 for lines in 29000 58000; do
     eval "nanoseconds=\$time_$lines"
@@ -30,3 +34,13 @@ for lines in 29000 58000; do
         'BEGIN { printf "%d lines, %d bytes: %.3f s (%d stood, %d taken, %d refused)\n", lines, bytes, ns / 1e9, stood, taken, refused }'
 done
 awk -v half="$time_29000" -v whole="$time_58000" 'BEGIN { printf "twice the lines: %.2f times as long\n", whole / half }'
+
+echo "core_bench, the inputs of one node:"
+for inputs in 0 10000 100000; do
+    nanoseconds=$(best /dev/null "$work/counts" "$core_bench" "$inputs")
+    eval "time_$inputs=$nanoseconds"
+    awk -v ns="$nanoseconds" '{ counts = counts (NR > 1 ? ", " : "") $1 " " $2 }
+        END { printf "%s: %.4f s\n", counts, ns / 1e9 }' "$work/counts"
+done
+awk -v start="$time_0" -v tenth="$time_10000" -v whole="$time_100000" \
+    'BEGIN { printf "ten times the inputs: %.1f times as long, %.1f without the start of the program\n", whole / tenth, (whole - start) / (tenth - start) }'

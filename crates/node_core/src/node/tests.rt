@@ -1,74 +1,107 @@
-// A core that has accepted nothing: each cause that can come then, at its border, and the first of two.
+// What no clause says: that the calls succeed, and that the definitions say what is meant.
+ghost use Rattle.std.specs.Prelude.{List, [], ◌++◌, ◌∷◌, IfOk};
+ghost use Rattle.ring_records.specs.declared.input.Input.{Input};
+
 use super::*;
-use ring_records::Bid;
+use ring_records::{Bid, Decision, Packet, look_back};
+use std::process::Abort;
+use std::test::Fail;
+
+mod borders;
+mod capacity;
+mod copies;
+mod look_backs;
+mod memory;
+mod order;
 
 fn key(group: &[u8], term: u32) -> Result<Key, Refusal> {
-    Ok(Key {
-        group: GroupName::read(group)?,
-        term: Term::new(term)?,
-    })
+    let group = GroupName::read(group)?;
+    let term = Term::new(term)?;
+    Ok(Key { group, term })
 }
 
-fn stand(group: &[u8]) -> Result<Input, Refusal> {
-    Ok(Input::Stand {
-        key: key(group, 5)?,
-        bid: Bid::new(30)?,
-    })
+fn candidate(bid: u32, node: u8) -> Result<Candidate, Refusal> {
+    let bid = Bid::new(bid)?;
+    let node = NodeNo::new(node)?;
+    Ok(Candidate { bid, node })
 }
 
-// The Take of a token that node `node` sent.
-fn take(no: u64, node: u8) -> Result<Input, Refusal> {
-    let candidate = Candidate {
-        bid: Bid::new(30)?,
-        node: NodeNo::new(node)?,
-    };
-    Ok(Input::Take {
-        no,
-        msg: Msg::Token {
-            key: key(b"red", 5)?,
-            candidate,
-        },
-    })
+fn stand(group: &[u8], term: u32, bid: u32) -> Result<Input, Refusal> {
+    let key = key(group, term)?;
+    let bid = Bid::new(bid)?;
+    Ok(Input::Stand { key, bid })
 }
 
-#[test]
-fn a_first_input_is_admitted(rt: HostRuntime) -> Result<(), Refusal> {
-    let core = NodeCore::new(rt.alloc(), NodeNo::new(2)?, 3, 4_096);
-    assert_eq!(rt; core.admit(&stand(b"red")?), Ok(()));
-    assert_eq!(rt; core.admit(&take(0, 1)?), Ok(()));
-    assert_eq!(rt; core.who(&key(b"red", 5)?), None);
-    assert_eq!(rt; core.latest(&GroupName::read(b"red")?), None);
-    Ok(())
+fn token(group: &[u8], term: u32, bid: u32, node: u8) -> Result<Msg, Refusal> {
+    let key = key(group, term)?;
+    let candidate = candidate(bid, node)?;
+    Ok(Msg::Token { key, candidate })
 }
 
-#[test]
-fn a_take_is_judged_by_its_node_and_then_by_its_number(rt: HostRuntime) -> Result<(), Refusal> {
-    let core = NodeCore::new(rt.alloc(), NodeNo::new(2)?, 3, 4_096);
-    assert_eq!(rt; core.admit(&take(0, 3)?), Ok(()));
-    assert_eq!(rt; core.admit(&take(0, 4)?), Err(Refusal::BadNumber));
-    assert_eq!(rt; core.admit(&take(1, 3)?), Err(Refusal::Gap(0)));
-    assert_eq!(rt; core.admit(&take(1, 4)?), Err(Refusal::BadNumber));
-    Ok(())
+fn elected(group: &[u8], term: u32, bid: u32, node: u8) -> Result<Msg, Refusal> {
+    let key = key(group, term)?;
+    let candidate = candidate(bid, node)?;
+    Ok(Msg::Elected { key, candidate })
 }
 
-#[test]
-fn a_credit_is_above_the_last_and_not_above_what_was_sent(rt: HostRuntime) -> Result<(), Refusal> {
-    let core = NodeCore::new(rt.alloc(), NodeNo::new(2)?, 3, 4_096);
-    assert_eq!(rt; core.admit(&Input::Acked { upto: 0 }), Err(Refusal::Old(0)));
-    assert_eq!(rt;
-        core.admit(&Input::Acked { upto: 1 }),
-        Err(Refusal::AckAhead(0))
-    );
-    Ok(())
+fn take(no: u64, msg: Msg) -> Input {
+    Input::Take { no, msg }
 }
 
-#[test]
-fn an_input_may_fill_the_capacity_and_not_more(rt: HostRuntime) -> Result<(), Refusal> {
-    // A Stand takes 17 bytes and its name's length.
-    let core = NodeCore::new(rt.alloc(), NodeNo::new(2)?, 3, 20);
-    assert_eq!(rt; core.admit(&stand(b"red")?), Ok(()));
-    assert_eq!(rt; core.admit(&stand(b"blue")?), Err(Refusal::Full));
-    assert_eq!(rt; core.admit(&take(0, 3)?), Err(Refusal::Full));
-    assert_eq!(rt; core.admit(&take(1, 3)?), Err(Refusal::Gap(0)));
-    Ok(())
+/// Node 2, with the history that it went through, which look-backs are asked of.
+#[derive(Drop)]
+struct Rig {
+    core: NodeCore,
+    history: Vec<Input>,
+}
+
+impl Model for Rig {
+    ghost use Rattle.std.specs.Prelude.{List};
+    ghost use Rattle.ring_records.specs.declared.input.Input.{Input};
+    ghost use Rattle.node_core.specs.Core.{CoreStandsFor};
+
+    ghost Value = { List Input };
+
+    ghost view = { λ rig. rig.history.items };
+
+    ghost invariant = { λ rig. CoreStandsFor rig.core rig.history.items };
+}
+
+impl Rig {
+    /// It has accepted nothing.
+    fn new(alloc: Global, n: u8, capacity: u32) -> Result<Rig, Refusal> {
+        let node = NodeNo::new(2)?;
+        Ok(Rig {
+            core: NodeCore::new(alloc, node, n, capacity),
+            history: Vec::new(alloc),
+        })
+    }
+
+    /// It has accepted these.
+    fn after(
+        rt: &impl Abort,
+        alloc: Global,
+        n: u8,
+        capacity: u32,
+        inputs: &[Input],
+    ) -> Result<Rig, Refusal> {
+        let mut rig = Rig::new(alloc, n, capacity)?;
+        rig.accept_all(rt, inputs)?;
+        Ok(rig)
+    }
+
+    fn accept_all(&mut self, rt: &impl Abort, inputs: &[Input]) -> Result<(), Refusal> {
+        for input in inputs {
+            self.accept(rt, *input)?;
+        }
+        Ok(())
+    }
+
+    /// Accepts the input, where it is admitted.
+    fn accept(&mut self, rt: &impl Abort, input: Input) -> Result<Effects, Refusal> {
+        self.core.admit(&input)?;
+        let effects = self.core.apply(input).expect(rt, "ample memory");
+        self.history.push(input).expect(rt, "ample memory");
+        Ok(effects)
+    }
 }
