@@ -1,0 +1,4 @@
+pub mod Ranges
+pub mod Images
+pub mod Moments
+pub mod Changed
