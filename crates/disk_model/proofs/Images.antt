@@ -76,8 +76,10 @@ module _ (bytes : List ℕ) (size at : ℕ) (piece : List ℕ) (fits : at + leng
   pub after_length : length after ≡ length bytes
   after_length = ap length is ∙ whole_length bytes at piece fits
 
-  pub used_fits : used ≤ length bytes
-  used_fits = ⊎_elim (λ (lt : length piece < 1). omega (arith, lt, none, size_fits)) (λ (le : 1 ≤ length piece). omega (arith, le, some, fits, size_fits)) (cases_lt (length piece) 1)
+  pub used_fits : used ≤ length after
+  used_fits =
+      ⊎_elim (λ (lt : length piece < 1). let same = none (omega (arith, lt)) in omega (arith, same, size_fits, after_length)) (λ (le : 1 ≤ length piece). let more = some le in omega (arith, more, fits, size_fits, after_length))
+      (cases_lt (length piece) 1)
 
   not_below : (size ≤ used) × (at + length piece ≤ used ⊎ (length piece ≡ 0))
   not_below =

@@ -67,3 +67,8 @@ after_sync (Err fault) old new is same stays image left = subst (λ (disk : Disk
 pub after_write : (off n : ℕ) (old new : Disk) → Unsyncs off n old new → (image : List ℕ) → MayLeave new image → IsTorn old.stable (old.ranges ++ (off, n) ∷ []) image
 after_write off n old new un image left =
     subst (λ (stable : List ℕ). IsTorn stable (old.ranges ++ (off, n) ∷ []) image) un.stable (subst (λ (ranges : List (ℕ × ℕ)). IsTorn new.stable ranges image) un.ranges left)
+
+-- the same, as a history tells it
+pub torn_written : (stable after_stable : List ℕ) (ranges after : List (ℕ × ℕ)) (off n : ℕ) (image : List ℕ) → after_stable ≡ stable → after ≡ ranges ++ (off, n) ∷ [] → IsTorn stable (ranges ++ (off, n) ∷ []) image → IsTorn after_stable after image
+torn_written stable after_stable ranges after off n image same is torn =
+    subst (λ (s : List ℕ). IsTorn s after image) (sym same) (subst (λ (rs : List (ℕ × ℕ)). IsTorn stable rs image) (sym is) torn)

@@ -1,6 +1,7 @@
 //! What a device is, and what a stop may leave on it: the trait that all durable parts stand on, and its devices.
 #![tactic(auto)]
 
+mod buffer;
 mod device;
 mod history;
 

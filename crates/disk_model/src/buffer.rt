@@ -1,0 +1,120 @@
+// A device's bytes in memory.
+ghost use Rattle.std.specs.Prelude.{◌≡◌, ◌+◌, ◌^◌, ◌<◌, ◌≤◌, ◌++◌, ◌∷◌, [], ℕ, max, length, take, drop, slice_index, IfOk, IsOk};
+ghost use Rattle.disk_model.specs.Disk.{IsTorn, HasCause};
+
+use crate::history::History;
+use crate::{Device, DeviceFault};
+use std::alloc::{AllocError, Global};
+
+/// A device whose bytes are kept in memory that was taken once. A call that ends past that memory is a fault; no other
+/// call fails.
+#[derive(Drop)]
+pub(crate) struct Buffer {
+    // All the memory. Behind the first `size` bytes it is zeros.
+    bytes: Vec<u8>,
+    size: usize,
+    faults: u64,
+    history: History,
+    ghost fits: { size ≤ length bytes.items },
+    ghost blank: { (i : ℕ) → size ≤ i → slice_index bytes.items i ≡ 0 },
+    ghost torn: { IsTorn history.stable history.ranges (take size bytes.items) },
+}
+
+// Where a range begins in so much memory, or a fault, which is counted.
+fn place(limit: usize, off: u64, len: usize, faults: &mut u64) -> Result<usize, DeviceFault>
+    ensures ok { IfOk result (λ at. (at ≡ off) × (at + len ≤ limit)) }
+    ensures works { off + len ≤ limit → IsOk result }
+    ensures cause { HasCause faults.old faults.new result }
+{
+    if off <= limit as u64 {
+        let at = off as usize;
+        if len <= limit - at {
+            return Ok(at);
+        }
+    }
+    *faults = faults.saturating_add(1);
+    Err(DeviceFault)
+}
+
+// Puts the piece at its place in the memory.
+fn overwrite(bytes: &mut Vec<u8>, at: usize, piece: &[u8])
+    requires { at + length piece.now ≤ length bytes.old.items }
+    ensures { bytes.new.items ≡ take at bytes.old.items ++ piece.now ++ drop (at + length piece.now) bytes.old.items }
+{
+    bytes[at..at + piece.len()].copy_from_slice(piece);
+}
+
+// The end, once so many bytes stand at this place.
+fn end_with(size: usize, at: usize, len: usize) -> usize
+    requires { at + len < 2 ^ 64 }
+    ensures some { 0 < len → result ≡ max size (at + len) }
+    ensures none { len ≡ 0 → result ≡ size }
+{
+    if len == 0 { size } else { size.max(at + len) }
+}
+
+impl Buffer {
+    ghost use Rattle.disk_model.specs.Buffer.{disk_of, limit_of, count_of};
+
+    /// An empty device, with this much memory for it.
+    pub(crate) fn new(alloc: Global, limit: usize) -> Result<Buffer, AllocError>
+        ensures empty { IfOk result (λ buffer. disk_of buffer ≡ record { image = []; stable = []; ranges = [] }) }
+        ensures limit { IfOk result (λ buffer. limit_of buffer ≡ limit) }
+        ensures count { IfOk result (λ buffer. count_of buffer ≡ 0) }
+    {
+        Ok(Buffer {
+            bytes: vec![in alloc; 0; limit]?,
+            size: 0,
+            faults: 0,
+            history: History::new(),
+        })
+    }
+}
+
+impl Device for Buffer {
+    ghost use Rattle.disk_model.specs.Buffer.{disk_of, limit_of, count_of, past_count, left_since};
+    ghost use Rattle.disk_model.specs.Stretches.{same_now, still_now};
+
+    ghost disk = { disk_of };
+
+    ghost clock = { past_count };
+
+    ghost left_since = { left_since };
+
+    ghost count = { count_of };
+
+    ghost reach = { limit_of };
+
+    ghost may_stay = { λ buffer. buffer.torn };
+
+    ghost counts_now = { λ buffer t image le now. same_now buffer.history.past (disk_of buffer) t image now };
+
+    ghost only_now = { λ buffer image left. still_now buffer.history.past (disk_of buffer) image left };
+
+    fn size(&self) -> u64 {
+        self.size as u64
+    }
+
+    fn failures(&self) -> u64 {
+        self.faults
+    }
+
+    fn read_at(&mut self, off: u64, buf: &mut [u8]) -> Result<(), DeviceFault> {
+        let at = place(self.bytes.len(), off, buf.len(), &mut self.faults)?;
+        buf.copy_from_slice(&self.bytes[at..at + buf.len()]);
+        Ok(())
+    }
+
+    fn write_at(&mut self, off: u64, bytes: &[u8]) -> Result<(), DeviceFault> {
+        self.history = History::with_write(&self.history, &off, bytes);
+        let at = place(self.bytes.len(), off, bytes.len(), &mut self.faults)?;
+        overwrite(&mut self.bytes, at, bytes);
+        self.size = end_with(self.size, at, bytes.len());
+        Ok(())
+    }
+
+    fn sync(&mut self) -> Result<(), DeviceFault> {
+        self.history = History::with_sync(&self.history, &self.bytes[..self.size]);
+        Ok(())
+    }
+}
