@@ -1,9 +1,10 @@
 -- Bytes in the memory of a device: the image is their front, and all behind it is 0.
-use Rattle.std.proofs.Common.{◌≡◌, ◌⊎◌, inl, inr, ⊎_elim, ℕ, ◌+◌, ◌-◌, ◌≤◌, ◌<◌, max, List, ◌++◌, length, take, drop, get_or, sym, ◌∙◌, ap, subst, arith, length-append, length-take, length-drop}
+use Rattle.std.proofs.Common.{◌≡◌, ◌⊎◌, inl, inr, ⊎_elim, ℕ, ◌+◌, ◌-◌, ◌≤◌, ◌<◌, max, List, ◌++◌, length, take, drop, get_or, sym, ◌∙◌, ap, subst, if◌then◌else◌, arith, length-append, length-take, length-drop}
 use Rattle.std.proofs.lemmas.Bool.{cases_lt}
 use Rattle.std.proofs.lemmas.List.{get_or-take, get_or-drop, get_or_append_left, get_or-append_right, get_or-append-add, get_or_past, ext_get_or, get_or-replicate, length-replicate}
 use Rattle.std.proofs.Common.{replicate}
 use Rattle.disk_model.specs.Disk.{IsPart, Puts}
+use Rattle.disk_model.specs.Old.{is_stamped, old_byte}
 
 -- the front has each byte, as the rest is 0
 pub image_at : (size : ℕ) (bytes : List ℕ) → ((i : ℕ) → size ≤ i → get_or bytes i 0 ≡ 0) → (i : ℕ) → get_or (take size bytes) i 0 ≡ get_or bytes i 0
@@ -100,6 +101,18 @@ module _ (bytes : List ℕ) (size at : ℕ) (piece : List ℕ) (fits : at + leng
         others = λ i out. image_at used after still_blank i ∙ (elsewhere i out ∙ sym (image_at size bytes blank i));
       } in
       subst (λ (o : ℕ). Puts o piece (take size bytes) (take used after)) is_off put
+
+-- ---- what was there before
+
+-- the old bytes over the image are those over the memory
+pub before_at : (stamps : List ℕ) (stretch : ℕ) (old : List ℕ) (size : ℕ) (bytes : List ℕ) → ((i : ℕ) → size ≤ i → get_or bytes i 0 ≡ 0) → (i : ℕ) → old_byte stamps stretch old bytes i ≡ old_byte stamps stretch old (take size bytes) i
+before_at stamps stretch old size bytes blank i = ap (λ (byte : ℕ). if is_stamped stamps stretch i then get_or old i 0 else byte) (sym (image_at size bytes blank i))
+
+-- the old bytes to the old end are the stable image
+pub taken_back : (stable after : List ℕ) (size : ℕ) → size ≡ length stable → length stable ≤ length after → ((i : ℕ) → i < length after → get_or after i 0 ≡ get_or stable i 0) → take size after ≡ stable
+taken_back stable after size ends fits same =
+    let sized : length (take size after) ≡ length stable = omega (arith, length-take size after, ends, fits) in
+    ext_get_or 0 (take size after) stable sized (λ i lt. get_or-take size after i 0 (omega (arith, lt, sized, ends)) ∙ same i (omega (arith, lt, sized, fits)))
 
 -- ---- what a read of a part says
 

@@ -1,7 +1,7 @@
 -- What a `Buffer` shows.
 use Rattle.std.specs.Prelude.{ℕ, List, length, take}
 use Rattle.disk_model.specs.Disk.{Disk}
-use Rattle.disk_model.specs.Stretches.{LeftSince}
+use Rattle.disk_model.specs.Stretches.{Past, LeftSince}
 use Rattle.disk_model.specs.declared.buffer.Buffer.{Buffer}
 
 abbrev pub disk_of : Buffer → Disk
@@ -13,10 +13,14 @@ limit_of buffer = length buffer.bytes.items
 abbrev pub count_of : Buffer → ℕ
 count_of buffer = buffer.faults
 
--- the moment: the stretches between two syncs that have ended
+-- the stretches between two syncs that have ended
+abbrev pub past_of : Buffer → Past
+past_of buffer = buffer.history.past
+
+-- the moment, by their number
 abbrev pub past_count : Buffer → ℕ
-past_count buffer = length buffer.history.past
+past_count buffer = length (past_of buffer)
 
 -- what a stop since that moment might have left
 abbrev pub left_since : Buffer → ℕ → List ℕ → Type 0
-left_since buffer = LeftSince buffer.history.past (disk_of buffer)
+left_since buffer = LeftSince (past_of buffer) (disk_of buffer)

@@ -37,6 +37,10 @@ pub record IsTorn (stable : List ℕ) (ranges : List (ℕ × ℕ)) (image : List
 abbrev pub MayLeave : Disk → List ℕ → Type 0
 MayLeave disk image = IsTorn disk.stable disk.ranges image
 
+-- the same disk, of which a read gives this
+abbrev pub with_image : Disk → List ℕ → Disk
+with_image disk image = record { image = image; stable = disk.stable; ranges = disk.ranges }
+
 -- a stop may leave what a read gives and nothing else
 pub record IsSynced (disk : Disk) : Type 0 where
   pub stable : disk.stable ≡ disk.image
@@ -59,6 +63,12 @@ pub record Puts (off : ℕ) (bytes old new : List ℕ) : Type 0 where
 pub record Unsyncs (off n : ℕ) (old new : Disk) : Type 0 where
   pub stable : new.stable ≡ old.stable
   pub ranges : new.ranges ≡ old.ranges ++ (off, n) ∷ []
+
+-- each byte of these ranges is this one, and the others stay, as does the end
+pub record Fills (byte : ℕ) (ranges : List (ℕ × ℕ)) (old new : List ℕ) : Type 0 where
+  pub size : length new ≡ length old
+  pub inside : (i : ℕ) → i < length old → IsInside ranges i → slice_index new i ≡ byte
+  pub outside : (i : ℕ) → IsOutside ranges i → slice_index new i ≡ slice_index old i
 
 -- what a read gives becomes the stable image
 abbrev pub synced : Disk → Disk

@@ -1,3 +1,6 @@
 pub mod Disk
 pub mod Stretches
 pub mod Buffer
+pub mod Old
+pub mod Shadow
+pub mod MemDevice

@@ -1,8 +1,10 @@
 // A device's bytes in memory.
-ghost use Rattle.std.specs.Prelude.{◌≡◌, ◌+◌, ◌^◌, ◌<◌, ◌≤◌, ◌++◌, ◌∷◌, [], ℕ, max, length, take, drop, slice_index, IfOk, IsOk};
-ghost use Rattle.disk_model.specs.Disk.{IsTorn, HasCause};
+ghost use Rattle.std.specs.Prelude.{◌≡◌, ◌⊎◌, ◌+◌, ◌^◌, ◌<◌, ◌≤◌, ◌++◌, ◌∷◌, [], ℕ, min, max, length, take, drop, true, false, slice_index, IfOk, OnOk, IsOk};
+ghost use Rattle.disk_model.specs.Disk.{IsTorn, IsOutside, IsInside, Puts, Unsyncs, Fills, Elapses, HasCause, IsInReach, with_image};
+ghost use Rattle.disk_model.specs.Shadow.{room_of, is_written, byte_before};
 
 use crate::history::History;
+use crate::shadow::{Shadow, fill, put_back};
 use crate::{Device, DeviceFault};
 use std::alloc::{AllocError, Global};
 
@@ -54,7 +56,7 @@ fn end_with(size: usize, at: usize, len: usize) -> usize
 }
 
 impl Buffer {
-    ghost use Rattle.disk_model.specs.Buffer.{disk_of, limit_of, count_of};
+    ghost use Rattle.disk_model.specs.Buffer.{disk_of, limit_of, count_of, past_of};
 
     /// An empty device, with this much memory for it.
     pub(crate) fn new(alloc: Global, limit: usize) -> Result<Buffer, AllocError>
@@ -68,6 +70,62 @@ impl Buffer {
             faults: 0,
             history: History::new(),
         })
+    }
+
+    /// How many bytes it can hold.
+    pub(crate) fn limit(&self) -> usize
+        ensures { result ≡ limit_of self.now }
+    {
+        self.bytes.len()
+    }
+
+    /// All the memory: the bytes that a read gives, and zeros behind them.
+    pub(crate) fn memory(&self) -> &[u8]
+        ensures len { length result.now ≡ limit_of self.now }
+        ensures value { (i : ℕ) → slice_index result.now i ≡ slice_index (disk_of self.now).image i }
+    {
+        &self.bytes
+    }
+
+    /// A stop takes back all that was written since the last sync. The shadow is of this device's writes.
+    pub(crate) fn take_back(&mut self, shadow: &Shadow)
+        requires room { room_of shadow.now ≡ limit_of self.old }
+        requires size { shadow.now.size ≡ length (disk_of self.old).stable }
+        requires before { (i : ℕ) → byte_before shadow.now (disk_of self.old).image i ≡ slice_index (disk_of self.old).stable i }
+        ensures disk { disk_of self.new ≡ with_image (disk_of self.old) (disk_of self.old).stable }
+        ensures limit { limit_of self.new ≡ limit_of self.old }
+        ensures count { count_of self.new ≡ count_of self.old }
+        ensures past { past_of self.new ≡ past_of self.old }
+    {
+        put_back(
+            &mut self.bytes,
+            &shadow.stamps,
+            shadow.stretch,
+            &shadow.bytes,
+        );
+        self.size = shadow.size;
+    }
+
+    /// A stop leaves this byte in place of each that was written since the last sync. The shadow is of this device's
+    /// writes.
+    pub(crate) fn fill(&mut self, shadow: &Shadow, byte: u8)
+        requires room { room_of shadow.now ≡ limit_of self.old }
+        requires clean { (i : ℕ) → IsOutside (disk_of self.old).ranges i → is_written shadow.now i ≡ false }
+        requires marked { (i : ℕ) → i < limit_of self.old → IsInside (disk_of self.old).ranges i → is_written shadow.now i ≡ true }
+        ensures others { (i : ℕ) → is_written shadow.now i ≡ false → slice_index (disk_of self.new).image i ≡ slice_index (disk_of self.old).image i }
+        ensures fills { Fills byte (disk_of self.old).ranges (disk_of self.old).image (disk_of self.new).image }
+        ensures disk { disk_of self.new ≡ with_image (disk_of self.old) (disk_of self.new).image }
+        ensures limit { limit_of self.new ≡ limit_of self.old }
+        ensures count { count_of self.new ≡ count_of self.old }
+        ensures past { past_of self.new ≡ past_of self.old }
+    {
+        fill(
+            &mut self.bytes,
+            self.size,
+            &shadow.stamps,
+            shadow.stretch,
+            byte,
+        );
     }
 }
 
@@ -105,7 +163,16 @@ impl Device for Buffer {
         Ok(())
     }
 
-    fn write_at(&mut self, off: u64, bytes: &[u8]) -> Result<(), DeviceFault> {
+    fn write_at(&mut self, off: u64, bytes: &[u8]) -> Result<(), DeviceFault>
+        ensures written { OnOk result (Puts off bytes.now (disk_of self.old).image (disk_of self.new).image) }
+        ensures disk { Unsyncs off (length bytes.now) (disk_of self.old) (disk_of self.new) }
+        ensures time { Elapses (past_count self.old) (past_count self.new) (left_since self.old) (left_since self.new) (disk_of self.new) }
+        ensures cause { HasCause (count_of self.old) (count_of self.new) result }
+        ensures reach { IsInReach (off + length bytes.now) (limit_of self.old) (limit_of self.new) result }
+
+        // At a fault too.
+        ensures elsewhere { (i : ℕ) → (i < off) ⊎ (min (off + length bytes.now) (limit_of self.old) ≤ i) → slice_index (disk_of self.new).image i ≡ slice_index (disk_of self.old).image i }
+    {
         self.history = History::with_write(&self.history, &off, bytes);
         let at = place(self.bytes.len(), off, bytes.len(), &mut self.faults)?;
         overwrite(&mut self.bytes, at, bytes);

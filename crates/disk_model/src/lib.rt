@@ -4,5 +4,8 @@
 mod buffer;
 mod device;
 mod history;
+mod memory;
+mod shadow;
 
 pub use device::{Device, DeviceFault};
+pub use memory::{MemDevice, Tear};

@@ -1,4 +1,4 @@
-use Rattle.std.proofs.Common.{◌+◌, ◌≤◌, length, ap, arith}
+use Rattle.std.proofs.Common.{◌+◌, ◌≤◌, inl, inr, ⊎_elim, length, ap, arith}
 use Rattle.disk_model.specs.Buffer.{disk_of}
 use Rattle.disk_model.specs.declared.history.History.{History}
 use Rattle.disk_model.proofs.Ranges.{torn_more, torn_written, puts_torn}
@@ -47,3 +47,10 @@ returns-clause-time c =
     let written = c.with_write-self.ensures in
     elapses_write c.args.self.now.history.past c.with_write-self.result.past (disk_of c.args.self.now) _ c.args.off (length c.args.bytes.now)
     (ap (λ (h : History). h.past) written) (ap (λ (h : History). h.stable) written) (ap (λ (h : History). h.ranges) written)
+
+pub returns-clause-elsewhere : goal.returns-clause-elsewhere
+returns-clause-elsewhere c =
+    let buffer = c.args.self.now in
+    let fits : c.in_ok-at.at + length c.args.bytes.now ≤ length buffer.bytes.items = omega (arith, c.in_ok-at.ensures.ok.1) in
+    let put = puts buffer.bytes.items buffer.size c.in_ok-at.at c.args.bytes.now fits buffer.fits buffer.blank c.end_with-self.result c.overwrite.new.bytes.items c.end_with-self.ensures.some c.end_with-self.ensures.none c.overwrite.ensures c.args.off c.in_ok-at.ensures.ok.0 in
+    λ i out. put.others i (⊎_elim (λ below. inl below) (λ above. inr (omega (arith, above, fits, c.in_ok-at.ensures.ok.0))) out)
