@@ -1,6 +1,6 @@
 // A device's bytes in memory.
-ghost use Rattle.std.specs.Prelude.{◌≡◌, ◌⊎◌, ◌+◌, ◌^◌, ◌<◌, ◌≤◌, ◌++◌, ◌∷◌, [], ℕ, min, max, length, take, drop, true, false, slice_index, IfOk, OnOk, IsOk};
-ghost use Rattle.disk_model.specs.Disk.{IsTorn, IsOutside, IsInside, Puts, Unsyncs, Fills, Elapses, HasCause, IsInReach, with_image};
+ghost use Rattle.std.specs.Prelude.{◌≡◌, ◌↔◌, ◌⊎◌, ◌+◌, ◌^◌, ◌<◌, ◌≤◌, ◌++◌, ◌∷◌, [], ℕ, min, max, length, take, drop, true, false, slice_index, IfOk, OnOk, OnErr, IsOk};
+ghost use Rattle.disk_model.specs.Disk.{IsTorn, IsOutside, IsInside, IsPart, Puts, Unsyncs, Fills, Elapses, HasCause, IsInReach, with_image};
 ghost use Rattle.disk_model.specs.Shadow.{room_of, is_written, byte_before};
 
 use crate::history::History;
@@ -25,7 +25,7 @@ pub(crate) struct Buffer {
 // Where a range begins in so much memory, or a fault, which is counted.
 fn place(limit: usize, off: u64, len: usize, faults: &mut u64) -> Result<usize, DeviceFault>
     ensures ok { IfOk result (λ at. (at ≡ off) × (at + len ≤ limit)) }
-    ensures works { off + len ≤ limit → IsOk result }
+    ensures limit { IsOk result ↔ (off + len ≤ limit) }
     ensures cause { HasCause faults.old faults.new result }
 {
     if off <= limit as u64 {
@@ -157,7 +157,14 @@ impl Device for Buffer {
         self.faults
     }
 
-    fn read_at(&mut self, off: u64, buf: &mut [u8]) -> Result<(), DeviceFault> {
+    fn read_at(&mut self, off: u64, buf: &mut [u8]) -> Result<(), DeviceFault>
+        ensures read { OnOk result (IsPart off buf.new (disk_of self.old).image) }
+        ensures disk { disk_of self.new ≡ disk_of self.old }
+        ensures time { Elapses (past_count self.old) (past_count self.new) (left_since self.old) (left_since self.new) (disk_of self.new) }
+        ensures cause { HasCause (count_of self.old) (count_of self.new) result }
+        ensures reach { IsInReach (off + length buf.old) (limit_of self.old) (limit_of self.new) result }
+        ensures limit { IsOk result ↔ (off + length buf.old ≤ limit_of self.old) }
+    {
         let at = place(self.bytes.len(), off, buf.len(), &mut self.faults)?;
         buf.copy_from_slice(&self.bytes[at..at + buf.len()]);
         Ok(())
@@ -169,6 +176,9 @@ impl Device for Buffer {
         ensures time { Elapses (past_count self.old) (past_count self.new) (left_since self.old) (left_since self.new) (disk_of self.new) }
         ensures cause { HasCause (count_of self.old) (count_of self.new) result }
         ensures reach { IsInReach (off + length bytes.now) (limit_of self.old) (limit_of self.new) result }
+        ensures limit { IsOk result ↔ (off + length bytes.now ≤ limit_of self.old) }
+
+        ensures err { OnErr result ((disk_of self.new).image ≡ (disk_of self.old).image) }
 
         // At a fault too.
         ensures elsewhere { (i : ℕ) → (i < off) ⊎ (min (off + length bytes.now) (limit_of self.old) ≤ i) → slice_index (disk_of self.new).image i ≡ slice_index (disk_of self.old).image i }

@@ -1,6 +1,6 @@
 // A device in memory, for tests and simulations.
-ghost use Rattle.std.specs.Prelude.{◌≡◌, ◌↔◌, ◌<◌, [], ℕ, List, length, true, false, slice_index, IfOk};
-ghost use Rattle.disk_model.specs.Disk.{MayLeave, IsOutside, IsInside, Fills, with_image};
+ghost use Rattle.std.specs.Prelude.{◌≡◌, ◌↔◌, ◌+◌, ◌<◌, ◌≤◌, [], ℕ, List, length, true, false, slice_index, IsOk, IfOk, OnOk, OnErr};
+ghost use Rattle.disk_model.specs.Disk.{MayLeave, IsOutside, IsInside, IsPart, Puts, Unsyncs, Fills, Elapses, HasCause, IsInReach, with_image};
 ghost use Rattle.disk_model.specs.Buffer as buffer;
 ghost use Rattle.disk_model.specs.Shadow.{is_written, byte_before};
 
@@ -95,11 +95,26 @@ impl Device for MemDevice {
         self.held.failures()
     }
 
-    fn read_at(&mut self, off: u64, buf: &mut [u8]) -> Result<(), DeviceFault> {
+    fn read_at(&mut self, off: u64, buf: &mut [u8]) -> Result<(), DeviceFault>
+        ensures read { OnOk result (IsPart off buf.new (disk_of self.old).image) }
+        ensures disk { disk_of self.new ≡ disk_of self.old }
+        ensures time { Elapses (past_count self.old) (past_count self.new) (left_since self.old) (left_since self.new) (disk_of self.new) }
+        ensures cause { HasCause (count_of self.old) (count_of self.new) result }
+        ensures reach { IsInReach (off + length buf.old) (limit_of self.old) (limit_of self.new) result }
+        ensures limit { IsOk result ↔ (off + length buf.old ≤ limit_of self.old) }
+    {
         self.held.read_at(off, buf)
     }
 
-    fn write_at(&mut self, off: u64, bytes: &[u8]) -> Result<(), DeviceFault> {
+    fn write_at(&mut self, off: u64, bytes: &[u8]) -> Result<(), DeviceFault>
+        ensures written { OnOk result (Puts off bytes.now (disk_of self.old).image (disk_of self.new).image) }
+        ensures disk { Unsyncs off (length bytes.now) (disk_of self.old) (disk_of self.new) }
+        ensures time { Elapses (past_count self.old) (past_count self.new) (left_since self.old) (left_since self.new) (disk_of self.new) }
+        ensures cause { HasCause (count_of self.old) (count_of self.new) result }
+        ensures reach { IsInReach (off + length bytes.now) (limit_of self.old) (limit_of self.new) result }
+        ensures limit { IsOk result ↔ (off + length bytes.now ≤ limit_of self.old) }
+        ensures err { OnErr result ((disk_of self.new).image ≡ (disk_of self.old).image) }
+    {
         let limit = self.held.limit();
         let at = off.min(limit as u64) as usize;
         let end = at + bytes.len().min(limit - at);
