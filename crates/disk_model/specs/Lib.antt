@@ -4,3 +4,5 @@ pub mod Buffer
 pub mod Old
 pub mod Shadow
 pub mod MemDevice
+pub mod Fuse
+pub mod FuseDevice

@@ -3,9 +3,11 @@
 
 mod buffer;
 mod device;
+mod fuse;
 mod history;
 mod memory;
 mod shadow;
 
 pub use device::{Device, DeviceFault};
+pub use fuse::FuseDevice;
 pub use memory::{MemDevice, Tear};
