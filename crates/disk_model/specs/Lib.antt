@@ -6,3 +6,4 @@ pub mod Shadow
 pub mod MemDevice
 pub mod Fuse
 pub mod FuseDevice
+pub mod FileDevice

@@ -3,11 +3,13 @@
 
 mod buffer;
 mod device;
+mod file;
 mod fuse;
 mod history;
 mod memory;
 mod shadow;
 
 pub use device::{Device, DeviceFault};
+pub use file::{FILE_LIMIT, FileDevice, OpenFault};
 pub use fuse::FuseDevice;
 pub use memory::{MemDevice, Tear};

@@ -28,11 +28,11 @@ fn holds<R: Abort + AllocGlobal>(
 }
 
 /// After these writes over `abcdefgh` the tears New, Old and Fill(7) leave these bytes.
-fn tears<R: Abort + AllocGlobal>(
+fn tears<'a, R: Abort + AllocGlobal>(
     rt: &R,
-    writes: &[(u64, &[u8])],
-    new: &[u8],
-    filled: &[u8],
+    writes: &'a [(u64, &'a [u8])],
+    new: &'a [u8],
+    filled: &'a [u8],
 ) -> Result<(), Fail> {
     for (tear, wanted) in [
         (Tear::New, new),
