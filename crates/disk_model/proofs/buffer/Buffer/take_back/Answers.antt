@@ -1,4 +1,4 @@
-use Rattle.std.proofs.Common.{◌≤◌, ℕ, List, length, ap, sym, ◌∙◌, arith, length-take}
+use Rattle.std.proofs.Common.{◌≤◌, ℕ, List, length, ap, ◌∙◌, arith, length-take}
 use Rattle.disk_model.specs.Disk.{with_image}
 use Rattle.disk_model.specs.Buffer.{disk_of}
 use Rattle.disk_model.specs.Old.{old_byte}

@@ -2,7 +2,7 @@ use Rattle.std.proofs.Common.{◌+◌, ◌≤◌, inl, inr, ⊎_elim, length, ap
 use Rattle.disk_model.specs.Buffer.{disk_of}
 use Rattle.disk_model.specs.declared.history.History.{History}
 use Rattle.disk_model.proofs.Ranges.{torn_more, torn_written, puts_torn}
-use Rattle.disk_model.proofs.Images.{used_fits, after_length, still_blank, puts}
+use Rattle.disk_model.proofs.Images.{used_fits, still_blank, puts}
 use Rattle.disk_model.proofs.Moments.{elapses_write}
 use Rattle.disk_model.proofs.buffer.BufferDevice.write_at.Goals as goal
 

@@ -1,5 +1,4 @@
 use Rattle.std.proofs.Common.{◌≡◌, ◌+◌, ◌-◌, ℕ, min, List, length, ap, ◌∙◌, sym, arith}
-use Rattle.disk_model.specs.Disk.{Disk}
 use Rattle.disk_model.specs.Buffer as buffer
 use Rattle.disk_model.specs.Shadow.{is_written}
 use Rattle.disk_model.proofs.Shadows.{clean_next, marked_next, before_next}
