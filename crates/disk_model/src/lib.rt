@@ -8,8 +8,10 @@ mod fuse;
 mod history;
 mod memory;
 mod shadow;
+mod through;
 
 pub use device::{Device, DeviceFault};
 pub use file::{FILE_LIMIT, FileDevice, OpenFault};
 pub use fuse::FuseDevice;
 pub use memory::{MemDevice, Tear};
+pub use through::write_through;
