@@ -1,6 +1,7 @@
 #!/usr/bin/env bash
 # measure.sh RINGCTL: times the program on a script of 29,000 lines and on one of twice the lines, the best of five
-# runs each, and prints the times, their ratio and the replies that were counted. It asserts nothing.
+# runs each, and prints the times, their ratio and the replies that were counted; then the same of the devices
+# (devices.sh). It asserts nothing.
 set -eu
 program=$(realpath "$1")
 cd "$(dirname "$0")"
@@ -30,3 +31,4 @@ for lines in 29000 58000; do
         'BEGIN { printf "%d lines, %d bytes: %.3f s (%d stood, %d taken, %d refused)\n", lines, bytes, ns / 1e9, stood, taken, refused }'
 done
 awk -v half="$time_29000" -v whole="$time_58000" 'BEGIN { printf "twice the lines: %.2f times as long\n", whole / half }'
+./devices.sh

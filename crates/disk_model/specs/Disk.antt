@@ -103,7 +103,8 @@ pub record LeavesOnly {D : Type 0} (clock : D → ℕ) (left_since : D → ℕ �
   pub before : (t : ℕ) (image : List ℕ) → t ≤ clock old → left_since new t image → left_since old t image ⊎ P image
   pub keeps : (t : ℕ) (image : List ℕ) → t ≤ clock old → left_since old t image → left_since new t image
 
--- New differs from old in n bytes from this offset on alone, and in no byte behind the old end that they do not reach.
+-- New differs from old at most in the n bytes from this offset on, and in an end that they may have moved up. A gap
+-- behind the old end may hold any bytes.
 pub record Changes (off n : ℕ) (old new : List ℕ) : Type 0 where
   pub no_shorter : length old ≤ length new
   pub no_longer : length new ≤ max (length old) (off + n)
