@@ -2,6 +2,8 @@
 //! many there were. Its words are the bytes of the device and the number of writes.
 #![tactic(auto)]
 
+ghost use Rattle.std.specs.Prelude.{◌<◌};
+
 use disk_model::{Device, DeviceFault, MemDevice};
 use std::env;
 use std::process::ExitCode;
@@ -19,7 +21,9 @@ fn fill(device: &mut MemDevice, limit: u64) -> Result<(), DeviceFault> {
     device.sync()
 }
 
-fn write_and_sync(device: &mut MemDevice, limit: u64, writes: u64) -> Result<u64, DeviceFault> {
+fn write_and_sync(device: &mut MemDevice, limit: u64, writes: u64) -> Result<u64, DeviceFault>
+    requires { 16 < limit }
+{
     let mut syncs = 0u64;
     let mut off = 0u64;
     for _ in 0..writes {
