@@ -37,18 +37,30 @@ pub enum OpenFault {
 }
 
 impl From<AllocError> for OpenFault {
+    ghost use Rattle.disk_model.specs.declared.file.OpenFault.TheVariants as open_fault;
+
+    ghost from_gives = { λ _ fault. fault ≡ open_fault.Memory };
+
     fn from(_: AllocError) -> OpenFault {
         OpenFault::Memory
     }
 }
 
 impl From<io::Error> for OpenFault {
+    ghost use Rattle.disk_model.specs.declared.file.OpenFault.TheVariants as open_fault;
+
+    ghost from_gives = { λ _ fault. fault ≡ open_fault.Device };
+
     fn from(_: io::Error) -> OpenFault {
         OpenFault::Device
     }
 }
 
 impl From<DeviceFault> for OpenFault {
+    ghost use Rattle.disk_model.specs.declared.file.OpenFault.TheVariants as open_fault;
+
+    ghost from_gives = { λ _ fault. fault ≡ open_fault.Device };
+
     fn from(_: DeviceFault) -> OpenFault {
         OpenFault::Device
     }

@@ -76,6 +76,7 @@ impl<D: Device> FuseDevice<D> {
     /// A device that passes every call until it is armed.
     pub fn idle(inner: D) -> FuseDevice<D>
         ensures inner { inner_of result ≡ inner }
+        ensures fuse { (k : ℕ) → will_fail result k ≡ false }
         ensures idle { IsTrue (is_idle_device result) }
         ensures faults { own_faults result ≡ 0 }
     {
