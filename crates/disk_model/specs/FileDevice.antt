@@ -7,6 +7,9 @@ use Rattle.disk_model.specs.declared.file.FileDevice.{FileDevice}
 abbrev pub disk_of : FileDevice → Disk
 disk_of device = buffer.disk_of device.held
 
+abbrev pub limit_of : FileDevice → ℕ
+limit_of device = buffer.limit_of device.held
+
 abbrev pub count_of : FileDevice → ℕ
 count_of device = device.faults
 

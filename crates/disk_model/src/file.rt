@@ -5,7 +5,7 @@
 // file holds the same bytes, that a stop leaves of it what the trait says, and that nobody else writes it, no contract
 // can say: that is the premise under which what is proved of a device is true of the file. So that the premise is not
 // asked of a file that has told an error, each call after one is a fault until the file is opened again.
-ghost use Rattle.std.specs.Prelude.{◌≡◌, ◌↔◌, ◌+◌, ◌-◌, ◌^◌, ◌≤◌, min, [], IsTrue, IsOk, IsErr, IfOk, OnOk, OnErr, length};
+ghost use Rattle.std.specs.Prelude.{◌≡◌, ◌↔◌, ◌+◌, ◌-◌, ◌^◌, ◌≤◌, min, [], false, IsTrue, IsOk, IsErr, IfOk, OnOk, OnErr, length};
 ghost use Rattle.disk_model.specs.Disk.{IsPart, Puts, Unsyncs, synced, Elapses, HasCause, IsInReach};
 ghost use Rattle.disk_model.specs.Buffer as buffer;
 
@@ -173,7 +173,7 @@ fn fault(faults: &mut u64) -> DeviceFault
 }
 
 impl Device for FileDevice {
-    ghost use Rattle.disk_model.specs.FileDevice.{disk_of, count_of, past_count, left_since, has_failed};
+    ghost use Rattle.disk_model.specs.FileDevice.{disk_of, limit_of, count_of, past_count, left_since, has_failed};
     ghost use Rattle.disk_model.specs.Stretches.{same_now, still_now};
 
     ghost disk = { disk_of };
@@ -207,6 +207,7 @@ impl Device for FileDevice {
         ensures cause { HasCause (count_of self.old) (count_of self.new) result }
         ensures reach { IsInReach (off + length buf.old) 0 0 result }
         ensures within { OnOk result (off + length buf.old ≤ length (disk_of self.old).image) }
+        ensures works { has_failed self.old ≡ false → off + length buf.old ≤ length (disk_of self.old).image → IsOk result }
         ensures broken { IsTrue (has_failed self.old) → IsErr result × IsTrue (has_failed self.new) }
     {
         let within = ends_within(self.held.size(), off, buf.len());
@@ -222,6 +223,7 @@ impl Device for FileDevice {
         ensures time { Elapses (past_count self.old) (past_count self.new) (left_since self.old) (left_since self.new) (disk_of self.new) }
         ensures cause { HasCause (count_of self.old) (count_of self.new) result }
         ensures reach { IsInReach (off + length bytes.now) 0 0 result }
+        ensures breaks { OnErr result (off + length bytes.now ≤ limit_of self.old → IsTrue (has_failed self.new)) }
         ensures broken { IsTrue (has_failed self.old) → IsErr result × IsTrue (has_failed self.new) }
     {
         let held = self.held.write_at(off, bytes);
@@ -241,13 +243,11 @@ impl Device for FileDevice {
         ensures time { Elapses (past_count self.old) (past_count self.new) (left_since self.old) (left_since self.new) (disk_of self.new) }
         ensures cause { HasCause (count_of self.old) (count_of self.new) result }
         ensures reach { IsInReach 0 0 0 result }
+        ensures breaks { OnErr result (IsTrue (has_failed self.new)) }
         ensures broken { IsTrue (has_failed self.old) → IsErr result × IsTrue (has_failed self.new) }
     {
-        if self.has_failed || self.file.sync_data().is_err() {
+        if self.has_failed || self.file.sync_data().is_err() || self.held.sync().is_err() {
             self.has_failed = true;
-            return Err(fault(&mut self.faults));
-        }
-        if self.held.sync().is_err() {
             return Err(fault(&mut self.faults));
         }
         Ok(())
