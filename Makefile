@@ -1,5 +1,5 @@
-# run: an example, before any proof. test: the merge gate. ringctl, core_bench: the proved programs. bench: their times.
-.PHONY: run test ringctl core_bench bench clean
+# run: an example, before any proof. test: the merge gate. ringctl, core_bench, device_bench: the proved programs. bench: their times.
+.PHONY: run test ringctl core_bench device_bench bench clean
 
 run:
 	@bench/try.sh examples/first_election.ring
@@ -17,8 +17,13 @@ core_bench:
 	cd crates/core_bench && rt run < /dev/null
 	cp crates/core_bench/out/core_bench bin/core_bench
 
-bench: ringctl core_bench
-	@bench/measure.sh bin/ringctl bin/core_bench
+device_bench:
+	@mkdir -p bin
+	cd crates/device_bench && rt run < /dev/null
+	cp crates/device_bench/out/device_bench bin/device_bench
+
+bench: ringctl core_bench device_bench
+	@bench/measure.sh bin/ringctl bin/core_bench bin/device_bench
 
 clean:
 	rm -rf bin crates/*/out

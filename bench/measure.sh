@@ -1,9 +1,10 @@
 #!/usr/bin/env bash
-# measure.sh RINGCTL CORE_BENCH: times both programs on some work and on more of it, the best of fifteen runs each, and
-# prints the times, their ratios and what was counted. It asserts nothing.
+# measure.sh RINGCTL CORE_BENCH DEVICE_BENCH: times the programs on some work and on more of it, the best of fifteen runs
+# each, and prints the times, their ratios and what was counted. It asserts nothing.
 set -eu
 ringctl=$(realpath "$1")
 core_bench=$(realpath "$2")
+device_bench=$(realpath "$3")
 cd "$(dirname "$0")"
 work=$(mktemp -d)
 trap 'rm -rf "$work"' EXIT
@@ -44,3 +45,15 @@ for inputs in 0 10000 100000; do
 done
 awk -v start="$time_0" -v tenth="$time_10000" -v whole="$time_100000" \
     'BEGIN { printf "ten times the inputs: %.1f times as long, %.1f without the start of the program\n", whole / tenth, (whole - start) / (tenth - start) }'
+
+# Each time is less that of the same program with no writes, which fills the device.
+echo "device_bench, small writes, each with a sync:"
+for work_of in "1048576 10000" "1048576 500000" "1048576 1000000" "1024 1000000"; do
+    read -r bytes writes <<< "$work_of"
+    empty=$(best /dev/null "$work/counts" "$device_bench" "$bytes" 0)
+    whole=$(best /dev/null "$work/counts" "$device_bench" "$bytes" "$writes")
+    eval "time_${bytes}_$writes=$((whole - empty))"
+    awk -v ns=$((whole - empty)) '{ printf "%s: %.4f s\n", $0, ns / 1e9 }' "$work/counts"
+done
+awk -v half="$time_1048576_500000" -v whole="$time_1048576_1000000" -v small="$time_1024_1000000" \
+    'BEGIN { printf "twice the writes: %.2f times as long; a thousand times the bytes: %.2f times as long\n", whole / half, whole / small }'

@@ -1,0 +1,5 @@
+pub mod Ranges
+pub mod Images
+pub mod Shadows
+pub mod Moments
+pub mod Changed

@@ -1,0 +1,9 @@
+use Rattle.std.proofs.Common.{◌≡◌, ◌-◌}
+use Rattle.disk_model.specs.Buffer as buffer
+use Rattle.disk_model.proofs.file.load.Given as goal
+
+abbrev pub invariant-loop-at : goal.invariant-loop-at
+invariant-loop-at l = (buffer.disk_of l.held).stable ≡ (buffer.disk_of l.initial.held).stable
+
+abbrev pub decreases-loop-at : goal.decreases-loop-at
+decreases-loop-at l = l.len - l.at

@@ -1,0 +1,28 @@
+-- What a `FuseDevice` shows.
+use Rattle.std.specs.Prelude.{ℕ, ◌+◌, ◌-◌, ◌^◌, min, Bool, if◌then◌else◌}
+use Rattle.disk_model.specs.Fuse.{fails_at, is_idle}
+use Rattle.disk_model.specs.declared.fuse.FuseDevice.{FuseDevice}
+
+-- the device behind the fuse
+abbrev pub inner_of : {D : Type 0} → FuseDevice D → D
+inner_of device = device.inner
+
+-- whether the fuse blows at call number k from now, where the next has number 0
+abbrev pub will_fail : {D : Type 0} → FuseDevice D → ℕ → Bool
+will_fail device k = fails_at device.fuse k
+
+-- every call passes, and it was never armed
+abbrev pub is_idle_device : {D : Type 0} → FuseDevice D → Bool
+is_idle_device device = is_idle device.fuse
+
+-- how many calls its fuse has failed
+abbrev pub own_faults : {D : Type 0} → FuseDevice D → ℕ
+own_faults device = device.faults
+
+-- the failures of the device behind it and its own, as far as a `u64` counts
+abbrev pub count_of : {D : Type 0} → (D → ℕ) → FuseDevice D → ℕ
+count_of count device = min (count device.inner + device.faults) (2 ^ 64 - 1)
+
+-- the reach of the device behind it, while no call may fail
+abbrev pub reach_of : {D : Type 0} → (D → ℕ) → FuseDevice D → ℕ
+reach_of reach device = if is_idle device.fuse then reach device.inner else 0

@@ -1,0 +1,255 @@
+// A real file as a device.
+//
+// What is proved of it and what is a premise. A `FileDevice` keeps in memory what its file is to hold, and answers reads
+// from there. Each clause below, and each of the trait, speaks of this memory and is proved with no premise. That the
+// file holds the same bytes, that a stop leaves of it what the trait says, and that nobody else writes it, no contract
+// can say: that is the premise under which what is proved of a device is true of the file. So that the premise is not
+// asked of a file that has told an error, each call after one is a fault until the file is opened again.
+ghost use Rattle.std.specs.Prelude.{◌≡◌, ◌↔◌, ◌+◌, ◌-◌, ◌^◌, ◌≤◌, min, [], false, IsTrue, IsOk, IsErr, IfOk, OnOk, OnErr, length};
+ghost use Rattle.disk_model.specs.Disk.{IsPart, Puts, Unsyncs, synced, Elapses, HasCause, IsInReach};
+ghost use Rattle.disk_model.specs.Buffer as buffer;
+
+use crate::buffer::Buffer;
+use crate::{Device, DeviceFault};
+use std::alloc::{AllocError, Global};
+use std::fs::OpenOptions;
+use std::os::unix::fs::FileExt;
+use std::path::Path;
+use std::rt::Files;
+use std::{fs, io};
+
+#[cfg(test)]
+mod tests;
+
+/// How long a file may be that is a device, in bytes.
+pub const FILE_LIMIT: usize = (1 << 21) + (1 << 12);
+
+// How much of a file is read at once.
+const PIECE: usize = 1 << 12;
+
+/// Why a file was not opened.
+#[derive(Clone, Copy, Debug, PartialEq, Eq)]
+pub enum OpenFault {
+    /// The system refused it, or it is longer than `FILE_LIMIT`.
+    Device,
+    /// Want of memory.
+    Memory,
+}
+
+impl From<AllocError> for OpenFault {
+    ghost use Rattle.disk_model.specs.declared.file.OpenFault.TheVariants as open_fault;
+
+    ghost from_gives = { λ _ fault. fault ≡ open_fault.Memory };
+
+    fn from(_: AllocError) -> OpenFault {
+        OpenFault::Memory
+    }
+}
+
+impl From<io::Error> for OpenFault {
+    ghost use Rattle.disk_model.specs.declared.file.OpenFault.TheVariants as open_fault;
+
+    ghost from_gives = { λ _ fault. fault ≡ open_fault.Device };
+
+    fn from(_: io::Error) -> OpenFault {
+        OpenFault::Device
+    }
+}
+
+impl From<DeviceFault> for OpenFault {
+    ghost use Rattle.disk_model.specs.declared.file.OpenFault.TheVariants as open_fault;
+
+    ghost from_gives = { λ _ fault. fault ≡ open_fault.Device };
+
+    fn from(_: DeviceFault) -> OpenFault {
+        OpenFault::Device
+    }
+}
+
+/// A real file, of at most `FILE_LIMIT` bytes. A read or write that ends past that is a fault, and so is a read that ends
+/// past the file's end. After an error of the file each later call is a fault.
+#[derive(Drop)]
+pub struct FileDevice {
+    file: fs::File,
+    // What the file is to hold.
+    held: Buffer,
+    has_failed: bool,
+    faults: u64,
+}
+
+// Makes the entry of a new file in its folder outlive a stop.
+fn sync_folder<R: Files<File = fs::File>>(files: &R, path: &str) -> io::Result<()> {
+    let folder = match Path::new(path).parent() {
+        Some(folder) if folder.as_str() != "" => fs::File::open(files, folder)?,
+        _ => fs::File::open(files, ".")?,
+    };
+    folder.sync_all()
+}
+
+// Reads the file into the memory, in which nothing is stable then.
+fn load(file: &fs::File, held: &mut Buffer, len: usize) -> Result<(), OpenFault>
+    ensures stable { (buffer.disk_of held.new).stable ≡ (buffer.disk_of held.old).stable }
+{
+    let mut piece = [0; PIECE];
+    let mut at = 0;
+    while at < len {
+        let n = PIECE.min(len - at);
+        file.read_exact_at(&mut piece[..n], at as u64)?;
+        held.write_at(at as u64, &piece[..n])?;
+        at += n;
+    }
+    Ok(())
+}
+
+impl FileDevice {
+    ghost use Rattle.disk_model.specs.FileDevice.{disk_of, count_of, has_failed};
+
+    /// A new, empty file. Refused as `Device` where the system refuses it, as where there is a file of this name; a file
+    /// may have been made then.
+    pub fn create<R: Files<File = fs::File>>(
+        alloc: Global,
+        files: &R,
+        path: &str,
+    ) -> Result<FileDevice, OpenFault>
+        ensures empty { IfOk result (λ device. disk_of device ≡ record { image = []; stable = []; ranges = [] }) }
+        ensures count { IfOk result (λ device. count_of device ≡ 0) }
+    {
+        let held = Buffer::new(alloc, FILE_LIMIT)?;
+        let file = OpenOptions::new()
+            .read(true)
+            .write(true)
+            .create_new(true)
+            .open(files, path)?;
+        file.sync_all()?;
+        sync_folder(files, path)?;
+        Ok(FileDevice {
+            file,
+            held,
+            has_failed: false,
+            faults: 0,
+        })
+    }
+
+    /// A file that is there. What it holds is read now; nothing of it is known to be stable before the first sync.
+    /// Refused as `Device` where the system refuses it, or where it is too long.
+    pub fn open<R: Files<File = fs::File>>(
+        alloc: Global,
+        files: &R,
+        path: &str,
+    ) -> Result<FileDevice, OpenFault>
+        ensures stable { IfOk result (λ device. (disk_of device).stable ≡ []) }
+        ensures count { IfOk result (λ device. count_of device ≡ 0) }
+    {
+        let mut held = Buffer::new(alloc, FILE_LIMIT)?;
+        let file = OpenOptions::new().read(true).write(true).open(files, path)?;
+        let len = file.metadata()?.len();
+        if len > FILE_LIMIT as u64 {
+            return Err(OpenFault::Device);
+        }
+        load(&file, &mut held, len as usize)?;
+        Ok(FileDevice {
+            file,
+            held,
+            has_failed: false,
+            faults: 0,
+        })
+    }
+}
+
+// Whether a range ends within so many bytes.
+fn ends_within(size: u64, off: u64, len: usize) -> bool
+    ensures { IsTrue result ↔ (off + len ≤ size) }
+{
+    off <= size && len as u64 <= size - off
+}
+
+// Counts a fault.
+fn fault(faults: &mut u64) -> DeviceFault
+    ensures later { faults.old ≤ faults.new }
+    ensures rises { min (faults.old + 1) (2 ^ 64 - 1) ≤ faults.new }
+{
+    *faults = faults.saturating_add(1);
+    DeviceFault
+}
+
+impl Device for FileDevice {
+    ghost use Rattle.disk_model.specs.FileDevice.{disk_of, limit_of, count_of, past_count, left_since, has_failed};
+    ghost use Rattle.disk_model.specs.Stretches.{same_now, still_now};
+
+    ghost disk = { disk_of };
+
+    ghost clock = { past_count };
+
+    ghost left_since = { left_since };
+
+    ghost count = { count_of };
+
+    ghost reach = { λ device. 0 };
+
+    ghost may_stay = { λ device. device.held.torn };
+
+    ghost counts_now = { λ device t image le now. same_now device.held.history.past (disk_of device) t image now };
+
+    ghost only_now = { λ device image left. still_now device.held.history.past (disk_of device) image left };
+
+    fn size(&self) -> u64 {
+        self.held.size()
+    }
+
+    fn failures(&self) -> u64 {
+        self.faults
+    }
+
+    fn read_at(&mut self, off: u64, buf: &mut [u8]) -> Result<(), DeviceFault>
+        ensures read { OnOk result (IsPart off buf.new (disk_of self.old).image) }
+        ensures disk { disk_of self.new ≡ disk_of self.old }
+        ensures time { Elapses (past_count self.old) (past_count self.new) (left_since self.old) (left_since self.new) (disk_of self.new) }
+        ensures cause { HasCause (count_of self.old) (count_of self.new) result }
+        ensures reach { IsInReach (off + length buf.old) 0 0 result }
+        ensures within { OnOk result (off + length buf.old ≤ length (disk_of self.old).image) }
+        ensures works { has_failed self.old ≡ false → off + length buf.old ≤ length (disk_of self.old).image → IsOk result }
+        ensures broken { IsTrue (has_failed self.old) → IsErr result × IsTrue (has_failed self.new) }
+    {
+        let within = ends_within(self.held.size(), off, buf.len());
+        if self.has_failed || !within || self.held.read_at(off, buf).is_err() {
+            return Err(fault(&mut self.faults));
+        }
+        Ok(())
+    }
+
+    fn write_at(&mut self, off: u64, bytes: &[u8]) -> Result<(), DeviceFault>
+        ensures written { OnOk result (Puts off bytes.now (disk_of self.old).image (disk_of self.new).image) }
+        ensures disk { Unsyncs off (length bytes.now) (disk_of self.old) (disk_of self.new) }
+        ensures time { Elapses (past_count self.old) (past_count self.new) (left_since self.old) (left_since self.new) (disk_of self.new) }
+        ensures cause { HasCause (count_of self.old) (count_of self.new) result }
+        ensures reach { IsInReach (off + length bytes.now) 0 0 result }
+        ensures breaks { OnErr result (off + length bytes.now ≤ limit_of self.old → IsTrue (has_failed self.new)) }
+        ensures broken { IsTrue (has_failed self.old) → IsErr result × IsTrue (has_failed self.new) }
+    {
+        let held = self.held.write_at(off, bytes);
+        if self.has_failed || held.is_err() {
+            return Err(fault(&mut self.faults));
+        }
+        if self.file.write_all_at(bytes, off).is_err() {
+            self.has_failed = true;
+            return Err(fault(&mut self.faults));
+        }
+        Ok(())
+    }
+
+    fn sync(&mut self) -> Result<(), DeviceFault>
+        ensures synced { OnOk result (disk_of self.new ≡ synced (disk_of self.old)) }
+        ensures failed { OnErr result (disk_of self.new ≡ disk_of self.old) }
+        ensures time { Elapses (past_count self.old) (past_count self.new) (left_since self.old) (left_since self.new) (disk_of self.new) }
+        ensures cause { HasCause (count_of self.old) (count_of self.new) result }
+        ensures reach { IsInReach 0 0 0 result }
+        ensures breaks { OnErr result (IsTrue (has_failed self.new)) }
+        ensures broken { IsTrue (has_failed self.old) → IsErr result × IsTrue (has_failed self.new) }
+    {
+        if self.has_failed || self.file.sync_data().is_err() || self.held.sync().is_err() {
+            self.has_failed = true;
+            return Err(fault(&mut self.faults));
+        }
+        Ok(())
+    }
+}
