@@ -76,5 +76,8 @@ fn the_latest_is_of_the_greatest_term(rt: HostRuntime) -> Result<(), Refusal> {
     }
     assert_eq!(rt; table.who(&key(b"red", 8)?), Some(candidate(80, 3)?));
     assert_eq!(rt; table.stands(), 0);
+    let copy = table.try_copy().expect(&rt, "ample memory");
+    assert_eq!(rt; copy.who(&key(b"red", 8)?), Some(candidate(80, 3)?));
+    assert_eq!(rt; copy.latest(&red), table.latest(&red));
     Ok(())
 }
