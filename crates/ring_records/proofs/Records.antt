@@ -1,5 +1,5 @@
 -- Records: what is read is spelled so, what is spelled so is read again, and how long a spelling is.
-use Rattle.std.proofs.Common.{◌≡◌, ℕ, ◌+◌, ◌-◌, ◌^◌, ◌<◌, ◌≤◌, ◌⊎◌, Bool, true, false, cond, eqb, List, [], ◌∷◌, ◌++◌, length, take, drop, Result, Ok, Err, refl, sym, ap, subst, ◌∙◌, append_assoc, arith, inl, inr}
+use Rattle.std.proofs.Common.{◌≡◌, ℕ, ◌+◌, ◌-◌, ◌^◌, ◌<◌, ◌≤◌, ◌⊎◌, Bool, true, false, cond, eqb, List, [], ◌∷◌, ◌++◌, length, take, drop, Ok, Err, refl, sym, ap, subst, ◌∙◌, append_assoc, arith, inl, inr}
 use Rattle.std.specs.Int.{w32, w64, to_be_bytes}
 use Rattle.std.proofs.lemmas.Bool.{eqb-true}
 use Rattle.std.proofs.lemmas.List.{take_at as take_front, take-append-drop, length-append}
@@ -7,13 +7,11 @@ use Rattle.ring_records.specs.declared.candidate.Candidate.{Candidate}
 use Rattle.ring_records.specs.declared.input.Input.{Input}
 use Rattle.ring_records.specs.declared.input.Input.TheVariants.{Stand, Take, Acked}
 use Rattle.ring_records.specs.declared.key.Key.{Key}
-use Rattle.ring_records.specs.declared.msg.Msg.{Msg}
 use Rattle.ring_records.specs.declared.msg.Msg.TheVariants.{Token, Elected}
 use Rattle.ring_records.specs.declared.record.RecordFault.{RecordFault}
-use Rattle.ring_records.specs.declared.record.RecordFault.TheVariants.{Kind}
 use Rattle.ring_records.specs.Admission.{cost}
 use Rattle.ring_records.specs.Message.{key_of, candidate_of}
-use Rattle.ring_records.specs.Record.{AreBytes, IsKeyInRange, IsCandidateInRange, HasRecord, BeginsWith, Puts, key_bytes, candidate_bytes, take_kind, record_of, ◌>>=◌, byte_at, number_at, key_at, bid_at, candidate_at, stand_at, take_at, token_at, elected_at, acked_at, input_of, input_at, record_read}
+use Rattle.ring_records.specs.Record.{AreBytes, IsKeyInRange, IsCandidateInRange, HasRecord, BeginsWith, Puts, key_bytes, candidate_bytes, record_of, ◌>>=◌, number_at, key_at, bid_at, candidate_at, stand_at, take_at, token_at, elected_at, acked_at, input_of, input_at, record_read}
 use Rattle.ring_records.proofs.Fields.{bind_ok, as_ok, same_ok, Takes, Takes-then, wide_64, byte-found, number-found, number-again, bid-found, bid-again, key-found, key-again, candidate-found, candidate-again}
 
 -- ---- what stands behind the kind byte
