@@ -71,38 +71,58 @@ fn the_first_election_at_node_2(rt: HostRuntime) -> Result<(), Fail> {
 }
 
 #[test]
-fn credits_relays_and_tokens_that_come_home(rt: HostRuntime) -> Result<(), Fail> {
-    let (red, blue, next) = (key(b"red", 5)?, key(b"blue", 1)?, key(b"blue", 2)?);
+fn a_token_comes_home_once(rt: HostRuntime) -> Result<(), Fail> {
+    let red = key(b"red", 5)?;
     let (own, won) = (token(b"red", 5, 30, 2)?, elected(b"red", 5, 30, 2)?);
-    let (relayed, greater) = (token(b"blue", 1, 7, 1)?, token(b"red", 5, 40, 1)?);
-    let (told, stands) = (elected(b"blue", 1, 9, 3)?, token(b"blue", 2, 3, 2)?);
-    let equal = token(b"blue", 2, 3, 3)?;
+    let (greater, less) = (token(b"red", 5, 40, 1)?, token(b"red", 5, 29, 2)?);
+    let (stood, told) = (stand(b"red", 5, 30)?, elected(b"red", 5, 40, 1)?);
+    let leader = candidate(30, 2)?;
     let rows = [
-        (stand(b"red", 5, 30)?, Some((0, own)), None),
-        (take(0, relayed), Some((1, relayed)), None),
-        (Input::Acked { upto: 1 }, None, None),
-        (take(1, greater), Some((2, greater)), None),
-        (take(2, token(b"red", 5, 29, 2)?), None, None),
-        (take(3, own), Some((3, won)), Some(candidate(30, 2)?)),
-        (take(4, own), None, None),
-        (take(5, elected(b"red", 5, 40, 1)?), None, None),
-        (take(6, told), Some((4, told)), Some(candidate(9, 3)?)),
-        (take(7, elected(b"blue", 1, 7, 1)?), None, None),
-        (Input::Acked { upto: 4 }, None, None),
-        (stand(b"blue", 2, 3)?, Some((5, stands)), None),
-        (take(8, token(b"blue", 2, 3, 1)?), None, None),
-        (take(9, equal), Some((6, equal)), None),
-        (take(10, elected(b"blue", 2, 3, 2)?), None, None),
-        (Input::Acked { upto: 7 }, None, None),
-        (take(11, relayed), Some((7, relayed)), None),
+        (stood, Some((0, own)), None),
+        (take(0, greater), Some((1, greater)), None),
+        (take(1, less), None, None),
+        (take(2, own), Some((2, won)), Some(leader)),
+        (take(3, own), None, None),
+        (take(4, told), None, None),
     ];
-    let rig = follows(&rt, rt.alloc(), &[red, blue, next], &rows)?;
+    let rig = follows(&rt, rt.alloc(), &[red], &rows)?;
+    assert_eq!(rt; (rig.core.sent(), rig.core.taken()), (3, 5));
+    Ok(())
+}
+
+#[test]
+fn what_is_relayed_and_told_is_credited(rt: HostRuntime) -> Result<(), Fail> {
+    let blue = key(b"blue", 1)?;
+    let (relayed, told) = (token(b"blue", 1, 7, 1)?, elected(b"blue", 1, 9, 3)?);
+    let (later, leader) = (elected(b"blue", 1, 7, 1)?, candidate(9, 3)?);
+    let rows = [
+        (take(0, relayed), Some((0, relayed)), None),
+        (Input::Acked { upto: 1 }, None, None),
+        (take(1, told), Some((1, told)), Some(leader)),
+        (take(2, later), None, None),
+        (Input::Acked { upto: 2 }, None, None),
+        (take(3, relayed), Some((2, relayed)), None),
+    ];
+    let rig = follows(&rt, rt.alloc(), &[blue], &rows)?;
     assert_eq!(rt; rig.core.window(), [relayed].as_slice());
-    assert_eq!(rt; (rig.core.sent(), rig.core.taken()), (8, 12));
-    assert_eq!(rt; (rig.core.credit(), rig.core.stands()), (7, 2));
-    assert_eq!(rt;
-        rig.core.latest(&blue.group),
-        Some((blue.term, candidate(9, 3)?))
-    );
+    assert_eq!(rt; (rig.core.credit(), rig.core.stands()), (2, 0));
+    assert_eq!(rt; rig.core.latest(&blue.group), Some((blue.term, leader)));
+    Ok(())
+}
+
+#[test]
+fn equal_bids_go_by_the_node(rt: HostRuntime) -> Result<(), Fail> {
+    let blue = key(b"blue", 2)?;
+    let (stood, own) = (stand(b"blue", 2, 3)?, token(b"blue", 2, 3, 2)?);
+    let (less, greater) = (token(b"blue", 2, 3, 1)?, token(b"blue", 2, 3, 3)?);
+    let told = elected(b"blue", 2, 3, 2)?;
+    let rows = [
+        (stood, Some((0, own)), None),
+        (take(0, less), None, None),
+        (take(1, greater), Some((1, greater)), None),
+        (take(2, told), None, None),
+    ];
+    let rig = follows(&rt, rt.alloc(), &[blue], &rows)?;
+    assert_eq!(rt; rig.core.window(), [own, greater].as_slice());
     Ok(())
 }
