@@ -2,6 +2,7 @@ pub mod Admission
 pub mod Compare
 pub mod Counts
 pub mod Emission
+pub mod Fields
 pub mod Growth
 pub mod History
 pub mod Inputs
@@ -14,5 +15,7 @@ mod Names
 pub mod OneKey
 pub mod Parts
 pub mod Places
+pub mod Records
 pub mod Ring
 pub mod WorkedRun
+pub mod Written

@@ -9,6 +9,7 @@ pub mod Names
 pub mod Numbers
 pub mod Order
 pub mod Place
+pub mod Record
 pub mod Ring
 pub mod Texts
 pub mod WorkedRun

@@ -1,5 +1,5 @@
 //! Laws of the definitions: public functions with an empty body, whose contracts say what follows from `specs/` alone.
-ghost use Rattle.std.specs.Prelude.{◌≡◌, ◌↔◌, ◌≤◌, ◌+◌, ◌||◌, ℕ, true, false, if◌then◌else◌, List, [], ◌∷◌, ◌++◌, Some, None, slice_get, unwrap_or};
+ghost use Rattle.std.specs.Prelude.{◌≡◌, ◌↔◌, ◌≤◌, ◌+◌, ◌||◌, ℕ, true, false, if◌then◌else◌, List, [], ◌∷◌, ◌++◌, Some, None, slice_get, unwrap_or, length, Ok};
 ghost use Rattle.std.specs.List.{cons_option};
 ghost use Rattle.ring_records.specs.declared.candidate.Candidate.{Candidate};
 ghost use Rattle.ring_records.specs.declared.input.Input.{Input};
@@ -10,6 +10,7 @@ ghost use Rattle.ring_records.specs.Emission.{emit, sent};
 ghost use Rattle.ring_records.specs.History.{names, touched, bid_for, stood, message_of, taken, upto_of, credit, is_stand, stands};
 ghost use Rattle.ring_records.specs.Leader.{makes_leader, leader, latest};
 ghost use Rattle.ring_records.specs.Lists.{or_else};
+ghost use Rattle.ring_records.specs.Record.{AreBytes, HasRecord, BeginsWith, record_of, record_read};
 ghost use Rattle.ring_records.specs.Ring.{IsLegal, part};
 ghost use Rattle.ring_records.specs.WorkedRun.{red_5, winner, first_election};
 
@@ -65,4 +66,13 @@ pub fn worked_run()
     ensures node_1 { leader 1 (part first_election 1) red_5 ≡ Some winner }
     ensures node_2 { leader 2 (part first_election 2) red_5 ≡ Some winner }
     ensures node_3 { leader 3 (part first_election 3) red_5 ≡ Some winner }
+{}
+
+/// Records: what is spelled is read again, whatever follows it, and what is read stands there spelled. So no record
+/// begins with another one. An input costs its record's bytes and 7.
+pub fn records()
+    ensures again { (x : Input) (rest : List ℕ) → HasRecord x → record_read (record_of x ++ rest) ≡ Ok (x, length (record_of x)) }
+    ensures found { (bytes : List ℕ) (x : Input) (n : ℕ) → AreBytes bytes → record_read bytes ≡ Ok (x, n) → BeginsWith bytes x n }
+    ensures apart { (x y : Input) (r s : List ℕ) → HasRecord x → HasRecord y → record_of x ++ r ≡ record_of y ++ s → x ≡ y }
+    ensures cost { (x : Input) → cost x ≡ length (record_of x) + 7 }
 {}
