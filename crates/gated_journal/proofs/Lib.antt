@@ -1,1 +1,5 @@
+pub mod Behind
+pub mod Kept
+pub mod Results
+pub mod Spelled
 pub mod Unique

@@ -1,2 +1,4 @@
+pub mod Batch
 pub mod Frames
+pub mod Props
 pub mod Reading
