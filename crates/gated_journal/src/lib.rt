@@ -3,9 +3,11 @@
 
 mod batch;
 mod commit;
+mod journal;
 pub mod laws;
 mod spell;
 mod spent;
 
 pub use batch::Batch;
+pub use journal::Journal;
 pub use spent::{Receipt, Spoiled};
