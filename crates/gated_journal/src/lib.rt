@@ -11,3 +11,6 @@ mod spent;
 pub use batch::Batch;
 pub use journal::Journal;
 pub use spent::{Receipt, Spoiled};
+
+#[cfg(test)]
+mod tests;
