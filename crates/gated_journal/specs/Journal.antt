@@ -1,0 +1,23 @@
+-- What a journal shows.
+use Rattle.std.specs.Prelude.{ℕ, ◌-◌, Bool}
+use Rattle.disk_model.specs.declared.device.Device.{Ghosts}
+use Rattle.gated_journal.specs.Reading.{Header, header_with}
+use Rattle.gated_journal.specs.declared.journal.Journal.{Journal}
+
+module _ {D : Type 0} {g : Ghosts D} where
+  abbrev pub device_of : Journal D g → D
+  device_of journal = journal.device
+
+  abbrev pub header_of : Journal D g → Header
+  header_of journal = header_with journal.node journal.n journal.capacity
+
+  -- how many inputs it holds
+  abbrev pub len_of : Journal D g → ℕ
+  len_of journal = journal.count
+
+  -- how many bytes of the capacity are left
+  abbrev pub room_of : Journal D g → ℕ
+  room_of journal = journal.capacity - journal.used
+
+  abbrev pub is_spoiled : Journal D g → Bool
+  is_spoiled journal = journal.is_spoiled

@@ -1,0 +1,5 @@
+pub mod Batch
+pub mod Frames
+pub mod Journal
+pub mod Props
+pub mod Reading

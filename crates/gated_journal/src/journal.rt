@@ -1,0 +1,193 @@
+ghost use Rattle.std.specs.Prelude.{◌≡◌, ◌+◌, ◌++◌, ◌-◌, ◌<◌, ◌≤◌, ◌^◌, ℕ, List, [], true, false, length, min, is_err, IfOk, IfErr, OnOk, IsOk};
+ghost use Rattle.disk_model.specs.Disk.{LeavesOnly, HasCause};
+ghost use Rattle.ring_records.specs.declared.input.Input.{Input};
+ghost use Rattle.ring_records.specs.Admission.{fresh, used};
+ghost use Rattle.gated_journal.specs.Reading.{header_with, is_header, new_image, IsAtRest, AllReadAs, ReadsAsOneOf};
+
+use crate::commit::append;
+use crate::{Batch, Receipt, Spoiled};
+use disk_model::{Device, write_through};
+use ring_records::{NodeNo, Refusal};
+
+/// The durable inputs of one node, on a device of its own.
+#[derive(Drop)]
+pub struct Journal<D: Device> {
+    pub(crate) device: D,
+    node: NodeNo,
+    n: u8,
+    capacity: u32,
+    // where the closed gate is
+    place: u64,
+    count: u64,
+    used: u64,
+    is_spoiled: bool,
+    ghost settled: { is_spoiled ≡ false → IsAtRest (header_with node n capacity) (D.disk device) place count used },
+    ghost from: { 16 ≤ place },
+    ghost within: { place ≤ 16 + used },
+    ghost counted: { count ≤ used },
+    ghost small: { capacity ≤ 1048576 },
+}
+
+fn is_header(node: NodeNo, n: u8, capacity: u32) -> bool
+    ensures { result ≡ is_header (header_with node n capacity) }
+{
+    2 <= n && n <= 16 && node.number() <= n && 4096 <= capacity && capacity <= 1_048_576
+}
+
+// A header, and a closed gate.
+fn new_image(node: NodeNo, n: u8, capacity: u32) -> [u8; 17]
+    ensures { result ≡ new_image (header_with node n capacity) }
+{
+    let c = capacity.to_be_bytes();
+    let node = node.number();
+    [
+        b'C', b'R', b'J', b'R', b'N', b'L', b'0', b'1', node, n, c[0], c[1], c[2], c[3], 0, 0, 0,
+    ]
+}
+
+impl<D: Device> Journal<D> {
+    ghost use Rattle.gated_journal.specs.Batch.{shown, landed, lost};
+    ghost use Rattle.gated_journal.specs.Journal.{device_of, header_of, len_of, room_of, is_spoiled};
+
+    /// An empty journal: one write and one sync. Refused as 2 where `n` is not 2 to 16, `node` is above it, or the
+    /// capacity is not 4,096 to 1,048,576 bytes, and as 15.
+    pub fn format(device: D, node: NodeNo, n: u8, capacity: u32) -> Result<Journal<D>, (D, Refusal)>
+        ensures empty { IfOk result (λ journal. AllReadAs (header_with node n capacity) (D.disk (device_of journal)) []) }
+        ensures header { IfOk result (λ journal. header_of journal ≡ header_with node n capacity) }
+        ensures ready { IfOk result (λ journal. is_spoiled journal ≡ false) }
+        ensures len { IfOk result (λ journal. len_of journal ≡ 0) }
+        ensures room { IfOk result (λ journal. room_of journal ≡ capacity) }
+        ensures range { OnOk result (is_header (header_with node n capacity) ≡ true) }
+
+        // Refused as 2, the device is as it was; as 15, the device failed.
+        ensures number { IfErr result (λ e. is_header (header_with node n capacity) ≡ false → (e.1 ≡ Refusal.BadNumber) × (e.0 ≡ device)) }
+        ensures fault { IfErr result (λ e. is_header (header_with node n capacity) ≡ true → (e.1 ≡ Refusal.Device (D.count e.0)) × (min (D.count device + 1) (2 ^ 64 - 1) ≤ D.count e.0)) }
+        ensures works { is_header (header_with node n capacity) ≡ true → 0 < D.reach device → 17 ≤ D.reach device → IsOk result }
+        ensures reach { IfOk result (λ journal. D.reach (device_of journal) ≡ D.reach device) }
+    {
+        if !is_header(node, n, capacity) {
+            return Err((device, Refusal::BadNumber));
+        }
+        let mut device = device;
+        match write_through(&mut device, 0, &new_image(node, n, capacity)) {
+            Ok(()) => Ok(Journal {
+                device,
+                node,
+                n,
+                capacity,
+                place: 16,
+                count: 0,
+                used: 0,
+                is_spoiled: false,
+            }),
+            Err(_) => {
+                let failures = device.failures();
+                Err((device, Refusal::Device(failures)))
+            }
+        }
+    }
+
+    /// The node whose inputs it holds.
+    pub fn node(&self) -> NodeNo
+        ensures { result ≡ (header_of self.now).node }
+    {
+        self.node
+    }
+
+    /// The bytes that its inputs may take by their costs, 4,096 to 1,048,576.
+    pub fn capacity(&self) -> u32
+        ensures { result ≡ (header_of self.now).capacity }
+    {
+        self.capacity
+    }
+
+    /// How many inputs it holds.
+    pub fn len(&self) -> u64
+        ensures value { result ≡ len_of self.now }
+    {
+        self.count
+    }
+
+    /// How many bytes of the capacity are left.
+    pub fn room(&self) -> u32
+        ensures value { result ≡ room_of self.now }
+    {
+        u64::from(self.capacity).saturating_sub(self.used) as u32
+    }
+
+    /// Whether the device has failed in a `commit`: then it may hold that batch or not, and nothing more is committed.
+    pub fn is_spoiled(&self) -> bool
+        ensures { result ≡ is_spoiled self.now }
+    {
+        self.is_spoiled
+    }
+
+    /// Ends the journal, and gives its device.
+    pub fn into_device(self) -> D
+        ensures { result ≡ device_of self }
+    {
+        let Journal {
+            device,
+            node: _,
+            n: _,
+            capacity: _,
+            place: _,
+            count: _,
+            used: _,
+            is_spoiled: _,
+        } = self;
+        device
+    }
+
+    /// Makes a batch durable, whole, by four device calls. At `Err` the device failed, and the journal is spoiled.
+    pub fn commit(&mut self, batch: Batch) -> Result<Receipt, Spoiled>
+        requires ready { is_spoiled self.old ≡ false }
+        requires node { (shown batch).node ≡ (header_of self.old).node }
+        requires first { (shown batch).first ≡ len_of self.old }
+        requires room { used fresh (shown batch).inputs ≤ room_of self.old }
+
+        // A stop at any moment of the call leaves the inputs from before it, with the whole batch or without.
+        ensures any_moment { (inputs : List Input) → AllReadAs (header_of self.old) (D.disk (device_of self.old)) inputs
+            → LeavesOnly D.clock D.left_since (device_of self.old) (device_of self.new) (ReadsAsOneOf (header_of self.old) inputs (inputs ++ (shown batch).inputs)) }
+
+        // At `Ok` the batch is durable.
+        ensures durable { OnOk result ((inputs : List Input) → AllReadAs (header_of self.old) (D.disk (device_of self.old)) inputs
+            → AllReadAs (header_of self.old) (D.disk (device_of self.new)) (inputs ++ (shown batch).inputs)) }
+        ensures spoils { is_spoiled self.new ≡ is_err result }
+        ensures cause { HasCause (D.count (device_of self.old)) (D.count (device_of self.new)) result }
+        ensures works { 0 < D.reach (device_of self.old) → 17 + (header_of self.old).capacity ≤ D.reach (device_of self.old) → IsOk result }
+        ensures reach { D.reach (device_of self.new) ≡ D.reach (device_of self.old) }
+        ensures receipt { IfOk result (λ receipt. landed receipt ≡ shown batch) }
+        ensures spoiled { IfErr result (λ spoiled. lost spoiled ≡ shown batch) }
+        ensures header { header_of self.new ≡ header_of self.old }
+        ensures len { OnOk result (len_of self.new ≡ len_of self.old + length (shown batch).inputs) }
+        ensures left { OnOk result (room_of self.new ≡ room_of self.old - used fresh (shown batch).inputs) }
+    {
+        let Batch {
+            node,
+            first,
+            inputs,
+            cost,
+            bytes,
+        } = batch;
+        self.is_spoiled = true;
+        match append(&mut self.device, self.place, &bytes) {
+            Ok(()) => {
+                self.place += bytes.len() as u64;
+                self.count += inputs.len() as u64;
+                self.used += u64::from(cost);
+                self.is_spoiled = false;
+                Ok(Receipt {
+                    node,
+                    first,
+                    inputs,
+                })
+            }
+            Err(_) => Err(Spoiled {
+                node,
+                first,
+                inputs,
+            }),
+        }
+    }
+}

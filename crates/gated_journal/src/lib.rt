@@ -1,0 +1,16 @@
+//! A journal of frames, each behind a gate that is opened once the frame is stable.
+#![tactic(auto)]
+
+mod batch;
+mod commit;
+mod journal;
+pub mod laws;
+mod spell;
+mod spent;
+
+pub use batch::Batch;
+pub use journal::Journal;
+pub use spent::{Receipt, Spoiled};
+
+#[cfg(test)]
+mod tests;
