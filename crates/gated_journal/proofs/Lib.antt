@@ -1,6 +1,11 @@
 pub mod Behind
+pub mod Frame
+pub mod Head
+pub mod Heads
 pub mod Kept
 pub mod Rest
 pub mod Results
+pub mod Shift
 pub mod Spelled
+pub mod Taken
 pub mod Unique

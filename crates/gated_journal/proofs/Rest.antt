@@ -1,5 +1,5 @@
 -- A journal at rest, and one batch more.
-use Rattle.std.proofs.Common.{◌≡◌, inl, inr, ⊎_elim, ℕ, ◌+◌, ◌*◌, ◌<◌, ◌≤◌, List, [], ◌∷◌, ◌++◌, length, take, drop, get_or, leb, ◌&&◌, zero-add, true, refl, sym, ◌∙◌, ap, subst, arith, length-append, length-take}
+use Rattle.std.proofs.Common.{◌≡◌, inl, inr, ⊎_elim, ℕ, ◌+◌, ◌*◌, ◌<◌, ◌≤◌, List, [], ◌∷◌, ◌++◌, length, take, drop, take-append-drop, get_or, leb, ◌&&◌, zero-add, true, refl, sym, ◌∙◌, ap, subst, arith, length-append, length-take}
 use Rattle.std.proofs.lemmas.Bool.{and_parts, leb-true}
 use Rattle.std.proofs.lemmas.List.{drop_more, ext_get_or, get_or-take}
 use Rattle.std.proofs.lemmas.List.Sums.{sum_by-append}
@@ -10,7 +10,8 @@ use Rattle.disk_model.proofs.Ranges.{synced_only}
 use Rattle.ring_records.specs.declared.input.Input.{Input}
 use Rattle.ring_records.specs.Admission.{fresh, used, cost}
 use Rattle.ring_records.specs.Record.{record_of}
-use Rattle.ring_records.proofs.Records.{cost-record}
+use Rattle.ring_records.proofs.LookBack.{IsItem, take-item}
+use Rattle.ring_records.proofs.Records.{cost-record, record-long}
 use Rattle.gated_journal.specs.Frames.{records, body, frames, joined, AreBatches, IsFrame, ReadsTo, Appends}
 use Rattle.gated_journal.specs.Reading.{Header, HasHeader, ReadsAt, IsAtRest, AllReadAs, ReadsAsOneOf, new_image, is_header}
 use Rattle.gated_journal.proofs.Behind.{inside}
@@ -41,6 +42,23 @@ frames-within [] sized = omega arith
 frames-within (b ∷ batches) sized =
     let some : 1 ≤ length b = sized.0.some in
     omega (arith, frames-within batches sized.1, used-joined b (joined batches), used-parts b, length-append (body b) (frames batches), length-body b, some)
+
+-- records are longer than what a frame adds to them, so the sum of the costs is less than twice the bytes
+records-long : (inputs : List Input) → 7 * length inputs ≤ length (records inputs)
+records-long [] = omega arith
+records-long (x ∷ inputs) = omega (arith, record-long x, records-long inputs, length-append (record_of x) (records inputs))
+
+pub used-bound : (batches : List (List Input)) → used fresh (joined batches) ≤ 2 * length (frames batches)
+unfolding used
+used-bound [] = omega arith
+used-bound (b ∷ batches) = omega (arith, used-bound batches, used-joined b (joined batches), used-parts b, records-long b, length-append (body b) (frames batches), length-body b)
+
+-- the first inputs take no more than all of them
+pub used-item : (inputs : List Input) (i : ℕ) (x : Input) → IsItem inputs i x → (used fresh (take (i + 1) inputs) ≡ used fresh (take i inputs) + cost x) × (used fresh (take (i + 1) inputs) ≤ used fresh inputs)
+used-item inputs i x here =
+    let more = ap (used fresh) (take-item inputs i x here) ∙ used-joined (take i inputs) (x ∷ []) in
+    let whole = ap (used fresh) (sym (take-append-drop (i + 1) inputs)) ∙ used-joined (take (i + 1) inputs) (drop (i + 1) inputs) in
+    (omega (arith, more, used-one x), omega (arith, whole))
 
 -- ---- a new journal
 
@@ -142,3 +160,23 @@ in_range header is =
     let d = and_parts (leb header.node header.n) capacity b.1 in
     let e = and_parts (leb 4096 header.capacity) (leb header.capacity 1048576) d.1 in
     (leb-true 4096 header.capacity e.0, leb-true header.capacity 1048576 e.1)
+
+-- ---- a journal that is opened
+
+-- what its numbers keep to
+pub record Opens (inputs : List Input) (place : ℕ) : Type 0 where
+  pub from : 16 ≤ place
+  pub within : place ≤ 16 + used fresh inputs
+  pub counted : length inputs ≤ used fresh inputs
+  pub bound : used fresh inputs + 32 ≤ 2 * place
+
+pub opens : (header : Header) (image : List ℕ) (inputs : List Input) (place : ℕ) → ReadsAt header image inputs place → Opens inputs place
+opens header image inputs place read =
+    let r = read.frames in
+    let same = ap (used fresh) r.same in
+    record {
+      from = omega (arith, r.ends);
+      within = omega (arith, r.ends, same, frames-within r.batches r.sized);
+      counted = omega (arith, used-parts inputs);
+      bound = omega (arith, r.ends, same, used-bound r.batches);
+    }

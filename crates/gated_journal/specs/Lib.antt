@@ -3,3 +3,5 @@ pub mod Frames
 pub mod Journal
 pub mod Props
 pub mod Reading
+pub mod Scan
+pub mod Unread

@@ -1,13 +1,17 @@
-ghost use Rattle.std.specs.Prelude.{◌≡◌, ◌+◌, ◌++◌, ◌-◌, ◌<◌, ◌≤◌, ◌^◌, ℕ, List, [], true, false, length, min, is_err, IfOk, IfErr, OnOk, IsOk};
-ghost use Rattle.disk_model.specs.Disk.{LeavesOnly, HasCause};
+ghost use Rattle.std.specs.Prelude.{◌≡◌, ◌+◌, ◌++◌, ◌-◌, ◌⊎◌, ◌<◌, ◌≤◌, ◌^◌, ℕ, List, [], true, false, length, min, is_err, IfOk, IfErr, OnOk, IsOk};
+ghost use Rattle.disk_model.specs.Disk.{MayLeave, LeavesOnly, HasCause};
 ghost use Rattle.ring_records.specs.declared.input.Input.{Input};
 ghost use Rattle.ring_records.specs.Admission.{fresh, used};
-ghost use Rattle.gated_journal.specs.Reading.{header_with, is_header, new_image, IsAtRest, AllReadAs, ReadsAsOneOf};
+ghost use Rattle.gated_journal.specs.Reading.{header_with, is_header, new_image, IsAtRest, ReadsAs, AllReadAs, ReadsAsOneOf};
+ghost use Rattle.gated_journal.specs.Unread.{IsUnread, IsUnopened};
 
 use crate::commit::append;
+use crate::open::{Opened, open};
+use crate::spell::used_of;
 use crate::{Batch, Receipt, Spoiled};
-use disk_model::{Device, write_through};
-use ring_records::{NodeNo, Refusal};
+use disk_model::{Device, FuseDevice, write_through};
+use ring_records::{Input, NodeNo, Refusal};
+use std::alloc::Global;
 
 /// The durable inputs of one node, on a device of its own.
 #[derive(Drop)]
@@ -83,6 +87,56 @@ impl<D: Device> Journal<D> {
             Err(_) => {
                 let failures = device.failures();
                 Err((device, Refusal::Device(failures)))
+            }
+        }
+    }
+
+    /// The journal that a device holds, which it makes stable first, and its inputs. What was committed is there, and of
+    /// a batch that a stop came upon all or nothing. Refused as 15; as 17 where there is no header; as 19 where it names
+    /// another node or ring size; as 16 with the offset of what is damaged; and as 8.
+    pub fn reopen(
+        alloc: Global,
+        device: D,
+        node: NodeNo,
+        n: u8,
+    ) -> Result<(Journal<D>, Vec<Input>), (D, Refusal)>
+        // What is read stood there at the start, and stands in every image that a stop may leave afterwards.
+        ensures reads { IfOk result (λ r. ReadsAs (header_of r.0) (D.disk device).image r.1.items) }
+        ensures durable { IfOk result (λ r. AllReadAs (header_of r.0) (D.disk (device_of r.0)) r.1.items) }
+        ensures header { IfOk result (λ r. ((header_of r.0).node ≡ node) × ((header_of r.0).n ≡ n)) }
+        ensures ready { IfOk result (λ r. is_spoiled r.0 ≡ false) }
+        ensures len { IfOk result (λ r. len_of r.0 ≡ length r.1.items) }
+        ensures room { IfOk result (λ r. room_of r.0 ≡ (header_of r.0).capacity - used fresh r.1.items) }
+
+        // A refusal has its cause. While the device works it is the image's, or want of memory.
+        ensures refusal { IfErr result (λ e. IsUnopened node n (D.count device) (D.count e.0) (D.disk device).image e.1) }
+        ensures works { 0 < D.reach device → length (D.disk device).image ≤ D.reach device → IfErr result (λ e. (e.1 ≡ Refusal.OutOfMemory) ⊎ IsUnread node n (D.disk device).image e.1) }
+
+        // A stop at any moment leaves what it might have left at the start.
+        ensures any_moment { IfOk result (λ r. LeavesOnly D.clock D.left_since device (device_of r.0) (MayLeave (D.disk device))) }
+        ensures any_moment_err { IfErr result (λ e. LeavesOnly D.clock D.left_since device e.0 (MayLeave (D.disk device))) }
+        ensures reach { IfOk result (λ r. D.reach (device_of r.0) ≡ D.reach device) }
+        ensures reach_err { IfErr result (λ e. D.reach e.0 ≡ D.reach device) }
+    {
+        let mut device = device;
+        match open(alloc, &mut device, node, n) {
+            Err(refusal) => Err((device, refusal)),
+            Ok(Opened {
+                capacity,
+                inputs,
+                place,
+            }) => {
+                let journal = Journal {
+                    device,
+                    node,
+                    n,
+                    capacity,
+                    place,
+                    count: inputs.len() as u64,
+                    used: used_of(&inputs),
+                    is_spoiled: false,
+                };
+                Ok((journal, inputs))
             }
         }
     }
@@ -189,5 +243,25 @@ impl<D: Device> Journal<D> {
                 inputs,
             }),
         }
+    }
+}
+
+impl<D: Device> Journal<FuseDevice<D>> {
+    ghost use Rattle.disk_model.specs.Fuse.{planned};
+    ghost use Rattle.disk_model.specs.FuseDevice.{inner_of, will_fail, own_faults};
+    ghost use Rattle.gated_journal.specs.Journal.{device_of, header_of, len_of, room_of, is_spoiled};
+
+    /// Sets the device's fuse anew: from now on `after` of its calls pass, and then the next fails if `once`, else all
+    /// later ones.
+    pub fn arm(&mut self, after: u64, once: bool)
+        ensures fuse { (k : ℕ) → will_fail (device_of self.new) k ≡ planned after once k }
+        ensures inner { inner_of (device_of self.new) ≡ inner_of (device_of self.old) }
+        ensures faults { own_faults (device_of self.new) ≡ own_faults (device_of self.old) }
+        ensures header { header_of self.new ≡ header_of self.old }
+        ensures len { len_of self.new ≡ len_of self.old }
+        ensures room { room_of self.new ≡ room_of self.old }
+        ensures spoiled { is_spoiled self.new ≡ is_spoiled self.old }
+    {
+        self.device.arm(after, once);
     }
 }

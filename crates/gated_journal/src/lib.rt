@@ -4,6 +4,8 @@
 mod batch;
 mod commit;
 mod journal;
+mod open;
+mod scan;
 pub mod laws;
 mod spell;
 mod spent;

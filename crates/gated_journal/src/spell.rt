@@ -1,5 +1,5 @@
 //! A frame's bytes.
-ghost use Rattle.std.specs.Prelude.{◌≡◌, ◌≤◌, ◌+◌, ◌*◌, ◌++◌, ◌∷◌, [], length, IfOk, OnOk};
+ghost use Rattle.std.specs.Prelude.{◌≡◌, ◌≤◌, ◌+◌, ◌*◌, ◌^◌, ◌<◌, ◌++◌, ◌∷◌, [], length, IfOk, OnOk};
 ghost use Rattle.ring_records.specs.Admission.{fresh, used};
 ghost use Rattle.ring_records.specs.Record.{AreBytes, HasRecord, record_of};
 ghost use Rattle.gated_journal.specs.Frames.{IsFrame, records};
@@ -19,6 +19,18 @@ pub(crate) fn cost_of(inputs: &[Input]) -> u32
         cost += input.cost();
     }
     cost
+}
+
+/// The bytes of a capacity that a whole journal's inputs take.
+pub(crate) fn used_of(inputs: &[Input]) -> u64
+    requires { used fresh inputs.now < 2 ^ 64 }
+    ensures { result ≡ used fresh inputs.now }
+{
+    let mut used = 0;
+    for input in inputs {
+        used += u64::from(input.cost());
+    }
+    used
 }
 
 fn push_text(bytes: &mut Vec<u8>, text: &[u8]) -> Result<(), AllocError>

@@ -1,0 +1,63 @@
+-- Why an image does not read: the first fault, from the header on.
+use Rattle.std.specs.Prelude.{◌≡◌, ◌⊎◌, ◌+◌, ◌-◌, ◌==◌, ◌&&◌, not, min, ◌^◌, ◌≤◌, ℕ, nat_lt, nat_le, if◌then◌else◌, List, [], ◌∷◌, ◌++◌, length, take, drop, slice_index, Result, Ok, Err}
+use Rattle.std.specs.Str.{bytes_eq}
+use Rattle.ring_records.specs.declared.input.Input.{Input}
+use Rattle.ring_records.specs.declared.refusal.Refusal.{Refusal}
+use Rattle.ring_records.specs.declared.refusal.Refusal.TheVariants.{NotFormatted, WrongNode, Damaged, OutOfMemory, Device}
+use Rattle.gated_journal.specs.Frames.{body, frames, joined, IsBatch, AreBatches}
+use Rattle.gated_journal.specs.Reading.{number_at, mark}
+
+-- ---- the header
+
+-- the capacity that the first 16 bytes name, for this node of a ring of n
+abbrev pub head_at : ℕ → ℕ → List ℕ → Result ℕ Refusal
+head_at node n head =
+    if not (bytes_eq (take 8 head) mark) then Err NotFormatted
+    else (if not (slice_index head 8 == node && slice_index head 9 == n) then Err WrongNode
+    else (if not (nat_le 4096 (number_at 4 10 head) && nat_le (number_at 4 10 head) 1048576) then Err (Damaged 10)
+    else (if not (number_at 2 14 head == 0) then Err (Damaged 14)
+    else Ok (number_at 4 10 head))))
+
+abbrev pub header_at : ℕ → ℕ → List ℕ → Result ℕ Refusal
+header_at node n image = if nat_lt (length image) 17 then Err NotFormatted else head_at node n image
+
+-- ---- the frames
+
+-- from this offset on there are frames of these inputs, up to this place
+pub record ReadsUpTo (offset : ℕ) (image : List ℕ) (inputs : List Input) (place : ℕ) : Type 0 where
+  pub batches : List (List Input)
+  pub whole : drop offset image ≡ frames batches ++ drop place image
+  pub sized : AreBatches batches
+  pub same : inputs ≡ joined batches
+  pub ends : place ≡ offset + length (frames batches)
+
+-- no frame stands at the head of these bytes
+abbrev pub NoFrame : List ℕ → Type 0
+NoFrame tail = (batch : List Input) (rest : List ℕ) → IsBatch batch → tail ≡ body batch ++ rest → ⊥
+
+-- There are frames up to this place, and at it no byte, or an open gate with no frame behind it.
+pub record IsDamagedAt (offset : ℕ) (image : List ℕ) (place : ℕ) : Type 0 where
+  pub inputs : List Input
+  pub up_to : ReadsUpTo offset image inputs place
+  pub broken : (drop place image ≡ []) ⊎ ((tail : List ℕ) × ((drop place image ≡ 1 ∷ tail) × NoFrame tail))
+
+-- the refusal says where they are damaged
+pub record IsBroken (offset : ℕ) (image : List ℕ) (refusal : Refusal) : Type 0 where
+  pub place : ℕ
+  pub is : refusal ≡ Damaged place
+  pub damaged : IsDamagedAt offset image place
+
+-- ---- both
+
+-- the header has this fault, or it has none and the frames have it
+pub record IsUnread (node n : ℕ) (image : List ℕ) (refusal : Refusal) : Type 0 where
+  pub cause : (header_at node n image ≡ Err refusal) ⊎ ((capacity : ℕ) × (header_at node n image ≡ Ok capacity) × IsBroken 16 image refusal)
+
+-- the device failed: its count of failures rose to what the refusal says
+pub record IsFault (before now : ℕ) (refusal : Refusal) : Type 0 where
+  pub is : refusal ≡ Device now
+  pub rises : min (before + 1) (2 ^ 64 - 1) ≤ now
+
+-- why a journal is not opened: the device failed, a growth was refused, or the image does not read
+pub record IsUnopened (node n before now : ℕ) (image : List ℕ) (refusal : Refusal) : Type 0 where
+  pub cause : IsFault before now refusal ⊎ ((refusal ≡ OutOfMemory) ⊎ IsUnread node n image refusal)

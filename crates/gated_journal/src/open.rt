@@ -1,0 +1,152 @@
+//! What a device holds, read from its start.
+ghost use Rattle.std.specs.Prelude.{◌≡◌, ◌+◌, ◌≤◌, ◌<◌, ◌^◌, ◌⊎◌, ℕ, List, Ok, Err, length, IfOk, IfErr, OnOk};
+ghost use Rattle.disk_model.specs.Disk.{MayLeave, IsSynced, IsPart, LeavesOnly, IsInReach};
+ghost use Rattle.ring_records.specs.declared.refusal.Refusal.TheVariants.{OutOfMemory};
+ghost use Rattle.gated_journal.specs.Frames.{ReadsTo};
+ghost use Rattle.gated_journal.specs.Reading.{header_with, ReadsAt};
+ghost use Rattle.gated_journal.specs.Unread.{head_at, header_at, IsFault, IsBroken, IsUnread, IsUnopened};
+
+use crate::scan::{Unread, scan};
+use disk_model::Device;
+use ring_records::{Input, NodeNo, Refusal};
+use std::alloc::{AllocFailed, Global};
+
+/// What a journal is opened with.
+#[derive(Drop)]
+pub(crate) struct Opened {
+    pub(crate) capacity: u32,
+    pub(crate) inputs: Vec<Input>,
+    // where the closed gate is
+    pub(crate) place: u64,
+    ghost small: { place < 2 ^ 63 + 16 },
+}
+
+// Makes what a read gives stable.
+fn settle<D: Device>(device: &mut D) -> Result<(), Refusal>
+    ensures synced { OnOk result (IsSynced (D.disk device.new)) }
+    ensures image { (D.disk device.new).image ≡ (D.disk device.old).image }
+    ensures stays { (image : List ℕ) → MayLeave (D.disk device.new) image → MayLeave (D.disk device.old) image }
+    ensures any_moment { LeavesOnly D.clock D.left_since device.old device.new (MayLeave (D.disk device.old)) }
+    ensures fault { IfErr result (λ refusal. IsFault (D.count device.old) (D.count device.new) refusal) }
+    ensures later { D.count device.old ≤ D.count device.new }
+    ensures reach { IsInReach 0 (D.reach device.old) (D.reach device.new) result }
+{
+    match device.sync() {
+        Ok(()) => Ok(()),
+        Err(_) => Err(Refusal::Device(device.failures())),
+    }
+}
+
+// Reads the bytes from `off` on.
+fn read_part<D: Device>(device: &mut D, off: u64, buf: &mut [u8]) -> Result<(), Refusal>
+    ensures part { OnOk result (IsPart off buf.new (D.disk device.old).image) }
+    ensures disk { D.disk device.new ≡ D.disk device.old }
+    ensures any_moment { LeavesOnly D.clock D.left_since device.old device.new (MayLeave (D.disk device.old)) }
+    ensures fault { IfErr result (λ refusal. IsFault (D.count device.old) (D.count device.new) refusal) }
+    ensures later { D.count device.old ≤ D.count device.new }
+    ensures reach { IsInReach (off + length buf.old) (D.reach device.old) (D.reach device.new) result }
+{
+    match device.read_at(off, buf) {
+        Ok(()) => Ok(()),
+        Err(_) => Err(Refusal::Device(device.failures())),
+    }
+}
+
+// The capacity that a header names.
+fn capacity_of(head: &[u8; 16], node: NodeNo, n: u8) -> Result<u32, Refusal>
+    ensures { result ≡ head_at node n head.now }
+{
+    if !head.starts_with(b"CRJRNL01") {
+        return Err(Refusal::NotFormatted);
+    }
+    if !(head[8] == node.number() && head[9] == n) {
+        return Err(Refusal::WrongNode);
+    }
+    let capacity = u32::from_be_bytes([head[10], head[11], head[12], head[13]]);
+    if !(4096 <= capacity && capacity <= 1_048_576) {
+        return Err(Refusal::Damaged(10));
+    }
+    if u16::from_be_bytes([head[14], head[15]]) != 0 {
+        return Err(Refusal::Damaged(14));
+    }
+    Ok(capacity)
+}
+
+// Makes the device stable, and reads its header: the capacity.
+fn read_header<D: Device>(device: &mut D, node: NodeNo, n: u8) -> Result<u32, Refusal>
+    ensures header { IfOk result (λ capacity. header_at node n (D.disk device.old).image ≡ Ok capacity) }
+    ensures synced { OnOk result (IsSynced (D.disk device.new)) }
+    ensures image { (D.disk device.new).image ≡ (D.disk device.old).image }
+    ensures stays { (image : List ℕ) → MayLeave (D.disk device.new) image → MayLeave (D.disk device.old) image }
+    ensures any_moment { LeavesOnly D.clock D.left_since device.old device.new (MayLeave (D.disk device.old)) }
+    ensures refusal { IfErr result (λ refusal. IsFault (D.count device.old) (D.count device.new) refusal ⊎ (header_at node n (D.disk device.old).image ≡ Err refusal)) }
+    ensures later { D.count device.old ≤ D.count device.new }
+    ensures works { 0 < D.reach device.old → length (D.disk device.old).image ≤ D.reach device.old → IfErr result (λ refusal. header_at node n (D.disk device.old).image ≡ Err refusal) }
+    ensures reach { D.reach device.new ≡ D.reach device.old }
+{
+    if let Err(refusal) = settle(device) {
+        return Err(refusal);
+    }
+    if device.size() < 17 {
+        return Err(Refusal::NotFormatted);
+    }
+    let mut head = [0; 16];
+    if let Err(refusal) = read_part(device, 0, &mut head) {
+        return Err(refusal);
+    }
+    capacity_of(&head, node, n)
+}
+
+// Reads the frames behind the header: their inputs, and the place of the closed gate.
+fn read_frames<D: Device>(alloc: Global, device: &mut D) -> Result<(Vec<Input>, u64), Refusal>
+    requires long { 17 ≤ length (D.disk device.old).image }
+    ensures frames { IfOk result (λ read. ReadsTo 16 (D.disk device.old).image read.0.items read.1) }
+    ensures small { IfOk result (λ read. read.1 < 2 ^ 63 + 16) }
+    ensures disk { D.disk device.new ≡ D.disk device.old }
+    ensures any_moment { LeavesOnly D.clock D.left_since device.old device.new (MayLeave (D.disk device.old)) }
+    ensures refusal { IfErr result (λ refusal. IsFault (D.count device.old) (D.count device.new) refusal ⊎ ((refusal ≡ OutOfMemory) ⊎ IsBroken 16 (D.disk device.old).image refusal)) }
+    ensures later { D.count device.old ≤ D.count device.new }
+    ensures works { 0 < D.reach device.old → length (D.disk device.old).image ≤ D.reach device.old → IfErr result (λ refusal. (refusal ≡ OutOfMemory) ⊎ IsBroken 16 (D.disk device.old).image refusal) }
+    ensures reach { D.reach device.new ≡ D.reach device.old }
+{
+    let size = device.size() as usize;
+    let Ok(mut bytes) = vec![in alloc; 0; size - 16] else {
+        return Err(Refusal::OutOfMemory);
+    };
+    if let Err(refusal) = read_part(device, 16, &mut bytes) {
+        return Err(refusal);
+    }
+    match scan(alloc, &bytes) {
+        Ok((inputs, place)) => Ok((inputs, 16 + place)),
+        Err(Unread::Damaged(place)) => Err(Refusal::Damaged(16 + place)),
+        Err(Unread::Memory) => Err(Refusal::OutOfMemory),
+    }
+}
+
+/// Makes the device stable, and reads the whole of it: the journal of this node of a ring of `n`.
+pub(crate) fn open<D: Device>(
+    alloc: Global,
+    device: &mut D,
+    node: NodeNo,
+    n: u8,
+) -> Result<Opened, Refusal>
+    ensures reads { IfOk result (λ opened. ReadsAt (header_with node n opened.capacity) (D.disk device.old).image opened.inputs.items opened.place) }
+    ensures synced { OnOk result (IsSynced (D.disk device.new)) }
+    ensures image { (D.disk device.new).image ≡ (D.disk device.old).image }
+    ensures any_moment { LeavesOnly D.clock D.left_since device.old device.new (MayLeave (D.disk device.old)) }
+    ensures refusal { IfErr result (λ refusal. IsUnopened node n (D.count device.old) (D.count device.new) (D.disk device.old).image refusal) }
+    ensures works { 0 < D.reach device.old → length (D.disk device.old).image ≤ D.reach device.old → IfErr result (λ refusal. (refusal ≡ OutOfMemory) ⊎ IsUnread node n (D.disk device.old).image refusal) }
+    ensures reach { D.reach device.new ≡ D.reach device.old }
+{
+    match read_header(device, node, n) {
+        Err(refusal) => Err(refusal),
+        Ok(capacity) => match read_frames(alloc, device) {
+            Err(refusal) => Err(refusal),
+            Ok((inputs, place)) => Ok(Opened {
+                capacity,
+                inputs,
+                place,
+            }),
+        },
+    }
+}
