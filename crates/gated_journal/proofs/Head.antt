@@ -1,14 +1,14 @@
 -- The header of an image, in its first 16 bytes.
 use Rattle.std.proofs.Common.{◌≡◌, ℕ, zero, suc, ◌+◌, ◌*◌, ◌<◌, ◌≤◌, Bool, true, false, cond, not, eqb, leb, ltb, ◌&&◌, List, length, take, drop, get_or, Result, Ok, Err, refl, sym, ◌∙◌, ap, arith, zero-add}
 use Rattle.std.specs.Str.{bytes_eq}
-use Rattle.std.proofs.lemmas.Bool.{and_parts, eqb-true, leb-true, le-ltb, ltb-false}
+use Rattle.std.proofs.lemmas.Bool.{and_parts, eqb-true, eq-eqb, le-leb, leb-true, le-ltb, ltb-false}
 use Rattle.std.proofs.lemmas.List.{get_or-take}
 use Rattle.std.proofs.lemmas.Slice.Eq.{bytes_eq-Decides}
 use Rattle.disk_model.specs.Disk.{IsPart}
 use Rattle.disk_model.proofs.Images.{part_within}
 use Rattle.ring_records.specs.declared.refusal.Refusal.{Refusal}
 use Rattle.ring_records.specs.declared.refusal.Refusal.TheVariants.{NotFormatted, WrongNode, Damaged}
-use Rattle.gated_journal.specs.Reading.{number_at, mark, header_with, HasHeader}
+use Rattle.gated_journal.specs.Reading.{number_at, mark, header_with, Header, HasHeader}
 use Rattle.gated_journal.proofs.Kept.{take_same}
 use Rattle.gated_journal.specs.Unread.{head_at, header_at}
 
@@ -59,3 +59,15 @@ header_found node n capacity image e =
 -- the header of an image that is long enough, of which these are the first bytes
 pub header_same : (node n : ℕ) (head image : List ℕ) → IsPart 0 head image → length head ≡ 16 → 17 ≤ length image → head_at node n head ≡ header_at node n image
 header_same node n head image part long in_image = head_same node n head image part long (omega (arith, in_image)) ∙ sym (rw (le-ltb (length image) 17 in_image) refl)
+
+-- and such a header is found
+pub header_again : (header : Header) (image : List ℕ) → 17 ≤ length image → HasHeader header image → header_at header.node header.n image ≡ Ok header.capacity
+header_again header image long head =
+    let long_is = le-ltb (length image) 17 long in
+    let marked = (bytes_eq-Decides (take 8 image) mark).1 head.marked in
+    let node = eq-eqb (get_or image 8 0) header.node head.node in
+    let n = eq-eqb (get_or image 9 0) header.n head.n in
+    let from = le-leb 4096 (number_at 4 10 image) (omega (arith, head.capacity, head.from)) in
+    let to = le-leb (number_at 4 10 image) 1048576 (omega (arith, head.capacity, head.to)) in
+    let blank = eq-eqb (number_at 2 14 image) 0 head.blank in
+    rw (long_is, marked, node, n, from, to, blank) (ap as_ok head.capacity)

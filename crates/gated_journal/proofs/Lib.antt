@@ -1,4 +1,5 @@
 pub mod Behind
+pub mod Fault
 pub mod Frame
 pub mod Head
 pub mod Heads

@@ -103,6 +103,16 @@ at_place header disk place count sum inputs rest stays all =
     let end_is : read.place ≡ place = ∥∥₁_elim rest.reads (ℕ_set read.place place) (λ r. (unique 16 disk.image inputs r.0 read.place place read.at.frames r.1.0.frames).1) in
     subst (λ (end : ℕ). ReadsAt header disk.image inputs end) end_is read.at
 
+-- and the journal's counts are those of what is read
+pub counts : (header : Header) (disk : Disk) (place count sum : ℕ) (inputs : List Input) → IsAtRest header disk place count sum → MayLeave disk disk.image → AllReadAs header disk inputs → (count ≡ length inputs) × (sum ≡ used fresh inputs)
+counts header disk place count sum inputs rest stays all =
+    let read = all disk.image stays in
+    let same : (r : (more : List Input) × (ReadsAt header disk.image more place × ((length more ≡ count) × (used fresh more ≡ sum)))) → r.0 ≡ inputs =
+    λ r. (unique 16 disk.image r.0 inputs place read.place r.1.0.frames read.at.frames).0 in (
+      ∥∥₁_elim rest.reads (ℕ_set count (length inputs)) (λ r. sym r.1.1.0 ∙ ap length (same r)),
+      ∥∥₁_elim rest.reads (ℕ_set sum (used fresh inputs)) (λ r. sym r.1.1.1 ∙ ap (used fresh) (same r)),
+    )
+
 -- where nothing waits for a sync, a stop leaves what is read
 pub all_read : (header : Header) (disk : Disk) (inputs : List Input) (place : ℕ) → IsSynced disk → ReadsAt header disk.image inputs place → AllReadAs header disk inputs
 all_read header disk inputs place is read image left = record { place = place; at = subst (λ (l : List ℕ). ReadsAt header l inputs place) (sym (synced_only disk image is left)) read }

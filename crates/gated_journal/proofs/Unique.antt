@@ -1,11 +1,12 @@
 -- No image reads as two lists.
-use Rattle.std.proofs.Common.{◌≡◌, ◌≢◌, ℕ, ◌+◌, ◌%◌, ◌≤◌, List, [], ◌∷◌, ◌++◌, length, refl, sym, ◌∙◌, ap, arith, append_assoc}
+use Rattle.std.proofs.Common.{◌≡◌, ◌≢◌, ◌⊎◌, inl, inr, ℕ, ◌+◌, ◌%◌, ◌≤◌, List, [], ◌∷◌, ◌++◌, length, drop, refl, sym, ◌∙◌, ap, arith, append_assoc}
 use Rattle.std.proofs.lemmas.List.{append_cancel_left}
 use Rattle.ring_records.specs.declared.input.Input.{Input}
 use Rattle.ring_records.specs.Record.{record_of}
 use Rattle.ring_records.proofs.Records.{records-apart}
 use Rattle.gated_journal.specs.Frames.{records, body, frames, joined, HaveRecords, IsBatch, AreBatches, ReadsTo}
 use Rattle.gated_journal.specs.Reading.{Header, HasHeader, ReadsAs}
+use Rattle.gated_journal.specs.Unread.{NoFrame, IsDamagedAt}
 
 records-unique : (b c : List Input) (r s : List ℕ) → HaveRecords b → HaveRecords c → length b ≡ length c → records b ++ r ≡ records c ++ s → (b ≡ c) × (r ≡ s)
 records-unique [] [] r s hb hc long e = (refl, e)
@@ -29,24 +30,53 @@ body-unique b c r s hb hc e =
     let rest : records b ++ r ≡ records c ++ s = cc in
     records-unique b c r s hb.have hc.have (same-count (length b) (length c) hb.few hc.few low) rest
 
-frames-unique : (bs cs : List (List Input)) (g h : ℕ) (r s : List ℕ) → AreBatches bs → AreBatches cs → g ≢ 1 → h ≢ 1 → frames bs ++ g ∷ r ≡ frames cs ++ h ∷ s → bs ≡ cs
-frames-unique [] [] g h r s hb hc shut also e = refl
-frames-unique [] (c ∷ cs) g h r s hb hc shut also e = let is : g ≡ 1 = cc in absurd (shut is)
-frames-unique (b ∷ bs) [] g h r s hb hc shut also e = let is : h ≡ 1 = cc in absurd (also is)
-frames-unique (b ∷ bs) (c ∷ cs) g h r s hb hc shut also e =
-    let inner : (body b ++ frames bs) ++ g ∷ r ≡ (body c ++ frames cs) ++ h ∷ s = cc in
-    let tails : body b ++ (frames bs ++ g ∷ r) ≡ body c ++ (frames cs ++ h ∷ s) =
-    sym (append_assoc (body b) (frames bs) (g ∷ r)) ∙ inner ∙ append_assoc (body c) (frames cs) (h ∷ s) in
-    let both = body-unique b c (frames bs ++ g ∷ r) (frames cs ++ h ∷ s) hb.0 hc.0 tails in
-    let rest = frames-unique bs cs g h r s hb.1 hc.1 shut also both.1 in
-    λ i. both.0 i ∷ rest i
+-- no frame stands behind an open gate at the head of these bytes
+abbrev Stuck : List ℕ → Type 0
+Stuck bytes = (batch : List Input) (rest : List ℕ) → IsBatch batch → bytes ≡ 1 ∷ (body batch ++ rest) → ⊥
+
+frames-unique : (bs cs : List (List Input)) (r s : List ℕ) → AreBatches bs → AreBatches cs → Stuck r → Stuck s → frames bs ++ r ≡ frames cs ++ s → (bs ≡ cs) × (r ≡ s)
+frames-unique [] [] r s hb hc one two e = (refl, e)
+frames-unique [] (c ∷ cs) r s hb hc one two e = absurd (one c (frames cs ++ s) hc.0 (e ∙ ap (λ (l : List ℕ). 1 ∷ l) (append_assoc (body c) (frames cs) s)))
+frames-unique (b ∷ bs) [] r s hb hc one two e = absurd (two b (frames bs ++ r) hb.0 (sym e ∙ ap (λ (l : List ℕ). 1 ∷ l) (append_assoc (body b) (frames bs) r)))
+frames-unique (b ∷ bs) (c ∷ cs) r s hb hc one two e =
+    let inner : (body b ++ frames bs) ++ r ≡ (body c ++ frames cs) ++ s = cc in
+    let tails : body b ++ (frames bs ++ r) ≡ body c ++ (frames cs ++ s) = sym (append_assoc (body b) (frames bs) r) ∙ inner ∙ append_assoc (body c) (frames cs) s in
+    let both = body-unique b c (frames bs ++ r) (frames cs ++ s) hb.0 hc.0 tails in
+    let rest = frames-unique bs cs r s hb.1 hc.1 one two both.1 in
+    ((λ i. both.0 i ∷ rest.0 i), rest.1)
+
+closed-stuck : (g : ℕ) (after : List ℕ) → g ≢ 1 → Stuck (g ∷ after)
+closed-stuck g after shut batch rest is e = let is_open : g ≡ 1 = cc in shut is_open
+
+damaged-stuck : (bytes : List ℕ) → (bytes ≡ []) ⊎ ((tail : List ℕ) × ((bytes ≡ 1 ∷ tail) × NoFrame tail)) → Stuck bytes
+damaged-stuck bytes (inl none) batch rest is e = let same = sym none ∙ e in cc
+damaged-stuck bytes (inr some) batch rest is e = some.1.1 batch rest is (let same = sym some.1.0 ∙ e in cc)
 
 pub unique : (offset : ℕ) (image : List ℕ) (inputs more : List Input) (place end : ℕ) → ReadsTo offset image inputs place → ReadsTo offset image more end → (inputs ≡ more) × (place ≡ end)
 unique offset image inputs more place end one two =
-    let same = frames-unique one.batches two.batches one.gate two.gate one.after two.after one.sized two.sized one.closed two.closed (sym one.whole ∙ two.whole) in (
+    let same = (frames-unique one.batches two.batches (one.gate ∷ one.after) (two.gate ∷ two.after) one.sized two.sized (closed-stuck one.gate one.after one.closed) (closed-stuck two.gate two.after two.closed) (sym one.whole ∙ two.whole)).0 in (
       one.same ∙ ap joined same ∙ sym two.same,
       one.ends ∙ ap (λ (bs : List (List Input)). offset + length (frames bs)) same ∙ sym two.ends,
     )
+
+-- frames that are damaged do not read
+pub not_both : (offset : ℕ) (image : List ℕ) (inputs : List Input) (place at : ℕ) → ReadsTo offset image inputs place → IsDamagedAt offset image at → ⊥
+not_both offset image inputs place at r d =
+    let up = d.up_to in
+    let rests : r.gate ∷ r.after ≡ drop at image =
+    (frames-unique r.batches up.batches (r.gate ∷ r.after) (drop at image) r.sized up.sized (closed-stuck r.gate r.after r.closed) (damaged-stuck (drop at image) d.broken) (sym r.whole ∙ up.whole)).1 in
+    apart d.broken rests
+  where
+    apart : (drop at image ≡ []) ⊎ ((tail : List ℕ) × ((drop at image ≡ 1 ∷ tail) × NoFrame tail)) → r.gate ∷ r.after ≡ drop at image → ⊥
+    apart (inl none) rests = let same = rests ∙ none in cc
+    apart (inr some) rests = let same = rests ∙ some.1.0 in let is_open : r.gate ≡ 1 = cc in r.closed is_open
+
+-- nor are they damaged at two places
+pub damaged_once : (offset : ℕ) (image : List ℕ) (at other : ℕ) → IsDamagedAt offset image at → IsDamagedAt offset image other → at ≡ other
+damaged_once offset image at other one two =
+    let same = (frames-unique one.up_to.batches two.up_to.batches (drop at image) (drop other image) one.up_to.sized two.up_to.sized (damaged-stuck (drop at image) one.broken) (damaged-stuck (drop other image) two.broken)
+      (sym one.up_to.whole ∙ two.up_to.whole)).0 in
+    one.up_to.ends ∙ ap (λ (bs : List (List Input)). offset + length (frames bs)) same ∙ sym two.up_to.ends
 
 pub unique_inputs : (header other : Header) (image : List ℕ) (inputs more : List Input) → ReadsAs header image inputs → ReadsAs other image more → inputs ≡ more
 unique_inputs header other image inputs more one two = (unique 16 image inputs more one.place two.place one.at.frames two.at.frames).0

@@ -158,6 +158,7 @@ impl<D: Device> Journal<D> {
     /// How many inputs it holds.
     pub fn len(&self) -> u64
         ensures value { result ≡ len_of self.now }
+        ensures list { is_spoiled self.now ≡ false → (inputs : List Input) → AllReadAs (header_of self.now) (D.disk (device_of self.now)) inputs → result ≡ length inputs }
     {
         self.count
     }
@@ -165,6 +166,7 @@ impl<D: Device> Journal<D> {
     /// How many bytes of the capacity are left.
     pub fn room(&self) -> u32
         ensures value { result ≡ room_of self.now }
+        ensures list { is_spoiled self.now ≡ false → (inputs : List Input) → AllReadAs (header_of self.now) (D.disk (device_of self.now)) inputs → result ≡ (header_of self.now).capacity - used fresh inputs }
     {
         u64::from(self.capacity).saturating_sub(self.used) as u32
     }
