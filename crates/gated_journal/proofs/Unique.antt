@@ -75,7 +75,7 @@ not_both offset image inputs place at r d =
 pub damaged_once : (offset : ℕ) (image : List ℕ) (at other : ℕ) → IsDamagedAt offset image at → IsDamagedAt offset image other → at ≡ other
 damaged_once offset image at other one two =
     let same = (frames-unique one.up_to.batches two.up_to.batches (drop at image) (drop other image) one.up_to.sized two.up_to.sized (damaged-stuck (drop at image) one.broken) (damaged-stuck (drop other image) two.broken)
-      (sym one.up_to.whole ∙ two.up_to.whole)).0 in
+    (sym one.up_to.whole ∙ two.up_to.whole)).0 in
     one.up_to.ends ∙ ap (λ (bs : List (List Input)). offset + length (frames bs)) same ∙ sym two.up_to.ends
 
 pub unique_inputs : (header other : Header) (image : List ℕ) (inputs more : List Input) → ReadsAs header image inputs → ReadsAs other image more → inputs ≡ more

@@ -121,11 +121,13 @@ impl<D: Device> Journal<D> {
         let mut device = device;
         match open(alloc, &mut device, node, n) {
             Err(refusal) => Err((device, refusal)),
-            Ok(Opened {
-                capacity,
-                inputs,
-                place,
-            }) => {
+            Ok(
+                Opened {
+                    capacity,
+                    inputs,
+                    place,
+                },
+            ) => {
                 let journal = Journal {
                     device,
                     node,

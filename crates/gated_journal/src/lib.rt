@@ -4,9 +4,9 @@
 mod batch;
 mod commit;
 mod journal;
+pub mod laws;
 mod open;
 mod scan;
-pub mod laws;
 mod spell;
 mod spent;
 

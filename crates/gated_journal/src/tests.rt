@@ -1,16 +1,23 @@
 // What no clause says: the bytes on the device, and that calls succeed with ample memory. The bytes are worked out by
 // hand from the layout.
 use super::*;
-use disk_model::{Device, FuseDevice, MemDevice, Tear};
+use disk_model::{Device, FileDevice, FuseDevice, MemDevice, Tear};
 use ring_records::{Bid, GroupName, Input, Key, NodeNo, Refusal, Term};
 use std::alloc::{AllocGlobal, Global};
 use std::process::Abort;
 use std::test::Fail;
 
+mod cuts;
+mod images;
+mod rows;
+mod stops;
+
+/// A new journal of node 1 of 3, capacity 4,096.
 const FRESH: [u8; 17] = [
     0x43, 0x52, 0x4A, 0x52, 0x4E, 0x4C, 0x30, 0x31, 1, 3, 0, 0, 0x10, 0, 0, 0, 0,
 ];
 
+/// The same with one frame: a Stand of group `red`, term 5, bid 10.
 const COMMITTED: [u8; 37] = [
     0x43, 0x52, 0x4A, 0x52, 0x4E, 0x4C, 0x30, 0x31, 1, 3, 0, 0, 0x10, 0, 0, 0, 1, 0, 1, 0, 0, 0,
     0x0D, 1, 3, 0x72, 0x65, 0x64, 0, 0, 0, 5, 0, 0, 0, 0x0A, 0,
@@ -27,9 +34,9 @@ fn stand() -> Result<Input, Refusal> {
 }
 
 /// A read of the whole device gives these bytes.
-fn holds<R: Abort + AllocGlobal>(
+fn holds<D: Device, R: Abort + AllocGlobal>(
     rt: &R,
-    device: &mut MemDevice,
+    device: &mut D,
     wanted: &[u8],
 ) -> Result<(), Fail> {
     assert_eq!(rt; device.size(), wanted.len() as u64);
@@ -48,44 +55,38 @@ fn fresh(alloc: Global) -> Result<Journal<FuseDevice<MemDevice>>, Fail> {
     Ok(journal)
 }
 
-#[test]
-fn fresh_journal(rt: HostRuntime) -> Result<(), Fail> {
-    let journal = fresh(rt.alloc())?;
-    assert_eq!(rt; (journal.node().number(), journal.capacity()), (1, 4096));
-    assert_eq!(rt; (journal.len(), journal.room()), (0, 4096));
-    assert_eq!(rt; journal.is_spoiled(), false);
-    let mut device = journal.into_device().into_inner();
-    device.crash(Tear::Old);
-    holds(&rt, &mut device, &FRESH)
-}
-
-#[test]
-fn one_commit(rt: HostRuntime) -> Result<(), Fail> {
-    let mut journal = fresh(rt.alloc())?;
-    let inputs = [stand()?];
-    let batch = Batch::new(rt.alloc(), NodeNo::new(1)?, 0, &inputs)?;
-    assert_eq!(rt;
-        (batch.node().number(), batch.first(), batch.cost()),
-        (1, 0, 20)
-    );
+/// Commits the inputs as the journal's next ones, and tells whether that succeeded.
+fn commits<D: Device, R: Abort + AllocGlobal>(
+    rt: &R,
+    journal: &mut Journal<D>,
+    inputs: &[Input],
+) -> Result<bool, Refusal> {
+    let batch = Batch::new(rt.alloc(), journal.node(), journal.len(), inputs)?;
     assert!(rt; !journal.is_spoiled());
     assert!(rt; batch.node() == journal.node());
     assert!(rt; batch.first() == journal.len());
     assert!(rt; journal.room() >= batch.cost());
-    match journal.commit(batch) {
-        Ok(receipt) => {
-            assert_eq!(rt; (receipt.node().number(), receipt.first()), (1, 0));
-            assert_eq!(rt; receipt.inputs(), inputs.as_slice());
-            let (node, first, kept) = receipt.into_parts();
-            assert_eq!(rt; (node.number(), first, kept.len()), (1, 0, 1));
-        }
-        Err(spoiled) => {
-            let _ = spoiled.into_parts();
-            return Err(Refusal::Failed.into());
-        }
+    let first = batch.first();
+    let (committed, parts) = match journal.commit(batch) {
+        Ok(receipt) => (true, receipt.into_parts()),
+        Err(spoiled) => (false, spoiled.into_parts()),
+    };
+    assert_eq!(rt; journal.is_spoiled(), !committed);
+    assert_eq!(rt; (parts.0.number(), parts.1), (1, first));
+    assert_eq!(rt; parts.2.as_slice(), inputs);
+    Ok(committed)
+}
+
+/// What a device of these bytes is reopened with, as this node of 3.
+fn reopened(alloc: Global, image: &[u8], node: u8) -> Result<Vec<Input>, Refusal> {
+    let Ok(mut device) = MemDevice::new(alloc, 17 + 4096) else {
+        return Err(Refusal::OutOfMemory);
+    };
+    if device.write_at(0, image).is_err() {
+        return Err(Refusal::Failed);
     }
-    assert_eq!(rt; (journal.len(), journal.room()), (1, 4076));
-    let mut device = journal.into_device().into_inner();
-    device.crash(Tear::Old);
-    holds(&rt, &mut device, &COMMITTED)
+    match Journal::reopen(alloc, device, NodeNo::new(node)?, 3) {
+        Ok((_journal, inputs)) => Ok(inputs),
+        Err((_device, refusal)) => Err(refusal),
+    }
 }
