@@ -1,5 +1,5 @@
-# run: an example, before any proof. test: the merge gate. ringctl, core_bench, device_bench: the proved programs. bench: their times.
-.PHONY: run test ringctl core_bench device_bench bench clean
+# run: an example, before any proof. test: the merge gate. ringctl and the bench programs: the proved programs. bench: their times.
+.PHONY: run test ringctl core_bench device_bench journal_bench bench clean
 
 run:
 	@bench/try.sh examples/first_election.ring
@@ -22,8 +22,13 @@ device_bench:
 	cd crates/device_bench && rt run < /dev/null
 	cp crates/device_bench/out/device_bench bin/device_bench
 
-bench: ringctl core_bench device_bench
-	@bench/measure.sh bin/ringctl bin/core_bench bin/device_bench
+journal_bench:
+	@mkdir -p bin
+	cd crates/journal_bench && rt run < /dev/null
+	cp crates/journal_bench/out/journal_bench bin/journal_bench
+
+bench: ringctl core_bench device_bench journal_bench
+	@bench/measure.sh bin/ringctl bin/core_bench bin/device_bench bin/journal_bench
 
 clean:
 	rm -rf bin crates/*/out

@@ -1,10 +1,11 @@
 #!/usr/bin/env bash
-# measure.sh RINGCTL CORE_BENCH DEVICE_BENCH: times the programs on some work and on more of it, the best of fifteen runs
+# measure.sh RINGCTL CORE_BENCH DEVICE_BENCH JOURNAL_BENCH: times the programs on some work and on more of it, the best of fifteen runs
 # each, and prints the times, their ratios and what was counted. It asserts nothing.
 set -eu
 ringctl=$(realpath "$1")
 core_bench=$(realpath "$2")
 device_bench=$(realpath "$3")
+journal_bench=$(realpath "$4")
 cd "$(dirname "$0")"
 work=$(mktemp -d)
 trap 'rm -rf "$work"' EXIT
@@ -57,3 +58,16 @@ for work_of in "1048576 10000" "1048576 500000" "1048576 1000000" "1024 1000000"
 done
 awk -v half="$time_1048576_500000" -v whole="$time_1048576_1000000" -v small="$time_1024_1000000" \
     'BEGIN { printf "twice the writes: %.2f times as long; a thousand times the bytes: %.2f times as long\n", whole / half, whole / small }'
+
+# The file is in the folder of temporary files. Its syncs are the disk's, so its times say little and their ratio more.
+echo "journal_bench, batches of 64 inputs:"
+idle=$(best /dev/null "$work/counts" "$journal_bench" memory 0)
+memory=$(best /dev/null "$work/counts" "$journal_bench" memory 4960)
+full=$(best /dev/null "$work/counts" "$journal_bench" reopen 0)
+reopened=$(best /dev/null "$work/counts" "$journal_bench" reopen 10)
+file=$(best /dev/null "$work/counts" "$journal_bench" file 100 "$work/journal.bin")
+bare=$(best /dev/null "$work/counts" "$journal_bench" bare 100 "$work/bare.bin")
+awk -v idle="$idle" -v memory="$memory" -v full="$full" -v reopened="$reopened" -v file="$file" -v bare="$bare" 'BEGIN {
+    printf "4960 commits to devices in memory: %.4f s, %d a second\n", (memory - idle) / 1e9, 4960 * 1e9 / (memory - idle)
+    printf "reopening a full journal of 1 MiB: %.4f s\n", (reopened - full) / 10 / 1e9
+    printf "100 commits to a file: %.4f s, %.2f times the same writes and syncs with no journal\n", file / 1e9, file / bare }'

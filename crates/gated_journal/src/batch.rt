@@ -28,6 +28,7 @@ impl Batch {
     pub fn new(alloc: Global, node: NodeNo, first: u64, inputs: &[Input]) -> Result<Batch, Refusal>
         ensures value { IfOk result (λ batch. shown batch ≡ numbered node first inputs.now) }
         ensures size { OnOk result (is_size (length inputs.now) ≡ true) }
+        ensures bound { OnOk result (used fresh inputs.now ≤ 42 * 64) }
         ensures refusal { IfErr result (λ refusal. refusal ≡ batch_refusal (length inputs.now)) }
     {
         if inputs.is_empty() || inputs.len() > 64 {
