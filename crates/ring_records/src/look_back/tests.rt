@@ -197,101 +197,63 @@ fn judges(
     assert_eq!(rt; refused, want, "{row}");
 }
 
+/// The capacity is judged last.
+fn a_cost_has_to_fit(rt: &impl Abort, alloc: Global) {
+    let (stood, other) = (Stand("red", 5, 10), Stand("blue", 4, 5));
+    let (already, full) = (Some(Cause::Already(10)), Some(Cause::Full));
+    let before = [stood, Acked(1)];
+    judges(
+        rt,
+        alloc,
+        "a cost that does not fit",
+        56,
+        &before,
+        other,
+        full,
+    );
+    judges(rt, alloc, "a cost that just fits", 57, &before, other, None);
+    judges(rt, alloc, "full comes last", 0, &[stood], stood, already);
+}
+
 #[test]
 fn refuses_by_the_first_cause(rt: HostRuntime) {
-    let stood = Stand("red", 5, 10);
-    let (relayed, named) = (
-        Take(0, Token("red", 5, 10, 2)),
-        Take(1, Token("blue", 1, 3, 2)),
-    );
+    let (stood, relayed) = (Stand("red", 5, 10), Take(0, Token("red", 5, 10, 2)));
+    let (named, other) = (Take(1, Token("blue", 1, 3, 2)), Stand("blue", 4, 5));
     let (one, two) = ([stood, relayed], [relayed, named]);
-    let credited = [stood, Acked(1)];
-    let (home, led) = (
-        Take(0, Token("red", 9, 5, 1)),
-        Take(1, Elected("red", 9, 5, 1)),
-    );
-    let leads = [Stand("red", 9, 5), home, led];
-    let (already, other) = (Some(Cause::Already(10)), Stand("blue", 4, 5));
-    let nobody = Take(7, Token("red", 5, 10, 4));
-    let rows: [(&str, u32, &[Op], Op, Option<Cause>); 20] = [
-        ("the first Stand", 65536, &[], stood, None),
-        ("already", 65536, &one[..1], stood, already),
-        ("already, and a message came", 65536, &one, stood, already),
-        (
-            "late after relay",
-            65536,
-            &two[..1],
-            Stand("red", 5, 40),
-            Some(Cause::Late),
-        ),
-        (
-            "stale",
-            65536,
-            &leads,
-            Stand("red", 4, 5),
-            Some(Cause::Stale(9)),
-        ),
-        ("a greater term", 65536, &leads, Stand("red", 10, 5), None),
-        ("another group", 65536, &leads, other, None),
-        ("gap", 65536, &[], named, Some(Cause::Gap(0))),
-        ("the next message", 65536, &two[..1], named, None),
-        (
-            "the message before",
-            65536,
-            &two,
-            named,
-            Some(Cause::Old(2)),
-        ),
-        (
-            "the first message again",
-            65536,
-            &two,
-            relayed,
-            Some(Cause::Old(2)),
-        ),
-        ("no such node", 65536, &[], nobody, Some(Cause::BadNumber)),
-        (
-            "the last node",
-            65536,
-            &[],
-            Take(0, Token("red", 5, 10, 3)),
-            None,
-        ),
+    let (credited, old) = ([stood, Acked(1)], Some(Cause::Old(2)));
+    let home = Take(0, Token("red", 9, 5, 1));
+    let leads = [Stand("red", 9, 5), home, Take(1, Elected("red", 9, 5, 1))];
+    let (already, late) = (Some(Cause::Already(10)), Some(Cause::Late));
+    let (stale, ahead) = (Some(Cause::Stale(9)), Some(Cause::AckAhead(1)));
+    let (nobody, none) = (Take(7, Token("red", 5, 10, 4)), Some(Cause::BadNumber));
+    let rows: [(&str, &[Op], Op, Option<Cause>); 17] = [
+        ("the first Stand", &[], stood, None),
+        ("already", &one[..1], stood, already),
+        ("already, and a message came", &one, stood, already),
+        ("late after relay", &two[..1], Stand("red", 5, 40), late),
+        ("stale", &leads, Stand("red", 4, 5), stale),
+        ("a greater term", &leads, Stand("red", 10, 5), None),
+        ("another group", &leads, other, None),
+        ("gap", &[], named, Some(Cause::Gap(0))),
+        ("the next message", &two[..1], named, None),
+        ("the message before", &two, named, old),
+        ("the first message again", &two, relayed, old),
+        ("no such node", &[], nobody, none),
+        ("the last node", &[], Take(0, Token("red", 5, 10, 3)), None),
         (
             "credit of nothing",
-            65536,
             &one[..1],
             Acked(0),
             Some(Cause::Old(0)),
         ),
-        ("credit", 65536, &one[..1], Acked(1), None),
-        (
-            "credit ahead",
-            65536,
-            &one[..1],
-            Acked(2),
-            Some(Cause::AckAhead(1)),
-        ),
-        (
-            "credit again",
-            65536,
-            &credited,
-            Acked(1),
-            Some(Cause::Old(1)),
-        ),
-        (
-            "a cost that does not fit",
-            56,
-            &credited,
-            other,
-            Some(Cause::Full),
-        ),
-        ("a cost that just fits", 57, &credited, other, None),
-        ("full comes last", 0, &one[..1], stood, already),
+        ("credit", &one[..1], Acked(1), None),
+        ("credit ahead", &one[..1], Acked(2), ahead),
+        ("credit again", &credited, Acked(1), Some(Cause::Old(1))),
     ];
-    for (row, capacity, before, op, want) in rows {
-        judges(&rt, rt.alloc(), row, capacity, before, op, want);
+    for (row, before, op, want) in rows {
+        judges(&rt, rt.alloc(), row, 65536, before, op, want);
     }
+    a_cost_has_to_fit(&rt, rt.alloc());
 }
 
 /// Whether node 1 of two, with this capacity, admits the input after these; what is over a limit is refused so.
