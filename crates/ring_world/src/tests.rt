@@ -4,59 +4,117 @@ use ring_records::{Bid, Candidate, GroupName, Key, Msg, NodeNo, Refusal, Reply, 
 use std::alloc::Global;
 use std::process::Abort;
 
-fn red(term: u32) -> Result<Key, Refusal> {
-    Ok(Key {
-        group: GroupName::read(b"red")?,
-        term: Term::new(term)?,
-    })
+fn bid(rt: &impl Abort, number: u32) -> Bid {
+    Bid::new(number).expect(rt, "a bid")
 }
 
-fn candidate(bid: u32, node: u8) -> Result<Candidate, Refusal> {
-    Ok(Candidate {
-        bid: Bid::new(bid)?,
-        node: NodeNo::new(node)?,
-    })
+fn term(rt: &impl Abort, number: u32) -> Term {
+    Term::new(number).expect(rt, "a term")
 }
 
-fn ring(alloc: Global, n: u8) -> Result<World, Refusal> {
-    World::new(alloc, n, true, 65_536)
+fn node(rt: &impl Abort, number: u8) -> NodeNo {
+    NodeNo::new(number).expect(rt, "a node")
 }
 
-fn submit(world: &mut World, node: u8, request: Request) -> Result<Outcome, Refusal> {
-    world.step(Event::Submit(NodeNo::new(node)?, request))
+fn red(rt: &impl Abort, number: u32) -> Key {
+    let group = GroupName::read(b"red").expect(rt, "a group name");
+    let term = term(rt, number);
+    Key { group, term }
 }
 
-fn stand(world: &mut World, node: u8, term: u32, bid: u32) -> Result<Outcome, Refusal> {
-    submit(world, node, Request::Stand(red(term)?, Bid::new(bid)?))
+/// The candidate of this bid and node.
+fn candidate(rt: &impl Abort, numbers: (u32, u8)) -> Candidate {
+    let bid = bid(rt, numbers.0);
+    let node = node(rt, numbers.1);
+    Candidate { bid, node }
 }
 
-fn deliver(world: &mut World, from: u8, no: u64) -> Result<Outcome, Refusal> {
-    let from = NodeNo::new(from)?;
+/// A request in plain numbers.
+#[derive(Clone, Copy)]
+enum Asked {
+    /// For red: the term and the bid.
+    Stand(u32, u32),
+    /// Under the number: a Token for term 5 of red, and the bid and the node of its candidate.
+    Take(u64, (u32, u8)),
+    Acked(u64),
+    Who(u32),
+    Latest,
+}
+
+impl Asked {
+    fn request(self, rt: &impl Abort) -> Request {
+        match self {
+            Asked::Stand(term, number) => {
+                let key = red(rt, term);
+                Request::Stand(key, bid(rt, number))
+            }
+            Asked::Take(no, numbers) => {
+                let key = red(rt, 5);
+                let candidate = candidate(rt, numbers);
+                Request::Take(no, Msg::Token { key, candidate })
+            }
+            Asked::Acked(upto) => Request::Acked(upto),
+            Asked::Who(term) => Request::Who(red(rt, term)),
+            Asked::Latest => Request::Latest(red(rt, 5).group),
+        }
+    }
+}
+
+fn ring(rt: &impl Abort, alloc: Global, n: u8) -> World {
+    World::new(alloc, n, true, 65_536).expect(rt, "a ring")
+}
+
+fn submit(rt: &impl Abort, world: &mut World, to: u8, asked: Asked) -> Result<Outcome, Refusal> {
+    world.step(Event::Submit(node(rt, to), asked.request(rt)))
+}
+
+fn deliver(rt: &impl Abort, world: &mut World, from: u8, no: u64) -> Result<Outcome, Refusal> {
+    let from = node(rt, from);
     world.step(Event::Deliver { from, no })
 }
 
-fn credit(world: &mut World, from: u8, upto: u64) -> Result<Outcome, Refusal> {
-    let from = NodeNo::new(from)?;
+fn credit(rt: &impl Abort, world: &mut World, from: u8, upto: u64) -> Result<Outcome, Refusal> {
+    let from = node(rt, from);
     world.step(Event::Credit { from, upto })
 }
 
-/// Why a step was refused.
-fn refused(step: Result<Outcome, Refusal>) -> Option<Refusal> {
-    step.err()
-}
-
-/// The reply of an outcome that has one, under its ticket.
-fn reply(rt: &impl Abort, outcome: &Outcome, ticket: u64) -> Reply {
+/// The step took this ticket, and answers it alone, so.
+fn answers(rt: &impl Abort, step: Result<Outcome, Refusal>, ticket: u64, want: Reply) {
+    let outcome = step.expect(rt, "a step that is not refused");
     assert_eq!(rt; outcome.ticket, Some(ticket));
     assert_eq!(rt; outcome.delivered, None);
     assert_eq!(rt; outcome.replies.len(), 1);
     let (number, reply) = outcome.replies[0];
     assert_eq!(rt; number, ticket);
-    reply
+    assert_eq!(rt; reply, want, "ticket {ticket}");
+}
+
+/// All that waits on the links arrives, which is this many messages, and takes no ticket.
+fn sweeps(rt: &impl Abort, world: &mut World, deliveries: u32) {
+    let all = world
+        .step(Event::DeliverAll)
+        .expect(rt, "a step that is not refused");
+    assert_eq!(rt; all.ticket, None);
+    assert_eq!(rt; all.delivered, Some(deliveries));
+    assert_eq!(rt; all.replies.len(), 0);
+}
+
+/// A ring of so many nodes and bytes is made, or refused as out of range.
+fn is_made(rt: &impl Abort, alloc: Global, n: u8, capacity: u32, made: bool) {
+    match World::new(alloc, n, true, capacity) {
+        Ok(world) => {
+            assert!(rt; made, "{n} {capacity}");
+            assert_eq!(rt; world.size(), n);
+        }
+        Err(refusal) => {
+            assert!(rt; !made, "{n} {capacity}");
+            assert_eq!(rt; refusal, Refusal::BadNumber);
+        }
+    }
 }
 
 #[test]
-fn rings_have_2_to_16_nodes(rt: HostRuntime) -> Result<(), Refusal> {
+fn rings_have_2_to_16_nodes(rt: HostRuntime) {
     for (n, capacity, made) in [
         (1, 65_536, false),
         (2, 65_536, true),
@@ -67,112 +125,80 @@ fn rings_have_2_to_16_nodes(rt: HostRuntime) -> Result<(), Refusal> {
         (2, 1_048_576, true),
         (2, 1_048_577, false),
     ] {
-        match World::new(rt.alloc(), n, true, capacity) {
-            Ok(world) => {
-                assert!(rt; made, "{n} {capacity}");
-                assert_eq!(rt; world.size(), n);
-            }
-            Err(refusal) => {
-                assert!(rt; !made, "{n} {capacity}");
-                assert_eq!(rt; refusal, Refusal::BadNumber);
-            }
-        }
+        is_made(&rt, rt.alloc(), n, capacity, made);
     }
-    Ok(())
 }
 
 #[test]
-fn three_nodes_elect_the_greatest(rt: HostRuntime) -> Result<(), Refusal> {
-    let mut world = ring(rt.alloc(), 3)?;
+fn three_nodes_elect_the_greatest(rt: HostRuntime) {
+    let mut world = ring(&rt, rt.alloc(), 3);
     for (ticket, node, bid) in [(1, 1, 10), (2, 2, 30), (3, 3, 20)] {
-        let outcome = stand(&mut world, node, 5, bid)?;
-        assert_eq!(rt; reply(&rt, &outcome, ticket), Reply::Stood);
+        let stood = submit(&rt, &mut world, node, Asked::Stand(5, bid));
+        answers(&rt, stood, ticket, Reply::Stood);
     }
-    let all = world.step(Event::DeliverAll)?;
-    assert_eq!(rt;
-        (all.ticket, all.delivered, all.replies.len()),
-        (None, Some(9), 0)
-    );
-    let leader = candidate(30, 2)?;
-    for node in 1..4 {
-        let who = submit(&mut world, node, Request::Who(red(5)?))?;
-        assert_eq!(rt;
-            reply(&rt, &who, 2 * node as u64 + 2),
-            Reply::Leader(Some(leader))
-        );
-        let latest = submit(&mut world, node, Request::Latest(red(5)?.group))?;
-        let term = Term::new(5)?;
-        assert_eq!(rt;
-            reply(&rt, &latest, 2 * node as u64 + 3),
-            Reply::Latest(Some((term, leader)))
-        );
+    sweeps(&rt, &mut world, 9);
+    for (node, ticket, next) in [(1, 4, 5), (2, 6, 7), (3, 8, 9)] {
+        let who = submit(&rt, &mut world, node, Asked::Who(5));
+        let leader = Some(candidate(&rt, (30, 2)));
+        answers(&rt, who, ticket, Reply::Leader(leader));
+        let latest = submit(&rt, &mut world, node, Asked::Latest);
+        let led = Some((term(&rt, 5), candidate(&rt, (30, 2))));
+        answers(&rt, latest, next, Reply::Latest(led));
     }
-    let again = world.step(Event::DeliverAll)?;
-    assert_eq!(rt; again.delivered, Some(0));
-    Ok(())
+    sweeps(&rt, &mut world, 0);
 }
 
 #[test]
-fn the_latest_term_is_the_greatest(rt: HostRuntime) -> Result<(), Refusal> {
-    let mut world = ring(rt.alloc(), 2)?;
-    for (term, latest) in [(7, 7), (9, 9), (8, 9)] {
-        let _ = stand(&mut world, 1, term, term)?;
-        let _ = world.step(Event::DeliverAll)?;
-        let told = submit(&mut world, 2, Request::Latest(red(term)?.group))?;
-        assert_eq!(rt; told.replies.len(), 1);
-        let want = Some((Term::new(latest)?, candidate(latest, 1)?));
-        assert_eq!(rt; told.replies[0].1, Reply::Latest(want), "after term {term}");
+fn the_latest_term_is_the_greatest(rt: HostRuntime) {
+    let mut world = ring(&rt, rt.alloc(), 2);
+    for (number, latest, ticket) in [(7, 7, 2), (9, 9, 4), (8, 9, 6)] {
+        let stood = submit(&rt, &mut world, 1, Asked::Stand(number, number));
+        assert!(rt; stood.is_ok(), "term {number}");
+        assert!(rt; world.step(Event::DeliverAll).is_ok(), "term {number}");
+        let told = submit(&rt, &mut world, 2, Asked::Latest);
+        let led = Some((term(&rt, latest), candidate(&rt, (latest, 1))));
+        answers(&rt, told, ticket, Reply::Latest(led));
     }
-    Ok(())
 }
 
 #[test]
-fn packets_come_from_neighbours_alone(rt: HostRuntime) -> Result<(), Refusal> {
-    let mut world = ring(rt.alloc(), 3)?;
-    let token = |bid: u32| -> Result<Msg, Refusal> {
-        Ok(Msg::Token {
-            key: red(5)?,
-            candidate: candidate(bid, 1)?,
-        })
-    };
-    assert!(rt; stand(&mut world, 1, 5, 10).is_ok());
-    let first = Request::Take(0, token(10)?);
-    for (node, request, refusal) in [
-        (2, Request::Take(0, token(11)?), Refusal::Unknown),
-        (2, Request::Take(1, token(10)?), Refusal::Unknown),
+fn packets_come_from_neighbours_alone(rt: HostRuntime) {
+    let mut world = ring(&rt, rt.alloc(), 3);
+    assert!(rt; submit(&rt, &mut world, 1, Asked::Stand(5, 10)).is_ok());
+    let first = Asked::Take(0, (10, 1));
+    for (node, asked, refusal) in [
+        (2, Asked::Take(0, (11, 1)), Refusal::Unknown),
+        (2, Asked::Take(1, (10, 1)), Refusal::Unknown),
         (3, first, Refusal::Unknown),
         (4, first, Refusal::BadNumber),
-        (1, Request::Acked(0), Refusal::Unknown),
-        (1, Request::Acked(1), Refusal::Unknown),
+        (1, Asked::Acked(0), Refusal::Unknown),
+        (1, Asked::Acked(1), Refusal::Unknown),
     ] {
-        let was = refused(submit(&mut world, node, request));
+        let was = submit(&rt, &mut world, node, asked).err();
         assert_eq!(rt; was, Some(refusal), "at node {node}");
     }
-    let taken = submit(&mut world, 2, Request::Take(0, token(10)?))?;
-    assert_eq!(rt; reply(&rt, &taken, 2), Reply::Taken);
-    let late = stand(&mut world, 2, 5, 40)?;
-    assert_eq!(rt; reply(&rt, &late, 3), Reply::Refused(Refusal::Late));
-    let acked = submit(&mut world, 1, Request::Acked(1))?;
-    assert_eq!(rt; reply(&rt, &acked, 4), Reply::Acked);
-    let old = submit(&mut world, 1, Request::Acked(1))?;
-    assert_eq!(rt; reply(&rt, &old, 5), Reply::Refused(Refusal::Old(1)));
-    let again = stand(&mut world, 1, 5, 99)?;
-    assert_eq!(rt;
-        reply(&rt, &again, 6),
-        Reply::Refused(Refusal::Already(Bid::new(10)?))
-    );
-    Ok(())
+    let already = Refusal::Already(bid(&rt, 10));
+    for (node, asked, ticket, reply) in [
+        (2, first, 2, Reply::Taken),
+        (2, Asked::Stand(5, 40), 3, Reply::Refused(Refusal::Late)),
+        (1, Asked::Acked(1), 4, Reply::Acked),
+        (1, Asked::Acked(1), 5, Reply::Refused(Refusal::Old(1))),
+        (1, Asked::Stand(5, 99), 6, Reply::Refused(already)),
+    ] {
+        let step = submit(&rt, &mut world, node, asked);
+        answers(&rt, step, ticket, reply);
+    }
 }
 
 #[test]
-fn credits_are_earned_and_go_to_the_predecessor(rt: HostRuntime) -> Result<(), Refusal> {
-    let mut world = ring(rt.alloc(), 3)?;
-    let stood = stand(&mut world, 1, 5, 10)?;
-    assert_eq!(rt; reply(&rt, &stood, 1), Reply::Stood);
-    let early = refused(credit(&mut world, 2, 1));
+fn credits_are_earned_and_go_to_the_predecessor(rt: HostRuntime) {
+    let mut world = ring(&rt, rt.alloc(), 3);
+    let stood = submit(&rt, &mut world, 1, Asked::Stand(5, 10));
+    answers(&rt, stood, 1, Reply::Stood);
+    let early = credit(&rt, &mut world, 2, 1).err();
     assert_eq!(rt; early, Some(Refusal::Unknown));
-    let taken = deliver(&mut world, 1, 0)?;
-    assert_eq!(rt; reply(&rt, &taken, 2), Reply::Taken);
+    let taken = deliver(&rt, &mut world, 1, 0);
+    answers(&rt, taken, 2, Reply::Taken);
     for (from, upto, refusal) in [
         (1, 1, Refusal::Unknown),
         (2, 0, Refusal::Unknown),
@@ -180,54 +206,49 @@ fn credits_are_earned_and_go_to_the_predecessor(rt: HostRuntime) -> Result<(), R
         (3, 1, Refusal::Unknown),
         (4, 1, Refusal::BadNumber),
     ] {
-        let was = refused(credit(&mut world, from, upto));
+        let was = credit(&rt, &mut world, from, upto).err();
         assert_eq!(rt; was, Some(refusal), "{upto} from node {from}");
     }
-    let acked = credit(&mut world, 2, 1)?;
-    assert_eq!(rt; reply(&rt, &acked, 3), Reply::Acked);
-    let known = submit(&mut world, 1, Request::Acked(1))?;
-    assert_eq!(rt; reply(&rt, &known, 4), Reply::Refused(Refusal::Old(1)));
-    let old = credit(&mut world, 2, 1)?;
-    assert_eq!(rt; reply(&rt, &old, 5), Reply::Refused(Refusal::Old(1)));
-    Ok(())
+    let acked = credit(&rt, &mut world, 2, 1);
+    answers(&rt, acked, 3, Reply::Acked);
+    let known = submit(&rt, &mut world, 1, Asked::Acked(1));
+    answers(&rt, known, 4, Reply::Refused(Refusal::Old(1)));
+    let old = credit(&rt, &mut world, 2, 1);
+    answers(&rt, old, 5, Reply::Refused(Refusal::Old(1)));
 }
 
 #[test]
-fn refused_steps_take_no_ticket(rt: HostRuntime) -> Result<(), Refusal> {
-    let mut world = ring(rt.alloc(), 2)?;
+fn refused_steps_take_no_ticket(rt: HostRuntime) {
+    let mut world = ring(&rt, rt.alloc(), 2);
     for (from, no, refusal) in [(3, 0, Refusal::BadNumber), (1, 0, Refusal::Unknown)] {
-        let was = refused(deliver(&mut world, from, no));
+        let was = deliver(&rt, &mut world, from, no).err();
         assert_eq!(rt; was, Some(refusal), "from node {from}");
     }
-    let stood = stand(&mut world, 1, 5, 10)?;
-    assert_eq!(rt; reply(&rt, &stood, 1), Reply::Stood);
-    let taken = deliver(&mut world, 1, 0)?;
-    assert_eq!(rt; reply(&rt, &taken, 2), Reply::Taken);
-    let old = deliver(&mut world, 1, 0)?;
-    assert_eq!(rt; reply(&rt, &old, 3), Reply::Refused(Refusal::Old(1)));
-    Ok(())
+    let stood = submit(&rt, &mut world, 1, Asked::Stand(5, 10));
+    answers(&rt, stood, 1, Reply::Stood);
+    let taken = deliver(&rt, &mut world, 1, 0);
+    answers(&rt, taken, 2, Reply::Taken);
+    let old = deliver(&rt, &mut world, 1, 0);
+    answers(&rt, old, 3, Reply::Refused(Refusal::Old(1)));
 }
 
 #[test]
-fn a_node_refuses_what_admission_does(rt: HostRuntime) -> Result<(), Refusal> {
-    let mut world = World::new(rt.alloc(), 2, true, 4_096)?;
+fn a_node_refuses_what_admission_does(rt: HostRuntime) {
+    let mut world = World::new(rt.alloc(), 2, true, 4_096).expect(&rt, "a ring");
     // Node 1 stands for 203 terms, 20 bytes each, and leads in the first of them.
     for term in 2..205 {
-        let stood = stand(&mut world, 1, term, 10)?;
-        assert_eq!(rt; reply(&rt, &stood, term as u64 - 1), Reply::Stood);
+        let stood = submit(&rt, &mut world, 1, Asked::Stand(term, 10));
+        answers(&rt, stood, term as u64 - 1, Reply::Stood);
     }
     // 4,060 of its 4,096 bytes are taken: its token fits, 29 bytes, and then nothing of 20.
-    let taken = deliver(&mut world, 1, 0)?;
-    assert_eq!(rt; reply(&rt, &taken, 204), Reply::Taken);
-    let home = deliver(&mut world, 2, 0)?;
-    assert_eq!(rt; reply(&rt, &home, 205), Reply::Taken);
-    let full = stand(&mut world, 1, 205, 10)?;
-    assert_eq!(rt; reply(&rt, &full, 206), Reply::Refused(Refusal::Full));
+    let taken = deliver(&rt, &mut world, 1, 0);
+    answers(&rt, taken, 204, Reply::Taken);
+    let home = deliver(&rt, &mut world, 2, 0);
+    answers(&rt, home, 205, Reply::Taken);
+    let full = submit(&rt, &mut world, 1, Asked::Stand(205, 10));
+    answers(&rt, full, 206, Reply::Refused(Refusal::Full));
     // What the history says comes before that: term 2 has a leader.
-    let stale = stand(&mut world, 1, 1, 10)?;
-    assert_eq!(rt;
-        reply(&rt, &stale, 207),
-        Reply::Refused(Refusal::Stale(Term::new(2)?))
-    );
-    Ok(())
+    let stale = submit(&rt, &mut world, 1, Asked::Stand(1, 10));
+    let two = Refusal::Stale(term(&rt, 2));
+    answers(&rt, stale, 207, Reply::Refused(two));
 }

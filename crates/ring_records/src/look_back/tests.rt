@@ -1,387 +1,284 @@
 // The worked histories, with what each node sends and knows, worked out by hand.
 use super::*;
 use std::process::Abort;
-use std::test::Fail;
 
-fn key(group: &str, term: u32) -> Result<Key, Refusal> {
-    let group = GroupName::read(group.as_bytes())?;
-    let term = Term::new(term)?;
-    Ok(Key { group, term })
+mod rows;
+
+use rows::Note::{self, Elected, Token};
+use rows::Op::{self, Acked, Stand, Take};
+use rows::{Cause, bid, candidate, key, node};
+
+fn inputs(rt: &impl Abort, alloc: Global, ops: &[Op]) -> Vec<Input> {
+    let mut inputs = Vec::new(alloc);
+    for op in ops {
+        inputs.push(op.input(rt)).expect(rt, "ample memory");
+    }
+    inputs
 }
 
-fn candidate(bid: u32, node: u8) -> Result<Candidate, Refusal> {
-    let bid = Bid::new(bid)?;
-    let node = NodeNo::new(node)?;
-    Ok(Candidate { bid, node })
+fn messages(rt: &impl Abort, alloc: Global, notes: &[Note]) -> Vec<Msg> {
+    let mut messages = Vec::new(alloc);
+    for note in notes {
+        messages.push(note.msg(rt)).expect(rt, "ample memory");
+    }
+    messages
 }
 
-fn stand(group: &str, term: u32, bid: u32) -> Result<Input, Refusal> {
-    let key = key(group, term)?;
-    let bid = Bid::new(bid)?;
-    Ok(Input::Stand { key, bid })
+/// An election: its row, the size of its ring, its key, and the bid and the node of its winner.
+#[derive(Clone, Copy)]
+struct Election {
+    row: &'static str,
+    n: u8,
+    group: &'static str,
+    term: u32,
+    winner: (u32, u8),
 }
 
-fn token(group: &str, term: u32, bid: u32, node: u8) -> Result<Msg, Refusal> {
-    let key = key(group, term)?;
-    let candidate = candidate(bid, node)?;
-    Ok(Msg::Token { key, candidate })
+/// Each input is admitted after those before it.
+fn is_admitted(rt: &impl Abort, me: NodeNo, election: Election, history: &[Input]) {
+    for (place, input) in history.iter().enumerate() {
+        let refused = refusal(me, election.n, 65536, &history[..place], input);
+        assert_eq!(rt;
+            refused,
+            None,
+            "{}: input {place} at node {me}",
+            election.row
+        );
+    }
 }
 
-fn elected(group: &str, term: u32, bid: u32, node: u8) -> Result<Msg, Refusal> {
-    let key = key(group, term)?;
-    let candidate = candidate(bid, node)?;
-    Ok(Msg::Elected { key, candidate })
-}
-
-fn take(no: u64, msg: Msg) -> Input {
-    Input::Take { no, msg }
-}
-
-// Each input is admitted after those before it, and at the end the node has sent this and knows this leader.
+/// Each input of the node is admitted after those before it, and at the end it has sent this and knows the winner.
 fn follows(
     rt: &impl Abort,
     alloc: Global,
-    row: &str,
-    me: u8,
-    n: u8,
-    history: &[Input],
-    want: &[Msg],
-    key: &Key,
-    leads: &Candidate,
-) -> Result<(), Fail> {
-    let me = NodeNo::new(me)?;
-    for (place, input) in history.iter().enumerate() {
-        let refused = refusal(me, n, 65536, &history[..place], input);
-        assert_eq!(rt; refused, None, "{row}: input {place} at node {me}");
-    }
-    let messages = sent(alloc, me, history)?;
-    assert_eq!(rt; messages.as_slice(), want, "{row}: sent by node {me}");
+    election: Election,
+    number: u8,
+    ops: &[Op],
+    notes: &[Note],
+) {
+    let (me, row) = (node(rt, number), election.row);
+    let history = inputs(rt, alloc, ops);
+    is_admitted(rt, me, election, &history);
+    let want = messages(rt, alloc, notes);
+    let told = sent(alloc, me, &history).expect(rt, "ample memory");
     assert_eq!(rt;
-        leader(me, history, key),
-        Some(*leads),
-        "{row}: leader at node {me}"
+        told.as_slice(),
+        want.as_slice(),
+        "{row}: sent by node {me}"
     );
-    assert_eq!(rt;
-        latest(me, history, &key.group),
-        Some((key.term, *leads)),
-        "{row}: latest at node {me}"
-    );
-    Ok(())
+    let key = key(rt, election.group, election.term);
+    let leads = leader(me, &history, &key);
+    let winner = candidate(rt, election.winner);
+    assert_eq!(rt; leads, Some(winner), "{row}: leader at node {me}");
+    let last = latest(me, &history, &key.group);
+    let greatest = Some((key.term, candidate(rt, election.winner)));
+    assert_eq!(rt; last, greatest, "{row}: latest at node {me}");
 }
 
-#[test]
-fn elects_the_greatest_candidate(rt: HostRuntime) -> Result<(), Fail> {
-    let red = key("red", 5)?;
-    let (first, second, third) = (
-        token("red", 5, 10, 1)?,
-        token("red", 5, 30, 2)?,
-        token("red", 5, 20, 3)?,
-    );
-    let (winner, won) = (candidate(30, 2)?, elected("red", 5, 30, 2)?);
-    let row = "first_election";
+fn first_election(rt: &impl Abort, alloc: Global) {
+    let election = Election {
+        row: "first_election",
+        n: 3,
+        group: "red",
+        term: 5,
+        winner: (30, 2),
+    };
+    let first = Token("red", 5, 10, 1);
+    let second = Token("red", 5, 30, 2);
+    let third = Token("red", 5, 20, 3);
+    let won = Elected("red", 5, 30, 2);
     let node_1 = [
-        stand("red", 5, 10)?,
-        take(0, third),
-        take(1, second),
-        take(2, won),
+        Stand("red", 5, 10),
+        Take(0, third),
+        Take(1, second),
+        Take(2, won),
     ];
-    follows(
-        &rt,
-        rt.alloc(),
-        row,
-        1,
-        3,
-        &node_1,
-        &[first, third, second, won],
-        &red,
-        &winner,
-    )?;
+    let sent_1 = [first, third, second, won];
+    follows(rt, alloc, election, 1, &node_1, &sent_1);
     let node_2 = [
-        stand("red", 5, 30)?,
-        take(0, first),
-        take(1, third),
-        take(2, second),
-        take(3, won),
+        Stand("red", 5, 30),
+        Take(0, first),
+        Take(1, third),
+        Take(2, second),
+        Take(3, won),
     ];
-    follows(
-        &rt,
-        rt.alloc(),
-        row,
-        2,
-        3,
-        &node_2,
-        &[second, won],
-        &red,
-        &winner,
-    )?;
-    let node_3 = [stand("red", 5, 20)?, take(0, second), take(1, won)];
-    follows(
-        &rt,
-        rt.alloc(),
-        row,
-        3,
-        3,
-        &node_3,
-        &[third, second, won],
-        &red,
-        &winner,
-    )?;
+    follows(rt, alloc, election, 2, &node_2, &[second, won]);
+    let node_3 = [Stand("red", 5, 20), Take(0, second), Take(1, won)];
+    follows(rt, alloc, election, 3, &node_3, &[third, second, won]);
+}
 
-    let row = "equal_bids";
-    let third = token("red", 5, 10, 3)?;
-    let (winner, won) = (candidate(10, 3)?, elected("red", 5, 10, 3)?);
-    let node_1 = [stand("red", 5, 10)?, take(0, third), take(1, won)];
-    follows(
-        &rt,
-        rt.alloc(),
-        row,
-        1,
-        3,
-        &node_1,
-        &[first, third, won],
-        &red,
-        &winner,
-    )?;
-    let node_2 = [take(0, first), take(1, third), take(2, won)];
-    follows(
-        &rt,
-        rt.alloc(),
-        row,
-        2,
-        3,
-        &node_2,
-        &[first, third, won],
-        &red,
-        &winner,
-    )?;
+fn equal_bids(rt: &impl Abort, alloc: Global) {
+    let election = Election {
+        row: "equal_bids",
+        n: 3,
+        group: "red",
+        term: 5,
+        winner: (10, 3),
+    };
+    let (first, third) = (Token("red", 5, 10, 1), Token("red", 5, 10, 3));
+    let won = Elected("red", 5, 10, 3);
+    let node_1 = [Stand("red", 5, 10), Take(0, third), Take(1, won)];
+    follows(rt, alloc, election, 1, &node_1, &[first, third, won]);
+    let node_2 = [Take(0, first), Take(1, third), Take(2, won)];
+    follows(rt, alloc, election, 2, &node_2, &[first, third, won]);
     let node_3 = [
-        stand("red", 5, 10)?,
-        take(0, first),
-        take(1, third),
-        take(2, won),
+        Stand("red", 5, 10),
+        Take(0, first),
+        Take(1, third),
+        Take(2, won),
     ];
-    follows(
-        &rt,
-        rt.alloc(),
-        row,
-        3,
-        3,
-        &node_3,
-        &[third, won],
-        &red,
-        &winner,
-    )?;
+    follows(rt, alloc, election, 3, &node_3, &[third, won]);
+}
 
-    let row = "ring_of_two";
-    let red = key("red", 1)?;
-    let (only, winner, won) = (
-        token("red", 1, 0, 2)?,
-        candidate(0, 2)?,
-        elected("red", 1, 0, 2)?,
-    );
-    follows(
-        &rt,
-        rt.alloc(),
-        row,
-        1,
-        2,
-        &[take(0, only), take(1, won)],
-        &[only, won],
-        &red,
-        &winner,
-    )?;
-    let node_2 = [stand("red", 1, 0)?, take(0, only), take(1, won)];
-    follows(
-        &rt,
-        rt.alloc(),
-        row,
-        2,
-        2,
-        &node_2,
-        &[only, won],
-        &red,
-        &winner,
-    )?;
-    Ok(())
+fn ring_of_two(rt: &impl Abort, alloc: Global) {
+    let election = Election {
+        row: "ring_of_two",
+        n: 2,
+        group: "red",
+        term: 1,
+        winner: (0, 2),
+    };
+    let (only, won) = (Token("red", 1, 0, 2), Elected("red", 1, 0, 2));
+    let node_1 = [Take(0, only), Take(1, won)];
+    follows(rt, alloc, election, 1, &node_1, &[only, won]);
+    let node_2 = [Stand("red", 1, 0), Take(0, only), Take(1, won)];
+    follows(rt, alloc, election, 2, &node_2, &[only, won]);
 }
 
 #[test]
-fn counts_what_is_in_a_history(rt: HostRuntime) -> Result<(), Fail> {
-    let me = NodeNo::new(2)?;
-    let (red, blue) = (key("red", 5)?, key("blue", 1)?);
-    let (relayed, own) = (token("red", 5, 10, 1)?, stand("blue", 1, 3)?);
-    let history = [
-        take(0, relayed),
-        own,
-        Input::Acked { upto: 1 },
-        Input::Acked { upto: 2 },
-    ];
+fn elects_the_greatest_candidate(rt: HostRuntime) {
+    first_election(&rt, rt.alloc());
+    equal_bids(&rt, rt.alloc());
+    ring_of_two(&rt, rt.alloc());
+}
+
+#[test]
+fn counts_what_is_in_a_history(rt: HostRuntime) {
+    let me = node(&rt, 2);
+    let (red, blue) = (key(&rt, "red", 5), key(&rt, "blue", 1));
+    let relayed = Token("red", 5, 10, 1);
+    let own = Stand("blue", 1, 3);
+    let history = inputs(
+        &rt,
+        rt.alloc(),
+        &[Take(0, relayed), own, Acked(1), Acked(2)],
+    );
     assert_eq!(rt; touched(&history, &red), true);
-    assert_eq!(rt; touched(&history, &key("red", 6)?), false);
+    assert_eq!(rt; touched(&history, &key(&rt, "red", 6)), false);
     assert_eq!(rt; stood(&history, &red), None);
-    assert_eq!(rt; stood(&history, &blue), Some(Bid::new(3)?));
-    assert_eq!(rt;
-        (stands(&history), credit(&history), credit(&history[..2])),
-        (1, 2, 0)
-    );
-    let messages = taken(rt.alloc(), &history)?;
-    assert_eq!(rt; messages.as_slice(), [relayed].as_slice());
-    assert_eq!(rt; emit(me, &history, &own), Some(token("blue", 1, 3, 2)?));
+    assert_eq!(rt; stood(&history, &blue), Some(bid(&rt, 3)));
+    assert_eq!(rt; (stands(&history), credit(&history)), (1, 2));
+    let before = inputs(&rt, rt.alloc(), &[Take(0, relayed), own]);
+    assert_eq!(rt; credit(&before), 0);
+    let received = taken(rt.alloc(), &history).expect(&rt, "ample memory");
+    let want = messages(&rt, rt.alloc(), &[relayed]);
+    assert_eq!(rt; received.as_slice(), want.as_slice());
+    let emitted = emit(me, &history, &own.input(&rt));
+    assert_eq!(rt; emitted, Some(Token("blue", 1, 3, 2).msg(&rt)));
     assert_eq!(rt; latest(me, &history, &red.group), None);
-    Ok(())
+}
+
+/// Node 1 of three, with this capacity, judges the input after these so.
+fn judges(
+    rt: &impl Abort,
+    alloc: Global,
+    row: &str,
+    capacity: u32,
+    before: &[Op],
+    op: Op,
+    cause: Option<Cause>,
+) {
+    let history = inputs(rt, alloc, before);
+    let refused = refusal(node(rt, 1), 3, capacity, &history, &op.input(rt));
+    let want = match cause {
+        Some(cause) => Some(cause.refusal(rt)),
+        None => None,
+    };
+    assert_eq!(rt; refused, want, "{row}");
+}
+
+/// The capacity is judged last.
+fn a_cost_has_to_fit(rt: &impl Abort, alloc: Global) {
+    let (stood, other) = (Stand("red", 5, 10), Stand("blue", 4, 5));
+    let (already, full) = (Some(Cause::Already(10)), Some(Cause::Full));
+    let before = [stood, Acked(1)];
+    judges(
+        rt,
+        alloc,
+        "a cost that does not fit",
+        56,
+        &before,
+        other,
+        full,
+    );
+    judges(rt, alloc, "a cost that just fits", 57, &before, other, None);
+    judges(rt, alloc, "full comes last", 0, &[stood], stood, already);
 }
 
 #[test]
-fn refuses_by_the_first_cause(rt: HostRuntime) -> Result<(), Fail> {
-    let me = NodeNo::new(1)?;
-    let (bid, nine) = (Bid::new(10)?, Term::new(9)?);
-    let (stood, relayed) = (stand("red", 5, 10)?, take(0, token("red", 5, 10, 2)?));
-    let (named, other) = (take(1, token("blue", 1, 3, 2)?), token("red", 5, 10, 3)?);
-    let (home, led) = (
-        take(0, token("red", 9, 5, 1)?),
-        take(1, elected("red", 9, 5, 1)?),
-    );
-    let leads = [stand("red", 9, 5)?, home, led];
-    let rows: [(&str, u32, &[Input], Input, Option<Refusal>); 20] = [
-        ("the first Stand", 65536, &[], stood, None),
-        (
-            "already",
-            65536,
-            &[stood],
-            stood,
-            Some(Refusal::Already(bid)),
-        ),
-        (
-            "already, and a message came",
-            65536,
-            &[stood, relayed],
-            stood,
-            Some(Refusal::Already(bid)),
-        ),
-        (
-            "late after relay",
-            65536,
-            &[relayed],
-            stand("red", 5, 40)?,
-            Some(Refusal::Late),
-        ),
-        (
-            "stale",
-            65536,
-            &leads,
-            stand("red", 4, 5)?,
-            Some(Refusal::Stale(nine)),
-        ),
-        ("a greater term", 65536, &leads, stand("red", 10, 5)?, None),
-        ("another group", 65536, &leads, stand("blue", 4, 5)?, None),
-        ("gap", 65536, &[], named, Some(Refusal::Gap(0))),
-        ("the next message", 65536, &[relayed], named, None),
-        (
-            "the message before",
-            65536,
-            &[relayed, named],
-            named,
-            Some(Refusal::Old(2)),
-        ),
-        (
-            "the first message again",
-            65536,
-            &[relayed, named],
-            relayed,
-            Some(Refusal::Old(2)),
-        ),
-        (
-            "no such node",
-            65536,
-            &[],
-            take(7, token("red", 5, 10, 4)?),
-            Some(Refusal::BadNumber),
-        ),
-        ("the last node", 65536, &[], take(0, other), None),
+fn refuses_by_the_first_cause(rt: HostRuntime) {
+    let (stood, relayed) = (Stand("red", 5, 10), Take(0, Token("red", 5, 10, 2)));
+    let (named, other) = (Take(1, Token("blue", 1, 3, 2)), Stand("blue", 4, 5));
+    let (one, two) = ([stood, relayed], [relayed, named]);
+    let (credited, old) = ([stood, Acked(1)], Some(Cause::Old(2)));
+    let home = Take(0, Token("red", 9, 5, 1));
+    let leads = [Stand("red", 9, 5), home, Take(1, Elected("red", 9, 5, 1))];
+    let (already, late) = (Some(Cause::Already(10)), Some(Cause::Late));
+    let (stale, ahead) = (Some(Cause::Stale(9)), Some(Cause::AckAhead(1)));
+    let (nobody, none) = (Take(7, Token("red", 5, 10, 4)), Some(Cause::BadNumber));
+    let rows: [(&str, &[Op], Op, Option<Cause>); 17] = [
+        ("the first Stand", &[], stood, None),
+        ("already", &one[..1], stood, already),
+        ("already, and a message came", &one, stood, already),
+        ("late after relay", &two[..1], Stand("red", 5, 40), late),
+        ("stale", &leads, Stand("red", 4, 5), stale),
+        ("a greater term", &leads, Stand("red", 10, 5), None),
+        ("another group", &leads, other, None),
+        ("gap", &[], named, Some(Cause::Gap(0))),
+        ("the next message", &two[..1], named, None),
+        ("the message before", &two, named, old),
+        ("the first message again", &two, relayed, old),
+        ("no such node", &[], nobody, none),
+        ("the last node", &[], Take(0, Token("red", 5, 10, 3)), None),
         (
             "credit of nothing",
-            65536,
-            &[stood],
-            Input::Acked { upto: 0 },
-            Some(Refusal::Old(0)),
+            &one[..1],
+            Acked(0),
+            Some(Cause::Old(0)),
         ),
-        ("credit", 65536, &[stood], Input::Acked { upto: 1 }, None),
-        (
-            "credit ahead",
-            65536,
-            &[stood],
-            Input::Acked { upto: 2 },
-            Some(Refusal::AckAhead(1)),
-        ),
-        (
-            "credit again",
-            65536,
-            &[stood, Input::Acked { upto: 1 }],
-            Input::Acked { upto: 1 },
-            Some(Refusal::Old(1)),
-        ),
-        (
-            "a cost that does not fit",
-            56,
-            &[stood, Input::Acked { upto: 1 }],
-            stand("blue", 4, 5)?,
-            Some(Refusal::Full),
-        ),
-        (
-            "a cost that just fits",
-            57,
-            &[stood, Input::Acked { upto: 1 }],
-            stand("blue", 4, 5)?,
-            None,
-        ),
-        (
-            "full comes last",
-            0,
-            &[stood],
-            stood,
-            Some(Refusal::Already(bid)),
-        ),
+        ("credit", &one[..1], Acked(1), None),
+        ("credit ahead", &one[..1], Acked(2), ahead),
+        ("credit again", &credited, Acked(1), Some(Cause::Old(1))),
     ];
-    for (row, capacity, history, input, want) in rows {
-        assert_eq!(rt; refusal(me, 3, capacity, history, &input), want, "{row}");
+    for (row, before, op, want) in rows {
+        judges(&rt, rt.alloc(), row, 65536, before, op, want);
     }
-    Ok(())
+    a_cost_has_to_fit(&rt, rt.alloc());
+}
+
+/// Whether node 1 of two, with this capacity, admits the input after these; what is over a limit is refused so.
+fn limits(
+    rt: &impl Abort,
+    capacity: u32,
+    history: &[Input],
+    input: &Input,
+    is_over: bool,
+    limit: Refusal,
+) {
+    let want = if is_over { Some(limit) } else { None };
+    let refused = refusal(node(rt, 1), 2, capacity, history, input);
+    assert_eq!(rt; refused, want, "stand {} at {capacity}", history.len());
 }
 
 #[test]
-fn limits_stands_and_bytes(rt: HostRuntime) -> Result<(), Fail> {
-    let me = NodeNo::new(1)?;
-    let (group, bid) = (GroupName::read(b"red")?, Bid::new(10)?);
+fn limits_stands_and_bytes(rt: HostRuntime) {
     let mut history = Vec::new(rt.alloc());
     for term in 1..1026 {
-        let key = Key {
-            group,
-            term: Term::new(term)?,
-        };
-        let input = Input::Stand { key, bid };
-        let limited = if term <= 1024 {
-            None
-        } else {
-            Some(Refusal::Limit)
-        };
-        assert_eq!(rt;
-            refusal(me, 2, 65536, &history, &input),
-            limited,
-            "stand {term} at 65,536"
-        );
+        let input = Stand("red", term, 10).input(&rt);
+        limits(&rt, 65536, &history, &input, term > 1024, Refusal::Limit);
         if term == 204 || term == 205 {
-            let full = if term == 204 {
-                None
-            } else {
-                Some(Refusal::Full)
-            };
-            assert_eq!(rt;
-                refusal(me, 2, 4096, &history, &input),
-                full,
-                "stand {term} at 4,096"
-            );
+            limits(&rt, 4096, &history, &input, term > 204, Refusal::Full);
         }
-        history.push(Input::Stand { key, bid })?;
+        history.push(input).expect(&rt, "ample memory");
     }
-    Ok(())
 }
