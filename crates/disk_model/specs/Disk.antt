@@ -83,9 +83,10 @@ pub record Elapses (before now : ℕ) (past since : ℕ → List ℕ → Type 0)
   pub nothing_else : (t : ℕ) (image : List ℕ) → t ≤ before → since t image → past t image ⊎ MayLeave disk image
   pub keeps : (t : ℕ) (image : List ℕ) → t ≤ before → past t image → since t image
 
--- the count of failures never falls, and a fault raises it, save at 2^64 - 1, where it stays
+-- the count of failures never falls; a success leaves it, and a fault raises it, save at 2^64 - 1, where it stays
 pub record HasCause {T E : Type 0} (before now : ℕ) (result : Result T E) : Type 0 where
   pub later : before ≤ now
+  pub same : IsOk result → now ≡ before
   pub rises : IsErr result → min (before + 1) (2 ^ 64 - 1) ≤ now
 
 -- the reach stays, and while it is above 0 a call that ends at or below it succeeds

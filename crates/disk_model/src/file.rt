@@ -89,6 +89,7 @@ fn sync_folder<R: Files<File = fs::File>>(files: &R, path: &str) -> io::Result<(
 // Reads the file into the memory, in which nothing is stable then.
 fn load(file: &fs::File, held: &mut Buffer, len: usize) -> Result<(), OpenFault>
     ensures stable { (buffer.disk_of held.new).stable ≡ (buffer.disk_of held.old).stable }
+    ensures limit { buffer.limit_of held.new ≡ buffer.limit_of held.old }
 {
     let mut piece = [0; PIECE];
     let mut at = 0;
@@ -102,7 +103,7 @@ fn load(file: &fs::File, held: &mut Buffer, len: usize) -> Result<(), OpenFault>
 }
 
 impl FileDevice {
-    ghost use Rattle.disk_model.specs.FileDevice.{disk_of, count_of, has_failed};
+    ghost use Rattle.disk_model.specs.FileDevice.{disk_of, limit_of, count_of, has_failed};
 
     /// A new, empty file. Refused as `Device` where the system refuses it, as where there is a file of this name; a file
     /// may have been made then.
@@ -113,6 +114,8 @@ impl FileDevice {
     ) -> Result<FileDevice, OpenFault>
         ensures empty { IfOk result (λ device. disk_of device ≡ record { image = []; stable = []; ranges = [] }) }
         ensures count { IfOk result (λ device. count_of device ≡ 0) }
+        ensures works { IfOk result (λ device. has_failed device ≡ false) }
+        ensures limit { IfOk result (λ device. limit_of device ≡ 2 ^ 21 + 2 ^ 12) }
     {
         let held = Buffer::new(alloc, FILE_LIMIT)?;
         let file = OpenOptions::new()
@@ -139,6 +142,8 @@ impl FileDevice {
     ) -> Result<FileDevice, OpenFault>
         ensures stable { IfOk result (λ device. (disk_of device).stable ≡ []) }
         ensures count { IfOk result (λ device. count_of device ≡ 0) }
+        ensures works { IfOk result (λ device. has_failed device ≡ false) }
+        ensures limit { IfOk result (λ device. limit_of device ≡ 2 ^ 21 + 2 ^ 12) }
     {
         let mut held = Buffer::new(alloc, FILE_LIMIT)?;
         let file = OpenOptions::new().read(true).write(true).open(files, path)?;
@@ -207,6 +212,7 @@ impl Device for FileDevice {
         ensures cause { HasCause (count_of self.old) (count_of self.new) result }
         ensures reach { IsInReach (off + length buf.old) 0 0 result }
         ensures within { OnOk result (off + length buf.old ≤ length (disk_of self.old).image) }
+        ensures limit { limit_of self.new ≡ limit_of self.old }
         ensures works { has_failed self.old ≡ false → off + length buf.old ≤ length (disk_of self.old).image → IsOk result }
         ensures broken { IsTrue (has_failed self.old) → IsErr result × IsTrue (has_failed self.new) }
     {
@@ -223,6 +229,8 @@ impl Device for FileDevice {
         ensures time { Elapses (past_count self.old) (past_count self.new) (left_since self.old) (left_since self.new) (disk_of self.new) }
         ensures cause { HasCause (count_of self.old) (count_of self.new) result }
         ensures reach { IsInReach (off + length bytes.now) 0 0 result }
+        ensures limit { limit_of self.new ≡ limit_of self.old }
+        ensures within { OnOk result (off + length bytes.now ≤ limit_of self.old) }
         ensures breaks { OnErr result (off + length bytes.now ≤ limit_of self.old → IsTrue (has_failed self.new)) }
         ensures broken { IsTrue (has_failed self.old) → IsErr result × IsTrue (has_failed self.new) }
     {
@@ -243,6 +251,7 @@ impl Device for FileDevice {
         ensures time { Elapses (past_count self.old) (past_count self.new) (left_since self.old) (left_since self.new) (disk_of self.new) }
         ensures cause { HasCause (count_of self.old) (count_of self.new) result }
         ensures reach { IsInReach 0 0 0 result }
+        ensures limit { limit_of self.new ≡ limit_of self.old }
         ensures breaks { OnErr result (IsTrue (has_failed self.new)) }
         ensures broken { IsTrue (has_failed self.old) → IsErr result × IsTrue (has_failed self.new) }
     {
