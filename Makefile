@@ -5,6 +5,7 @@ run:
 	@bench/try.sh examples/first_election.ring
 
 test:
+	@must_not_compile/run.py
 	@rt ci
 
 ringctl:

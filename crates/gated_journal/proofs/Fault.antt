@@ -1,5 +1,5 @@
 -- An image has one reading or one fault.
-use Rattle.std.proofs.Common.{◌≡◌, ◌⊎◌, inl, inr, ℕ, ◌≤◌, List, length, Result, Ok, Err, sym, ◌∙◌, ap, arith}
+use Rattle.std.proofs.Common.{◌≡◌, ◌⊎◌, inl, inr, ℕ, ◌≤◌, List, length, Ok, Err, sym, ◌∙◌, ap, arith}
 use Rattle.ring_records.specs.declared.input.Input.{Input}
 use Rattle.ring_records.specs.declared.refusal.Refusal.{Refusal}
 use Rattle.ring_records.specs.declared.refusal.Refusal.TheVariants.{Damaged}

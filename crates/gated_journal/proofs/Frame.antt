@@ -1,6 +1,6 @@
 -- Frames read one after the other.
-use Rattle.std.proofs.Common.{◌≡◌, inr, ℕ, ◌+◌, ◌<◌, List, [], ◌∷◌, ◌++◌, length, drop, get_or, refl, sym, ◌∙◌, ap, subst, arith}
-use Rattle.std.proofs.lemmas.List.{drop_at, drop_more, drop-drop, take_rest}
+use Rattle.std.proofs.Common.{◌≡◌, inr, ℕ, ◌+◌, ◌<◌, List, [], ◌∷◌, ◌++◌, length, drop, get_or, sym, ◌∙◌, ap, arith}
+use Rattle.std.proofs.lemmas.List.{drop_at, drop_more, drop-drop}
 use Rattle.ring_records.specs.declared.input.Input.{Input}
 use Rattle.gated_journal.specs.Frames.{body, frames}
 use Rattle.gated_journal.specs.Scan.{TakesFrame}

@@ -1,11 +1,11 @@
 -- Frames in the bytes behind an offset, and in the whole image.
-use Rattle.std.proofs.Common.{◌≡◌, ⊎_elim, inl, inr, ℕ, ◌+◌, ◌≤◌, List, [], ◌∷◌, ◌++◌, length, drop, take, refl, sym, ◌∙◌, ap, subst, arith, length-drop}
+use Rattle.std.proofs.Common.{◌≡◌, ⊎_elim, inl, inr, ℕ, ◌+◌, List, ◌++◌, length, drop, sym, ◌∙◌, ap, arith, length-drop}
 use Rattle.std.proofs.lemmas.List.{take_all, drop-drop}
 use Rattle.disk_model.specs.Disk.{IsPart}
 use Rattle.disk_model.proofs.Images.{part_within}
 use Rattle.ring_records.specs.declared.input.Input.{Input}
 use Rattle.gated_journal.specs.Frames.{frames, ReadsTo}
-use Rattle.gated_journal.specs.Unread.{ReadsUpTo, IsDamagedAt}
+use Rattle.gated_journal.specs.Unread.{IsDamagedAt}
 
 -- what was read up to the image's end
 pub behind : (offset : ℕ) (bytes image : List ℕ) → IsPart offset bytes image → offset + length bytes ≡ length image → bytes ≡ drop offset image

@@ -1,9 +1,9 @@
 -- Records taken from the front of bytes, one after the other.
-use Rattle.std.proofs.Common.{◌≡◌, ℕ, eqb, true, false, ◌+◌, ◌<◌, ◌≤◌, List, [], ◌∷◌, ◌++◌, length, take, drop, Err, refl, sym, ◌∙◌, ap, arith, append_assoc, length-append, take-append-drop}
+use Rattle.std.proofs.Common.{◌≡◌, ℕ, eqb, true, false, ◌+◌, ◌<◌, ◌≤◌, List, [], ◌∷◌, ◌++◌, length, drop, Err, refl, sym, ◌∙◌, ap, arith, append_assoc, length-append, take-append-drop}
 use Rattle.std.proofs.lemmas.List.{append_cancel_left, append-nil}
 use Rattle.ring_records.specs.declared.input.Input.{Input}
 use Rattle.ring_records.specs.declared.record.RecordFault.{RecordFault}
-use Rattle.ring_records.specs.Record.{HasRecord, BeginsWith, record_of, record_read}
+use Rattle.ring_records.specs.Record.{BeginsWith, record_of, record_read}
 use Rattle.ring_records.proofs.Records.{record-again, records-apart}
 use Rattle.gated_journal.specs.Frames.{records, HaveRecords}
 use Rattle.gated_journal.specs.Scan.{TakesRecords}

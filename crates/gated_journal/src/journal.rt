@@ -1,4 +1,4 @@
-ghost use Rattle.std.specs.Prelude.{◌≡◌, ◌+◌, ◌++◌, ◌-◌, ◌⊎◌, ◌<◌, ◌≤◌, ◌^◌, ℕ, List, [], true, false, length, min, is_err, IfOk, IfErr, OnOk, IsOk};
+ghost use Rattle.std.specs.Prelude.{◌≡◌, ◌+◌, ◌++◌, ◌-◌, ◌⊎◌, ◌<◌, ◌≤◌, ◌^◌, ℕ, List, [], true, false, length, min, is_err, IfOk, IfErr, OnOk, OnErr, IsOk};
 ghost use Rattle.disk_model.specs.Disk.{MayLeave, LeavesOnly, HasCause};
 ghost use Rattle.ring_records.specs.declared.input.Input.{Input};
 ghost use Rattle.ring_records.specs.Admission.{fresh, used};
@@ -29,6 +29,7 @@ pub struct Journal<D: Device> {
     ghost from: { 16 ≤ place },
     ghost within: { place ≤ 16 + used },
     ghost counted: { count ≤ used },
+    ghost least: { 4096 ≤ capacity },
     ghost small: { capacity ≤ 1048576 },
 }
 
@@ -152,7 +153,9 @@ impl<D: Device> Journal<D> {
 
     /// The bytes that its inputs may take by their costs, 4,096 to 1,048,576.
     pub fn capacity(&self) -> u32
-        ensures { result ≡ (header_of self.now).capacity }
+        ensures value { result ≡ (header_of self.now).capacity }
+        ensures from { 4096 ≤ result }
+        ensures to { result ≤ 1048576 }
     {
         self.capacity
     }
@@ -219,6 +222,7 @@ impl<D: Device> Journal<D> {
         ensures spoiled { IfErr result (λ spoiled. lost spoiled ≡ shown batch) }
         ensures header { header_of self.new ≡ header_of self.old }
         ensures len { OnOk result (len_of self.new ≡ len_of self.old + length (shown batch).inputs) }
+        ensures kept { OnErr result ((len_of self.new ≡ len_of self.old) × (room_of self.new ≡ room_of self.old)) }
         ensures left { OnOk result (room_of self.new ≡ room_of self.old - used fresh (shown batch).inputs) }
     {
         let Batch {

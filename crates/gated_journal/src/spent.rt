@@ -1,6 +1,5 @@
 //! What a commit makes of a batch. Each must be spent: only `into_parts` ends it.
-ghost use Rattle.std.specs.Prelude.{◌≡◌};
-ghost use Rattle.gated_journal.specs.Batch.{landed, lost, numbered};
+ghost use Rattle.std.specs.Prelude.{◌≡◌, ◌≤◌, true, length};
 
 use ring_records::{Input, NodeNo};
 
@@ -9,9 +8,13 @@ pub struct Receipt {
     pub(crate) node: NodeNo,
     pub(crate) first: u64,
     pub(crate) inputs: Vec<Input>,
+    ghost some: { 1 ≤ length inputs.items },
+    ghost few: { length inputs.items ≤ 64 },
 }
 
 impl Receipt {
+    ghost use Rattle.gated_journal.specs.Batch.{is_size, landed, numbered};
+
     /// The node whose inputs they are.
     pub fn node(&self) -> NodeNo
         ensures { result ≡ (landed self.now).node }
@@ -28,7 +31,8 @@ impl Receipt {
 
     /// Its inputs, 1 to 64.
     pub fn inputs(&self) -> &[Input]
-        ensures { result.now ≡ (landed self.now).inputs }
+        ensures value { result.now ≡ (landed self.now).inputs }
+        ensures size { is_size (length result.now) ≡ true }
     {
         &self.inputs
     }
@@ -51,9 +55,13 @@ pub struct Spoiled {
     pub(crate) node: NodeNo,
     pub(crate) first: u64,
     pub(crate) inputs: Vec<Input>,
+    ghost some: { 1 ≤ length inputs.items },
+    ghost few: { length inputs.items ≤ 64 },
 }
 
 impl Spoiled {
+    ghost use Rattle.gated_journal.specs.Batch.{is_size, lost, numbered};
+
     /// The node whose inputs they are.
     pub fn node(&self) -> NodeNo
         ensures { result ≡ (lost self.now).node }
@@ -70,7 +78,8 @@ impl Spoiled {
 
     /// Its inputs, 1 to 64.
     pub fn inputs(&self) -> &[Input]
-        ensures { result.now ≡ (lost self.now).inputs }
+        ensures value { result.now ≡ (lost self.now).inputs }
+        ensures size { is_size (length result.now) ≡ true }
     {
         &self.inputs
     }

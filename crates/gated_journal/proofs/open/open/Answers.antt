@@ -1,4 +1,4 @@
-use Rattle.std.proofs.Common.{◌≡◌, ℕ, List, subst}
+use Rattle.std.proofs.Common.{ℕ, List, subst}
 use Rattle.gated_journal.specs.Frames.{ReadsTo}
 use Rattle.gated_journal.proofs.Head.{header_found}
 use Rattle.gated_journal.proofs.open.open.Goals as goal

@@ -1,4 +1,4 @@
-use Rattle.std.proofs.Common.{rules, ◌≡◌, ◌⊎◌, ◌+◌, ◌≤◌, ℕ, List, length, drop, inr, refl, sym, ◌∙◌, arith}
+use Rattle.std.proofs.Common.{rules, ◌≡◌, ◌+◌, length, inr, refl, sym, ◌∙◌, arith}
 use Rattle.std.proofs.lemmas.List.{take_at}
 use Rattle.disk_model.specs.Disk.{IsPart}
 use Rattle.ring_records.specs.declared.refusal.Refusal.TheVariants.{Damaged}

@@ -1,8 +1,7 @@
-use Rattle.std.proofs.Common.{rules, ◌≡◌, ◌⊎◌, ◌≤◌, inr, ℕ, List, length, Result, Ok, Err, sym, ◌∙◌, ap, subst, arith}
-use Rattle.disk_model.specs.Disk.{MayLeave, IsPart}
+use Rattle.std.proofs.Common.{rules, ◌≡◌, inr, ℕ, List, length, ◌∙◌, ap, subst, arith}
+use Rattle.disk_model.specs.Disk.{IsPart}
 use Rattle.disk_model.proofs.Moments.{weaken, joins}
-use Rattle.ring_records.specs.declared.refusal.Refusal.{Refusal}
-use Rattle.gated_journal.specs.Unread.{header_at, IsFault}
+use Rattle.gated_journal.specs.Unread.{header_at}
 use Rattle.gated_journal.proofs.Head.{header_same}
 use Rattle.gated_journal.proofs.Results.{if_ok, if_err, on_err}
 use Rattle.gated_journal.proofs.open.read_header.Goals as goal

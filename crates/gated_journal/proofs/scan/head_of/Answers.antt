@@ -1,4 +1,4 @@
-use Rattle.std.proofs.Common.{◌≡◌, ◌+◌, ◌-◌, ◌≤◌, ℕ, List, length, take, drop, subst, sym, arith}
+use Rattle.std.proofs.Common.{◌≡◌, ◌+◌, ◌-◌, ◌≤◌, ℕ, length, take, drop, subst, arith}
 use Rattle.gated_journal.specs.Scan.{HasHead}
 use Rattle.gated_journal.proofs.Heads.{count_at, size_at, head}
 use Rattle.gated_journal.proofs.scan.head_of.Goals as goal

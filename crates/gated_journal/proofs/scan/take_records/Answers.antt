@@ -1,8 +1,8 @@
-use Rattle.std.proofs.Common.{◌≡◌, ◌+◌, ◌++◌, ◌∷◌, [], ℕ, List, length, drop, sym, ◌∙◌, ap, subst, arith}
+use Rattle.std.proofs.Common.{◌+◌, ℕ, List, drop, sym, ◌∙◌, subst, arith}
 use Rattle.std.proofs.lemmas.List.{take_rest}
 use Rattle.ring_records.specs.declared.input.Input.{Input}
 use Rattle.gated_journal.specs.Scan.{TakesRecords}
-use Rattle.gated_journal.proofs.Taken.{taken_none, taken_more, no_record, no_rest}
+use Rattle.gated_journal.proofs.Taken.{taken_more, no_record, no_rest}
 use Rattle.gated_journal.proofs.scan.take_records.Goals as goal
 
 pub returns-in_default-clause-broken : goal.returns-in_default-clause-broken

@@ -1,5 +1,5 @@
-use Rattle.std.proofs.Common.{◌≡◌, ◌+◌, refl, sym, ◌∙◌, ap, arith}
-use Rattle.ring_records.specs.Admission.{fresh, used}
+use Rattle.std.proofs.Common.{refl, arith}
+use Rattle.ring_records.specs.Admission.{used}
 use Rattle.gated_journal.proofs.Rest.{used-item}
 use Rattle.gated_journal.proofs.spell.used_of.Goals as goal
 

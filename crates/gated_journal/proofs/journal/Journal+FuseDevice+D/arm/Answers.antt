@@ -10,5 +10,6 @@ invariant_of-self g c =
       from = j.from;
       within = j.within;
       counted = j.counted;
+      least = j.least;
       small = j.small;
     }

@@ -53,6 +53,7 @@ invariant_of-self g c =
       from = omega (arith, j.from);
       within = omega (arith, j.within, bytes_same, ap length c.deref.ensures.value, f.within, sum_same);
       counted = omega (arith, j.counted, count_same, sum_same, f.count);
+      least = j.least;
       small = j.small;
     }
 

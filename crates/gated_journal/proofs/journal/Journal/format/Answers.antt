@@ -19,6 +19,7 @@ invariant_of-result g c =
       from = omega arith;
       within = omega arith;
       counted = omega arith;
+      least = range.0;
       small = range.1;
     }
 

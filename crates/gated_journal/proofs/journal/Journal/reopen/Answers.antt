@@ -1,5 +1,4 @@
-use Rattle.std.proofs.Common.{rules, ◌≡◌, ◌+◌, ◌*◌, ◌^◌, ◌<◌, ◌≤◌, ℕ, List, length, sym, ◌∙◌, ap, subst, arith}
-use Rattle.ring_records.specs.declared.input.Input.{Input}
+use Rattle.std.proofs.Common.{rules, ◌≡◌, ℕ, List, length, sym, ◌∙◌, ap, subst, arith}
 use Rattle.ring_records.specs.Admission.{fresh, used}
 use Rattle.gated_journal.specs.Reading.{header_with, ReadsAt, IsAtRest}
 use Rattle.gated_journal.proofs.Rest.{opens, all_read, rest_of}
@@ -25,6 +24,7 @@ invariant_of-journal g c =
       from = o.from;
       within = omega (arith, o.within, sum);
       counted = omega (arith, o.counted, sum, count);
+      least = read.head.from;
       small = read.head.to;
     }
 

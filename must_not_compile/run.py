@@ -1,0 +1,43 @@
+#!/usr/bin/env python3
+"""Tries the edits of this folder, each on a copy of its crate: a value that must be spent is let go, and the compiler must say so.
+
+An edit has the lines `crate: NAME`, `file: src/NAME.rt`, `old: TEXT` and `new: TEXT`, the old text standing once in the file. `rt ci`
+tries those that only the prover can refuse; these are refused before a proof is begun."""
+
+import pathlib
+import shutil
+import subprocess
+import sys
+import tempfile
+
+FOLDER = pathlib.Path(__file__).resolve().parent
+ROOT = FOLDER.parent
+
+
+def refusal(edit):
+    """What the compiler says of the crate with this edit."""
+    said = dict(line.split(": ", 1) for line in edit.read_text().splitlines())
+    with tempfile.TemporaryDirectory() as room:
+        copy = pathlib.Path(room)
+        shutil.copy(ROOT / "crates.txt", copy)
+        shutil.copy(ROOT / "HANDLES", copy)
+        shutil.copytree(ROOT / "crates", copy / "crates", ignore=shutil.ignore_patterns("out", "must-fail"))
+        path = copy / "crates" / said["crate"] / said["file"]
+        text = path.read_text()
+        if text.count(said["old"]) != 1:
+            return "the old text does not stand once in the file"
+        path.write_text(text.replace(said["old"], said["new"]))
+        ran = subprocess.run(["rt", "check"], cwd=copy / "crates" / said["crate"], capture_output=True, text=True)
+        return ran.stdout + ran.stderr
+
+
+def main():
+    failed = 0
+    for edit in sorted(FOLDER.glob("*.edit")):
+        refused = "error[linear-value-let-go]" in refusal(edit)
+        failed += not refused
+        print(f"must_not_compile/{edit.name}: {'refused, as it must be' if refused else 'NOT REFUSED'}")
+    return 1 if failed else 0
+
+
+sys.exit(main())
