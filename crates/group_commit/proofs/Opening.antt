@@ -1,0 +1,53 @@
+-- A desk that takes the inputs of a node one after the other.
+use Rattle.std.proofs.Common.{◌≡◌, inr, ℕ, ◌+◌, ◌<◌, List, [], ◌∷◌, ◌++◌, length, take, Bool, true, false, Result, Ok, Err, is_err, Option, Some, None, refl, sym, ◌∙◌, ap, subst}
+use Rattle.std.specs.Result.{result_err}
+use Rattle.ring_records.specs.declared.input.Input.{Input}
+use Rattle.ring_records.specs.declared.refusal.Refusal.{Refusal}
+use Rattle.ring_records.specs.Admission.{fresh, refusal, IsAdmitted, IsLawful}
+use Rattle.ring_records.specs.Lists.{EachAfter}
+use Rattle.ring_records.proofs.Admission.{refusal-admitted}
+use Rattle.ring_records.proofs.Lists.{EachAfter-push}
+use Rattle.ring_records.proofs.LookBack.{IsItem, take-item}
+use Rattle.node_core.specs.Core.{CoreView, CoreStandsFor}
+
+-- the core stands for the first inputs, which are lawful
+pub record Opens (core : CoreView) (me n capacity : ℕ) (inputs : List Input) (count : ℕ) : Type 0 where
+  pub stands : CoreStandsFor core (take count inputs)
+  pub me_is : core.table.me ≡ me
+  pub ring_is : core.size ≡ n
+  pub capacity_is : core.capacity ≡ capacity
+  pub lawful : IsLawful me n capacity fresh (take count inputs)
+
+pub opens_none : (core : CoreView) (me n capacity : ℕ) (inputs : List Input) → core.table.me ≡ me → core.size ≡ n → core.capacity ≡ capacity → CoreStandsFor core [] → Opens core me n capacity inputs 0
+unfolding IsLawful EachAfter
+opens_none core me n capacity inputs me_is ring_is capacity_is stands = record { stands = stands; me_is = me_is; ring_is = ring_is; capacity_is = capacity_is; lawful = tt }
+
+-- what the core has against the next input
+pub judged : (core : CoreView) (me n capacity : ℕ) (inputs : List Input) (count : ℕ) (x : Input) (found : Option Refusal) → Opens core me n capacity inputs count
+    → ((h : List Input) → CoreStandsFor core h → found ≡ refusal core.table.me core.size core.capacity fresh h x) → found ≡ refusal me n capacity fresh (take count inputs) x
+judged core me n capacity inputs count x found opens says =
+    says (take count inputs) opens.stands ∙ (λ i. refusal (opens.me_is i) (opens.ring_is i) (opens.capacity_is i) fresh (take count inputs) x)
+
+-- one input more
+pub opens_next : (core new : CoreView) (me n capacity : ℕ) (inputs : List Input) (count : ℕ) (x : Input) → Opens core me n capacity inputs count → IsItem inputs count x
+    → refusal me n capacity fresh (take count inputs) x ≡ None → ((h : List Input) → CoreStandsFor core h → CoreStandsFor new (h ++ x ∷ []))
+    → new.table.me ≡ core.table.me → new.size ≡ core.size → new.capacity ≡ core.capacity → Opens new me n capacity inputs (count + 1)
+unfolding IsLawful
+opens_next core new me n capacity inputs count x opens here free stands me_same ring_same capacity_same =
+    let more = take-item inputs count x here in
+    record {
+      stands = subst (λ (l : List Input). CoreStandsFor new l) (sym more) (stands (take count inputs) opens.stands);
+      me_is = me_same ∙ opens.me_is;
+      ring_is = ring_same ∙ opens.ring_is;
+      capacity_is = capacity_same ∙ opens.capacity_is;
+      lawful = subst (λ (l : List Input). IsLawful me n capacity fresh l) (sym more) (EachAfter-push (IsAdmitted me n capacity fresh) [] (take count inputs) x opens.lawful (refusal-admitted me n capacity fresh (take count inputs) x free));
+    }
+
+-- a result that is refused names why
+pub why : (result : Result (Unit {0}) Refusal) → is_err result ≡ true → (refusal : Refusal) × (result_err result ≡ Some refusal)
+why (Ok x) e = absurd cc
+why (Err refusal) e = (refusal, refl)
+
+pub why_not : (result : Result (Unit {0}) Refusal) → is_err result ≡ false → result_err result ≡ None
+why_not (Ok x) e = refl
+why_not (Err refusal) e = absurd cc

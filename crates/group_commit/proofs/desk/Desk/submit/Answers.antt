@@ -1,0 +1,26 @@
+use Rattle.std.proofs.Common.{rules, ◌≡◌, ◌+◌, ◌≤◌, ℕ, Bool, true, OnErr, refl, sym, ◌∙◌, ap, is_none, arith}
+use Rattle.group_commit.specs.Kept.{kept_in}
+use Rattle.group_commit.proofs.Numbers.{undone}
+use Rattle.group_commit.proofs.desk.Desk.submit.Goals as goal
+
+-- nothing is kept that was not kept before
+same_kept : (c : goal.After-take_back) (other : ℕ) → kept_in c.take_back.new.tickets.entries other ≡ kept_in c.args.self.now.tickets.entries other
+same_kept c = undone (kept_in c.args.self.now.tickets.entries) (kept_in c.keep.new.tickets.entries) (kept_in c.take_back.new.tickets.entries) c.args.self.now.issued (record { question = c.args.question; answer = record { reply = c.judge.result.0; number = c.args.self.now.inputs.len + c.from.result } })
+    (c.args.self.now.given c.args.self.now.issued (omega arith)) (search rules) c.take_back.ensures
+
+pub invariant_of-self-then-is_err-2 : goal.invariant_of-self-then-is_err-2
+invariant_of-self-then-is_err-2 c =
+    let j = c.args.self.now in
+    let items : c.accept.new.inputs.items ≡ j.inputs.items = search rules in
+    record {
+      stands = search rules;
+      me = search rules;
+      ring = search rules;
+      bytes = search rules;
+      in_order = j.in_order;
+      accepted = search rules;
+      given = λ own le. ap is_none (same_kept c own) ∙ j.given own le;
+    }
+
+pub returns-then-is_err-2-clause-same : goal.returns-then-is_err-2-clause-same
+returns-then-is_err-2-clause-same c = search rules

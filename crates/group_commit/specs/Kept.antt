@@ -1,0 +1,35 @@
+-- What is kept for a ticket, and by whom.
+use Rattle.std.specs.Prelude.{ℕ, Bool, false, nat_lt, List, Option}
+use Rattle.std.specs.Map.{lookup}
+use Rattle.std.specs.Ordering.{nat_cmp, is_eq}
+use Rattle.ring_records.specs.declared.request.Request.{Request}
+use Rattle.ring_records.specs.declared.request.Request.TheVariants as ask
+use Rattle.ring_records.specs.Answer.{Answer}
+use Rattle.ring_records.specs.Message.{candidate_of}
+
+-- the node, the size of its ring, its capacity, and which opening of the node this is
+pub record Place : Type 0 where
+  pub me : ℕ
+  pub n : ℕ
+  pub capacity : ℕ
+  pub run : ℕ
+
+abbrev pub place_with : ℕ → ℕ → ℕ → ℕ → Place
+place_with me n capacity run = record { me = me; n = n; capacity = capacity; run = run }
+
+-- a request and its answer
+pub record Answered : Type 0 where
+  pub question : Request
+  pub answer : Answer
+
+-- what is kept under this number
+abbrev pub kept_in : List (ℕ × Answered) → ℕ → Option Answered
+kept_in entries own = lookup (λ k. is_eq (nat_cmp own k)) entries
+
+-- the message that the request brings is of a node above n
+abbrev pub is_outside : ℕ → Request → Bool
+is_outside n (ask.Stand key bid) = false
+is_outside n (ask.Take place msg) = nat_lt n (candidate_of msg).node
+is_outside n (ask.Acked upto) = false
+is_outside n (ask.Who key) = false
+is_outside n (ask.Latest group) = false

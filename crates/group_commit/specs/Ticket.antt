@@ -1,0 +1,24 @@
+-- What a ticket, a kept reply and a stub show.
+use Rattle.std.specs.Prelude.{ℕ}
+use Rattle.ring_records.specs.declared.request.Request.{Request}
+use Rattle.group_commit.specs.Kept.{Answered, Place}
+use Rattle.group_commit.specs.declared.ticket.Stub.{Stub}
+use Rattle.group_commit.specs.declared.ticket.Ticket.{Ticket}
+
+-- the node and the opening of it that the ticket is of, its own number there, its request, and how many inputs the reply
+-- rests on
+pub record TicketView : Type 0 where
+  pub node : ℕ
+  pub run : ℕ
+  pub own : ℕ
+  pub question : Request
+  pub number : ℕ
+
+abbrev pub ticket_with : Place → ℕ → Answered → TicketView
+ticket_with place own answered = record { node = place.me; run = place.run; own = own; question = answered.question; number = answered.answer.number }
+
+abbrev pub shown : Ticket → TicketView
+shown ticket = record { node = ticket.node; run = ticket.run; own = ticket.own; question = ticket.question; number = ticket.number }
+
+abbrev pub stub : Stub → Answered
+stub s = record { question = s.question; answer = record { reply = s.reply; number = s.number } }

@@ -1,0 +1,249 @@
+//! A node's inputs: which of them are durable, which fly, and the replies that wait for them.
+ghost use Rattle.std.specs.Prelude.{◌≡◌, ◌+◌, ◌++◌, ◌∷◌, ◌≤◌, ◌⊎◌, ◌||◌, ℕ, List, [], not, true, false, Some, None, length, nat_eq, if◌then◌else◌, is_none, IfSome, IfOk, IfErr, OnOk, OnErr};
+ghost use Rattle.std.specs.List.{cons_option};
+ghost use Rattle.ring_records.specs.Admission.{fresh, refusal, IsLawful};
+ghost use Rattle.ring_records.specs.Answer.{reply, gained, unless, if_free, asked, opened};
+ghost use Rattle.node_core.specs.Core.{CoreStandsFor};
+ghost use Rattle.group_commit.specs.Kept.{place_with, is_outside, kept_in};
+
+use crate::kept::Kept;
+use crate::ticket::Ticket;
+use node_core::{Effects, NodeCore};
+use ring_records::{Input, NodeNo, Refusal, Reply, Request};
+use std::alloc::{AllocError, AllocFailed, Global};
+use std::collections::BTreeMap;
+
+/// The desk of a node: it accepts inputs at once, and keeps each reply until the inputs that it rests on are durable.
+#[derive(Drop)]
+pub struct Desk {
+    node: NodeNo,
+    n: u8,
+    capacity: u32,
+    run: u64,
+    core: NodeCore,
+    inputs: Vec<Input>,
+    durable: u64,
+    flying: u64,
+    tickets: BTreeMap<u64, Kept>,
+    issued: u64,
+    is_closed: bool,
+    is_failed: bool,
+    ghost stands: { CoreStandsFor core inputs.items },
+    ghost me: { core.table.me ≡ node },
+    ghost ring: { core.size ≡ n },
+    ghost bytes: { core.capacity ≡ capacity },
+    ghost in_order: { durable ≤ flying },
+    ghost accepted: { flying ≤ length inputs.items },
+    ghost given: { (own : ℕ) → issued ≤ own → is_none (kept_in tickets.entries own) ≡ true },
+}
+
+impl Desk {
+    ghost use Rattle.group_commit.specs.Desk.{place_of, state_of, kept_at, issued_by, is_closed, is_failed, answered, objection, IsUnlawful};
+    ghost use Rattle.group_commit.specs.Ticket.{shown, ticket_with};
+
+    /// The desk of a node that holds these inputs, all of them durable. Refused as 24 with the number of the first
+    /// input, counted from 0, that is not admitted after those before it, and as 8.
+    pub fn open(
+        alloc: Global,
+        node: NodeNo,
+        n: u8,
+        capacity: u32,
+        run: u64,
+        inputs: Vec<Input>,
+    ) -> Result<Desk, Refusal>
+        ensures place { IfOk result (λ desk. place_of desk ≡ place_with node n capacity run) }
+        ensures state { IfOk result (λ desk. state_of desk ≡ opened inputs.items) }
+        ensures kept { IfOk result (λ desk. (own : ℕ) → kept_at desk own ≡ None) }
+        ensures issued { IfOk result (λ desk. issued_by desk ≡ 0) }
+        ensures ready { IfOk result (λ desk. (is_closed desk ≡ false) × (is_failed desk ≡ false)) }
+        ensures lawful { OnOk result (IsLawful node n capacity fresh inputs.items) }
+        ensures refusal { IfErr result (λ refusal. (refusal ≡ Refusal.OutOfMemory) ⊎ IsUnlawful node n capacity inputs.items refusal) }
+    {
+        let mut core = NodeCore::new(alloc, node, n, capacity);
+        for i in 0..inputs.len() {
+            let input = inputs[i];
+            if core.admit(&input).is_err() {
+                return Err(Refusal::Unlawful(i as u64));
+            }
+            if core.apply(input).is_err() {
+                return Err(Refusal::OutOfMemory);
+            }
+        }
+        let count = inputs.len() as u64;
+        Ok(Desk {
+            node,
+            n,
+            capacity,
+            run,
+            core,
+            inputs,
+            durable: count,
+            flying: count,
+            tickets: BTreeMap::new(alloc),
+            issued: 0,
+            is_closed: false,
+            is_failed: false,
+        })
+    }
+
+    /// Answers a request, accepts its input where nothing is against it, and gives a ticket for the reply. Refused as 9
+    /// where it is closed or has failed, as 2 where a Take's message is of no node of the ring, as 6 at 2^64 - 1 tickets,
+    /// and as 8. Every other refusal is a reply.
+    pub fn submit(&mut self, question: Request) -> Result<Ticket, Refusal>
+        ensures ticket { IfOk result (λ ticket. shown ticket ≡ ticket_with (place_of self.old) (issued_by self.old) (answered self.old question)) }
+        ensures state { OnOk result (state_of self.new ≡ asked self.old.node self.old.n self.old.capacity fresh (state_of self.old) question) }
+        ensures kept { OnOk result ((own : ℕ) → kept_at self.new own ≡ (if nat_eq own (issued_by self.old) then Some (answered self.old question) else kept_at self.old own)) }
+        ensures issued { OnOk result (issued_by self.new ≡ issued_by self.old + 1) }
+        ensures refusal { IfErr result (λ refusal. (objection self.old question ≡ Some refusal) ⊎ ((objection self.old question ≡ None) × (refusal ≡ Refusal.OutOfMemory))) }
+        ensures free { OnOk result (objection self.old question ≡ None) }
+        ensures place { place_of self.new ≡ place_of self.old }
+        ensures ready { (is_closed self.new ≡ is_closed self.old) × (is_failed self.new ≡ is_failed self.old) }
+        ensures same { OnErr result ((state_of self.new ≡ state_of self.old) × (issued_by self.new ≡ issued_by self.old) × ((own : ℕ) → kept_at self.new own ≡ kept_at self.old own)) }
+    {
+        if let Some(refusal) = self.objection(&question) {
+            return Err(refusal);
+        }
+        let (reply, input) = self.judge(&question);
+        let number = self.inputs.len() as u64 + u64::from(input.is_some());
+        let own = self.issued;
+        let kept = Kept {
+            question,
+            reply,
+            number,
+        };
+        if keep(&mut self.tickets, own, kept).is_err() {
+            return Err(Refusal::OutOfMemory);
+        }
+        if let Some(input) = input {
+            if accept(&mut self.core, &mut self.inputs, &input).is_err() {
+                take_back(&mut self.tickets, own);
+                return Err(Refusal::OutOfMemory);
+            }
+        }
+        self.issued += 1;
+        Ok(Ticket {
+            node: self.node,
+            run: self.run,
+            own,
+            number,
+            question,
+        })
+    }
+
+    /// The inputs that it accepted, oldest first.
+    pub fn history(&self) -> &[Input]
+        ensures { result.now ≡ (state_of self.now).inputs }
+    {
+        &self.inputs
+    }
+
+    /// How many of its inputs are durable.
+    pub fn durable(&self) -> u64
+        ensures { result ≡ (state_of self.now).durable }
+    {
+        self.durable
+    }
+
+    /// How many of its inputs are durable or fly.
+    pub fn flying(&self) -> u64
+        ensures { result ≡ (state_of self.now).flying }
+    {
+        self.flying
+    }
+
+    /// Whether it takes requests: it was not closed and has not failed.
+    pub fn is_open(&self) -> bool
+        ensures { result ≡ not (is_closed self.now || is_failed self.now) }
+    {
+        !(self.is_closed || self.is_failed)
+    }
+
+    // What it answers to an input, which it accepts where nothing is against it.
+    fn weigh(&self, input: Input, accepted: Reply) -> (Reply, Option<Input>)
+        ensures reply { result.0 ≡ unless (refusal self.now.node self.now.n self.now.capacity fresh self.now.inputs.items input) accepted }
+        ensures input { cons_option result.1 [] ≡ if_free (refusal self.now.node self.now.n self.now.capacity fresh self.now.inputs.items input) input }
+        ensures free { IfSome result.1 (λ x. refusal self.now.node self.now.n self.now.capacity fresh self.now.inputs.items x ≡ None) }
+    {
+        match self.core.admit(&input) {
+            Ok(()) => (accepted, Some(input)),
+            Err(refusal) => (Reply::Refused(refusal), None),
+        }
+    }
+
+    // What it answers to a request, and the input that it accepts.
+    #[tactic(auto, unfolding(ring_records::specs::Answer::reply, ring_records::specs::Answer::gained, ring_records::specs::Answer::input_of))]
+    fn judge(&self, question: &Request) -> (Reply, Option<Input>)
+        ensures reply { result.0 ≡ reply self.now.node self.now.n self.now.capacity fresh self.now.inputs.items question.now }
+        ensures input { cons_option result.1 [] ≡ gained self.now.node self.now.n self.now.capacity fresh self.now.inputs.items question.now }
+        ensures free { IfSome result.1 (λ x. refusal self.now.node self.now.n self.now.capacity fresh self.now.inputs.items x ≡ None) }
+    {
+        match *question {
+            Request::Stand(key, bid) => self.weigh(Input::Stand { key, bid }, Reply::Stood),
+            Request::Take(no, msg) => self.weigh(Input::Take { no, msg }, Reply::Taken),
+            Request::Acked(upto) => self.weigh(Input::Acked { upto }, Reply::Acked),
+            Request::Who(key) => (Reply::Leader(self.core.who(&key)), None),
+            Request::Latest(group) => (Reply::Latest(self.core.latest(&group)), None),
+        }
+    }
+
+    // Why no ticket is given.
+    fn objection(&self, question: &Request) -> Option<Refusal>
+        ensures { result ≡ objection self.now question.now }
+    {
+        if self.is_closed || self.is_failed {
+            return Some(Refusal::Failed);
+        }
+        if is_outside(self.n, question) {
+            return Some(Refusal::BadNumber);
+        }
+        if self.issued == u64::MAX {
+            return Some(Refusal::Limit);
+        }
+        None
+    }
+}
+
+// Whether the request's message is of a node above `n`.
+fn is_outside(n: u8, question: &Request) -> bool
+    ensures { result ≡ is_outside n question.now }
+{
+    match question {
+        Request::Take(_, msg) => msg.candidate().node.number() > n,
+        _ => false,
+    }
+}
+
+// Keeps the answer for the ticket of this number.
+fn keep(tickets: &mut BTreeMap<u64, Kept>, own: u64, kept: Kept) -> Result<(), AllocError>
+    ensures kept { OnOk result ((other : ℕ) → kept_in tickets.new.entries other ≡ (if nat_eq other own then Some kept else kept_in tickets.old.entries other)) }
+    ensures err { OnErr result ((other : ℕ) → kept_in tickets.new.entries other ≡ kept_in tickets.old.entries other) }
+{
+    tickets.insert(own, kept)?;
+    Ok(())
+}
+
+// Keeps nothing for the ticket of this number.
+fn take_back(tickets: &mut BTreeMap<u64, Kept>, own: u64)
+    ensures { (other : ℕ) → kept_in tickets.new.entries other ≡ (if nat_eq other own then None else kept_in tickets.old.entries other) }
+{
+    tickets.remove(&own);
+}
+
+// Accepts an input that the core admits. An `Err` changes nothing.
+fn accept(core: &mut NodeCore, inputs: &mut Vec<Input>, input: &Input) -> Result<Effects, AllocError>
+    requires stands { CoreStandsFor core.old inputs.old.items }
+    requires free { refusal core.old.table.me core.old.size core.old.capacity fresh inputs.old.items input.now ≡ None }
+    ensures inputs { OnOk result (inputs.new.items ≡ inputs.old.items ++ input.now ∷ []) }
+    ensures stands { CoreStandsFor core.new inputs.new.items }
+    ensures place { (core.new.table.me ≡ core.old.table.me) × (core.new.size ≡ core.old.size) × (core.new.capacity ≡ core.old.capacity) }
+    ensures err { OnErr result (inputs.new.items ≡ inputs.old.items) }
+{
+    inputs.reserve(1)?;
+    match core.apply(*input) {
+        Ok(effects) => {
+            inputs.push_reserved(*input);
+            Ok(effects)
+        }
+        Err(error) => Err(error),
+    }
+}

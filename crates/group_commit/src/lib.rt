@@ -1,0 +1,9 @@
+//! The desk of a node: it accepts inputs at once, and releases what follows from them once they are durable.
+#![tactic(auto)]
+
+mod desk;
+mod kept;
+mod ticket;
+
+pub use desk::Desk;
+pub use ticket::{Stub, Ticket};

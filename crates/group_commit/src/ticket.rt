@@ -1,0 +1,65 @@
+//! What stands for a reply until it is released, and what is left of it then.
+ghost use Rattle.std.specs.Prelude.{◌≡◌};
+
+use ring_records::{NodeNo, Reply, Request};
+
+/// A request that a desk answered, and whose reply it keeps until the inputs that the reply rests on are durable. It
+/// must be spent: only `redeem` and `forfeit` end it.
+pub struct Ticket {
+    pub(crate) node: NodeNo,
+    pub(crate) run: u64,
+    pub(crate) own: u64,
+    pub(crate) number: u64,
+    pub(crate) question: Request,
+}
+
+impl Ticket {
+    ghost use Rattle.group_commit.specs.Ticket.{shown};
+
+    /// How many inputs the reply rests on.
+    pub fn number(&self) -> u64
+        ensures { result ≡ (shown self.now).number }
+    {
+        self.number
+    }
+
+    /// The request.
+    pub fn question(&self) -> Request
+        ensures { result ≡ (shown self.now).question }
+    {
+        self.question
+    }
+}
+
+/// A reply that was released, with its request and the number of inputs that it rests on. `redeem` alone makes one.
+#[derive(Drop)]
+pub struct Stub {
+    pub(crate) question: Request,
+    pub(crate) number: u64,
+    pub(crate) reply: Reply,
+}
+
+impl Stub {
+    ghost use Rattle.group_commit.specs.Ticket.{stub};
+
+    /// The request.
+    pub fn question(&self) -> Request
+        ensures { result ≡ (stub self.now).question }
+    {
+        self.question
+    }
+
+    /// How many inputs the reply rests on.
+    pub fn number(&self) -> u64
+        ensures { result ≡ (stub self.now).answer.number }
+    {
+        self.number
+    }
+
+    /// The reply.
+    pub fn reply(&self) -> Reply
+        ensures { result ≡ (stub self.now).answer.reply }
+    {
+        self.reply
+    }
+}
