@@ -1,4 +1,5 @@
 pub mod Admission
+pub mod Answer
 pub mod Emission
 pub mod History
 pub mod KeyOrder
