@@ -11,8 +11,11 @@ ghost use Rattle.ring_records.specs.Leader.{is_bid, makes_leader, leader, decide
 use crate::{Bid, Candidate, Decision, GroupName, Input, Key, Msg, NodeNo, Packet, Refusal, Term};
 use std::alloc::{AllocError, Global};
 
+mod replies;
 #[cfg(test)]
 mod tests;
+
+pub use replies::answer;
 
 /// Whether some Stand or Take of the history names the key.
 #[tactic(auto, unfolding(crate::specs::History::touched))]

@@ -15,13 +15,13 @@ use Rattle.ring_records.specs.declared.reply.Reply.{Reply}
 use Rattle.ring_records.specs.declared.reply.Reply.TheVariants as say
 use Rattle.ring_records.specs.declared.request.Request.{Request}
 use Rattle.ring_records.specs.declared.request.Request.TheVariants as ask
+use Rattle.ring_records.specs.Answer.{input_of, if_free, gained, unless, reply}
 use Rattle.ring_records.specs.Emission.{emit, sent, carry}
 use Rattle.ring_records.specs.Leader.{leader, latest}
 use Rattle.ring_records.specs.Lists.{found_after}
 use Rattle.ring_records.proofs.History.{sent-push}
 use Rattle.node_core.specs.Core.{CoreStandsFor}
 use Rattle.ring_world.specs.declared.member.Member.{Member}
-use Rattle.ring_world.specs.Answer.{input_of, if_free, gained, unless, answer}
 use Rattle.ring_world.specs.Member.{MemberStandsFor, refusal_by, Judges, Obeys, message_in}
 
 pub empty_member : (m : Member) → CoreStandsFor m.core [] → m.sent.items ≡ [] → MemberStandsFor m []
@@ -29,11 +29,11 @@ unfolding sent found_after
 empty_member m core none = record { core = core; sent = none }
 
 pub tells_leader : (m : Member) (key : Key) (c : Option Candidate) → ((h : List Input) → CoreStandsFor m.core h → c ≡ leader m.core.table.me h key) → Obeys m (ask.Who key) (say.Leader c) m
-unfolding Obeys answer gained input_of
+unfolding Obeys reply gained input_of
 tells_leader m key c e = λ h s. (ap say.Leader (e h s.core), subst (MemberStandsFor m) (sym (append-nil h)) s)
 
 pub tells_latest : (m : Member) (group : List ℕ) (led : Option (ℕ × Candidate)) → ((h : List Input) → CoreStandsFor m.core h → led ≡ latest m.core.table.me h group) → Obeys m (ask.Latest group) (say.Latest led) m
-unfolding Obeys answer gained input_of
+unfolding Obeys reply gained input_of
 tells_latest m group led e = λ h s. (ap say.Latest (e h s.core), subst (MemberStandsFor m) (sym (append-nil h)) s)
 
 pub refuses : (m : Member) (x : Input) (accepted : Reply) (r : Refusal) → ((h : List Input) → CoreStandsFor m.core h → Some r ≡ refusal_by m.core h x) → Judges m x accepted (say.Refused r) m
@@ -64,16 +64,16 @@ accepts old new x accepted out free me carries next grows = λ h s. (
 -- ---- what a request asks
 
 pub obeys_stand : {E : Type 0} (old new : Member) (q : Request) (key : Key) (bid : ℕ) (r : Result Reply E) → q ≡ ask.Stand key bid → IfOk r (λ reply. Judges old (Stand key bid) say.Stood reply new) → IfOk r (λ reply. Obeys old q reply new)
-unfolding Judges Obeys answer gained input_of
+unfolding Judges Obeys reply gained input_of
 obeys_stand old new q key bid (Ok reply) is j = subst (λ (p : Request). Obeys old p reply new) (sym is) j
 obeys_stand old new q key bid (Err e) is j = tt
 
 pub obeys_take : {E : Type 0} (old new : Member) (q : Request) (place : ℕ) (msg : Msg) (r : Result Reply E) → q ≡ ask.Take place msg → IfOk r (λ reply. Judges old (Take place msg) say.Taken reply new) → IfOk r (λ reply. Obeys old q reply new)
-unfolding Judges Obeys answer gained input_of
+unfolding Judges Obeys reply gained input_of
 obeys_take old new q place msg (Ok reply) is j = subst (λ (p : Request). Obeys old p reply new) (sym is) j
 obeys_take old new q place msg (Err e) is j = tt
 
 pub obeys_acked : {E : Type 0} (old new : Member) (q : Request) (upto : ℕ) (r : Result Reply E) → q ≡ ask.Acked upto → IfOk r (λ reply. Judges old (Acked upto) say.Acked reply new) → IfOk r (λ reply. Obeys old q reply new)
-unfolding Judges Obeys answer gained input_of
+unfolding Judges Obeys reply gained input_of
 obeys_acked old new q upto (Ok reply) is j = subst (λ (p : Request). Obeys old p reply new) (sym is) j
 obeys_acked old new q upto (Err e) is j = tt

@@ -11,6 +11,7 @@ use Rattle.ring_records.specs.declared.msg.Msg.TheVariants.{Token, Elected}
 use Rattle.ring_records.specs.declared.refusal.Refusal.TheVariants as refused
 use Rattle.ring_records.specs.declared.request.Request.{Request}
 use Rattle.ring_records.specs.declared.request.Request.TheVariants as ask
+use Rattle.ring_records.specs.Answer.{input_of}
 use Rattle.ring_records.specs.Emission.{sent}
 use Rattle.ring_records.specs.History.{taken}
 use Rattle.ring_records.specs.Order.{is_key, is_candidate, is_msg}
@@ -19,7 +20,6 @@ use Rattle.ring_records.specs.Ring.{part, IsCarried}
 use Rattle.ring_records.proofs.Admission.{or_else-none, where_so-none}
 use Rattle.ring_records.proofs.Keys.{is_key-true}
 use Rattle.ring_world.specs.declared.event.Event.TheVariants.{Submit, Credit}
-use Rattle.ring_world.specs.Answer.{input_of}
 use Rattle.ring_world.specs.Sound.{IsBrought}
 use Rattle.ring_world.specs.State.{State}
 use Rattle.ring_world.specs.Step.{is_sent, is_earned, is_released, objection_to, refusal_of}

@@ -13,12 +13,14 @@ use Rattle.ring_records.specs.declared.reply.Reply.TheVariants as say
 use Rattle.ring_records.specs.declared.request.Request.{Request}
 use Rattle.ring_records.specs.declared.request.Request.TheVariants as ask
 use Rattle.ring_records.specs.Admission.{fresh, refusal}
+use Rattle.ring_records.specs.Answer as answer
+use Rattle.ring_records.specs.Answer.{input_of, if_free, if_input, gained, unless, reply}
 use Rattle.ring_records.specs.Lists.{EachAfter}
 use Rattle.ring_records.specs.Ring.{item_at, part, IsCarried, MayFollow, IsLegal}
 use Rattle.ring_records.proofs.Admission.{refusal-admitted}
 use Rattle.ring_records.proofs.Lists.{EachAfter-push}
 use Rattle.ring_world.specs.declared.member.Member.{Member}
-use Rattle.ring_world.specs.Answer.{input_of, if_free, if_input, gained, unless, answer, accepted_by}
+use Rattle.ring_world.specs.Answer.{accepted_by}
 use Rattle.ring_world.specs.Member.{MemberStandsFor, Obeys}
 use Rattle.ring_world.specs.Sound.{ShowsNode, Shows, IsBrought}
 
@@ -62,8 +64,8 @@ if_acked None upto = refl
 if_acked (Some r) upto = refl
 
 -- what a node gained is what its reply tells
-pub gained-accepted : (me n capacity : ℕ) (h : List Input) (q : Request) → cons_option (accepted_by q (answer me n capacity h q)) [] ≡ gained me n capacity h q
-unfolding gained answer input_of
+pub gained-accepted : (me n capacity : ℕ) (h : List Input) (q : Request) → cons_option (accepted_by q (reply me n capacity fresh h q)) [] ≡ gained me n capacity fresh h q
+unfolding gained reply input_of
 gained-accepted me n capacity h (ask.Stand key bid) = if_stood (refusal me n capacity fresh h (Stand key bid)) key bid
 gained-accepted me n capacity h (ask.Take place msg) = if_taken (refusal me n capacity fresh h (Take place msg)) place msg
 gained-accepted me n capacity h (ask.Acked upto) = if_acked (refusal me n capacity fresh h (Acked upto)) upto
@@ -74,7 +76,7 @@ gained-accepted me n capacity h (ask.Latest group) = refl
 pub shows_next : (size capacity : ℕ) (members : List Member) (run grown : List (ℕ × Input)) (at i : ℕ) (q : Request) (reply : Reply) (other new : Member) → Shows size capacity members run → at < size → i ≡ at + 1
     → new.core.table.me ≡ (get_or members at other).core.table.me → new.core.size ≡ (get_or members at other).core.size → new.core.capacity ≡ (get_or members at other).core.capacity
     → Obeys (get_or members at other) q reply new → grown ≡ run ++ map (λ x. (i, x)) (cons_option (accepted_by q reply) [])
-    → (reply ≡ answer i size capacity (part run i) q) × (grown ≡ run ++ map (λ x. (i, x)) (gained i size capacity (part run i) q)) × Shows size capacity (set members at new) grown
+    → (reply ≡ answer.reply i size capacity fresh (part run i) q) × (grown ≡ run ++ map (λ x. (i, x)) (gained i size capacity fresh (part run i) q)) × Shows size capacity (set members at new) grown
 unfolding Obeys
 shows_next size capacity members run grown at i q reply other new s lt is me ring room obeys grows = (told, gains, record { count = length-set members at new ∙ s.count; node = each })
   where
@@ -82,17 +84,17 @@ shows_next size capacity members run grown at i q reply other new s lt is me rin
     node_is = subst (λ k. ShowsNode size capacity run k (get_or members at other)) (sym is) (s.node at other lt)
 
     same : (m n k : ℕ) → (get_or members at other).core.table.me ≡ m → (get_or members at other).core.size ≡ n → (get_or members at other).core.capacity ≡ k
-        → (reply ≡ answer m n k (part run i) q) × MemberStandsFor new (part run i ++ gained m n k (part run i) q)
-    same m n k e f g = subst (λ (t : ℕ × (ℕ × ℕ)). (reply ≡ answer t.0 t.1.0 t.1.1 (part run i) q) × MemberStandsFor new (part run i ++ gained t.0 t.1.0 t.1.1 (part run i) q))
+        → (reply ≡ answer.reply m n k fresh (part run i) q) × MemberStandsFor new (part run i ++ gained m n k fresh (part run i) q)
+    same m n k e f g = subst (λ (t : ℕ × (ℕ × ℕ)). (reply ≡ answer.reply t.0 t.1.0 t.1.1 fresh (part run i) q) × MemberStandsFor new (part run i ++ gained t.0 t.1.0 t.1.1 fresh (part run i) q))
         (λ j. (e j, (f j, g j))) (obeys (part run i) node_is.stands)
 
-    obeyed : (reply ≡ answer i size capacity (part run i) q) × MemberStandsFor new (part run i ++ gained i size capacity (part run i) q)
+    obeyed : (reply ≡ answer.reply i size capacity fresh (part run i) q) × MemberStandsFor new (part run i ++ gained i size capacity fresh (part run i) q)
     obeyed = same i size capacity node_is.me node_is.ring node_is.room
 
-    told : reply ≡ answer i size capacity (part run i) q
+    told : reply ≡ answer.reply i size capacity fresh (part run i) q
     told = obeyed.0
 
-    gains : grown ≡ run ++ map (λ x. (i, x)) (gained i size capacity (part run i) q)
+    gains : grown ≡ run ++ map (λ x. (i, x)) (gained i size capacity fresh (part run i) q)
     gains = grows ∙ ap (λ (xs : List Input). run ++ map (λ x. (i, x)) xs) (ap (λ r. cons_option (accepted_by q r) []) told ∙ gained-accepted i size capacity (part run i) q)
 
     mine : ShowsNode size capacity grown i new
@@ -100,7 +102,7 @@ shows_next size capacity members run grown at i q reply other new s lt is me rin
       me = me ∙ node_is.me;
       ring = ring ∙ node_is.ring;
       room = room ∙ node_is.room;
-      stands = subst (MemberStandsFor new) (sym (ap (λ r. part r i) gains ∙ part-same run i (gained i size capacity (part run i) q))) obeyed.1;
+      stands = subst (MemberStandsFor new) (sym (ap (λ r. part r i) gains ∙ part-same run i (gained i size capacity fresh (part run i) q))) obeyed.1;
     }
 
     each : (j : ℕ) (d : Member) → j < size → ShowsNode size capacity grown (j + 1) (get_or (set members at new) j d)
@@ -114,14 +116,14 @@ shows_next size capacity members run grown at i q reply other new s lt is me rin
             me = node.me;
             ring = node.ring;
             room = node.room;
-            stands = subst (MemberStandsFor (get_or members j d)) (sym (ap (λ r. part r (j + 1)) gains ∙ part-other run i (j + 1) (gained i size capacity (part run i) q) apart)) node.stands;
+            stands = subst (MemberStandsFor (get_or members j d)) (sym (ap (λ r. part r (j + 1)) gains ∙ part-other run i (j + 1) (gained i size capacity fresh (part run i) q) apart)) node.stands;
           }))
     ]
 
 -- ---- legal runs
 
 -- what a node gains may follow, where what it was brought was released to it
-pub legal_next : (size capacity : ℕ) (run : List (ℕ × Input)) (i : ℕ) (q : Request) → 1 ≤ i → i ≤ size → IsBrought size run i q → IsLegal size capacity run → IsLegal size capacity (run ++ map (λ x. (i, x)) (gained i size capacity (part run i) q))
+pub legal_next : (size capacity : ℕ) (run : List (ℕ × Input)) (i : ℕ) (q : Request) → 1 ≤ i → i ≤ size → IsBrought size run i q → IsLegal size capacity run → IsLegal size capacity (run ++ map (λ x. (i, x)) (gained i size capacity fresh (part run i) q))
 unfolding IsBrought gained IsLegal
 legal_next size capacity run i q first last brought legal = go (input_of q) (λ x e. brought x e)
   where
@@ -131,7 +133,7 @@ legal_next size capacity run i q first last brought legal = go (input_of q) (λ 
         EachAfter-push (MayFollow size capacity) [] run (i, x) legal (record { first = first; last = last; allowed = a.allowed; fits = a.fits; carried = carried })
     free (Some r) x e carried = subst (EachAfter (MayFollow size capacity) []) (sym (append-nil run)) legal
 
-    go : (o : Option Input) → ((x : Input) → o ≡ Some x → IsCarried size run i x) → EachAfter (MayFollow size capacity) [] (run ++ map (λ x. (i, x)) (if_input i size capacity (part run i) o))
+    go : (o : Option Input) → ((x : Input) → o ≡ Some x → IsCarried size run i x) → EachAfter (MayFollow size capacity) [] (run ++ map (λ x. (i, x)) (if_input i size capacity fresh (part run i) o))
     go None brings = subst (EachAfter (MayFollow size capacity) []) (sym (append-nil run)) legal
     go (Some x) brings = free (refusal i size capacity fresh (part run i) x) x refl (brings x refl)
 

@@ -8,9 +8,10 @@ use Rattle.ring_records.specs.declared.refusal.Refusal.{Refusal}
 use Rattle.ring_records.specs.declared.reply.Reply.{Reply}
 use Rattle.ring_records.specs.declared.request.Request.{Request}
 use Rattle.ring_records.specs.Admission.{fresh, refusal}
+use Rattle.ring_records.specs.Answer as answer
+use Rattle.ring_records.specs.Answer.{if_free, gained, unless}
 use Rattle.ring_records.specs.Emission.{sent}
 use Rattle.node_core.specs.Core.{CoreView, CoreStandsFor}
-use Rattle.ring_world.specs.Answer.{if_free, gained, unless, answer}
 use Rattle.ring_world.specs.declared.member.Member.{Member}
 
 -- its core stands for its history h, and it has all that was sent
@@ -28,7 +29,7 @@ Judges old x accepted reply new = (h : List Input) → MemberStandsFor old h →
 
 -- the reply is its answer to q, and new stands for what the history becomes
 unfoldable pub Obeys : Member → Request → Reply → Member → Type 0
-Obeys old q reply new = (h : List Input) → MemberStandsFor old h → (reply ≡ answer old.core.table.me old.core.size old.core.capacity h q) × MemberStandsFor new (h ++ gained old.core.table.me old.core.size old.core.capacity h q)
+Obeys old q reply new = (h : List Input) → MemberStandsFor old h → (reply ≡ answer.reply old.core.table.me old.core.size old.core.capacity fresh h q) × MemberStandsFor new (h ++ gained old.core.table.me old.core.size old.core.capacity fresh h q)
 
 -- the message that a packet carries
 abbrev pub message_in : Option Packet → Option Msg

@@ -2,9 +2,9 @@
 use Rattle.std.specs.Prelude.{ℕ, ◌≡◌, ◌+◌, ◌<◌, ◌≤◌, Bool, false, List, length, Some, slice_index_or}
 use Rattle.ring_records.specs.declared.input.Input.{Input}
 use Rattle.ring_records.specs.declared.request.Request.{Request}
+use Rattle.ring_records.specs.Answer.{input_of}
 use Rattle.ring_records.specs.Ring.{part, IsCarried, IsLegal}
 use Rattle.ring_world.specs.declared.member.Member.{Member}
-use Rattle.ring_world.specs.Answer.{input_of}
 use Rattle.ring_world.specs.Member.{MemberStandsFor}
 
 -- it is node i of the ring, and stands for the part of the run that is its own

@@ -7,13 +7,13 @@ use Rattle.ring_records.specs.declared.reply.Reply.{Reply}
 use Rattle.ring_records.specs.declared.reply.Reply.TheVariants as say
 use Rattle.ring_records.specs.declared.request.Request.{Request}
 use Rattle.ring_records.specs.declared.request.Request.TheVariants as ask
-use Rattle.ring_records.specs.Admission.{where_so}
+use Rattle.ring_records.specs.Admission.{fresh, where_so}
+use Rattle.ring_records.specs.Answer.{gained, reply}
 use Rattle.ring_records.specs.Emission.{sent}
 use Rattle.ring_records.specs.History.{taken}
 use Rattle.ring_records.specs.Lists.{or_else}
 use Rattle.ring_records.specs.Order.{is_msg}
 use Rattle.ring_records.specs.Place.{after, before}
-use Rattle.ring_world.specs.Answer.{gained, answer}
 use Rattle.ring_world.specs.State.{State, history}
 use Rattle.ring_world.specs.declared.event.Event.{Event}
 use Rattle.ring_world.specs.declared.event.Event.TheVariants.{Submit, Deliver, Credit, DeliverAll}
@@ -35,11 +35,11 @@ nothing_told = record { ticket = None; delivered = None; replies = [] }
 
 -- the world after node i is asked q
 unfoldable pub asked : ℕ → Request → State → State
-asked i q s = record s { run = s.run ++ map (λ x. (i, x)) (gained i s.size s.capacity (history s i) q) }
+asked i q s = record s { run = s.run ++ map (λ x. (i, x)) (gained i s.size s.capacity fresh (history s i) q) }
 
 -- what node i answers to q
 abbrev pub reply_at : ℕ → Request → State → Reply
-reply_at i q s = answer i s.size s.capacity (history s i) q
+reply_at i q s = reply i s.size s.capacity fresh (history s i) q
 
 -- node i is asked q under the next ticket number, and answers at once
 unfoldable pub submitted : ℕ → Request → State → Told × State

@@ -1,8 +1,11 @@
 // The run of a ring: what its nodes accepted.
 ghost use Rattle.std.specs.Prelude.{◌≡◌, ◌+◌, ◌-◌, ◌<◌, ◌≤◌, ◌++◌, ◌∷◌, [], ℕ, IfOk, OnOk, map};
 ghost use Rattle.std.specs.List.{cons_option};
+ghost use Rattle.ring_records.specs.Admission.{fresh};
+ghost use Rattle.ring_records.specs.Answer as answer;
+ghost use Rattle.ring_records.specs.Answer.{input_of, gained};
 ghost use Rattle.ring_records.specs.Ring.{part, IsLegal};
-ghost use Rattle.ring_world.specs.Answer.{input_of, accepted_by, gained, answer};
+ghost use Rattle.ring_world.specs.Answer.{accepted_by};
 ghost use Rattle.ring_world.specs.Sound.{Shows, IsBrought};
 
 use crate::member::Member;
@@ -26,7 +29,7 @@ impl Model for Step {
     ghost view = { λ step. (step.node, step.input) };
 }
 
-#[tactic(auto, unfolding(crate::specs::Answer::input_of))]
+#[tactic(auto, unfolding(ring_records::specs::Answer::input_of))]
 fn input_of(request: &Request) -> Option<Input>
     ensures { result ≡ input_of request.now }
 {
@@ -69,8 +72,8 @@ pub fn ask(
     request: &Request,
 ) -> Result<Reply, AllocError>
     requires { (size : ℕ) × (capacity : ℕ) × Shows size capacity members.old run.old.items × (node ≤ size) }
-    ensures reply { IfOk result (λ reply. (size capacity : ℕ) → Shows size capacity members.old run.old.items → node ≤ size → reply ≡ answer node size capacity (part run.old.items node) request.now) }
-    ensures run { OnOk result ((size capacity : ℕ) → Shows size capacity members.old run.old.items → node ≤ size → run.new.items ≡ run.old.items ++ map (λ x. (node, x)) (gained node size capacity (part run.old.items node) request.now)) }
+    ensures reply { IfOk result (λ reply. (size capacity : ℕ) → Shows size capacity members.old run.old.items → node ≤ size → reply ≡ answer.reply node size capacity fresh (part run.old.items node) request.now) }
+    ensures run { OnOk result ((size capacity : ℕ) → Shows size capacity members.old run.old.items → node ≤ size → run.new.items ≡ run.old.items ++ map (λ x. (node, x)) (gained node size capacity fresh (part run.old.items node) request.now)) }
     ensures shows { OnOk result ((size capacity : ℕ) → Shows size capacity members.old run.old.items → node ≤ size → Shows size capacity members.new run.new.items) }
     ensures legal { OnOk result ((size capacity : ℕ) → Shows size capacity members.old run.old.items → node ≤ size → IsBrought size run.old.items node request.now → IsLegal size capacity run.old.items → IsLegal size capacity run.new.items) }
 {

@@ -6,7 +6,7 @@ mod rows;
 
 use rows::Note::{self, Elected, Token};
 use rows::Op::{self, Acked, Stand, Take};
-use rows::{Cause, bid, candidate, key, node};
+use rows::{Ask, Cause, Say, bid, candidate, key, node};
 
 fn inputs(rt: &impl Abort, alloc: Global, ops: &[Op]) -> Vec<Input> {
     let mut inputs = Vec::new(alloc);
@@ -254,6 +254,76 @@ fn refuses_by_the_first_cause(rt: HostRuntime) {
         judges(&rt, rt.alloc(), row, 65536, before, op, want);
     }
     a_cost_has_to_fit(&rt, rt.alloc());
+}
+
+/// Node 1 of three, with this capacity, replies so after these inputs; the row ends with how many inputs that rests on.
+fn tells(rt: &impl Abort, alloc: Global, capacity: u32, before: &[Op], row: (&str, Ask, Say, u64)) {
+    let (name, ask, say, number) = row;
+    let history = inputs(rt, alloc, before);
+    let told = answer(node(rt, 1), 3, capacity, &history, &ask.request(rt));
+    assert_eq!(rt; told.0, say.reply(rt), "{name}");
+    assert_eq!(rt; told.1, number, "{name}: its number");
+}
+
+#[test]
+fn answers_before_any_input(rt: HostRuntime) {
+    let stand = Ask::Accept(Stand("red", 5, 10));
+    let take = Ask::Accept(Take(0, Token("red", 5, 10, 2)));
+    let ahead = Say::Refused(Cause::AckAhead(0));
+    let rows = [
+        ("the first Stand", stand, Say::Stood, 1),
+        ("the first message", take, Say::Taken, 1),
+        ("no credit", Ask::Accept(Acked(1)), ahead, 0),
+        ("no leader", Ask::Who("red", 5), Say::Nobody, 0),
+        ("no term", Ask::Latest("red"), Say::NoTerm, 0),
+    ];
+    for row in rows {
+        tells(&rt, rt.alloc(), 65536, &[], row);
+    }
+}
+
+#[test]
+fn answers_after_a_stand(rt: HostRuntime) {
+    let (red, blue) = (Stand("red", 5, 10), Stand("blue", 4, 5));
+    let (again, other) = (Ask::Accept(red), Ask::Accept(blue));
+    let already = Say::Refused(Cause::Already(10));
+    let gap = Say::Refused(Cause::Gap(0));
+    let home = Token("red", 5, 10, 1);
+    let (first, second) = (Ask::Accept(Take(0, home)), Ask::Accept(Take(1, home)));
+    let rows = [
+        ("the same Stand", again, already, 1),
+        ("another key", other, Say::Stood, 2),
+        ("its own message", first, Say::Taken, 2),
+        ("a message too far", second, gap, 1),
+        ("a credit", Ask::Accept(Acked(1)), Say::Acked, 2),
+        ("nobody yet", Ask::Who("red", 5), Say::Nobody, 1),
+        ("no term yet", Ask::Latest("red"), Say::NoTerm, 1),
+    ];
+    for row in rows {
+        tells(&rt, rt.alloc(), 65536, &[red], row);
+    }
+    let full = ("full", other, Say::Refused(Cause::Full), 1);
+    let fits = ("it fits", other, Say::Stood, 2);
+    tells(&rt, rt.alloc(), 40, &[red], full);
+    tells(&rt, rt.alloc(), 41, &[red], fits);
+}
+
+#[test]
+fn answers_once_it_leads(rt: HostRuntime) {
+    let before = [Stand("red", 9, 5), Take(0, Token("red", 9, 5, 1))];
+    let stale = Say::Refused(Cause::Stale(9));
+    let won = Ask::Accept(Take(1, Elected("red", 9, 5, 1)));
+    let rows = [
+        ("who leads", Ask::Who("red", 9), Say::Leader(5, 1), 2),
+        ("another term", Ask::Who("red", 8), Say::Nobody, 2),
+        ("the latest", Ask::Latest("red"), Say::Latest(9, 5, 1), 2),
+        ("another group", Ask::Latest("blue"), Say::NoTerm, 2),
+        ("a lower term", Ask::Accept(Stand("red", 8, 5)), stale, 2),
+        ("its own Elected", won, Say::Taken, 3),
+    ];
+    for row in rows {
+        tells(&rt, rt.alloc(), 65536, &before, row);
+    }
 }
 
 /// Whether node 1 of two, with this capacity, admits the input after these; what is over a limit is refused so.
