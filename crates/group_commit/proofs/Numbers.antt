@@ -24,6 +24,7 @@ undone before mid after own kept none keeps takes other = by_number (nat_eq othe
     none_of : (o : Option Answered) → is_none o ≡ true → None ≡ o
     none_of None e = refl
     none_of (Some x) e = absurd cc
+
     by_number : (b : Bool) → nat_eq other own ≡ b → after other ≡ before other
     by_number true e = let same : other ≡ own = eqb-true other own e in takes other ∙ rw e (none_of (before own) none) ∙ ap before (sym same)
     by_number false e = takes other ∙ rw e (keeps other ∙ rw e refl)

@@ -1,5 +1,5 @@
 -- What a desk shows.
-use Rattle.std.specs.Prelude.{ℕ, ◌≡◌, ◌+◌, ◌<◌, ◌-◌, ◌^◌, ◌≤◌, Bool, false, ◌||◌, nat_lt, nat_eq, if◌then◌else◌, List, length, take, slice_get, Option, Some, None}
+use Rattle.std.specs.Prelude.{ℕ, ◌≡◌, ◌<◌, ◌-◌, ◌^◌, ◌<◌, ◌⊎◌, Bool, ◌||◌, nat_eq, if◌then◌else◌, List, take, slice_get, Option, Some, None}
 use Rattle.ring_records.specs.declared.input.Input.{Input}
 use Rattle.ring_records.specs.declared.refusal.Refusal.{Refusal}
 use Rattle.ring_records.specs.declared.refusal.Refusal.TheVariants as refused
@@ -7,6 +7,7 @@ use Rattle.ring_records.specs.Admission.{fresh, refusal, IsLawful}
 use Rattle.ring_records.specs.Answer.{NodeState, answer}
 use Rattle.ring_records.specs.declared.request.Request.{Request}
 use Rattle.group_commit.specs.declared.desk.Desk.{Desk}
+use Rattle.group_commit.specs.Ticket.{TicketView}
 use Rattle.group_commit.specs.Kept.{Answered, Place, place_with, kept_in, is_outside}
 
 abbrev pub place_of : Desk → Place
@@ -54,3 +55,17 @@ pub record IsUnlawful (me n capacity : ℕ) (inputs : List Input) (why : Refusal
   pub there : slice_get inputs place ≡ Some input
   pub refused_for : Refusal
   pub because : refusal me n capacity fresh (take place inputs) input ≡ Some refused_for
+
+-- ---- tickets
+
+-- an open ticket of this desk has the ticket's node, opening, own number and request, and this is kept for it
+pub record IsHere (desk : Desk) (ticket : TicketView) (kept : Answered) : Type 0 where
+  pub node : ticket.node ≡ desk.node
+  pub run : ticket.run ≡ desk.run
+  pub own : kept_at desk ticket.own ≡ Some kept
+  pub question : kept.question ≡ ticket.question
+
+-- why its reply is not released: no such ticket is open here, or the reply rests on inputs that are not durable
+pub record IsSealed (desk : Desk) (ticket : TicketView) (why : Refusal) : Type 0 where
+  pub cause : ((why ≡ refused.Foreign) × ((kept : Answered) → IsHere desk ticket kept → ⊥))
+      ⊎ ((kept : Answered) × IsHere desk ticket kept × (desk.durable < kept.answer.number) × (why ≡ (if desk.is_failed then refused.Failed else refused.Early)))

@@ -2,6 +2,7 @@
 use Rattle.std.specs.Prelude.{ℕ, Bool, false, nat_lt, List, Option}
 use Rattle.std.specs.Map.{lookup}
 use Rattle.std.specs.Ordering.{nat_cmp, is_eq}
+use Rattle.ring_records.specs.declared.reply.Reply.{Reply}
 use Rattle.ring_records.specs.declared.request.Request.{Request}
 use Rattle.ring_records.specs.declared.request.Request.TheVariants as ask
 use Rattle.ring_records.specs.Answer.{Answer}
@@ -21,6 +22,9 @@ place_with me n capacity run = record { me = me; n = n; capacity = capacity; run
 pub record Answered : Type 0 where
   pub question : Request
   pub answer : Answer
+
+abbrev pub answered_with : Request → Reply → ℕ → Answered
+answered_with q reply number = record { question = q; answer = record { reply = reply; number = number } }
 
 -- what is kept under this number
 abbrev pub kept_in : List (ℕ × Answered) → ℕ → Option Answered

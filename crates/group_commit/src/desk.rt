@@ -1,13 +1,13 @@
 //! A node's inputs: which of them are durable, which fly, and the replies that wait for them.
-ghost use Rattle.std.specs.Prelude.{◌≡◌, ◌+◌, ◌++◌, ◌∷◌, ◌≤◌, ◌⊎◌, ◌||◌, ℕ, List, [], not, true, false, Some, None, length, nat_eq, if◌then◌else◌, is_none, IfSome, IfOk, IfErr, OnOk, OnErr};
+ghost use Rattle.std.specs.Prelude.{◌≡◌, ◌+◌, ◌++◌, ◌∷◌, ◌≤◌, ◌⊎◌, ◌||◌, ℕ, List, [], not, true, false, Some, None, length, nat_eq, if◌then◌else◌, is_none, IfSome, MatchOption, IfOk, IfErr, OnOk, OnErr};
 ghost use Rattle.std.specs.List.{cons_option};
 ghost use Rattle.ring_records.specs.Admission.{fresh, refusal, IsLawful};
 ghost use Rattle.ring_records.specs.Answer.{reply, gained, unless, if_free, asked, opened};
 ghost use Rattle.node_core.specs.Core.{CoreStandsFor};
-ghost use Rattle.group_commit.specs.Kept.{place_with, is_outside, kept_in};
+ghost use Rattle.group_commit.specs.Kept.{Answered, answered_with, place_with, is_outside, kept_in};
 
 use crate::kept::Kept;
-use crate::ticket::Ticket;
+use crate::ticket::{Stub, Ticket};
 use node_core::{Effects, NodeCore};
 use ring_records::{Input, NodeNo, Refusal, Reply, Request};
 use std::alloc::{AllocError, AllocFailed, Global};
@@ -38,8 +38,8 @@ pub struct Desk {
 }
 
 impl Desk {
-    ghost use Rattle.group_commit.specs.Desk.{place_of, state_of, kept_at, issued_by, is_closed, is_failed, answered, objection, IsUnlawful};
-    ghost use Rattle.group_commit.specs.Ticket.{shown, ticket_with};
+    ghost use Rattle.group_commit.specs.Desk.{place_of, state_of, kept_at, issued_by, is_closed, is_failed, answered, objection, IsUnlawful, IsHere, IsSealed};
+    ghost use Rattle.group_commit.specs.Ticket.{shown, stub, ticket_with};
 
     /// The desk of a node that holds these inputs, all of them durable. Refused as 24 with the number of the first
     /// input, counted from 0, that is not admitted after those before it, and as 8.
@@ -130,6 +130,92 @@ impl Desk {
         })
     }
 
+    /// Ends a ticket whose reply rests on durable inputs alone, and releases the reply, with a stub of it. Refused as 10
+    /// where no such ticket is open here; where an input that the reply rests on is not durable yet, as 9 on a desk that
+    /// has failed and else as 11. Then the ticket comes back.
+    pub fn redeem(&mut self, ticket: Ticket) -> Result<(Reply, Stub), (Ticket, Refusal)>
+        ensures released { IfOk result (λ r. IsHere self.old (shown ticket) (stub r.1)) }
+        ensures reply { IfOk result (λ r. r.0 ≡ (stub r.1).answer.reply) }
+        ensures durable { IfOk result (λ r. (stub r.1).answer.number ≤ (state_of self.old).durable) }
+        ensures ends { OnOk result ((own : ℕ) → kept_at self.new own ≡ (if nat_eq own (shown ticket).own then None else kept_at self.old own)) }
+        ensures refusal { IfErr result (λ e. IsSealed self.old (shown ticket) e.1) }
+        ensures back { IfErr result (λ e. shown e.0 ≡ shown ticket) }
+        ensures same { OnErr result ((own : ℕ) → kept_at self.new own ≡ kept_at self.old own) }
+        ensures place { place_of self.new ≡ place_of self.old }
+        ensures state { state_of self.new ≡ state_of self.old }
+        ensures issued { issued_by self.new ≡ issued_by self.old }
+        ensures ready { (is_closed self.new ≡ is_closed self.old) × (is_failed self.new ≡ is_failed self.old) }
+    {
+        let Some((reply, number)) = self.found(&ticket) else {
+            return Err((ticket, Refusal::Foreign));
+        };
+        if number > self.durable {
+            let refusal = if self.is_failed {
+                Refusal::Failed
+            } else {
+                Refusal::Early
+            };
+            return Err((ticket, refusal));
+        }
+        let Ticket {
+            node: _,
+            run: _,
+            own,
+            number: _,
+            question,
+        } = ticket;
+        take_back(&mut self.tickets, own);
+        let released = reply;
+        Ok((
+            released,
+            Stub {
+                question,
+                number,
+                reply,
+            },
+        ))
+    }
+
+    /// Ends a ticket with no reply, on a desk that is closed or has failed. Refused as 10 where no such ticket is open
+    /// here, and the ticket comes back.
+    pub fn forfeit(&mut self, ticket: Ticket) -> Result<(), (Ticket, Refusal)>
+        requires ended { (is_closed self.old || is_failed self.old) ≡ true }
+        ensures here { OnOk result ((kept : Answered) × IsHere self.old (shown ticket) kept) }
+        ensures ends { OnOk result ((own : ℕ) → kept_at self.new own ≡ (if nat_eq own (shown ticket).own then None else kept_at self.old own)) }
+        ensures foreign { IfErr result (λ e. (e.1 ≡ Refusal.Foreign) × ((kept : Answered) → IsHere self.old (shown ticket) kept → ⊥)) }
+        ensures back { IfErr result (λ e. shown e.0 ≡ shown ticket) }
+        ensures same { OnErr result ((own : ℕ) → kept_at self.new own ≡ kept_at self.old own) }
+        ensures place { place_of self.new ≡ place_of self.old }
+        ensures state { state_of self.new ≡ state_of self.old }
+        ensures issued { issued_by self.new ≡ issued_by self.old }
+        ensures ready { (is_closed self.new ≡ is_closed self.old) × (is_failed self.new ≡ is_failed self.old) }
+    {
+        if self.found(&ticket).is_none() {
+            return Err((ticket, Refusal::Foreign));
+        }
+        let Ticket {
+            node: _,
+            run: _,
+            own,
+            number: _,
+            question: _,
+        } = ticket;
+        take_back(&mut self.tickets, own);
+        Ok(())
+    }
+
+    /// Takes no more requests; all else goes on.
+    pub fn close(&mut self)
+        ensures closed { is_closed self.new ≡ true }
+        ensures failed { is_failed self.new ≡ is_failed self.old }
+        ensures place { place_of self.new ≡ place_of self.old }
+        ensures state { state_of self.new ≡ state_of self.old }
+        ensures issued { issued_by self.new ≡ issued_by self.old }
+        ensures same { (own : ℕ) → kept_at self.new own ≡ kept_at self.old own }
+    {
+        self.is_closed = true;
+    }
+
     /// The inputs that it accepted, oldest first.
     pub fn history(&self) -> &[Input]
         ensures { result.now ≡ (state_of self.now).inputs }
@@ -186,6 +272,19 @@ impl Desk {
         }
     }
 
+    // The reply that is kept for the ticket, if it is open here, and how many inputs that rests on.
+    fn found(&self, ticket: &Ticket) -> Option<(Reply, u64)>
+        ensures { MatchOption result ((kept : Answered) → IsHere self.now (shown ticket.now) kept → ⊥) (λ r. IsHere self.now (shown ticket.now) (answered_with ticket.now.question r.0 r.1)) }
+    {
+        if ticket.node != self.node || ticket.run != self.run {
+            return None;
+        }
+        match self.tickets.get(&ticket.own) {
+            Some(kept) if kept.question == ticket.question => Some((kept.reply, kept.number)),
+            _ => None,
+        }
+    }
+
     // Why no ticket is given.
     fn objection(&self, question: &Request) -> Option<Refusal>
         ensures { result ≡ objection self.now question.now }
@@ -230,7 +329,11 @@ fn take_back(tickets: &mut BTreeMap<u64, Kept>, own: u64)
 }
 
 // Accepts an input that the core admits. An `Err` changes nothing.
-fn accept(core: &mut NodeCore, inputs: &mut Vec<Input>, input: &Input) -> Result<Effects, AllocError>
+fn accept(
+    core: &mut NodeCore,
+    inputs: &mut Vec<Input>,
+    input: &Input,
+) -> Result<Effects, AllocError>
     requires stands { CoreStandsFor core.old inputs.old.items }
     requires free { refusal core.old.table.me core.old.size core.old.capacity fresh inputs.old.items input.now ≡ None }
     ensures inputs { OnOk result (inputs.new.items ≡ inputs.old.items ++ input.now ∷ []) }

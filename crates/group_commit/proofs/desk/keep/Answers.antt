@@ -1,4 +1,4 @@
-use Rattle.std.proofs.Common.{◌≡◌, ◌∙◌, ap, cond, Some}
+use Rattle.std.proofs.Common.{◌∙◌, ap, cond, Some}
 use Rattle.group_commit.specs.Kept.{kept_in}
 use Rattle.group_commit.proofs.Numbers.{is_number}
 use Rattle.group_commit.proofs.desk.keep.Goals as goal

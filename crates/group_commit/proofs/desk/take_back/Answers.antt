@@ -1,4 +1,4 @@
-use Rattle.std.proofs.Common.{◌≡◌, ◌∙◌, ap, cond, None}
+use Rattle.std.proofs.Common.{◌∙◌, ap, cond, None}
 use Rattle.group_commit.specs.Kept.{kept_in}
 use Rattle.group_commit.proofs.Numbers.{is_number}
 use Rattle.group_commit.proofs.desk.take_back.Goals as goal

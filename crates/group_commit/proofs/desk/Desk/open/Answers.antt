@@ -1,9 +1,9 @@
-use Rattle.std.proofs.Common.{rules, ◌≡◌, ◌+◌, ◌≤◌, ◌<◌, inr, ℕ, List, [], ◌∷◌, ◌++◌, true, false, is_err, slice_get, length, take, Some, None, refl, sym, ◌∙◌, ap, subst, arith}
+use Rattle.std.proofs.Common.{rules, ◌≡◌, inr, List, [], ◌∷◌, ◌++◌, true, false, is_err, length, refl, sym, ◌∙◌}
 use Rattle.std.proofs.lemmas.Option.{slice_get_read}
 use Rattle.ring_records.specs.declared.input.Input.{Input}
 use Rattle.ring_records.proofs.LookBack.{IsItem}
 use Rattle.node_core.specs.Core.{CoreStandsFor}
-use Rattle.group_commit.proofs.Opening.{Opens, opens_none, opens_next, judged, why, why_not}
+use Rattle.group_commit.proofs.Opening.{opens_none, opens_next, judged, why, why_not}
 use Rattle.group_commit.proofs.desk.Desk.open.Goals as goal
 
 pub loop-i-init : goal.loop-i-init

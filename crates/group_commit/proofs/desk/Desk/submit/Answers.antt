@@ -1,4 +1,4 @@
-use Rattle.std.proofs.Common.{rules, ◌≡◌, ◌+◌, ◌≤◌, ℕ, Bool, true, OnErr, refl, sym, ◌∙◌, ap, is_none, arith}
+use Rattle.std.proofs.Common.{rules, ◌≡◌, ◌+◌, ℕ, ◌∙◌, ap, is_none, arith}
 use Rattle.group_commit.specs.Kept.{kept_in}
 use Rattle.group_commit.proofs.Numbers.{undone}
 use Rattle.group_commit.proofs.desk.Desk.submit.Goals as goal
