@@ -1,11 +1,12 @@
 -- What a desk shows.
-use Rattle.std.specs.Prelude.{ℕ, ◌≡◌, ◌<◌, ◌-◌, ◌^◌, ◌<◌, ◌⊎◌, Bool, ◌||◌, nat_eq, if◌then◌else◌, List, take, slice_get, Option, Some, None}
+use Rattle.std.specs.Prelude.{ℕ, ◌≡◌, ◌<◌, ◌-◌, ◌^◌, ◌<◌, ◌⊎◌, Bool, ◌||◌, nat_eq, if◌then◌else◌, List, take, drop, nat_lt, slice_get, Option, Some, None}
 use Rattle.ring_records.specs.declared.input.Input.{Input}
 use Rattle.ring_records.specs.declared.refusal.Refusal.{Refusal}
 use Rattle.ring_records.specs.declared.refusal.Refusal.TheVariants as refused
 use Rattle.ring_records.specs.Admission.{fresh, refusal, IsLawful}
 use Rattle.ring_records.specs.Answer.{NodeState, answer}
 use Rattle.ring_records.specs.declared.request.Request.{Request}
+use Rattle.gated_journal.specs.Batch.{Numbered}
 use Rattle.group_commit.specs.declared.desk.Desk.{Desk}
 use Rattle.group_commit.specs.Ticket.{TicketView}
 use Rattle.group_commit.specs.Kept.{Answered, Place, place_with, kept_in, is_outside}
@@ -69,3 +70,22 @@ pub record IsHere (desk : Desk) (ticket : TicketView) (kept : Answered) : Type 0
 pub record IsSealed (desk : Desk) (ticket : TicketView) (why : Refusal) : Type 0 where
   pub cause : ((why ≡ refused.Foreign) × ((kept : Answered) → IsHere desk ticket kept → ⊥))
       ⊎ ((kept : Answered) × IsHere desk ticket kept × (desk.durable < kept.answer.number) × (why ≡ (if desk.is_failed then refused.Failed else refused.Early)))
+
+-- ---- batches
+
+-- the inputs that fly
+abbrev pub flying_in : NodeState → List Input
+flying_in s = take (s.flying - s.durable) (drop s.durable s.inputs)
+
+-- these are the node's inputs that fly
+pub record IsFlying (desk : Desk) (batch : Numbered) : Type 0 where
+  pub node : batch.node ≡ desk.node
+  pub first : batch.first ≡ desk.durable
+  pub inputs : batch.inputs ≡ flying_in (state_of desk)
+
+-- why nothing is launched, before memory is asked for
+abbrev pub launch_objection : Desk → Option Refusal
+launch_objection desk =
+    if desk.is_failed then Some refused.Failed
+    else (if nat_lt desk.durable desk.flying then Some refused.Busy
+    else None)

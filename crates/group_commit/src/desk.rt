@@ -1,13 +1,14 @@
 //! A node's inputs: which of them are durable, which fly, and the replies that wait for them.
-ghost use Rattle.std.specs.Prelude.{◌≡◌, ◌+◌, ◌++◌, ◌∷◌, ◌≤◌, ◌⊎◌, ◌||◌, ℕ, List, [], not, true, false, Some, None, length, nat_eq, if◌then◌else◌, is_none, IfSome, MatchOption, IfOk, IfErr, OnOk, OnErr};
+ghost use Rattle.std.specs.Prelude.{◌≡◌, ◌+◌, ◌++◌, ◌∷◌, ◌≤◌, ◌⊎◌, ◌||◌, ℕ, List, [], not, true, false, Some, None, length, nat_eq, if◌then◌else◌, is_none, IfSome, IfNone, MatchOption, IfOk, IfErr, OnOk, OnErr};
 ghost use Rattle.std.specs.List.{cons_option};
 ghost use Rattle.ring_records.specs.Admission.{fresh, refusal, IsLawful};
-ghost use Rattle.ring_records.specs.Answer.{reply, gained, unless, if_free, asked, opened};
+ghost use Rattle.ring_records.specs.Answer.{reply, gained, unless, if_free, asked, opened, launched};
 ghost use Rattle.node_core.specs.Core.{CoreStandsFor};
 ghost use Rattle.group_commit.specs.Kept.{Answered, answered_with, place_with, is_outside, kept_in};
 
 use crate::kept::Kept;
 use crate::ticket::{Stub, Ticket};
+use gated_journal::{Batch, Spoiled};
 use node_core::{Effects, NodeCore};
 use ring_records::{Input, NodeNo, Refusal, Reply, Request};
 use std::alloc::{AllocError, AllocFailed, Global};
@@ -38,7 +39,8 @@ pub struct Desk {
 }
 
 impl Desk {
-    ghost use Rattle.group_commit.specs.Desk.{place_of, state_of, kept_at, issued_by, is_closed, is_failed, answered, objection, IsUnlawful, IsHere, IsSealed};
+    ghost use Rattle.group_commit.specs.Desk.{place_of, state_of, kept_at, issued_by, is_closed, is_failed, answered, objection, IsUnlawful, IsHere, IsSealed, IsFlying, flying_in, launch_objection};
+    ghost use Rattle.gated_journal.specs.Batch.{shown as batch_shown, lost, numbered};
     ghost use Rattle.group_commit.specs.Ticket.{shown, stub, ticket_with};
 
     /// The desk of a node that holds these inputs, all of them durable. Refused as 24 with the number of the first
@@ -204,6 +206,64 @@ impl Desk {
         Ok(())
     }
 
+    /// The first inputs that wait, at most 64, as a batch to be made durable; they fly from then on. `None` where none
+    /// waits. Refused as 9 where the desk has failed, as 12 where a batch is flying, and as 8.
+    pub fn launch(&mut self) -> Result<Option<Batch>, Refusal>
+        ensures batch { IfOk result (λ some. IfSome some (λ batch. batch_shown batch ≡ numbered self.old.node (state_of self.old).durable (flying_in (state_of self.new)))) }
+        ensures none { IfOk result (λ some. IfNone some ((state_of self.old).durable ≡ length (state_of self.old).inputs)) }
+        ensures state { OnOk result (state_of self.new ≡ launched (state_of self.old)) }
+        ensures free { OnOk result (launch_objection self.old ≡ None) }
+        ensures refusal { IfErr result (λ refusal. (launch_objection self.old ≡ Some refusal) ⊎ ((launch_objection self.old ≡ None) × (refusal ≡ Refusal.OutOfMemory))) }
+        ensures err { OnErr result (state_of self.new ≡ state_of self.old) }
+        ensures place { place_of self.new ≡ place_of self.old }
+        ensures issued { issued_by self.new ≡ issued_by self.old }
+        ensures ready { (is_closed self.new ≡ is_closed self.old) × (is_failed self.new ≡ is_failed self.old) }
+        ensures same { (own : ℕ) → kept_at self.new own ≡ kept_at self.old own }
+    {
+        if self.is_failed {
+            return Err(Refusal::Failed);
+        }
+        if self.flying > self.durable {
+            return Err(Refusal::Busy);
+        }
+        let start = self.durable as usize;
+        let end = self.inputs.len().min(start + 64);
+        if start == end {
+            return Ok(None);
+        }
+        let alloc = *self.inputs.allocator();
+        let waiting = &self.inputs[start..end];
+        match Batch::new(alloc, self.node, self.durable, waiting) {
+            Ok(batch) => {
+                self.flying = end as u64;
+                Ok(Some(batch))
+            }
+            Err(_) => Err(Refusal::OutOfMemory),
+        }
+    }
+
+    /// The device failed with the batch that flies: nothing more is launched, nor becomes durable. Refused as 10 where
+    /// this is not that batch, and it comes back.
+    pub fn fail(&mut self, spoiled: Spoiled) -> Result<(), (Spoiled, Refusal)>
+        ensures failed { OnOk result (is_failed self.new ≡ true) }
+        ensures flying { OnOk result (IsFlying self.old (lost spoiled)) }
+        ensures foreign { IfErr result (λ e. (e.1 ≡ Refusal.Foreign) × (IsFlying self.old (lost spoiled) → ⊥)) }
+        ensures back { IfErr result (λ e. lost e.0 ≡ lost spoiled) }
+        ensures err { OnErr result (is_failed self.new ≡ is_failed self.old) }
+        ensures closed { is_closed self.new ≡ is_closed self.old }
+        ensures place { place_of self.new ≡ place_of self.old }
+        ensures state { state_of self.new ≡ state_of self.old }
+        ensures issued { issued_by self.new ≡ issued_by self.old }
+        ensures same { (own : ℕ) → kept_at self.new own ≡ kept_at self.old own }
+    {
+        if !self.is_flying(spoiled.node(), spoiled.first(), spoiled.inputs()) {
+            return Err((spoiled, Refusal::Foreign));
+        }
+        let _ = spoiled.into_parts();
+        self.is_failed = true;
+        Ok(())
+    }
+
     /// Takes no more requests; all else goes on.
     pub fn close(&mut self)
         ensures closed { is_closed self.new ≡ true }
@@ -283,6 +343,15 @@ impl Desk {
             Some(kept) if kept.question == ticket.question => Some((kept.reply, kept.number)),
             _ => None,
         }
+    }
+
+    // Whether these are the inputs that fly.
+    fn is_flying(&self, node: NodeNo, first: u64, inputs: &[Input]) -> bool
+        ensures yes { result ≡ true → IsFlying self.now (numbered node first inputs.now) }
+        ensures no { result ≡ false → IsFlying self.now (numbered node first inputs.now) → ⊥ }
+    {
+        let flying = &self.inputs[self.durable as usize..self.flying as usize];
+        node == self.node && first == self.durable && inputs == flying
     }
 
     // Why no ticket is given.
