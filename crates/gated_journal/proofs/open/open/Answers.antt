@@ -18,6 +18,6 @@ returns-in-Err-read_frames-clause-refusal g c =
     record {
       cause = ⊎_elim
           (λ f. inl (subst (λ (k : ℕ). IsFault k (g.D.Device.count c.read_frames.new.device) told) c.in-Ok.ensures.same f))
-          (⊎_elim (λ m. inr (inl m)) (λ b. inr (inr (unread (subst (λ (l : List ℕ). IsBroken 16 l told) c.read_header.ensures.image b)))))
+          (⊎_elim (λ m. inr (inl (c.in-Ok.capacity, c.in-Ok.ensures.header, m))) (λ b. inr (inr (unread (subst (λ (l : List ℕ). IsBroken 16 l told) c.read_header.ensures.image b)))))
           c.in-Err-read_frames.ensures.refusal;
     }
