@@ -1,9 +1,9 @@
 ghost use Rattle.std.specs.Prelude.{◌≡◌, ◌+◌, ◌++◌, ◌-◌, ◌⊎◌, ◌<◌, ◌≤◌, ◌^◌, ℕ, List, [], true, false, length, min, is_err, IfOk, IfErr, OnOk, OnErr, IsOk};
-ghost use Rattle.disk_model.specs.Disk.{MayLeave, LeavesOnly, HasCause};
+ghost use Rattle.disk_model.specs.Disk.{MayLeave, LeavesOnly, HasCause, synced};
 ghost use Rattle.ring_records.specs.declared.input.Input.{Input};
 ghost use Rattle.ring_records.specs.Admission.{fresh, used};
 ghost use Rattle.gated_journal.specs.Reading.{header_with, is_header, new_image, IsAtRest, ReadsAs, AllReadAs, ReadsAsOneOf};
-ghost use Rattle.gated_journal.specs.Unread.{IsUnread, IsUnopened};
+ghost use Rattle.gated_journal.specs.Unread.{IsFault, IsUnread, IsUnopened};
 
 use crate::commit::append;
 use crate::open::{Opened, open};
@@ -63,6 +63,7 @@ impl<D: Device> Journal<D> {
         ensures len { IfOk result (λ journal. len_of journal ≡ 0) }
         ensures room { IfOk result (λ journal. room_of journal ≡ capacity) }
         ensures range { OnOk result (is_header (header_with node n capacity) ≡ true) }
+        ensures same { IfOk result (λ journal. D.count (device_of journal) ≡ D.count device) }
 
         // Refused as 2, the device is as it was; as 15, the device failed.
         ensures number { IfErr result (λ e. is_header (header_with node n capacity) ≡ false → (e.1 ≡ Refusal.BadNumber) × (e.0 ≡ device)) }
@@ -112,6 +113,15 @@ impl<D: Device> Journal<D> {
         // A refusal has its cause. While the device works it is the image's, or want of memory.
         ensures refusal { IfErr result (λ e. IsUnopened node n (D.count device) (D.count e.0) (D.disk device).image e.1) }
         ensures works { 0 < D.reach device → length (D.disk device).image ≤ D.reach device → IfErr result (λ e. (e.1 ≡ Refusal.OutOfMemory) ⊎ IsUnread node n (D.disk device).image e.1) }
+
+        // No call failed where it is opened. A call that failed is told before all else.
+        ensures same { IfOk result (λ r. D.count (device_of r.0) ≡ D.count device) }
+        ensures first { IfErr result (λ e. IsFault (D.count device) (D.count e.0) e.1 ⊎ (D.count e.0 ≡ D.count device)) }
+
+        // The device is synced, and nothing else is done to it. What is told of an image is told of a synced one.
+        ensures disk { IfOk result (λ r. D.disk (device_of r.0) ≡ synced (D.disk device)) }
+        ensures kept { IfErr result (λ e. (D.disk e.0 ≡ D.disk device) ⊎ (D.disk e.0 ≡ synced (D.disk device))) }
+        ensures stable { IfErr result (λ e. IsFault (D.count device) (D.count e.0) e.1 ⊎ (D.disk e.0 ≡ synced (D.disk device))) }
 
         // A stop at any moment leaves what it might have left at the start.
         ensures any_moment { IfOk result (λ r. LeavesOnly D.clock D.left_since device (device_of r.0) (MayLeave (D.disk device))) }

@@ -1,6 +1,6 @@
 //! What a device holds, read from its start.
-ghost use Rattle.std.specs.Prelude.{◌≡◌, ◌+◌, ◌≤◌, ◌<◌, ◌^◌, ◌⊎◌, ℕ, List, Ok, Err, length, IfOk, IfErr, OnOk};
-ghost use Rattle.disk_model.specs.Disk.{MayLeave, IsSynced, IsPart, LeavesOnly, IsInReach};
+ghost use Rattle.std.specs.Prelude.{◌≡◌, ◌+◌, ◌≤◌, ◌<◌, ◌^◌, ◌⊎◌, ℕ, List, Ok, Err, length, IfOk, IfErr, OnOk, OnErr};
+ghost use Rattle.disk_model.specs.Disk.{MayLeave, IsSynced, IsPart, LeavesOnly, IsInReach, synced};
 ghost use Rattle.ring_records.specs.declared.refusal.Refusal.TheVariants.{OutOfMemory};
 ghost use Rattle.gated_journal.specs.Frames.{ReadsTo};
 ghost use Rattle.gated_journal.specs.Reading.{header_with, ReadsAt};
@@ -24,11 +24,14 @@ pub(crate) struct Opened {
 // Makes what a read gives stable.
 fn settle<D: Device>(device: &mut D) -> Result<(), Refusal>
     ensures synced { OnOk result (IsSynced (D.disk device.new)) }
+    ensures disk { OnOk result (D.disk device.new ≡ synced (D.disk device.old)) }
+    ensures failed { OnErr result (D.disk device.new ≡ D.disk device.old) }
     ensures image { (D.disk device.new).image ≡ (D.disk device.old).image }
     ensures stays { (image : List ℕ) → MayLeave (D.disk device.new) image → MayLeave (D.disk device.old) image }
     ensures any_moment { LeavesOnly D.clock D.left_since device.old device.new (MayLeave (D.disk device.old)) }
     ensures fault { IfErr result (λ refusal. IsFault (D.count device.old) (D.count device.new) refusal) }
     ensures later { D.count device.old ≤ D.count device.new }
+    ensures same { OnOk result (D.count device.new ≡ D.count device.old) }
     ensures reach { IsInReach 0 (D.reach device.old) (D.reach device.new) result }
 {
     match device.sync() {
@@ -44,6 +47,7 @@ fn read_part<D: Device>(device: &mut D, off: u64, buf: &mut [u8]) -> Result<(), 
     ensures any_moment { LeavesOnly D.clock D.left_since device.old device.new (MayLeave (D.disk device.old)) }
     ensures fault { IfErr result (λ refusal. IsFault (D.count device.old) (D.count device.new) refusal) }
     ensures later { D.count device.old ≤ D.count device.new }
+    ensures same { OnOk result (D.count device.new ≡ D.count device.old) }
     ensures reach { IsInReach (off + length buf.old) (D.reach device.old) (D.reach device.new) result }
 {
     match device.read_at(off, buf) {
@@ -76,11 +80,16 @@ fn capacity_of(head: &[u8; 16], node: NodeNo, n: u8) -> Result<u32, Refusal>
 fn read_header<D: Device>(device: &mut D, node: NodeNo, n: u8) -> Result<u32, Refusal>
     ensures header { IfOk result (λ capacity. header_at node n (D.disk device.old).image ≡ Ok capacity) }
     ensures synced { OnOk result (IsSynced (D.disk device.new)) }
+    ensures disk { OnOk result (D.disk device.new ≡ synced (D.disk device.old)) }
+    ensures kept { (D.disk device.new ≡ D.disk device.old) ⊎ (D.disk device.new ≡ synced (D.disk device.old)) }
+    ensures stable { IfErr result (λ refusal. IsFault (D.count device.old) (D.count device.new) refusal ⊎ (D.disk device.new ≡ synced (D.disk device.old))) }
     ensures image { (D.disk device.new).image ≡ (D.disk device.old).image }
     ensures stays { (image : List ℕ) → MayLeave (D.disk device.new) image → MayLeave (D.disk device.old) image }
     ensures any_moment { LeavesOnly D.clock D.left_since device.old device.new (MayLeave (D.disk device.old)) }
     ensures refusal { IfErr result (λ refusal. IsFault (D.count device.old) (D.count device.new) refusal ⊎ (header_at node n (D.disk device.old).image ≡ Err refusal)) }
     ensures later { D.count device.old ≤ D.count device.new }
+    ensures same { OnOk result (D.count device.new ≡ D.count device.old) }
+    ensures first { IfErr result (λ refusal. IsFault (D.count device.old) (D.count device.new) refusal ⊎ (D.count device.new ≡ D.count device.old)) }
     ensures works { 0 < D.reach device.old → length (D.disk device.old).image ≤ D.reach device.old → IfErr result (λ refusal. header_at node n (D.disk device.old).image ≡ Err refusal) }
     ensures reach { D.reach device.new ≡ D.reach device.old }
 {
@@ -106,6 +115,8 @@ fn read_frames<D: Device>(alloc: Global, device: &mut D) -> Result<(Vec<Input>, 
     ensures any_moment { LeavesOnly D.clock D.left_since device.old device.new (MayLeave (D.disk device.old)) }
     ensures refusal { IfErr result (λ refusal. IsFault (D.count device.old) (D.count device.new) refusal ⊎ ((refusal ≡ OutOfMemory) ⊎ IsBroken 16 (D.disk device.old).image refusal)) }
     ensures later { D.count device.old ≤ D.count device.new }
+    ensures same { OnOk result (D.count device.new ≡ D.count device.old) }
+    ensures first { IfErr result (λ refusal. IsFault (D.count device.old) (D.count device.new) refusal ⊎ (D.count device.new ≡ D.count device.old)) }
     ensures works { 0 < D.reach device.old → length (D.disk device.old).image ≤ D.reach device.old → IfErr result (λ refusal. (refusal ≡ OutOfMemory) ⊎ IsBroken 16 (D.disk device.old).image refusal) }
     ensures reach { D.reach device.new ≡ D.reach device.old }
 {
@@ -132,6 +143,11 @@ pub(crate) fn open<D: Device>(
 ) -> Result<Opened, Refusal>
     ensures reads { IfOk result (λ opened. ReadsAt (header_with node n opened.capacity) (D.disk device.old).image opened.inputs.items opened.place) }
     ensures synced { OnOk result (IsSynced (D.disk device.new)) }
+    ensures disk { OnOk result (D.disk device.new ≡ synced (D.disk device.old)) }
+    ensures kept { (D.disk device.new ≡ D.disk device.old) ⊎ (D.disk device.new ≡ synced (D.disk device.old)) }
+    ensures stable { IfErr result (λ refusal. IsFault (D.count device.old) (D.count device.new) refusal ⊎ (D.disk device.new ≡ synced (D.disk device.old))) }
+    ensures same { OnOk result (D.count device.new ≡ D.count device.old) }
+    ensures first { IfErr result (λ refusal. IsFault (D.count device.old) (D.count device.new) refusal ⊎ (D.count device.new ≡ D.count device.old)) }
     ensures image { (D.disk device.new).image ≡ (D.disk device.old).image }
     ensures any_moment { LeavesOnly D.clock D.left_since device.old device.new (MayLeave (D.disk device.old)) }
     ensures refusal { IfErr result (λ refusal. IsUnopened node n (D.count device.old) (D.count device.new) (D.disk device.old).image refusal) }
