@@ -350,3 +350,6 @@ fn accept(
         Err(error) => Err(error),
     }
 }
+
+#[cfg(test)]
+mod tests;
