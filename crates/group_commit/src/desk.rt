@@ -419,3 +419,6 @@ fn accept(
         Err(error) => Err(error),
     }
 }
+
+#[cfg(test)]
+mod tests;
