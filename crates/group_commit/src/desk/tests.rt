@@ -4,6 +4,7 @@ use super::*;
 use std::alloc::AllocGlobal;
 use std::process::Abort;
 
+mod batches;
 mod refusals;
 mod replies;
 mod rows;
