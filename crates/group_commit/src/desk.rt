@@ -238,7 +238,7 @@ impl Desk {
                 self.flying = end as u64;
                 Ok(Some(batch))
             }
-            Err(_) => Err(Refusal::OutOfMemory),
+            Err(refusal) => Err(refusal),
         }
     }
 
