@@ -103,3 +103,27 @@ fn taken_and_credited(rt: HostRuntime) {
     forfeits(&rt, &mut desk, taken);
     forfeits(&rt, &mut desk, credited);
 }
+
+/// The desk gives a ticket for a Stand, at the second call where the first finds no memory, which changes nothing.
+fn stands_at_last(rt: &impl Abort, desk: &mut Desk) -> Ticket {
+    match desk.submit(Stand(10).request(rt)) {
+        Ok(ticket) => ticket,
+        Err(refusal) => {
+            assert_eq!(rt; refusal, Refusal::OutOfMemory);
+            assert_eq!(rt; counts(desk), (0, 0, 0));
+            assert_eq!(rt; desk.issued, 0);
+            assert!(rt; desk.tickets.get(&0).is_none());
+            asks(rt, desk, Stand(10), 1)
+        }
+    }
+}
+
+#[test]
+fn refused_growths(rt: HostRuntime) {
+    let mut desk = opened(&rt, 0, &[]);
+    let ticket = stands_at_last(&rt, &mut desk);
+    assert_eq!(rt; desk.found(&ticket), Some((Reply::Stood, 1)));
+    let who = asks(&rt, &mut desk, Who, 1);
+    forfeits(&rt, &mut desk, who);
+    forfeits(&rt, &mut desk, ticket);
+}
