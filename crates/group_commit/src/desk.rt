@@ -93,7 +93,7 @@ impl Desk {
     /// and as 8. Every other refusal is a reply.
     pub fn submit(&mut self, question: Request) -> Result<Ticket, Refusal>
         ensures ticket { IfOk result (λ ticket. shown ticket ≡ ticket_with (place_of self.old) (issued_by self.old) (answered self.old question)) }
-        ensures state { OnOk result (state_of self.new ≡ asked self.old.node self.old.n self.old.capacity fresh (state_of self.old) question) }
+        ensures state { OnOk result (state_of self.new ≡ asked (place_of self.old).me (place_of self.old).n (place_of self.old).capacity fresh (state_of self.old) question) }
         ensures kept { OnOk result ((own : ℕ) → kept_at self.new own ≡ (if nat_eq own (issued_by self.old) then Some (answered self.old question) else kept_at self.old own)) }
         ensures issued { OnOk result (issued_by self.new ≡ issued_by self.old + 1) }
         ensures refusal { IfErr result (λ refusal. (objection self.old question ≡ Some refusal) ⊎ ((objection self.old question ≡ None) × (refusal ≡ Refusal.OutOfMemory))) }
@@ -209,7 +209,7 @@ impl Desk {
     /// The first inputs that wait, at most 64, as a batch to be made durable; they fly from then on. `None` where none
     /// waits. Refused as 9 where the desk has failed, as 12 where a batch is flying, and as 8.
     pub fn launch(&mut self) -> Result<Option<Batch>, Refusal>
-        ensures batch { IfOk result (λ some. IfSome some (λ batch. batch_shown batch ≡ numbered self.old.node (state_of self.old).durable (flying_in (state_of self.new)))) }
+        ensures batch { IfOk result (λ some. IfSome some (λ batch. batch_shown batch ≡ numbered (place_of self.old).me (state_of self.old).durable (flying_in (state_of self.new)))) }
         ensures none { IfOk result (λ some. IfNone some ((state_of self.old).durable ≡ length (state_of self.old).inputs)) }
         ensures state { OnOk result (state_of self.new ≡ launched (state_of self.old)) }
         ensures free { OnOk result (launch_objection self.old ≡ None) }
