@@ -3,7 +3,10 @@
 
 mod desk;
 mod kept;
+mod landed;
+mod released;
 mod ticket;
 
 pub use desk::Desk;
+pub use landed::Landed;
 pub use ticket::{Stub, Ticket};

@@ -11,6 +11,7 @@ pub mod Numbers
 pub mod Order
 pub mod Place
 pub mod Record
+pub mod Release
 pub mod Ring
 pub mod Texts
 pub mod WorkedRun
