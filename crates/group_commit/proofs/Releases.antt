@@ -22,7 +22,7 @@ use Rattle.neighbour_link.specs.Outlink.{LinkView, OutlinkStandsFor, sent_count}
 use Rattle.neighbour_link.proofs.Links.{sent_count-stands}
 use Rattle.node_core.specs.declared.effects.Effects.{Effects}
 use Rattle.group_commit.specs.declared.released.Released.{Released}
-use Rattle.group_commit.specs.Released.{Keeps, effects_of}
+use Rattle.group_commit.specs.Outbox.{Keeps, effects_of}
 
 pub keeps_none : (me : ℕ) (released : Released) → OutlinkStandsFor released.link.link [] 0 → released.decisions.items ≡ [] → released.taken ≡ 0 → Keeps me released []
 unfolding decisions found_after sent credit taken

@@ -1,4 +1,4 @@
 pub mod Desk
 pub mod Kept
-pub mod Released
+pub mod Outbox
 pub mod Ticket

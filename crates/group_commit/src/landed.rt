@@ -6,6 +6,7 @@ ghost use Rattle.ring_records.specs.declared.packet.Packet.TheVariants.{Credit};
 use node_core::Effects;
 use ring_records::{Decision, Packet};
 use std::alloc::{AllocError, Global};
+use std::mem::replace;
 
 /// What may be released once a batch is durable.
 #[derive(Drop)]
@@ -20,7 +21,7 @@ pub struct Landed {
 }
 
 impl Landed {
-    ghost use Rattle.group_commit.specs.Released.{IsReady};
+    ghost use Rattle.group_commit.specs.Outbox.{IsReady};
 
     // Of no inputs.
     pub(crate) fn new(alloc: Global) -> Landed
@@ -47,6 +48,16 @@ impl Landed {
             packets: Vec::with_capacity(alloc, count as usize + 1)?,
             decisions: Vec::with_capacity(alloc, count as usize)?,
         })
+    }
+
+    // Gives what landed, and the memory for it, away.
+    pub(crate) fn hand_out(&mut self) -> Landed
+        ensures given { result ≡ self.old }
+        ensures packets { self.new.packets.items ≡ [] }
+        ensures decisions { self.new.decisions.items ≡ [] }
+    {
+        let alloc = *self.packets.allocator();
+        replace(self, Landed::new(alloc))
     }
 
     // Adds what an input brings.

@@ -4,6 +4,7 @@
 mod desk;
 mod kept;
 mod landed;
+mod outbox;
 mod released;
 mod ticket;
 

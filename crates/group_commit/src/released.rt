@@ -24,7 +24,7 @@ pub(crate) struct Released {
 }
 
 impl Released {
-    ghost use Rattle.group_commit.specs.Released.{Keeps, HasRoom, effects_of};
+    ghost use Rattle.group_commit.specs.Outbox.{Keeps, HasRoom, effects_of};
 
     /// That of no inputs.
     pub(crate) fn new(alloc: Global) -> Released
