@@ -1,3 +1,4 @@
 pub mod Numbers
 pub mod Releases
+pub mod Settling
 pub mod Opening

@@ -98,8 +98,8 @@ impl Outbox {
         requires within { end ≤ length inputs.now }
         requires lawful { (me n capacity : ℕ) × Holds me self.old inputs.now start end × IsLawful me n capacity fresh inputs.now }
         ensures count { (me : ℕ) → Holds me self.old inputs.now start end → result.count ≡ end - start }
-        ensures packets { (me : ℕ) → Holds me self.old inputs.now start end → result.packets.items ≡ packets me (take start inputs.now) (take (end - start) (drop start inputs.now)) }
-        ensures decisions { (me : ℕ) → Holds me self.old inputs.now start end → result.decisions.items ≡ decisions me (take start inputs.now) (take (end - start) (drop start inputs.now)) }
+        ensures packets { (me n capacity : ℕ) → Holds me self.old inputs.now start end → IsLawful me n capacity fresh inputs.now → result.packets.items ≡ packets me (take start inputs.now) (take (end - start) (drop start inputs.now)) }
+        ensures decisions { (me n capacity : ℕ) → Holds me self.old inputs.now start end → IsLawful me n capacity fresh inputs.now → result.decisions.items ≡ decisions me (take start inputs.now) (take (end - start) (drop start inputs.now)) }
         ensures holds { (me n capacity : ℕ) → Holds me self.old inputs.now start end → IsLawful me n capacity fresh inputs.now → Holds me self.new inputs.now end end }
     {
         let mut landed = self.landing.hand_out();

@@ -1,8 +1,9 @@
-use Rattle.std.proofs.Common.{rules, ◌≡◌, ◌+◌, ℕ, ◌∙◌, ap, None, is_none, arith}
+use Rattle.std.proofs.Common.{rules, ◌≡◌, ◌+◌, ℕ, ◌∙◌, ◌++◌, ap, true, length, nat_eq, if◌then◌else◌, Some, None, is_none, is_ok, arith}
 use Rattle.ring_records.specs.Admission.{fresh, refusal}
+use Rattle.ring_records.specs.Answer.{gained}
 use Rattle.group_commit.specs.Kept.{answered_with, kept_in}
 use Rattle.group_commit.proofs.Numbers.{still_none, undone}
-use Rattle.group_commit.proofs.Opening.{lawful_next}
+use Rattle.group_commit.proofs.Opening.{lawful_next, on_ok}
 use Rattle.group_commit.proofs.desk.Desk.submit.Goals as goal
 use Rattle.group_commit.proofs.desk.Desk.submit.Goals.{in-Some-input+else-is_err-2, in_default-input}
 
@@ -23,6 +24,7 @@ invariant_of-self-then-is_err-2 c =
       in_order = j.in_order;
       accepted = search rules;
       lawful = search rules;
+      holds = search rules;
       given = λ own le. ap is_none (same_kept c own) ∙ j.given own le;
     }
 
@@ -47,3 +49,12 @@ invariant_of-self-2-clause-given c =
       | in-Some-input+else-is_err-2 w ↦ search rules
       | in_default-input w ↦ search rules
     ]
+
+pub returns-clause-kept : goal.returns-clause-kept
+returns-clause-kept c =
+    let j = c.args.self.now in
+    let is_kept : is_ok c.keep.result ≡ true = search rules in
+    let stored = on_ok c.keep.result is_kept c.keep.ensures.kept in
+    let replies = c.judge.ensures.reply in
+    let number : j.inputs.len + c.from.result ≡ length (j.inputs.items ++ gained j.node j.n j.capacity fresh j.inputs.items c.args.question) = search rules in
+    λ own. stored own ∙ (λ i. if nat_eq own j.issued then Some (answered_with c.args.question (replies i) (number i)) else kept_in j.tickets.entries own)
