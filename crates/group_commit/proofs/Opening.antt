@@ -28,11 +28,15 @@ pub judged : (core : CoreView) (me n capacity : ℕ) (inputs : List Input) (coun
 judged core me n capacity inputs count x found opens says =
     says (take count inputs) opens.stands ∙ (λ i. refusal (opens.me_is i) (opens.ring_is i) (opens.capacity_is i) fresh (take count inputs) x)
 
+-- one input more stays lawful
+pub lawful_next : (me n capacity : ℕ) (h : List Input) (x : Input) → IsLawful me n capacity fresh h → refusal me n capacity fresh h x ≡ None → IsLawful me n capacity fresh (h ++ x ∷ [])
+unfolding IsLawful
+lawful_next me n capacity h x lawful free = EachAfter-push (IsAdmitted me n capacity fresh) [] h x lawful (refusal-admitted me n capacity fresh h x free)
+
 -- one input more
 pub opens_next : (core new : CoreView) (me n capacity : ℕ) (inputs : List Input) (count : ℕ) (x : Input) → Opens core me n capacity inputs count → IsItem inputs count x
     → refusal me n capacity fresh (take count inputs) x ≡ None → ((h : List Input) → CoreStandsFor core h → CoreStandsFor new (h ++ x ∷ []))
     → new.table.me ≡ core.table.me → new.size ≡ core.size → new.capacity ≡ core.capacity → Opens new me n capacity inputs (count + 1)
-unfolding IsLawful
 opens_next core new me n capacity inputs count x opens here free stands me_same ring_same capacity_same =
     let more = take-item inputs count x here in
     record {
@@ -40,7 +44,7 @@ opens_next core new me n capacity inputs count x opens here free stands me_same 
       me_is = me_same ∙ opens.me_is;
       ring_is = ring_same ∙ opens.ring_is;
       capacity_is = capacity_same ∙ opens.capacity_is;
-      lawful = subst (λ (l : List Input). IsLawful me n capacity fresh l) (sym more) (EachAfter-push (IsAdmitted me n capacity fresh) [] (take count inputs) x opens.lawful (refusal-admitted me n capacity fresh (take count inputs) x free));
+      lawful = subst (λ (l : List Input). IsLawful me n capacity fresh l) (sym more) (lawful_next me n capacity (take count inputs) x opens.lawful free);
     }
 
 -- a result that is refused names why

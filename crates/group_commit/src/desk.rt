@@ -2,6 +2,7 @@
 ghost use Rattle.std.specs.Prelude.{◌≡◌, ◌+◌, ◌++◌, ◌∷◌, ◌≤◌, ◌⊎◌, ◌||◌, ℕ, List, [], not, true, false, Some, None, length, nat_eq, if◌then◌else◌, is_none, IfSome, IfNone, MatchOption, IfOk, IfErr, OnOk, OnErr};
 ghost use Rattle.std.specs.List.{cons_option};
 ghost use Rattle.ring_records.specs.Admission.{fresh, refusal, IsLawful};
+ghost use Rattle.ring_records.specs.Props.{IsLawful-prop};
 ghost use Rattle.ring_records.specs.Answer.{reply, gained, unless, if_free, asked, opened, launched};
 ghost use Rattle.node_core.specs.Core.{CoreStandsFor};
 ghost use Rattle.group_commit.specs.Kept.{Answered, answered_with, place_with, is_outside, kept_in};
@@ -35,6 +36,7 @@ pub struct Desk {
     ghost bytes: { core.capacity ≡ capacity },
     ghost in_order: { durable ≤ flying },
     ghost accepted: { flying ≤ length inputs.items },
+    ghost lawful: { IsLawful node n capacity fresh inputs.items } by { IsLawful-prop node n capacity fresh inputs.items },
     ghost given: { (own : ℕ) → issued ≤ own → is_none (kept_in tickets.entries own) ≡ true },
 }
 
@@ -278,7 +280,8 @@ impl Desk {
 
     /// The inputs that it accepted, oldest first.
     pub fn history(&self) -> &[Input]
-        ensures { result.now ≡ (state_of self.now).inputs }
+        ensures inputs { result.now ≡ (state_of self.now).inputs }
+        ensures lawful { IsLawful (place_of self.now).me (place_of self.now).n (place_of self.now).capacity fresh result.now }
     {
         &self.inputs
     }
