@@ -1,13 +1,14 @@
 -- A desk that takes the inputs of a node one after the other.
-use Rattle.std.proofs.Common.{◌≡◌, ℕ, ◌+◌, List, [], ◌∷◌, ◌++◌, take, true, false, Result, Ok, Err, is_err, Option, Some, None, refl, sym, ◌∙◌, subst}
+use Rattle.std.proofs.Common.{◌≡◌, ℕ, ◌+◌, List, [], ◌∷◌, ◌++◌, append_assoc, drop, take, true, false, Result, Ok, Err, is_err, Option, Some, None, refl, sym, ◌∙◌, subst}
 use Rattle.std.specs.Result.{result_err}
 use Rattle.ring_records.specs.declared.input.Input.{Input}
 use Rattle.ring_records.specs.declared.refusal.Refusal.{Refusal}
 use Rattle.ring_records.specs.Admission.{fresh, refusal, IsAdmitted, IsLawful}
 use Rattle.ring_records.specs.Lists.{EachAfter}
-use Rattle.ring_records.proofs.Admission.{refusal-admitted}
+use Rattle.ring_records.proofs.Admission.{admitted-free, refusal-admitted}
+use Rattle.ring_records.proofs.Growth.{EachAfter-at}
 use Rattle.ring_records.proofs.Lists.{EachAfter-push}
-use Rattle.ring_records.proofs.LookBack.{IsItem, take-item}
+use Rattle.ring_records.proofs.LookBack.{IsItem, cut-item, take-item}
 use Rattle.node_core.specs.Core.{CoreView, CoreStandsFor}
 
 -- the core stands for the first inputs, which are lawful
@@ -21,6 +22,19 @@ pub record Opens (core : CoreView) (me n capacity : ℕ) (inputs : List Input) (
 pub opens_none : (core : CoreView) (me n capacity : ℕ) (inputs : List Input) → core.table.me ≡ me → core.size ≡ n → core.capacity ≡ capacity → CoreStandsFor core [] → Opens core me n capacity inputs 0
 unfolding IsLawful EachAfter
 opens_none core me n capacity inputs me_is ring_is capacity_is stands = record { stands = stands; me_is = me_is; ring_is = ring_is; capacity_is = capacity_is; lawful = tt }
+
+-- nothing is against the next input of a lawful history
+pub lawful_at : (me n capacity : ℕ) (inputs : List Input) (i : ℕ) (x : Input) → IsLawful me n capacity fresh inputs → IsItem inputs i x → refusal me n capacity fresh (take i inputs) x ≡ None
+unfolding IsLawful
+lawful_at me n capacity inputs i x lawful here =
+    let parts : inputs ≡ take i inputs ++ x ∷ drop (i + 1) inputs = cut-item inputs i x here ∙ append_assoc (take i inputs) (x ∷ []) (drop (i + 1) inputs) in
+    let each = subst (λ (l : List Input). EachAfter (IsAdmitted me n capacity fresh) [] l) parts lawful in
+    admitted-free me n capacity fresh (take i inputs) x (EachAfter-at (IsAdmitted me n capacity fresh) [] (take i inputs) x (drop (i + 1) inputs) each)
+
+-- so the core may take it
+pub opens_for : (core : CoreView) (me n capacity : ℕ) (inputs : List Input) (count : ℕ) (x : Input) → Opens core me n capacity inputs count → refusal me n capacity fresh (take count inputs) x ≡ None
+    → refusal core.table.me core.size core.capacity fresh (take count inputs) x ≡ None
+opens_for core me n capacity inputs count x opens free = (λ i. refusal (opens.me_is i) (opens.ring_is i) (opens.capacity_is i) fresh (take count inputs) x) ∙ free
 
 -- what the core has against the next input
 pub judged : (core : CoreView) (me n capacity : ℕ) (inputs : List Input) (count : ℕ) (x : Input) (found : Option Refusal) → Opens core me n capacity inputs count

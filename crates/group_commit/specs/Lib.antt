@@ -1,3 +1,4 @@
 pub mod Desk
 pub mod Kept
 pub mod Ticket
+pub mod Vouch

@@ -1,12 +1,12 @@
 //! A node's inputs: which of them are durable, which fly, and the replies that wait for them.
 ghost use Rattle.std.specs.Prelude.{◌≡◌, ◌+◌, ◌++◌, ◌∷◌, ◌≤◌, ◌⊎◌, ◌||◌, ℕ, List, [], not, true, false, Some, None, length, nat_eq, if◌then◌else◌, is_none, IfSome, IfNone, MatchOption, IfOk, IfErr, OnOk, OnErr};
-ghost use Rattle.std.specs.List.{cons_option};
 ghost use Rattle.ring_records.specs.Admission.{fresh, refusal, IsLawful};
+ghost use Rattle.ring_records.specs.Answer.{asked, opened, launched};
 ghost use Rattle.ring_records.specs.Props.{IsLawful-prop};
-ghost use Rattle.ring_records.specs.Answer.{reply, gained, unless, if_free, asked, opened, launched};
 ghost use Rattle.node_core.specs.Core.{CoreStandsFor};
 ghost use Rattle.group_commit.specs.Kept.{Answered, answered_with, place_with, is_outside, kept_in};
 
+use crate::judge::judge;
 use crate::kept::Kept;
 use crate::ticket::{Stub, Ticket};
 use gated_journal::{Batch, Spoiled};
@@ -107,7 +107,7 @@ impl Desk {
         if let Some(refusal) = self.objection(&question) {
             return Err(refusal);
         }
-        let (reply, input) = self.judge(&question);
+        let (reply, input) = judge(&self.core, &question);
         let number = self.inputs.len() as u64 + u64::from(input.is_some());
         let own = self.issued;
         let kept = Kept {
@@ -307,34 +307,6 @@ impl Desk {
         !(self.is_closed || self.is_failed)
     }
 
-    // What it answers to an input, which it accepts where nothing is against it.
-    fn weigh(&self, input: Input, accepted: Reply) -> (Reply, Option<Input>)
-        ensures reply { result.0 ≡ unless (refusal self.now.node self.now.n self.now.capacity fresh self.now.inputs.items input) accepted }
-        ensures input { cons_option result.1 [] ≡ if_free (refusal self.now.node self.now.n self.now.capacity fresh self.now.inputs.items input) input }
-        ensures free { IfSome result.1 (λ x. refusal self.now.node self.now.n self.now.capacity fresh self.now.inputs.items x ≡ None) }
-    {
-        match self.core.admit(&input) {
-            Ok(()) => (accepted, Some(input)),
-            Err(refusal) => (Reply::Refused(refusal), None),
-        }
-    }
-
-    // What it answers to a request, and the input that it accepts.
-    #[tactic(auto, unfolding(ring_records::specs::Answer::reply, ring_records::specs::Answer::gained, ring_records::specs::Answer::input_of))]
-    fn judge(&self, question: &Request) -> (Reply, Option<Input>)
-        ensures reply { result.0 ≡ reply self.now.node self.now.n self.now.capacity fresh self.now.inputs.items question.now }
-        ensures input { cons_option result.1 [] ≡ gained self.now.node self.now.n self.now.capacity fresh self.now.inputs.items question.now }
-        ensures free { IfSome result.1 (λ x. refusal self.now.node self.now.n self.now.capacity fresh self.now.inputs.items x ≡ None) }
-    {
-        match *question {
-            Request::Stand(key, bid) => self.weigh(Input::Stand { key, bid }, Reply::Stood),
-            Request::Take(no, msg) => self.weigh(Input::Take { no, msg }, Reply::Taken),
-            Request::Acked(upto) => self.weigh(Input::Acked { upto }, Reply::Acked),
-            Request::Who(key) => (Reply::Leader(self.core.who(&key)), None),
-            Request::Latest(group) => (Reply::Latest(self.core.latest(&group)), None),
-        }
-    }
-
     // The reply that is kept for the ticket, if it is open here, and how many inputs that rests on.
     fn found(&self, ticket: &Ticket) -> Option<(Reply, u64)>
         ensures { MatchOption result ((kept : Answered) → IsHere self.now (shown ticket.now) kept → ⊥) (λ r. IsHere self.now (shown ticket.now) (answered_with ticket.now.question r.0 r.1)) }
@@ -425,3 +397,4 @@ fn accept(
 
 #[cfg(test)]
 mod tests;
+mod vouch;
