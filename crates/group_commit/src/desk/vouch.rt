@@ -1,5 +1,5 @@
 //! Whether a desk's history gives a reply that was released.
-ghost use Rattle.std.specs.Prelude.{◌≡◌, ◌≤◌, ◌<◌, List, [], take, length, get_or, true, false, Some, MatchOption, IfOk, IfErr};
+ghost use Rattle.std.specs.Prelude.{◌≡◌, ◌≤◌, List, length, true, false, MatchOption, IfOk, IfErr};
 ghost use Rattle.ring_records.specs.declared.input.Input.{Input};
 ghost use Rattle.ring_records.specs.Admission.{fresh, IsLawful};
 ghost use Rattle.ring_records.specs.Answer.{answer};
@@ -18,8 +18,8 @@ impl Desk {
     ghost use Rattle.group_commit.specs.Desk.{place_of, state_of};
     ghost use Rattle.group_commit.specs.Vouch.{IsVouched};
 
-    /// Whether its history gives the stub's reply to the stub's request at the stub's number, and that number is
-    /// durable. It alone looks back over its inputs: it takes the first k of them again, k the number. Refused as 8.
+    /// Whether its history gives the stub's reply to the stub's request at the stub's number k, and k inputs are durable.
+    /// Refused as 8. No other call looks back: this one takes the first k inputs again, in k log k steps.
     pub fn vouch(&self, stub: &Stub) -> Result<bool, Refusal>
         ensures yes { IfOk result (λ b. b ≡ true → IsVouched (place_of self.now).me (place_of self.now).n (place_of self.now).capacity (state_of self.now) (released stub.now)) }
         ensures no { IfOk result (λ b. b ≡ false → IsVouched (place_of self.now).me (place_of self.now).n (place_of self.now).capacity (state_of self.now) (released stub.now) → ⊥) }

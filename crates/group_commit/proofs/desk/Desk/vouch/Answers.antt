@@ -1,4 +1,4 @@
-use Rattle.std.proofs.Common.{rules, ◌≡◌, ◌≤◌, length}
+use Rattle.std.proofs.Common.{rules, ◌≤◌, length}
 use Rattle.group_commit.specs.Desk.{state_of}
 use Rattle.group_commit.specs.Ticket.{stub as released}
 use Rattle.group_commit.proofs.Vouching.{lawful_take, only_there}
