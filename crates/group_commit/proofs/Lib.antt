@@ -2,3 +2,4 @@ pub mod Numbers
 pub mod Releases
 pub mod Settling
 pub mod Opening
+pub mod Vouching

@@ -1,45 +1,56 @@
 -- A desk that takes the inputs of a node one after the other.
-use Rattle.std.proofs.Common.{◌≡◌, ℕ, ◌+◌, List, [], ◌∷◌, ◌++◌, length, take, true, false, Result, Ok, Err, is_err, Option, Some, None, refl, sym, ap, ◌∙◌, subst}
-use Rattle.std.specs.Result.{result_err}
+use Rattle.std.proofs.Common.{◌≡◌, ℕ, ◌+◌, List, [], ◌∷◌, ◌++◌, append_assoc, drop, take, true, false, Result, Ok, Err, is_err, Option, Some, None, refl, sym, ap, ◌∙◌, subst}
 use Rattle.std.specs.Prelude.{is_ok, OnOk}
+use Rattle.std.specs.Result.{result_err}
 use Rattle.ring_records.specs.declared.input.Input.{Input}
 use Rattle.ring_records.specs.declared.refusal.Refusal.{Refusal}
 use Rattle.ring_records.specs.Admission.{fresh, refusal, IsAdmitted, IsLawful}
 use Rattle.ring_records.specs.Emission.{carry}
 use Rattle.ring_records.specs.Leader.{decided}
 use Rattle.ring_records.specs.Lists.{EachAfter}
-use Rattle.node_core.specs.declared.effects.Effects.{Effects}
-use Rattle.ring_records.proofs.Admission.{refusal-admitted}
+use Rattle.ring_records.proofs.Admission.{admitted-free, refusal-admitted}
+use Rattle.ring_records.proofs.Growth.{EachAfter-at}
 use Rattle.ring_records.proofs.Lists.{EachAfter-push}
-use Rattle.ring_records.proofs.LookBack.{IsItem, take-item}
-use Rattle.std.proofs.lemmas.List.{length-append}
+use Rattle.ring_records.proofs.LookBack.{IsItem, cut-item, take-item}
 use Rattle.node_core.specs.Core.{CoreView, CoreStandsFor}
-use Rattle.group_commit.specs.declared.outbox.Outbox.{Outbox}
-use Rattle.group_commit.specs.Outbox.{effects_of, Holds}
+use Rattle.node_core.specs.declared.effects.Effects.{Effects}
+use Rattle.group_commit.specs.Outbox.{effects_of}
 
--- the core stands for the first inputs, which are lawful, and the outbox has what they let the node release
-pub record Opens (core : CoreView) (outbox : Outbox) (me n capacity : ℕ) (inputs : List Input) (count : ℕ) : Type 0 where
+-- the core stands for the first inputs, which are lawful
+pub record Opens (core : CoreView) (me n capacity : ℕ) (inputs : List Input) (count : ℕ) : Type 0 where
   pub stands : CoreStandsFor core (take count inputs)
   pub me_is : core.table.me ≡ me
   pub ring_is : core.size ≡ n
   pub capacity_is : core.capacity ≡ capacity
   pub lawful : IsLawful me n capacity fresh (take count inputs)
-  pub holds : Holds me outbox (take count inputs) (length (take count inputs)) (length (take count inputs))
 
-pub opens_none : (core : CoreView) (outbox : Outbox) (me n capacity : ℕ) (inputs : List Input) → core.table.me ≡ me → core.size ≡ n → core.capacity ≡ capacity → CoreStandsFor core [] → Holds me outbox [] 0 0 → Opens core outbox me n capacity inputs 0
+pub opens_none : (core : CoreView) (me n capacity : ℕ) (inputs : List Input) → core.table.me ≡ me → core.size ≡ n → core.capacity ≡ capacity → CoreStandsFor core [] → Opens core me n capacity inputs 0
 unfolding IsLawful EachAfter
-opens_none core outbox me n capacity inputs me_is ring_is capacity_is stands holds = record { stands = stands; me_is = me_is; ring_is = ring_is; capacity_is = capacity_is; lawful = tt; holds = holds }
+opens_none core me n capacity inputs me_is ring_is capacity_is stands = record { stands = stands; me_is = me_is; ring_is = ring_is; capacity_is = capacity_is; lawful = tt }
+
+-- nothing is against the next input of a lawful history
+pub lawful_at : (me n capacity : ℕ) (inputs : List Input) (i : ℕ) (x : Input) → IsLawful me n capacity fresh inputs → IsItem inputs i x → refusal me n capacity fresh (take i inputs) x ≡ None
+unfolding IsLawful
+lawful_at me n capacity inputs i x lawful here =
+    let parts : inputs ≡ take i inputs ++ x ∷ drop (i + 1) inputs = cut-item inputs i x here ∙ append_assoc (take i inputs) (x ∷ []) (drop (i + 1) inputs) in
+    let each = subst (λ (l : List Input). EachAfter (IsAdmitted me n capacity fresh) [] l) parts lawful in
+    admitted-free me n capacity fresh (take i inputs) x (EachAfter-at (IsAdmitted me n capacity fresh) [] (take i inputs) x (drop (i + 1) inputs) each)
+
+-- so the core may take it
+pub opens_for : (core : CoreView) (me n capacity : ℕ) (inputs : List Input) (count : ℕ) (x : Input) → Opens core me n capacity inputs count → refusal me n capacity fresh (take count inputs) x ≡ None
+    → refusal core.table.me core.size core.capacity fresh (take count inputs) x ≡ None
+opens_for core me n capacity inputs count x opens free = (λ i. refusal (opens.me_is i) (opens.ring_is i) (opens.capacity_is i) fresh (take count inputs) x) ∙ free
 
 -- what the core has against the next input
-pub judged : (core : CoreView) (outbox : Outbox) (me n capacity : ℕ) (inputs : List Input) (count : ℕ) (x : Input) (found : Option Refusal) → Opens core outbox me n capacity inputs count
+pub judged : (core : CoreView) (me n capacity : ℕ) (inputs : List Input) (count : ℕ) (x : Input) (found : Option Refusal) → Opens core me n capacity inputs count
     → ((h : List Input) → CoreStandsFor core h → found ≡ refusal core.table.me core.size core.capacity fresh h x) → found ≡ refusal me n capacity fresh (take count inputs) x
-judged core outbox me n capacity inputs count x found opens says =
+judged core me n capacity inputs count x found opens says =
     says (take count inputs) opens.stands ∙ (λ i. refusal (opens.me_is i) (opens.ring_is i) (opens.capacity_is i) fresh (take count inputs) x)
 
 -- what the next input brings
-pub brought : (core : CoreView) (outbox : Outbox) (me n capacity : ℕ) (inputs : List Input) (count : ℕ) (x : Input) (effects : Effects) → Opens core outbox me n capacity inputs count
+pub brought : (core : CoreView) (me n capacity : ℕ) (inputs : List Input) (count : ℕ) (x : Input) (effects : Effects) → Opens core me n capacity inputs count
     → ((h : List Input) → CoreStandsFor core h → effects.carry ≡ carry core.table.me h x) → ((h : List Input) → CoreStandsFor core h → effects.decided ≡ decided core.table.me h x) → effects ≡ effects_of me (take count inputs) x
-brought core outbox me n capacity inputs count x effects opens sends decides =
+brought core me n capacity inputs count x effects opens sends decides =
     (λ i. record { carry = sends (take count inputs) opens.stands i; decided = decides (take count inputs) opens.stands i }) ∙ ap (λ k. effects_of k (take count inputs) x) opens.me_is
 
 -- one input more stays lawful
@@ -48,11 +59,10 @@ unfolding IsLawful
 lawful_next me n capacity h x lawful free = EachAfter-push (IsAdmitted me n capacity fresh) [] h x lawful (refusal-admitted me n capacity fresh h x free)
 
 -- one input more
-pub opens_next : (core new : CoreView) (outbox next : Outbox) (me n capacity : ℕ) (inputs : List Input) (count : ℕ) (x : Input) → Opens core outbox me n capacity inputs count → IsItem inputs count x
+pub opens_next : (core new : CoreView) (me n capacity : ℕ) (inputs : List Input) (count : ℕ) (x : Input) → Opens core me n capacity inputs count → IsItem inputs count x
     → refusal me n capacity fresh (take count inputs) x ≡ None → ((h : List Input) → CoreStandsFor core h → CoreStandsFor new (h ++ x ∷ []))
-    → new.table.me ≡ core.table.me → new.size ≡ core.size → new.capacity ≡ core.capacity
-    → Holds me next (take count inputs ++ x ∷ []) (length (take count inputs) + 1) (length (take count inputs) + 1) → Opens new next me n capacity inputs (count + 1)
-opens_next core new outbox next me n capacity inputs count x opens here free stands me_same ring_same capacity_same holds =
+    → new.table.me ≡ core.table.me → new.size ≡ core.size → new.capacity ≡ core.capacity → Opens new me n capacity inputs (count + 1)
+opens_next core new me n capacity inputs count x opens here free stands me_same ring_same capacity_same =
     let more = take-item inputs count x here in
     record {
       stands = subst (λ (l : List Input). CoreStandsFor new l) (sym more) (stands (take count inputs) opens.stands);
@@ -60,8 +70,6 @@ opens_next core new outbox next me n capacity inputs count x opens here free sta
       ring_is = ring_same ∙ opens.ring_is;
       capacity_is = capacity_same ∙ opens.capacity_is;
       lawful = subst (λ (l : List Input). IsLawful me n capacity fresh l) (sym more) (lawful_next me n capacity (take count inputs) x opens.lawful free);
-      holds = subst (λ (l : List Input). Holds me next l (length l) (length l)) (sym more)
-          (subst (λ k. Holds me next (take count inputs ++ x ∷ []) k k) (sym (length-append (take count inputs) (x ∷ []))) holds);
     }
 
 -- a result that is refused names why

@@ -85,6 +85,12 @@ holds_next me old new h x holds same_waiting same_landing keeps room =
       count = λ less. absurd (omega (arith, less));
     }
 
+pub holds_grown : (me : ℕ) (outbox : Outbox) (inputs : List Input) (i : ℕ) (x : Input) → IsItem inputs i x → Holds me outbox (take i inputs ++ x ∷ []) (length (take i inputs) + 1) (length (take i inputs) + 1)
+    → Holds me outbox (take (i + 1) inputs) (length (take (i + 1) inputs)) (length (take (i + 1) inputs))
+holds_grown me outbox inputs i x here holds =
+    subst (λ (l : List Input). Holds me outbox l (length l) (length l)) (sym (take-item inputs i x here))
+    (subst (λ k. Holds me outbox (take i inputs ++ x ∷ []) k k) (sym (length-append (take i inputs) (x ∷ []))) holds)
+
 -- ---- what flies lands
 
 -- the inputs from one number to another
@@ -102,10 +108,10 @@ part-none start inputs = let zero_is : start - start ≡ 0 = omega arith in ap (
 part-item : (start i : ℕ) (inputs : List Input) (x : Input) → start ≤ i → IsItem inputs i x → part start (i + 1) inputs ≡ part start i inputs ++ x ∷ []
 part-item start i inputs x within here =
     append_cancel_left (take start inputs) (part start (i + 1) inputs) (part start i inputs ++ x ∷ [])
-        (part-joins start (i + 1) inputs (omega (arith, within))
-        ∙ take-item inputs i x here
-        ∙ ap (λ l. l ++ x ∷ []) (sym (part-joins start i inputs within))
-        ∙ append_assoc (take start inputs) (part start i inputs) (x ∷ []))
+    (part-joins start (i + 1) inputs (omega (arith, within))
+    ∙ take-item inputs i x here
+    ∙ ap (λ l. l ++ x ∷ []) (sym (part-joins start i inputs within))
+    ∙ append_assoc (take start inputs) (part start i inputs) (x ∷ []))
 
 -- So many of them have landed: what waits and what landed are those before and behind number i.
 pub record Settles (me : ℕ) (released : Released) (waiting : List Effects) (landed : Landed) (inputs : List Input) (start end i : ℕ) : Type 0 where

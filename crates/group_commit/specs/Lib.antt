@@ -2,3 +2,4 @@ pub mod Desk
 pub mod Kept
 pub mod Outbox
 pub mod Ticket
+pub mod Vouch

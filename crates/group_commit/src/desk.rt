@@ -2,13 +2,14 @@
 ghost use Rattle.std.specs.Prelude.{◌≡◌, ◌+◌, ◌-◌, ◌++◌, ◌∷◌, ◌≤◌, ◌⊎◌, ◌||◌, ℕ, List, [], not, true, false, Some, None, length, take, nat_eq, if◌then◌else◌, is_none, IfSome, IfNone, MatchOption, IfOk, IfErr, OnOk, OnErr};
 ghost use Rattle.std.specs.List.{cons_option};
 ghost use Rattle.ring_records.specs.Admission.{fresh, refusal, IsLawful};
+ghost use Rattle.ring_records.specs.Answer.{asked, opened, launched, landed as landed_state};
 ghost use Rattle.ring_records.specs.Props.{IsLawful-prop};
-ghost use Rattle.ring_records.specs.Answer.{reply, gained, unless, if_free, asked, opened, launched, landed as landed_state};
 ghost use Rattle.ring_records.specs.Release.{packets, decisions};
 ghost use Rattle.group_commit.specs.Outbox.{Holds};
 ghost use Rattle.node_core.specs.Core.{CoreStandsFor};
 ghost use Rattle.group_commit.specs.Kept.{Answered, answered_with, place_with, is_outside, kept_in};
 
+use crate::judge::judge;
 use crate::kept::Kept;
 use crate::landed::Landed;
 use crate::outbox::Outbox;
@@ -118,8 +119,8 @@ impl Desk {
         if let Some(refusal) = self.objection(&question) {
             return Err(refusal);
         }
-        let (reply, input) = self.judge(&question);
-        let number = self.inputs.len() as u64 + u64::from(input.is_some());
+        let (reply, input) = judge(&self.core, &question);
+        let number = count_with(&self.inputs, &input);
         let own = self.issued;
         let kept = Kept {
             question,
@@ -275,9 +276,7 @@ impl Desk {
         ensures ready { (is_closed self.new ≡ is_closed self.old) × (is_failed self.new ≡ is_failed self.old) }
         ensures same { (own : ℕ) → kept_at self.new own ≡ kept_at self.old own }
     {
-        if self.is_failed
-            || !self.is_flying(receipt.node(), receipt.first(), receipt.inputs())
-        {
+        if self.is_failed || !self.is_flying(receipt.node(), receipt.first(), receipt.inputs()) {
             return Err((receipt, Refusal::Foreign));
         }
         let _ = receipt.into_parts();
@@ -351,34 +350,6 @@ impl Desk {
         !(self.is_closed || self.is_failed)
     }
 
-    // What it answers to an input, which it accepts where nothing is against it.
-    fn weigh(&self, input: Input, accepted: Reply) -> (Reply, Option<Input>)
-        ensures reply { result.0 ≡ unless (refusal self.now.node self.now.n self.now.capacity fresh self.now.inputs.items input) accepted }
-        ensures input { cons_option result.1 [] ≡ if_free (refusal self.now.node self.now.n self.now.capacity fresh self.now.inputs.items input) input }
-        ensures free { IfSome result.1 (λ x. refusal self.now.node self.now.n self.now.capacity fresh self.now.inputs.items x ≡ None) }
-    {
-        match self.core.admit(&input) {
-            Ok(()) => (accepted, Some(input)),
-            Err(refusal) => (Reply::Refused(refusal), None),
-        }
-    }
-
-    // What it answers to a request, and the input that it accepts.
-    #[tactic(auto, unfolding(ring_records::specs::Answer::reply, ring_records::specs::Answer::gained, ring_records::specs::Answer::input_of))]
-    fn judge(&self, question: &Request) -> (Reply, Option<Input>)
-        ensures reply { result.0 ≡ reply self.now.node self.now.n self.now.capacity fresh self.now.inputs.items question.now }
-        ensures input { cons_option result.1 [] ≡ gained self.now.node self.now.n self.now.capacity fresh self.now.inputs.items question.now }
-        ensures free { IfSome result.1 (λ x. refusal self.now.node self.now.n self.now.capacity fresh self.now.inputs.items x ≡ None) }
-    {
-        match *question {
-            Request::Stand(key, bid) => self.weigh(Input::Stand { key, bid }, Reply::Stood),
-            Request::Take(no, msg) => self.weigh(Input::Take { no, msg }, Reply::Taken),
-            Request::Acked(upto) => self.weigh(Input::Acked { upto }, Reply::Acked),
-            Request::Who(key) => (Reply::Leader(self.core.who(&key)), None),
-            Request::Latest(group) => (Reply::Latest(self.core.latest(&group)), None),
-        }
-    }
-
     // The reply that is kept for the ticket, if it is open here, and how many inputs that rests on.
     fn found(&self, ticket: &Ticket) -> Option<(Reply, u64)>
         ensures { MatchOption result ((kept : Answered) → IsHere self.now (shown ticket.now) kept → ⊥) (λ r. IsHere self.now (shown ticket.now) (answered_with ticket.now.question r.0 r.1)) }
@@ -428,6 +399,13 @@ fn is_outside(n: u8, question: &Request) -> bool
     }
 }
 
+// How many inputs there are with this one, if there is one.
+fn count_with(inputs: &[Input], input: &Option<Input>) -> u64
+    ensures { result ≡ length (inputs.now ++ cons_option input.now []) }
+{
+    inputs.len() as u64 + u64::from(input.is_some())
+}
+
 // Keeps the answer for the ticket of this number.
 fn keep(tickets: &mut BTreeMap<u64, Kept>, own: u64, kept: Kept) -> Result<(), AllocError>
     ensures kept { OnOk result ((other : ℕ) → kept_in tickets.new.entries other ≡ (if nat_eq other own then Some kept else kept_in tickets.old.entries other)) }
@@ -466,3 +444,4 @@ fn accept(
 
 #[cfg(test)]
 mod tests;
+mod vouch;

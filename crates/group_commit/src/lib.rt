@@ -2,6 +2,7 @@
 #![tactic(auto)]
 
 mod desk;
+mod judge;
 mod kept;
 mod landed;
 mod outbox;

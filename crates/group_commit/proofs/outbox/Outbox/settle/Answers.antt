@@ -28,21 +28,24 @@ add-requires-clause-allowed c =
     (a.0, a.1, take c.loop-i.i c.args.inputs.now, settles.keeps, allowed_at a.0 a.1 a.2 c.args.inputs.now c.loop-i.i x a.4 here, brings)
 
 pub loop-i-preserved : goal.loop-i-preserved
-loop-i-preserved c = (c.loop-i.invariant.0, λ me n capacity holds lawful.
-    let settles = c.loop-i.invariant.1 me n capacity holds lawful in
-    let x = c.index-inputs-i.result in
-    let here : IsItem c.args.inputs.now c.loop-i.i x = record { within = search rules; is = c.index-inputs-i.is } in
-    let split = c.in-Some.ensures.items ∙ ap (λ (e : Effects). e ∷ c.pop_front.new.self.items) (sym c.brought.view_is) in
-    settles_next me c.loop-i.self.released c.add.new.self c.loop-i.self.waiting.items c.pop_front.new.self.items c.loop-i.landed c.add-in-loop-i.new.self c.args.inputs.now c.args.start c.args.end c.loop-i.i x c.brought.inside.effects
-        settles here c.loop-i-test.true split
-        (λ brings. c.add.ensures.keeps me n (take c.loop-i.i c.args.inputs.now) settles.keeps (allowed_at me n capacity c.args.inputs.now c.loop-i.i x lawful here) brings)
-        c.add.ensures.room c.add-in-loop-i.ensures.room c.add-in-loop-i.ensures.packets c.add-in-loop-i.ensures.decisions c.add-in-loop-i.ensures.count)
+loop-i-preserved c = (
+  c.loop-i.invariant.0,
+  λ me n capacity holds lawful.
+      let settles = c.loop-i.invariant.1 me n capacity holds lawful in
+      let x = c.index-inputs-i.result in
+      let here : IsItem c.args.inputs.now c.loop-i.i x = record { within = search rules; is = c.index-inputs-i.is } in
+      let split = c.in-Some.ensures.items ∙ ap (λ (e : Effects). e ∷ c.pop_front.new.self.items) (sym c.brought.view_is) in
+      settles_next me c.loop-i.self.released c.add.new.self c.loop-i.self.waiting.items c.pop_front.new.self.items c.loop-i.landed c.add-in-loop-i.new.self c.args.inputs.now c.args.start c.args.end c.loop-i.i x c.brought.inside.effects
+      settles here c.loop-i-test.true split
+      (λ brings. c.add.ensures.keeps me n (take c.loop-i.i c.args.inputs.now) settles.keeps (allowed_at me n capacity c.args.inputs.now c.loop-i.i x lawful here) brings)
+      c.add.ensures.room c.add-in-loop-i.ensures.room c.add-in-loop-i.ensures.packets c.add-in-loop-i.ensures.decisions c.add-in-loop-i.ensures.count,
+)
 
 pub returns-then-self-taken-clause-packets : goal.returns-then-self-taken-clause-packets
 returns-then-self-taken-clause-packets c = λ me n capacity holds lawful.
     let all : c.loop-i.i ≡ c.args.end = search rules in
     packets_some me c.args.self.now.released c.loop-i.self.released _ c.loop-i.landed _ c.args.inputs.now c.args.start c.args.end holds.released
-        (settles_end me _ _ _ _ c.args.start c.args.end c.loop-i.i (c.loop-i.invariant.1 me n capacity holds lawful) all) c.if-self-taken.true c.credit.ensures.packets
+    (settles_end me _ _ _ _ c.args.start c.args.end c.loop-i.i (c.loop-i.invariant.1 me n capacity holds lawful) all) c.if-self-taken.true c.credit.ensures.packets
 
 pub returns-then-self-taken-clause-decisions : goal.returns-then-self-taken-clause-decisions
 returns-then-self-taken-clause-decisions c = λ me n capacity holds lawful.
@@ -58,7 +61,7 @@ pub returns-else-self-taken-clause-packets : goal.returns-else-self-taken-clause
 returns-else-self-taken-clause-packets c = λ me n capacity holds lawful.
     let all : c.loop-i.i ≡ c.args.end = search rules in
     packets_none me c.args.self.now.released c.loop-i.self.released _ c.loop-i.landed c.args.inputs.now c.args.start c.args.end holds.released
-        (settles_end me _ _ _ _ c.args.start c.args.end c.loop-i.i (c.loop-i.invariant.1 me n capacity holds lawful) all) (search rules)
+    (settles_end me _ _ _ _ c.args.start c.args.end c.loop-i.i (c.loop-i.invariant.1 me n capacity holds lawful) all) (search rules)
 
 pub returns-else-self-taken-clause-decisions : goal.returns-else-self-taken-clause-decisions
 returns-else-self-taken-clause-decisions c = λ me n capacity holds lawful.
