@@ -1,9 +1,9 @@
 -- What a node may release once one more input is durable.
-use Rattle.std.proofs.Common.{◌≡◌, ℕ, ◌+◌, ◌<◌, ◌≤◌, ◌^◌, List, [], ◌∷◌, ◌++◌, length, Option, None, refl, sym, ap, ◌∙◌, subst, append-nil, arith}
+use Rattle.std.proofs.Common.{◌≡◌, ℕ, ◌+◌, ◌<◌, ◌≤◌, ◌^◌, List, [], ◌∷◌, ◌++◌, length, take, Option, None, sym, ap, ◌∙◌, subst, append-nil, arith}
 use Rattle.std.specs.Prelude.{unwrap_or}
 use Rattle.std.specs.List.{cons_option}
 use Rattle.std.specs.Option.{option_map}
-use Rattle.std.proofs.lemmas.List.{length-append}
+use Rattle.std.proofs.lemmas.List.{length-append, length-take-le, take_all}
 use Rattle.ring_records.specs.declared.input.Input.{Input}
 use Rattle.ring_records.specs.declared.input.Input.TheVariants.{Stand, Take, Acked}
 use Rattle.ring_records.specs.declared.key.Key.{Key}
@@ -14,7 +14,9 @@ use Rattle.ring_records.specs.Admission.{IsInTurn, IsAllowed}
 use Rattle.ring_records.specs.History.{message_of, upto_of, taken, credit}
 use Rattle.ring_records.specs.Leader.{decided}
 use Rattle.ring_records.specs.Lists.{found_after}
-use Rattle.ring_records.specs.Release.{decisions}
+use Rattle.ring_records.specs.Release.{decisions, numbered, window}
+use Rattle.ring_records.specs.declared.packet.Packet.{Packet}
+use Rattle.ring_records.proofs.LookBack.{IsItem, take-item}
 use Rattle.ring_records.proofs.Counts.{taken-few, sent-few}
 use Rattle.ring_records.proofs.History.{taken-push, sent-push, credit-push}
 use Rattle.ring_records.proofs.Lists.{found_after-push}
@@ -103,3 +105,28 @@ next_acked me old new h x effects upto keeps brings is more link takes =
     let credits : upto ≡ credit (h ++ x ∷ []) = sym (credit-push h x ∙ ap (λ y. unwrap_or (upto_of y) (credit h)) is) in
     keeps_next me old new h x effects keeps brings more (subst (OutlinkStandsFor new.link.link (sent me (h ++ x ∷ []))) credits link)
     (takes ∙ (keeps.taken ∙ same_taken h x (ap message_of is)))
+
+-- ---- the messages that may be released again
+
+numbered-push : (place : ℕ) (msgs : List Msg) (msg : Msg) → numbered place (msgs ++ msg ∷ []) ≡ numbered place msgs ++ Carry (place + length msgs) msg ∷ []
+numbered-push place [] msg = let none : place ≡ place + 0 = omega arith in ap (λ n. Carry n msg ∷ []) none
+numbered-push place (m ∷ msgs) msg =
+    ap (λ l. Carry place m ∷ l) (numbered-push (place + 1) msgs msg)
+    ∙ (let sum : place + 1 + length msgs ≡ place + length (m ∷ msgs) = omega arith in ap (λ n. Carry place m ∷ (numbered (place + 1) msgs ++ Carry n msg ∷ [])) sum)
+
+pub numbered-item : (first : ℕ) (msgs : List Msg) (place : ℕ) (msg : Msg) (before after : List Packet) → IsItem msgs place msg → before ≡ numbered first (take place msgs) → after ≡ before ++ Carry (first + place) msg ∷ []
+    → after ≡ numbered first (take (place + 1) msgs)
+numbered-item first msgs place msg before after here is more =
+    let within = here.within in
+    let count : place ≡ length (take place msgs) = sym (length-take-le place msgs (omega (arith, within))) in
+    more ∙ ap (λ l. l ++ Carry (first + place) msg ∷ []) is
+    ∙ ap (λ n. numbered first (take place msgs) ++ Carry (first + n) msg ∷ []) count
+    ∙ sym (numbered-push first (take place msgs) msg) ∙ ap (numbered first) (sym (take-item msgs place msg here))
+
+pub window_is : (me : ℕ) (released : Released) (h : List Input) (msgs : List Msg) (first place : ℕ) (packets : List Packet) → Keeps me released h → msgs ≡ released.link.link.window
+    → first + length msgs ≡ sent_count released.link.link → length msgs ≤ place → packets ≡ numbered first (take place msgs) → packets ≡ window me h
+unfolding window
+window_is me released h msgs first place packets keeps window_same last all is =
+    let same : length msgs ≡ length released.link.link.window = ap length window_same in
+    let from : first ≡ released.link.link.credited = omega (arith, same, last) in
+    is ∙ (λ i. numbered ((from ∙ keeps.link.credited) i) (take_all place msgs all i)) ∙ ap (numbered (credit h)) (window_same ∙ keeps.link.window)

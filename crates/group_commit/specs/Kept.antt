@@ -1,5 +1,7 @@
 -- What is kept for a ticket, and by whom.
-use Rattle.std.specs.Prelude.{ℕ, Bool, false, nat_lt, List, Option}
+use Rattle.std.specs.Prelude.{ℕ, ◌≡◌, ◌↔◌, Bool, false, nat_lt, List, length, Option, IsSome}
+use Rattle.std.specs.List.{Contains}
+use Rattle.std.specs.List.Sorted.{IsStrictlySortedBy}
 use Rattle.std.specs.Map.{lookup}
 use Rattle.std.specs.Ordering.{nat_cmp, is_eq}
 use Rattle.ring_records.specs.declared.reply.Reply.{Reply}
@@ -37,3 +39,10 @@ is_outside n (ask.Take place msg) = nat_lt n (candidate_of msg).node
 is_outside n (ask.Acked upto) = false
 is_outside n (ask.Who key) = false
 is_outside n (ask.Latest group) = false
+
+-- So many numbers have something kept under them: these, and no other.
+pub record IsCount (kept : ℕ → Option Answered) (count : ℕ) : Type 0 where
+  pub numbers : List ℕ
+  pub count_is : length numbers ≡ count
+  pub rising : IsStrictlySortedBy nat_cmp numbers
+  pub each : (own : ℕ) → (Contains numbers own ↔ IsSome (kept own))

@@ -4,10 +4,10 @@ ghost use Rattle.std.specs.List.{cons_option};
 ghost use Rattle.ring_records.specs.Admission.{fresh, refusal, IsLawful};
 ghost use Rattle.ring_records.specs.Answer.{asked, opened, launched, landed as landed_state};
 ghost use Rattle.ring_records.specs.Props.{IsLawful-prop};
-ghost use Rattle.ring_records.specs.Release.{packets, decisions};
+ghost use Rattle.ring_records.specs.Release.{packets, decisions, window};
 ghost use Rattle.group_commit.specs.Outbox.{Holds};
 ghost use Rattle.node_core.specs.Core.{CoreStandsFor};
-ghost use Rattle.group_commit.specs.Kept.{Answered, answered_with, place_with, is_outside, kept_in};
+ghost use Rattle.group_commit.specs.Kept.{Answered, answered_with, place_with, is_outside, kept_in, IsCount};
 
 use crate::judge::judge;
 use crate::kept::Kept;
@@ -16,7 +16,7 @@ use crate::outbox::Outbox;
 use crate::ticket::{Stub, Ticket};
 use gated_journal::{Batch, Receipt, Spoiled};
 use node_core::NodeCore;
-use ring_records::{Input, NodeNo, Refusal, Reply, Request};
+use ring_records::{Input, NodeNo, Packet, Refusal, Reply, Request};
 use std::alloc::{AllocError, AllocFailed, Global};
 use std::collections::BTreeMap;
 
@@ -341,6 +341,21 @@ impl Desk {
         ensures { result ≡ (state_of self.now).flying }
     {
         self.flying
+    }
+
+    /// The messages of its durable inputs that the successor is not known to have taken, as Carry packets in order: those
+    /// from the last durable credit on. They may be released again.
+    pub fn window(&self) -> Result<Vec<Packet>, AllocError>
+        ensures { IfOk result (λ packets. packets.items ≡ window (place_of self.now).me (take (state_of self.now).durable (state_of self.now).inputs)) }
+    {
+        self.outbox.released.window(*self.inputs.allocator())
+    }
+
+    /// How many tickets are open: given, and neither redeemed nor forfeited.
+    pub fn open_tickets(&self) -> usize
+        ensures { IsCount (kept_at self.now) result }
+    {
+        self.tickets.len()
     }
 
     /// Whether it takes requests: it was not closed and has not failed.

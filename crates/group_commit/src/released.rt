@@ -6,6 +6,7 @@ ghost use Rattle.ring_records.specs.declared.input.Input.{Input};
 ghost use Rattle.ring_records.specs.declared.msg.Msg.{Msg};
 ghost use Rattle.ring_records.specs.declared.packet.Packet.TheVariants.{Carry};
 ghost use Rattle.ring_records.specs.Admission.{IsAllowed};
+ghost use Rattle.ring_records.specs.Release.{window};
 ghost use Rattle.neighbour_link.specs.Outlink.{OutlinkStandsFor, sent_count};
 
 use crate::landed::push_decision;
@@ -44,6 +45,20 @@ impl Released {
     {
         self.link.reserve(count)?;
         self.decisions.reserve(count)
+    }
+
+    /// The messages that the successor is not known to have taken, as packets.
+    pub(crate) fn window(&self, alloc: Global) -> Result<Vec<Packet>, AllocError>
+        ensures { IfOk result (λ packets. (me : ℕ) (h : List Input) → Keeps me self.now h → packets.items ≡ window me h) }
+    {
+        let messages = self.link.window();
+        let first = self.link.sent() - messages.len() as u64;
+        let mut packets = Vec::new(alloc);
+        for (place, msg) in messages.iter().enumerate() {
+            let no = first + place as u64;
+            packets.push(Packet::Carry { no, msg: *msg })?;
+        }
+        Ok(packets)
     }
 
     /// Adds what the next durable input lets it release, for which there is room.

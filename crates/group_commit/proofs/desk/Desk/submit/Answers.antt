@@ -1,4 +1,4 @@
-use Rattle.std.proofs.Common.{rules, ◌≡◌, ◌+◌, ℕ, ◌∙◌, ◌++◌, List, [], ap, true, length, nat_eq, if◌then◌else◌, Some, None, is_none, is_ok, arith}
+use Rattle.std.proofs.Common.{rules, ◌≡◌, ℕ, ◌∙◌, ◌++◌, List, [], ap, true, length, nat_eq, if◌then◌else◌, Some, None, is_none, is_ok, arith}
 use Rattle.ring_records.specs.Admission.{fresh, refusal}
 use Rattle.ring_records.specs.Answer.{reply, gained}
 use Rattle.node_core.specs.Core.{CoreStandsFor}

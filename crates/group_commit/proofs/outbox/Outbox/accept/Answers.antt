@@ -1,4 +1,4 @@
-use Rattle.std.proofs.Common.{rules, ◌≡◌, ◌∙◌, refl}
+use Rattle.std.proofs.Common.{rules, ◌≡◌, refl}
 use Rattle.group_commit.specs.Outbox.{effects_of}
 use Rattle.group_commit.proofs.Settling.{waits_next}
 use Rattle.group_commit.proofs.outbox.Outbox.accept.Goals as goal

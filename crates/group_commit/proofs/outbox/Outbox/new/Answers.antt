@@ -1,4 +1,4 @@
-use Rattle.std.proofs.Common.{rules, refl}
+use Rattle.std.proofs.Common.{rules}
 use Rattle.group_commit.proofs.Settling.{holds_none}
 use Rattle.group_commit.proofs.outbox.Outbox.new.Goals as goal
 

@@ -1,10 +1,4 @@
-use Rattle.std.proofs.Common.{rules, ◌≡◌, ◌+◌, ◌<◌, ◌≤◌, ◌^◌, List, [], refl}
-use Rattle.ring_records.specs.declared.input.Input.{Input}
-use Rattle.ring_records.specs.Emission.{sent}
-use Rattle.ring_records.specs.History.{credit}
-use Rattle.ring_records.specs.Admission.{IsAllowed}
-use Rattle.neighbour_link.specs.Outlink.{OutlinkStandsFor, sent_count}
-use Rattle.group_commit.specs.Outbox.{Keeps, effects_of}
+use Rattle.std.proofs.Common.{rules, refl}
 use Rattle.group_commit.proofs.Releases.{queued, few_queued, few_taken, credit_allowed, next_stand, next_take, next_acked}
 use Rattle.group_commit.proofs.released.Released.add.Goals as goal
 

@@ -1,0 +1,6 @@
+use Rattle.std.proofs.Common.{◌≡◌, take}
+use Rattle.ring_records.specs.Release.{numbered}
+use Rattle.group_commit.proofs.released.Released.window.Given as goal
+
+abbrev pub invariant-loop-place : goal.invariant-loop-place
+invariant-loop-place l = l.packets.items ≡ numbered l.first (take l.place l.messages)
