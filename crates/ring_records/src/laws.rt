@@ -1,16 +1,20 @@
 //! Laws of the definitions: public functions with an empty body, whose contracts say what follows from `specs/` alone.
 ghost use Rattle.std.specs.Prelude.{◌≡◌, ◌↔◌, ◌≤◌, ◌+◌, ◌||◌, ℕ, true, false, if◌then◌else◌, List, [], ◌∷◌, ◌++◌, Some, None, slice_get, unwrap_or, length, Ok};
-ghost use Rattle.std.specs.List.{cons_option};
+ghost use Rattle.std.specs.List.{cons_option, Contains};
 ghost use Rattle.ring_records.specs.declared.candidate.Candidate.{Candidate};
 ghost use Rattle.ring_records.specs.declared.input.Input.{Input};
 ghost use Rattle.ring_records.specs.declared.key.Key.{Key};
 ghost use Rattle.ring_records.specs.declared.msg.Msg.{Msg};
 ghost use Rattle.ring_records.specs.Admission.{Base, fresh, cost, used, IsAllowed, IsAdmitted, objection, refusal};
+ghost use Rattle.ring_records.specs.declared.packet.Packet.{Packet};
+ghost use Rattle.ring_records.specs.declared.request.Request.{Request};
+ghost use Rattle.ring_records.specs.Answer.{Answer, Answers, PacketRests};
 ghost use Rattle.ring_records.specs.Emission.{emit, sent};
 ghost use Rattle.ring_records.specs.History.{names, touched, bid_for, stood, message_of, taken, upto_of, credit, is_stand, stands};
 ghost use Rattle.ring_records.specs.Leader.{makes_leader, leader, latest};
 ghost use Rattle.ring_records.specs.Lists.{or_else};
 ghost use Rattle.ring_records.specs.Record.{AreBytes, HasRecord, BeginsWith, record_of, record_read};
+ghost use Rattle.ring_records.specs.Release.{packets, window};
 ghost use Rattle.ring_records.specs.Ring.{IsLegal, part};
 ghost use Rattle.ring_records.specs.WorkedRun.{red_5, winner, first_election};
 
@@ -57,6 +61,15 @@ pub fn latest_leads()
 pub fn admission()
     ensures history { (me n : ℕ) (h : List Input) (x : Input) → ((objection me n h x ≡ None) ↔ IsAllowed me n h x) }
     ensures whole { (me n capacity : ℕ) (base : Base) (h : List Input) (x : Input) → ((refusal me n capacity base h x ≡ None) ↔ IsAdmitted me n capacity base h x) }
+{}
+
+/// What is released stays true as a history grows: a reply that the first inputs give, and a packet that rests on them.
+/// What a batch lets a node release, and what it may release again, rests on the inputs up to the end of the batch.
+pub fn released_stays()
+    ensures answers { (me n capacity : ℕ) (base : Base) (h rest : List Input) (q : Request) (a : Answer) → Answers me n capacity base h q a → Answers me n capacity base (h ++ rest) q a }
+    ensures packets { (me : ℕ) (h rest : List Input) (packet : Packet) → PacketRests me h packet → PacketRests me (h ++ rest) packet }
+    ensures batch { (me : ℕ) (h l : List Input) (packet : Packet) → Contains (packets me h l) packet → PacketRests me (h ++ l) packet }
+    ensures window { (me : ℕ) (h : List Input) (packet : Packet) → Contains (window me h) packet → PacketRests me h packet }
 {}
 
 /// There is a legal run with a leader: three nodes stand for one key, and at its end each of them knows the one of
