@@ -1,0 +1,3 @@
+pub mod Node
+pub mod Props
+pub mod State

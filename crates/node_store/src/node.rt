@@ -1,0 +1,187 @@
+ghost use Rattle.std.specs.Prelude.{◌≡◌, ◌+◌, ◌⊎◌, ◌||◌, ◌<◌, ◌≤◌, ◌^◌, ℕ, [], not, true, false, Some, None, min, nat_eq, if◌then◌else◌, IsOk, IfOk, IfErr, OnOk, OnErr};
+ghost use Rattle.disk_model.specs.Disk.{MayLeave};
+ghost use Rattle.ring_records.specs.Admission.{fresh, IsLawful};
+ghost use Rattle.ring_records.specs.Answer.{asked, opened};
+ghost use Rattle.gated_journal.specs.Journal as journals;
+ghost use Rattle.gated_journal.specs.Reading.{header_with, is_header, AllReadAs};
+ghost use Rattle.gated_journal.specs.Unread.{IsFault};
+ghost use Rattle.group_commit.specs.Desk as desks;
+ghost use Rattle.group_commit.specs.Kept.{Answered, place_with};
+ghost use Rattle.node_store.specs.State.{header_at, durable_in, Holds, Stands};
+ghost use Rattle.node_store.specs.Props.{Stands-prop};
+
+use disk_model::{Device, FuseDevice};
+use gated_journal::Journal;
+use group_commit::{Desk, Stub, Ticket};
+use ring_records::{NodeNo, Refusal, Reply, Request};
+use std::alloc::Global;
+
+/// A node whose inputs outlive it: a desk, and the journal that makes what it accepts durable.
+#[derive(Drop)]
+pub struct Node<D: Device> {
+    desk: Desk,
+    journal: Journal<D>,
+    ghost stands: { Stands (desks.place_of desk) (desks.state_of desk) (desks.is_failed desk) (journals.header_of journal) (D.disk (journals.device_of journal)) (journals.is_spoiled journal) (journals.len_of journal) (journals.room_of journal) } by { Stands-prop (desks.place_of desk) (desks.state_of desk) (desks.is_failed desk) (journals.header_of journal) (D.disk (journals.device_of journal)) (journals.is_spoiled journal) (journals.len_of journal) (journals.room_of journal) },
+}
+
+impl<D: Device> Node<D> {
+    ghost use Rattle.group_commit.specs.Desk.{answered, objection, IsHere, IsSealed};
+    ghost use Rattle.group_commit.specs.Ticket.{shown, stub, ticket_with};
+    ghost use Rattle.node_store.specs.Node.{desk_of, place_of, state_of, kept_at, issued_by, is_closed, is_failed, device_of, header_of};
+
+    /// A new node, which has accepted nothing, on a device that is formatted for it. Refused as 2 where `n` is not 2 to
+    /// 16, `node` is above it, or the capacity is not 4,096 to 1,048,576 bytes, as 15, and as 8. What the device holds
+    /// after a 15 is not known.
+    pub fn create(
+        alloc: Global,
+        device: D,
+        node: NodeNo,
+        n: u8,
+        capacity: u32,
+        run: u64,
+    ) -> Result<Node<D>, (D, Refusal)>
+        ensures place { IfOk result (λ made. place_of made ≡ place_with node n capacity run) }
+        ensures state { IfOk result (λ made. state_of made ≡ opened []) }
+        ensures kept { IfOk result (λ made. (own : ℕ) → kept_at made own ≡ None) }
+        ensures issued { IfOk result (λ made. issued_by made ≡ 0) }
+        ensures ready { IfOk result (λ made. (is_closed made ≡ false) × (is_failed made ≡ false)) }
+        ensures empty { IfOk result (λ made. AllReadAs (header_with node n capacity) (D.disk (device_of made)) []) }
+        ensures range { OnOk result (is_header (header_with node n capacity) ≡ true) }
+        ensures same { IfOk result (λ made. D.count (device_of made) ≡ D.count device) }
+        ensures reach { IfOk result (λ made. D.reach (device_of made) ≡ D.reach device) }
+
+        // Refused as 2 or 8, the device is as it was; as 15, the device failed.
+        ensures number { IfErr result (λ e. is_header (header_with node n capacity) ≡ false → (e.1 ≡ Refusal.BadNumber) × (e.0 ≡ device)) }
+        ensures fault { IfErr result (λ e. is_header (header_with node n capacity) ≡ true → IsFault (D.count device) (D.count e.0) e.1 ⊎ ((e.1 ≡ Refusal.OutOfMemory) × (e.0 ≡ device))) }
+        ensures works { 0 < D.reach device → 17 ≤ D.reach device → IfErr result (λ e. (e.1 ≡ Refusal.BadNumber) ⊎ (e.1 ≡ Refusal.OutOfMemory)) }
+    {
+        if !is_in_range(node, n, capacity) {
+            return Err((device, Refusal::BadNumber));
+        }
+        match Desk::open(alloc, node, n, capacity, run, Vec::new(alloc)) {
+            Err(refusal) => Err((device, refusal)),
+            Ok(desk) => match Journal::format(device, node, n, capacity) {
+                Ok(journal) => Ok(Node { desk, journal }),
+                Err((device, refusal)) => Err((device, refusal)),
+            },
+        }
+    }
+
+    /// Answers a request, accepts its input where nothing is against it, and gives a ticket for the reply. Refused as 9
+    /// where it is closed or has failed, as 2 where a Take's message is of no node of the ring, as 6 at 2^64 - 1 tickets,
+    /// and as 8. Every other refusal is a reply.
+    pub fn submit(&mut self, question: Request) -> Result<Ticket, Refusal>
+        ensures ticket { IfOk result (λ ticket. shown ticket ≡ ticket_with (place_of self.old) (issued_by self.old) (answered (desk_of self.old) question)) }
+        ensures state { OnOk result (state_of self.new ≡ asked (place_of self.old).me (place_of self.old).n (place_of self.old).capacity fresh (state_of self.old) question) }
+        ensures kept { OnOk result ((own : ℕ) → kept_at self.new own ≡ (if nat_eq own (issued_by self.old) then Some (answered (desk_of self.old) question) else kept_at self.old own)) }
+        ensures issued { OnOk result (issued_by self.new ≡ issued_by self.old + 1) }
+        ensures refusal { IfErr result (λ refusal. (objection (desk_of self.old) question ≡ Some refusal) ⊎ ((objection (desk_of self.old) question ≡ None) × (refusal ≡ Refusal.OutOfMemory))) }
+        ensures free { OnOk result (objection (desk_of self.old) question ≡ None) }
+        ensures place { place_of self.new ≡ place_of self.old }
+        ensures ready { (is_closed self.new ≡ is_closed self.old) × (is_failed self.new ≡ is_failed self.old) }
+        ensures same { OnErr result ((state_of self.new ≡ state_of self.old) × (issued_by self.new ≡ issued_by self.old) × ((own : ℕ) → kept_at self.new own ≡ kept_at self.old own)) }
+        ensures device { device_of self.new ≡ device_of self.old }
+    {
+        self.desk.submit(question)
+    }
+
+    /// Ends a ticket whose reply rests on durable inputs alone, and releases the reply, with a stub of it. Refused as 10
+    /// where no such ticket is open here; where an input that the reply rests on is not durable yet, as 9 on a node that
+    /// has failed and else as 11. Then the ticket comes back.
+    pub fn redeem(&mut self, ticket: Ticket) -> Result<(Reply, Stub), (Ticket, Refusal)>
+        ensures released { IfOk result (λ r. IsHere (desk_of self.old) (shown ticket) (stub r.1)) }
+        ensures reply { IfOk result (λ r. r.0 ≡ (stub r.1).answer.reply) }
+        ensures durable { IfOk result (λ r. (stub r.1).answer.number ≤ (state_of self.old).durable) }
+        ensures ends { OnOk result ((own : ℕ) → kept_at self.new own ≡ (if nat_eq own (shown ticket).own then None else kept_at self.old own)) }
+        ensures refusal { IfErr result (λ e. IsSealed (desk_of self.old) (shown ticket) e.1) }
+        ensures back { IfErr result (λ e. shown e.0 ≡ shown ticket) }
+        ensures same { OnErr result ((own : ℕ) → kept_at self.new own ≡ kept_at self.old own) }
+        ensures place { place_of self.new ≡ place_of self.old }
+        ensures state { state_of self.new ≡ state_of self.old }
+        ensures issued { issued_by self.new ≡ issued_by self.old }
+        ensures ready { (is_closed self.new ≡ is_closed self.old) × (is_failed self.new ≡ is_failed self.old) }
+        ensures device { device_of self.new ≡ device_of self.old }
+    {
+        self.desk.redeem(ticket)
+    }
+
+    /// Ends a ticket with no reply, on a node that is closed or has failed. Refused as 10 where no such ticket is open
+    /// here, and the ticket comes back.
+    pub fn forfeit(&mut self, ticket: Ticket) -> Result<(), (Ticket, Refusal)>
+        requires ended { (is_closed self.old || is_failed self.old) ≡ true }
+        ensures here { OnOk result ((kept : Answered) × IsHere (desk_of self.old) (shown ticket) kept) }
+        ensures ends { OnOk result ((own : ℕ) → kept_at self.new own ≡ (if nat_eq own (shown ticket).own then None else kept_at self.old own)) }
+        ensures foreign { IfErr result (λ e. (e.1 ≡ Refusal.Foreign) × ((kept : Answered) → IsHere (desk_of self.old) (shown ticket) kept → ⊥)) }
+        ensures back { IfErr result (λ e. shown e.0 ≡ shown ticket) }
+        ensures same { OnErr result ((own : ℕ) → kept_at self.new own ≡ kept_at self.old own) }
+        ensures place { place_of self.new ≡ place_of self.old }
+        ensures state { state_of self.new ≡ state_of self.old }
+        ensures issued { issued_by self.new ≡ issued_by self.old }
+        ensures ready { (is_closed self.new ≡ is_closed self.old) × (is_failed self.new ≡ is_failed self.old) }
+        ensures device { device_of self.new ≡ device_of self.old }
+    {
+        self.desk.forfeit(ticket)
+    }
+
+    /// Takes no more requests; all else goes on.
+    pub fn close(&mut self)
+        ensures closed { is_closed self.new ≡ true }
+        ensures failed { is_failed self.new ≡ is_failed self.old }
+        ensures place { place_of self.new ≡ place_of self.old }
+        ensures state { state_of self.new ≡ state_of self.old }
+        ensures issued { issued_by self.new ≡ issued_by self.old }
+        ensures same { (own : ℕ) → kept_at self.new own ≡ kept_at self.old own }
+        ensures device { device_of self.new ≡ device_of self.old }
+    {
+        self.desk.close();
+    }
+
+    /// Whether it takes requests: it was not closed and has not failed.
+    pub fn is_open(&self) -> bool
+        ensures { result ≡ not (is_closed self.now || is_failed self.now) }
+    {
+        self.desk.is_open()
+    }
+
+    /// Ends a node that is closed or has failed, and gives its device.
+    pub fn into_device(self) -> D
+        requires ended { (is_closed self || is_failed self) ≡ true }
+        ensures device { result ≡ device_of self }
+        ensures lawful { IsLawful (place_of self).me (place_of self).n (place_of self).capacity fresh (state_of self).inputs }
+
+        // A stop leaves the inputs that were durable, or also those that flew.
+        ensures holds { Holds (header_at (place_of self)) (D.disk result) (state_of self) }
+        ensures durable { is_failed self ≡ false → AllReadAs (header_at (place_of self)) (D.disk result) (durable_in (state_of self)) }
+    {
+        let Node { desk: _, journal } = self;
+        journal.into_device()
+    }
+}
+
+impl<D: Device> Node<FuseDevice<D>> {
+    ghost use Rattle.disk_model.specs.Fuse.{planned};
+    ghost use Rattle.disk_model.specs.FuseDevice.{inner_of, will_fail, own_faults};
+    ghost use Rattle.node_store.specs.Node.{place_of, state_of, kept_at, issued_by, is_closed, is_failed, device_of};
+
+    /// Sets the device's fuse anew: from now on `after` of its calls pass, and then the next fails if `once`, else all
+    /// later ones.
+    pub fn arm(&mut self, after: u64, once: bool)
+        ensures fuse { (k : ℕ) → will_fail (device_of self.new) k ≡ planned after once k }
+        ensures inner { inner_of (device_of self.new) ≡ inner_of (device_of self.old) }
+        ensures faults { own_faults (device_of self.new) ≡ own_faults (device_of self.old) }
+        ensures place { place_of self.new ≡ place_of self.old }
+        ensures state { state_of self.new ≡ state_of self.old }
+        ensures issued { issued_by self.new ≡ issued_by self.old }
+        ensures ready { (is_closed self.new ≡ is_closed self.old) × (is_failed self.new ≡ is_failed self.old) }
+        ensures same { (own : ℕ) → kept_at self.new own ≡ kept_at self.old own }
+    {
+        self.journal.arm(after, once);
+    }
+}
+
+// Whether a node of this number, in a ring of `n` and with this capacity, may be.
+fn is_in_range(node: NodeNo, n: u8, capacity: u32) -> bool
+    ensures { result ≡ is_header (header_with node n capacity) }
+{
+    2 <= n && n <= 16 && node.number() <= n && 4096 <= capacity && capacity <= 1_048_576
+}
