@@ -1,2 +1,3 @@
+pub mod Recovered
 pub mod Results
 pub mod Standing

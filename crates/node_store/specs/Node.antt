@@ -2,7 +2,6 @@
 use Rattle.std.specs.Prelude.{ℕ, Bool, Option}
 use Rattle.disk_model.specs.declared.device.Device.{Ghosts}
 use Rattle.ring_records.specs.Answer.{NodeState}
-use Rattle.gated_journal.specs.Reading.{Header}
 use Rattle.gated_journal.specs.Journal as journal
 use Rattle.group_commit.specs.declared.desk.Desk.{Desk}
 use Rattle.group_commit.specs.Desk as desk
@@ -36,7 +35,3 @@ module _ {D : Type 0} {g : Ghosts D} where
 
   abbrev pub device_of : Node D g → D
   device_of node = journal.device_of node.journal
-
-  -- what its journal's header names
-  abbrev pub header_of : Node D g → Header
-  header_of node = journal.header_of node.journal

@@ -1,13 +1,14 @@
-ghost use Rattle.std.specs.Prelude.{◌≡◌, ◌+◌, ◌⊎◌, ◌||◌, ◌<◌, ◌≤◌, ◌^◌, ℕ, [], not, true, false, Some, None, min, nat_eq, if◌then◌else◌, IsOk, IfOk, IfErr, OnOk, OnErr};
-ghost use Rattle.disk_model.specs.Disk.{MayLeave};
+ghost use Rattle.std.specs.Prelude.{Bool, length, ◌≡◌, ◌+◌, ◌⊎◌, ◌||◌, ◌<◌, ◌≤◌, ◌^◌, ℕ, [], not, true, false, Some, None, min, nat_eq, if◌then◌else◌, IsOk, IfOk, IfErr, OnOk, OnErr};
+ghost use Rattle.disk_model.specs.Disk.{MayLeave, LeavesOnly, synced};
 ghost use Rattle.ring_records.specs.Admission.{fresh, IsLawful};
-ghost use Rattle.ring_records.specs.Answer.{asked, opened};
+ghost use Rattle.ring_records.specs.Answer.{NodeState, asked, opened};
 ghost use Rattle.gated_journal.specs.Journal as journals;
-ghost use Rattle.gated_journal.specs.Reading.{header_with, is_header, AllReadAs};
-ghost use Rattle.gated_journal.specs.Unread.{IsFault};
+ghost use Rattle.gated_journal.specs.Reading.{header_with, is_header, ReadsAs, AllReadAs};
+ghost use Rattle.gated_journal.specs.Unread.{IsFault, IsUnread};
 ghost use Rattle.group_commit.specs.Desk as desks;
 ghost use Rattle.group_commit.specs.Kept.{Answered, place_with};
-ghost use Rattle.node_store.specs.State.{header_at, durable_in, Holds, Stands};
+ghost use Rattle.node_store.specs.State.{header_at, durable_in, left_by, Holds, Stands};
+ghost use Rattle.node_store.specs.Recovery.{IsNotLawful, IsUnrecovered};
 ghost use Rattle.node_store.specs.Props.{Stands-prop};
 
 use disk_model::{Device, FuseDevice};
@@ -27,7 +28,7 @@ pub struct Node<D: Device> {
 impl<D: Device> Node<D> {
     ghost use Rattle.group_commit.specs.Desk.{answered, objection, IsHere, IsSealed};
     ghost use Rattle.group_commit.specs.Ticket.{shown, stub, ticket_with};
-    ghost use Rattle.node_store.specs.Node.{desk_of, place_of, state_of, kept_at, issued_by, is_closed, is_failed, device_of, header_of};
+    ghost use Rattle.node_store.specs.Node.{desk_of, place_of, state_of, kept_at, issued_by, is_closed, is_failed, device_of};
 
     /// A new node, which has accepted nothing, on a device that is formatted for it. Refused as 2 where `n` is not 2 to
     /// 16, `node` is above it, or the capacity is not 4,096 to 1,048,576 bytes, as 15, and as 8. What the device holds
@@ -64,6 +65,66 @@ impl<D: Device> Node<D> {
                 Ok(journal) => Ok(Node { desk, journal }),
                 Err((device, refusal)) => Err((device, refusal)),
             },
+        }
+    }
+
+    /// The node that a device holds, which it makes stable first: it stands for the inputs that its journal holds, all of
+    /// them durable. Refused as 15; as 17 where there is no header; as 19 where it names another node or ring size; as 16
+    /// with the offset of what is damaged; as 24 with the number of the first input, counted from 0, that is not admitted
+    /// after those before it; and as 8 where it is met.
+    pub fn recover(
+        alloc: Global,
+        device: D,
+        node: NodeNo,
+        n: u8,
+        run: u64,
+    ) -> Result<Node<D>, (D, Refusal)>
+        ensures place { IfOk result (λ made. place_of made ≡ place_with node n (place_of made).capacity run) }
+        ensures state { IfOk result (λ made. state_of made ≡ opened (state_of made).inputs) }
+        ensures kept { IfOk result (λ made. (own : ℕ) → kept_at made own ≡ None) }
+        ensures issued { IfOk result (λ made. issued_by made ≡ 0) }
+        ensures ready { IfOk result (λ made. (is_closed made ≡ false) × (is_failed made ≡ false)) }
+        ensures lawful { IfOk result (λ made. IsLawful node n (place_of made).capacity fresh (state_of made).inputs) }
+
+        // Its inputs stood on the device at the start, and stand in every image that a stop may leave afterwards.
+        ensures reads { IfOk result (λ made. ReadsAs (header_at (place_of made)) (D.disk device).image (state_of made).inputs) }
+        ensures durable { IfOk result (λ made. AllReadAs (header_at (place_of made)) (D.disk (device_of made)) (state_of made).inputs) }
+
+        // A node that was stopped stands again for its durable inputs, or also for those that flew. It is refused only
+        // where the device fails or memory is not found, and then the device holds what it held.
+        ensures recovery { (capacity : ℕ) (s : NodeState) → IsLawful node n capacity fresh s.inputs → Holds (header_with node n capacity) (D.disk device) s
+            → IfOk result (λ made. (place_of made ≡ place_with node n capacity run) × ((keep : Bool) × (state_of made ≡ opened (left_by keep s)))) }
+        ensures recovery_err { (capacity : ℕ) (s : NodeState) → IsLawful node n capacity fresh s.inputs → Holds (header_with node n capacity) (D.disk device) s
+            → IfErr result (λ e. ((e.1 ≡ Refusal.OutOfMemory) ⊎ IsFault (D.count device) (D.count e.0) e.1) × Holds (header_with node n capacity) (D.disk e.0) s) }
+
+        // A refusal has its cause. While the device works it is the image's, or want of memory.
+        ensures refusal { IfErr result (λ e. IsUnrecovered node n (D.count device) (D.count e.0) (D.disk device).image e.1) }
+        ensures works { 0 < D.reach device → length (D.disk device).image ≤ D.reach device
+            → IfErr result (λ e. (e.1 ≡ Refusal.OutOfMemory) ⊎ (IsUnread node n (D.disk device).image e.1 ⊎ IsNotLawful node n (D.disk device).image e.1)) }
+
+        // No call failed where it is opened. A call that failed is told before all else.
+        ensures same { IfOk result (λ made. D.count (device_of made) ≡ D.count device) }
+        ensures first { IfErr result (λ e. IsFault (D.count device) (D.count e.0) e.1 ⊎ (D.count e.0 ≡ D.count device)) }
+
+        // The device is synced, and nothing else is done to it. What is told of an image is told of a synced one.
+        ensures disk { IfOk result (λ made. D.disk (device_of made) ≡ synced (D.disk device)) }
+        ensures disk_err { IfErr result (λ e. (D.disk e.0 ≡ D.disk device) ⊎ (D.disk e.0 ≡ synced (D.disk device))) }
+        ensures stable { IfErr result (λ e. IsFault (D.count device) (D.count e.0) e.1 ⊎ (D.disk e.0 ≡ synced (D.disk device))) }
+
+        // A stop at any moment leaves what it might have left at the start.
+        ensures any_moment { IfOk result (λ made. LeavesOnly D.clock D.left_since device (device_of made) (MayLeave (D.disk device))) }
+        ensures any_moment_err { IfErr result (λ e. LeavesOnly D.clock D.left_since device e.0 (MayLeave (D.disk device))) }
+        ensures reach { IfOk result (λ made. D.reach (device_of made) ≡ D.reach device) }
+        ensures reach_err { IfErr result (λ e. D.reach e.0 ≡ D.reach device) }
+    {
+        match Journal::reopen(alloc, device, node, n) {
+            Err((device, refusal)) => Err((device, refusal)),
+            Ok((journal, inputs)) => {
+                match Desk::open(alloc, node, n, journal.capacity(), run, inputs) {
+                    Ok(desk) => Ok(Node { desk, journal }),
+                    Err(refusal) => Err((journal.into_device(), refusal)),
+                }
+            }
         }
     }
 
