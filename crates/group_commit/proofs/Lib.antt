@@ -1,2 +1,5 @@
 pub mod Numbers
+pub mod Releases
+pub mod Settling
 pub mod Opening
+pub mod Vouching

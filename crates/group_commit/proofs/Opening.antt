@@ -1,14 +1,20 @@
 -- A desk that takes the inputs of a node one after the other.
-use Rattle.std.proofs.Common.{◌≡◌, ℕ, ◌+◌, List, [], ◌∷◌, ◌++◌, take, true, false, Result, Ok, Err, is_err, Option, Some, None, refl, sym, ◌∙◌, subst}
+use Rattle.std.proofs.Common.{◌≡◌, ℕ, ◌+◌, List, [], ◌∷◌, ◌++◌, append_assoc, drop, take, true, false, Result, Ok, Err, is_err, Option, Some, None, refl, sym, ap, ◌∙◌, subst}
+use Rattle.std.specs.Prelude.{is_ok, OnOk}
 use Rattle.std.specs.Result.{result_err}
 use Rattle.ring_records.specs.declared.input.Input.{Input}
 use Rattle.ring_records.specs.declared.refusal.Refusal.{Refusal}
 use Rattle.ring_records.specs.Admission.{fresh, refusal, IsAdmitted, IsLawful}
+use Rattle.ring_records.specs.Emission.{carry}
+use Rattle.ring_records.specs.Leader.{decided}
 use Rattle.ring_records.specs.Lists.{EachAfter}
-use Rattle.ring_records.proofs.Admission.{refusal-admitted}
+use Rattle.ring_records.proofs.Admission.{admitted-free, refusal-admitted}
+use Rattle.ring_records.proofs.Growth.{EachAfter-at}
 use Rattle.ring_records.proofs.Lists.{EachAfter-push}
-use Rattle.ring_records.proofs.LookBack.{IsItem, take-item}
+use Rattle.ring_records.proofs.LookBack.{IsItem, cut-item, take-item}
 use Rattle.node_core.specs.Core.{CoreView, CoreStandsFor}
+use Rattle.node_core.specs.declared.effects.Effects.{Effects}
+use Rattle.group_commit.specs.Outbox.{effects_of}
 
 -- the core stands for the first inputs, which are lawful
 pub record Opens (core : CoreView) (me n capacity : ℕ) (inputs : List Input) (count : ℕ) : Type 0 where
@@ -22,17 +28,40 @@ pub opens_none : (core : CoreView) (me n capacity : ℕ) (inputs : List Input) �
 unfolding IsLawful EachAfter
 opens_none core me n capacity inputs me_is ring_is capacity_is stands = record { stands = stands; me_is = me_is; ring_is = ring_is; capacity_is = capacity_is; lawful = tt }
 
+-- nothing is against the next input of a lawful history
+pub lawful_at : (me n capacity : ℕ) (inputs : List Input) (i : ℕ) (x : Input) → IsLawful me n capacity fresh inputs → IsItem inputs i x → refusal me n capacity fresh (take i inputs) x ≡ None
+unfolding IsLawful
+lawful_at me n capacity inputs i x lawful here =
+    let parts : inputs ≡ take i inputs ++ x ∷ drop (i + 1) inputs = cut-item inputs i x here ∙ append_assoc (take i inputs) (x ∷ []) (drop (i + 1) inputs) in
+    let each = subst (λ (l : List Input). EachAfter (IsAdmitted me n capacity fresh) [] l) parts lawful in
+    admitted-free me n capacity fresh (take i inputs) x (EachAfter-at (IsAdmitted me n capacity fresh) [] (take i inputs) x (drop (i + 1) inputs) each)
+
+-- so the core may take it
+pub opens_for : (core : CoreView) (me n capacity : ℕ) (inputs : List Input) (count : ℕ) (x : Input) → Opens core me n capacity inputs count → refusal me n capacity fresh (take count inputs) x ≡ None
+    → refusal core.table.me core.size core.capacity fresh (take count inputs) x ≡ None
+opens_for core me n capacity inputs count x opens free = (λ i. refusal (opens.me_is i) (opens.ring_is i) (opens.capacity_is i) fresh (take count inputs) x) ∙ free
+
 -- what the core has against the next input
 pub judged : (core : CoreView) (me n capacity : ℕ) (inputs : List Input) (count : ℕ) (x : Input) (found : Option Refusal) → Opens core me n capacity inputs count
     → ((h : List Input) → CoreStandsFor core h → found ≡ refusal core.table.me core.size core.capacity fresh h x) → found ≡ refusal me n capacity fresh (take count inputs) x
 judged core me n capacity inputs count x found opens says =
     says (take count inputs) opens.stands ∙ (λ i. refusal (opens.me_is i) (opens.ring_is i) (opens.capacity_is i) fresh (take count inputs) x)
 
+-- what the next input brings
+pub brought : (core : CoreView) (me n capacity : ℕ) (inputs : List Input) (count : ℕ) (x : Input) (effects : Effects) → Opens core me n capacity inputs count
+    → ((h : List Input) → CoreStandsFor core h → effects.carry ≡ carry core.table.me h x) → ((h : List Input) → CoreStandsFor core h → effects.decided ≡ decided core.table.me h x) → effects ≡ effects_of me (take count inputs) x
+brought core me n capacity inputs count x effects opens sends decides =
+    (λ i. record { carry = sends (take count inputs) opens.stands i; decided = decides (take count inputs) opens.stands i }) ∙ ap (λ k. effects_of k (take count inputs) x) opens.me_is
+
+-- one input more stays lawful
+pub lawful_next : (me n capacity : ℕ) (h : List Input) (x : Input) → IsLawful me n capacity fresh h → refusal me n capacity fresh h x ≡ None → IsLawful me n capacity fresh (h ++ x ∷ [])
+unfolding IsLawful
+lawful_next me n capacity h x lawful free = EachAfter-push (IsAdmitted me n capacity fresh) [] h x lawful (refusal-admitted me n capacity fresh h x free)
+
 -- one input more
 pub opens_next : (core new : CoreView) (me n capacity : ℕ) (inputs : List Input) (count : ℕ) (x : Input) → Opens core me n capacity inputs count → IsItem inputs count x
     → refusal me n capacity fresh (take count inputs) x ≡ None → ((h : List Input) → CoreStandsFor core h → CoreStandsFor new (h ++ x ∷ []))
     → new.table.me ≡ core.table.me → new.size ≡ core.size → new.capacity ≡ core.capacity → Opens new me n capacity inputs (count + 1)
-unfolding IsLawful
 opens_next core new me n capacity inputs count x opens here free stands me_same ring_same capacity_same =
     let more = take-item inputs count x here in
     record {
@@ -40,7 +69,7 @@ opens_next core new me n capacity inputs count x opens here free stands me_same 
       me_is = me_same ∙ opens.me_is;
       ring_is = ring_same ∙ opens.ring_is;
       capacity_is = capacity_same ∙ opens.capacity_is;
-      lawful = subst (λ (l : List Input). IsLawful me n capacity fresh l) (sym more) (EachAfter-push (IsAdmitted me n capacity fresh) [] (take count inputs) x opens.lawful (refusal-admitted me n capacity fresh (take count inputs) x free));
+      lawful = subst (λ (l : List Input). IsLawful me n capacity fresh l) (sym more) (lawful_next me n capacity (take count inputs) x opens.lawful free);
     }
 
 -- a result that is refused names why
@@ -51,3 +80,7 @@ why (Err refusal) e = (refusal, refl)
 pub why_not : (result : Result (Unit {0}) Refusal) → is_err result ≡ false → result_err result ≡ None
 why_not (Ok x) e = refl
 why_not (Err refusal) e = absurd cc
+
+pub on_ok : {T E : Type 0} {P : Type 0} (r : Result T E) → is_ok r ≡ true → OnOk r P → P
+on_ok (Ok x) e p = p
+on_ok (Err x) e p = absurd cc

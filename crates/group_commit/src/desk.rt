@@ -1,15 +1,21 @@
 //! A node's inputs: which of them are durable, which fly, and the replies that wait for them.
-ghost use Rattle.std.specs.Prelude.{◌≡◌, ◌+◌, ◌++◌, ◌∷◌, ◌≤◌, ◌⊎◌, ◌||◌, ℕ, List, [], not, true, false, Some, None, length, nat_eq, if◌then◌else◌, is_none, IfSome, IfNone, MatchOption, IfOk, IfErr, OnOk, OnErr};
+ghost use Rattle.std.specs.Prelude.{◌≡◌, ◌+◌, ◌-◌, ◌++◌, ◌∷◌, ◌≤◌, ◌⊎◌, ◌||◌, ℕ, List, [], not, true, false, Some, None, length, take, nat_eq, if◌then◌else◌, is_none, IfSome, IfNone, MatchOption, IfOk, IfErr, OnOk, OnErr};
 ghost use Rattle.std.specs.List.{cons_option};
 ghost use Rattle.ring_records.specs.Admission.{fresh, refusal, IsLawful};
-ghost use Rattle.ring_records.specs.Answer.{reply, gained, unless, if_free, asked, opened, launched};
+ghost use Rattle.ring_records.specs.Answer.{asked, opened, launched, landed as landed_state};
+ghost use Rattle.ring_records.specs.Props.{IsLawful-prop};
+ghost use Rattle.ring_records.specs.Release.{packets, decisions};
+ghost use Rattle.group_commit.specs.Outbox.{Holds};
 ghost use Rattle.node_core.specs.Core.{CoreStandsFor};
 ghost use Rattle.group_commit.specs.Kept.{Answered, answered_with, place_with, is_outside, kept_in};
 
+use crate::judge::judge;
 use crate::kept::Kept;
+use crate::landed::Landed;
+use crate::outbox::Outbox;
 use crate::ticket::{Stub, Ticket};
-use gated_journal::{Batch, Spoiled};
-use node_core::{Effects, NodeCore};
+use gated_journal::{Batch, Receipt, Spoiled};
+use node_core::NodeCore;
 use ring_records::{Input, NodeNo, Refusal, Reply, Request};
 use std::alloc::{AllocError, AllocFailed, Global};
 use std::collections::BTreeMap;
@@ -25,6 +31,7 @@ pub struct Desk {
     inputs: Vec<Input>,
     durable: u64,
     flying: u64,
+    outbox: Outbox,
     tickets: BTreeMap<u64, Kept>,
     issued: u64,
     is_closed: bool,
@@ -35,12 +42,14 @@ pub struct Desk {
     ghost bytes: { core.capacity ≡ capacity },
     ghost in_order: { durable ≤ flying },
     ghost accepted: { flying ≤ length inputs.items },
+    ghost lawful: { IsLawful node n capacity fresh inputs.items } by { IsLawful-prop node n capacity fresh inputs.items },
+    ghost holds: { Holds node outbox inputs.items durable flying },
     ghost given: { (own : ℕ) → issued ≤ own → is_none (kept_in tickets.entries own) ≡ true },
 }
 
 impl Desk {
     ghost use Rattle.group_commit.specs.Desk.{place_of, state_of, kept_at, issued_by, is_closed, is_failed, answered, objection, IsUnlawful, IsHere, IsSealed, IsFlying, flying_in, launch_objection};
-    ghost use Rattle.gated_journal.specs.Batch.{shown as batch_shown, lost, numbered};
+    ghost use Rattle.gated_journal.specs.Batch.{shown as batch_shown, landed, lost, numbered};
     ghost use Rattle.group_commit.specs.Ticket.{shown, stub, ticket_with};
 
     /// The desk of a node that holds these inputs, all of them durable. Refused as 24 with the number of the first
@@ -62,12 +71,16 @@ impl Desk {
         ensures refusal { IfErr result (λ refusal. (refusal ≡ Refusal.OutOfMemory) ⊎ IsUnlawful node n capacity inputs.items refusal) }
     {
         let mut core = NodeCore::new(alloc, node, n, capacity);
+        let mut outbox = Outbox::new(alloc);
         for i in 0..inputs.len() {
             let input = inputs[i];
             if core.admit(&input).is_err() {
                 return Err(Refusal::Unlawful(i as u64));
             }
-            if core.apply(input).is_err() {
+            let Ok(effects) = core.apply(input) else {
+                return Err(Refusal::OutOfMemory);
+            };
+            if outbox.add(&input, &effects).is_err() {
                 return Err(Refusal::OutOfMemory);
             }
         }
@@ -81,6 +94,7 @@ impl Desk {
             inputs,
             durable: count,
             flying: count,
+            outbox,
             tickets: BTreeMap::new(alloc),
             issued: 0,
             is_closed: false,
@@ -105,8 +119,8 @@ impl Desk {
         if let Some(refusal) = self.objection(&question) {
             return Err(refusal);
         }
-        let (reply, input) = self.judge(&question);
-        let number = self.inputs.len() as u64 + u64::from(input.is_some());
+        let (reply, input) = judge(&self.core, &question);
+        let number = count_with(&self.inputs, &input);
         let own = self.issued;
         let kept = Kept {
             question,
@@ -117,7 +131,7 @@ impl Desk {
             return Err(Refusal::OutOfMemory);
         }
         if let Some(input) = input {
-            if accept(&mut self.core, &mut self.inputs, &input).is_err() {
+            if accept(&mut self.core, &mut self.inputs, &mut self.outbox, &input).is_err() {
                 take_back(&mut self.tickets, own);
                 return Err(Refusal::OutOfMemory);
             }
@@ -231,6 +245,9 @@ impl Desk {
         if start == end {
             return Ok(None);
         }
+        if self.outbox.load((end - start) as u32).is_err() {
+            return Err(Refusal::OutOfMemory);
+        }
         let alloc = *self.inputs.allocator();
         let waiting = &self.inputs[start..end];
         match Batch::new(alloc, self.node, self.durable, waiting) {
@@ -240,6 +257,34 @@ impl Desk {
             }
             Err(refusal) => Err(refusal),
         }
+    }
+
+    /// The batch that flies is durable: what it lets the node release. It takes no memory. Refused as 10 where this is not
+    /// the receipt of that batch, or the desk has failed, and it comes back.
+    pub fn land(&mut self, receipt: Receipt) -> Result<Landed, (Receipt, Refusal)>
+        ensures flying { OnOk result (IsFlying self.old (landed receipt)) }
+        ensures works { OnOk result (is_failed self.old ≡ false) }
+        ensures count { IfOk result (λ landed. landed.count ≡ (state_of self.old).flying - (state_of self.old).durable) }
+        ensures packets { IfOk result (λ landed. landed.packets.items ≡ packets (place_of self.old).me (take (state_of self.old).durable (state_of self.old).inputs) (flying_in (state_of self.old))) }
+        ensures decisions { IfOk result (λ landed. landed.decisions.items ≡ decisions (place_of self.old).me (take (state_of self.old).durable (state_of self.old).inputs) (flying_in (state_of self.old))) }
+        ensures state { OnOk result (state_of self.new ≡ landed_state (state_of self.old)) }
+        ensures foreign { IfErr result (λ e. (e.1 ≡ Refusal.Foreign) × (IsFlying self.old (landed receipt) → is_failed self.old ≡ false → ⊥)) }
+        ensures back { IfErr result (λ e. landed e.0 ≡ landed receipt) }
+        ensures err { OnErr result (state_of self.new ≡ state_of self.old) }
+        ensures place { place_of self.new ≡ place_of self.old }
+        ensures issued { issued_by self.new ≡ issued_by self.old }
+        ensures ready { (is_closed self.new ≡ is_closed self.old) × (is_failed self.new ≡ is_failed self.old) }
+        ensures same { (own : ℕ) → kept_at self.new own ≡ kept_at self.old own }
+    {
+        if self.is_failed || !self.is_flying(receipt.node(), receipt.first(), receipt.inputs()) {
+            return Err((receipt, Refusal::Foreign));
+        }
+        let _ = receipt.into_parts();
+        let start = self.durable as usize;
+        let end = self.flying as usize;
+        let landed = self.outbox.settle(&self.inputs, start, end);
+        self.durable = self.flying;
+        Ok(landed)
     }
 
     /// The device failed with the batch that flies: nothing more is launched, nor becomes durable. Refused as 10 where
@@ -278,7 +323,8 @@ impl Desk {
 
     /// The inputs that it accepted, oldest first.
     pub fn history(&self) -> &[Input]
-        ensures { result.now ≡ (state_of self.now).inputs }
+        ensures inputs { result.now ≡ (state_of self.now).inputs }
+        ensures lawful { IsLawful (place_of self.now).me (place_of self.now).n (place_of self.now).capacity fresh result.now }
     {
         &self.inputs
     }
@@ -302,34 +348,6 @@ impl Desk {
         ensures { result ≡ not (is_closed self.now || is_failed self.now) }
     {
         !(self.is_closed || self.is_failed)
-    }
-
-    // What it answers to an input, which it accepts where nothing is against it.
-    fn weigh(&self, input: Input, accepted: Reply) -> (Reply, Option<Input>)
-        ensures reply { result.0 ≡ unless (refusal self.now.node self.now.n self.now.capacity fresh self.now.inputs.items input) accepted }
-        ensures input { cons_option result.1 [] ≡ if_free (refusal self.now.node self.now.n self.now.capacity fresh self.now.inputs.items input) input }
-        ensures free { IfSome result.1 (λ x. refusal self.now.node self.now.n self.now.capacity fresh self.now.inputs.items x ≡ None) }
-    {
-        match self.core.admit(&input) {
-            Ok(()) => (accepted, Some(input)),
-            Err(refusal) => (Reply::Refused(refusal), None),
-        }
-    }
-
-    // What it answers to a request, and the input that it accepts.
-    #[tactic(auto, unfolding(ring_records::specs::Answer::reply, ring_records::specs::Answer::gained, ring_records::specs::Answer::input_of))]
-    fn judge(&self, question: &Request) -> (Reply, Option<Input>)
-        ensures reply { result.0 ≡ reply self.now.node self.now.n self.now.capacity fresh self.now.inputs.items question.now }
-        ensures input { cons_option result.1 [] ≡ gained self.now.node self.now.n self.now.capacity fresh self.now.inputs.items question.now }
-        ensures free { IfSome result.1 (λ x. refusal self.now.node self.now.n self.now.capacity fresh self.now.inputs.items x ≡ None) }
-    {
-        match *question {
-            Request::Stand(key, bid) => self.weigh(Input::Stand { key, bid }, Reply::Stood),
-            Request::Take(no, msg) => self.weigh(Input::Take { no, msg }, Reply::Taken),
-            Request::Acked(upto) => self.weigh(Input::Acked { upto }, Reply::Acked),
-            Request::Who(key) => (Reply::Leader(self.core.who(&key)), None),
-            Request::Latest(group) => (Reply::Latest(self.core.latest(&group)), None),
-        }
     }
 
     // The reply that is kept for the ticket, if it is open here, and how many inputs that rests on.
@@ -381,6 +399,13 @@ fn is_outside(n: u8, question: &Request) -> bool
     }
 }
 
+// How many inputs there are with this one, if there is one.
+fn count_with(inputs: &[Input], input: &Option<Input>) -> u64
+    ensures { result ≡ length (inputs.now ++ cons_option input.now []) }
+{
+    inputs.len() as u64 + u64::from(input.is_some())
+}
+
 // Keeps the answer for the ticket of this number.
 fn keep(tickets: &mut BTreeMap<u64, Kept>, own: u64, kept: Kept) -> Result<(), AllocError>
     ensures kept { OnOk result ((other : ℕ) → kept_in tickets.new.entries other ≡ (if nat_eq other own then Some kept else kept_in tickets.old.entries other)) }
@@ -401,24 +426,22 @@ fn take_back(tickets: &mut BTreeMap<u64, Kept>, own: u64)
 fn accept(
     core: &mut NodeCore,
     inputs: &mut Vec<Input>,
+    outbox: &mut Outbox,
     input: &Input,
-) -> Result<Effects, AllocError>
+) -> Result<(), AllocError>
     requires stands { CoreStandsFor core.old inputs.old.items }
     requires free { refusal core.old.table.me core.old.size core.old.capacity fresh inputs.old.items input.now ≡ None }
     ensures inputs { OnOk result (inputs.new.items ≡ inputs.old.items ++ input.now ∷ []) }
     ensures stands { CoreStandsFor core.new inputs.new.items }
     ensures place { (core.new.table.me ≡ core.old.table.me) × (core.new.size ≡ core.old.size) × (core.new.capacity ≡ core.old.capacity) }
+    ensures holds { (durable flying : ℕ) → durable ≤ length inputs.old.items → Holds core.old.table.me outbox.old inputs.old.items durable flying → Holds core.old.table.me outbox.new inputs.new.items durable flying }
     ensures err { OnErr result (inputs.new.items ≡ inputs.old.items) }
 {
     inputs.reserve(1)?;
-    match core.apply(*input) {
-        Ok(effects) => {
-            inputs.push_reserved(*input);
-            Ok(effects)
-        }
-        Err(error) => Err(error),
-    }
+    outbox.accept(core, input)?;
+    inputs.extend_from_slice(&[*input])
 }
 
 #[cfg(test)]
 mod tests;
+mod vouch;

@@ -2,8 +2,13 @@
 #![tactic(auto)]
 
 mod desk;
+mod judge;
 mod kept;
+mod landed;
+mod outbox;
+mod released;
 mod ticket;
 
 pub use desk::Desk;
+pub use landed::Landed;
 pub use ticket::{Stub, Ticket};

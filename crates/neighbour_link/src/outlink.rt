@@ -1,5 +1,5 @@
 // The link to the successor.
-ghost use Rattle.std.specs.Prelude.{◌≡◌, ℕ, ◌+◌, ◌-◌, ◌<◌, ◌^◌, true, List, [], ◌++◌, ◌∷◌, drop, length, OnOk, OnErr, IfOk, IsOk};
+ghost use Rattle.std.specs.Prelude.{◌≡◌, ℕ, ◌+◌, ◌-◌, ◌<◌, ◌≤◌, ◌^◌, List, [], ◌++◌, ◌∷◌, drop, length, OnOk, OnErr, IfOk, IsOk};
 ghost use Rattle.std.specs.Result.{result_err};
 ghost use Rattle.ring_records.specs.declared.input.Input.{Input};
 ghost use Rattle.ring_records.specs.declared.input.Input.TheVariants.{Acked};
@@ -26,12 +26,12 @@ pub struct Outlink {
 }
 
 impl Model for Outlink {
-    ghost use Rattle.std.specs.Prelude.{◌+◌, nat_lt, drop, length, vec_len, vec_capacity};
+    ghost use Rattle.std.specs.Prelude.{◌+◌, ◌-◌, drop, length, vec_len, vec_capacity};
     ghost use Rattle.neighbour_link.specs.Outlink.{OutlinkView, IsKept};
 
     ghost Value = { OutlinkView };
 
-    ghost view = { λ link. record { link = record { credited = link.first + link.dead; window = drop link.dead link.kept.items }; ready = nat_lt (vec_len link.kept) (vec_capacity link.kept) } };
+    ghost view = { λ link. record { link = record { credited = link.first + link.dead; window = drop link.dead link.kept.items }; room = vec_capacity link.kept - vec_len link.kept } };
 
     ghost invariant = { λ link. IsKept link.first link.dead (length link.kept.items) };
 }
@@ -74,22 +74,25 @@ impl Outlink {
         &self.kept[self.dead..]
     }
 
-    /// Makes room for one more message, which is queued without a growth then.
-    pub fn reserve(&mut self) -> Result<(), AllocError>
+    /// Makes room for so many more messages, which are queued without a growth then. Room that there is stays, also
+    /// where a growth is refused.
+    pub fn reserve(&mut self, additional: usize) -> Result<(), AllocError>
         ensures same { self.new.link ≡ self.old.link }
-        ensures ready { OnOk result (self.new.ready ≡ true) }
+        ensures room { OnOk result (additional ≤ self.new.room) }
+        ensures keeps { self.old.room ≤ self.new.room }
     {
-        self.kept.reserve(1)
+        self.kept.reserve(additional)
     }
 
     /// Sends one more message: its number. The caller sees that `sent()` is below 2^64 - 1. A refused growth changes
-    /// nothing; where there is room none is needed.
+    /// nothing; where there is room none is needed, and the message takes one place of it.
     pub fn queue(&mut self, msg: Msg) -> Result<u64, AllocError>
         requires { sent_count self.old.link + 1 < 2 ^ 64 }
         ensures number { IfOk result (λ no. no ≡ sent_count self.old.link) }
         ensures credited { self.new.link.credited ≡ self.old.link.credited }
         ensures window { OnOk result (self.new.link.window ≡ self.old.link.window ++ msg ∷ []) }
-        ensures ready { self.old.ready ≡ true → IsOk result }
+        ensures works { 1 ≤ self.old.room → IsOk result }
+        ensures room { self.old.room ≤ self.new.room + 1 }
         ensures err { OnErr result (self.new.link ≡ self.old.link) }
         ensures stands { IfOk result (λ no. (sent : List Msg) (credit : ℕ) → OutlinkStandsFor self.old.link sent credit → (no ≡ length sent) × OutlinkStandsFor self.new.link (sent ++ msg ∷ []) credit) }
     {
@@ -114,11 +117,13 @@ impl Outlink {
         }
     }
 
-    /// The successor has taken the first `upto` messages. Refused as `judge` says; a refusal changes nothing.
+    /// The successor has taken the first `upto` messages. Refused as `judge` says; a refusal changes nothing. It takes
+    /// no room.
     pub fn credit(&mut self, upto: u64) -> Result<(), Refusal>
         ensures judged { result_err result ≡ credit_objection self.old.link.credited (sent_count self.old.link) upto }
         ensures credited { OnOk result (self.new.link.credited ≡ upto) }
         ensures window { OnOk result (self.new.link.window ≡ drop (upto - self.old.link.credited) self.old.link.window) }
+        ensures room { self.old.room ≤ self.new.room }
         ensures err { OnErr result (self.new ≡ self.old) }
         ensures stands { OnOk result ((sent : List Msg) (credit : ℕ) → OutlinkStandsFor self.old.link sent credit → OutlinkStandsFor self.new.link sent upto) }
     {
@@ -143,7 +148,8 @@ impl Outlink {
     // Drops the credited messages once they are more than half of those kept: fewer than these move up then, so over
     // all credits no message costs more than a few steps.
     fn bury(&mut self)
-        ensures { self.new.link ≡ self.old.link }
+        ensures same { self.new.link ≡ self.old.link }
+        ensures room { self.old.room ≤ self.new.room }
     {
         if self.dead > self.kept.len() - self.dead {
             self.kept.drain(..self.dead);

@@ -110,7 +110,7 @@ fn credits_are_above_the_last_and_not_above_the_sent(rt: HostRuntime) -> Result<
 fn the_window_begins_at_the_credit(rt: HostRuntime) -> Result<(), Refusal> {
     let mut link = Outlink::new(rt.alloc());
     shows(&rt, &link, 0, 0)?;
-    link.reserve().expect(&rt, "ample memory");
+    link.reserve(64).expect(&rt, "ample memory");
     shows(&rt, &link, 0, 0)?;
     // How many are sent by then, and the credit that comes then.
     let mut sent = 0;

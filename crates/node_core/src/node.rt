@@ -89,7 +89,7 @@ impl NodeCore {
         ensures stands { OnOk result ((h : List Input) → CoreStandsFor self.old h → CoreStandsFor self.new (h ++ input ∷ [])) }
         ensures err { OnErr result (self.new ≡ self.old) }
     {
-        self.outlink.reserve()?;
+        self.outlink.reserve(1)?;
         let cost = input.cost();
         let effects = accept(&mut self.table, &mut self.outlink, &mut self.inlink, input)?;
         self.inputs += 1;

@@ -8,6 +8,7 @@ mod batches;
 mod refusals;
 mod replies;
 mod rows;
+mod vouch;
 
 use rows::Ask::{self, Acked, Latest, Stand, TakeElected, TakeToken, Who};
 use rows::{bid, leader, term};

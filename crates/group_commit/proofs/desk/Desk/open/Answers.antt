@@ -1,29 +1,60 @@
-use Rattle.std.proofs.Common.{rules, ◌≡◌, inr, List, [], ◌∷◌, ◌++◌, true, false, is_err, length, refl, sym, ◌∙◌}
+use Rattle.std.proofs.Common.{rules, ◌≡◌, inr, List, [], ◌∷◌, ◌++◌, ◌≤◌, true, false, is_err, is_ok, length, take, refl, sym, subst, ◌∙◌}
+use Rattle.std.proofs.lemmas.List.{take_all}
 use Rattle.std.proofs.lemmas.Option.{slice_get_read}
 use Rattle.ring_records.specs.declared.input.Input.{Input}
+use Rattle.ring_records.specs.Admission.{fresh}
+use Rattle.ring_records.proofs.Admission.{refusal-admitted}
 use Rattle.ring_records.proofs.LookBack.{IsItem}
 use Rattle.node_core.specs.Core.{CoreStandsFor}
-use Rattle.group_commit.proofs.Opening.{opens_none, opens_next, judged, why, why_not}
+use Rattle.group_commit.proofs.Opening.{opens_none, opens_next, brought, judged, on_ok, why, why_not}
+use Rattle.group_commit.specs.Outbox.{Holds}
+use Rattle.group_commit.proofs.Settling.{holds_grown}
 use Rattle.group_commit.proofs.desk.Desk.open.Goals as goal
 
 pub loop-i-init : goal.loop-i-init
-loop-i-init c = opens_none _ _ _ _ c.args.inputs.items c.new-core.ensures.me c.new-core.ensures.ring c.new-core.ensures.capacity c.new-core.ensures.empty
+loop-i-init c = (opens_none _ _ _ _ c.args.inputs.items c.new-core.ensures.me c.new-core.ensures.ring c.new-core.ensures.capacity c.new-core.ensures.empty, c.new-outbox.ensures c.args.node)
 
 pub returns-then-is_err-clause-refusal : goal.returns-then-is_err-clause-refusal
 returns-then-is_err-clause-refusal c =
     let x = c.index.result.now in
-    let says = judged c.loop-i.core c.args.node c.args.n c.args.capacity c.args.inputs.items c.loop-i.i x _ c.loop-i.invariant c.admit.ensures in
+    let says = judged c.loop-i.core c.args.node c.args.n c.args.capacity c.args.inputs.items c.loop-i.i x _ c.loop-i.invariant.0 c.admit.ensures in
     let refused : is_err c.admit.result ≡ true = search rules in
     let because = why c.admit.result refused in
     let here : IsItem c.args.inputs.items c.loop-i.i x = record { within = search rules; is = search rules } in
     let there = slice_get_read c.args.inputs.items (length c.args.inputs.items) c.loop-i.i x refl here.within here.is in
-    inr (record { place = c.loop-i.i; is = refl; before = c.loop-i.invariant.lawful; input = x; there = there; refused_for = because.0; because = sym says ∙ because.1 })
+    inr (record { place = c.loop-i.i; is = refl; before = c.loop-i.invariant.0.lawful; input = x; there = there; refused_for = because.0; because = sym says ∙ because.1 })
+
+pub add-requires : goal.add-requires
+add-requires c =
+    let x = c.index.result.now in
+    let h = take c.loop-i.i c.args.inputs.items in
+    let opens = c.loop-i.invariant.0 in
+    let accepted : is_err c.admit.result ≡ false = search rules in
+    let free = sym (judged c.loop-i.core c.args.node c.args.n c.args.capacity c.args.inputs.items c.loop-i.i x _ opens c.admit.ensures) ∙ why_not c.admit.result accepted in
+    let allowed = (refusal-admitted c.args.node c.args.n c.args.capacity fresh h x free).allowed in
+    let brings = brought c.loop-i.core c.args.node c.args.n c.args.capacity c.args.inputs.items c.loop-i.i x c.in-Ok.effects opens c.in-Ok.ensures.carry c.in-Ok.ensures.decided in
+    record { allowed = (c.args.node, c.args.n, h, c.loop-i.invariant.1, allowed, brings) }
 
 pub loop-i-preserved : goal.loop-i-preserved
 loop-i-preserved c =
     let x = c.index.result.now in
-    let says = judged c.loop-i.core c.args.node c.args.n c.args.capacity c.args.inputs.items c.loop-i.i x _ c.loop-i.invariant c.admit.ensures in
+    let h = take c.loop-i.i c.args.inputs.items in
+    let opens = c.loop-i.invariant.0 in
+    let accepted : is_err c.admit.result ≡ false = search rules in
+    let free = sym (judged c.loop-i.core c.args.node c.args.n c.args.capacity c.args.inputs.items c.loop-i.i x _ opens c.admit.ensures) ∙ why_not c.admit.result accepted in
+    let allowed = (refusal-admitted c.args.node c.args.n c.args.capacity fresh h x free).allowed in
+    let brings = brought c.loop-i.core c.args.node c.args.n c.args.capacity c.args.inputs.items c.loop-i.i x c.in-Ok.effects opens c.in-Ok.ensures.carry c.in-Ok.ensures.decided in
     let here : IsItem c.args.inputs.items c.loop-i.i x = record { within = search rules; is = search rules } in
-    let free : is_err c.admit.result ≡ false = search rules in
     let stands : (h : List Input) → CoreStandsFor c.loop-i.core h → CoreStandsFor c.apply.new.self (h ++ x ∷ []) = search rules in
-    opens_next c.loop-i.core c.apply.new.self c.args.node c.args.n c.args.capacity c.args.inputs.items c.loop-i.i x c.loop-i.invariant here (sym says ∙ why_not c.admit.result free) stands c.apply.ensures.me c.apply.ensures.ring c.apply.ensures.capacity
+    let added : is_ok c.add.result ≡ true = search rules in
+    let holds = on_ok c.add.result added c.add.ensures.holds in (
+      opens_next c.loop-i.core c.apply.new.self c.args.node c.args.n c.args.capacity c.args.inputs.items c.loop-i.i x opens here free stands c.apply.ensures.me c.apply.ensures.ring c.apply.ensures.capacity,
+      holds_grown c.args.node c.add.new.self c.args.inputs.items c.loop-i.i x here (holds c.args.node c.args.n h c.loop-i.invariant.1 allowed brings),
+    )
+
+pub invariant_of-result-clause-holds : goal.invariant_of-result-clause-holds
+invariant_of-result-clause-holds c =
+    let within : length c.args.inputs.items ≤ c.loop-i.i = search rules in
+    let all = take_all c.loop-i.i c.args.inputs.items within in
+    let count : length c.args.inputs.items ≡ c.len-count.result = search rules in
+    subst (λ k. Holds c.args.node c.loop-i.outbox c.args.inputs.items k k) count (subst (λ (l : List Input). Holds c.args.node c.loop-i.outbox l (length l) (length l)) all c.loop-i.invariant.1)

@@ -1,0 +1,96 @@
+//! Whether a desk's history gives a reply that was released.
+ghost use Rattle.std.specs.Prelude.{◌≡◌, ◌≤◌, List, length, true, false, MatchOption, IfOk, IfErr};
+ghost use Rattle.ring_records.specs.declared.input.Input.{Input};
+ghost use Rattle.ring_records.specs.Admission.{fresh, IsLawful};
+ghost use Rattle.ring_records.specs.Answer.{answer};
+ghost use Rattle.node_core.specs.Core.{CoreStandsFor};
+ghost use Rattle.group_commit.specs.Ticket.{stub as released};
+ghost use Rattle.group_commit.specs.Vouch.{Accepts, IsInput};
+
+use crate::desk::Desk;
+use crate::judge::judge;
+use crate::ticket::Stub;
+use node_core::NodeCore;
+use ring_records::{Input, NodeNo, Refusal, Reply, Request};
+use std::alloc::{AllocError, Global};
+
+impl Desk {
+    ghost use Rattle.group_commit.specs.Desk.{place_of, state_of};
+    ghost use Rattle.group_commit.specs.Vouch.{IsVouched};
+
+    /// Whether its history gives the stub's reply to the stub's request at the stub's number k, and k inputs are durable.
+    /// Refused as 8. No other call looks back: this one takes the first k inputs again, in k log k steps.
+    pub fn vouch(&self, stub: &Stub) -> Result<bool, Refusal>
+        ensures yes { IfOk result (λ b. b ≡ true → IsVouched (place_of self.now).me (place_of self.now).n (place_of self.now).capacity (state_of self.now) (released stub.now)) }
+        ensures no { IfOk result (λ b. b ≡ false → IsVouched (place_of self.now).me (place_of self.now).n (place_of self.now).capacity (state_of self.now) (released stub.now) → ⊥) }
+        ensures refusal { IfErr result (λ e. e ≡ Refusal.OutOfMemory) }
+    {
+        if stub.number > self.durable {
+            return Ok(false);
+        }
+        if let Some(input) = accepted(&stub.question, &stub.reply) {
+            return Ok(is_input(&self.inputs, stub.number, &input));
+        }
+        let alloc = *self.inputs.allocator();
+        let before = &self.inputs[..stub.number as usize];
+        match core_after(alloc, self.node, self.n, self.capacity, before) {
+            Ok(core) => Ok(gives(&core, stub)),
+            Err(_) => Err(Refusal::OutOfMemory),
+        }
+    }
+}
+
+// Whether a core that stands for as many inputs as the stub's number gives the stub's reply and accepts nothing.
+fn gives(core: &NodeCore, stub: &Stub) -> bool
+    ensures yes { (h : List Input) → CoreStandsFor core.now h → length h ≡ stub.now.number → result ≡ true → (released stub.now).answer ≡ answer core.now.table.me core.now.size core.now.capacity fresh h stub.now.question }
+    ensures no { (h : List Input) → CoreStandsFor core.now h → length h ≡ stub.now.number → result ≡ false → (released stub.now).answer ≡ answer core.now.table.me core.now.size core.now.capacity fresh h stub.now.question → ⊥ }
+{
+    let (reply, input) = judge(core, &stub.question);
+    reply == stub.reply && input.is_none()
+}
+
+// Whether this is input `number` of these, counted from 1.
+fn is_input(inputs: &[Input], number: u64, input: &Input) -> bool
+    requires { number ≤ length inputs.now }
+    ensures yes { result ≡ true → IsInput inputs.now number input.now }
+    ensures no { result ≡ false → IsInput inputs.now number input.now → ⊥ }
+{
+    number > 0 && inputs[number as usize - 1] == *input
+}
+
+// The input of the request, where the reply accepts it.
+#[tactic(auto, unfolding(ring_records::specs::Answer::input_of, crate::specs::Vouch::acceptance))]
+fn accepted(question: &Request, reply: &Reply) -> Option<Input>
+    ensures { MatchOption result ((x : Input) → Accepts question.now reply.now x → ⊥) (λ x. Accepts question.now reply.now x) }
+{
+    match (*question, *reply) {
+        (Request::Stand(key, bid), Reply::Stood) => Some(Input::Stand { key, bid }),
+        (Request::Take(no, msg), Reply::Taken) => Some(Input::Take { no, msg }),
+        (Request::Acked(upto), Reply::Acked) => Some(Input::Acked { upto }),
+        _ => None,
+    }
+}
+
+// The core of a node that accepted these inputs.
+fn core_after(
+    alloc: Global,
+    node: NodeNo,
+    n: u8,
+    capacity: u32,
+    inputs: &[Input],
+) -> Result<NodeCore, AllocError>
+    requires { IsLawful node n capacity fresh inputs.now }
+    ensures stands { IfOk result (λ core. CoreStandsFor core inputs.now) }
+    ensures me { IfOk result (λ core. core.table.me ≡ node) }
+    ensures ring { IfOk result (λ core. core.size ≡ n) }
+    ensures capacity { IfOk result (λ core. core.capacity ≡ capacity) }
+{
+    let mut core = NodeCore::new(alloc, node, n, capacity);
+    for i in 0..inputs.len() {
+        match core.apply(inputs[i]) {
+            Ok(_effects) => {}
+            Err(error) => return Err(error),
+        }
+    }
+    Ok(core)
+}

@@ -1,0 +1,90 @@
+// What the durable inputs of a node let it release.
+ghost use Rattle.std.specs.Prelude.{◌≡◌, ◌+◌, ◌++◌, ◌∷◌, ◌≤◌, ◌<◌, ◌^◌, ℕ, List, [], length, Option, IfOk, OnOk, OnErr, vec_len, vec_capacity};
+ghost use Rattle.std.specs.List.{cons_option};
+ghost use Rattle.std.specs.Option.{option_map};
+ghost use Rattle.ring_records.specs.declared.input.Input.{Input};
+ghost use Rattle.ring_records.specs.declared.msg.Msg.{Msg};
+ghost use Rattle.ring_records.specs.declared.packet.Packet.TheVariants.{Carry};
+ghost use Rattle.ring_records.specs.Admission.{IsAllowed};
+ghost use Rattle.neighbour_link.specs.Outlink.{OutlinkStandsFor, sent_count};
+
+use crate::landed::push_decision;
+use neighbour_link::Outlink;
+use node_core::Effects;
+use ring_records::{Decision, Input, Packet};
+use std::alloc::{AllocError, Global};
+
+/// What a node keeps of its durable inputs: the messages that the successor is not known to have taken, the leaders that
+/// became known, in order, and how many messages were taken.
+#[derive(Drop)]
+pub(crate) struct Released {
+    pub(crate) link: Outlink,
+    pub(crate) decisions: Vec<Decision>,
+    pub(crate) taken: u64,
+}
+
+impl Released {
+    ghost use Rattle.group_commit.specs.Outbox.{Keeps, HasRoom, effects_of};
+
+    /// That of no inputs.
+    pub(crate) fn new(alloc: Global) -> Released
+        ensures { (me : ℕ) → Keeps me result [] }
+    {
+        Released {
+            link: Outlink::new(alloc),
+            decisions: Vec::new(alloc),
+            taken: 0,
+        }
+    }
+
+    /// Makes room for what so many inputs more let it release.
+    pub(crate) fn reserve(&mut self, count: usize) -> Result<(), AllocError>
+        ensures keeps { (me : ℕ) (h : List Input) → Keeps me self.old h → Keeps me self.new h }
+        ensures room { OnOk result (HasRoom self.new count) }
+    {
+        self.link.reserve(count)?;
+        self.decisions.reserve(count)
+    }
+
+    /// Adds what the next durable input lets it release, for which there is room.
+    pub(crate) fn add(&mut self, input: &Input, effects: &Effects)
+        requires room { HasRoom self.old 1 }
+        requires allowed { (me n : ℕ) × (h : List Input) × Keeps me self.old h × IsAllowed me n h input.now × (effects.now ≡ effects_of me h input.now) }
+        ensures keeps { (me n : ℕ) (h : List Input) → Keeps me self.old h → IsAllowed me n h input.now → effects.now ≡ effects_of me h input.now → Keeps me self.new (h ++ input.now ∷ []) }
+        ensures room { (k : ℕ) → HasRoom self.old (k + 1) → HasRoom self.new k }
+    {
+        queue(&mut self.link, &effects.carry);
+        push_decision(&mut self.decisions, &effects.decided);
+        match input {
+            Input::Stand { .. } => {}
+            Input::Take { .. } => self.taken += 1,
+            Input::Acked { upto } => credit(&mut self.link, *upto),
+        }
+    }
+}
+
+// Queues the message that the packet carries, if there is one.
+fn queue(link: &mut Outlink, carry: &Option<Packet>)
+    requires few { sent_count link.old.link + 1 < 2 ^ 64 }
+    requires room { 1 ≤ link.old.room }
+    ensures stands { (sent : List Msg) (credit : ℕ) (on : Option Msg) → OutlinkStandsFor link.old.link sent credit → carry.now ≡ option_map (Carry (length sent)) on → OutlinkStandsFor link.new.link (sent ++ cons_option on []) credit }
+    ensures room { link.old.room ≤ link.new.room + 1 }
+{
+    if let Some(Packet::Carry { msg, .. }) = carry {
+        if link.queue(*msg).is_err() {
+            unreachable!();
+        }
+    }
+}
+
+// Takes a credit above the last and not above what was sent.
+fn credit(link: &mut Outlink, upto: u64)
+    requires above { link.old.link.credited < upto }
+    requires sent { upto ≤ sent_count link.old.link }
+    ensures stands { (sent : List Msg) (credit : ℕ) → OutlinkStandsFor link.old.link sent credit → OutlinkStandsFor link.new.link sent upto }
+    ensures room { link.old.room ≤ link.new.room }
+{
+    if link.credit(upto).is_err() {
+        unreachable!();
+    }
+}
