@@ -100,3 +100,6 @@ place_again made node n found capacity run is same = is ∙ ap (λ (k : ℕ). pl
 
 pub state_again : (made : NodeState) (inputs left : List Input) → made ≡ opened inputs → inputs ≡ left → made ≡ opened left
 state_again made inputs left is same = is ∙ ap opened same
+
+pub named_again : (node n capacity : ℕ) (header : Header) → header.node ≡ node → header.n ≡ n → capacity ≡ header.capacity → header ≡ header_with node n capacity
+named_again node n capacity header node_is n_is capacity_is = λ i. record { node = node_is i; n = n_is i; capacity = sym capacity_is i }

@@ -1,7 +1,7 @@
 -- What keeps a node and its journal together.
-use Rattle.std.proofs.Common.{◌≡◌, ◌-◌, ◌≤◌, inl, ℕ, Bool, false, List, [], ◌++◌, length, take, Option, Some, None, refl, sym, subst, arith, append-nil, length-append}
+use Rattle.std.proofs.Common.{◌≡◌, ◌-◌, ◌≤◌, inl, ℕ, Bool, false, List, [], ◌++◌, inl, inr, ⊎_elim, length, take, Option, Some, None, refl, sym, subst, arith, append-nil, length-append}
 use Rattle.std.proofs.lemmas.List.{take_all, take-append-le}
-use Rattle.disk_model.specs.Disk.{Disk}
+use Rattle.disk_model.specs.Disk.{Disk, MayLeave}
 use Rattle.ring_records.specs.declared.input.Input.{Input}
 use Rattle.ring_records.specs.declared.refusal.Refusal.{Refusal}
 use Rattle.ring_records.specs.declared.request.Request.{Request}
@@ -10,10 +10,10 @@ use Rattle.ring_records.specs.Answer.{NodeState, asked, opened, gained, input_of
 use Rattle.ring_records.proofs.Admission.{refusal-admitted}
 use Rattle.ring_records.specs.Lists.{EachAfter}
 use Rattle.ring_records.proofs.Lists.{EachAfter-push}
-use Rattle.gated_journal.specs.Reading.{Header, AllReadAs}
+use Rattle.gated_journal.specs.Reading.{Header, AllReadAs, ReadsAsOneOf}
 use Rattle.group_commit.specs.Desk.{IsUnlawful}
 use Rattle.group_commit.specs.Kept.{Place}
-use Rattle.node_store.specs.State.{header_at, Stands}
+use Rattle.node_store.specs.State.{header_at, durable_in, flown_in, Stands}
 
 -- ---- the history
 
@@ -40,6 +40,10 @@ module _ (place : Place) (s : NodeState) (failed : Bool) (header : Header) (disk
       subst (λ (p : Place). Stands p s' failed' header disk spoiled len room) (sym place_same)
       (subst (λ (t : NodeState). Stands place t failed' header disk spoiled len room) (sym state_same)
       (subst (λ (b : Bool). Stands place s b header disk spoiled len room) (sym failed_same) stands))
+
+  -- what every image reads as that a stop may leave
+  pub held : Stands place s failed header disk spoiled len room → (image : List ℕ) → MayLeave disk image → ReadsAsOneOf (header_at place) (durable_in s) (flown_in s) image
+  held stands image left = subst (λ (h : Header). ReadsAsOneOf h (durable_in s) (flown_in s) image) stands.named (⊎_elim (λ old. inl old) (λ new. inr new.1) (stands.holds image left))
 
   -- a request
   pub asks : (q : Request) → Stands place s failed header disk spoiled len room → Stands place (asked place.me place.n place.capacity fresh s q) failed header disk spoiled len room

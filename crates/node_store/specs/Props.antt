@@ -1,41 +1,18 @@
 -- That each fact that a node keeps has one proof at most.
-use Rattle.std.specs.Prelude.{◌≢◌, ℕ, Bool, List, [], ◌∷◌, ◌++◌}
+use Rattle.std.specs.Prelude.{◌≢◌, ℕ, Bool, List}
 use Rattle.std.proofs.Common.{inl, inr}
 use Rattle.std.proofs.Props.{props}
-use Rattle.std.specs.Coded.{le_prop, Unit-prop, ×_prop}
+use Rattle.std.specs.Coded.{le_prop}
 use Rattle.disk_model.specs.Disk.{Disk}
 use Rattle.ring_records.specs.declared.input.Input.{Input}
-use Rattle.ring_records.specs.declared.input.Input.TheVariants.{Stand, Take, Acked}
-use Rattle.ring_records.specs.Admission.{Base, fresh, IsInTurn, IsAdmitted, IsLawful, Fits}
-use Rattle.ring_records.specs.Lists.{EachAfter}
+use Rattle.ring_records.specs.Admission.{fresh}
 use Rattle.ring_records.specs.Answer.{NodeState}
+use Rattle.ring_records.specs.Props.{IsLawful-prop}
 use Rattle.gated_journal.specs.Reading.{Header}
 use Rattle.gated_journal.proofs.Once.{ReadsAs-prop}
 use Rattle.gated_journal.proofs.Unique.{unique_inputs}
 use Rattle.group_commit.specs.Kept.{Place}
 use Rattle.node_store.specs.State.{durable_in, flown_in, ReadsOnce, IsReady, Stands}
-
-IsInTurn-prop : (me n : ℕ) (h : List Input) (x : Input) → IsProp (IsInTurn me n h x)
-unfolding IsInTurn
-IsInTurn-prop me n h (Stand key bid) = hlevel props
-IsInTurn-prop me n h (Take place msg) = hlevel props
-IsInTurn-prop me n h (Acked upto) = hlevel props
-
-IsAdmitted-prop : (me n capacity : ℕ) (base : Base) (h : List Input) (x : Input) → IsProp (IsAdmitted me n capacity base h x)
-unfolding Fits
-IsAdmitted-prop me n capacity base h x p q i = record {
-  allowed = record { few = le_prop p.allowed.few q.allowed.few i; in_turn = IsInTurn-prop me n h x p.allowed.in_turn q.allowed.in_turn i };
-  fits = le_prop p.fits q.fits i;
-}
-
-EachAfter-prop : {A : Type 0} (P : List A → A → Type 0) → ((h : List A) (x : A) → IsProp (P h x)) → (before xs : List A) → IsProp (EachAfter P before xs)
-unfolding EachAfter
-EachAfter-prop P once before [] = Unit-prop
-EachAfter-prop P once before (x ∷ xs) = ×_prop (once before x) (EachAfter-prop P once (before ++ x ∷ []) xs)
-
-IsLawful-prop : (me n capacity : ℕ) (base : Base) (h : List Input) → IsProp (IsLawful me n capacity base h)
-unfolding IsLawful
-IsLawful-prop me n capacity base h = EachAfter-prop (IsAdmitted me n capacity base) (IsAdmitted-prop me n capacity base) [] h
 
 -- an image does not read as two lists
 ReadsOnce-prop : (header : Header) (old new : List Input) (image : List ℕ) → IsProp (ReadsOnce header old new image)

@@ -1,32 +1,35 @@
-ghost use Rattle.std.specs.Prelude.{Bool, length, ◌≡◌, ◌+◌, ◌⊎◌, ◌||◌, ◌<◌, ◌≤◌, ◌^◌, ℕ, [], not, true, false, Some, None, min, nat_eq, if◌then◌else◌, IsOk, IfOk, IfErr, OnOk, OnErr};
+ghost use Rattle.std.specs.Prelude.{Bool, length, ◌≡◌, ◌+◌, ◌-◌, ◌⊎◌, ◌||◌, ◌<◌, ◌≤◌, ◌^◌, ℕ, [], not, true, false, Some, None, min, nat_eq, if◌then◌else◌, IsOk, IfOk, IfErr, OnOk, OnErr};
 ghost use Rattle.disk_model.specs.Disk.{MayLeave, LeavesOnly, synced};
 ghost use Rattle.ring_records.specs.Admission.{fresh, IsLawful};
-ghost use Rattle.ring_records.specs.Answer.{NodeState, asked, opened};
+ghost use Rattle.ring_records.specs.Answer.{NodeState, asked, opened, launched, landed};
+ghost use Rattle.gated_journal.specs.Batch.{landed as receipted, lost};
 ghost use Rattle.gated_journal.specs.Journal as journals;
-ghost use Rattle.gated_journal.specs.Reading.{header_with, is_header, ReadsAs, AllReadAs};
+ghost use Rattle.gated_journal.specs.Reading.{header_with, is_header, ReadsAs, AllReadAs, ReadsAsOneOf};
 ghost use Rattle.gated_journal.specs.Unread.{IsFault, IsUnread};
 ghost use Rattle.group_commit.specs.Desk as desks;
 ghost use Rattle.group_commit.specs.Kept.{Answered, place_with};
-ghost use Rattle.node_store.specs.State.{header_at, durable_in, left_by, Holds, Stands};
+ghost use Rattle.node_store.specs.State.{header_at, durable_in, flown_in, left_by, Holds, Stands};
+ghost use Rattle.ring_records.specs.Release.{packets, decisions};
 ghost use Rattle.node_store.specs.Recovery.{IsNotLawful, IsUnrecovered};
 ghost use Rattle.node_store.specs.Props.{Stands-prop};
 
 use disk_model::{Device, FuseDevice};
-use gated_journal::Journal;
-use group_commit::{Desk, Stub, Ticket};
+use gated_journal::{Journal, Receipt, Spoiled};
+use group_commit::{Desk, Landed, Stub, Ticket};
 use ring_records::{NodeNo, Refusal, Reply, Request};
 use std::alloc::Global;
 
 /// A node whose inputs outlive it: a desk, and the journal that makes what it accepts durable.
 #[derive(Drop)]
 pub struct Node<D: Device> {
+    alloc: Global,
     desk: Desk,
     journal: Journal<D>,
     ghost stands: { Stands (desks.place_of desk) (desks.state_of desk) (desks.is_failed desk) (journals.header_of journal) (D.disk (journals.device_of journal)) (journals.is_spoiled journal) (journals.len_of journal) (journals.room_of journal) } by { Stands-prop (desks.place_of desk) (desks.state_of desk) (desks.is_failed desk) (journals.header_of journal) (D.disk (journals.device_of journal)) (journals.is_spoiled journal) (journals.len_of journal) (journals.room_of journal) },
 }
 
 impl<D: Device> Node<D> {
-    ghost use Rattle.group_commit.specs.Desk.{answered, objection, IsHere, IsSealed};
+    ghost use Rattle.group_commit.specs.Desk.{answered, objection, flying_in, IsHere, IsSealed};
     ghost use Rattle.group_commit.specs.Ticket.{shown, stub, ticket_with};
     ghost use Rattle.node_store.specs.Node.{desk_of, place_of, state_of, kept_at, issued_by, is_closed, is_failed, device_of};
 
@@ -62,7 +65,11 @@ impl<D: Device> Node<D> {
         match Desk::open(alloc, node, n, capacity, run, Vec::new(alloc)) {
             Err(refusal) => Err((device, refusal)),
             Ok(desk) => match Journal::format(device, node, n, capacity) {
-                Ok(journal) => Ok(Node { desk, journal }),
+                Ok(journal) => Ok(Node {
+                    alloc,
+                    desk,
+                    journal,
+                }),
                 Err((device, refusal)) => Err((device, refusal)),
             },
         }
@@ -121,7 +128,11 @@ impl<D: Device> Node<D> {
             Err((device, refusal)) => Err((device, refusal)),
             Ok((journal, inputs)) => {
                 match Desk::open(alloc, node, n, journal.capacity(), run, inputs) {
-                    Ok(desk) => Ok(Node { desk, journal }),
+                    Ok(desk) => Ok(Node {
+                        alloc,
+                        desk,
+                        journal,
+                    }),
                     Err(refusal) => Err((journal.into_device(), refusal)),
                 }
             }
@@ -204,6 +215,50 @@ impl<D: Device> Node<D> {
         self.desk.is_open()
     }
 
+    /// Makes the first inputs that wait durable, at most 64, and tells what they let the node release; nothing where none
+    /// waits. Refused as 9 where it has failed, as 15, after which it has failed, and as 8.
+    pub fn flush(&mut self) -> Result<Landed, Refusal>
+        ensures state { OnOk result (state_of self.new ≡ landed (launched (state_of self.old))) }
+        ensures count { IfOk result (λ l. l.count ≡ (launched (state_of self.old)).flying - (state_of self.old).durable) }
+        ensures packets { IfOk result (λ l. l.packets.items ≡ packets (place_of self.old).me (durable_in (state_of self.old)) (flying_in (launched (state_of self.old)))) }
+        ensures decisions { IfOk result (λ l. l.decisions.items ≡ decisions (place_of self.old).me (durable_in (state_of self.old)) (flying_in (launched (state_of self.old)))) }
+        ensures durable { OnOk result (AllReadAs (header_at (place_of self.old)) (D.disk (device_of self.new)) (durable_in (state_of self.new))) }
+        ensures works { OnOk result ((is_failed self.old ≡ false) × (is_failed self.new ≡ false)) }
+
+        // Refused as 9 where it had failed, and nowhere else; as 15, the device failed, and the batch flies for good.
+        ensures failed { IfErr result (λ why. is_failed self.old ≡ true → why ≡ Refusal.Failed) }
+        ensures cause { IfErr result (λ why. is_failed self.old ≡ false → IsFault (D.count (device_of self.old)) (D.count (device_of self.new)) why ⊎ (why ≡ Refusal.OutOfMemory)) }
+        ensures fault { IfErr result (λ why. IsFault (D.count (device_of self.old)) (D.count (device_of self.new)) why → (is_failed self.new ≡ true) × (state_of self.new ≡ launched (state_of self.old))) }
+        ensures same { IfErr result (λ why. (why ≡ Refusal.Failed) ⊎ (why ≡ Refusal.OutOfMemory)
+            → (state_of self.new ≡ state_of self.old) × (is_failed self.new ≡ is_failed self.old) × (device_of self.new ≡ device_of self.old)) }
+        ensures in_reach { 0 < D.reach (device_of self.old) → 17 + (place_of self.old).capacity ≤ D.reach (device_of self.old) → IfErr result (λ why. (why ≡ Refusal.Failed) ⊎ (why ≡ Refusal.OutOfMemory)) }
+
+        // A stop at any moment leaves the inputs that were durable, or also those that flew then.
+        ensures any_moment { LeavesOnly D.clock D.left_since (device_of self.old) (device_of self.new) (ReadsAsOneOf (header_at (place_of self.old)) (durable_in (state_of self.old)) (flown_in (state_of self.new))) }
+        ensures device { OnOk result (D.count (device_of self.new) ≡ D.count (device_of self.old)) }
+        ensures reach { D.reach (device_of self.new) ≡ D.reach (device_of self.old) }
+        ensures place { place_of self.new ≡ place_of self.old }
+        ensures closed { is_closed self.new ≡ is_closed self.old }
+        ensures issued { issued_by self.new ≡ issued_by self.old }
+        ensures kept { (own : ℕ) → kept_at self.new own ≡ kept_at self.old own }
+    {
+        match self.desk.launch() {
+            Err(refusal) => Err(refusal),
+            Ok(None) => Ok(Landed {
+                count: 0,
+                packets: Vec::new(self.alloc),
+                decisions: Vec::new(self.alloc),
+            }),
+            Ok(Some(batch)) => match self.journal.commit(batch) {
+                Ok(receipt) => Ok(land(&mut self.desk, receipt)),
+                Err(spoiled) => {
+                    fail(&mut self.desk, spoiled);
+                    Err(Refusal::Device(self.journal.failures()))
+                }
+            },
+        }
+    }
+
     /// Ends a node that is closed or has failed, and gives its device.
     pub fn into_device(self) -> D
         requires ended { (is_closed self || is_failed self) ≡ true }
@@ -214,7 +269,11 @@ impl<D: Device> Node<D> {
         ensures holds { Holds (header_at (place_of self)) (D.disk result) (state_of self) }
         ensures durable { is_failed self ≡ false → AllReadAs (header_at (place_of self)) (D.disk result) (durable_in (state_of self)) }
     {
-        let Node { desk: _, journal } = self;
+        let Node {
+            alloc: _,
+            desk: _,
+            journal,
+        } = self;
         journal.into_device()
     }
 }
@@ -240,9 +299,47 @@ impl<D: Device> Node<FuseDevice<D>> {
     }
 }
 
+// The batch that flies is durable.
+fn land(desk: &mut Desk, receipt: Receipt) -> Landed
+    requires works { desks.is_failed desk.old ≡ false }
+    requires flying { desks.IsFlying desk.old (receipted receipt) }
+    ensures count { result.count ≡ (desks.state_of desk.old).flying - (desks.state_of desk.old).durable }
+    ensures packets { result.packets.items ≡ packets (desks.place_of desk.old).me (durable_in (desks.state_of desk.old)) (desks.flying_in (desks.state_of desk.old)) }
+    ensures decisions { result.decisions.items ≡ decisions (desks.place_of desk.old).me (durable_in (desks.state_of desk.old)) (desks.flying_in (desks.state_of desk.old)) }
+    ensures state { desks.state_of desk.new ≡ landed (desks.state_of desk.old) }
+    ensures ready { (desks.is_closed desk.new ≡ desks.is_closed desk.old) × (desks.is_failed desk.new ≡ false) }
+    ensures place { desks.place_of desk.new ≡ desks.place_of desk.old }
+    ensures issued { desks.issued_by desk.new ≡ desks.issued_by desk.old }
+    ensures same { (own : ℕ) → desks.kept_at desk.new own ≡ desks.kept_at desk.old own }
+{
+    match desk.land(receipt) {
+        Ok(landed) => landed,
+        Err(_) => unreachable!(),
+    }
+}
+
+// The device failed with the batch that flies.
+fn fail(desk: &mut Desk, spoiled: Spoiled)
+    requires flying { desks.IsFlying desk.old (lost spoiled) }
+    ensures failed { desks.is_failed desk.new ≡ true }
+    ensures closed { desks.is_closed desk.new ≡ desks.is_closed desk.old }
+    ensures place { desks.place_of desk.new ≡ desks.place_of desk.old }
+    ensures state { desks.state_of desk.new ≡ desks.state_of desk.old }
+    ensures issued { desks.issued_by desk.new ≡ desks.issued_by desk.old }
+    ensures same { (own : ℕ) → desks.kept_at desk.new own ≡ desks.kept_at desk.old own }
+{
+    match desk.fail(spoiled) {
+        Ok(()) => {}
+        Err(_) => unreachable!(),
+    }
+}
+
 // Whether a node of this number, in a ring of `n` and with this capacity, may be.
 fn is_in_range(node: NodeNo, n: u8, capacity: u32) -> bool
     ensures { result ≡ is_header (header_with node n capacity) }
 {
     2 <= n && n <= 16 && node.number() <= n && 4096 <= capacity && capacity <= 1_048_576
 }
+
+#[cfg(test)]
+mod tests;

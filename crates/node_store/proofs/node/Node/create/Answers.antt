@@ -18,6 +18,6 @@ invariant_of-result g c =
     let all : AllReadAs (journals.header_of journal) disk [] = subst (λ (h : Header). AllReadAs h disk []) (sym empty.header) empty.empty in
     let named : journals.header_of journal ≡ header_at (place_with c.args.node c.args.n c.args.capacity c.args.run) = empty.header in
     record {
-      stands = same _ _ _ _ disk _ _ _ (desks.place_of desk) (desks.state_of desk) (desks.is_failed desk) made.place (made.state ∙ ap opened c.new.ensures.items) made.ready.1
+      stands = same (place_with c.args.node c.args.n c.args.capacity c.args.run) (opened []) false (journals.header_of journal) disk (journals.is_spoiled journal) (journals.len_of journal) (journals.room_of journal) (desks.place_of desk) (desks.state_of desk) (desks.is_failed desk) made.place (made.state ∙ ap opened c.new.ensures.items) made.ready.1
           (opens_empty (place_with c.args.node c.args.n c.args.capacity c.args.run) false (journals.header_of journal) disk (journals.is_spoiled journal) (journals.len_of journal) (journals.room_of journal) named all empty.ready empty.len empty.room);
     }

@@ -1,11 +1,32 @@
-use Rattle.std.proofs.Common.{◌≡◌, ⊎_elim, inl, inr, sym, subst}
+use Rattle.std.proofs.Common.{◌≡◌, ◌-◌, ⊎_elim, inl, inr, false, sym, subst, arith}
+use Rattle.ring_records.specs.Admission.{fresh, used}
+use Rattle.ring_records.specs.Answer.{opened}
 use Rattle.gated_journal.specs.Journal as journals
 use Rattle.gated_journal.specs.Reading.{header_with}
 use Rattle.gated_journal.specs.Unread.{IsFault}
 use Rattle.group_commit.specs.Desk as desks
-use Rattle.node_store.specs.State.{left_by, Holds}
-use Rattle.node_store.proofs.Recovered.{kept_by, short_only, lawful_again, still_holds, holds_again, no_fault, capacity_again, place_again, state_again}
+use Rattle.group_commit.specs.Kept.{place_with}
+use Rattle.node_store.specs.State.{header_at, left_by, Holds}
+use Rattle.node_store.proofs.Recovered.{kept_by, short_only, lawful_again, still_holds, holds_again, no_fault, capacity_again, place_again, state_again, named_again}
+use Rattle.node_store.proofs.Standing.{same, opens}
 use Rattle.node_store.proofs.node.Node.recover.Goals as goal
+
+pub invariant_of-result : goal.invariant_of-result
+invariant_of-result g c =
+    let desk = c.in-Ok-open.desk in
+    let journal = c.in-Ok.journal in
+    let disk = g.D.Device.disk (journals.device_of journal) in
+    let inputs = c.in-Ok.inputs.items in
+    let place = place_with c.args.node c.args.n c.capacity.result c.args.run in
+    let made = c.in-Ok-open.ensures in
+    let read = c.in-Ok.ensures in
+    let named : journals.header_of journal ≡ header_at place = named_again c.args.node c.args.n c.capacity.result (journals.header_of journal) read.header.0 read.header.1 c.capacity.ensures.value in
+    let left : journals.room_of journal ≡ c.capacity.result - used fresh inputs = omega (arith, read.room, c.capacity.ensures.value) in
+    record {
+      stands = same place (opened inputs) false (journals.header_of journal) disk (journals.is_spoiled journal) (journals.len_of journal) (journals.room_of journal) (desks.place_of desk) (desks.state_of desk) (desks.is_failed desk)
+          made.place made.state made.ready.1
+          (opens place inputs false (journals.header_of journal) disk (journals.is_spoiled journal) (journals.len_of journal) (journals.room_of journal) named (made.lawful) read.durable read.ready read.len left);
+    }
 
 pub returns-in-Err-clause-recovery_err : goal.returns-in-Err-clause-recovery_err
 returns-in-Err-clause-recovery_err g c = λ capacity s lawful holds.
