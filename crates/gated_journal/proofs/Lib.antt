@@ -4,6 +4,7 @@ pub mod Frame
 pub mod Head
 pub mod Heads
 pub mod Kept
+pub mod Once
 pub mod Rest
 pub mod Results
 pub mod Shift

@@ -52,9 +52,15 @@ damaged-stuck : (bytes : List ℕ) → (bytes ≡ []) ⊎ ((tail : List ℕ) × 
 damaged-stuck bytes (inl none) batch rest is e = let same = sym none ∙ e in cc
 damaged-stuck bytes (inr some) batch rest is e = some.1.1 batch rest is (let same = sym some.1.0 ∙ e in cc)
 
+-- nor in two ways
+pub parts-unique : (offset : ℕ) (image : List ℕ) (inputs more : List Input) (place end : ℕ) → (one : ReadsTo offset image inputs place) → (two : ReadsTo offset image more end)
+    → (one.batches ≡ two.batches) × (one.gate ∷ one.after ≡ two.gate ∷ two.after)
+parts-unique offset image inputs more place end one two =
+    frames-unique one.batches two.batches (one.gate ∷ one.after) (two.gate ∷ two.after) one.sized two.sized (closed-stuck one.gate one.after one.closed) (closed-stuck two.gate two.after two.closed) (sym one.whole ∙ two.whole)
+
 pub unique : (offset : ℕ) (image : List ℕ) (inputs more : List Input) (place end : ℕ) → ReadsTo offset image inputs place → ReadsTo offset image more end → (inputs ≡ more) × (place ≡ end)
 unique offset image inputs more place end one two =
-    let same = (frames-unique one.batches two.batches (one.gate ∷ one.after) (two.gate ∷ two.after) one.sized two.sized (closed-stuck one.gate one.after one.closed) (closed-stuck two.gate two.after two.closed) (sym one.whole ∙ two.whole)).0 in (
+    let same = (parts-unique offset image inputs more place end one two).0 in (
       one.same ∙ ap joined same ∙ sym two.same,
       one.ends ∙ ap (λ (bs : List (List Input)). offset + length (frames bs)) same ∙ sym two.ends,
     )

@@ -193,6 +193,13 @@ impl<D: Device> Journal<D> {
         self.is_spoiled
     }
 
+    /// How many calls of its device have failed.
+    pub fn failures(&self) -> u64
+        ensures { result ≡ D.count (device_of self.now) }
+    {
+        self.device.failures()
+    }
+
     /// Ends the journal, and gives its device.
     pub fn into_device(self) -> D
         ensures { result ≡ device_of self }

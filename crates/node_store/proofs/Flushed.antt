@@ -1,0 +1,137 @@
+-- A batch that flies, and what becomes of it.
+use Rattle.std.proofs.Common.{◌≡◌, ◌≢◌, ⊎_elim, inl, inr, ℕ, ◌+◌, ◌-◌, ◌<◌, ◌≤◌, Bool, true, false, List, [], ◌∷◌, ◌++◌, length, take, drop, Option, Some, IfSome, refl, sym, ◌∙◌, ap, subst, arith, length-take, length-drop}
+use Rattle.std.proofs.Math.Seq.{take-add}
+use Rattle.std.proofs.lemmas.Bool.{cases_lt}
+use Rattle.std.proofs.lemmas.List.Sums.{sum_by-take-drop}
+use Rattle.disk_model.specs.Disk.{Disk, MayLeave}
+use Rattle.ring_records.specs.declared.input.Input.{Input}
+use Rattle.ring_records.specs.Admission.{fresh, used, cost, Fits, IsAdmitted, IsLawful}
+use Rattle.ring_records.specs.Answer.{NodeState, launched, landed}
+use Rattle.ring_records.specs.History.{taken}
+use Rattle.ring_records.specs.Lists.{found_after}
+use Rattle.ring_records.proofs.Counts.{used-push}
+use Rattle.ring_records.proofs.Lists.{along}
+use Rattle.gated_journal.specs.declared.batch.Batch.{Batch}
+use Rattle.gated_journal.specs.Batch.{Numbered, numbered, shown}
+use Rattle.gated_journal.specs.Reading.{Header, ReadsAs, AllReadAs, ReadsAsOneOf}
+use Rattle.gated_journal.proofs.Rest.{used-joined}
+use Rattle.gated_journal.proofs.Results.{of_some}
+use Rattle.group_commit.specs.Desk.{flying_in}
+use Rattle.group_commit.specs.Kept.{Place}
+use Rattle.ring_records.specs.Release.{packets, decisions, carries, credits}
+use Rattle.node_store.specs.State.{header_at, durable_in, flown_in, ReadsOnce, Stands}
+
+-- ---- costs
+
+fits_next : (me n capacity : ℕ) (h : List Input) (x : Input) → IsAdmitted me n capacity fresh h x → used fresh h ≤ capacity → used fresh (h ++ x ∷ []) ≤ capacity
+unfolding Fits
+fits_next me n capacity h x admitted fits = omega (arith, admitted.fits, used-push h x)
+
+-- a lawful history fits the capacity
+used_within : (me n capacity : ℕ) (h : List Input) → IsLawful me n capacity fresh h → used fresh h ≤ capacity
+unfolding IsLawful used
+used_within me n capacity h lawful = along (IsAdmitted me n capacity fresh) (λ l. used fresh l ≤ capacity) (fits_next me n capacity) [] h lawful (omega arith)
+
+used-front : (k : ℕ) (h : List Input) → used fresh (take k h) ≤ used fresh h
+unfolding used
+used-front k h = omega (arith, sum_by-take-drop cost h k)
+
+-- ---- lists
+
+from_to : (d f : ℕ) (h : List Input) → d ≤ f → take d h ++ take (f - d) (drop d h) ≡ take f h
+from_to d f h le = let sum : d + (f - d) ≡ f = omega (arith, le) in sym (take-add d (f - d) h) ∙ ap (λ k. take k h) sum
+
+shorter : (d f : ℕ) (h : List Input) → d < f → f ≤ length h → take d h ≢ take f h
+shorter d f h lt le same = omega (arith, lt, le, ap length same, length-take d h, length-take f h)
+
+-- what is launched flies
+pub batch_of : (found : Option Batch) (batch : Batch) (me first : ℕ) (t s : NodeState) → found ≡ Some batch → IfSome found (λ b. shown b ≡ numbered me first (flying_in t)) → t ≡ launched s → (shown batch).inputs ≡ flying_in (launched s)
+batch_of found batch me first t s is says state =
+    let all = of_some found batch (Unit {0}) (λ b. shown b ≡ numbered me first (flying_in t)) is says in
+    ap (λ (n : Numbered). n.inputs) all ∙ ap flying_in state
+
+nothing_flies : (s : NodeState) → s.durable ≡ length s.inputs → flying_in (launched s) ≡ []
+nothing_flies s whole = ap (λ k. take k (drop s.durable s.inputs)) (let none : (launched s).flying - s.durable ≡ 0 = omega (arith, whole) in none)
+
+-- nothing lets a node release nothing
+pub no_packets : (me : ℕ) (s : NodeState) → s.durable ≡ length s.inputs → [] ≡ packets me (durable_in s) (flying_in (launched s))
+unfolding packets carries credits found_after taken
+no_packets me s whole = ap (packets me (durable_in s)) (sym (nothing_flies s whole))
+
+pub no_decisions : (me : ℕ) (s : NodeState) → s.durable ≡ length s.inputs → [] ≡ decisions me (durable_in s) (flying_in (launched s))
+unfolding decisions found_after
+no_decisions me s whole = ap (decisions me (durable_in s)) (sym (nothing_flies s whole))
+
+-- ---- a node that flushes
+
+module _ (place : Place) (s : NodeState) (failed : Bool) (header : Header) (disk : Disk) (spoiled : Bool) (len room : ℕ) (works : failed ≡ false) (stands : Stands place s failed header disk spoiled len room) where
+  forward : s.durable ≤ (launched s).flying
+  forward = omega (arith, stands.counts.durable, stands.counts.flying)
+
+  -- its images hold the durable inputs
+  pub all : AllReadAs header disk (durable_in s)
+  all image left = ⊎_elim (λ old. old) (λ new. absurd (new.0 (ap (λ k. take k s.inputs) (sym (stands.ready works).idle)))) (stands.holds image left)
+
+  pub durable_all : (t : NodeState) → durable_in t ≡ durable_in s → AllReadAs (header_at place) disk (durable_in t)
+  durable_all t same = λ image left. subst (λ l. ReadsAs (header_at place) image l) (sym same) (subst (λ h. ReadsAs h image (durable_in s)) stands.named (all image left))
+
+module _ (place : Place) (s : NodeState) (failed : Bool) (header : Header) (disk : Disk) (spoiled : Bool) (len room : ℕ) (works : failed ≡ false) (stands : Stands place s failed header disk spoiled len room) (batch : List Input) (is : batch ≡ flying_in (launched s)) where
+  ahead : s.durable ≤ (launched s).flying
+  ahead = forward place s failed header disk spoiled len room works stands
+
+  whole : durable_in s ++ batch ≡ flown_in (launched s)
+  whole = ap (λ l. durable_in s ++ l) is ∙ from_to s.durable (launched s).flying s.inputs ahead
+
+  costs : used fresh (flown_in (launched s)) ≡ used fresh (durable_in s) + used fresh batch
+  costs = ap (used fresh) (sym whole) ∙ used-joined (durable_in s) batch
+
+  count : s.durable + length batch ≡ (launched s).flying
+  count =
+      let long = ap length is in
+      omega (arith, long, ahead, length-take ((launched s).flying - s.durable) (drop s.durable s.inputs), length-drop s.durable s.inputs)
+
+  -- the batch fits
+  pub fits : used fresh batch ≤ room
+  fits = omega (arith, costs, used-front (launched s).flying s.inputs, used_within place.me place.n place.capacity s.inputs stands.lawful, (stands.ready works).left)
+
+  -- it landed
+  pub lands : (failed' : Bool) (header' : Header) (disk' : Disk) (spoiled' : Bool) (len' room' : ℕ) → header' ≡ header → AllReadAs header disk' (durable_in s ++ batch) → spoiled' ≡ false
+      → len' ≡ len + length batch → room' ≡ room - used fresh batch → Stands place (landed (launched s)) failed' header' disk' spoiled' len' room'
+  lands failed' header' disk' spoiled' len' room' same read unspoiled longer less =
+      let ready = stands.ready works in
+      record {
+        counts = record { durable = omega arith; flying = omega arith };
+        lawful = stands.lawful;
+        named = same ∙ stands.named;
+        holds = λ image left. inl (subst (λ h. ReadsAs h image (flown_in (launched s))) (sym same) (subst (λ l. ReadsAs header image l) whole (read image left)));
+        ready = λ _. record { idle = refl; works = unspoiled; count = omega (arith, longer, ready.count, count); left = omega (arith, less, ready.left, costs) };
+      }
+
+  -- the device failed
+  once : (image : List ℕ) → ReadsAsOneOf header (durable_in s) (durable_in s ++ batch) image → ReadsOnce header (durable_in s) (flown_in (launched s)) image
+  once image (inl old) = inl old
+  once image (inr new) =
+      let flown : ReadsAs header image (flown_in (launched s)) = subst (λ l. ReadsAs header image l) whole new in
+      ⊎_elim (λ lt. inr (shorter s.durable (launched s).flying s.inputs lt (omega arith), flown))
+      (λ le. inl (subst (λ k. ReadsAs header image (take k s.inputs)) (omega (arith, le, ahead)) flown)) (cases_lt s.durable (launched s).flying)
+
+  pub breaks : (failed' : Bool) (header' : Header) (disk' : Disk) (spoiled' : Bool) (len' room' : ℕ) → failed' ≡ true → header' ≡ header
+      → ((image : List ℕ) → MayLeave disk' image → ReadsAsOneOf header (durable_in s) (durable_in s ++ batch) image) → Stands place (launched s) failed' header' disk' spoiled' len' room'
+  breaks failed' header' disk' spoiled' len' room' broken same read = record {
+    counts = record { durable = ahead; flying = omega arith };
+    lawful = stands.lawful;
+    named = same ∙ stands.named;
+    holds = λ image left. subst (λ h. ReadsOnce h (durable_in s) (flown_in (launched s)) image) (sym same) (once image (read image left));
+    ready = λ works'. let both = sym broken ∙ works' in absurd cc;
+  }
+
+  -- at each moment
+  pub moment : (t : NodeState) → flown_in t ≡ flown_in (launched s) → (image : List ℕ) → ReadsAsOneOf header (durable_in s) (durable_in s ++ batch) image
+      → ReadsAsOneOf (header_at place) (durable_in s) (flown_in t) image
+  moment t flown image read =
+      subst (λ l. ReadsAsOneOf (header_at place) (durable_in s) l image) (whole ∙ sym flown) (subst (λ h. ReadsAsOneOf h (durable_in s) (durable_in s ++ batch) image) stands.named read)
+
+  -- and afterwards
+  pub landed_all : (t : NodeState) (disk' : Disk) → durable_in t ≡ flown_in (launched s) → AllReadAs header disk' (durable_in s ++ batch) → AllReadAs (header_at place) disk' (durable_in t)
+  landed_all t disk' flown read = λ image left.
+      subst (λ l. ReadsAs (header_at place) image l) (whole ∙ sym flown) (subst (λ h. ReadsAs h image (durable_in s ++ batch)) stands.named (read image left))

@@ -1,0 +1,4 @@
+pub mod Flushed
+pub mod Recovered
+pub mod Results
+pub mod Standing

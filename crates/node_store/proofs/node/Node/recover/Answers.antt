@@ -1,0 +1,66 @@
+use Rattle.std.proofs.Common.{◌≡◌, ◌-◌, ⊎_elim, inl, inr, false, sym, subst, arith}
+use Rattle.ring_records.specs.Admission.{fresh, used}
+use Rattle.ring_records.specs.Answer.{opened}
+use Rattle.gated_journal.specs.Journal as journals
+use Rattle.gated_journal.specs.Reading.{header_with}
+use Rattle.gated_journal.specs.Unread.{IsFault}
+use Rattle.group_commit.specs.Desk as desks
+use Rattle.group_commit.specs.Kept.{place_with}
+use Rattle.node_store.specs.State.{header_at, left_by, Holds}
+use Rattle.node_store.proofs.Recovered.{kept_by, short_only, lawful_again, still_holds, holds_again, no_fault, capacity_again, place_again, state_again, named_again}
+use Rattle.node_store.proofs.Standing.{same, opens}
+use Rattle.node_store.proofs.node.Node.recover.Goals as goal
+
+pub invariant_of-result : goal.invariant_of-result
+invariant_of-result g c =
+    let desk = c.in-Ok-open.desk in
+    let journal = c.in-Ok.journal in
+    let disk = g.D.Device.disk (journals.device_of journal) in
+    let inputs = c.in-Ok.inputs.items in
+    let place = place_with c.args.node c.args.n c.capacity.result c.args.run in
+    let made = c.in-Ok-open.ensures in
+    let read = c.in-Ok.ensures in
+    let named : journals.header_of journal ≡ header_at place = named_again c.args.node c.args.n c.capacity.result (journals.header_of journal) read.header.0 read.header.1 c.capacity.ensures.value in
+    let left : journals.room_of journal ≡ c.capacity.result - used fresh inputs = omega (arith, read.room, c.capacity.ensures.value) in
+    record {
+      stands = same place (opened inputs) false (journals.header_of journal) disk (journals.is_spoiled journal) (journals.len_of journal) (journals.room_of journal) (desks.place_of desk) (desks.state_of desk) (desks.is_failed desk)
+          made.place made.state made.ready.1
+          (opens place inputs false (journals.header_of journal) disk (journals.is_spoiled journal) (journals.len_of journal) (journals.room_of journal) named (made.lawful) read.durable read.ready read.len left);
+    }
+
+pub returns-in-Err-clause-recovery_err : goal.returns-in-Err-clause-recovery_err
+returns-in-Err-clause-recovery_err g c = λ capacity s lawful holds.
+    let old = g.D.Device.disk c.args.device in
+    let stays = g.met.D.Device.may_stay c.args.device in (
+      no_fault c.args.node c.args.n capacity s _ _ old.image c.in-Err.refusal (holds old.image stays) c.in-Err.ensures.refusal,
+      still_holds (header_with c.args.node c.args.n capacity) s old (g.D.Device.disk c.in-Err.device) stays c.in-Err.ensures.kept holds,
+    )
+
+pub returns-in-Err-clause-refusal : goal.returns-in-Err-clause-refusal
+returns-in-Err-clause-refusal g c = record { cause = inl c.in-Err.ensures.refusal }
+
+pub returns-in-Err-clause-works : goal.returns-in-Err-clause-works
+returns-in-Err-clause-works g c = λ reach fits. ⊎_elim (λ short. inl short) (λ unread. inr (inl unread)) (c.in-Err.ensures.works reach fits)
+
+pub returns-in-Ok-open-clause-recovery : goal.returns-in-Ok-open-clause-recovery
+returns-in-Ok-open-clause-recovery g c = λ capacity s lawful holds.
+    let image = (g.D.Device.disk c.args.device).image in
+    let found = kept_by (header_with c.args.node c.args.n capacity) (journals.header_of c.in-Ok.journal) s image c.in-Ok.inputs.items (holds image (g.met.D.Device.may_stay c.args.device)) c.in-Ok.ensures.reads in
+    let capacity_is : c.capacity.result ≡ capacity = capacity_again c.capacity.result (journals.header_of c.in-Ok.journal) (header_with c.args.node c.args.n capacity) c.capacity.ensures.value found.0 in (
+      place_again (desks.place_of c.in-Ok-open.desk) c.args.node c.args.n c.capacity.result capacity c.args.run c.in-Ok-open.ensures.place capacity_is,
+      (found.1.0, state_again (desks.state_of c.in-Ok-open.desk) c.in-Ok.inputs.items (left_by found.1.0 s) c.in-Ok-open.ensures.state found.1.1),
+    )
+
+pub returns-in-Err-open-clause-recovery_err : goal.returns-in-Err-open-clause-recovery_err
+returns-in-Err-open-clause-recovery_err g c = λ capacity s lawful holds.
+    let header = header_with c.args.node c.args.n capacity in
+    let other = journals.header_of c.in-Ok.journal in
+    let image = (g.D.Device.disk c.args.device).image in
+    let inputs = c.in-Ok.inputs.items in
+    let found = kept_by header other s image inputs (holds image (g.met.D.Device.may_stay c.args.device)) c.in-Ok.ensures.reads in
+    let capacity_is : c.capacity.result ≡ capacity = capacity_again c.capacity.result other header c.capacity.ensures.value found.0 in
+    let again = lawful_again c.args.node c.args.n capacity c.capacity.result s found.1.0 inputs capacity_is found.1.1 lawful in
+    let held = holds_again header other s (g.D.Device.disk (journals.device_of c.in-Ok.journal)) found.1.0 inputs found.0 found.1.1 c.in-Ok.ensures.durable in (
+      short_only c.args.node c.args.n c.capacity.result inputs c.in-Err-open.refusal (IsFault (g.D.Device.count c.args.device) (g.D.Device.count c.into_device.result) c.in-Err-open.refusal) again c.in-Err-open.ensures.refusal,
+      subst (λ (d : g.row.D.Denot). Holds header (g.D.Device.disk d) s) (sym c.into_device.ensures) held,
+    )

@@ -1,0 +1,4 @@
+pub mod Node
+pub mod Props
+pub mod Recovery
+pub mod State

@@ -1,0 +1,345 @@
+ghost use Rattle.std.specs.Prelude.{Bool, length, ◌≡◌, ◌+◌, ◌-◌, ◌⊎◌, ◌||◌, ◌<◌, ◌≤◌, ◌^◌, ℕ, [], not, true, false, Some, None, min, nat_eq, if◌then◌else◌, IsOk, IfOk, IfErr, OnOk, OnErr};
+ghost use Rattle.disk_model.specs.Disk.{MayLeave, LeavesOnly, synced};
+ghost use Rattle.ring_records.specs.Admission.{fresh, IsLawful};
+ghost use Rattle.ring_records.specs.Answer.{NodeState, asked, opened, launched, landed};
+ghost use Rattle.gated_journal.specs.Batch.{landed as receipted, lost};
+ghost use Rattle.gated_journal.specs.Journal as journals;
+ghost use Rattle.gated_journal.specs.Reading.{header_with, is_header, ReadsAs, AllReadAs, ReadsAsOneOf};
+ghost use Rattle.gated_journal.specs.Unread.{IsFault, IsUnread};
+ghost use Rattle.group_commit.specs.Desk as desks;
+ghost use Rattle.group_commit.specs.Kept.{Answered, place_with};
+ghost use Rattle.node_store.specs.State.{header_at, durable_in, flown_in, left_by, Holds, Stands};
+ghost use Rattle.ring_records.specs.Release.{packets, decisions};
+ghost use Rattle.node_store.specs.Recovery.{IsNotLawful, IsUnrecovered};
+ghost use Rattle.node_store.specs.Props.{Stands-prop};
+
+use disk_model::{Device, FuseDevice};
+use gated_journal::{Journal, Receipt, Spoiled};
+use group_commit::{Desk, Landed, Stub, Ticket};
+use ring_records::{NodeNo, Refusal, Reply, Request};
+use std::alloc::Global;
+
+/// A node whose inputs outlive it: a desk, and the journal that makes what it accepts durable.
+#[derive(Drop)]
+pub struct Node<D: Device> {
+    alloc: Global,
+    desk: Desk,
+    journal: Journal<D>,
+    ghost stands: { Stands (desks.place_of desk) (desks.state_of desk) (desks.is_failed desk) (journals.header_of journal) (D.disk (journals.device_of journal)) (journals.is_spoiled journal) (journals.len_of journal) (journals.room_of journal) } by { Stands-prop (desks.place_of desk) (desks.state_of desk) (desks.is_failed desk) (journals.header_of journal) (D.disk (journals.device_of journal)) (journals.is_spoiled journal) (journals.len_of journal) (journals.room_of journal) },
+}
+
+impl<D: Device> Node<D> {
+    ghost use Rattle.group_commit.specs.Desk.{answered, objection, flying_in, IsHere, IsSealed};
+    ghost use Rattle.group_commit.specs.Ticket.{shown, stub, ticket_with};
+    ghost use Rattle.node_store.specs.Node.{desk_of, place_of, state_of, kept_at, issued_by, is_closed, is_failed, device_of};
+
+    /// A new node, which has accepted nothing, on a device that is formatted for it. Refused as 2 where `n` is not 2 to
+    /// 16, `node` is above it, or the capacity is not 4,096 to 1,048,576 bytes, as 15, and as 8. What the device holds
+    /// after a 15 is not known.
+    pub fn create(
+        alloc: Global,
+        device: D,
+        node: NodeNo,
+        n: u8,
+        capacity: u32,
+        run: u64,
+    ) -> Result<Node<D>, (D, Refusal)>
+        ensures place { IfOk result (λ made. place_of made ≡ place_with node n capacity run) }
+        ensures state { IfOk result (λ made. state_of made ≡ opened []) }
+        ensures kept { IfOk result (λ made. (own : ℕ) → kept_at made own ≡ None) }
+        ensures issued { IfOk result (λ made. issued_by made ≡ 0) }
+        ensures ready { IfOk result (λ made. (is_closed made ≡ false) × (is_failed made ≡ false)) }
+        ensures empty { IfOk result (λ made. AllReadAs (header_with node n capacity) (D.disk (device_of made)) []) }
+        ensures range { OnOk result (is_header (header_with node n capacity) ≡ true) }
+        ensures same { IfOk result (λ made. D.count (device_of made) ≡ D.count device) }
+        ensures reach { IfOk result (λ made. D.reach (device_of made) ≡ D.reach device) }
+
+        // Refused as 2 or 8, the device is as it was; as 15, the device failed.
+        ensures number { IfErr result (λ e. is_header (header_with node n capacity) ≡ false → (e.1 ≡ Refusal.BadNumber) × (e.0 ≡ device)) }
+        ensures fault { IfErr result (λ e. is_header (header_with node n capacity) ≡ true → IsFault (D.count device) (D.count e.0) e.1 ⊎ ((e.1 ≡ Refusal.OutOfMemory) × (e.0 ≡ device))) }
+        ensures works { 0 < D.reach device → 17 ≤ D.reach device → IfErr result (λ e. (e.1 ≡ Refusal.BadNumber) ⊎ (e.1 ≡ Refusal.OutOfMemory)) }
+    {
+        if !is_in_range(node, n, capacity) {
+            return Err((device, Refusal::BadNumber));
+        }
+        match Desk::open(alloc, node, n, capacity, run, Vec::new(alloc)) {
+            Err(refusal) => Err((device, refusal)),
+            Ok(desk) => match Journal::format(device, node, n, capacity) {
+                Ok(journal) => Ok(Node {
+                    alloc,
+                    desk,
+                    journal,
+                }),
+                Err((device, refusal)) => Err((device, refusal)),
+            },
+        }
+    }
+
+    /// The node that a device holds, which it makes stable first: it stands for the inputs that its journal holds, all of
+    /// them durable. Refused as 15; as 17 where there is no header; as 19 where it names another node or ring size; as 16
+    /// with the offset of what is damaged; as 24 with the number of the first input, counted from 0, that is not admitted
+    /// after those before it; and as 8 where it is met.
+    pub fn recover(
+        alloc: Global,
+        device: D,
+        node: NodeNo,
+        n: u8,
+        run: u64,
+    ) -> Result<Node<D>, (D, Refusal)>
+        ensures place { IfOk result (λ made. place_of made ≡ place_with node n (place_of made).capacity run) }
+        ensures state { IfOk result (λ made. state_of made ≡ opened (state_of made).inputs) }
+        ensures kept { IfOk result (λ made. (own : ℕ) → kept_at made own ≡ None) }
+        ensures issued { IfOk result (λ made. issued_by made ≡ 0) }
+        ensures ready { IfOk result (λ made. (is_closed made ≡ false) × (is_failed made ≡ false)) }
+        ensures lawful { IfOk result (λ made. IsLawful node n (place_of made).capacity fresh (state_of made).inputs) }
+
+        // Its inputs stood on the device at the start, and stand in every image that a stop may leave afterwards.
+        ensures reads { IfOk result (λ made. ReadsAs (header_at (place_of made)) (D.disk device).image (state_of made).inputs) }
+        ensures durable { IfOk result (λ made. AllReadAs (header_at (place_of made)) (D.disk (device_of made)) (state_of made).inputs) }
+
+        // A node that was stopped stands again for its durable inputs, or also for those that flew. It is refused only
+        // where the device fails or memory is not found, and then the device holds what it held.
+        ensures recovery { (capacity : ℕ) (s : NodeState) → IsLawful node n capacity fresh s.inputs → Holds (header_with node n capacity) (D.disk device) s
+            → IfOk result (λ made. (place_of made ≡ place_with node n capacity run) × ((keep : Bool) × (state_of made ≡ opened (left_by keep s)))) }
+        ensures recovery_err { (capacity : ℕ) (s : NodeState) → IsLawful node n capacity fresh s.inputs → Holds (header_with node n capacity) (D.disk device) s
+            → IfErr result (λ e. ((e.1 ≡ Refusal.OutOfMemory) ⊎ IsFault (D.count device) (D.count e.0) e.1) × Holds (header_with node n capacity) (D.disk e.0) s) }
+
+        // A refusal has its cause. While the device works it is the image's, or want of memory.
+        ensures refusal { IfErr result (λ e. IsUnrecovered node n (D.count device) (D.count e.0) (D.disk device).image e.1) }
+        ensures works { 0 < D.reach device → length (D.disk device).image ≤ D.reach device
+            → IfErr result (λ e. (e.1 ≡ Refusal.OutOfMemory) ⊎ (IsUnread node n (D.disk device).image e.1 ⊎ IsNotLawful node n (D.disk device).image e.1)) }
+
+        // No call failed where it is opened. A call that failed is told before all else.
+        ensures same { IfOk result (λ made. D.count (device_of made) ≡ D.count device) }
+        ensures first { IfErr result (λ e. IsFault (D.count device) (D.count e.0) e.1 ⊎ (D.count e.0 ≡ D.count device)) }
+
+        // The device is synced, and nothing else is done to it. What is told of an image is told of a synced one.
+        ensures disk { IfOk result (λ made. D.disk (device_of made) ≡ synced (D.disk device)) }
+        ensures disk_err { IfErr result (λ e. (D.disk e.0 ≡ D.disk device) ⊎ (D.disk e.0 ≡ synced (D.disk device))) }
+        ensures stable { IfErr result (λ e. IsFault (D.count device) (D.count e.0) e.1 ⊎ (D.disk e.0 ≡ synced (D.disk device))) }
+
+        // A stop at any moment leaves what it might have left at the start.
+        ensures any_moment { IfOk result (λ made. LeavesOnly D.clock D.left_since device (device_of made) (MayLeave (D.disk device))) }
+        ensures any_moment_err { IfErr result (λ e. LeavesOnly D.clock D.left_since device e.0 (MayLeave (D.disk device))) }
+        ensures reach { IfOk result (λ made. D.reach (device_of made) ≡ D.reach device) }
+        ensures reach_err { IfErr result (λ e. D.reach e.0 ≡ D.reach device) }
+    {
+        match Journal::reopen(alloc, device, node, n) {
+            Err((device, refusal)) => Err((device, refusal)),
+            Ok((journal, inputs)) => {
+                match Desk::open(alloc, node, n, journal.capacity(), run, inputs) {
+                    Ok(desk) => Ok(Node {
+                        alloc,
+                        desk,
+                        journal,
+                    }),
+                    Err(refusal) => Err((journal.into_device(), refusal)),
+                }
+            }
+        }
+    }
+
+    /// Answers a request, accepts its input where nothing is against it, and gives a ticket for the reply. Refused as 9
+    /// where it is closed or has failed, as 2 where a Take's message is of no node of the ring, as 6 at 2^64 - 1 tickets,
+    /// and as 8. Every other refusal is a reply.
+    pub fn submit(&mut self, question: Request) -> Result<Ticket, Refusal>
+        ensures ticket { IfOk result (λ ticket. shown ticket ≡ ticket_with (place_of self.old) (issued_by self.old) (answered (desk_of self.old) question)) }
+        ensures state { OnOk result (state_of self.new ≡ asked (place_of self.old).me (place_of self.old).n (place_of self.old).capacity fresh (state_of self.old) question) }
+        ensures kept { OnOk result ((own : ℕ) → kept_at self.new own ≡ (if nat_eq own (issued_by self.old) then Some (answered (desk_of self.old) question) else kept_at self.old own)) }
+        ensures issued { OnOk result (issued_by self.new ≡ issued_by self.old + 1) }
+        ensures refusal { IfErr result (λ refusal. (objection (desk_of self.old) question ≡ Some refusal) ⊎ ((objection (desk_of self.old) question ≡ None) × (refusal ≡ Refusal.OutOfMemory))) }
+        ensures free { OnOk result (objection (desk_of self.old) question ≡ None) }
+        ensures place { place_of self.new ≡ place_of self.old }
+        ensures ready { (is_closed self.new ≡ is_closed self.old) × (is_failed self.new ≡ is_failed self.old) }
+        ensures same { OnErr result ((state_of self.new ≡ state_of self.old) × (issued_by self.new ≡ issued_by self.old) × ((own : ℕ) → kept_at self.new own ≡ kept_at self.old own)) }
+        ensures device { device_of self.new ≡ device_of self.old }
+    {
+        self.desk.submit(question)
+    }
+
+    /// Ends a ticket whose reply rests on durable inputs alone, and releases the reply, with a stub of it. Refused as 10
+    /// where no such ticket is open here; where an input that the reply rests on is not durable yet, as 9 on a node that
+    /// has failed and else as 11. Then the ticket comes back.
+    pub fn redeem(&mut self, ticket: Ticket) -> Result<(Reply, Stub), (Ticket, Refusal)>
+        ensures released { IfOk result (λ r. IsHere (desk_of self.old) (shown ticket) (stub r.1)) }
+        ensures reply { IfOk result (λ r. r.0 ≡ (stub r.1).answer.reply) }
+        ensures durable { IfOk result (λ r. (stub r.1).answer.number ≤ (state_of self.old).durable) }
+        ensures ends { OnOk result ((own : ℕ) → kept_at self.new own ≡ (if nat_eq own (shown ticket).own then None else kept_at self.old own)) }
+        ensures refusal { IfErr result (λ e. IsSealed (desk_of self.old) (shown ticket) e.1) }
+        ensures back { IfErr result (λ e. shown e.0 ≡ shown ticket) }
+        ensures same { OnErr result ((own : ℕ) → kept_at self.new own ≡ kept_at self.old own) }
+        ensures place { place_of self.new ≡ place_of self.old }
+        ensures state { state_of self.new ≡ state_of self.old }
+        ensures issued { issued_by self.new ≡ issued_by self.old }
+        ensures ready { (is_closed self.new ≡ is_closed self.old) × (is_failed self.new ≡ is_failed self.old) }
+        ensures device { device_of self.new ≡ device_of self.old }
+    {
+        self.desk.redeem(ticket)
+    }
+
+    /// Ends a ticket with no reply, on a node that is closed or has failed. Refused as 10 where no such ticket is open
+    /// here, and the ticket comes back.
+    pub fn forfeit(&mut self, ticket: Ticket) -> Result<(), (Ticket, Refusal)>
+        requires ended { (is_closed self.old || is_failed self.old) ≡ true }
+        ensures here { OnOk result ((kept : Answered) × IsHere (desk_of self.old) (shown ticket) kept) }
+        ensures ends { OnOk result ((own : ℕ) → kept_at self.new own ≡ (if nat_eq own (shown ticket).own then None else kept_at self.old own)) }
+        ensures foreign { IfErr result (λ e. (e.1 ≡ Refusal.Foreign) × ((kept : Answered) → IsHere (desk_of self.old) (shown ticket) kept → ⊥)) }
+        ensures back { IfErr result (λ e. shown e.0 ≡ shown ticket) }
+        ensures same { OnErr result ((own : ℕ) → kept_at self.new own ≡ kept_at self.old own) }
+        ensures place { place_of self.new ≡ place_of self.old }
+        ensures state { state_of self.new ≡ state_of self.old }
+        ensures issued { issued_by self.new ≡ issued_by self.old }
+        ensures ready { (is_closed self.new ≡ is_closed self.old) × (is_failed self.new ≡ is_failed self.old) }
+        ensures device { device_of self.new ≡ device_of self.old }
+    {
+        self.desk.forfeit(ticket)
+    }
+
+    /// Takes no more requests; all else goes on.
+    pub fn close(&mut self)
+        ensures closed { is_closed self.new ≡ true }
+        ensures failed { is_failed self.new ≡ is_failed self.old }
+        ensures place { place_of self.new ≡ place_of self.old }
+        ensures state { state_of self.new ≡ state_of self.old }
+        ensures issued { issued_by self.new ≡ issued_by self.old }
+        ensures same { (own : ℕ) → kept_at self.new own ≡ kept_at self.old own }
+        ensures device { device_of self.new ≡ device_of self.old }
+    {
+        self.desk.close();
+    }
+
+    /// Whether it takes requests: it was not closed and has not failed.
+    pub fn is_open(&self) -> bool
+        ensures { result ≡ not (is_closed self.now || is_failed self.now) }
+    {
+        self.desk.is_open()
+    }
+
+    /// Makes the first inputs that wait durable, at most 64, and tells what they let the node release; nothing where none
+    /// waits. Refused as 9 where it has failed, as 15, after which it has failed, and as 8.
+    pub fn flush(&mut self) -> Result<Landed, Refusal>
+        ensures state { OnOk result (state_of self.new ≡ landed (launched (state_of self.old))) }
+        ensures count { IfOk result (λ l. l.count ≡ (launched (state_of self.old)).flying - (state_of self.old).durable) }
+        ensures packets { IfOk result (λ l. l.packets.items ≡ packets (place_of self.old).me (durable_in (state_of self.old)) (flying_in (launched (state_of self.old)))) }
+        ensures decisions { IfOk result (λ l. l.decisions.items ≡ decisions (place_of self.old).me (durable_in (state_of self.old)) (flying_in (launched (state_of self.old)))) }
+        ensures durable { OnOk result (AllReadAs (header_at (place_of self.old)) (D.disk (device_of self.new)) (durable_in (state_of self.new))) }
+        ensures works { OnOk result ((is_failed self.old ≡ false) × (is_failed self.new ≡ false)) }
+
+        // Refused as 9 where it had failed, and nowhere else; as 15, the device failed, and the batch flies for good.
+        ensures failed { IfErr result (λ why. is_failed self.old ≡ true → why ≡ Refusal.Failed) }
+        ensures cause { IfErr result (λ why. is_failed self.old ≡ false → IsFault (D.count (device_of self.old)) (D.count (device_of self.new)) why ⊎ (why ≡ Refusal.OutOfMemory)) }
+        ensures fault { IfErr result (λ why. IsFault (D.count (device_of self.old)) (D.count (device_of self.new)) why → (is_failed self.new ≡ true) × (state_of self.new ≡ launched (state_of self.old))) }
+        ensures same { IfErr result (λ why. (why ≡ Refusal.Failed) ⊎ (why ≡ Refusal.OutOfMemory)
+            → (state_of self.new ≡ state_of self.old) × (is_failed self.new ≡ is_failed self.old) × (device_of self.new ≡ device_of self.old)) }
+        ensures in_reach { 0 < D.reach (device_of self.old) → 17 + (place_of self.old).capacity ≤ D.reach (device_of self.old) → IfErr result (λ why. (why ≡ Refusal.Failed) ⊎ (why ≡ Refusal.OutOfMemory)) }
+
+        // A stop at any moment leaves the inputs that were durable, or also those that flew then.
+        ensures any_moment { LeavesOnly D.clock D.left_since (device_of self.old) (device_of self.new) (ReadsAsOneOf (header_at (place_of self.old)) (durable_in (state_of self.old)) (flown_in (state_of self.new))) }
+        ensures device { OnOk result (D.count (device_of self.new) ≡ D.count (device_of self.old)) }
+        ensures reach { D.reach (device_of self.new) ≡ D.reach (device_of self.old) }
+        ensures place { place_of self.new ≡ place_of self.old }
+        ensures closed { is_closed self.new ≡ is_closed self.old }
+        ensures issued { issued_by self.new ≡ issued_by self.old }
+        ensures kept { (own : ℕ) → kept_at self.new own ≡ kept_at self.old own }
+    {
+        match self.desk.launch() {
+            Err(refusal) => Err(refusal),
+            Ok(None) => Ok(Landed {
+                count: 0,
+                packets: Vec::new(self.alloc),
+                decisions: Vec::new(self.alloc),
+            }),
+            Ok(Some(batch)) => match self.journal.commit(batch) {
+                Ok(receipt) => Ok(land(&mut self.desk, receipt)),
+                Err(spoiled) => {
+                    fail(&mut self.desk, spoiled);
+                    Err(Refusal::Device(self.journal.failures()))
+                }
+            },
+        }
+    }
+
+    /// Ends a node that is closed or has failed, and gives its device.
+    pub fn into_device(self) -> D
+        requires ended { (is_closed self || is_failed self) ≡ true }
+        ensures device { result ≡ device_of self }
+        ensures lawful { IsLawful (place_of self).me (place_of self).n (place_of self).capacity fresh (state_of self).inputs }
+
+        // A stop leaves the inputs that were durable, or also those that flew.
+        ensures holds { Holds (header_at (place_of self)) (D.disk result) (state_of self) }
+        ensures durable { is_failed self ≡ false → AllReadAs (header_at (place_of self)) (D.disk result) (durable_in (state_of self)) }
+    {
+        let Node {
+            alloc: _,
+            desk: _,
+            journal,
+        } = self;
+        journal.into_device()
+    }
+}
+
+impl<D: Device> Node<FuseDevice<D>> {
+    ghost use Rattle.disk_model.specs.Fuse.{planned};
+    ghost use Rattle.disk_model.specs.FuseDevice.{inner_of, will_fail, own_faults};
+    ghost use Rattle.node_store.specs.Node.{place_of, state_of, kept_at, issued_by, is_closed, is_failed, device_of};
+
+    /// Sets the device's fuse anew: from now on `after` of its calls pass, and then the next fails if `once`, else all
+    /// later ones.
+    pub fn arm(&mut self, after: u64, once: bool)
+        ensures fuse { (k : ℕ) → will_fail (device_of self.new) k ≡ planned after once k }
+        ensures inner { inner_of (device_of self.new) ≡ inner_of (device_of self.old) }
+        ensures faults { own_faults (device_of self.new) ≡ own_faults (device_of self.old) }
+        ensures place { place_of self.new ≡ place_of self.old }
+        ensures state { state_of self.new ≡ state_of self.old }
+        ensures issued { issued_by self.new ≡ issued_by self.old }
+        ensures ready { (is_closed self.new ≡ is_closed self.old) × (is_failed self.new ≡ is_failed self.old) }
+        ensures same { (own : ℕ) → kept_at self.new own ≡ kept_at self.old own }
+    {
+        self.journal.arm(after, once);
+    }
+}
+
+// The batch that flies is durable.
+fn land(desk: &mut Desk, receipt: Receipt) -> Landed
+    requires works { desks.is_failed desk.old ≡ false }
+    requires flying { desks.IsFlying desk.old (receipted receipt) }
+    ensures count { result.count ≡ (desks.state_of desk.old).flying - (desks.state_of desk.old).durable }
+    ensures packets { result.packets.items ≡ packets (desks.place_of desk.old).me (durable_in (desks.state_of desk.old)) (desks.flying_in (desks.state_of desk.old)) }
+    ensures decisions { result.decisions.items ≡ decisions (desks.place_of desk.old).me (durable_in (desks.state_of desk.old)) (desks.flying_in (desks.state_of desk.old)) }
+    ensures state { desks.state_of desk.new ≡ landed (desks.state_of desk.old) }
+    ensures ready { (desks.is_closed desk.new ≡ desks.is_closed desk.old) × (desks.is_failed desk.new ≡ false) }
+    ensures place { desks.place_of desk.new ≡ desks.place_of desk.old }
+    ensures issued { desks.issued_by desk.new ≡ desks.issued_by desk.old }
+    ensures same { (own : ℕ) → desks.kept_at desk.new own ≡ desks.kept_at desk.old own }
+{
+    match desk.land(receipt) {
+        Ok(landed) => landed,
+        Err(_) => unreachable!(),
+    }
+}
+
+// The device failed with the batch that flies.
+fn fail(desk: &mut Desk, spoiled: Spoiled)
+    requires flying { desks.IsFlying desk.old (lost spoiled) }
+    ensures failed { desks.is_failed desk.new ≡ true }
+    ensures closed { desks.is_closed desk.new ≡ desks.is_closed desk.old }
+    ensures place { desks.place_of desk.new ≡ desks.place_of desk.old }
+    ensures state { desks.state_of desk.new ≡ desks.state_of desk.old }
+    ensures issued { desks.issued_by desk.new ≡ desks.issued_by desk.old }
+    ensures same { (own : ℕ) → desks.kept_at desk.new own ≡ desks.kept_at desk.old own }
+{
+    match desk.fail(spoiled) {
+        Ok(()) => {}
+        Err(_) => unreachable!(),
+    }
+}
+
+// Whether a node of this number, in a ring of `n` and with this capacity, may be.
+fn is_in_range(node: NodeNo, n: u8, capacity: u32) -> bool
+    ensures { result ≡ is_header (header_with node n capacity) }
+{
+    2 <= n && n <= 16 && node.number() <= n && 4096 <= capacity && capacity <= 1_048_576
+}
+
+#[cfg(test)]
+mod tests;

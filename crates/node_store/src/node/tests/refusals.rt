@@ -1,0 +1,136 @@
+// What is refused, with the device handed back.
+use super::*;
+use disk_model::Device;
+use gated_journal::{Batch, Journal};
+use ring_records::Input;
+
+#[test]
+fn nodes_and_capacities_out_of_range(rt: HostRuntime) {
+    for (number, n, capacity) in [
+        (1, 1, 4096),
+        (1, 17, 4096),
+        (4, 3, 4096),
+        (1, 3, 4095),
+        (1, 3, 1_048_577),
+    ] {
+        let device = empty_device(&rt);
+        match Node::create(rt.alloc(), device, node(&rt, number), n, capacity, 0) {
+            Ok(_made) => panic!(&rt; "created"),
+            Err((device, refusal)) => {
+                assert_eq!(rt; refusal, Refusal::BadNumber);
+                assert_eq!(rt; device.size(), 0);
+            }
+        }
+    }
+}
+
+#[test]
+fn a_device_that_fails_as_a_node_is_made(rt: HostRuntime) {
+    let device = FuseDevice::new(empty_device(&rt).into_inner(), 0, true);
+    match Node::create(rt.alloc(), device, node(&rt, 1), 3, 4096, 0) {
+        Ok(_made) => panic!(&rt; "created"),
+        Err((device, refusal)) => {
+            assert_eq!(rt; refusal, Refusal::Device(1));
+            assert_eq!(rt; device.failures(), 1);
+        }
+    }
+}
+
+/// The node is not recovered for this cause, each time that the device is tried.
+fn refuses<R: Abort + AllocGlobal>(
+    rt: &R,
+    device: FuseDevice<MemDevice>,
+    number: u8,
+    n: u8,
+    cause: Refusal,
+) -> FuseDevice<MemDevice> {
+    match Node::recover(rt.alloc(), device, node(rt, number), n, 1) {
+        Ok(_made) => panic!(rt; "recovered"),
+        Err((device, refusal)) => {
+            assert_eq!(rt; refusal, cause);
+            device
+        }
+    }
+}
+
+#[test]
+fn nothing_was_formatted(rt: HostRuntime) {
+    let device = refuses(&rt, empty_device(&rt), 1, 3, Refusal::NotFormatted);
+    refuses(&rt, device, 1, 3, Refusal::NotFormatted);
+}
+
+#[test]
+fn another_node_or_ring(rt: HostRuntime) {
+    let mut made = created(&rt, 1, 3);
+    made.close();
+    let device = refuses(&rt, made.into_device(), 2, 3, Refusal::WrongNode);
+    let device = refuses(&rt, device, 1, 4, Refusal::WrongNode);
+    assert_eq!(rt; counts(&recovered(&rt, device, 1)), (0, 0));
+}
+
+#[test]
+fn an_open_gate_with_no_frame(rt: HostRuntime) {
+    let mut made = created(&rt, 1, 3);
+    made.close();
+    let mut device = made.into_device();
+    assert!(rt; device.write_at(16, &[1]).is_ok());
+    let device = refuses(&rt, device, 1, 3, Refusal::Damaged(16));
+    refuses(&rt, device, 1, 3, Refusal::Damaged(16));
+}
+
+/// A device whose journal, of node 1 of 3, holds one credit of a message that was never sent.
+fn unlawful<R: Abort + AllocGlobal>(rt: &R) -> FuseDevice<MemDevice> {
+    let Ok(mut journal) = Journal::format(empty_device(rt), node(rt, 1), 3, 4096) else {
+        panic!(rt; "not formatted");
+    };
+    let inputs = [Input::Acked { upto: 1 }];
+    let batch = Batch::new(rt.alloc(), journal.node(), 0, &inputs).expect(rt, "a batch");
+    assert!(rt; !journal.is_spoiled());
+    assert!(rt; batch.node() == journal.node());
+    assert!(rt; batch.first() == journal.len());
+    assert!(rt; journal.room() >= batch.cost());
+    match journal.commit(batch) {
+        Ok(receipt) => {
+            receipt.into_parts();
+        }
+        Err(spoiled) => {
+            spoiled.into_parts();
+        }
+    }
+    journal.into_device()
+}
+
+#[test]
+fn inputs_that_are_not_lawful(rt: HostRuntime) {
+    let device = refuses(&rt, unlawful(&rt), 1, 3, Refusal::Unlawful(0));
+    refuses(&rt, device, 1, 3, Refusal::Unlawful(0));
+}
+
+#[test]
+fn a_device_that_fails_as_a_node_is_recovered(rt: HostRuntime) {
+    for after in 0..3 {
+        let mut made = created(&rt, 1, 3);
+        made.close();
+        let device = FuseDevice::new(made.into_device().into_inner(), after, true);
+        let device = refuses(&rt, device, 1, 3, Refusal::Device(1));
+        assert_eq!(rt; counts(&recovered(&rt, device, 1)), (0, 0));
+    }
+}
+
+#[test]
+fn a_closed_node_takes_no_requests(rt: HostRuntime) {
+    let mut made = created(&rt, 1, 3);
+    let stood = asks(&rt, &mut made, stand(&rt, 5, 10), 1);
+    assert!(rt; made.is_open());
+    made.close();
+    match made.submit(Request::Who(key(&rt, 5))) {
+        Ok(_ticket) => panic!(&rt; "a ticket"),
+        Err(refusal) => assert_eq!(rt; refusal, Refusal::Failed),
+    }
+    flushes(&rt, &mut made, 1);
+    redeems(&rt, &mut made, stood, Reply::Stood);
+    match made.submit(Request::Take(0, token(&rt, 10, 4))) {
+        Ok(_ticket) => panic!(&rt; "a ticket"),
+        Err(refusal) => assert_eq!(rt; refusal, Refusal::Failed),
+    }
+}
