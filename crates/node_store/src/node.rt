@@ -8,7 +8,7 @@ ghost use Rattle.gated_journal.specs.Journal as journals;
 ghost use Rattle.gated_journal.specs.Reading.{header_with, is_header, ReadsAs, AllReadAs, ReadsAsOneOf};
 ghost use Rattle.gated_journal.specs.Unread.{IsFault, IsUnread};
 ghost use Rattle.group_commit.specs.Desk as desks;
-ghost use Rattle.group_commit.specs.Kept.{Answered, place_with};
+ghost use Rattle.group_commit.specs.Kept.{Answered, IsCount, place_with};
 ghost use Rattle.node_store.specs.Props.{Stands-prop};
 ghost use Rattle.node_store.specs.Recovery.{IsNotLawful, IsUnrecovered};
 ghost use Rattle.node_store.specs.State.{header_at, durable_in, flown_in, left_by, Holds, Stands};
@@ -215,6 +215,13 @@ impl<D: Device> Node<D> {
         self.desk.is_open()
     }
 
+    /// How many tickets are open: given, and neither redeemed nor forfeited.
+    pub fn open_tickets(&self) -> usize
+        ensures { IsCount (kept_at self.now) result }
+    {
+        self.desk.open_tickets()
+    }
+
     /// Makes the first inputs that wait durable, at most 64, and tells what they let the node release; nothing where none
     /// waits. Refused as 9 where it has failed, as 15, after which it has failed, and as 8.
     pub fn flush(&mut self) -> Result<Landed, Refusal>
@@ -259,9 +266,10 @@ impl<D: Device> Node<D> {
         }
     }
 
-    /// Ends a node that is closed or has failed, and gives its device.
+    /// Ends a node that is closed or has failed and has no open ticket, and gives its device.
     pub fn into_device(self) -> D
         requires ended { (is_closed self || is_failed self) ≡ true }
+        requires spent { IsCount (kept_at self) 0 }
         ensures device { result ≡ device_of self }
         ensures lawful { IsLawful (place_of self).me (place_of self).n (place_of self).capacity fresh (state_of self).inputs }
 

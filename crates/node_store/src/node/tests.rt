@@ -120,11 +120,18 @@ fn counts(made: &Stored) -> (usize, u64) {
     (made.desk.history().len(), made.desk.durable())
 }
 
+/// The device of a node that takes no requests and has no open ticket.
+fn ended(rt: &impl Abort, made: Stored) -> FuseDevice<MemDevice> {
+    assert!(rt; !made.is_open());
+    assert!(rt; made.open_tickets() == 0);
+    made.into_device()
+}
+
 /// What a stop leaves of a node, whose device is torn so.
 fn stopped<R: Abort + AllocGlobal>(rt: &R, made: Stored, tear: Tear, number: u8) -> Stored {
     let mut made = made;
     made.close();
-    let mut device = made.into_device().into_inner();
+    let mut device = ended(rt, made).into_inner();
     device.crash(tear);
     recovered(rt, FuseDevice::idle(device), number)
 }

@@ -43,6 +43,6 @@ fn refused_growths(rt: HostRuntime) {
     assert_eq!(rt; flushes_at_last(&rt, &mut made).packets.len(), 1);
     redeems(&rt, &mut made, stood, Reply::Stood);
     made.close();
-    let made = recovers_at_last(&rt, made.into_device());
+    let made = recovers_at_last(&rt, ended(&rt, made));
     assert_eq!(rt; counts(&made), (1, 1));
 }

@@ -63,7 +63,7 @@ fn nothing_was_formatted(rt: HostRuntime) {
 fn another_node_or_ring(rt: HostRuntime) {
     let mut made = created(&rt, 1, 3);
     made.close();
-    let device = refuses(&rt, made.into_device(), 2, 3, Refusal::WrongNode);
+    let device = refuses(&rt, ended(&rt, made), 2, 3, Refusal::WrongNode);
     let device = refuses(&rt, device, 1, 4, Refusal::WrongNode);
     assert_eq!(rt; counts(&recovered(&rt, device, 1)), (0, 0));
 }
@@ -72,7 +72,7 @@ fn another_node_or_ring(rt: HostRuntime) {
 fn an_open_gate_with_no_frame(rt: HostRuntime) {
     let mut made = created(&rt, 1, 3);
     made.close();
-    let mut device = made.into_device();
+    let mut device = ended(&rt, made);
     assert!(rt; device.write_at(16, &[1]).is_ok());
     let device = refuses(&rt, device, 1, 3, Refusal::Damaged(16));
     refuses(&rt, device, 1, 3, Refusal::Damaged(16));
@@ -111,7 +111,7 @@ fn a_device_that_fails_as_a_node_is_recovered(rt: HostRuntime) {
     for after in 0..3 {
         let mut made = created(&rt, 1, 3);
         made.close();
-        let device = FuseDevice::new(made.into_device().into_inner(), after, true);
+        let device = FuseDevice::new(ended(&rt, made).into_inner(), after, true);
         let device = refuses(&rt, device, 1, 3, Refusal::Device(1));
         assert_eq!(rt; counts(&recovered(&rt, device, 1)), (0, 0));
     }
