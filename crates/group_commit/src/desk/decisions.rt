@@ -11,7 +11,7 @@ impl Desk {
 
     /// A decision for each key with a leader in the durable inputs, in order of key.
     pub fn decisions(&self) -> Result<Vec<Decision>, AllocError>
-        ensures leaders { IfOk result (λ list. AreLeaders (place_of self.now).me (take (state_of self.now).durable (state_of self.now).inputs) list.items) }
+        ensures { IfOk result (λ list. AreLeaders (place_of self.now).me (take (state_of self.now).durable (state_of self.now).inputs) list.items) }
     {
         let decided = &self.outbox.released.decisions;
         let mut decisions = Vec::from_slice(*decided.allocator(), decided)?;
