@@ -457,6 +457,7 @@ fn accept(
     inputs.extend_from_slice(&[*input])
 }
 
+mod decisions;
 #[cfg(test)]
 mod tests;
 mod vouch;

@@ -1,6 +1,7 @@
 pub mod Admission
 pub mod Compare
 pub mod Counts
+pub mod Decisions
 pub mod Emission
 pub mod Fields
 pub mod Growth

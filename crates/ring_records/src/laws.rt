@@ -2,6 +2,7 @@
 ghost use Rattle.std.specs.Prelude.{◌≡◌, ◌↔◌, ◌≤◌, ◌+◌, ◌||◌, ℕ, true, false, if◌then◌else◌, List, [], ◌∷◌, ◌++◌, Some, None, slice_get, unwrap_or, length, Ok};
 ghost use Rattle.std.specs.List.{cons_option, Contains};
 ghost use Rattle.ring_records.specs.declared.candidate.Candidate.{Candidate};
+ghost use Rattle.ring_records.specs.declared.decision.Decision.{Decision};
 ghost use Rattle.ring_records.specs.declared.input.Input.{Input};
 ghost use Rattle.ring_records.specs.declared.key.Key.{Key};
 ghost use Rattle.ring_records.specs.declared.msg.Msg.{Msg};
@@ -14,7 +15,7 @@ ghost use Rattle.ring_records.specs.History.{names, touched, bid_for, stood, mes
 ghost use Rattle.ring_records.specs.Leader.{makes_leader, leader, latest};
 ghost use Rattle.ring_records.specs.Lists.{or_else};
 ghost use Rattle.ring_records.specs.Record.{AreBytes, HasRecord, BeginsWith, record_of, record_read};
-ghost use Rattle.ring_records.specs.Release.{packets, window};
+ghost use Rattle.ring_records.specs.Release.{packets, decisions, window, AreLeaders};
 ghost use Rattle.ring_records.specs.Ring.{IsLegal, part};
 ghost use Rattle.ring_records.specs.WorkedRun.{red_5, winner, first_election};
 
@@ -54,6 +55,12 @@ pub fn latest_leads()
     ensures leads { (me : ℕ) (h : List Input) (group : List ℕ) (term : ℕ) (c : Candidate) → latest me h group ≡ Some (term, c) → leader me h (record { group = group; term = term }) ≡ Some c }
     ensures greatest { (me : ℕ) (h : List Input) (key : Key) (c : Candidate) → leader me h key ≡ Some c → ((led : ℕ × Candidate) × (latest me h key.group ≡ Some led) × (key.term ≤ led.0)) }
     ensures none { (me : ℕ) (h : List Input) (group : List ℕ) (term : ℕ) → latest me h group ≡ None → leader me h (record { group = group; term = term }) ≡ None }
+{}
+
+/// The decisions of a history tell its leaders, each of them and nothing else. In order of key there is one list of them.
+pub fn leaders_listed()
+    ensures decided { (me : ℕ) (h : List Input) (d : Decision) → (Contains (decisions me [] h) d ↔ (leader me h d.key ≡ Some d.leader)) }
+    ensures one { (me : ℕ) (h : List Input) (list other : List Decision) → AreLeaders me h list → AreLeaders me h other → list ≡ other }
 {}
 
 /// An input is admitted exactly where no cause to refuse it is found, and the history alone allows it exactly where

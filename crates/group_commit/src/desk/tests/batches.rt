@@ -13,7 +13,11 @@ fn journal<R: Abort + AllocGlobal>(rt: &R) -> Journal<FuseDevice<MemDevice>> {
 }
 
 /// Commits the batch to a new journal, whose device fails at once if `fails`.
-fn commit<R: Abort + AllocGlobal>(rt: &R, batch: Batch, fails: bool) -> Result<Receipt, Spoiled> {
+pub fn commit<R: Abort + AllocGlobal>(
+    rt: &R,
+    batch: Batch,
+    fails: bool,
+) -> Result<Receipt, Spoiled> {
     let mut journal = journal(rt);
     if fails {
         journal.arm(0, false);
@@ -26,7 +30,7 @@ fn commit<R: Abort + AllocGlobal>(rt: &R, batch: Batch, fails: bool) -> Result<R
 }
 
 /// The batch that the desk launches: so many inputs of node 1 from number 0 on.
-fn launches(rt: &impl Abort, desk: &mut Desk, count: usize) -> Batch {
+pub fn launches(rt: &impl Abort, desk: &mut Desk, count: usize) -> Batch {
     match desk.launch() {
         Ok(Some(batch)) => {
             assert_eq!(rt; (batch.node().number(), batch.first()), (1, 0));
