@@ -16,6 +16,7 @@ pub mod OneKey
 pub mod Parts
 pub mod Places
 pub mod Records
+pub mod Releases
 pub mod Replies
 pub mod Ring
 pub mod WorkedRun
