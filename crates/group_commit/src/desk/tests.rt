@@ -5,6 +5,7 @@ use std::alloc::AllocGlobal;
 use std::process::Abort;
 
 mod batches;
+mod landing;
 mod refusals;
 mod replies;
 mod rows;

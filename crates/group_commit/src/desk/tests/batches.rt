@@ -13,7 +13,11 @@ fn journal<R: Abort + AllocGlobal>(rt: &R) -> Journal<FuseDevice<MemDevice>> {
 }
 
 /// Commits the batch to a new journal, whose device fails at once if `fails`.
-fn commit<R: Abort + AllocGlobal>(rt: &R, batch: Batch, fails: bool) -> Result<Receipt, Spoiled> {
+pub fn commit<R: Abort + AllocGlobal>(
+    rt: &R,
+    batch: Batch,
+    fails: bool,
+) -> Result<Receipt, Spoiled> {
     let mut journal = journal(rt);
     if fails {
         journal.arm(0, false);
@@ -39,7 +43,7 @@ fn launches(rt: &impl Abort, desk: &mut Desk, count: usize) -> Batch {
 }
 
 /// The desk launches nothing: for this cause, or since nothing waits.
-fn launches_none(rt: &impl Abort, desk: &mut Desk, cause: Option<Refusal>) {
+pub fn launches_none(rt: &impl Abort, desk: &mut Desk, cause: Option<Refusal>) {
     match desk.launch() {
         Ok(Some(_batch)) => panic!(rt; "a batch"),
         Ok(None) => assert!(rt; cause.is_none()),
