@@ -6,6 +6,7 @@ use std::process::Abort;
 
 mod batches;
 mod decisions;
+mod landing;
 mod refusals;
 mod replies;
 mod rows;

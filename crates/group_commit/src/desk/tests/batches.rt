@@ -43,7 +43,7 @@ pub fn launches(rt: &impl Abort, desk: &mut Desk, count: usize) -> Batch {
 }
 
 /// The desk launches nothing: for this cause, or since nothing waits.
-fn launches_none(rt: &impl Abort, desk: &mut Desk, cause: Option<Refusal>) {
+pub fn launches_none(rt: &impl Abort, desk: &mut Desk, cause: Option<Refusal>) {
     match desk.launch() {
         Ok(Some(_batch)) => panic!(rt; "a batch"),
         Ok(None) => assert!(rt; cause.is_none()),

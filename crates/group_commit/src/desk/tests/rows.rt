@@ -29,17 +29,41 @@ pub fn leader(rt: &impl Abort, number: u32, node: u8) -> Candidate {
     Candidate { bid, node }
 }
 
-/// A request for term 5 of group `red`, in plain numbers, so that the rows of a test are data without calls.
+/// A request for group `red`, in plain numbers, so that the rows of a test are data without calls. It is for term 5
+/// where it names none.
 #[derive(Clone, Copy)]
 pub enum Ask {
     /// The bid.
     Stand(u32),
+    /// The term and the bid.
+    StandFor(u32, u32),
     /// The number of the message, and the bid and the node of the candidate that it names.
     TakeToken(u64, u32, u8),
     TakeElected(u64, u32, u8),
+    /// The number of the message, the term, and the bid and the node of the leader.
+    TakeElectedFor(u64, u32, u32, u8),
     Acked(u64),
     Who,
     Latest,
+}
+
+/// A Stand for the term with the bid.
+fn stand(rt: &impl Abort, term: u32, number: u32) -> Request {
+    Request::Stand(key(rt, term), bid(rt, number))
+}
+
+/// The token of the candidate of this bid and node for the term.
+pub fn token(rt: &impl Abort, term: u32, bid: u32, node: u8) -> Msg {
+    let key = key(rt, term);
+    let candidate = leader(rt, bid, node);
+    Msg::Token { key, candidate }
+}
+
+/// The message that the candidate of this bid and node leads in the term.
+pub fn elected(rt: &impl Abort, term: u32, bid: u32, node: u8) -> Msg {
+    let key = key(rt, term);
+    let candidate = leader(rt, bid, node);
+    Msg::Elected { key, candidate }
 }
 
 impl Ask {
@@ -47,13 +71,11 @@ impl Ask {
         let key = key(rt, 5);
         match self {
             Ask::Stand(number) => Request::Stand(key, bid(rt, number)),
-            Ask::TakeToken(no, number, node) => {
-                let candidate = leader(rt, number, node);
-                Request::Take(no, Msg::Token { key, candidate })
-            }
-            Ask::TakeElected(no, number, node) => {
-                let candidate = leader(rt, number, node);
-                Request::Take(no, Msg::Elected { key, candidate })
+            Ask::StandFor(term, number) => stand(rt, term, number),
+            Ask::TakeToken(no, bid, node) => Request::Take(no, token(rt, 5, bid, node)),
+            Ask::TakeElected(no, bid, node) => Request::Take(no, elected(rt, 5, bid, node)),
+            Ask::TakeElectedFor(no, term, bid, node) => {
+                Request::Take(no, elected(rt, term, bid, node))
             }
             Ask::Acked(upto) => Request::Acked(upto),
             Ask::Who => Request::Who(key),
