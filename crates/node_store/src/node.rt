@@ -1,17 +1,17 @@
-ghost use Rattle.std.specs.Prelude.{Bool, length, ◌≡◌, ◌+◌, ◌-◌, ◌⊎◌, ◌||◌, ◌<◌, ◌≤◌, ◌^◌, ℕ, [], not, true, false, Some, None, min, nat_eq, if◌then◌else◌, IsOk, IfOk, IfErr, OnOk, OnErr};
+ghost use Rattle.std.specs.Prelude.{◌≡◌, ◌+◌, ◌-◌, ◌⊎◌, ◌||◌, ◌<◌, ◌≤◌, ℕ, Bool, [], length, not, true, false, Some, None, nat_eq, if◌then◌else◌, IfOk, IfErr, OnOk, OnErr};
 ghost use Rattle.disk_model.specs.Disk.{MayLeave, LeavesOnly, synced};
 ghost use Rattle.ring_records.specs.Admission.{fresh, IsLawful};
 ghost use Rattle.ring_records.specs.Answer.{NodeState, asked, opened, launched, landed};
+ghost use Rattle.ring_records.specs.Release.{packets, decisions};
 ghost use Rattle.gated_journal.specs.Batch.{landed as receipted, lost};
 ghost use Rattle.gated_journal.specs.Journal as journals;
 ghost use Rattle.gated_journal.specs.Reading.{header_with, is_header, ReadsAs, AllReadAs, ReadsAsOneOf};
 ghost use Rattle.gated_journal.specs.Unread.{IsFault, IsUnread};
 ghost use Rattle.group_commit.specs.Desk as desks;
 ghost use Rattle.group_commit.specs.Kept.{Answered, place_with};
-ghost use Rattle.node_store.specs.State.{header_at, durable_in, flown_in, left_by, Holds, Stands};
-ghost use Rattle.ring_records.specs.Release.{packets, decisions};
-ghost use Rattle.node_store.specs.Recovery.{IsNotLawful, IsUnrecovered};
 ghost use Rattle.node_store.specs.Props.{Stands-prop};
+ghost use Rattle.node_store.specs.Recovery.{IsNotLawful, IsUnrecovered};
+ghost use Rattle.node_store.specs.State.{header_at, durable_in, flown_in, left_by, Holds, Stands};
 
 use disk_model::{Device, FuseDevice};
 use gated_journal::{Journal, Receipt, Spoiled};
