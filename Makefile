@@ -1,5 +1,5 @@
 # run: an example, before any proof. test: the merge gate. ringctl and the bench programs: the proved programs. bench: their times.
-.PHONY: run test ringctl core_bench device_bench journal_bench bench clean
+.PHONY: run test ringctl core_bench device_bench journal_bench node_bench bench clean
 
 run:
 	@bench/try.sh examples/first_election.ring
@@ -28,8 +28,13 @@ journal_bench:
 	cd crates/journal_bench && rt run < /dev/null
 	cp crates/journal_bench/out/journal_bench bin/journal_bench
 
-bench: ringctl core_bench device_bench journal_bench
-	@bench/measure.sh bin/ringctl bin/core_bench bin/device_bench bin/journal_bench
+node_bench:
+	@mkdir -p bin
+	cd crates/node_bench && rt run < /dev/null
+	cp crates/node_bench/out/node_bench bin/node_bench
+
+bench: ringctl core_bench device_bench journal_bench node_bench
+	@bench/measure.sh bin/ringctl bin/core_bench bin/device_bench bin/journal_bench bin/node_bench
 
 clean:
 	rm -rf bin crates/*/out

@@ -1,22 +1,25 @@
 #!/usr/bin/env bash
-# measure.sh RINGCTL CORE_BENCH DEVICE_BENCH JOURNAL_BENCH: times the programs on some work and on more of it, the best of fifteen runs
-# each, and prints the times, their ratios and what was counted. It asserts nothing.
+# measure.sh RINGCTL CORE_BENCH DEVICE_BENCH JOURNAL_BENCH NODE_BENCH: times the programs on some work and on more of it, the best of
+# fifteen runs each, and prints the times, their ratios and what was counted. It asserts nothing.
 set -eu
 ringctl=$(realpath "$1")
 core_bench=$(realpath "$2")
 device_bench=$(realpath "$3")
 journal_bench=$(realpath "$4")
+node_bench=$(realpath "$5")
 cd "$(dirname "$0")"
 work=$(mktemp -d)
 trap 'rm -rf "$work"' EXIT
 
-# best IN OUT PROGRAM WORD..: the nanoseconds of the fastest of fifteen runs.
+# best IN OUT PROGRAM WORD..: the nanoseconds of the fastest of fifteen runs, each without the devices of the one before. Fails where one
+# does.
 best() {
     local input=$1 output=$2 least=0 begin end
     shift 2
     for _ in 1 2 3 4 5 6 7 8 9 10 11 12 13 14 15; do
+        rm -f "$work"/*.bin
         begin=$(date +%s%N)
-        "$@" < "$input" > "$output"
+        "$@" < "$input" > "$output" || return
         end=$(date +%s%N)
         if [ "$least" -eq 0 ] || [ $((end - begin)) -lt "$least" ]; then least=$((end - begin)); fi
     done
@@ -26,7 +29,8 @@ best() {
 echo "ringctl, a script:"
 for lines in 29000 58000; do
     awk -v lines="$lines" -f script.awk > "$work/$lines.ring"
-    eval "time_$lines=$(best "$work/$lines.ring" "$work/$lines.out" "$ringctl")"
+    nanoseconds=$(best "$work/$lines.ring" "$work/$lines.out" "$ringctl")
+    eval "time_$lines=$nanoseconds"
 done
 for lines in 29000 58000; do
     eval "nanoseconds=\$time_$lines"
@@ -59,7 +63,7 @@ done
 awk -v half="$time_1048576_500000" -v whole="$time_1048576_1000000" -v small="$time_1024_1000000" \
     'BEGIN { printf "twice the writes: %.2f times as long; a thousand times the bytes: %.2f times as long\n", whole / half, whole / small }'
 
-# The file is in the folder of temporary files. Its syncs are the disk's, so its times say little and their ratio more.
+# Each file is new, in the folder of temporary files. Its syncs are the disk's, so its times say little and their ratio more.
 echo "journal_bench, batches of 64 inputs:"
 idle=$(best /dev/null "$work/counts" "$journal_bench" memory 0)
 memory=$(best /dev/null "$work/counts" "$journal_bench" memory 4960)
@@ -71,3 +75,20 @@ awk -v idle="$idle" -v memory="$memory" -v full="$full" -v reopened="$reopened" 
     printf "4960 commits to devices in memory: %.4f s, %d a second\n", (memory - idle) / 1e9, 4960 * 1e9 / (memory - idle)
     printf "reopening a full journal of 1 MiB: %.4f s\n", (reopened - full) / 10 / 1e9
     printf "100 commits to a file: %.4f s, %.2f times the same writes and syncs with no journal\n", file / 1e9, file / bare }'
+
+# Each time is less that of the same program with no flush, or before the node is recovered.
+echo "node_bench, flushes of 64 submits, whose tickets are redeemed:"
+idle=$(best /dev/null "$work/counts" "$node_bench" memory 0)
+half=$(best /dev/null "$work/counts" "$node_bench" memory 282)
+whole=$(best /dev/null "$work/counts" "$node_bench" memory 564)
+memory=$(best /dev/null "$work/counts" "$node_bench" memory 5640)
+full=$(best /dev/null "$work/counts" "$node_bench" recover 0)
+recovered=$(best /dev/null "$work/counts" "$node_bench" recover 10)
+empty=$(best /dev/null "$work/counts" "$node_bench" bare 0 "$work/bare.bin")
+file=$(best /dev/null "$work/counts" "$node_bench" file 100 "$work/node.bin")
+bare=$(best /dev/null "$work/counts" "$node_bench" bare 100 "$work/bare.bin")
+awk -v idle="$idle" -v half="$half" -v whole="$whole" -v memory="$memory" -v full="$full" -v recovered="$recovered" -v empty="$empty" -v file="$file" -v bare="$bare" 'BEGIN {
+    printf "5640 flushes of nodes in memory: %.4f s, %d a second, %d submits a second\n", (memory - idle) / 1e9, 5640 * 1e9 / (memory - idle), 64 * 5640 * 1e9 / (memory - idle)
+    printf "twice the flushes of one node: %.2f times as long\n", (whole - idle) / (half - idle)
+    printf "recovering a full node of 1 MiB: %.4f s\n", (recovered - full) / 10 / 1e9
+    printf "100 flushes of a node on a file: %.4f s, %.2f times the same writes and syncs with no node\n", (file - empty) / 1e9, (file - empty) / (bare - empty) }'

@@ -1,0 +1,12 @@
+-- The tickets of a node.
+use Rattle.disk_model.specs.declared.device.Device.{Ghosts}
+use Rattle.group_commit.specs.Desk.{IsHere}
+use Rattle.group_commit.specs.Kept.{Answered}
+use Rattle.group_commit.specs.Ticket.{TicketView}
+use Rattle.node_store.specs.Node.{desk_of}
+use Rattle.node_store.specs.declared.node.Node.{Node}
+
+module _ {D : Type 0} {g : Ghosts D} where
+  -- the node keeps a reply for the ticket
+  abbrev pub IsOpen : Node D g → TicketView → Type 0
+  IsOpen node ticket = (kept : Answered) × IsHere (desk_of node) ticket kept

@@ -1,0 +1,200 @@
+//! `node_bench memory FLUSHES` has nodes in memory, each of 1 MiB and made when the one before is full, take 64 messages
+//! for each flush, and redeems their tickets behind it. `file FLUSHES PATH` has them on a file, and `bare FLUSHES PATH`
+//! writes and syncs as often with no node. `recover TIMES` fills a node in memory, and recovers it so often. It prints a
+//! count: of packets that landed, of bytes of the file, of inputs recovered. Where it has no words it flushes 10 times in
+//! memory. bench/measure.sh times it.
+#![tactic(auto)]
+
+ghost use Rattle.std.specs.Prelude.{◌≡◌, ◌<◌, ◌≤◌, ℕ, false, nat_eq};
+ghost use Rattle.group_commit.specs.Ticket.{shown};
+ghost use Rattle.node_bench.specs.Tickets.{IsOpen};
+ghost use Rattle.node_store.specs.Node.{place_of, kept_at, issued_by};
+
+use disk_model::{Device, DeviceFault, FileDevice, MemDevice};
+use group_commit::Ticket;
+use node_store::Node;
+use ring_records::{Bid, Candidate, GroupName, Key, Msg, NodeNo, Refusal, Request, Term};
+use std::alloc::{AllocGlobal, Global};
+use std::env;
+use std::process::ExitCode;
+
+/// The bytes that a node's inputs may take.
+const CAPACITY: u32 = 1 << 20;
+
+/// How many flushes of 64 messages fill a node: each takes 64 times 29 bytes.
+const FULL: u64 = 564;
+
+/// The key of group `red` and this term.
+fn key(term: u32) -> Result<Key, Refusal> {
+    let group = GroupName::read(b"red")?;
+    let term = Term::new(term)?;
+    Ok(Key { group, term })
+}
+
+/// Has node 1 take message `no` of its predecessor: a token of node 2 for a term of its own, which is sent on.
+fn take(no: u32) -> Result<Request, Refusal> {
+    let key = key(no.wrapping_add(1))?;
+    let (bid, node) = (Bid::new(7)?, NodeNo::new(2)?);
+    let candidate = Candidate { bid, node };
+    Ok(Request::Take(u64::from(no), Msg::Token { key, candidate }))
+}
+
+/// Redeems a ticket that is open. Where its reply is not released, closes the node and forfeits the ticket.
+fn redeem<D: Device>(node: &mut Node<D>, ticket: Ticket) -> Result<(), Refusal>
+    requires open { IsOpen node.old (shown ticket) }
+    ensures place { place_of node.new ≡ place_of node.old }
+    ensures issued { issued_by node.new ≡ issued_by node.old }
+    ensures others { (own : ℕ) → nat_eq own (shown ticket).own ≡ false → kept_at node.new own ≡ kept_at node.old own }
+{
+    match node.redeem(ticket) {
+        Ok((_reply, _stub)) => Ok(()),
+        Err((ticket, refusal)) => {
+            node.close();
+            match node.forfeit(ticket) {
+                Ok(()) => Err(refusal),
+                Err(_) => unreachable!(),
+            }
+        }
+    }
+}
+
+/// Takes so many messages from `no` on, flushes, and redeems their tickets. Tells how many packets landed.
+fn flush<D: Device>(node: &mut Node<D>, no: u32, count: u32) -> Result<u64, Refusal>
+    ensures place { place_of node.new ≡ place_of node.old }
+    ensures issued { issued_by node.old ≤ issued_by node.new }
+    ensures earlier { (own : ℕ) → own < issued_by node.old → kept_at node.new own ≡ kept_at node.old own }
+{
+    if count == 0 {
+        return match node.flush() {
+            Ok(landed) => Ok(landed.packets.len() as u64),
+            Err(refusal) => Err(refusal),
+        };
+    }
+    let ticket = node.submit(take(no)?)?;
+    let landed = flush(node, no.wrapping_add(1), count - 1);
+    redeem(node, ticket).and(landed)
+}
+
+/// Flushes a node so often. Tells how many packets landed.
+fn fill<D: Device>(node: &mut Node<D>, flushes: u64) -> Result<u64, Refusal> {
+    let mut no = 0u32;
+    let mut landed = 0u64;
+    for _ in 0..flushes {
+        landed = landed.wrapping_add(flush(node, no, 64)?);
+        no = no.wrapping_add(64);
+    }
+    Ok(landed)
+}
+
+/// Ends a node, all of whose tickets are redeemed.
+fn end<D: Device>(node: Node<D>) -> D {
+    let mut ended = node;
+    ended.close();
+    ended.into_device()
+}
+
+/// Has a new node on the device, flushes it so often, and ends it. Tells how many packets landed.
+fn one_node<D: Device + Drop>(alloc: Global, device: D, flushes: u64) -> Result<(D, u64), Refusal> {
+    match Node::create(alloc, device, NodeNo::new(1)?, 3, CAPACITY, 0) {
+        Ok(mut node) => {
+            let landed = fill(&mut node, flushes)?;
+            Ok((end(node), landed))
+        }
+        Err((_device, refusal)) => Err(refusal),
+    }
+}
+
+/// So many flushes of nodes on the device, one after the other. Tells how many packets landed.
+fn nodes<D: Device + Drop>(alloc: Global, device: D, flushes: u64) -> Result<u64, Refusal> {
+    let (mut device, mut landed) = one_node(alloc, device, flushes % FULL)?;
+    for _ in 0..flushes / FULL {
+        let (after, more) = one_node(alloc, device, FULL)?;
+        device = after;
+        landed = landed.wrapping_add(more);
+    }
+    Ok(landed)
+}
+
+fn in_memory(alloc: Global) -> Result<MemDevice, Refusal> {
+    match MemDevice::new(alloc, 17 + CAPACITY as usize) {
+        Ok(device) => Ok(device),
+        Err(_) => Err(Refusal::OutOfMemory),
+    }
+}
+
+/// So many flushes of nodes in memory. Tells how many packets landed.
+fn memory(alloc: Global, flushes: u64) -> Result<u64, Refusal> {
+    nodes(alloc, in_memory(alloc)?, flushes)
+}
+
+/// How many inputs a node has of which all are durable.
+fn inputs<D: Device>(node: &mut Node<D>) -> Result<u64, Refusal> {
+    let ticket = node.submit(Request::Who(key(1)?))?;
+    let inputs = ticket.number();
+    redeem(node, ticket)?;
+    Ok(inputs)
+}
+
+/// Recovers a full node so many times. Tells how many inputs that brought back.
+fn recover(alloc: Global, times: u64) -> Result<u64, Refusal> {
+    let (mut device, _) = one_node(alloc, in_memory(alloc)?, FULL)?;
+    let mut recovered = 0u64;
+    for run in 0..times {
+        match Node::recover(alloc, device, NodeNo::new(1)?, 3, run + 1) {
+            Ok(mut node) => {
+                recovered = recovered.wrapping_add(inputs(&mut node)?);
+                device = end(node);
+            }
+            Err((_device, refusal)) => return Err(refusal),
+        }
+    }
+    Ok(recovered)
+}
+
+/// As many writes and syncs as so many flushes take, with no node.
+fn bare<D: Device>(device: &mut D, flushes: u64) -> Result<(), DeviceFault> {
+    let frame = [7; 1415];
+    for _ in 0..flushes {
+        device.write_at(17, &frame)?;
+        device.sync()?;
+        device.write_at(16, &[1])?;
+        device.sync()?;
+    }
+    Ok(())
+}
+
+/// Flushes nodes on a file, or writes and syncs it as often. Tells how many packets landed, or how many bytes it has.
+fn on_file(rt: &HostRuntime, path: &str, flushes: u64, has_nodes: bool) -> Option<u64> {
+    let mut device = FileDevice::create(rt.alloc(), rt, path).ok()?;
+    if has_nodes {
+        return nodes(rt.alloc(), device, flushes).ok();
+    }
+    bare(&mut device, flushes).ok()?;
+    Some(device.size())
+}
+
+/// Does what the words say, and tells what was counted.
+fn work(rt: &HostRuntime) -> Option<u64> {
+    let mut args = env::args(rt).ok()?.skip(1);
+    let Some(what) = args.next() else {
+        return memory(rt.alloc(), 10).ok();
+    };
+    let count = args.next()?.parse::<u64>().ok()?;
+    match what.as_str() {
+        "memory" => memory(rt.alloc(), count).ok(),
+        "recover" => recover(rt.alloc(), count).ok(),
+        "file" => on_file(rt, &args.next()?, count, true),
+        "bare" => on_file(rt, &args.next()?, count, false),
+        _ => None,
+    }
+}
+
+fn main(rt: HostRuntime) -> ExitCode {
+    let Some(counted) = work(&rt) else {
+        return ExitCode::FAILURE;
+    };
+    match println!(rt; "{counted}") {
+        Ok(()) => ExitCode::SUCCESS,
+        Err(_) => ExitCode::FAILURE,
+    }
+}
