@@ -87,10 +87,13 @@ fn fill<D: Device>(node: &mut Node<D>, flushes: u64) -> Result<u64, Refusal> {
 }
 
 /// Ends a node, all of whose tickets are redeemed.
-fn end<D: Device>(node: Node<D>) -> D {
+fn end<D: Device + Drop>(node: Node<D>) -> Result<D, Refusal> {
     let mut ended = node;
     ended.close();
-    ended.into_device()
+    if ended.open_tickets() > 0 {
+        return Err(Refusal::Early);
+    }
+    Ok(ended.into_device())
 }
 
 /// Has a new node on the device, flushes it so often, and ends it. Tells how many packets landed.
@@ -98,7 +101,7 @@ fn one_node<D: Device + Drop>(alloc: Global, device: D, flushes: u64) -> Result<
     match Node::create(alloc, device, NodeNo::new(1)?, 3, CAPACITY, 0) {
         Ok(mut node) => {
             let landed = fill(&mut node, flushes)?;
-            Ok((end(node), landed))
+            Ok((end(node)?, landed))
         }
         Err((_device, refusal)) => Err(refusal),
     }
@@ -143,7 +146,7 @@ fn recover(alloc: Global, times: u64) -> Result<u64, Refusal> {
         match Node::recover(alloc, device, NodeNo::new(1)?, 3, run + 1) {
             Ok(mut node) => {
                 recovered = recovered.wrapping_add(inputs(&mut node)?);
-                device = end(node);
+                device = end(node)?;
             }
             Err((_device, refusal)) => return Err(refusal),
         }
