@@ -1,5 +1,8 @@
 pub mod Agreement
 pub mod Answer
+pub mod Committed
+pub mod Events
+pub mod Released
 pub mod State
 pub mod Step
 pub mod Member
