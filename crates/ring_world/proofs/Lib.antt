@@ -6,3 +6,4 @@ mod Releases
 mod Runs
 mod Schedules
 mod Sweeps
+mod WorkedSchedule

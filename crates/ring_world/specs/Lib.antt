@@ -7,3 +7,4 @@ pub mod State
 pub mod Step
 pub mod Member
 pub mod Sound
+pub mod WorkedSchedule
