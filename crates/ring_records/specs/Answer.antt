@@ -56,10 +56,18 @@ pub record Answer : Type 0 where
   pub reply : Reply
   pub number : ℕ
 
+-- a request and its answer
+pub record Answered : Type 0 where
+  pub question : Request
+  pub answer : Answer
+
 -- It rests on the history that the request leaves: on the request's own input, where that is admitted, and on all before
 -- it. A refusal and a question rest on the inputs before them.
 abbrev pub answer : ℕ → ℕ → ℕ → Base → List Input → Request → Answer
 answer me n capacity base h q = record { reply = reply me n capacity base h q; number = length (h ++ gained me n capacity base h q) }
+
+abbrev pub answered : ℕ → ℕ → ℕ → Base → List Input → Request → Answered
+answered me n capacity base h q = record { question = q; answer = answer me n capacity base h q }
 
 -- the first inputs of h, so many of them, give this answer to the request
 pub record Answers (me n capacity : ℕ) (base : Base) (h : List Input) (q : Request) (a : Answer) : Type 0 where

@@ -36,7 +36,7 @@ unfolding part item_at
 part-map_other i j [] ne = refl
 part-map_other i j (x ∷ xs) ne = (λ t. cons_option (cond (ne_eqb i j ne t) (Some x) None) (part-map_other i j xs ne t))
 
-part-append : (run steps : List (ℕ × Input)) (i : ℕ) → part (run ++ steps) i ≡ part run i ++ part steps i
+pub part-append : (run steps : List (ℕ × Input)) (i : ℕ) → part (run ++ steps) i ≡ part run i ++ part steps i
 unfolding part
 part-append run steps i = filter_map-append (item_at i) run steps
 

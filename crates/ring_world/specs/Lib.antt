@@ -1,6 +1,10 @@
 pub mod Agreement
 pub mod Answer
+pub mod Committed
+pub mod Events
+pub mod Released
 pub mod State
 pub mod Step
 pub mod Member
 pub mod Sound
+pub mod WorkedSchedule

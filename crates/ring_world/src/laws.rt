@@ -1,14 +1,19 @@
-//! Laws of runs of a ring: public functions with an empty body, whose contracts say what follows from the definitions
+//! Laws of runs and schedules of a ring: public functions with an empty body, whose contracts say what follows from the definitions
 //! alone. No program calls them.
-ghost use Rattle.std.specs.Prelude.{◌≡◌, ◌≢◌, ℕ, List, IsTrue};
+ghost use Rattle.std.specs.Prelude.{◌≡◌, ◌≢◌, ℕ, List, ◌∷◌, ◌++◌, take, IsTrue};
 ghost use Rattle.std.specs.List.{Contains};
 ghost use Rattle.ring_records.specs.declared.candidate.Candidate.{Candidate};
 ghost use Rattle.ring_records.specs.declared.input.Input.{Input};
 ghost use Rattle.ring_records.specs.declared.input.Input.TheVariants.{Stand};
 ghost use Rattle.ring_records.specs.declared.key.Key.{Key};
 ghost use Rattle.ring_records.specs.Order.{is_less};
-ghost use Rattle.ring_records.specs.Ring.{IsLegal};
+ghost use Rattle.ring_records.specs.Ring.{IsLegal, part};
+ghost use Rattle.ring_records.specs.WorkedRun.{red_5, winner, first_election};
 ghost use Rattle.ring_world.specs.Agreement.{IsKnown};
+ghost use Rattle.ring_world.specs.Committed.{committed};
+ghost use Rattle.ring_world.specs.Events.{Thing, Action, Release, state_after, IsSchedule};
+ghost use Rattle.ring_world.specs.Released.{IsKept, IsAnnounced};
+ghost use Rattle.ring_world.specs.WorkedSchedule.{election_events, alone, crash_events, crash_run};
 
 /// In a legal run all leaders that are known for one key, at whatever node and after however many of its inputs, are
 /// one candidate. It stands in the run, and every other candidate that stands there for the key, earlier or later, is
@@ -17,4 +22,37 @@ pub fn agreement()
     ensures same { (n capacity : ℕ) (run : List (ℕ × Input)) (key : Key) (c d : Candidate) → IsLegal n capacity run → IsKnown run key c → IsKnown run key d → c ≡ d }
     ensures stands { (n capacity : ℕ) (run : List (ℕ × Input)) (key : Key) (c : Candidate) → IsLegal n capacity run → IsKnown run key c → Contains run (c.node, Stand key c.bid) }
     ensures greatest { (n capacity : ℕ) (run : List (ℕ × Input)) (key : Key) (c d : Candidate) → IsLegal n capacity run → IsKnown run key c → Contains run (d.node, Stand key d.bid) → d ≢ c → IsTrue (is_less d c) }
+{}
+
+/// In every schedule, at every node, what is released rests on inputs that are durable at its release. They are durable
+/// and the same after all later events.
+pub fn prefix()
+    ensures kept { (n capacity : ℕ) (early later : List (ℕ × Action)) (i : ℕ) (thing : Thing) → IsSchedule n capacity (early ++ (i, Release thing) ∷ later) → IsKept i n capacity thing (state_after n capacity early i) (state_after n capacity (early ++ (i, Release thing) ∷ later) i) }
+{}
+
+/// In every schedule the inputs that became durable, in this order, are a legal run. Its part for a node is that node's
+/// first durable inputs.
+pub fn ring_legality()
+    ensures legal { (n capacity : ℕ) (events : List (ℕ × Action)) → IsSchedule n capacity events → IsLegal n capacity (committed n capacity events) }
+    ensures parts { (n capacity : ℕ) (events : List (ℕ × Action)) (i : ℕ) → IsSchedule n capacity events → part (committed n capacity events) i ≡ take (state_after n capacity events i).durable (state_after n capacity events i).inputs }
+{}
+
+/// In every schedule all answers that were ever released for one key name one leader. It stands among the inputs that
+/// became durable, and every other candidate that stands there for the key, earlier or later than the answer, is less.
+pub fn headline()
+    ensures same { (n capacity : ℕ) (events : List (ℕ × Action)) (key : Key) (c d : Candidate) → IsSchedule n capacity events → IsAnnounced events key c → IsAnnounced events key d → c ≡ d }
+    ensures stands { (n capacity : ℕ) (events : List (ℕ × Action)) (key : Key) (c : Candidate) → IsSchedule n capacity events → IsAnnounced events key c → Contains (committed n capacity events) (c.node, Stand key c.bid) }
+    ensures greatest { (n capacity : ℕ) (events : List (ℕ × Action)) (key : Key) (c d : Candidate) → IsSchedule n capacity events → IsAnnounced events key c → Contains (committed n capacity events) (d.node, Stand key d.bid) → d ≢ c → IsTrue (is_less d c) }
+{}
+
+/// There are schedules with a leader. In an election of three nodes the inputs become durable in the order of the worked
+/// run, and the one of the greatest bid is announced. Of two batches that fly at a crash one is lost and one is kept,
+/// and a leader is announced after it.
+pub fn worked_schedules()
+    ensures election { IsSchedule 3 65536 election_events }
+    ensures election_durable { committed 3 65536 election_events ≡ first_election }
+    ensures election_announced { IsAnnounced election_events red_5 winner }
+    ensures crashes { IsSchedule 2 4096 crash_events }
+    ensures crashes_durable { committed 2 4096 crash_events ≡ crash_run }
+    ensures crashes_announced { IsAnnounced crash_events red_5 alone }
 {}

@@ -2,7 +2,7 @@
 //!
 //! A World is seen as the run of the inputs that its nodes accepted (specs/State). What an event tells and where it
 //! leads is a function of that run (specs/Step), over the definitions of ring_records. `laws` says what holds of every
-//! legal run.
+//! legal run, and of every schedule of nodes that may crash (specs/Events).
 #![tactic(auto)]
 
 mod event;

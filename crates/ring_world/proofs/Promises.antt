@@ -1,0 +1,170 @@
+-- What was handed out stays, and names one leader.
+use Rattle.std.proofs.Common.{ℕ, ◌≡◌, ◌≢◌, ◌≤◌, true, List, [], ◌∷◌, ◌++◌, length, take, drop, Option, Some, None, sym, ap, ◌∙◌, subst, inl, inr, arith}
+use Rattle.std.specs.List.{Contains}
+use Rattle.std.proofs.lemmas.List.{length-append, length-take-le, take-append-le, take-append-drop, take-take}
+use Rattle.std.proofs.lemmas.Option.{same_Some}
+use Rattle.ring_records.specs.declared.candidate.Candidate.{Candidate}
+use Rattle.ring_records.specs.declared.input.Input.{Input}
+use Rattle.ring_records.specs.declared.input.Input.TheVariants.{Stand}
+use Rattle.ring_records.specs.declared.key.Key.{Key}
+use Rattle.ring_records.specs.declared.reply.Reply.TheVariants as say
+use Rattle.ring_records.specs.declared.request.Request.{Request}
+use Rattle.ring_records.specs.declared.request.Request.TheVariants as ask
+use Rattle.ring_records.specs.Admission.{Base, fresh}
+use Rattle.ring_records.specs.Answer.{Answer, reply, NodeState}
+use Rattle.ring_records.specs.Leader.{leader, latest}
+use Rattle.ring_records.specs.Lists.{joined_after}
+use Rattle.ring_records.specs.Order.{is_less}
+use Rattle.ring_records.specs.Ring.{part, IsLegal}
+use Rattle.ring_records.proofs.Growth.{leader-kept, EachAfter-front, EachAfter-at, take-less}
+use Rattle.ring_records.proofs.Leader.{Contains-nil, Contains-cons_cases, latest-leads}
+use Rattle.ring_records.proofs.Lists.{none≢some, joined_after-append}
+use Rattle.ring_world.specs.Agreement.{IsKnown}
+use Rattle.ring_world.specs.Committed.{committed_by, committed}
+use Rattle.ring_world.specs.Events.{Thing, Replied, Sent, Shown, Rests, Action, Release, state_after, IsDurable, process, IsReleasable, May, MayHappen, IsSchedule}
+use Rattle.ring_world.specs.Released.{IsKept, named_by, named, IsAnnounced}
+use Rattle.ring_world.proofs.Chain.{agree, stands, greatest}
+use Rattle.ring_world.proofs.Runs.{part-append}
+use Rattle.ring_world.proofs.Schedules.{Holds, schedule_holds}
+
+-- ---- what is durable stays
+
+-- the first d of xs are a front of the first e of ys: so is each of their fronts
+fronts : {A : Type 0} (d e : ℕ) (xs ys more : List A) → d ≤ length xs → e ≤ length ys → take e ys ≡ take d xs ++ more → (k : ℕ) → k ≤ d → record { durable : k ≤ e; same : take k ys ≡ take k xs }
+fronts d e xs ys more inside outside same k less =
+    let first = length-take-le d xs inside in
+    let second = length-take-le e ys outside in
+    let both = ap length same in
+    let joined = length-append (take d xs) more in
+    let grows : d ≤ e = omega arith in
+    record {
+      durable = omega arith;
+      same = sym (take-take k e ys (omega arith)) ∙ (ap (take k) same ∙ (take-append-le k (take d xs) more (omega arith) ∙ take-take k d xs less));
+    }
+
+module _ (n capacity : ℕ) (early late : List (ℕ × Action)) (before : Holds n capacity early) (after : Holds n capacity (early ++ late)) (i : ℕ) where
+  abbrev at_release : NodeState
+  at_release = state_after n capacity early i
+
+  abbrev now : NodeState
+  now = state_after n capacity (early ++ late) i
+
+  grows : (rest : List Input) × (take now.durable now.inputs ≡ take at_release.durable at_release.inputs ++ rest)
+  unfolding committed
+  grows = (
+    part (joined_after (committed_by n capacity) early late) i,
+    sym (after.parts i)
+        ∙ (ap (λ r. part r i) (joined_after-append (committed_by n capacity) early late)
+        ∙ (part-append (joined_after (committed_by n capacity) [] early) (joined_after (committed_by n capacity) early late) i
+        ∙ ap (λ ys. ys ++ part (joined_after (committed_by n capacity) early late) i) (before.parts i))),
+  )
+
+  stays : (k : ℕ) → k ≤ at_release.durable → record { durable : k ≤ now.durable; same : take k now.inputs ≡ take k at_release.inputs }
+  stays = fronts at_release.durable now.durable at_release.inputs now.inputs grows.0
+      (let s = before.sound i in let l = s.low in let h = s.high in omega arith)
+      (let s = after.sound i in let l = s.low in let h = s.high in omega arith) grows.1
+
+  durable-kept : (t : Thing) → IsDurable i n capacity at_release t → IsKept i n capacity t at_release now
+  durable-kept t r =
+      let s = before.sound i in
+      let within : at_release.durable ≤ length at_release.inputs = (let l = s.low in let h = s.high in omega arith) in
+      let less = r.durable in
+      let kept = stays r.number less in
+      record { number = r.number; rested = record { within = omega arith; rests = r.rests }; was_durable = less; is_durable = kept.durable; same = kept.same }
+
+  released-kept : (t : Thing) → IsReleasable i n capacity (process n capacity early i) t → IsKept i n capacity t at_release now
+  unfolding IsReleasable
+  released-kept (Replied a) r =
+      let kept = stays a.answer.number r.1 in
+      record { number = a.answer.number; rested = (before.sound i).kept a r.0; was_durable = r.1; is_durable = kept.durable; same = kept.same }
+  released-kept (Sent packet) r = durable-kept (Sent packet) r
+  released-kept (Shown key c) r = durable-kept (Shown key c) r
+
+may_release : (n capacity : ℕ) (events : List (ℕ × Action)) (i : ℕ) (t : Thing) → MayHappen n capacity events (i, Release t) → IsReleasable i n capacity (process n capacity events i) t
+unfolding May
+may_release n capacity events i t h = h.may
+
+pub prefix_kept : (n capacity : ℕ) (early late : List (ℕ × Action)) (i : ℕ) (t : Thing) → IsSchedule n capacity (early ++ (i, Release t) ∷ late)
+    → IsKept i n capacity t (state_after n capacity early i) (state_after n capacity (early ++ (i, Release t) ∷ late) i)
+unfolding IsSchedule
+prefix_kept n capacity early late i t s =
+    released-kept n capacity early ((i, Release t) ∷ late)
+    (schedule_holds n capacity early (EachAfter-front (MayHappen n capacity) [] early ((i, Release t) ∷ late) s))
+    (schedule_holds n capacity (early ++ (i, Release t) ∷ late) s) i t
+    (may_release n capacity early i t (EachAfter-at (MayHappen n capacity) [] early (i, Release t) late s))
+
+-- ---- the run of what is durable
+
+pub committed_legal : (n capacity : ℕ) (events : List (ℕ × Action)) → IsSchedule n capacity events → IsLegal n capacity (committed n capacity events)
+committed_legal n capacity events s = (schedule_holds n capacity events s).legal
+
+pub committed_parts : (n capacity : ℕ) (events : List (ℕ × Action)) (i : ℕ) → IsSchedule n capacity events → part (committed n capacity events) i ≡ take (state_after n capacity events i).durable (state_after n capacity events i).inputs
+committed_parts n capacity events i s = (schedule_holds n capacity events s).parts i
+
+-- ---- answers that name a leader
+
+-- an item stands somewhere in its list
+split_at : {A : Type 0} (xs : List A) (x : A) → Contains xs x → (front : List A) × (back : List A) × (xs ≡ front ++ x ∷ back)
+split_at [] x here = Contains-nil x here
+split_at (y ∷ xs) x here = elim (Contains-cons_cases y xs x here) [
+  | inl e ↦ ([], xs, ap (λ z. z ∷ xs) e)
+  | inr later ↦ (let r = split_at xs x later in (y ∷ r.0, r.1, ap (λ zs. y ∷ zs) r.2))
+]
+
+who-leads : (asked : Key) (o : Option Candidate) (key : Key) (c : Candidate) → named_by (ask.Who asked) (say.Leader o) ≡ Some (key, c) → (asked ≡ key) × (o ≡ Some c)
+unfolding named_by
+who-leads asked None key c e = none≢some (key, c) e
+who-leads asked (Some d) key c e = let both = same_Some (asked, d) (key, c) e in (ap (λ (w : Key × Candidate). w.0) both, ap (λ (w : Key × Candidate). Some w.1) both)
+
+latest-named : (group : List ℕ) (o : Option (ℕ × Candidate)) (key : Key) (c : Candidate) → named_by (ask.Latest group) (say.Latest o) ≡ Some (key, c) → (group ≡ key.group) × (o ≡ Some (key.term, c))
+unfolding named_by
+latest-named group None key c e = none≢some (key, c) e
+latest-named group (Some led) key c e =
+    let both = same_Some (record { group = group; term = led.0 }, led.1) (key, c) e in
+    (ap (λ (w : Key × Candidate). w.0.group) both, ap (λ (w : Key × Candidate). Some (w.0.term, w.1)) both)
+
+-- a reply that names a leader was given by a node that knew it
+reply-leads : (me n capacity : ℕ) (base : Base) (h : List Input) (q : Request) (key : Key) (c : Candidate) → named_by q (reply me n capacity base h q) ≡ Some (key, c) → leader me h key ≡ Some c
+unfolding named_by reply
+reply-leads me n capacity base h (ask.Who asked) key c e = let r = who-leads asked (leader me h asked) key c e in ap (leader me h) (sym r.0) ∙ r.1
+reply-leads me n capacity base h (ask.Latest group) key c e = let r = latest-named group (latest me h group) key c e in latest-leads me h key.group key.term c (ap (latest me h) (sym r.0) ∙ r.1)
+reply-leads me n capacity base h (ask.Stand asked bid) key c e = none≢some (key, c) e
+reply-leads me n capacity base h (ask.Take place msg) key c e = none≢some (key, c) e
+reply-leads me n capacity base h (ask.Acked upto) key c e = none≢some (key, c) e
+
+-- the inputs that a thing rests on show the leader that it names
+rests-leads : (me n capacity : ℕ) (h : List Input) (t : Thing) (key : Key) (c : Candidate) → Rests me n capacity h t → named t ≡ Some (key, c) → leader me h key ≡ Some c
+unfolding Rests named
+rests-leads me n capacity h (Replied a) key c r e =
+    let answers = r.1 in
+    let said = reply-leads me n capacity fresh (take answers.before h) a.question key c (ap (named_by a.question) (sym (ap (λ (b : Answer). b.reply) answers.same)) ∙ e) in
+    subst (λ g. leader me g key ≡ Some c) (take-append-drop answers.before h) (leader-kept me (take answers.before h) (drop answers.before h) key c said)
+rests-leads me n capacity h (Sent packet) key c r e = none≢some (key, c) e
+rests-leads me n capacity h (Shown asked d) key c r e =
+    let both = same_Some (asked, d) (key, c) e in
+    ap (leader me h) (sym (ap (λ (w : Key × Candidate). w.0) both)) ∙ (r ∙ ap (λ (w : Key × Candidate). Some w.1) both)
+
+-- a leader that was announced is known in the run
+announced-known : (n capacity : ℕ) (events : List (ℕ × Action)) (key : Key) (c : Candidate) → IsSchedule n capacity events → IsAnnounced events key c → IsKnown (committed n capacity events) key c
+announced-known n capacity events key c s a =
+    let at = split_at events (a.node, Release a.thing) a.released in
+    let now = state_after n capacity events a.node in
+    let kept : IsKept a.node n capacity a.thing (state_after n capacity at.0 a.node) now =
+    subst (λ es. IsKept a.node n capacity a.thing (state_after n capacity at.0 a.node) (state_after n capacity es a.node)) (sym at.2)
+    (prefix_kept n capacity at.0 at.1 a.node a.thing (subst (IsSchedule n capacity) at.2 s)) in
+    record {
+      node = a.node;
+      inputs = take kept.number now.inputs;
+      rest = drop kept.number (take now.durable now.inputs);
+      front = take-less kept.number now.durable now.inputs kept.is_durable ∙ sym (committed_parts n capacity events a.node s);
+      leads = rests-leads a.node n capacity (take kept.number now.inputs) a.thing key c (subst (λ h. Rests a.node n capacity h a.thing) (sym kept.same) kept.rested.rests) a.names;
+    }
+
+pub one_leader : (n capacity : ℕ) (events : List (ℕ × Action)) (key : Key) (c d : Candidate) → IsSchedule n capacity events → IsAnnounced events key c → IsAnnounced events key d → c ≡ d
+one_leader n capacity events key c d s a b = agree n capacity (committed n capacity events) key c d (committed_legal n capacity events s) (announced-known n capacity events key c s a) (announced-known n capacity events key d s b)
+
+pub leader_stands : (n capacity : ℕ) (events : List (ℕ × Action)) (key : Key) (c : Candidate) → IsSchedule n capacity events → IsAnnounced events key c → Contains (committed n capacity events) (c.node, Stand key c.bid)
+leader_stands n capacity events key c s a = stands n capacity (committed n capacity events) key c (committed_legal n capacity events s) (announced-known n capacity events key c s a)
+
+pub leader_greatest : (n capacity : ℕ) (events : List (ℕ × Action)) (key : Key) (c d : Candidate) → IsSchedule n capacity events → IsAnnounced events key c → Contains (committed n capacity events) (d.node, Stand key d.bid) → d ≢ c → is_less d c ≡ true
+leader_greatest n capacity events key c d s a = greatest n capacity (committed n capacity events) key c d (committed_legal n capacity events s) (announced-known n capacity events key c s a)

@@ -1,0 +1,20 @@
+use Rattle.ring_world.proofs.WorkedSchedule.{election_committed, election_schedule, election_announced, crash_committed, crash_schedule, crash_announced}
+use Rattle.ring_world.proofs.laws.worked_schedules.Goals as goal
+
+pub returns-clause-election : goal.returns-clause-election
+returns-clause-election c = election_schedule
+
+pub returns-clause-election_durable : goal.returns-clause-election_durable
+returns-clause-election_durable c = election_committed
+
+pub returns-clause-election_announced : goal.returns-clause-election_announced
+returns-clause-election_announced c = election_announced
+
+pub returns-clause-crashes : goal.returns-clause-crashes
+returns-clause-crashes c = crash_schedule
+
+pub returns-clause-crashes_durable : goal.returns-clause-crashes_durable
+returns-clause-crashes_durable c = crash_committed
+
+pub returns-clause-crashes_announced : goal.returns-clause-crashes_announced
+returns-clause-crashes_announced c = crash_announced

@@ -1,0 +1,26 @@
+-- The inputs of all nodes, in the order in which they became durable.
+use Rattle.std.specs.Prelude.{ℕ, if◌then◌else◌, List, [], take, drop, map}
+use Rattle.ring_records.specs.declared.input.Input.{Input}
+use Rattle.ring_records.specs.Answer.{NodeState}
+use Rattle.ring_records.specs.Lists.{joined_after}
+use Rattle.ring_world.specs.Events.{Action, Submit, Launch, Land, Release, Crash, state_after}
+
+-- the inputs that fly
+abbrev pub batch : NodeState → List Input
+batch s = drop s.durable (take s.flying s.inputs)
+
+-- the inputs that the action makes durable: the batch that lands, or that a crash keeps
+unfoldable pub made_durable : NodeState → Action → List Input
+made_durable s (Submit q) = []
+made_durable s Launch = []
+made_durable s Land = batch s
+made_durable s (Release thing) = []
+made_durable s (Crash keeps_flying) = if keeps_flying then batch s else []
+
+-- those of the event, each with its node
+unfoldable pub committed_by : ℕ → ℕ → List (ℕ × Action) → ℕ × Action → List (ℕ × Input)
+committed_by n capacity events event = map (λ x. (event.0, x)) (made_durable (state_after n capacity events event.0) event.1)
+
+-- those of all events
+unfoldable pub committed : ℕ → ℕ → List (ℕ × Action) → List (ℕ × Input)
+committed n capacity events = joined_after (committed_by n capacity) [] events

@@ -1,0 +1,121 @@
+-- What may happen to the nodes of a ring, crashes among it, and where it leads. A schedule is a list of events, oldest
+-- first. An event is a node and what it does.
+use Rattle.std.specs.Prelude.{ℕ, Bool, ◌≡◌, ◌<◌, ◌≤◌, if◌then◌else◌, List, [], ◌∷◌, ◌++◌, length, take, Some}
+use Rattle.std.specs.List.{fold, Contains}
+use Rattle.ring_records.specs.declared.candidate.Candidate.{Candidate}
+use Rattle.ring_records.specs.declared.input.Input.{Input}
+use Rattle.ring_records.specs.declared.key.Key.{Key}
+use Rattle.ring_records.specs.declared.packet.Packet.{Packet}
+use Rattle.ring_records.specs.declared.packet.Packet.TheVariants.{Carry, Credit}
+use Rattle.ring_records.specs.declared.request.Request.{Request}
+use Rattle.ring_records.specs.declared.request.Request.TheVariants as ask
+use Rattle.ring_records.specs.Admission.{fresh}
+use Rattle.ring_records.specs.Answer.{Answered, answered, Answers, PacketRests, NodeState, asked, launched, landed, opened}
+use Rattle.ring_records.specs.Leader.{leader}
+use Rattle.ring_records.specs.Lists.{EachAfter}
+use Rattle.ring_records.specs.Place.{before, after}
+use Rattle.ring_records.specs.Ring.{part}
+
+-- ---- what a node hands out
+
+-- the reply to a request, a packet to a neighbour, or, on a board, the leader for a key
+pub data Thing : Type 0 where
+  Replied : Answered → Thing
+  Sent : Packet → Thing
+  Shown : Key → Candidate → Thing
+
+-- The thing rests on these inputs, all of them: the request left them with this answer; they sent the message, or hold
+-- as many takes as are credited; they decide the leader.
+unfoldable pub Rests : ℕ → ℕ → ℕ → List Input → Thing → Type 0
+Rests me n capacity h (Replied a) = (a.answer.number ≡ length h) × Answers me n capacity fresh h a.question a.answer
+Rests me n capacity h (Sent packet) = PacketRests me h packet
+Rests me n capacity h (Shown key c) = leader me h key ≡ Some c
+
+-- the thing rests on the first inputs of h, so many of them
+pub record RestsOn (me n capacity : ℕ) (h : List Input) (number : ℕ) (thing : Thing) : Type 0 where
+  pub within : number ≤ length h
+  pub rests : Rests me n capacity (take number h) thing
+
+-- ---- what a node does
+
+pub data Action : Type 0 where
+  -- it is asked
+  Submit : Request → Action
+  -- a batch of its inputs begins to fly
+  Launch : Action
+  -- what flies is durable
+  Land : Action
+  -- it hands the thing out
+  Release : Thing → Action
+  -- it stops, and is opened again: with what flies, or without
+  Crash : Bool → Action
+
+-- a node at work: what it accepted, and the answers that it keeps, each with its request
+pub record Process : Type 0 where
+  pub state : NodeState
+  pub kept : List Answered
+
+-- it is opened with these inputs, and keeps no answer
+abbrev pub started : List Input → Process
+started inputs = record { state = opened inputs; kept = [] }
+
+-- the inputs that a crash leaves: those that are durable, or those that flew too
+abbrev pub left_by_crash : Bool → NodeState → List Input
+left_by_crash keeps_flying s = take (if keeps_flying then s.flying else s.durable) s.inputs
+
+-- node me of a ring of n, with a capacity, after the action
+unfoldable pub act : ℕ → ℕ → ℕ → Process → Action → Process
+act me n capacity p (Submit q) = record { state = asked me n capacity fresh p.state q; kept = p.kept ++ answered me n capacity fresh p.state.inputs q ∷ [] }
+act me n capacity p Launch = record p { state = launched p.state }
+act me n capacity p Land = record p { state = landed p.state }
+act me n capacity p (Release thing) = p
+act me n capacity p (Crash keeps_flying) = started (left_by_crash keeps_flying p.state)
+
+-- node i after the events
+unfoldable pub process : ℕ → ℕ → List (ℕ × Action) → ℕ → Process
+process n capacity events i = fold (act i n capacity) (started []) (part events i)
+
+-- what node i accepted, and how much of it is durable, after the events
+abbrev pub state_after : ℕ → ℕ → List (ℕ × Action) → ℕ → NodeState
+state_after n capacity events i = (process n capacity events i).state
+
+-- ---- what may happen
+
+-- What the request brings node i was released to it: a message by the node before it, a credit by the node behind it. A
+-- packet may come again, and in any order.
+unfoldable pub IsDelivered : ℕ → List (ℕ × Action) → ℕ → Request → Type 0
+IsDelivered n events i (ask.Stand key bid) = Unit {0}
+IsDelivered n events i (ask.Take place msg) = Contains events (before n i, Release (Sent (Carry place msg)))
+IsDelivered n events i (ask.Acked upto) = Contains events (after n i, Release (Sent (Credit upto)))
+IsDelivered n events i (ask.Who key) = Unit {0}
+IsDelivered n events i (ask.Latest group) = Unit {0}
+
+-- the thing rests on inputs that are durable
+pub record IsDurable (i n capacity : ℕ) (s : NodeState) (thing : Thing) : Type 0 where
+  pub number : ℕ
+  pub durable : number ≤ s.durable
+  pub rests : Rests i n capacity (take number s.inputs) thing
+
+-- node i may hand the thing out: of replies, one that it keeps
+unfoldable pub IsReleasable : ℕ → ℕ → ℕ → Process → Thing → Type 0
+IsReleasable i n capacity p (Replied a) = Contains p.kept a × (a.answer.number ≤ p.state.durable)
+IsReleasable i n capacity p (Sent packet) = IsDurable i n capacity p.state (Sent packet)
+IsReleasable i n capacity p (Shown key c) = IsDurable i n capacity p.state (Shown key c)
+
+-- node i may do this after the events, which made it p
+unfoldable pub May : ℕ → ℕ → List (ℕ × Action) → ℕ → Process → Action → Type 0
+May n capacity events i p (Submit q) = IsDelivered n events i q
+May n capacity events i p Launch = p.state.flying ≡ p.state.durable
+May n capacity events i p Land = p.state.durable < p.state.flying
+May n capacity events i p (Release thing) = IsReleasable i n capacity p thing
+May n capacity events i p (Crash keeps_flying) = Unit {0}
+
+-- the event may come after these
+pub record MayHappen (n capacity : ℕ) (events : List (ℕ × Action)) (event : ℕ × Action) : Type 0 where
+  pub first : 1 ≤ event.0
+  pub last : event.0 ≤ n
+  pub may : May n capacity events event.0 (process n capacity events event.0) event.1
+
+-- each event may come after those before it
+unfoldable pub IsSchedule : ℕ → ℕ → List (ℕ × Action) → Type 0
+IsSchedule n capacity events = EachAfter (MayHappen n capacity) [] events
