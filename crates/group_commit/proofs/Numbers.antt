@@ -5,7 +5,7 @@ use Rattle.std.specs.Cmp.{ranks}
 use Rattle.std.specs.Ordering.{nat_cmp, is_eq, MatchOrdering}
 use Rattle.std.specs.declared.cmp.Ordering.{Ordering}
 use Rattle.std.specs.declared.cmp.Ordering.TheVariants.{Less, Equal, Greater}
-use Rattle.group_commit.specs.Kept.{Answered}
+use Rattle.ring_records.specs.Answer.{Answered}
 
 by_rank : (a b : ℕ) (o : Ordering) → MatchOrdering o (a < b) (a ≡ b) (b < a) → is_eq o ≡ eqb b a
 by_rank a b Less lt = sym (ne_eqb b a (λ e. omega (arith, e, lt)))

@@ -11,10 +11,9 @@ use Rattle.ring_records.specs.declared.reply.Reply.TheVariants as say
 use Rattle.ring_records.specs.declared.request.Request.{Request}
 use Rattle.ring_records.specs.declared.request.Request.TheVariants as ask
 use Rattle.ring_records.specs.Admission.{fresh, refusal, IsAdmitted, IsLawful}
-use Rattle.ring_records.specs.Answer.{Answer, NodeState, answer, input_of, if_free, unless, gained, reply}
+use Rattle.ring_records.specs.Answer.{Answer, Answered, NodeState, answer, input_of, if_free, unless, gained, reply}
 use Rattle.ring_records.proofs.Growth.{EachAfter-take}
 use Rattle.ring_records.proofs.Lists.{none≢some}
-use Rattle.group_commit.specs.Kept.{Answered}
 use Rattle.group_commit.specs.Vouch.{acceptance, Accepts, IsInput, IsVouched}
 
 -- where a reply accepts an input, the history of its number has the input

@@ -1,15 +1,15 @@
 -- What a desk shows.
-use Rattle.std.specs.Prelude.{ℕ, ◌≡◌, ◌<◌, ◌-◌, ◌^◌, ◌<◌, ◌⊎◌, Bool, ◌||◌, nat_eq, if◌then◌else◌, List, take, drop, nat_lt, slice_get, Option, Some, None}
+use Rattle.std.specs.Prelude.{ℕ, ◌≡◌, ◌<◌, ◌-◌, ◌^◌, ◌⊎◌, Bool, ◌||◌, nat_eq, if◌then◌else◌, List, take, drop, nat_lt, slice_get, Option, Some, None}
 use Rattle.ring_records.specs.declared.input.Input.{Input}
 use Rattle.ring_records.specs.declared.refusal.Refusal.{Refusal}
 use Rattle.ring_records.specs.declared.refusal.Refusal.TheVariants as refused
 use Rattle.ring_records.specs.Admission.{fresh, refusal, IsLawful}
-use Rattle.ring_records.specs.Answer.{NodeState, answer}
+use Rattle.ring_records.specs.Answer.{Answered, NodeState, answer}
 use Rattle.ring_records.specs.declared.request.Request.{Request}
 use Rattle.gated_journal.specs.Batch.{Numbered}
 use Rattle.group_commit.specs.declared.desk.Desk.{Desk}
 use Rattle.group_commit.specs.Ticket.{TicketView}
-use Rattle.group_commit.specs.Kept.{Answered, Place, place_with, kept_in, is_outside}
+use Rattle.group_commit.specs.Kept.{Place, place_with, kept_in, is_outside}
 
 abbrev pub place_of : Desk → Place
 place_of desk = place_with desk.node desk.n desk.capacity desk.run

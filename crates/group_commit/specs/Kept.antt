@@ -7,7 +7,7 @@ use Rattle.std.specs.Ordering.{nat_cmp, is_eq}
 use Rattle.ring_records.specs.declared.reply.Reply.{Reply}
 use Rattle.ring_records.specs.declared.request.Request.{Request}
 use Rattle.ring_records.specs.declared.request.Request.TheVariants as ask
-use Rattle.ring_records.specs.Answer.{Answer}
+use Rattle.ring_records.specs.Answer.{Answered}
 use Rattle.ring_records.specs.Message.{candidate_of}
 
 -- the node, the size of its ring, its capacity, and which opening of the node this is
@@ -19,11 +19,6 @@ pub record Place : Type 0 where
 
 abbrev pub place_with : ℕ → ℕ → ℕ → ℕ → Place
 place_with me n capacity run = record { me = me; n = n; capacity = capacity; run = run }
-
--- a request and its answer
-pub record Answered : Type 0 where
-  pub question : Request
-  pub answer : Answer
 
 abbrev pub answered_with : Request → Reply → ℕ → Answered
 answered_with q reply number = record { question = q; answer = record { reply = reply; number = number } }

@@ -1,7 +1,8 @@
 -- What a ticket, a kept reply and a stub show.
 use Rattle.std.specs.Prelude.{ℕ}
 use Rattle.ring_records.specs.declared.request.Request.{Request}
-use Rattle.group_commit.specs.Kept.{Answered, Place}
+use Rattle.ring_records.specs.Answer.{Answered}
+use Rattle.group_commit.specs.Kept.{Place}
 use Rattle.group_commit.specs.declared.ticket.Stub.{Stub}
 use Rattle.group_commit.specs.declared.ticket.Ticket.{Ticket}
 

@@ -6,8 +6,7 @@ use Rattle.ring_records.specs.declared.reply.Reply.{Reply}
 use Rattle.ring_records.specs.declared.reply.Reply.TheVariants as say
 use Rattle.ring_records.specs.declared.request.Request.{Request}
 use Rattle.ring_records.specs.Admission.{fresh}
-use Rattle.ring_records.specs.Answer.{NodeState, answer, input_of}
-use Rattle.group_commit.specs.Kept.{Answered}
+use Rattle.ring_records.specs.Answer.{Answered, NodeState, answer, input_of}
 
 -- the reply that says that the input is accepted
 unfoldable pub acceptance : Input → Reply

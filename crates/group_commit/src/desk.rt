@@ -2,12 +2,14 @@
 ghost use Rattle.std.specs.Prelude.{◌≡◌, ◌+◌, ◌-◌, ◌++◌, ◌∷◌, ◌≤◌, ◌⊎◌, ◌||◌, ℕ, List, [], not, true, false, Some, None, length, take, nat_eq, if◌then◌else◌, is_none, IfSome, IfNone, MatchOption, IfOk, IfErr, OnOk, OnErr};
 ghost use Rattle.std.specs.List.{cons_option};
 ghost use Rattle.ring_records.specs.Admission.{fresh, refusal, IsLawful};
-ghost use Rattle.ring_records.specs.Answer.{asked, opened, launched, landed as landed_state};
+ghost use Rattle.ring_records.specs.Answer.{Answered, asked, opened, launched, landed as landed_state};
+ghost use Rattle.ring_records.specs.Emission.{sent};
+ghost use Rattle.ring_records.specs.History.{taken, credit};
 ghost use Rattle.ring_records.specs.Props.{IsLawful-prop};
 ghost use Rattle.ring_records.specs.Release.{packets, decisions, window};
 ghost use Rattle.group_commit.specs.Outbox.{Holds};
 ghost use Rattle.node_core.specs.Core.{CoreStandsFor};
-ghost use Rattle.group_commit.specs.Kept.{Answered, answered_with, place_with, is_outside, kept_in, IsCount};
+ghost use Rattle.group_commit.specs.Kept.{answered_with, place_with, is_outside, kept_in, IsCount};
 
 use crate::judge::judge;
 use crate::kept::Kept;
@@ -341,6 +343,34 @@ impl Desk {
         ensures { result ≡ (state_of self.now).flying }
     {
         self.flying
+    }
+
+    /// How many messages its inputs sent to the successor.
+    pub fn sent(&self) -> u64
+        ensures { result ≡ length (sent (place_of self.now).me (state_of self.now).inputs) }
+    {
+        self.core.sent()
+    }
+
+    /// How many messages of the predecessor its inputs took.
+    pub fn taken(&self) -> u64
+        ensures { result ≡ length (taken (state_of self.now).inputs) }
+    {
+        self.core.taken()
+    }
+
+    /// The last credit of the successor, 0 before the first: so many messages the successor is known to have taken.
+    pub fn credit(&self) -> u64
+        ensures { result ≡ credit (state_of self.now).inputs }
+    {
+        self.core.credit()
+    }
+
+    /// How many messages of the predecessor its durable inputs took: so many it may credit.
+    pub fn durable_taken(&self) -> u64
+        ensures { result ≡ length (taken (take (state_of self.now).durable (state_of self.now).inputs)) }
+    {
+        self.outbox.released.taken
     }
 
     /// The messages of its durable inputs that the successor is not known to have taken, as Carry packets in order: those

@@ -11,7 +11,7 @@ pub(crate) struct Kept {
 }
 
 impl Model for Kept {
-    ghost use Rattle.group_commit.specs.Kept.{Answered};
+    ghost use Rattle.ring_records.specs.Answer.{Answered};
 
     ghost Value = { Answered };
 

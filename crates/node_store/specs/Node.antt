@@ -1,11 +1,11 @@
 -- What a node shows: its desk, and its journal's device.
 use Rattle.std.specs.Prelude.{ℕ, Bool, Option}
 use Rattle.disk_model.specs.declared.device.Device.{Ghosts}
-use Rattle.ring_records.specs.Answer.{NodeState}
+use Rattle.ring_records.specs.Answer.{Answered, NodeState}
 use Rattle.gated_journal.specs.Journal as journal
 use Rattle.group_commit.specs.declared.desk.Desk.{Desk}
 use Rattle.group_commit.specs.Desk as desk
-use Rattle.group_commit.specs.Kept.{Answered, Place}
+use Rattle.group_commit.specs.Kept.{Place}
 use Rattle.node_store.specs.declared.node.Node.{Node}
 
 module _ {D : Type 0} {g : Ghosts D} where

@@ -1,14 +1,16 @@
 ghost use Rattle.std.specs.Prelude.{◌≡◌, ◌+◌, ◌-◌, ◌⊎◌, ◌||◌, ◌<◌, ◌≤◌, ℕ, Bool, [], length, not, true, false, Some, None, nat_eq, if◌then◌else◌, IfOk, IfErr, OnOk, OnErr};
 ghost use Rattle.disk_model.specs.Disk.{MayLeave, LeavesOnly, synced};
 ghost use Rattle.ring_records.specs.Admission.{fresh, IsLawful};
-ghost use Rattle.ring_records.specs.Answer.{NodeState, asked, opened, launched, landed};
-ghost use Rattle.ring_records.specs.Release.{packets, decisions};
+ghost use Rattle.ring_records.specs.Answer.{Answered, NodeState, asked, opened, launched, landed};
+ghost use Rattle.ring_records.specs.Emission.{sent};
+ghost use Rattle.ring_records.specs.History.{taken, credit};
+ghost use Rattle.ring_records.specs.Release.{packets, decisions, window, AreLeaders};
 ghost use Rattle.gated_journal.specs.Batch.{landed as receipted, lost};
 ghost use Rattle.gated_journal.specs.Journal as journals;
 ghost use Rattle.gated_journal.specs.Reading.{header_with, is_header, ReadsAs, AllReadAs, ReadsAsOneOf};
 ghost use Rattle.gated_journal.specs.Unread.{IsFault, IsUnread};
 ghost use Rattle.group_commit.specs.Desk as desks;
-ghost use Rattle.group_commit.specs.Kept.{Answered, IsCount, place_with};
+ghost use Rattle.group_commit.specs.Kept.{IsCount, place_with};
 ghost use Rattle.node_store.specs.Props.{Stands-prop};
 ghost use Rattle.node_store.specs.Recovery.{IsNotLawful, IsUnrecovered};
 ghost use Rattle.node_store.specs.State.{header_at, durable_in, flown_in, left_by, Holds, Stands};
@@ -16,8 +18,8 @@ ghost use Rattle.node_store.specs.State.{header_at, durable_in, flown_in, left_b
 use disk_model::{Device, FuseDevice};
 use gated_journal::{Journal, Receipt, Spoiled};
 use group_commit::{Desk, Landed, Stub, Ticket};
-use ring_records::{NodeNo, Refusal, Reply, Request};
-use std::alloc::Global;
+use ring_records::{Decision, Input, NodeNo, Packet, Refusal, Reply, Request};
+use std::alloc::{AllocError, Global};
 
 /// A node whose inputs outlive it: a desk, and the journal that makes what it accepts durable.
 #[derive(Drop)]
@@ -193,6 +195,64 @@ impl<D: Device> Node<D> {
         ensures device { device_of self.new ≡ device_of self.old }
     {
         self.desk.forfeit(ticket)
+    }
+
+    /// The inputs that it accepted, oldest first.
+    pub fn history(&self) -> &[Input]
+        ensures inputs { result.now ≡ (state_of self.now).inputs }
+        ensures lawful { IsLawful (place_of self.now).me (place_of self.now).n (place_of self.now).capacity fresh result.now }
+    {
+        self.desk.history()
+    }
+
+    /// How many of its inputs are durable.
+    pub fn durable(&self) -> u64
+        ensures { result ≡ (state_of self.now).durable }
+    {
+        self.desk.durable()
+    }
+
+    /// How many messages its inputs sent to the successor.
+    pub fn sent(&self) -> u64
+        ensures { result ≡ length (sent (place_of self.now).me (state_of self.now).inputs) }
+    {
+        self.desk.sent()
+    }
+
+    /// How many messages of the predecessor its inputs took.
+    pub fn taken(&self) -> u64
+        ensures { result ≡ length (taken (state_of self.now).inputs) }
+    {
+        self.desk.taken()
+    }
+
+    /// The last credit of the successor, 0 before the first: so many messages the successor is known to have taken.
+    pub fn credit(&self) -> u64
+        ensures { result ≡ credit (state_of self.now).inputs }
+    {
+        self.desk.credit()
+    }
+
+    /// How many messages of the predecessor its durable inputs took: so many it may credit.
+    pub fn durable_taken(&self) -> u64
+        ensures { result ≡ length (taken (durable_in (state_of self.now))) }
+    {
+        self.desk.durable_taken()
+    }
+
+    /// The messages of its durable inputs that the successor is not known to have taken, as Carry packets in order: those
+    /// from the last durable credit on. They may be released again.
+    pub fn window(&self) -> Result<Vec<Packet>, AllocError>
+        ensures { IfOk result (λ packets. packets.items ≡ window (place_of self.now).me (durable_in (state_of self.now))) }
+    {
+        self.desk.window()
+    }
+
+    /// A decision for each key whose leader its durable inputs tell, in order of key.
+    pub fn decisions(&self) -> Result<Vec<Decision>, AllocError>
+        ensures { IfOk result (λ decisions. AreLeaders (place_of self.now).me (durable_in (state_of self.now)) decisions.items) }
+    {
+        self.desk.decisions()
     }
 
     /// Takes no more requests; all else goes on.

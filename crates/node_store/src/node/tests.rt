@@ -13,6 +13,7 @@ mod memory;
 mod refusals;
 mod rows;
 mod stops;
+mod windows;
 
 type Stored = Node<FuseDevice<MemDevice>>;
 
