@@ -1,0 +1,4 @@
+pub mod Queue
+pub mod Ring
+pub mod Sending
+pub mod Serving

@@ -1,0 +1,79 @@
+-- What a node of the ring shows, and what its calls make of it. Nothing flies between its calls.
+use Rattle.std.specs.Prelude.{ℕ, ◌+◌, Bool, nat_le, nat_lt, List, [], ◌∷◌, ◌++◌, length, take, Option}
+use Rattle.ring_records.specs.declared.input.Input.{Input}
+use Rattle.ring_records.specs.declared.request.Request.{Request}
+use Rattle.ring_records.specs.Admission.{fresh}
+use Rattle.ring_records.specs.Answer.{Answered, NodeState, answered, gained, launched}
+use Rattle.node_store.specs.State.{left_by}
+
+-- an open ticket: the number that the ring gave it, if any, and what the node keeps for it
+pub record Open : Type 0 where
+  pub number : Option ℕ
+  pub kept : Answered
+
+-- which node it is, of how large a ring, and its capacity; the inputs that it accepted, and how many of them are
+-- durable; its open tickets, the oldest first; and how many tickets it gave since it was opened
+pub record NodeView : Type 0 where
+  pub me : ℕ
+  pub n : ℕ
+  pub capacity : ℕ
+  pub inputs : List Input
+  pub durable : ℕ
+  pub held : List Open
+  pub issued : ℕ
+
+abbrev pub new_node : ℕ → ℕ → ℕ → NodeView
+new_node me n capacity = record { me = me; n = n; capacity = capacity; inputs = []; durable = 0; held = []; issued = 0 }
+
+-- V, d and f
+abbrev pub state_of : NodeView → NodeState
+state_of v = record { inputs = v.inputs; durable = v.durable; flying = v.durable }
+
+-- its durable inputs
+abbrev pub durable_in : NodeView → List Input
+durable_in v = take v.durable v.inputs
+
+-- ---- requests
+
+-- its answer to a request
+abbrev pub answered_by : NodeView → Request → Answered
+answered_by v q = answered v.me v.n v.capacity fresh v.inputs q
+
+abbrev pub ticket_of : Option ℕ → NodeView → Request → Open
+ticket_of number v q = record { number = number; kept = answered_by v q }
+
+-- after it is asked: its ticket is open
+unfoldable pub asked_with : Option ℕ → Request → NodeView → NodeView
+asked_with number q v = record v { inputs = v.inputs ++ gained v.me v.n v.capacity fresh v.inputs q; held = v.held ++ ticket_of number v q ∷ []; issued = v.issued + 1 }
+
+-- it accepts an input with the request
+abbrev pub accepts : NodeView → Request → Bool
+accepts v q = nat_lt (length v.inputs) (answered_by v q).answer.number
+
+-- ---- batches and replies
+
+-- how many inputs are durable once a batch landed
+abbrev pub flown : NodeView → ℕ
+flown v = (launched (state_of v)).flying
+
+-- after a batch landed
+abbrev pub flushed : NodeView → NodeView
+flushed v = record v { durable = flown v }
+
+-- the ticket's reply rests on so many inputs at most
+abbrev pub is_due : ℕ → Open → Bool
+is_due durable t = nat_le t.kept.answer.number durable
+
+-- ---- crashes
+
+-- after it was opened again with these inputs: no ticket is open
+unfoldable pub restarted : List Input → NodeView → NodeView
+restarted inputs v = record v { inputs = inputs; durable = length inputs; held = []; issued = 0 }
+
+-- the inputs that a stop within a flush leaves: with the batch, or without
+abbrev pub left : Bool → NodeView → List Input
+left keeps_flying v = left_by keeps_flying (launched (state_of v))
+
+-- the ticket's number, if it has one
+abbrev pub number_of : Open → Option ℕ
+number_of t = t.number

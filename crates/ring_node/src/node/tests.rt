@@ -1,0 +1,69 @@
+// What no clause says: that the calls succeed with ample memory, and at which call of its device a stop keeps the batch.
+use super::*;
+use disk_model::Tear;
+use ring_records::{Bid, GroupName, Key, Reply, Term};
+use std::alloc::AllocGlobal;
+use std::process::Abort;
+
+/// Term 5 of group `red`.
+fn key(rt: &impl Abort) -> Key {
+    let group = GroupName::read(b"red").expect(rt, "a group name");
+    let term = Term::new(5).expect(rt, "a term");
+    Key { group, term }
+}
+
+/// Node 1 of a ring of 3, which was asked to stand under number 7: it accepts, and its reply is sealed.
+fn stood<R: Abort + AllocGlobal>(rt: &R) -> RingNode {
+    let made = RingNode::new(rt.alloc(), NodeNo::first(), 3, 4096);
+    let mut made = made.expect(rt, "ample memory");
+    let bid = Bid::new(10).expect(rt, "a bid");
+    let accepts = made.ask(Some(7), Request::Stand(key(rt), bid));
+    assert_eq!(rt; accepts.ok(), Some(true));
+    assert!(rt; made.release().is_none());
+    made
+}
+
+#[test]
+fn released_behind_a_flush(rt: HostRuntime) {
+    let mut made = stood(&rt);
+    assert_eq!(&rt; made.flush().ok(), Some(1));
+    assert!(&rt; made.message(0).is_some());
+    let released = made.release().expect(&rt, "a reply that is due");
+    assert_eq!(&rt; released.number(), Some(7));
+    assert_eq!(&rt; released.reply(), Reply::Stood);
+    made.end();
+}
+
+#[test]
+fn lost_in_a_crash(rt: HostRuntime) {
+    let mut made = stood(&rt);
+    let lost = made.crash().expect(&rt, "ample memory");
+    assert_eq!(&rt; lost.as_slice(), [7].as_slice());
+    assert_eq!(&rt; made.count(), 0);
+    made.end();
+}
+
+/// Whether the batch outlives a stop at this call.
+fn outlives<R: Abort + AllocGlobal>(rt: &R, call: u64, expected: bool) {
+    let mut made = stood(rt);
+    assert!(rt; made.durable() < made.count());
+    let (keeps, lost) = made.stop(call, Tear::Fill(1)).expect(rt, "ample memory");
+    assert_eq!(rt; (keeps, made.durable()), (expected, u64::from(expected)));
+    assert_eq!(rt; lost.as_slice(), [7].as_slice());
+    made.end();
+}
+
+#[test]
+fn stopped_before_the_gate(rt: HostRuntime) {
+    outlives(&rt, 1, false);
+}
+
+#[test]
+fn stopped_at_the_gate(rt: HostRuntime) {
+    outlives(&rt, 3, true);
+}
+
+#[test]
+fn ended_with_an_open_ticket(rt: HostRuntime) {
+    stood(&rt).end();
+}
