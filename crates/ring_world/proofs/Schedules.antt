@@ -28,13 +28,13 @@ use Rattle.ring_world.proofs.Runs.{part-append, part-same, part-other}
 
 -- ---- one more event
 
-process-same : (n capacity : ℕ) (events : List (ℕ × Action)) (j : ℕ) (a : Action) → process n capacity (events ++ (j, a) ∷ []) j ≡ act j n capacity (process n capacity events j) a
+pub process-same : (n capacity : ℕ) (events : List (ℕ × Action)) (j : ℕ) (a : Action) → process n capacity (events ++ (j, a) ∷ []) j ≡ act j n capacity (process n capacity events j) a
 unfolding process item_at
 process-same n capacity events j a =
     ap (fold (act j n capacity) (started [])) (part-push events (j, a) j ∙ ap (λ b. part events j ++ cons_option (cond b (Some a) None) []) (eq-eqb j j refl))
     ∙ fold-append (act j n capacity) (started []) (part events j) (a ∷ [])
 
-process-other : (n capacity : ℕ) (events : List (ℕ × Action)) (j : ℕ) (a : Action) (i : ℕ) → (j ≡ i → ⊥) → process n capacity (events ++ (j, a) ∷ []) i ≡ process n capacity events i
+pub process-other : (n capacity : ℕ) (events : List (ℕ × Action)) (j : ℕ) (a : Action) (i : ℕ) → (j ≡ i → ⊥) → process n capacity (events ++ (j, a) ∷ []) i ≡ process n capacity events i
 unfolding process item_at
 process-other n capacity events j a i ne =
     ap (fold (act i n capacity) (started [])) (part-push events (j, a) i ∙ (ap (λ b. part events i ++ cons_option (cond b (Some a) None) []) (ne_eqb j i ne) ∙ append-nil (part events i)))

@@ -1,10 +1,11 @@
 pub mod Agreement
-pub mod Answer
+pub mod Announced
 pub mod Committed
+pub mod Counts
 pub mod Events
+pub mod Happened
 pub mod Released
+pub mod Ring
 pub mod State
 pub mod Step
-pub mod Member
-pub mod Sound
 pub mod WorkedSchedule

@@ -1,24 +1,17 @@
 -- What a world is seen as.
-use Rattle.std.specs.Prelude.{ℕ, Bool, false, nat_le, ◌&&◌, List, []}
-use Rattle.ring_records.specs.declared.input.Input.{Input}
-use Rattle.ring_records.specs.Ring.{part}
+use Rattle.std.specs.Prelude.{ℕ, Bool, nat_le, ◌&&◌}
+use Rattle.ring_world.specs.Ring.{RingView, new_ring}
 
--- how many nodes it has, numbered from 1, and their capacity; whether a growth was refused in a step of it; the inputs that were accepted, each with
--- its node, oldest first; how many ticket numbers are taken
+-- its ring and what happened to it; whether each input is made durable as it is accepted; and how many ticket numbers
+-- are taken
 pub record State : Type 0 where
-  pub size : ℕ
-  pub capacity : ℕ
-  pub failed : Bool
-  pub run : List (ℕ × Input)
+  pub ring : RingView
+  pub eager : Bool
   pub tickets : ℕ
 
 -- a ring in which nothing has happened
-abbrev pub opened : ℕ → ℕ → State
-opened size capacity = record { size = size; capacity = capacity; failed = false; run = []; tickets = 0 }
-
--- the history of node i
-abbrev pub history : State → ℕ → List Input
-history s i = part s.run i
+abbrev pub opened : ℕ → Bool → ℕ → State
+opened size eager capacity = record { ring = new_ring size capacity; eager = eager; tickets = 0 }
 
 -- a ring has 2 to 16 nodes, and a capacity from 4,096 to 1,048,576 bytes
 abbrev pub is_ring : ℕ → ℕ → Bool

@@ -1,133 +1,92 @@
 -- What an event tells, where it leads, and why it is refused.
-use Rattle.std.specs.Prelude.{ℕ, zero, suc, ◌≡◌, ◌+◌, ◌^◌, Bool, true, false, ◌&&◌, not, nat_lt, nat_le, List, [], ◌∷◌, ◌++◌, length, map, Option, Some, None, slice_get}
-use Rattle.ring_records.specs.declared.msg.Msg.{Msg}
+use Rattle.std.specs.Prelude.{ℕ, ◌≡◌, ◌+◌, ◌-◌, ◌^◌, Bool, false, ◌||◌, not, nat_eq, nat_lt, nat_le, if◌then◌else◌, List, [], length, Option, Some, None}
 use Rattle.ring_records.specs.declared.refusal.Refusal.{Refusal}
 use Rattle.ring_records.specs.declared.refusal.Refusal.TheVariants as refused
 use Rattle.ring_records.specs.declared.reply.Reply.{Reply}
-use Rattle.ring_records.specs.declared.reply.Reply.TheVariants as say
 use Rattle.ring_records.specs.declared.request.Request.{Request}
 use Rattle.ring_records.specs.declared.request.Request.TheVariants as ask
-use Rattle.ring_records.specs.Admission.{fresh, where_so}
-use Rattle.ring_records.specs.Answer.{gained, reply}
-use Rattle.ring_records.specs.Emission.{sent}
-use Rattle.ring_records.specs.History.{taken}
+use Rattle.ring_records.specs.Admission.{where_so}
 use Rattle.ring_records.specs.Lists.{or_else}
-use Rattle.ring_records.specs.Order.{is_msg}
-use Rattle.ring_records.specs.Place.{after, before}
-use Rattle.ring_world.specs.State.{State, history}
+use Rattle.ring_records.specs.Place.{before}
+use Rattle.group_commit.specs.Kept.{is_outside}
+use Rattle.ring_world.specs.Ring as ring
+use Rattle.ring_world.specs.Ring.{RingView, node_at, waits, landed, settled, replies, lost, brought, carried, is_earned, is_released, swept}
+use Rattle.ring_world.specs.State.{State}
 use Rattle.ring_world.specs.declared.event.Event.{Event}
-use Rattle.ring_world.specs.declared.event.Event.TheVariants.{Submit, Deliver, Credit, DeliverAll}
+use Rattle.ring_world.specs.declared.event.Event.TheVariants.{Submit, Flush, Deliver, DeliverAll, Credit, Crash, Stop}
 use Rattle.ring_world.specs.declared.outcome.Outcome.{Outcome}
 
 -- an outcome without where it lies in memory
 pub record Told : Type 0 where
   pub ticket : Option ℕ
+  pub flushed : Option ℕ
   pub delivered : Option ℕ
   pub replies : List (ℕ × Reply)
+  pub lost : List ℕ
+  pub up : Option ℕ
 
 abbrev pub told : Outcome → Told
-told o = record { ticket = o.ticket; delivered = o.delivered; replies = o.replies.items }
+told o = record { ticket = o.ticket; flushed = o.flushed; delivered = o.delivered; replies = o.replies.items; lost = o.lost.items; up = o.up }
 
 abbrev pub nothing_told : Told
-nothing_told = record { ticket = None; delivered = None; replies = [] }
+nothing_told = record { ticket = None; flushed = None; delivered = None; replies = []; lost = []; up = None }
 
--- ---- one request
+-- ---- what an event tells, and the world afterwards
 
--- the world after node i is asked q
-unfoldable pub asked : ℕ → Request → State → State
-asked i q s = record s { run = s.run ++ map (λ x. (i, x)) (gained i s.size s.capacity fresh (history s i) q) }
-
--- what node i answers to q
-abbrev pub reply_at : ℕ → Request → State → Reply
-reply_at i q s = reply i s.size s.capacity fresh (history s i) q
-
--- node i is asked q under the next ticket number, and answers at once
+-- Node i is asked under the next ticket number. In an eager ring what it accepts is made durable. Then the replies that
+-- rest on durable inputs alone are released.
 unfoldable pub submitted : ℕ → Request → State → Told × State
 submitted i q s =
     let ticket = s.tickets + 1 in
-    (record nothing_told { ticket = Some ticket; replies = (ticket, reply_at i q s) ∷ [] }, record (asked i q s) { tickets = ticket })
+    let w = brought s.eager (Some ticket) i q s.ring in
+    (record nothing_told { ticket = Some ticket; replies = replies i w }, record s { ring = settled i w; tickets = ticket })
 
--- ---- deliveries
+-- a batch of node i is made durable, and the replies that rested on it are released
+unfoldable pub flushed : ℕ → State → Told × State
+flushed i s =
+    let w = landed i s.ring in
+    (record nothing_told { flushed = Some ((node_at w i).durable - (node_at s.ring i).durable); replies = replies i w }, record s { ring = settled i w })
 
--- the node and the request that a message is delivered by
-abbrev pub carried_to : State → ℕ → ℕ → Option Msg → Option (ℕ × Request)
-carried_to s from place None = None
-carried_to s from place (Some msg) = Some (after s.size from, ask.Take place msg)
+-- node i was opened again, in this ring: the tickets that it lost, and how many inputs it holds
+abbrev pub reopened : ℕ → RingView → State → Told × State
+reopened i w s = (record nothing_told { lost = lost i s.ring; up = Some (length (node_at w i).inputs) }, record s { ring = w })
 
--- message `place` of the link from a node to its successor, where it was sent
-abbrev pub carried : State → ℕ → ℕ → Option (ℕ × Request)
-carried s from place = carried_to s from place (slice_get (sent from (history s from)) place)
+unfoldable pub crashed : ℕ → State → Told × State
+crashed i s = reopened i (ring.crashed i s.ring) s
 
--- how many messages the successor of a node has taken, which is the number that it expects
-abbrev pub expected : State → ℕ → ℕ
-expected s from = length (taken (history s (after s.size from)))
-
--- the lowest of the `count` nodes from `from` on whose successor's next message was sent: its delivery
-unfoldable pub ready : State → ℕ → ℕ → Option (ℕ × Request)
-ready s from zero = None
-ready s from (suc count) = or_else (carried s from (expected s from)) (ready s (from + 1) count)
-
-abbrev pub is_taken : Reply → Bool
-is_taken say.Taken = true
-is_taken say.Stood = false
-is_taken say.Acked = false
-is_taken (say.Leader leader) = false
-is_taken (say.Latest latest) = false
-is_taken (say.Refused refusal) = false
-
-abbrev pub counted : ℕ × State → ℕ × State
-counted swept = (swept.0 + 1, swept.1)
-
--- after a delivery: the others, unless it was refused
-abbrev pub swept_on : (State → ℕ × State) → Bool → State → ℕ × State
-swept_on others true s = counted (others s)
-swept_on others false s = (0, s)
-
-abbrev pub swept_with : (State → ℕ × State) → State → Option (ℕ × Request) → ℕ × State
-swept_with others s None = (0, s)
-swept_with others s (Some delivery) = swept_on others (is_taken (reply_at delivery.0 delivery.1 s)) (asked delivery.0 delivery.1 s)
-
--- at most `count` deliveries: how many were accepted, and the world after them
-unfoldable pub swept : ℕ → State → ℕ × State
-swept zero s = (0, s)
-swept (suc count) s = swept_with (swept count) s (ready s 1 s.size)
+-- where nothing waits, a stop is a crash
+unfoldable pub stopped : Bool → ℕ → State → Told × State
+stopped keeps_flying i s = if waits s.ring i then reopened i (ring.stopped keeps_flying i s.ring) s else crashed i s
 
 unfoldable pub delivered_all : State → Told × State
-delivered_all s = let all = swept 10000 s in (record nothing_told { delivered = Some all.0 }, all.1)
-
--- ---- an event
+delivered_all s = let all = swept s.eager 10000 s.ring in (record nothing_told { delivered = Some all.0 }, record s { ring = all.1 })
 
 abbrev pub put : State → Option (ℕ × Request) → Told × State
 put s None = (nothing_told, s)
 put s (Some delivery) = submitted delivery.0 delivery.1 s
 
-unfoldable pub stepped : State → Event → Told × State
-stepped s (Submit node q) = submitted node q s
-stepped s (Deliver from place) = put s (carried s from place)
-stepped s (Credit from upto) = submitted (before s.size from) (ask.Acked upto) s
-stepped s DeliverAll = delivered_all s
+-- a device that is stopped keeps what flies, or it does not
+unfoldable pub stepped : Bool → State → Event → Told × State
+stepped keeps_flying s (Submit node q) = submitted node q s
+stepped keeps_flying s (Flush node) = flushed node s
+stepped keeps_flying s (Deliver from place) = put s (carried s.ring from place)
+stepped keeps_flying s DeliverAll = delivered_all s
+stepped keeps_flying s (Credit from upto) = submitted (before s.ring.size from) (ask.Acked upto) s
+stepped keeps_flying s (Crash node) = crashed node s
+stepped keeps_flying s (Stop node call tear) = stopped keeps_flying node s
+
+-- all that happened is told
+abbrev pub all_told : Told × State → Told × State
+all_told step = (step.0, record step.1 { ring = record step.1.ring { told = step.1.ring.events } })
 
 -- The relation of a step: the event may tell o and lead from s to t.
 unfoldable pub Steps : State → Event → Told → State → Type 0
-Steps s event o t = (o, t) ≡ stepped s event
+Steps s event o t = (keeps_flying : Bool) × ((o, t) ≡ all_told (stepped keeps_flying s event))
 
 -- ---- why an event is refused
 
-abbrev pub is_sent : Option Msg → Msg → Bool
-is_sent None msg = false
-is_sent (Some m) msg = is_msg m msg
-
--- node i has taken `upto` messages, at least one: it may tell its predecessor so
-abbrev pub is_earned : State → ℕ → ℕ → Bool
-is_earned s i upto = nat_le 1 upto && nat_le upto (length (taken (history s i)))
-
--- a packet that the request brings was released to node i by its neighbour
-unfoldable pub is_released : State → ℕ → Request → Bool
-is_released s i (ask.Stand key bid) = true
-is_released s i (ask.Take place msg) = let from = before s.size i in is_sent (slice_get (sent from (history s from)) place) msg
-is_released s i (ask.Acked upto) = is_earned s (after s.size i) upto
-is_released s i (ask.Who key) = true
-is_released s i (ask.Latest group) = true
+abbrev pub no_node : State → ℕ → Option Refusal
+no_node s i = where_so (nat_lt s.ring.size i) refused.BadNumber
 
 abbrev pub unknown : Option (ℕ × Request) → Option Refusal
 unknown None = Some refused.Unknown
@@ -138,11 +97,24 @@ abbrev pub spent : State → Option Refusal
 spent s = where_so (nat_le (2 ^ 60) s.tickets) refused.Limit
 
 unfoldable pub objection_to : State → Event → Option Refusal
-objection_to s (Submit node q) = or_else (where_so (nat_lt s.size node) refused.BadNumber) (or_else (where_so (not (is_released s node q)) refused.Unknown) (spent s))
-objection_to s (Deliver from place) = or_else (where_so (nat_lt s.size from) refused.BadNumber) (or_else (unknown (carried s from place)) (spent s))
-objection_to s (Credit from upto) = or_else (where_so (nat_lt s.size from) refused.BadNumber) (or_else (where_so (not (is_earned s from upto)) refused.Unknown) (spent s))
+objection_to s (Submit node q) = or_else (no_node s node) (or_else (where_so (is_outside s.ring.size q) refused.BadNumber) (or_else (where_so (not (is_released s.ring node q)) refused.Unknown) (spent s)))
+objection_to s (Flush node) = no_node s node
+objection_to s (Deliver from place) = or_else (no_node s from) (or_else (unknown (carried s.ring from place)) (spent s))
 objection_to s DeliverAll = None
+objection_to s (Credit from upto) = or_else (no_node s from) (or_else (where_so (not (is_earned s.ring from upto)) refused.Unknown) (spent s))
+objection_to s (Crash node) = no_node s node
+objection_to s (Stop node call tear) = or_else (no_node s node) (where_so (nat_eq call 0 || nat_lt 4 call) refused.BadNumber)
 
 -- the first cause to refuse the event, want of memory aside
 unfoldable pub refusal_of : State → Event → Option Refusal
-refusal_of s event = or_else (where_so s.failed refused.Failed) (objection_to s event)
+refusal_of s event = or_else (where_so s.ring.failed refused.Failed) (objection_to s event)
+
+-- want of memory changes nothing
+unfoldable pub is_lasting : State → Event → Bool
+is_lasting s (Submit node q) = not s.eager
+is_lasting s (Flush node) = false
+is_lasting s (Deliver from place) = not s.eager
+is_lasting s DeliverAll = false
+is_lasting s (Credit from upto) = not s.eager
+is_lasting s (Crash node) = false
+is_lasting s (Stop node call tear) = false

@@ -1,19 +1,23 @@
-//! A ring of nodes in memory, and the events that a script may cause in it.
+//! A ring of durable nodes in memory, and the events that a script may cause in it.
 //!
-//! A World is seen as the run of the inputs that its nodes accepted (specs/State). What an event tells and where it
-//! leads is a function of that run (specs/Step), over the definitions of ring_records. `laws` says what holds of every
-//! legal run, and of every schedule of nodes that may crash (specs/Events).
+//! A World keeps the list of all that happened (specs/Events) and shows the nodes that it reaches. What an event tells
+//! and where it leads is said in specs/Step, of parts in specs/Ring. `laws` says what holds of every legal run, and of
+//! every list of events.
 #![tactic(auto)]
 
+mod announced;
 mod event;
+mod happened;
 pub mod laws;
-mod member;
 mod outcome;
-mod run;
+mod ring;
+mod shown;
 #[cfg(test)]
 mod tests;
 mod world;
 
+pub use announced::Announced;
 pub use event::Event;
 pub use outcome::Outcome;
+pub use shown::Shown;
 pub use world::World;

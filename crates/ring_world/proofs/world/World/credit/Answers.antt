@@ -1,11 +1,12 @@
-use Rattle.std.proofs.Common.{◌≡◌, sym, ap, ◌∙◌}
+use Rattle.std.proofs.Common.{◌≡◌, true, sym, subst, ap, ◌∙◌}
 use Rattle.ring_records.specs.Place.{after}
+use Rattle.ring_world.specs.Ring.{is_earned, is_released}
 use Rattle.ring_world.specs.State.{State}
-use Rattle.ring_world.proofs.Releases.{credit-brought}
 use Rattle.ring_world.proofs.world.World.credit.Goals as goal
 
-pub submit-requires-clause-brought : goal.submit-requires-clause-brought
-submit-requires-clause-brought c =
-    let s = c.args.self.now in
-    let back : after s.size c.predecessor.result ≡ c.args.from = ap (λ (v : State). after v.size c.predecessor.result) (sym c.submit.view_is) ∙ c.predecessor.ensures.back in
-    credit-brought s c.args.from c.predecessor.result c.args.upto c.requires.earned back
+pub submit-requires-clause-released : goal.submit-requires-clause-released
+unfolding is_released
+submit-requires-clause-released c =
+    let size = c.size.ensures.value ∙ ap (λ (s : State). s.ring.size) c.self.view_is in
+    let back = ap (λ n. after n c.predecessor-to.result) (sym size) ∙ c.predecessor-to.ensures.back in
+    subst (λ k. is_earned c.args.self.now.ring k c.args.upto ≡ true) (sym back) c.requires.earned

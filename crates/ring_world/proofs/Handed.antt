@@ -1,0 +1,133 @@
+-- What a neighbour may release, and that it brings what is asked.
+use Rattle.std.proofs.Common.{ℕ, ◌≡◌, ◌≤◌, true, List, [], ◌∷◌, ◌++◌, length, take, Option, Some, None, leb, eqb, sym, ap, ◌∙◌, subst, arith}
+use Rattle.std.specs.Prelude.{slice_get}
+use Rattle.std.proofs.lemmas.Bool.{and_parts, and_from, eqb-true, leb-true}
+use Rattle.std.proofs.lemmas.Bool.Decides.{nat_tests}
+use Rattle.std.proofs.lemmas.List.Elements.{Contains-push}
+use Rattle.ring_records.specs.declared.candidate.Candidate.{Candidate}
+use Rattle.ring_records.specs.declared.msg.Msg.{Msg}
+use Rattle.ring_records.specs.declared.msg.Msg.TheVariants.{Token, Elected}
+use Rattle.ring_records.specs.declared.packet.Packet.{Packet}
+use Rattle.ring_records.specs.declared.packet.Packet.TheVariants.{Carry, Credit}
+use Rattle.ring_records.specs.declared.request.Request.{Request}
+use Rattle.ring_records.specs.declared.request.Request.TheVariants as ask
+use Rattle.ring_records.specs.Answer.{PacketRests}
+use Rattle.ring_records.specs.Emission.{sent}
+use Rattle.ring_records.specs.History.{taken}
+use Rattle.ring_records.specs.Order.{is_key, is_candidate, is_msg}
+use Rattle.ring_records.specs.Place.{after, before}
+use Rattle.ring_records.proofs.Keys.{is_key-true, is_key-same}
+use Rattle.ring_node.specs.Node.{durable_in}
+use Rattle.ring_world.specs.Events.{Sent, Rests, Action, Release, Process, process, IsDelivered, IsReleasable}
+use Rattle.ring_world.specs.Ring.{RingView, Shows, node_at, handed, is_sent, message, is_earned, is_released}
+use Rattle.ring_world.proofs.Moves.{Stays, release_one, release_none}
+use Rattle.ring_world.proofs.Nodes.{mine}
+
+is_candidate-true : (a b : Candidate) → is_candidate a b ≡ true → a ≡ b
+unfolding is_candidate
+is_candidate-true a b e =
+    let parts = and_parts (eqb a.bid b.bid) (eqb a.node b.node) e in
+    let bids = eqb-true a.bid b.bid parts.0 in
+    let nodes = eqb-true a.node b.node parts.1 in
+    λ i. record { bid = bids i; node = nodes i }
+
+is_msg-true : (a b : Msg) → is_msg a b ≡ true → a ≡ b
+unfolding is_msg
+is_msg-true (Token k c) (Token l d) e =
+    let parts = and_parts (is_key k l) (is_candidate c d) e in
+    λ i. Token (is_key-true k l parts.0 i) (is_candidate-true c d parts.1 i)
+is_msg-true (Token k c) (Elected l d) e = absurd cc
+is_msg-true (Elected k c) (Token l d) e = absurd cc
+is_msg-true (Elected k c) (Elected l d) e =
+    let parts = and_parts (is_key k l) (is_candidate c d) e in
+    λ i. Elected (is_key-true k l parts.0 i) (is_candidate-true c d parts.1 i)
+
+is_sent-same : (o : Option Msg) (msg : Msg) → is_sent o msg ≡ true → o ≡ Some msg
+is_sent-same None msg e = absurd cc
+is_sent-same (Some m) msg e = ap Some (is_msg-true m msg e)
+
+-- the neighbours of a node are nodes
+pub before_low : (n i : ℕ) → 1 ≤ i → i ≤ n → 1 ≤ before n i
+unfolding before
+before_low n i low high = grind (arith, nat_tests)
+
+pub before_high : (n i : ℕ) → 1 ≤ i → i ≤ n → before n i ≤ n
+unfolding before
+before_high n i low high = grind (arith, nat_tests)
+
+pub after_low : (n i : ℕ) → 1 ≤ i → i ≤ n → 1 ≤ after n i
+unfolding after
+after_low n i low high = grind (arith, nat_tests)
+
+pub after_high : (n i : ℕ) → 1 ≤ i → i ≤ n → after n i ≤ n
+unfolding after
+after_high n i low high = grind (arith, nat_tests)
+
+module _ (w : RingView) (shows : Shows w.size w.capacity w.events w.nodes) where
+  -- the packets that node b may release
+  module _ (b : ℕ) (low : 1 ≤ b) (high : b ≤ w.size) where
+    abbrev p : Process
+    p = process w.size w.capacity w.events b
+
+    packet_releasable : (packet : Packet) → PacketRests b (take p.state.durable p.state.inputs) packet → IsReleasable b w.size w.capacity p (Sent packet)
+    unfolding IsReleasable Rests
+    packet_releasable packet rests = record { number = p.state.durable; durable = omega arith; rests = rests }
+
+    pub packet_stays : (packet : Packet) → PacketRests b (take p.state.durable p.state.inputs) packet → Stays w.size w.capacity w.events ((b, Release (Sent packet)) ∷ [])
+    packet_stays packet rests = release_one w.size w.capacity w.events b (Sent packet) shows.schedule low high (packet_releasable packet rests)
+
+    pub carry_rests : (place : ℕ) (msg : Msg) → is_sent (message w b place) msg ≡ true → PacketRests b (take p.state.durable p.state.inputs) (Carry place msg)
+    carry_rests place msg e =
+        let here = mine w shows b low high in
+        let same : message w b place ≡ slice_get (sent b (take p.state.durable p.state.inputs)) place = λ t. slice_get (sent (here.me t) (take (here.state t).durable (here.state t).inputs)) place in
+        sym same ∙ is_sent-same (message w b place) msg e
+
+    pub credit_rests : (upto : ℕ) → is_earned w b upto ≡ true → PacketRests b (take p.state.durable p.state.inputs) (Credit upto)
+    credit_rests upto e =
+        let here = mine w shows b low high in
+        let parts = and_parts (leb 1 upto) (leb upto (length (taken (durable_in (node_at w b))))) e in
+        let same : length (taken (durable_in (node_at w b))) ≡ length (taken (take p.state.durable p.state.inputs)) = λ t. length (taken (take (here.state t).durable (here.state t).inputs)) in
+        (leb-true 1 upto parts.0, subst (λ k. upto ≤ k) same (leb-true upto (length (taken (durable_in (node_at w b)))) parts.1))
+
+  -- what its neighbour hands to node i changes no node, and is what the request brings
+  module _ (i : ℕ) (first : 1 ≤ i) (last : i ≤ w.size) where
+    pub handed_stays : (q : Request) → is_released w i q ≡ true → Stays w.size w.capacity w.events (handed w.size i q)
+    unfolding is_released
+    handed_stays (ask.Stand key bid) e = release_none w.size w.capacity w.events shows.schedule
+    handed_stays (ask.Take place msg) e =
+        let b = before w.size i in
+        let low = before_low w.size i first last in
+        let high = before_high w.size i first last in
+        packet_stays b low high (Carry place msg) (carry_rests b low high place msg e)
+    handed_stays (ask.Acked upto) e =
+        let b = after w.size i in
+        let low = after_low w.size i first last in
+        let high = after_high w.size i first last in
+        packet_stays b low high (Credit upto) (credit_rests b low high upto e)
+    handed_stays (ask.Who key) e = release_none w.size w.capacity w.events shows.schedule
+    handed_stays (ask.Latest group) e = release_none w.size w.capacity w.events shows.schedule
+
+-- the request is delivered once it is handed over
+pub handed_delivers : (n i : ℕ) (events : List (ℕ × Action)) (q : Request) → IsDelivered n (events ++ handed n i q) i q
+unfolding IsDelivered
+handed_delivers n i events (ask.Stand key bid) = tt
+handed_delivers n i events (ask.Take place msg) = Contains-push events (before n i, Release (Sent (Carry place msg)))
+handed_delivers n i events (ask.Acked upto) = Contains-push events (after n i, Release (Sent (Credit upto)))
+handed_delivers n i events (ask.Who key) = tt
+handed_delivers n i events (ask.Latest group) = tt
+
+-- ---- what is sent may be delivered
+
+is_candidate-same : (a : Candidate) → is_candidate a a ≡ true
+unfolding is_candidate
+is_candidate-same a = grind (arith, nat_tests)
+
+is_msg-same : (m : Msg) → is_msg m m ≡ true
+unfolding is_msg
+is_msg-same (Token k c) = and_from (is_key k k) (is_candidate c c) (is_key-same k) (is_candidate-same c)
+is_msg-same (Elected k c) = and_from (is_key k k) (is_candidate c c) (is_key-same k) (is_candidate-same c)
+
+pub sent_released : (w : RingView) (from to place : ℕ) (msg : Msg) (size : ℕ) → size ≡ w.size → before size to ≡ from → message w from place ≡ Some msg → is_released w to (ask.Take place msg) ≡ true
+unfolding is_released
+sent_released w from to place msg size same back sends =
+    ap (λ n. is_sent (message w (before n to) place) msg) (sym same) ∙ (ap (λ b. is_sent (message w b place) msg) back ∙ (ap (λ o. is_sent o msg) sends ∙ is_msg-same msg))

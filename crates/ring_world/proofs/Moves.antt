@@ -1,0 +1,77 @@
+-- Events that happen to a ring, one or a few at once.
+use Rattle.std.proofs.Common.{ℕ, ◌≡◌, ◌≤◌, List, [], ◌∷◌, ◌++◌, map, sym, ap, ◌∙◌, subst, inl, inr, append_assoc, append-nil}
+use Rattle.std.specs.List.{Contains}
+use Rattle.std.proofs.lemmas.Bool.{cases_eq}
+use Rattle.ring_records.proofs.Leader.{Contains-here, Contains-later}
+use Rattle.ring_records.proofs.Lists.{EachAfter-push}
+use Rattle.ring_node.specs.Node.{Open}
+use Rattle.ring_world.specs.Events.{Thing, Replied, Action, Release, Process, act, process, IsReleasable, May, MayHappen, IsSchedule}
+use Rattle.ring_world.specs.Ring.{release_of}
+use Rattle.ring_world.proofs.Schedules.{process-same, process-other}
+
+-- the events may happen after those before, and change no node but i
+pub record Grows (n capacity : ℕ) (events more : List (ℕ × Action)) (i : ℕ) : Type 0 where
+  pub schedule : IsSchedule n capacity (events ++ more)
+  pub others : (k : ℕ) → (i ≡ k → ⊥) → process n capacity (events ++ more) k ≡ process n capacity events k
+
+-- the events may happen after those before, and change no node
+pub record Stays (n capacity : ℕ) (events more : List (ℕ × Action)) : Type 0 where
+  pub schedule : IsSchedule n capacity (events ++ more)
+  pub same : (k : ℕ) → process n capacity (events ++ more) k ≡ process n capacity events k
+
+pub grows_one : (n capacity : ℕ) (events : List (ℕ × Action)) (i : ℕ) (a : Action) → IsSchedule n capacity events → MayHappen n capacity events (i, a) → Grows n capacity events ((i, a) ∷ []) i
+unfolding IsSchedule
+grows_one n capacity events i a schedule may = record {
+  schedule = EachAfter-push (MayHappen n capacity) [] events (i, a) schedule may;
+  others = λ k ne. process-other n capacity events i a k ne;
+}
+
+module _ (n capacity : ℕ) (events : List (ℕ × Action)) (i : ℕ) (a b : Action) where
+  joined : (events ++ (i, a) ∷ []) ++ (i, b) ∷ [] ≡ events ++ (i, a) ∷ (i, b) ∷ []
+  joined = append_assoc events ((i, a) ∷ []) ((i, b) ∷ [])
+
+  pub process_two : process n capacity (events ++ (i, a) ∷ (i, b) ∷ []) i ≡ act i n capacity (act i n capacity (process n capacity events i) a) b
+  process_two =
+      ap (λ es. process n capacity es i) (sym joined)
+      ∙ (process-same n capacity (events ++ (i, a) ∷ []) i b ∙ ap (λ p. act i n capacity p b) (process-same n capacity events i a))
+
+  pub grows_two : IsSchedule n capacity events → MayHappen n capacity events (i, a) → May n capacity (events ++ (i, a) ∷ []) i (act i n capacity (process n capacity events i) a) b → Grows n capacity events ((i, a) ∷ (i, b) ∷ []) i
+  grows_two schedule may then =
+      let one = grows_one n capacity events i a schedule may in
+      let here = subst (λ p. May n capacity (events ++ (i, a) ∷ []) i p b) (sym (process-same n capacity events i a)) then in
+      let two = grows_one n capacity (events ++ (i, a) ∷ []) i b one.schedule (record { first = may.first; last = may.last; may = here }) in
+      record {
+        schedule = subst (IsSchedule n capacity) joined two.schedule;
+        others = λ k ne. ap (λ es. process n capacity es k) (sym joined) ∙ (two.others k ne ∙ one.others k ne);
+      }
+
+-- ---- releases
+
+pub release_one : (n capacity : ℕ) (events : List (ℕ × Action)) (i : ℕ) (t : Thing) → IsSchedule n capacity events → 1 ≤ i → i ≤ n → IsReleasable i n capacity (process n capacity events i) t → Stays n capacity events ((i, Release t) ∷ [])
+unfolding May act
+release_one n capacity events i t schedule first last may = record {
+  schedule = (grows_one n capacity events i (Release t) schedule (record { first = first; last = last; may = may })).schedule;
+  same = λ k. elim (cases_eq i k) [
+    | inl e ↦ subst (λ j. process n capacity (events ++ (i, Release t) ∷ []) j ≡ process n capacity events j) e (process-same n capacity events i (Release t))
+    | inr ne ↦ process-other n capacity events i (Release t) k ne
+  ];
+}
+
+pub release_none : (n capacity : ℕ) (events : List (ℕ × Action)) → IsSchedule n capacity events → Stays n capacity events []
+release_none n capacity events schedule = record {
+  schedule = subst (IsSchedule n capacity) (sym (append-nil events)) schedule;
+  same = λ k. ap (λ es. process n capacity es k) (append-nil events);
+}
+
+pub release_all : (n capacity i : ℕ) → 1 ≤ i → i ≤ n → (ts : List Open) (events : List (ℕ × Action)) → IsSchedule n capacity events → ((t : Open) → Contains ts t → IsReleasable i n capacity (process n capacity events i) (Replied t.kept))
+    → Stays n capacity events (map (release_of i) ts)
+release_all n capacity i first last [] events schedule each = release_none n capacity events schedule
+release_all n capacity i first last (t ∷ ts) events schedule each =
+    let one = release_one n capacity events i (Replied t.kept) schedule first last (each t (Contains-here t ts)) in
+    let rest = release_all n capacity i first last ts (events ++ release_of i t ∷ []) one.schedule
+    (λ u there. subst (λ (p : Process). IsReleasable i n capacity p (Replied u.kept)) (sym (one.same i)) (each u (Contains-later t ts u there))) in
+    let joined = append_assoc events (release_of i t ∷ []) (map (release_of i) ts) in
+    record {
+      schedule = subst (IsSchedule n capacity) joined rest.schedule;
+      same = λ k. ap (λ es. process n capacity es k) (sym joined) ∙ (rest.same k ∙ one.same k);
+    }

@@ -1,0 +1,17 @@
+-- How many of a ring's open tickets have a number.
+use Rattle.std.specs.Prelude.{ℕ, ◌≡◌, ◌≤◌, false, length}
+use Rattle.std.specs.List.{filter_map}
+use Rattle.ring_node.specs.Node.{NodeView, number_of}
+use Rattle.ring_world.specs.Ring.{RingView, node_at}
+
+-- how many open tickets of the node have one
+abbrev pub numbered : NodeView → ℕ
+numbered v = length (filter_map number_of v.held)
+
+-- at each node no more than so many
+unfoldable pub IsBounded : RingView → ℕ → Type 0
+IsBounded w tickets = (i : ℕ) → numbered (node_at w i) ≤ tickets
+
+-- while the ring works, no more than the numbers that are taken
+abbrev pub IsCounted : RingView → ℕ → Type 0
+IsCounted w tickets = w.failed ≡ false → IsBounded w tickets

@@ -1,0 +1,267 @@
+// A ring of durable nodes in memory, and what happened to it.
+ghost use Rattle.std.specs.Prelude.{◌≡◌, ◌≤◌, ◌∷◌, ◌++◌, ℕ, [], length, true, false, OnOk, OnErr, IfOk, IfSome};
+ghost use Rattle.std.specs.List.{filter_map};
+ghost use Rattle.ring_records.specs.History.{credit as credit_of, taken as taken_in};
+ghost use Rattle.ring_records.specs.Emission.{sent as sent_by};
+ghost use Rattle.ring_records.specs.Message.{candidate_of};
+ghost use Rattle.ring_records.specs.Order.{is_msg};
+ghost use Rattle.ring_node.specs.Node.{accepts};
+ghost use Rattle.group_commit.specs.Kept.{is_outside};
+ghost use Rattle.ring_world.specs.Events.{IsDelivered, IsSchedule};
+ghost use Rattle.ring_world.specs.Ring.{new_nodes};
+ghost use Rattle.ring_world.specs.State.{is_ring};
+
+use crate::happened::Happened;
+use disk_model::Tear;
+use ring_node::RingNode;
+use ring_records::{Msg, NodeNo, Packet, Reply, Request};
+use std::alloc::{AllocError, Global};
+use std::marker::Model;
+
+/// A ring of 2 to 16 nodes, and what happened to it. It is not let go: `end` ends its nodes.
+pub struct Ring {
+    alloc: Global,
+    size: u8,
+    capacity: u32,
+    failed: bool,
+    nodes: Vec<RingNode>,
+    events: Vec<Happened>,
+    // How many events were told.
+    told: usize,
+}
+
+impl Model for Ring {
+    ghost use Rattle.std.specs.Prelude.{◌≤◌, length, take};
+    ghost use Rattle.ring_world.specs.Ring.{RingView, IsSound};
+
+    ghost Value = { RingView };
+
+    ghost view = { λ w. record { size = w.size; capacity = w.capacity; failed = w.failed; events = w.events.items; told = take w.told w.events.items; nodes = w.nodes.items } };
+
+    ghost invariant = { λ w. (w.told ≤ length w.events.items) × IsSound w.size w.capacity w.failed w.events.items (take w.told w.events.items) w.nodes.items };
+}
+
+impl Ring {
+    ghost use Rattle.ring_world.specs.Ring.{RingView, new_ring, ShowsNode, node_at, asked, waits, landed, settled, replies, reply_of, crashed, stopped, lost, given, brought, message, is_earned, is_released};
+
+    /// A ring of `size` nodes of this capacity in bytes, in which nothing has happened.
+    pub fn new(alloc: Global, size: u8, capacity: u32) -> Result<Ring, AllocError>
+        requires range { is_ring size capacity ≡ true }
+        ensures { IfOk result (λ ring. ring ≡ new_ring size capacity) }
+    {
+        let mut nodes = Vec::new(alloc);
+        if let Err(error) = fill(alloc, &mut nodes, size, capacity) {
+            end_all(nodes);
+            return Err(error);
+        }
+        Ok(Ring {
+            alloc,
+            size,
+            capacity,
+            failed: false,
+            nodes,
+            events: Vec::new(alloc),
+            told: 0,
+        })
+    }
+
+    /// Ends its nodes, and gives up their open tickets.
+    pub fn end(self) {
+        let Ring {
+            alloc: _,
+            size: _,
+            capacity: _,
+            failed: _,
+            nodes,
+            events: _,
+            told: _,
+        } = self;
+        end_all(nodes);
+    }
+
+    /// What happened may happen, and the nodes are those that it reaches.
+    pub fn is_lawful(&self)
+        ensures told { IsSchedule self.now.size self.now.capacity self.now.told }
+        ensures events { self.now.failed ≡ false → IsSchedule self.now.size self.now.capacity self.now.events }
+        ensures shows { self.now.failed ≡ false → (i : ℕ) → 1 ≤ i → i ≤ self.now.size → ShowsNode self.now.size self.now.capacity self.now.events i (node_at self.now i) }
+    {
+        let _ = &self.size;
+    }
+
+    /// How many nodes it has, 2 to 16.
+    pub fn size(&self) -> u8
+        ensures value { result ≡ self.now.size }
+        ensures range { (2 ≤ result) × (result ≤ 16) }
+    {
+        self.size
+    }
+
+    /// Whether a growth was refused, after which it is of no use.
+    pub fn is_failed(&self) -> bool
+        ensures { result ≡ self.now.failed }
+    {
+        self.failed
+    }
+
+    /// It is of no use any more.
+    pub fn fail(&mut self)
+        ensures { self.new ≡ record self.old { failed = true } }
+    {
+        self.failed = true;
+    }
+
+    /// All that happened is told.
+    pub fn tell(&mut self)
+        requires works { self.old.failed ≡ false }
+        ensures { self.new ≡ record self.old { told = self.old.events } }
+    {
+        self.told = self.events.len();
+    }
+
+    /// What happened, as far as it was told.
+    pub fn told(&self) -> &[Happened]
+        ensures { result.now ≡ self.now.told }
+    {
+        &self.events[..self.told]
+    }
+
+    fn at(&self, node: NodeNo) -> &RingNode
+        requires works { self.now.failed ≡ false }
+        requires inside { node ≤ self.now.size }
+        ensures value { result.now ≡ node_at self.now node }
+        ensures ring { result.now.n ≡ self.now.size }
+    {
+        &self.nodes[node.number() as usize - 1]
+    }
+
+    /// How many inputs the node accepted.
+    pub fn count(&self, node: NodeNo) -> u64
+        requires works { self.now.failed ≡ false }
+        requires inside { node ≤ self.now.size }
+        ensures { result ≡ length (node_at self.now node).inputs }
+    {
+        self.at(node).count()
+    }
+
+    /// How many of them are durable.
+    pub fn durable(&self, node: NodeNo) -> u64
+        requires works { self.now.failed ≡ false }
+        requires inside { node ≤ self.now.size }
+        ensures { result ≡ (node_at self.now node).durable }
+    {
+        self.at(node).durable()
+    }
+
+    /// How many messages they sent.
+    pub fn sent(&self, node: NodeNo) -> u64
+        requires works { self.now.failed ≡ false }
+        requires inside { node ≤ self.now.size }
+        ensures { result ≡ length (sent_by (node_at self.now node).me (node_at self.now node).inputs) }
+    {
+        self.at(node).sent()
+    }
+
+    /// How many messages they took.
+    pub fn taken(&self, node: NodeNo) -> u64
+        requires works { self.now.failed ≡ false }
+        requires inside { node ≤ self.now.size }
+        ensures { result ≡ length (taken_in (node_at self.now node).inputs) }
+    {
+        self.at(node).taken()
+    }
+
+    /// The last credit among them.
+    pub fn credit(&self, node: NodeNo) -> u64
+        requires works { self.now.failed ≡ false }
+        requires inside { node ≤ self.now.size }
+        ensures { result ≡ credit_of (node_at self.now node).inputs }
+    {
+        self.at(node).credit()
+    }
+
+    /// Whether inputs of the node are not durable yet.
+    pub fn waits(&self, node: NodeNo) -> bool
+        requires works { self.now.failed ≡ false }
+        requires inside { node ≤ self.now.size }
+        ensures { result ≡ waits self.now node }
+    {
+        self.at(node).durable() < self.at(node).count()
+    }
+
+    /// Message `no` that the durable inputs of the node sent.
+    pub fn message(&self, node: NodeNo, no: u64) -> Option<Msg>
+        requires works { self.now.failed ≡ false }
+        requires inside { node ≤ self.now.size }
+        ensures value { result ≡ message self.now node no }
+        ensures of_ring { IfSome result (λ msg. (candidate_of msg).node ≤ self.now.size) }
+    {
+        self.at(node).message(no)
+    }
+
+    /// Whether the node's durable inputs took so many messages, at least one.
+    pub fn is_earned(&self, node: NodeNo, upto: u64) -> bool
+        requires works { self.now.failed ≡ false }
+        requires inside { node ≤ self.now.size }
+        ensures { result ≡ is_earned self.now node upto }
+    {
+        1 <= upto && upto <= self.at(node).durable_taken()
+    }
+
+    /// Whether a neighbour may release what the request brings the node, if it brings anything.
+    #[tactic(auto, unfolding(crate::specs::Ring::is_released))]
+    pub fn is_released(&self, node: NodeNo, request: &Request) -> bool
+        requires works { self.now.failed ≡ false }
+        requires inside { node ≤ self.now.size }
+        ensures { result ≡ is_released self.now node request.now }
+    {
+        match request {
+            Request::Take(no, msg) => {
+                let from = node.predecessor(self.size);
+                match self.message(from, *no) {
+                    Some(sent) => is_same(&sent, msg),
+                    None => false,
+                }
+            }
+            Request::Acked(upto) => {
+                let from = node.successor(self.size);
+                self.is_earned(from, *upto)
+            }
+            Request::Stand(..) | Request::Who(_) | Request::Latest(_) => true,
+        }
+    }
+}
+
+mod changes;
+mod crashes;
+mod deliveries;
+
+// Whether they are one message.
+fn is_same(a: &Msg, b: &Msg) -> bool
+    ensures { result ≡ is_msg a.now b.now }
+{
+    a == b
+}
+
+// Adds nodes 1 to `size`.
+fn fill(alloc: Global, nodes: &mut Vec<RingNode>, size: u8, capacity: u32) -> Result<(), AllocError>
+    requires range { is_ring size capacity ≡ true }
+    requires empty { nodes.old.items ≡ [] }
+    ensures nodes { OnOk result (nodes.new.items ≡ new_nodes size capacity size) }
+{
+    nodes.reserve(size as usize)?;
+    let mut node = NodeNo::first();
+    for _ in 0..size {
+        nodes.push_reserved(RingNode::new(alloc, node, size, capacity)?);
+        node = node.successor(size);
+    }
+    Ok(())
+}
+
+// Ends them all.
+fn end_all(nodes: Vec<RingNode>) {
+    let mut nodes = nodes;
+    while let Some(node) = nodes.pop() {
+        node.end();
+    }
+    nodes.destroy_empty();
+}

@@ -1,0 +1,50 @@
+// Nodes that lose their memory.
+ghost use Rattle.std.specs.Prelude.{◌≡◌, ◌≤◌, ◌<◌, ◌+◌, ◌-◌, ◌∷◌, ◌++◌, ℕ, Bool, [], length, map, true, false, Some, OnOk, OnErr, IfOk, IfSome, vec_len, vec_capacity};
+ghost use Rattle.ring_world.specs.Ring.{waits, crashed, stopped, lost};
+
+use super::*;
+
+impl Ring {
+    /// The node loses its memory, and is opened again from its device: the numbers of the tickets that were open, in
+    /// order. Want of memory leaves a failed ring.
+    pub fn crash(&mut self, node: NodeNo) -> Result<Vec<u64>, AllocError>
+        requires works { self.old.failed ≡ false }
+        requires inside { node ≤ self.old.size }
+        ensures next { OnOk result (self.new ≡ crashed node self.old) }
+        ensures lost { IfOk result (λ list. list.items ≡ lost node self.old) }
+        ensures works { OnOk result (self.new.failed ≡ false) }
+        ensures told { self.new.told ≡ self.old.told }
+        ensures size { (self.new.size ≡ self.old.size) × (self.new.capacity ≡ self.old.capacity) }
+        ensures err { OnErr result (self.new.failed ≡ true) }
+    {
+        self.failed = true;
+        self.events.reserve(1)?;
+        let lost = self.nodes[node.number() as usize - 1].crash()?;
+        self.events.push_reserved(Happened::crashed(node, false));
+        self.failed = false;
+        Ok(lost)
+    }
+
+    /// The node is stopped at a device call of a flush, 1 to 4, its device is left by the tear, and it is opened again:
+    /// the numbers of the tickets that were open, in order. Want of memory leaves a failed ring.
+    pub fn stop(&mut self, node: NodeNo, call: u64, tear: Tear) -> Result<Vec<u64>, AllocError>
+        requires works { self.old.failed ≡ false }
+        requires inside { node ≤ self.old.size }
+        requires waits { waits self.old node ≡ true }
+        ensures next { OnOk result ((keeps_flying : Bool) × (self.new ≡ stopped keeps_flying node self.old)) }
+        ensures lost { IfOk result (λ list. list.items ≡ lost node self.old) }
+        ensures works { OnOk result (self.new.failed ≡ false) }
+        ensures told { self.new.told ≡ self.old.told }
+        ensures size { (self.new.size ≡ self.old.size) × (self.new.capacity ≡ self.old.capacity) }
+        ensures err { OnErr result (self.new.failed ≡ true) }
+    {
+        self.failed = true;
+        self.events.reserve(2)?;
+        let (keeps_flying, lost) = self.nodes[node.number() as usize - 1].stop(call, tear)?;
+        self.events.push_reserved(Happened::launched(node));
+        self.events
+            .push_reserved(Happened::crashed(node, keeps_flying));
+        self.failed = false;
+        Ok(lost)
+    }
+}

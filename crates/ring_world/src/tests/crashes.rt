@@ -1,0 +1,73 @@
+// What crashes and stops leave.
+use super::*;
+
+/// Node 1 of a lazy ring of 3 stands under ticket 1, and is stopped: the ticket is lost, and the Stand is kept or not.
+fn keeps(rt: &impl Abort, alloc: Global, call: u64, tear: Tear, kept: u64) {
+    let mut world = ring(rt, alloc, 3, false);
+    let stood = asks(rt, &mut world, 1, Ask::Stand(10));
+    is_sealed(rt, &stood, 1);
+    let node = node(rt, 1);
+    let stopped = happens(rt, &mut world, Event::Stop { node, call, tear });
+    assert_eq!(rt; stopped.up, Some(kept), "{call} {tear:?}");
+    assert_eq!(rt; stopped.lost.len(), 1);
+    assert_eq!(rt; stopped.lost[0], 1);
+    assert!(rt; stopped.replies.is_empty());
+    let shown = world.show(node).expect(rt, "a node of the ring");
+    assert_eq!(rt;
+        (shown.inputs, shown.durable, shown.sent),
+        (kept, kept, kept)
+    );
+    world.end();
+}
+
+#[test]
+fn a_stop_keeps_a_batch_behind_its_gate(rt: HostRuntime) {
+    for call in 1..5 {
+        keeps(&rt, rt.alloc(), call, Tear::Old, 0);
+        keeps(&rt, rt.alloc(), call, Tear::Fill(0), 0);
+        keeps(&rt, rt.alloc(), call, Tear::Fill(165), 0);
+        let kept = u64::from(call > 2);
+        keeps(&rt, rt.alloc(), call, Tear::New, kept);
+        keeps(&rt, rt.alloc(), call, Tear::Fill(1), kept);
+    }
+}
+
+#[test]
+fn a_flush_releases_what_was_sealed(rt: HostRuntime) {
+    let mut world = ring(&rt, rt.alloc(), 3, false);
+    let stood = asks(&rt, &mut world, 1, Ask::Stand(10));
+    is_sealed(&rt, &stood, 1);
+    sweeps(&rt, &mut world, 0);
+    let node = node(&rt, 1);
+    let flushed = happens(&rt, &mut world, Event::Flush(node));
+    assert_eq!(rt; flushed.flushed, Some(1));
+    assert_eq!(rt; flushed.replies.len(), 1);
+    let (ticket, reply) = flushed.replies[0];
+    assert_eq!(rt; (ticket, reply), (1, Reply::Stood));
+    sweeps(&rt, &mut world, 1);
+    let crashed = happens(&rt, &mut world, Event::Crash(node));
+    assert_eq!(rt; crashed.up, Some(1));
+    assert!(rt; crashed.lost.is_empty());
+    let idle = happens(&rt, &mut world, Event::Flush(node));
+    assert_eq!(rt; idle.flushed, Some(0));
+    world.end();
+}
+
+#[test]
+fn there_are_four_calls_to_stop_at(rt: HostRuntime) {
+    let mut world = ring(&rt, rt.alloc(), 2, true);
+    let tear = Tear::New;
+    for (number, call) in [(1, 0), (1, 5), (3, 1)] {
+        let node = node(&rt, number);
+        let event = Event::Stop { node, call, tear };
+        is_refused(&rt, &mut world, event, Refusal::BadNumber);
+    }
+    let third = node(&rt, 3);
+    is_refused(&rt, &mut world, Event::Flush(third), Refusal::BadNumber);
+    is_refused(&rt, &mut world, Event::Crash(third), Refusal::BadNumber);
+    match world.show(third) {
+        Ok(_) => panic!(rt; "shown"),
+        Err(refusal) => assert_eq!(rt; refusal, Refusal::BadNumber),
+    }
+    world.end();
+}
