@@ -1,5 +1,5 @@
 -- What the loop over the lines keeps, and what follows from it.
-use Rattle.std.proofs.Common.{◌≡◌, ℕ, ◌+◌, ◌<◌, ◌≤◌, Bool, true, false, List, [], ◌∷◌, ◌++◌, length, take, drop, refl, sym, ap, ◌∙◌, arith, append_assoc, append-nil, subst, Ok, Err, Some, None, Option, replicate, IfSome}
+use Rattle.std.proofs.Common.{◌≡◌, ℕ, ◌+◌, ◌*◌, ◌<◌, ◌≤◌, Bool, true, false, List, [], ◌∷◌, ◌++◌, length, take, drop, refl, sym, ap, ◌∙◌, arith, append_assoc, append-nil, subst, Ok, Err, Some, None, Option, replicate, IfSome}
 use Rattle.std.proofs.lemmas.List.{take-append-drop, length-append, drop-drop, length-replicate}
 use Rattle.std.proofs.Math.Seq.{take-add}
 use Rattle.std.proofs.KnownBytes.{Appends-nil, Appends-trans}
@@ -7,12 +7,15 @@ use Rattle.std.specs.Io.KnownBytes.{Appends}
 use Rattle.std.specs.Prelude.{Result}
 use Rattle.ring_world.specs.State.{State, opened}
 use Rattle.ring_records.specs.Texts.{refusal_text}
-use Rattle.ring_world.specs.Step.{Steps, stepped, refusal_of}
+use Rattle.ring_world.specs.Step.{Steps, stepped, all_told, refusal_of}
 use Rattle.ring_records.specs.declared.refusal.Refusal.{Refusal}
 use Rattle.ring_world.specs.declared.event.Event.{Event}
 use Rattle.fault_console.specs.Words.{lines_of}
 use Rattle.fault_console.specs.Judged.{is_silent, judged, opening_of, command_of}
-use Rattle.fault_console.specs.Script.{LinePrints, Where, Speaks, Opens, Happens, Obeys, capacity, ring_line, lines_told, MayPrint, text_of, Wrote, IsFront}
+use Rattle.fault_console.specs.declared.commands.Command.{Command}
+use Rattle.fault_console.specs.declared.commands.Command.TheVariants as ask
+use Rattle.fault_console.specs.declared.commands.Opening.{Opening}
+use Rattle.fault_console.specs.Script.{LinePrints, Where, Speaks, Opens, Happens, Shows, Obeys, ring_line, lines_told, show_line, shown_at, unshown, MayPrint, text_of, tickets_of, Wrote, IsFront}
 use Rattle.fault_console.specs.declared.run.RunFault.{RunFault}
 use Rattle.fault_console.specs.declared.run.RunFault.TheVariants.{Read, Write, Memory, Long}
 use Rattle.fault_console.proofs.Texts.{text_of-append}
@@ -35,25 +38,30 @@ MayPrint-one s t line out prints = (out, t, [], prints, sym (append-nil out), (r
 abbrev Goes : (Option State → List (List ℕ) → Option State → Type 0) → Option State → Type 0
 Goes P s = (out : List (List ℕ)) × (t : Option State) × P s out t
 
-opens : (s : Option State) (r : Result ℕ Refusal) → Goes (Opens r) s
+opens : (s : Option State) (r : Result Opening Refusal) → Goes (Opens r) s
 opens s (Err refusal) = (refusal_text refusal ∷ [], s, (refl, refl))
-opens s (Ok nodes) = (ring_line nodes ∷ [], Some (opened nodes capacity), (refl, refl))
+opens s (Ok o) = (ring_line o.nodes ∷ [], Some (opened o.nodes o.eager o.capacity), (refl, refl))
 
 -- here the world has to go on after any event
 happens : (w : State) (event : Event) (refusal : Option Refusal) (s : Option State) → Goes (Happens w event refusal) s
 unfolding Steps
 happens w event (Some refusal) s = (refusal_text refusal ∷ [], s, (refl, refl))
 happens w event None s =
-    let next = stepped w event in
-    (lines_told event next.0, Some next.1, (next.0, next.1, refl, refl, refl))
+    let next = all_told (stepped false w event) in
+    (lines_told event next.0, Some next.1, (next.0, next.1, (false, refl), refl, refl))
 
-obeys : (w : State) (s : Option State) (r : Result Event Refusal) → Goes (Obeys w r) s
+shows : (w : State) (node : ℕ) (refusal : Option Refusal) (s : Option State) → Goes (Shows w node refusal) s
+shows w node (Some refusal) s = (refusal_text refusal ∷ [], s, (refl, refl))
+shows w node None s = (show_line node (shown_at w node) ∷ [], s, (refl, refl))
+
+obeys : (w : State) (s : Option State) (r : Result Command Refusal) → Goes (Obeys w r) s
 obeys w s (Err refusal) = (refusal_text refusal ∷ [], s, (refl, refl))
-obeys w s (Ok event) = happens w event (refusal_of w event) s
+obeys w s (Ok (ask.Event event)) = happens w event (refusal_of w event) s
+obeys w s (Ok (ask.Show node)) = shows w node (unshown w node) s
 
 speaks : (ring s : Option State) (line : List ℕ) → Goes (Speaks ring line) s
 speaks None s line = opens s (judged opening_of line)
-speaks (Some w) s line = obeys w s (judged (command_of w.size) line)
+speaks (Some w) s line = obeys w s (judged (command_of w.ring.size) line)
 
 where_silent : (silent : Bool) (ring s : Option State) (line : List ℕ) → Goes (Where silent ring line) s
 where_silent true ring s line = ([], s, (refl, refl))
@@ -84,7 +92,8 @@ pub record Progress (script rest : List ℕ) (old now : Option (List ℕ)) (s : 
   pub ran : MayPrint None (take n (lines_of script)) out s
   pub written : Appends old now (text_of out)
   pub counted : count ≡ length out
-  pub lines : count ≤ n
+  pub tickets : tickets_of s ≤ n
+  pub lines : count ≤ 1000002 * n
   pub few : n + length rest ≤ 1000000
 
 pub begin : (script : List ℕ) (old : Option (List ℕ)) (s : Option State) → length script ≤ 1000000 → s ≡ None → Progress script script old old s 0
@@ -95,6 +104,7 @@ begin script old s few none = record {
   ran = (refl, none);
   written = Appends-nil old;
   counted = refl;
+  tickets = omega (arith, ap tickets_of none);
   lines = omega arith;
   few = omega arith;
 }
@@ -102,9 +112,9 @@ begin script old s few none = record {
 -- one more line, of which m lines out are printed
 pub go_on : (script rest after line : List ℕ) (old now new : Option (List ℕ)) (s t : Option State) (count m : ℕ) (out : List (List ℕ))
     → Progress script rest old now s count → lines_of rest ≡ line ∷ lines_of after → length after < length rest
-    → LinePrints line s out t → m ≡ length out → m ≤ 1 → Appends now new (text_of out)
+    → LinePrints line s out t → m ≡ length out → tickets_of t ≤ tickets_of s + 1 → m ≤ tickets_of s + 2 → Appends now new (text_of out)
     → Progress script after old new t (count + m)
-go_on script rest after line old now new s t count m out p first shorter prints number few wrote =
+go_on script rest after line old now new s t count m out p first shorter prints number tickets few wrote =
     let cut = cut_more (lines_of script) p.n line (lines_of after) (p.left ∙ first) in
     record {
       n = p.n + 1;
@@ -113,7 +123,8 @@ go_on script rest after line old now new s t count m out p first shorter prints 
       ran = subst (λ l. MayPrint None l (p.out ++ out) t) (sym cut.0) (MayPrint-append None s t (take p.n (lines_of script)) (line ∷ []) p.out out p.ran (MayPrint-one s t line out prints));
       written = subst (Appends old new) (sym (text_of-append p.out out)) (Appends-trans old now new (text_of p.out) (text_of out) p.written wrote);
       counted = omega (arith, p.counted, length-append p.out out);
-      lines = omega (arith, p.lines);
+      tickets = omega (arith, p.tickets);
+      lines = omega (arith, p.lines, p.tickets, p.few);
       few = omega (arith, p.few);
     }
 

@@ -1,16 +1,21 @@
 -- A line to a command, or to the first fault.
-use Rattle.std.specs.Prelude.{ℕ, Bool, ◌||◌, ◌&&◌, List, [], ◌∷◌, length, slice_index, nat_lt, ◌==◌, if◌then◌else◌, Result, Ok, Err, codes}
+use Rattle.std.specs.Prelude.{ℕ, Bool, true, false, ◌||◌, ◌&&◌, List, [], ◌∷◌, length, slice_index, nat_lt, ◌==◌, if◌then◌else◌, Result, Ok, Err, codes}
 use Rattle.std.specs.Str.{bytes_eq}
 use Rattle.std.specs.List.{list_all}
 use Rattle.std.specs.Option.{ok_or}
+use Rattle.disk_model.specs.declared.memory.Tear.{Tear}
+use Rattle.disk_model.specs.declared.memory.Tear.TheVariants.{Old, New, Fill}
 use Rattle.ring_records.specs.Names.{is_name}
 use Rattle.ring_records.specs.declared.key.Key.{Key}
 use Rattle.ring_records.specs.declared.refusal.Refusal.{Refusal}
 use Rattle.ring_records.specs.declared.refusal.Refusal.TheVariants.{BadName, BadNumber, BadLine}
 use Rattle.ring_records.specs.declared.request.Request.TheVariants.{Stand, Who, Latest}
 use Rattle.ring_world.specs.declared.event.Event.{Event}
-use Rattle.ring_world.specs.declared.event.Event.TheVariants.{Submit, Deliver, Credit, DeliverAll}
+use Rattle.ring_world.specs.declared.event.Event.TheVariants.{Submit, Flush, Deliver, DeliverAll, Credit, Crash, Stop}
 use Rattle.fault_console.specs.Words.{words_of, number_in}
+use Rattle.fault_console.specs.declared.commands.Command.{Command}
+use Rattle.fault_console.specs.declared.commands.Command.TheVariants as ask
+use Rattle.fault_console.specs.declared.commands.Opening.{Opening}
 
 -- Lines without a word, and lines whose first byte is '#', print nothing.
 abbrev pub is_silent : List ℕ → Bool
@@ -25,6 +30,14 @@ abbrev pub ◌>>=◌ : {A B : Type 0} → Result A Refusal → (A → Result B R
 -- a number in its range
 abbrev pub number_word : ℕ → ℕ → List ℕ → Result ℕ Refusal
 number_word low high word = ok_or (number_in low high word) BadNumber
+
+-- how a ring is to be: eager, or not
+abbrev pub mode_word : List ℕ → Result Bool Refusal
+mode_word word = if bytes_eq word (codes "eager") then Ok true else (if bytes_eq word (codes "lazy") then Ok false else Err BadLine)
+
+-- a tear of one word
+abbrev pub tear_word : List ℕ → Result Tear Refusal
+tear_word word = if bytes_eq word (codes "old") then Ok Old else (if bytes_eq word (codes "new") then Ok New else Err BadLine)
 
 -- a group
 abbrev pub name_word : List ℕ → Result (List ℕ) Refusal
@@ -70,10 +83,63 @@ credit_words nodes i number = do
   upto ← number_word 0 9999999999 number
   Ok (Credit node upto)
 
+abbrev pub flush_words : ℕ → List ℕ → Result Event Refusal
+flush_words nodes i = do
+  node ← number_word 1 nodes i
+  Ok (Flush node)
+
+abbrev pub crash_words : ℕ → List ℕ → Result Event Refusal
+crash_words nodes i = do
+  node ← number_word 1 nodes i
+  Ok (Crash node)
+
+-- the tear is of fixed words
+abbrev pub stop_words : ℕ → List ℕ → List ℕ → Tear → Result Event Refusal
+stop_words nodes i k tear = do
+  node ← number_word 1 nodes i
+  call ← number_word 1 4 k
+  Ok (Stop node call tear)
+
+-- the tear fills with a byte
+abbrev pub fill_words : ℕ → List ℕ → List ℕ → List ℕ → Result Event Refusal
+fill_words nodes i k b = do
+  node ← number_word 1 nodes i
+  call ← number_word 1 4 k
+  byte ← number_word 0 255 b
+  Ok (Stop node call (Fill byte))
+
+abbrev pub show_words : ℕ → List ℕ → Result Command Refusal
+show_words nodes i = do
+  node ← number_word 1 nodes i
+  Ok (ask.Show node)
+
+-- of each node of a ring, in bytes, where none is named
+abbrev pub default_capacity : ℕ
+default_capacity = 65536
+
+abbrev pub ring_words : List ℕ → Bool → Result Opening Refusal
+ring_words n eager = do
+  nodes ← number_word 2 16 n
+  Ok (record { nodes = nodes; eager = eager; capacity = default_capacity })
+
+abbrev pub mode_words : List ℕ → List ℕ → Result Opening Refusal
+mode_words n mode = do
+  eager ← mode_word mode
+  ring_words n eager
+
+abbrev pub sized_words : List ℕ → List ℕ → List ℕ → Result Opening Refusal
+sized_words n mode c = do
+  eager ← mode_word mode
+  nodes ← number_word 2 16 n
+  capacity ← number_word 4096 1048576 c
+  Ok (record { nodes = nodes; eager = eager; capacity = capacity })
+
 -- Before that, their count and the words that are fixed.
 
-unfoldable pub ring_of : List (List ℕ) → Result ℕ Refusal
-ring_of (n ∷ []) = number_word 2 16 n
+unfoldable pub ring_of : List (List ℕ) → Result Opening Refusal
+ring_of (n ∷ []) = ring_words n true
+ring_of (n ∷ mode ∷ []) = mode_words n mode
+ring_of (n ∷ mode ∷ c ∷ []) = sized_words n mode c
 ring_of _ = Err BadLine
 
 unfoldable pub stand_of : ℕ → List (List ℕ) → Result Event Refusal
@@ -97,20 +163,52 @@ unfoldable pub credit_of : ℕ → List (List ℕ) → Result Event Refusal
 credit_of nodes (i ∷ number ∷ []) = credit_words nodes i number
 credit_of nodes _ = Err BadLine
 
--- Before a ring is made `ring` alone is a command: the number of its nodes.
-unfoldable pub opening_of : List (List ℕ) → Result ℕ Refusal
+unfoldable pub flush_of : ℕ → List (List ℕ) → Result Event Refusal
+flush_of nodes (i ∷ []) = flush_words nodes i
+flush_of nodes _ = Err BadLine
+
+unfoldable pub crash_of : ℕ → List (List ℕ) → Result Event Refusal
+crash_of nodes (i ∷ []) = crash_words nodes i
+crash_of nodes _ = Err BadLine
+
+unfoldable pub stop_of : ℕ → List (List ℕ) → Result Event Refusal
+stop_of nodes (i ∷ k ∷ word ∷ []) = do
+  tear ← tear_word word
+  stop_words nodes i k tear
+stop_of nodes (i ∷ k ∷ word ∷ b ∷ []) = if bytes_eq word (codes "fill") then fill_words nodes i k b else Err BadLine
+stop_of nodes _ = Err BadLine
+
+unfoldable pub show_of : ℕ → List (List ℕ) → Result Command Refusal
+show_of nodes (i ∷ []) = show_words nodes i
+show_of nodes _ = Err BadLine
+
+-- Before a ring is made `ring` alone is a command: how the ring is to be.
+unfoldable pub opening_of : List (List ℕ) → Result Opening Refusal
 opening_of [] = Err BadLine
 opening_of (verb ∷ words) = if bytes_eq verb (codes "ring") then ring_of words else Err BadLine
 
--- Afterwards it is none.
-unfoldable pub command_of : ℕ → List (List ℕ) → Result Event Refusal
-command_of nodes [] = Err BadLine
-command_of nodes (verb ∷ words) =
+-- Afterwards it is none. The commands that are events, by their first word:
+unfoldable pub event_of : ℕ → List ℕ → List (List ℕ) → Result Event Refusal
+event_of nodes verb words =
     if bytes_eq verb (codes "stand") then stand_of nodes words
     else (if bytes_eq verb (codes "who") then who_of nodes words
     else (if bytes_eq verb (codes "latest") then latest_of nodes words
     else (if bytes_eq verb (codes "deliver") then deliver_of nodes words
-    else (if bytes_eq verb (codes "credit") then credit_of nodes words else Err BadLine))))
+    else (if bytes_eq verb (codes "credit") then credit_of nodes words
+    else (if bytes_eq verb (codes "flush") then flush_of nodes words
+    else (if bytes_eq verb (codes "crash") then crash_of nodes words
+    else (if bytes_eq verb (codes "stop") then stop_of nodes words else Err BadLine)))))))
+
+-- what happens, as a command
+abbrev pub as_command : Result Event Refusal → Result Command Refusal
+as_command judged = do
+  event ← judged
+  Ok (ask.Event event)
+
+-- `show` is no event
+unfoldable pub command_of : ℕ → List (List ℕ) → Result Command Refusal
+command_of nodes [] = Err BadLine
+command_of nodes (verb ∷ words) = if bytes_eq verb (codes "show") then show_of nodes words else as_command (event_of nodes verb words)
 
 -- what a line that is not silent says, unless it is longer than 200 bytes
 unfoldable pub judged : {A : Type 0} → (List (List ℕ) → Result A Refusal) → List ℕ → Result A Refusal

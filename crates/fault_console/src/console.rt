@@ -1,28 +1,26 @@
 // One line of the script after the other.
-ghost use Rattle.std.specs.Prelude.{◌≡◌, ◌∷◌, [], ◌≤◌, Ok, Some, None, IfOk, OnOk, string_bytes};
+ghost use Rattle.std.specs.Prelude.{◌≡◌, ◌∷◌, [], ◌+◌, ◌≤◌, true, Ok, Some, None, IfErr, IfOk, OnOk, string_bytes};
 ghost use Rattle.ring_records.specs.Texts.{refusal_text};
-ghost use Rattle.ring_world.specs.State.{opened};
+ghost use Rattle.ring_world.specs.State.{opened, is_ring};
+ghost use Rattle.ring_world.specs.Step.{refusal_of};
 ghost use Rattle.fault_console.specs.Judged.{judged, command_of};
-ghost use Rattle.fault_console.specs.Script.{Does, LinePrints, Obeys, Opens, capacity, ring_line};
+ghost use Rattle.fault_console.specs.Script.{Does, Happens, LinePrints, Obeys, Opens, Shows, ring_line, shown_at, tickets_of, unshown};
 
-use crate::commands::{judge, judge_opening, line_is_silent};
-use crate::print::{count_lines, print_outcome, print_refusal, print_ring};
-use ring_records::Refusal;
-use ring_world::{Event, World};
+use crate::commands::{Command, Opening, judge, judge_opening, line_is_silent};
+use crate::print::{count_lines, print_outcome, print_refusal, print_ring, print_shown};
+use ring_records::{NodeNo, Refusal};
+use ring_world::{Event, Shown, World};
 use std::alloc::{AllocError, Global};
+use std::mem::replace;
 
-/// The capacity of each node, in bytes.
-const CAPACITY: u32 = 65_536;
-
-/// Where the script stands: the ring, once it is made.
-#[derive(Drop)]
+/// Where the script stands: the ring, once it is made. It is not let go: `end` ends it.
 pub struct Console {
     pub world: Option<World>,
 }
 
 fn refuse(out: &mut String, refusal: Refusal) -> Result<u64, AllocError>
     ensures prints { IfOk result (λ n. Does (string_bytes out.old) (string_bytes out.new) n (λ lines. lines ≡ refusal_text refusal ∷ [])) }
-    ensures few { IfOk result (λ n. n ≤ 1) }
+    ensures few { IfOk result (λ n. n ≡ 1) }
 {
     print_refusal(out, refusal)?;
     Ok(1)
@@ -30,9 +28,11 @@ fn refuse(out: &mut String, refusal: Refusal) -> Result<u64, AllocError>
 
 // What the world tells of the event, or why it refuses it.
 fn perform(world: &mut World, event: Event, out: &mut String) -> Result<u64, AllocError>
+    requires small { world.old.tickets ≤ 1000000 }
     ensures prints { IfOk result (λ n. Does (string_bytes out.old) (string_bytes out.new) n
-        (λ lines. Obeys world.old (Ok event) (Some world.old) lines (Some world.new))) }
-    ensures few { IfOk result (λ n. n ≤ 1) }
+        (λ lines. Happens world.old event (refusal_of world.old event) (Some world.old) lines (Some world.new))) }
+    ensures tickets { OnOk result (world.new.tickets ≤ world.old.tickets + 1) }
+    ensures few { IfOk result (λ n. n ≤ world.old.tickets + 2) }
 {
     match world.step(event) {
         Ok(outcome) => {
@@ -44,25 +44,68 @@ fn perform(world: &mut World, event: Event, out: &mut String) -> Result<u64, All
     }
 }
 
+fn shown(world: &World, node: NodeNo) -> Result<Shown, Refusal>
+    ensures value { IfOk result (λ v. v ≡ shown_at world.now node) }
+    ensures shown { OnOk result (unshown world.now node ≡ None) }
+    ensures refused { IfErr result (λ refusal. unshown world.now node ≡ Some refusal) }
+{
+    match world.show(node) {
+        Ok(shown) => Ok(shown),
+        Err(refusal) => Err(refusal),
+    }
+}
+
+// What the world shows of the node, or why it shows none.
+fn show(world: &World, node: NodeNo, out: &mut String) -> Result<u64, AllocError>
+    ensures prints { IfOk result (λ n. Does (string_bytes out.old) (string_bytes out.new) n
+        (λ lines. Shows world.now node (unshown world.now node) (Some world.now) lines (Some world.now))) }
+    ensures few { IfOk result (λ n. n ≡ 1) }
+{
+    match shown(world, node) {
+        Ok(shown) => {
+            print_shown(out, node, shown)?;
+            Ok(1)
+        }
+        Err(refusal) => refuse(out, refusal),
+    }
+}
+
+fn follow(world: &mut World, command: Command, out: &mut String) -> Result<u64, AllocError>
+    requires small { world.old.tickets ≤ 1000000 }
+    ensures prints { IfOk result (λ n. Does (string_bytes out.old) (string_bytes out.new) n
+        (λ lines. Obeys world.old (Ok command) (Some world.old) lines (Some world.new))) }
+    ensures tickets { OnOk result (world.new.tickets ≤ world.old.tickets + 1) }
+    ensures few { IfOk result (λ n. n ≤ world.old.tickets + 2) }
+{
+    match command {
+        Command::Event(event) => perform(world, event, out),
+        Command::Show(node) => show(world, node, out),
+    }
+}
+
 fn answer(
     world: &mut World,
-    judged: Result<Event, Refusal>,
+    judged: Result<Command, Refusal>,
     out: &mut String,
 ) -> Result<u64, AllocError>
+    requires small { world.old.tickets ≤ 1000000 }
     ensures prints { IfOk result (λ n. Does (string_bytes out.old) (string_bytes out.new) n
         (λ lines. Obeys world.old judged (Some world.old) lines (Some world.new))) }
-    ensures few { IfOk result (λ n. n ≤ 1) }
+    ensures tickets { OnOk result (world.new.tickets ≤ world.old.tickets + 1) }
+    ensures few { IfOk result (λ n. n ≤ world.old.tickets + 2) }
 {
     match judged {
-        Ok(event) => perform(world, event, out),
+        Ok(command) => follow(world, command, out),
         Err(refusal) => refuse(out, refusal),
     }
 }
 
 fn speak(alloc: Global, world: &mut World, line: &[u8], out: &mut String) -> Result<u64, AllocError>
+    requires small { world.old.tickets ≤ 1000000 }
     ensures prints { IfOk result (λ n. Does (string_bytes out.old) (string_bytes out.new) n
-        (λ lines. Obeys world.old (judged (command_of world.old.size) line.now) (Some world.old) lines (Some world.new))) }
-    ensures few { IfOk result (λ n. n ≤ 1) }
+        (λ lines. Obeys world.old (judged (command_of world.old.ring.size) line.now) (Some world.old) lines (Some world.new))) }
+    ensures tickets { OnOk result (world.new.tickets ≤ world.old.tickets + 1) }
+    ensures few { IfOk result (λ n. n ≤ world.old.tickets + 2) }
 {
     match judge(alloc, world.size(), line) {
         Ok(judged) => answer(world, judged, out),
@@ -70,36 +113,47 @@ fn speak(alloc: Global, world: &mut World, line: &[u8], out: &mut String) -> Res
     }
 }
 
-fn make(alloc: Global, nodes: u8, out: &mut String) -> Result<World, AllocError>
-    requires { (2 ≤ nodes) × (nodes ≤ 16) }
-    ensures world { IfOk result (λ w. w ≡ opened nodes capacity) }
-    ensures prints { OnOk result (Does (string_bytes out.old) (string_bytes out.new) 1 (λ lines. lines ≡ ring_line nodes ∷ [])) }
+fn new_world(alloc: Global, opening: Opening) -> Result<World, AllocError>
+    requires { is_ring opening.nodes opening.capacity ≡ true }
+    ensures { IfOk result (λ w. w ≡ opened opening.nodes opening.eager opening.capacity) }
 {
-    let world = match World::new(alloc, nodes, true, CAPACITY) {
-        Ok(world) => world,
+    match World::new(alloc, opening.nodes, opening.eager, opening.capacity) {
+        Ok(world) => Ok(world),
         Err(refusal) => {
             let is_memory = matches!(refusal, Refusal::OutOfMemory);
             prove!(is_memory);
-            return Err(AllocError);
+            Err(AllocError)
         }
-    };
-    print_ring(out, nodes)?;
-    Ok(world)
+    }
+}
+
+fn make(alloc: Global, opening: Opening, out: &mut String) -> Result<World, AllocError>
+    requires { is_ring opening.nodes opening.capacity ≡ true }
+    ensures world { IfOk result (λ w. w ≡ opened opening.nodes opening.eager opening.capacity) }
+    ensures prints { OnOk result (Does (string_bytes out.old) (string_bytes out.new) 1 (λ lines. lines ≡ ring_line opening.nodes ∷ [])) }
+{
+    // so that want of memory leaves no ring that has to be ended
+    print_ring(out, opening.nodes)?;
+    new_world(alloc, opening)
 }
 
 fn open(
     alloc: Global,
-    judged: Result<u8, Refusal>,
+    judged: Result<Opening, Refusal>,
     out: &mut String,
 ) -> Result<(Option<World>, u64), AllocError>
-    requires { IfOk judged (λ n. (2 ≤ n) × (n ≤ 16)) }
+    requires { IfOk judged (λ o. is_ring o.nodes o.capacity ≡ true) }
     ensures prints { IfOk result (λ r. Does (string_bytes out.old) (string_bytes out.new) r.1
         (λ lines. Opens judged None lines r.0)) }
-    ensures few { IfOk result (λ r. r.1 ≤ 1) }
+    ensures tickets { IfOk result (λ r. tickets_of r.0 ≡ 0) }
+    ensures few { IfOk result (λ r. r.1 ≡ 1) }
 {
     match judged {
-        Ok(nodes) => Ok((Some(make(alloc, nodes, out)?), 1)),
-        Err(refusal) => Ok((None, refuse(out, refusal)?)),
+        Ok(opening) => Ok((Some(make(alloc, opening, out)?), 1)),
+        Err(refusal) => {
+            let count = refuse(out, refusal)?;
+            Ok((None, count))
+        }
     }
 }
 
@@ -111,13 +165,24 @@ impl Console {
         Console { world: None }
     }
 
-    /// Obeys a line of the script: adds to `out` the lines that it prints, and gives their number, 0 or 1. After want
-    /// of memory, the only refusal, `out` has no meaning and the console is not used again.
+    /// Ends it, and gives up the open tickets of its ring.
+    pub fn end(self) {
+        let Console { world } = self;
+        if let Some(world) = world {
+            world.end();
+        }
+    }
+
+    /// Obeys a line of the script: adds to `out` the lines that it prints, and gives their number, at most two more than
+    /// the ticket numbers that are taken. After want of memory, the only refusal, `out` has no meaning and the console
+    /// is of no more use than to be ended.
     #[tactic(auto, unfolding(crate::specs::Script::LinePrints))]
     pub fn obey(&mut self, alloc: Global, line: &[u8], out: &mut String) -> Result<u64, AllocError>
+        requires small { tickets_of self.old.world ≤ 1000000 }
         ensures prints { IfOk result (λ n. Does (string_bytes out.old) (string_bytes out.new) n
             (λ lines. LinePrints line.now self.old.world lines self.new.world)) }
-        ensures few { IfOk result (λ n. n ≤ 1) }
+        ensures tickets { OnOk result (tickets_of self.new.world ≤ tickets_of self.old.world + 1) }
+        ensures few { IfOk result (λ n. n ≤ tickets_of self.old.world + 2) }
     {
         if line_is_silent(line) {
             return Ok(0);
@@ -126,7 +191,9 @@ impl Console {
             Some(world) => speak(alloc, world, line, out),
             None => {
                 let (world, count) = open(alloc, judge_opening(alloc, line)?, out)?;
-                self.world = world;
+                if let Some(before) = replace(&mut self.world, world) {
+                    before.end();
+                }
                 Ok(count)
             }
         }

@@ -1,5 +1,5 @@
 // Reading a script, and writing what it prints.
-ghost use Rattle.std.specs.Prelude.{◌≡◌, ◌<◌, ◌≤◌, ℕ, List, IfErr, IfOk, IfSome, IsErrOf, OnOk, length};
+ghost use Rattle.std.specs.Prelude.{◌≡◌, ◌<◌, ◌≤◌, ℕ, List, None, IfErr, IfOk, IfSome, IsErrOf, OnOk, length};
 ghost use Rattle.std.specs.Io.KnownBytes.{Appends};
 ghost use Rattle.fault_console.specs.Script.{Wrote, IsFront};
 
@@ -77,11 +77,16 @@ fn write_bytes<W: Write>(writer: &mut W, bytes: &[u8]) -> Result<(), RunFault>
 }
 
 // Prints what a script prints, one line of it after the other, so that want of memory leaves whole lines.
-fn play<W: Write>(alloc: Global, script: &[u8], writer: &mut W) -> Result<u64, RunFault>
-    requires { length script.now ≤ 1000000 }
+fn obey_all<W: Write>(
+    console: &mut Console,
+    alloc: Global,
+    script: &[u8],
+    writer: &mut W,
+) -> Result<u64, RunFault>
+    requires few { length script.now ≤ 1000000 }
+    requires fresh { console.old.world ≡ None }
     ensures { (bytes : List ℕ) × Appends (W.contents writer.old) (W.contents writer.new) bytes × Wrote script.now result bytes }
 {
-    let mut console = Console::new();
     let mut out = String::new(alloc);
     let mut rest = script;
     let mut count: u64 = 0;
@@ -99,6 +104,17 @@ fn play<W: Write>(alloc: Global, script: &[u8], writer: &mut W) -> Result<u64, R
         rest = after;
     }
     Ok(count)
+}
+
+// A console that obeys the script, and is ended whatever comes of it.
+fn play<W: Write>(alloc: Global, script: &[u8], writer: &mut W) -> Result<u64, RunFault>
+    requires { length script.now ≤ 1000000 }
+    ensures { (bytes : List ℕ) × Appends (W.contents writer.old) (W.contents writer.new) bytes × Wrote script.now result bytes }
+{
+    let mut console = Console::new();
+    let answer = obey_all(&mut console, alloc, script, writer);
+    console.end();
+    answer
 }
 
 /// Reads a script to its end and writes what it prints, of specs/Script; gives the number of lines printed. A script

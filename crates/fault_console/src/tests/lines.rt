@@ -4,7 +4,7 @@ use crate::run::RunFault;
 use std::alloc::{AllocError, Global};
 use std::test::Fail;
 
-const LINES: [(&str, &[u8], &str); 21] = [
+const LINES: [(&str, &[u8], &str); 25] = [
     (
         "a carriage return is dropped",
         b"ring 2\r\nring 2\r\n",
@@ -51,8 +51,18 @@ const LINES: [(&str, &[u8], &str); 21] = [
     ),
     (
         "before the ring is made `ring` alone is a command",
-        b"stand 1 red 5 10\nwho 1 Red 5\nlatest 1 red\ndeliver 1 0\ndeliver all\ncredit 1 1\nring\nring 2 eager\nring 17 foo\nring 2 4096\nRing 2\nrings 2\nring2\n",
-        "no 25 line\nno 25 line\nno 25 line\nno 25 line\nno 25 line\nno 25 line\nno 25 line\nno 25 line\nno 25 line\nno 25 line\nno 25 line\nno 25 line\nno 25 line\n",
+        b"stand 1 red 5 10\nwho 1 Red 5\nlatest 1 red\ndeliver 1 0\ndeliver all\ncredit 1 1\nflush 1\ncrash 1\nstop 1 1 old\nshow 1\nring\nring 2 4096\nring 2 eager 4096 1\nRing 2\nrings 2\nring2\n",
+        "no 25 line\nno 25 line\nno 25 line\nno 25 line\nno 25 line\nno 25 line\nno 25 line\nno 25 line\nno 25 line\nno 25 line\nno 25 line\nno 25 line\nno 25 line\nno 25 line\nno 25 line\nno 25 line\n",
+    ),
+    (
+        "a ring is eager or lazy",
+        b"ring 17 foo\nring 2 Eager\nring 2 laz\nring 2 lazier 4096\nring 17 lazy\nring 2 lazy\nstand 1 red 5 10\n",
+        "no 25 line\nno 25 line\nno 25 line\nno 25 line\nno 2 number\nring 2\n1: sealed\n",
+    ),
+    (
+        "a node has 4,096 to 1,048,576 bytes",
+        b"ring 2 eager 4095\nring 2 lazy 1048577\nring 2 eager x\nring 1 eager 4096\nring 2 eager 1048576\nstand 1 red 5 10\n",
+        "no 2 number\nno 2 number\nno 2 number\nno 2 number\nring 2\n1: stood\n",
     ),
     (
         "a ring has 2 to 16 nodes",
@@ -66,8 +76,18 @@ const LINES: [(&str, &[u8], &str); 21] = [
     ),
     (
         "a second ring, and commands that there are not",
-        b"ring 2\nring 2\nlast 1 red\nlatests 1 red\nLatest 1 red\ncredits 1 1\nflush 1\ncrash 1\nstop 1 1 old\nshow 1\ncheckpoint 1\nretire 1 red 1\naudit\n",
-        "ring 2\nno 25 line\nno 25 line\nno 25 line\nno 25 line\nno 25 line\nno 25 line\nno 25 line\nno 25 line\nno 25 line\nno 25 line\nno 25 line\nno 25 line\n",
+        b"ring 2\nring 2\nring 2 lazy\nlast 1 red\nlatests 1 red\nLatest 1 red\ncredits 1 1\nflushed 1\nCrash 1\nstops 1 1 old\nshows 1\nup 1 0\ncheckpoint 1\nretire 1 red 1\naudit\n",
+        "ring 2\nno 25 line\nno 25 line\nno 25 line\nno 25 line\nno 25 line\nno 25 line\nno 25 line\nno 25 line\nno 25 line\nno 25 line\nno 25 line\nno 25 line\nno 25 line\nno 25 line\n",
+    ),
+    (
+        "flush, crash and show",
+        b"ring 2\nflush\nflush 1 1\ncrash\ncrash 1 1\nshow\nshow 1 1\nflush 0\nflush 3\nflush all\ncrash 0\ncrash 3\ncrash all\nshow 0\nshow 3\nshow all\nflush 2\ncrash 2\nshow 2\n",
+        "ring 2\nno 25 line\nno 25 line\nno 25 line\nno 25 line\nno 25 line\nno 25 line\nno 2 number\nno 2 number\nno 2 number\nno 2 number\nno 2 number\nno 2 number\nno 2 number\nno 2 number\nno 2 number\nflushed 0\nup 2 0\nnode 2 inputs 0 durable 0 sent 0 taken 0 credit 0\n",
+    ),
+    (
+        "stop",
+        b"ring 2\nstop\nstop 1\nstop 1 1\nstop 1 1 Old\nstop 9 9 ol\nstop 1 1 fill\nstop 1 1 old 1\nstop 1 1 new 1\nstop 9 9 fil 256\nstop 1 1 fill 1 1\nstop 0 1 old\nstop 3 1 new\nstop 1 0 old\nstop 1 5 old\nstop 1 0 fill 1\nstop 1 5 fill 1\nstop 1 1 fill 256\nstop 1 1 fill x\nstop 1 1 fill 255\nstop 2 4 fill 0\nstop 2 4 new\n",
+        "ring 2\nno 25 line\nno 25 line\nno 25 line\nno 25 line\nno 25 line\nno 25 line\nno 25 line\nno 25 line\nno 25 line\nno 25 line\nno 2 number\nno 2 number\nno 2 number\nno 2 number\nno 2 number\nno 2 number\nno 2 number\nno 2 number\nup 1 0\nup 2 0\nup 2 0\n",
     ),
     (
         "counts of words",

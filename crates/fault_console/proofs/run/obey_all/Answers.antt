@@ -1,7 +1,7 @@
 use Rattle.std.proofs.Common.{arith, subst, rules}
 use Rattle.std.specs.Io.KnownBytes.{Appends}
 use Rattle.fault_console.proofs.Progress.{go_on, ends_ok, ends_write, fresh_text, nothing_left}
-use Rattle.fault_console.proofs.run.play.Goals as goal
+use Rattle.fault_console.proofs.run.obey_all.Goals as goal
 
 pub returns-in-Err-write_bytes : goal.returns-in-Err-write_bytes
 returns-in-Err-write_bytes g c =
@@ -13,14 +13,14 @@ returns-in-Err-write_bytes g c =
 pub overflow_add-count : goal.overflow_add-count
 overflow_add-count g c =
     let p = c.loop-rest.invariant in
-    omega (arith, p.lines, p.few, c.in-Ok.ensures.few)
+    omega (arith, p.lines, p.few, p.tickets, c.in-Ok.ensures.few)
 
 pub loop-rest-preserved : goal.loop-rest-preserved
 loop-rest-preserved g c =
     let d = c.in-Ok.ensures.prints in
     let text = fresh_text _ _ _ _ c.as_bytes.ensures.value c.clear.ensures.bytes d.2 in
     go_on _ _ c.first_line.result.1.now _ _ _ _ _ _ _ _ d.0 c.loop-rest.invariant c.first_line.ensures.line c.first_line.ensures.smaller d.1 d.3
-    c.in-Ok.ensures.few
+    c.in-Ok.ensures.tickets c.in-Ok.ensures.few
     (subst (Appends (g.W.Write.contents c.loop-rest.writer) (g.W.Write.contents c.write_bytes.new.writer)) text c.in-Ok-write_bytes.ensures.ok)
 
 pub returns : goal.returns
