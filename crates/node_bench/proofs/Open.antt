@@ -1,7 +1,8 @@
 -- Tickets that are open.
 use Rattle.std.proofs.Common.{rules, arith, ◌≡◌, ◌∙◌, sym, ap, ℕ, ◌+◌, ◌<◌, true, Some, nat_eq, if◌then◌else◌}
 use Rattle.disk_model.specs.declared.device.Device.{Ghosts}
-use Rattle.group_commit.specs.Kept.{Answered, Place}
+use Rattle.ring_records.specs.Answer.{Answered}
+use Rattle.group_commit.specs.Kept.{Place}
 use Rattle.group_commit.specs.Ticket.{TicketView, ticket_with}
 use Rattle.node_store.specs.Node.{place_of, kept_at, issued_by}
 use Rattle.node_store.specs.declared.node.Node.{Node}

@@ -1,7 +1,7 @@
 -- The tickets of a node.
 use Rattle.disk_model.specs.declared.device.Device.{Ghosts}
+use Rattle.ring_records.specs.Answer.{Answered}
 use Rattle.group_commit.specs.Desk.{IsHere}
-use Rattle.group_commit.specs.Kept.{Answered}
 use Rattle.group_commit.specs.Ticket.{TicketView}
 use Rattle.node_store.specs.Node.{desk_of}
 use Rattle.node_store.specs.declared.node.Node.{Node}
