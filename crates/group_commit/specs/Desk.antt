@@ -1,15 +1,17 @@
 -- What a desk shows.
-use Rattle.std.specs.Prelude.{ℕ, ◌≡◌, ◌<◌, ◌-◌, ◌^◌, ◌⊎◌, Bool, ◌||◌, nat_eq, if◌then◌else◌, List, take, drop, nat_lt, slice_get, Option, Some, None}
+use Rattle.std.specs.Prelude.{ℕ, ◌≡◌, ◌<◌, ◌^◌, ◌⊎◌, Bool, ◌||◌, if◌then◌else◌, List, take, nat_lt, nat_le, slice_get, Option, Some, None}
 use Rattle.ring_records.specs.declared.input.Input.{Input}
 use Rattle.ring_records.specs.declared.refusal.Refusal.{Refusal}
 use Rattle.ring_records.specs.declared.refusal.Refusal.TheVariants as refused
 use Rattle.ring_records.specs.Admission.{fresh, refusal, IsLawful}
-use Rattle.ring_records.specs.Answer.{Answered, NodeState, answer}
 use Rattle.ring_records.specs.declared.request.Request.{Request}
+use Rattle.ring_records.specs.Answer as answers
+use Rattle.ring_records.specs.Answer.{Answered, NodeState, flying_in}
+use Rattle.ring_records.specs.Message.{is_outside}
 use Rattle.gated_journal.specs.Batch.{Numbered}
 use Rattle.group_commit.specs.declared.desk.Desk.{Desk}
 use Rattle.group_commit.specs.Ticket.{TicketView}
-use Rattle.group_commit.specs.Kept.{Place, place_with, kept_in, is_outside}
+use Rattle.group_commit.specs.Kept.{Place, place_with, kept_in}
 
 abbrev pub place_of : Desk → Place
 place_of desk = place_with desk.node desk.n desk.capacity desk.run
@@ -34,7 +36,7 @@ is_failed desk = desk.is_failed
 
 -- the answer that a desk gives to a request
 abbrev pub answered : Desk → Request → Answered
-answered desk q = record { question = q; answer = answer desk.node desk.n desk.capacity fresh desk.inputs.items q }
+answered desk q = answers.answered desk.node desk.n desk.capacity fresh desk.inputs.items q
 
 -- ---- refusals
 
@@ -44,7 +46,7 @@ abbrev pub objection : Desk → Request → Option Refusal
 objection desk q =
     if desk.is_closed || desk.is_failed then Some refused.Failed
     else (if is_outside desk.n q then Some refused.BadNumber
-    else (if nat_eq desk.issued (2 ^ 64 - 1) then Some refused.Limit
+    else (if nat_le (2 ^ 60) desk.issued then Some refused.Limit
     else None))
 
 -- the refusal names the first of these inputs that is not admitted after those before it
@@ -72,10 +74,6 @@ pub record IsSealed (desk : Desk) (ticket : TicketView) (why : Refusal) : Type 0
       ⊎ ((kept : Answered) × IsHere desk ticket kept × (desk.durable < kept.answer.number) × (why ≡ (if desk.is_failed then refused.Failed else refused.Early)))
 
 -- ---- batches
-
--- the inputs that fly
-abbrev pub flying_in : NodeState → List Input
-flying_in s = take (s.flying - s.durable) (drop s.durable s.inputs)
 
 -- these are the node's inputs that fly
 pub record IsFlying (desk : Desk) (batch : Numbered) : Type 0 where

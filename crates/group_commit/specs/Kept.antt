@@ -1,14 +1,12 @@
 -- What is kept for a ticket, and by whom.
-use Rattle.std.specs.Prelude.{ℕ, ◌≡◌, ◌↔◌, Bool, false, nat_lt, List, length, Option, IsSome}
+use Rattle.std.specs.Prelude.{ℕ, ◌≡◌, ◌↔◌, List, length, Option, IsSome}
 use Rattle.std.specs.List.{Contains}
 use Rattle.std.specs.List.Sorted.{IsStrictlySortedBy}
 use Rattle.std.specs.Map.{lookup}
 use Rattle.std.specs.Ordering.{nat_cmp, is_eq}
 use Rattle.ring_records.specs.declared.reply.Reply.{Reply}
 use Rattle.ring_records.specs.declared.request.Request.{Request}
-use Rattle.ring_records.specs.declared.request.Request.TheVariants as ask
 use Rattle.ring_records.specs.Answer.{Answered}
-use Rattle.ring_records.specs.Message.{candidate_of}
 
 -- the node, the size of its ring, its capacity, and which opening of the node this is
 pub record Place : Type 0 where
@@ -26,14 +24,6 @@ answered_with q reply number = record { question = q; answer = record { reply = 
 -- what is kept under this number
 abbrev pub kept_in : List (ℕ × Answered) → ℕ → Option Answered
 kept_in entries own = lookup (λ k. is_eq (nat_cmp own k)) entries
-
--- the message that the request brings is of a node above n
-abbrev pub is_outside : ℕ → Request → Bool
-is_outside n (ask.Stand key bid) = false
-is_outside n (ask.Take place msg) = nat_lt n (candidate_of msg).node
-is_outside n (ask.Acked upto) = false
-is_outside n (ask.Who key) = false
-is_outside n (ask.Latest group) = false
 
 -- So many numbers have something kept under them: these, and no other.
 pub record IsCount (kept : ℕ → Option Answered) (count : ℕ) : Type 0 where

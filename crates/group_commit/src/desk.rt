@@ -2,14 +2,14 @@
 ghost use Rattle.std.specs.Prelude.{◌≡◌, ◌+◌, ◌-◌, ◌++◌, ◌∷◌, ◌≤◌, ◌⊎◌, ◌||◌, ℕ, List, [], not, true, false, Some, None, length, take, nat_eq, if◌then◌else◌, is_none, IfSome, IfNone, MatchOption, IfOk, IfErr, OnOk, OnErr};
 ghost use Rattle.std.specs.List.{cons_option};
 ghost use Rattle.ring_records.specs.Admission.{fresh, refusal, IsLawful};
-ghost use Rattle.ring_records.specs.Answer.{Answered, asked, opened, launched, landed as landed_state};
+ghost use Rattle.ring_records.specs.Answer.{Answered, asked, opened, launched, landed as landed_state, flying_in};
 ghost use Rattle.ring_records.specs.Emission.{sent};
 ghost use Rattle.ring_records.specs.History.{taken, credit};
 ghost use Rattle.ring_records.specs.Props.{IsLawful-prop};
 ghost use Rattle.ring_records.specs.Release.{packets, decisions, window};
 ghost use Rattle.group_commit.specs.Outbox.{Holds};
 ghost use Rattle.node_core.specs.Core.{CoreStandsFor};
-ghost use Rattle.group_commit.specs.Kept.{answered_with, place_with, is_outside, kept_in, IsCount};
+ghost use Rattle.group_commit.specs.Kept.{answered_with, place_with, kept_in, IsCount};
 
 use crate::judge::judge;
 use crate::kept::Kept;
@@ -21,6 +21,9 @@ use node_core::NodeCore;
 use ring_records::{Input, NodeNo, Packet, Refusal, Reply, Request};
 use std::alloc::{AllocError, AllocFailed, Global};
 use std::collections::BTreeMap;
+
+/// The most tickets of an opening.
+const TICKETS: u64 = 1 << 60;
 
 /// The desk of a node: it accepts inputs at once, and keeps each reply until the inputs that it rests on are durable.
 #[derive(Drop)]
@@ -50,7 +53,7 @@ pub struct Desk {
 }
 
 impl Desk {
-    ghost use Rattle.group_commit.specs.Desk.{place_of, state_of, kept_at, issued_by, is_closed, is_failed, answered, objection, IsUnlawful, IsHere, IsSealed, IsFlying, flying_in, launch_objection};
+    ghost use Rattle.group_commit.specs.Desk.{place_of, state_of, kept_at, issued_by, is_closed, is_failed, answered, objection, IsUnlawful, IsHere, IsSealed, IsFlying, launch_objection};
     ghost use Rattle.gated_journal.specs.Batch.{shown as batch_shown, landed, lost, numbered};
     ghost use Rattle.group_commit.specs.Ticket.{shown, stub, ticket_with};
 
@@ -105,7 +108,7 @@ impl Desk {
     }
 
     /// Answers a request, accepts its input where nothing is against it, and gives a ticket for the reply. Refused as 9
-    /// where it is closed or has failed, as 2 where a Take's message is of no node of the ring, as 6 at 2^64 - 1 tickets,
+    /// where it is closed or has failed, as 2 where a Take's message is of no node of the ring, as 6 at 2^60 tickets,
     /// and as 8. Every other refusal is a reply.
     pub fn submit(&mut self, question: Request) -> Result<Ticket, Refusal>
         ensures ticket { IfOk result (λ ticket. shown ticket ≡ ticket_with (place_of self.old) (issued_by self.old) (answered self.old question)) }
@@ -424,23 +427,13 @@ impl Desk {
         if self.is_closed || self.is_failed {
             return Some(Refusal::Failed);
         }
-        if is_outside(self.n, question) {
+        if question.is_outside(self.n) {
             return Some(Refusal::BadNumber);
         }
-        if self.issued == u64::MAX {
+        if self.issued >= TICKETS {
             return Some(Refusal::Limit);
         }
         None
-    }
-}
-
-// Whether the request's message is of a node above `n`.
-fn is_outside(n: u8, question: &Request) -> bool
-    ensures { result ≡ is_outside n question.now }
-{
-    match question {
-        Request::Take(_, msg) => msg.candidate().node.number() > n,
-        _ => false,
     }
 }
 

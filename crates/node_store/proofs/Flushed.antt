@@ -6,7 +6,7 @@ use Rattle.std.proofs.lemmas.List.Sums.{sum_by-take-drop}
 use Rattle.disk_model.specs.Disk.{Disk, MayLeave}
 use Rattle.ring_records.specs.declared.input.Input.{Input}
 use Rattle.ring_records.specs.Admission.{fresh, used, cost, Fits, IsAdmitted, IsLawful}
-use Rattle.ring_records.specs.Answer.{NodeState, launched, landed}
+use Rattle.ring_records.specs.Answer.{NodeState, launched, landed, durable_in, flown_in, flying_in}
 use Rattle.ring_records.specs.History.{taken}
 use Rattle.ring_records.specs.Lists.{found_after}
 use Rattle.ring_records.proofs.Counts.{used-push}
@@ -16,10 +16,9 @@ use Rattle.gated_journal.specs.Batch.{Numbered, numbered, shown}
 use Rattle.gated_journal.specs.Reading.{Header, ReadsAs, AllReadAs, ReadsAsOneOf}
 use Rattle.gated_journal.proofs.Rest.{used-joined}
 use Rattle.gated_journal.proofs.Results.{of_some}
-use Rattle.group_commit.specs.Desk.{flying_in}
 use Rattle.group_commit.specs.Kept.{Place}
 use Rattle.ring_records.specs.Release.{packets, decisions, carries, credits}
-use Rattle.node_store.specs.State.{header_at, durable_in, flown_in, ReadsOnce, Stands}
+use Rattle.node_store.specs.State.{header_at, ReadsOnce, Stands}
 
 -- ---- costs
 

@@ -7,7 +7,7 @@ use Rattle.ring_records.specs.declared.input.Input.{Input}
 use Rattle.ring_records.specs.declared.refusal.Refusal.{Refusal}
 use Rattle.ring_records.specs.declared.refusal.Refusal.TheVariants.{OutOfMemory}
 use Rattle.ring_records.specs.Admission.{fresh, IsAdmitted, IsLawful}
-use Rattle.ring_records.specs.Answer.{NodeState, opened}
+use Rattle.ring_records.specs.Answer.{NodeState, opened, durable_in, flown_in, left_by}
 use Rattle.ring_records.specs.Lists.{EachAfter}
 use Rattle.ring_records.proofs.Admission.{admitted-free}
 use Rattle.ring_records.proofs.Growth.{EachAfter-at, EachAfter-take}
@@ -19,7 +19,7 @@ use Rattle.gated_journal.proofs.Fault.{not_read}
 use Rattle.gated_journal.proofs.Unique.{unique_inputs, header_unique}
 use Rattle.group_commit.specs.Desk.{IsUnlawful}
 use Rattle.group_commit.specs.Kept.{Place, place_with}
-use Rattle.node_store.specs.State.{durable_in, flown_in, left_by, Holds}
+use Rattle.node_store.specs.State.{Holds}
 
 -- ---- what is read
 

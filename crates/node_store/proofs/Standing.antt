@@ -6,14 +6,14 @@ use Rattle.ring_records.specs.declared.input.Input.{Input}
 use Rattle.ring_records.specs.declared.refusal.Refusal.{Refusal}
 use Rattle.ring_records.specs.declared.request.Request.{Request}
 use Rattle.ring_records.specs.Admission.{fresh, used, refusal, IsAdmitted, IsLawful}
-use Rattle.ring_records.specs.Answer.{NodeState, asked, opened, gained, input_of, if_free, if_input}
+use Rattle.ring_records.specs.Answer.{NodeState, asked, opened, gained, input_of, if_free, if_input, durable_in, flown_in}
 use Rattle.ring_records.proofs.Admission.{refusal-admitted}
 use Rattle.ring_records.specs.Lists.{EachAfter}
 use Rattle.ring_records.proofs.Lists.{EachAfter-push}
 use Rattle.gated_journal.specs.Reading.{Header, AllReadAs, ReadsAsOneOf}
 use Rattle.group_commit.specs.Desk.{IsUnlawful}
 use Rattle.group_commit.specs.Kept.{Place}
-use Rattle.node_store.specs.State.{header_at, durable_in, flown_in, Stands}
+use Rattle.node_store.specs.State.{header_at, Stands}
 
 -- ---- the history
 

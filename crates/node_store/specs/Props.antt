@@ -6,13 +6,13 @@ use Rattle.std.specs.Coded.{le_prop}
 use Rattle.disk_model.specs.Disk.{Disk}
 use Rattle.ring_records.specs.declared.input.Input.{Input}
 use Rattle.ring_records.specs.Admission.{fresh}
-use Rattle.ring_records.specs.Answer.{NodeState}
+use Rattle.ring_records.specs.Answer.{NodeState, durable_in, flown_in}
 use Rattle.ring_records.specs.Props.{IsLawful-prop}
 use Rattle.gated_journal.specs.Reading.{Header}
 use Rattle.gated_journal.proofs.Once.{ReadsAs-prop}
 use Rattle.gated_journal.proofs.Unique.{unique_inputs}
 use Rattle.group_commit.specs.Kept.{Place}
-use Rattle.node_store.specs.State.{durable_in, flown_in, ReadsOnce, IsReady, Stands}
+use Rattle.node_store.specs.State.{ReadsOnce, IsReady, Stands}
 
 -- an image does not read as two lists
 ReadsOnce-prop : (header : Header) (old new : List Input) (image : List ℕ) → IsProp (ReadsOnce header old new image)

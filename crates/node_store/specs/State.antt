@@ -1,27 +1,15 @@
 -- What a node holds on its device, and what a stop leaves of it.
-use Rattle.std.specs.Prelude.{◌≡◌, ◌≢◌, ◌⊎◌, ◌-◌, ℕ, Bool, false, if◌then◌else◌, List, take}
+use Rattle.std.specs.Prelude.{◌≡◌, ◌≢◌, ◌⊎◌, ◌-◌, ℕ, Bool, false, List}
 use Rattle.disk_model.specs.Disk.{Disk, MayLeave}
 use Rattle.ring_records.specs.declared.input.Input.{Input}
 use Rattle.ring_records.specs.Admission.{fresh, used, IsLawful}
-use Rattle.ring_records.specs.Answer.{NodeState, IsNodeState}
+use Rattle.ring_records.specs.Answer.{NodeState, IsNodeState, durable_in, flown_in}
 use Rattle.gated_journal.specs.Reading.{Header, header_with, ReadsAs, ReadsAsOneOf}
 use Rattle.group_commit.specs.Kept.{Place}
 
 -- the header of the journal of a node
 abbrev pub header_at : Place → Header
 header_at place = header_with place.me place.n place.capacity
-
--- its durable inputs
-abbrev pub durable_in : NodeState → List Input
-durable_in s = take s.durable s.inputs
-
--- its inputs that are durable or fly
-abbrev pub flown_in : NodeState → List Input
-flown_in s = take s.flying s.inputs
-
--- the inputs that a stop leaves: those that fly are kept, or they are not
-abbrev pub left_by : Bool → NodeState → List Input
-left_by keep s = if keep then flown_in s else durable_in s
 
 -- every image that a stop may leave reads as the durable inputs, or as those that are durable or fly
 abbrev pub Holds : Header → Disk → NodeState → Type 0

@@ -1,7 +1,7 @@
 ghost use Rattle.std.specs.Prelude.{◌≡◌, ◌+◌, ◌-◌, ◌⊎◌, ◌||◌, ◌<◌, ◌≤◌, ℕ, Bool, [], length, not, true, false, Some, None, nat_eq, if◌then◌else◌, IfOk, IfErr, OnOk, OnErr};
 ghost use Rattle.disk_model.specs.Disk.{MayLeave, LeavesOnly, synced};
 ghost use Rattle.ring_records.specs.Admission.{fresh, IsLawful};
-ghost use Rattle.ring_records.specs.Answer.{Answered, NodeState, asked, opened, launched, landed};
+ghost use Rattle.ring_records.specs.Answer.{Answered, NodeState, asked, opened, launched, landed, durable_in, flown_in, flying_in, left_by};
 ghost use Rattle.ring_records.specs.Emission.{sent};
 ghost use Rattle.ring_records.specs.History.{taken, credit};
 ghost use Rattle.ring_records.specs.Release.{packets, decisions, window, AreLeaders};
@@ -13,7 +13,7 @@ ghost use Rattle.group_commit.specs.Desk as desks;
 ghost use Rattle.group_commit.specs.Kept.{IsCount, place_with};
 ghost use Rattle.node_store.specs.Props.{Stands-prop};
 ghost use Rattle.node_store.specs.Recovery.{IsNotLawful, IsUnrecovered};
-ghost use Rattle.node_store.specs.State.{header_at, durable_in, flown_in, left_by, Holds, Stands};
+ghost use Rattle.node_store.specs.State.{header_at, Holds, Stands};
 
 use disk_model::{Device, FuseDevice};
 use gated_journal::{Journal, Receipt, Spoiled};
@@ -31,7 +31,7 @@ pub struct Node<D: Device> {
 }
 
 impl<D: Device> Node<D> {
-    ghost use Rattle.group_commit.specs.Desk.{answered, objection, flying_in, IsHere, IsSealed};
+    ghost use Rattle.group_commit.specs.Desk.{answered, objection, IsHere, IsSealed};
     ghost use Rattle.group_commit.specs.Ticket.{shown, stub, ticket_with};
     ghost use Rattle.node_store.specs.Node.{desk_of, place_of, state_of, kept_at, issued_by, is_closed, is_failed, device_of};
 
@@ -142,7 +142,7 @@ impl<D: Device> Node<D> {
     }
 
     /// Answers a request, accepts its input where nothing is against it, and gives a ticket for the reply. Refused as 9
-    /// where it is closed or has failed, as 2 where a Take's message is of no node of the ring, as 6 at 2^64 - 1 tickets,
+    /// where it is closed or has failed, as 2 where a Take's message is of no node of the ring, as 6 at 2^60 tickets,
     /// and as 8. Every other refusal is a reply.
     pub fn submit(&mut self, question: Request) -> Result<Ticket, Refusal>
         ensures ticket { IfOk result (λ ticket. shown ticket ≡ ticket_with (place_of self.old) (issued_by self.old) (answered (desk_of self.old) question)) }
@@ -372,8 +372,8 @@ fn land(desk: &mut Desk, receipt: Receipt) -> Landed
     requires works { desks.is_failed desk.old ≡ false }
     requires flying { desks.IsFlying desk.old (receipted receipt) }
     ensures count { result.count ≡ (desks.state_of desk.old).flying - (desks.state_of desk.old).durable }
-    ensures packets { result.packets.items ≡ packets (desks.place_of desk.old).me (durable_in (desks.state_of desk.old)) (desks.flying_in (desks.state_of desk.old)) }
-    ensures decisions { result.decisions.items ≡ decisions (desks.place_of desk.old).me (durable_in (desks.state_of desk.old)) (desks.flying_in (desks.state_of desk.old)) }
+    ensures packets { result.packets.items ≡ packets (desks.place_of desk.old).me (durable_in (desks.state_of desk.old)) (flying_in (desks.state_of desk.old)) }
+    ensures decisions { result.decisions.items ≡ decisions (desks.place_of desk.old).me (durable_in (desks.state_of desk.old)) (flying_in (desks.state_of desk.old)) }
     ensures state { desks.state_of desk.new ≡ landed (desks.state_of desk.old) }
     ensures ready { (desks.is_closed desk.new ≡ desks.is_closed desk.old) × (desks.is_failed desk.new ≡ false) }
     ensures place { desks.place_of desk.new ≡ desks.place_of desk.old }

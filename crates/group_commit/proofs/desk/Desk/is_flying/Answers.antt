@@ -4,7 +4,8 @@ use lib.Pointwise.{pointwise}
 use Rattle.std.proofs.lemmas.Slice.Eq.{slice_eq-Decides}
 use Rattle.ring_records.specs.declared.input.Input.{Input}
 use Rattle.ring_records.specs.contracts.input.InputPartialEq as derived
-use Rattle.group_commit.specs.Desk.{state_of, flying_in}
+use Rattle.ring_records.specs.Answer.{flying_in}
+use Rattle.group_commit.specs.Desk.{state_of}
 use Rattle.group_commit.proofs.desk.Desk.is_flying.Goals as goal
 
 same : (a b : Input) → Decides ((derived.TheImpl.eq-value).it a b) (a ≡ b)

@@ -1,11 +1,11 @@
 use Rattle.std.proofs.Common.{rules, ◌≡◌, ◌∙◌, sym, subst, ap, refl, false, ◌++◌}
 use Rattle.disk_model.proofs.Moments.{started, weaken, now}
-use Rattle.ring_records.specs.Answer.{launched, landed}
+use Rattle.ring_records.specs.Answer.{launched, landed, durable_in, flown_in, flying_in}
 use Rattle.gated_journal.specs.Journal as journals
 use Rattle.gated_journal.specs.Reading.{AllReadAs, ReadsAsOneOf}
 use Rattle.gated_journal.proofs.Results.{of_none}
 use Rattle.group_commit.specs.Desk as desks
-use Rattle.node_store.specs.State.{header_at, durable_in, flown_in}
+use Rattle.node_store.specs.State.{header_at}
 use Rattle.node_store.proofs.Flushed.{batch_of, all, fits, lands, breaks, moment, landed_all, durable_all, no_packets, no_decisions}
 use Rattle.node_store.proofs.Standing.{same, held}
 use Rattle.node_store.proofs.node.Node.flush.Goals as goal
@@ -14,7 +14,7 @@ pub commit-requires-clause-room : goal.commit-requires-clause-room
 commit-requires-clause-room g c =
     let node = c.args.self.now in
     let works : desks.is_failed node.desk ≡ false = search rules in
-    let batch : c.in-Ok-Some.batch.inputs.items ≡ desks.flying_in (launched (desks.state_of node.desk)) =
+    let batch : c.in-Ok-Some.batch.inputs.items ≡ flying_in (launched (desks.state_of node.desk)) =
     batch_of c.in-Ok-Some.field-0 c.in-Ok-Some.batch _ _ _ (desks.state_of node.desk) c.in-Ok-Some.field-0-is c.in-Ok-Some.ensures.batch c.in-Ok-Some.ensures.state in
     fits _ _ _ _ _ _ _ _ works node.stands c.in-Ok-Some.batch.inputs.items batch
 
@@ -26,7 +26,7 @@ invariant_of-self-in-Ok g c =
     let s = desks.state_of node.desk in
     let disk = g.D.Device.disk (journals.device_of journal) in
     let works : desks.is_failed node.desk ≡ false = search rules in
-    let batch : c.in-Ok-Some.batch.inputs.items ≡ desks.flying_in (launched s) =
+    let batch : c.in-Ok-Some.batch.inputs.items ≡ flying_in (launched s) =
     batch_of c.in-Ok-Some.field-0 c.in-Ok-Some.batch _ _ _ (desks.state_of node.desk) c.in-Ok-Some.field-0-is c.in-Ok-Some.ensures.batch c.in-Ok-Some.ensures.state in
     let read : AllReadAs (journals.header_of node.journal) disk (durable_in s ++ c.in-Ok-Some.batch.inputs.items) = c.in-Ok.ensures.durable (durable_in s) (all _ _ _ _ _ _ _ _ works node.stands) in
     let place : desks.place_of desk ≡ desks.place_of node.desk = c.land.ensures.place ∙ c.in-Ok-Some.ensures.place in
@@ -45,7 +45,7 @@ invariant_of-self-in-Err-commit g c =
     let s = desks.state_of node.desk in
     let disk = g.D.Device.disk (journals.device_of journal) in
     let works : desks.is_failed node.desk ≡ false = search rules in
-    let batch : c.in-Ok-Some.batch.inputs.items ≡ desks.flying_in (launched s) =
+    let batch : c.in-Ok-Some.batch.inputs.items ≡ flying_in (launched s) =
     batch_of c.in-Ok-Some.field-0 c.in-Ok-Some.batch _ _ _ (desks.state_of node.desk) c.in-Ok-Some.field-0-is c.in-Ok-Some.ensures.batch c.in-Ok-Some.ensures.state in
     let moments = c.in-Err-commit.ensures.any_moment (durable_in s) (all _ _ _ _ _ _ _ _ works node.stands) in
     let read = now g.D.Device.clock g.D.Device.left_since (journals.device_of node.journal) (journals.device_of journal) disk (ReadsAsOneOf (journals.header_of node.journal) (durable_in s) (durable_in s ++ c.in-Ok-Some.batch.inputs.items)) moments (g.met.D.Device.counts_now (journals.device_of journal)) in
@@ -91,7 +91,7 @@ returns-in-Ok-clause-durable g c =
     let s = desks.state_of node.desk in
     let disk = g.D.Device.disk (journals.device_of journal) in
     let works : desks.is_failed node.desk ≡ false = search rules in
-    let batch : c.in-Ok-Some.batch.inputs.items ≡ desks.flying_in (launched s) =
+    let batch : c.in-Ok-Some.batch.inputs.items ≡ flying_in (launched s) =
     batch_of c.in-Ok-Some.field-0 c.in-Ok-Some.batch _ _ _ (desks.state_of node.desk) c.in-Ok-Some.field-0-is c.in-Ok-Some.ensures.batch c.in-Ok-Some.ensures.state in
     let read : AllReadAs (journals.header_of node.journal) disk (durable_in s ++ c.in-Ok-Some.batch.inputs.items) = c.in-Ok.ensures.durable (durable_in s) (all _ _ _ _ _ _ _ _ works node.stands) in
     let state : desks.state_of desk ≡ landed (launched s) = c.land.ensures.state ∙ ap landed c.in-Ok-Some.ensures.state in
@@ -104,7 +104,7 @@ returns-in-Ok-clause-any_moment g c =
     let desk = c.land.new.desk in
     let s = desks.state_of node.desk in
     let works : desks.is_failed node.desk ≡ false = search rules in
-    let batch : c.in-Ok-Some.batch.inputs.items ≡ desks.flying_in (launched s) =
+    let batch : c.in-Ok-Some.batch.inputs.items ≡ flying_in (launched s) =
     batch_of c.in-Ok-Some.field-0 c.in-Ok-Some.batch _ _ _ (desks.state_of node.desk) c.in-Ok-Some.field-0-is c.in-Ok-Some.ensures.batch c.in-Ok-Some.ensures.state in
     let moments = c.in-Ok.ensures.any_moment (durable_in s) (all _ _ _ _ _ _ _ _ works node.stands) in
     let state : desks.state_of desk ≡ landed (launched s) = c.land.ensures.state ∙ ap landed c.in-Ok-Some.ensures.state in
@@ -119,7 +119,7 @@ returns-in-Err-commit-clause-any_moment g c =
     let desk = c.fail.new.desk in
     let s = desks.state_of node.desk in
     let works : desks.is_failed node.desk ≡ false = search rules in
-    let batch : c.in-Ok-Some.batch.inputs.items ≡ desks.flying_in (launched s) =
+    let batch : c.in-Ok-Some.batch.inputs.items ≡ flying_in (launched s) =
     batch_of c.in-Ok-Some.field-0 c.in-Ok-Some.batch _ _ _ (desks.state_of node.desk) c.in-Ok-Some.field-0-is c.in-Ok-Some.ensures.batch c.in-Ok-Some.ensures.state in
     let moments = c.in-Err-commit.ensures.any_moment (durable_in s) (all _ _ _ _ _ _ _ _ works node.stands) in
     let state : desks.state_of desk ≡ launched s = c.fail.ensures.state ∙ c.in-Ok-Some.ensures.state in

@@ -1,12 +1,12 @@
 use Rattle.std.proofs.Common.{◌≡◌, ◌-◌, ⊎_elim, inl, inr, false, sym, subst, arith}
 use Rattle.ring_records.specs.Admission.{fresh, used}
-use Rattle.ring_records.specs.Answer.{opened}
+use Rattle.ring_records.specs.Answer.{opened, left_by}
 use Rattle.gated_journal.specs.Journal as journals
 use Rattle.gated_journal.specs.Reading.{header_with}
 use Rattle.gated_journal.specs.Unread.{IsFault}
 use Rattle.group_commit.specs.Desk as desks
 use Rattle.group_commit.specs.Kept.{place_with}
-use Rattle.node_store.specs.State.{header_at, left_by, Holds}
+use Rattle.node_store.specs.State.{header_at, Holds}
 use Rattle.node_store.proofs.Recovered.{kept_by, short_only, lawful_again, still_holds, holds_again, no_fault, capacity_again, place_again, state_again, named_again}
 use Rattle.node_store.proofs.Standing.{same, opens}
 use Rattle.node_store.proofs.node.Node.recover.Goals as goal
