@@ -1,20 +1,26 @@
 -- A node at work, and what its calls make of it.
-use Rattle.std.proofs.Common.{arith, ◌≡◌, ◌⊎◌, ⊎_elim, if◌then◌else◌, ℕ, ◌+◌, ◌<◌, ◌≤◌, Bool, true, false, List, [], ◌∷◌, ◌++◌, map, length, take, Some, None, inl, inr, refl, sym, ap, subst, ◌∙◌, length-append}
-use Rattle.std.proofs.lemmas.List.{take-append-le}
+use Rattle.std.proofs.Common.{arith, Err, ◌≡◌, ◌⊎◌, ⊎_elim, if◌then◌else◌, ℕ, ◌+◌, ◌<◌, ◌≤◌, ◌^◌, Bool, true, false, List, [], ◌∷◌, ◌++◌, map, length, take, Option, Some, None, inl, inr, refl, sym, ap, subst, ◌∙◌, length-append}
+use Rattle.std.proofs.lemmas.Bool.Decides.{nat_tests}
+use Rattle.std.proofs.lemmas.List.{take-append-le, length-take}
 use Rattle.std.specs.List.{filter}
 use Rattle.ring_records.specs.declared.input.Input.{Input}
 use Rattle.ring_records.specs.declared.request.Request.{Request}
 use Rattle.ring_records.specs.Admission.{fresh, IsLawful}
 use Rattle.disk_model.specs.FuseDevice.{inner_of, is_idle_device, reach_of}
+use Rattle.disk_model.specs.MemDevice.{disk_of, limit_of}
 use Rattle.disk_model.specs.declared.fuse.FuseDevice.{FuseDevice}
+use Rattle.disk_model.specs.declared.memory.MemDevice.{MemDevice}
 use Rattle.gated_journal.specs.Reading.{Header, ReadsAsOneOf}
+use Rattle.gated_journal.specs.Unread.{header_at, IsFault, IsUnread}
+use Rattle.node_store.specs.Recovery.{IsNotLawful}
 use Rattle.node_store.specs.State as states
 use Rattle.ring_records.specs.Lists.{EachAfter}
 use Rattle.ring_records.specs.Answer.{Answered, NodeState, answered, asked, gained, launched, landed, opened}
 use Rattle.ring_records.specs.declared.refusal.Refusal.{Refusal}
+use Rattle.ring_records.specs.declared.refusal.Refusal.TheVariants.{Device, Failed, OutOfMemory}
 use Rattle.group_commit.specs.declared.desk.Desk.{Desk}
-use Rattle.group_commit.specs.Desk.{place_of, kept_at, IsSealed}
-use Rattle.group_commit.specs.Kept.{Place}
+use Rattle.group_commit.specs.Desk.{place_of, kept_at, objection, IsSealed}
+use Rattle.group_commit.specs.Kept.{Place, is_outside}
 use Rattle.group_commit.specs.Ticket.{TicketView, ticket_with}
 use Rattle.node_store.proofs.Standing.{lawful_asked}
 use Rattle.ring_node.specs.Node.{Open, new_node, asked_with, flushed, is_due, restarted}
@@ -48,6 +54,13 @@ module _ (place : Place) (s : NodeState) (kept : Answers) (issued : ℕ) (closed
 -- an idle device reaches as far as the one behind it
 pub idle_reach : {D : Type 0} (reach : D → ℕ) (device : FuseDevice D) (inner : D) → is_idle_device device ≡ true → inner_of device ≡ inner → reach_of reach device ≡ reach inner
 idle_reach reach device inner idle behind = ap (λ b. if b then reach (inner_of device) else 0) idle ∙ ap reach behind
+
+-- what it holds is no longer
+pub image_within : (device : FuseDevice MemDevice) → is_idle_device device ≡ true → length (disk_of (inner_of device)).image ≤ reach_of limit_of device
+image_within device idle =
+    let reach = idle_reach limit_of device (inner_of device) idle refl in
+    let long = length-take (inner_of device).held.size (inner_of device).held.bytes.items in
+    omega arith
 
 starts : (place : Place) (inputs : List Input) (kept : Answers) (reach : ℕ) → IsLawful place.me place.n place.capacity fresh inputs → ((own : ℕ) → kept own ≡ None) → 17 + place.capacity ≤ reach
     → IsServed place (opened inputs) kept 0 false false reach []
@@ -224,4 +237,33 @@ not_sealed desk ticket why k low sealed = elim sealed.cause [
       let lt = early.2 in
       let is = k.number in
       absurd (omega arith)
+]
+
+-- ---- want of memory alone
+
+-- a device that fails gives another refusal
+pub no_fault : {before now : ℕ} {why : Refusal} → IsFault before now why ⊎ (why ≡ OutOfMemory) → why ≡ Failed → why ≡ OutOfMemory
+no_fault (inl fault) failed = let is = fault.is in absurd cc
+no_fault (inr short) failed = short
+
+-- what is wrong with an image is not that its device failed
+head_fault : (node n : ℕ) (image : List ℕ) (count : ℕ) → header_at node n image ≡ Err (Device count) → ⊥
+head_fault node n image count fault = grind (arith, nat_tests)
+
+-- a node that takes requests takes one of its ring while it gave few tickets
+pub unobjected : (desk : Desk) (question : Request) → desk.is_closed ≡ false → desk.is_failed ≡ false → is_outside desk.n question ≡ false → desk.issued < 2 ^ 60 → objection desk question ≡ None
+unobjected desk question takes works inside few = grind (arith, nat_tests)
+
+pub no_objection : {objection : Option Refusal} {why : Refusal} → (objection ≡ Some why) ⊎ ((objection ≡ None) × (why ≡ OutOfMemory)) → objection ≡ None → why ≡ OutOfMemory
+no_objection (inl objects) none = let is = sym objects ∙ none in absurd cc
+no_objection (inr short) none = short.1
+
+-- the device holds what reads, and does not fail
+pub no_cause : (node n before now : ℕ) (image : List ℕ) (why : Refusal) → (why ≡ OutOfMemory) ⊎ IsFault before now why → (why ≡ OutOfMemory) ⊎ (IsUnread node n image why ⊎ IsNotLawful node n image why) → why ≡ OutOfMemory
+no_cause node n before now image why (inl short) found = short
+no_cause node n before now image why (inr fault) (inl short) = short
+no_cause node n before now image why (inr fault) (inr (inr unlawful)) = let is = sym fault.is ∙ unlawful.unlawful.is in absurd cc
+no_cause node n before now image why (inr fault) (inr (inl unread)) = elim unread.cause [
+  | inl head ↦ absurd (head_fault node n image now (head ∙ ap Err fault.is))
+  | inr frames ↦ let is = sym fault.is ∙ frames.2.is in absurd cc
 ]

@@ -63,7 +63,7 @@ impl RingNode {
     /// it accepts an input with the request.
     pub fn ask(&mut self, number: Option<u64>, question: Request) -> Result<bool, AllocError>
         requires inside { is_outside self.old.n question ≡ false }
-        requires numbers { self.old.issued < 2 ^ 64 - 1 }
+        requires numbers { self.old.issued < 2 ^ 60 }
         ensures next { OnOk result (self.new ≡ asked_with number question self.old) }
         ensures accepted { IfOk result (λ accepted. accepted ≡ accepts self.old question) }
         ensures err { OnErr result (self.new ≡ self.old) }

@@ -8,7 +8,7 @@ ghost use Rattle.ring_records.specs.Answer.{Answered, NodeState, launched, lande
 ghost use Rattle.ring_records.specs.Emission.{sent};
 ghost use Rattle.ring_records.specs.History.{taken, credit};
 ghost use Rattle.ring_records.specs.Release.{packets};
-ghost use Rattle.gated_journal.specs.Reading.{header_with};
+ghost use Rattle.gated_journal.specs.Reading.{header_with, is_header};
 ghost use Rattle.group_commit.specs.Desk.{flying_in};
 ghost use Rattle.group_commit.specs.Kept.{is_outside, IsCount};
 ghost use Rattle.node_store.specs.Node as nodes;
@@ -73,6 +73,7 @@ impl Served {
         n: u8,
         capacity: u32,
     ) -> Result<Served, AllocError>
+        requires range { is_header (header_with me n capacity) ≡ true }
         ensures { IfOk result (λ made. made ≡ new_node me n capacity) }
     {
         let device = MemDevice::new(alloc, 17 + capacity as usize)?;
@@ -81,7 +82,7 @@ impl Served {
                 node,
                 held: VecDeque::new(alloc),
             }),
-            Err(_) => Err(AllocError),
+            Err((_device, refusal)) => Err(memory_alone(refusal)),
         }
     }
 
@@ -107,12 +108,14 @@ impl Served {
                 node,
                 held: VecDeque::new(alloc),
             }),
-            Err(_) => Err(AllocError),
+            Err((_device, refusal)) => Err(memory_alone(refusal)),
         }
     }
 
     /// Asks the node, and keeps the ticket. Whether it accepts an input with the request.
     pub(crate) fn ask(&mut self, number: Option<u64>, question: Request) -> Result<bool, AllocError>
+        requires inside { is_outside self.old.n question ≡ false }
+        requires numbers { self.old.issued < 2 ^ 60 }
         ensures next { OnOk result (self.new ≡ asked_with number question self.old) }
         ensures accepted { IfOk result (λ accepted. accepted ≡ accepts self.old question) }
         ensures durable { durable_in self.new ≡ durable_in self.old }
@@ -126,7 +129,7 @@ impl Served {
                 self.held.push_back_reserved(Held { number, ticket });
                 Ok(accepted)
             }
-            Err(_) => Err(AllocError),
+            Err(refusal) => Err(memory_alone(refusal)),
         }
     }
 
@@ -139,10 +142,10 @@ impl Served {
         ensures lawful { IsLawful self.new.me self.new.n self.new.capacity fresh self.new.inputs }
         ensures err { OnErr result (self.new ≡ self.old) }
     {
-        let Ok(landed) = self.node.flush() else {
-            return Err(AllocError);
-        };
-        Ok(landed)
+        match self.node.flush() {
+            Ok(landed) => Ok(landed),
+            Err(refusal) => Err(memory_alone(refusal)),
+        }
     }
 
     /// Releases the reply of the oldest open ticket, if that rests on durable inputs alone.
@@ -251,6 +254,16 @@ impl Served {
         ensures { result ≡ length (taken (durable_in self.now)) }
     {
         self.node.durable_taken()
+    }
+}
+
+// What is answered to a refusal that only want of memory explains.
+fn memory_alone(refusal: Refusal) -> AllocError
+    requires { refusal ≡ Refusal.OutOfMemory }
+{
+    match refusal {
+        Refusal::OutOfMemory => AllocError,
+        _ => unreachable!(),
     }
 }
 
