@@ -17,7 +17,7 @@ use Rattle.group_commit.specs.Desk.{flying_in}
 use Rattle.node_store.specs.State.{left_by, Holds}
 use Rattle.ring_node.specs.Messages.{carried_in}
 use Rattle.ring_node.specs.Node.{NodeView, new_node, state_of, durable_in, asked_with, flushed, restarted, left}
-use Rattle.ring_node.specs.Served.{IsPlaced, AreInside, IsRingNode}
+use Rattle.ring_node.specs.Served.{shown_by, IsPlaced, AreInside, IsRingNode}
 use Rattle.ring_node.proofs.Sending.{sent-none, sent-batch, batch-few, inside, inside-front}
 
 me_within : (me n capacity : ℕ) → is_header (header_with me n capacity) ≡ true → me ≤ n
@@ -112,49 +112,53 @@ module _ (me n capacity : ℕ) (v : NodeView) (messages : List Msg) (ring : IsRi
           inside = subst (AreInside n) (sym sends) (inside-front me n capacity (launched (state_of v)).flying (me_within me n capacity ring.range) v.inputs lawful_here);
         })
 
-  -- ---- it is opened again
+-- ---- it is down, and opened again
 
-  -- what it held, by the ring's names
-  pub held_here : (disk : Disk) (s : NodeState) → Holds (header_with v.me v.n v.capacity) disk s → Holds (header_with me n capacity) disk s
-  held_here disk s holds = subst (λ (t : ℕ × ℕ × ℕ). Holds (header_with t.0 t.1 t.2) disk s) (λ i. (ring.placed.me_is i, ring.placed.n_is i, ring.placed.capacity_is i)) holds
+-- the names of the ring are those of its node
+named_here : (me n capacity : ℕ) (served : Option NodeView) (messages : List Msg) → IsRingNode me n capacity served messages
+    → (let v = shown_by me n capacity served in new_node me n capacity ≡ new_node v.me v.n v.capacity)
+named_here me n capacity None messages ring = refl
+named_here me n capacity (Some v) messages ring = λ i. new_node (sym ring.placed.me_is i) (sym ring.placed.n_is i) (sym ring.placed.capacity_is i)
 
-  pub lawful_ring : (inputs : List Input) → IsLawful v.me v.n v.capacity fresh inputs → IsLawful me n capacity fresh inputs
-  lawful_ring inputs lawful = subst (λ (t : ℕ × ℕ × ℕ). IsLawful t.0 t.1 t.2 fresh inputs) (λ i. (ring.placed.me_is i, ring.placed.n_is i, ring.placed.capacity_is i)) lawful
+pub named : (me n capacity : ℕ) (served : Option NodeView) (messages : List Msg) → IsRingNode me n capacity served messages → (v : NodeView) → shown_by me n capacity served ≡ v → new_node me n capacity ≡ new_node v.me v.n v.capacity
+named me n capacity served messages ring v is = named_here me n capacity served messages ring ∙ ap (λ (u : NodeView). new_node u.me u.n u.capacity) is
 
-  again : (inputs : List Input) → restarted inputs (new_node me n capacity) ≡ restarted inputs v
+-- by the names of a node that is down
+module _ (v down : NodeView) (same : down ≡ new_node v.me v.n v.capacity) where
+  -- what a device holds
+  pub held_down : (disk : Disk) (s : NodeState) → IsLawful v.me v.n v.capacity fresh s.inputs → Holds (header_with v.me v.n v.capacity) disk s
+      → IsLawful down.me down.n down.capacity fresh s.inputs × Holds (header_with down.me down.n down.capacity) disk s
+  held_down disk s lawful holds = subst (λ (u : NodeView). IsLawful u.me u.n u.capacity fresh s.inputs × Holds (header_with u.me u.n u.capacity) disk s) (sym same) (lawful, holds)
+
+  -- what it is opened again with
+  pub again : (inputs : List Input) → restarted inputs down ≡ restarted inputs v
   unfolding restarted
-  again inputs = λ i. record {
-    me = sym ring.placed.me_is i;
-    n = sym ring.placed.n_is i;
-    capacity = sym ring.placed.capacity_is i;
-    inputs = inputs;
-    durable = length inputs;
-    held = [];
-    issued = 0;
-  }
+  again inputs = ap (restarted inputs) same
 
   either : (keep : Bool) → left_by keep (state_of v) ≡ durable_in v
   either true = refl
   either false = refl
 
   -- after a crash it has its durable inputs
-  pub crashed : (w : NodeView) (keep : Bool) → w ≡ restarted (left_by keep (state_of v)) (new_node me n capacity) → w ≡ restarted (durable_in v) v
-  crashed w keep is = is ∙ (ap (λ (l : List Input). restarted l (new_node me n capacity)) (either keep) ∙ again (durable_in v))
+  pub crashed : (w : NodeView) (keep : Bool) → w ≡ restarted (left_by keep (state_of v)) down → w ≡ restarted (durable_in v) v
+  crashed w keep is = is ∙ (again (left_by keep (state_of v)) ∙ ap (λ (l : List Input). restarted l v) (either keep))
 
   -- after a stop it has those, or also the batch: the count of them tells which
   told : (keep : Bool) → v.durable < length v.inputs → nat_lt v.durable (length (left_by keep (launched (state_of v)))) ≡ keep
   told true waits = let long = length-take (launched (state_of v)).flying v.inputs in grind (arith, nat_tests)
   told false waits = let long = length-take v.durable v.inputs in grind (arith, nat_tests)
 
-  durable_again : (inputs : List Input) → (restarted inputs (new_node me n capacity)).durable ≡ length inputs
+  durable_again : (inputs : List Input) → (restarted inputs v).durable ≡ length inputs
   unfolding restarted
   durable_again inputs = refl
 
-  pub stopped : (w : NodeView) (keep found : Bool) → v.durable < length v.inputs → w ≡ restarted (left_by keep (launched (state_of v))) (new_node me n capacity) → found ≡ nat_lt v.durable w.durable → w ≡ restarted (left found v) v
+  pub stopped : (w : NodeView) (keep found : Bool) → v.durable < length v.inputs → w ≡ restarted (left_by keep (launched (state_of v))) down → found ≡ nat_lt v.durable w.durable → w ≡ restarted (left found v) v
   stopped w keep found waits is tells =
-      let count : w.durable ≡ length (left_by keep (launched (state_of v))) = ap (λ (u : NodeView). u.durable) is ∙ durable_again (left_by keep (launched (state_of v))) in
-      let same : found ≡ keep = tells ∙ (ap (nat_lt v.durable) count ∙ told keep waits) in
-      is ∙ (again (left_by keep (launched (state_of v))) ∙ ap (λ b. restarted (left b v) v) (sym same))
+      let inputs = left_by keep (launched (state_of v)) in
+      let now : w ≡ restarted inputs v = is ∙ again inputs in
+      let count : w.durable ≡ length inputs = ap (λ (u : NodeView). u.durable) now ∙ durable_again inputs in
+      let same_one : found ≡ keep = tells ∙ (ap (nat_lt v.durable) count ∙ told keep waits) in
+      now ∙ ap (λ b. restarted (left b v) v) (sym same_one)
 
 -- a node that is opened again has the ring's names
 pub lawful_again : (me n capacity : ℕ) (v : NodeView) (inputs h : List Input) → v ≡ restarted inputs (new_node me n capacity) → IsLawful v.me v.n v.capacity fresh h → IsLawful me n capacity fresh h

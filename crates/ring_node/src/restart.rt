@@ -1,5 +1,5 @@
 // A node that loses its memory, and is opened again from its device.
-ghost use Rattle.std.specs.Prelude.{◌≡◌, ◌<◌, ◌≤◌, length, Bool, Some, None, IfOk, OnOk};
+ghost use Rattle.std.specs.Prelude.{◌≡◌, ◌<◌, length, Bool, IfOk, OnOk, OnErr};
 ghost use Rattle.std.specs.List.{filter_map};
 ghost use Rattle.disk_model.specs.MemDevice.{disk_of};
 ghost use Rattle.ring_records.specs.Admission.{fresh, IsLawful};
@@ -22,44 +22,54 @@ impl RingNode {
     pub fn crash(&mut self) -> Result<Vec<u64>, AllocError>
         ensures next { OnOk result (self.new ≡ restarted (durable_in self.old) self.old) }
         ensures lost { IfOk result (λ lost. lost.items ≡ filter_map number_of self.old.held) }
+        ensures err { OnErr result (self.new ≡ new_node self.old.me self.old.n self.old.capacity) }
     {
-        let Some(served) = self.served.take() else {
-            return Err(AllocError);
-        };
-        self.messages.clear();
+        let served = self.take_down()?;
         let lost = served.numbers(self.alloc);
         let device = served.end();
         let lost = lost?;
-        self.runs = self.runs.wrapping_add(1);
-        let (served, messages) = opened(
-            self.alloc,
-            device,
-            self.me,
-            self.n,
-            self.capacity,
-            self.runs,
-        )?;
-        self.messages = messages;
-        put(&mut self.served, served);
+        self.open_again(device)?;
         Ok(lost)
     }
 
     /// It is stopped at a device call of a flush, 1 to 4, with the device left by the tear, and is opened again: whether
-    /// it holds the batch then, and the numbers of the tickets that were open, in order. Where nothing waits, no call is
-    /// made. After an `Err` it is down.
+    /// it holds the batch then, and the numbers of the tickets that were open, in order. An input waits, so that the flush
+    /// calls the device: `durable` is below `count`. After an `Err` it is down.
     pub fn stop(&mut self, call: u64, tear: Tear) -> Result<(bool, Vec<u64>), AllocError>
         requires waits { self.old.durable < length self.old.inputs }
         ensures next { IfOk result (λ r. self.new ≡ restarted (left r.0 self.old) self.old) }
         ensures lost { IfOk result (λ r. r.1.items ≡ filter_map number_of self.old.held) }
+        ensures err { OnErr result (self.new ≡ new_node self.old.me self.old.n self.old.capacity) }
     {
-        let Some(served) = self.served.take() else {
-            return Err(AllocError);
-        };
-        self.messages.clear();
+        let served = self.take_down()?;
         let durable = served.durable();
         let lost = served.numbers(self.alloc);
         let device = served.stop(call, tear)?;
         let lost = lost?;
+        self.open_again(device)?;
+        let keeps = durable < self.durable();
+        Ok((keeps, lost))
+    }
+
+    // The node at work, if it is not down. It is down afterwards.
+    fn take_down(&mut self) -> Result<Served, AllocError>
+        ensures taken { IfOk result (λ served. served ≡ self.old) }
+        ensures down { self.new ≡ new_node self.old.me self.old.n self.old.capacity }
+    {
+        self.messages.clear();
+        match self.served.take() {
+            Some(served) => Ok(served),
+            None => Err(AllocError),
+        }
+    }
+
+    // Opens it again from its device.
+    fn open_again(&mut self, device: MemDevice) -> Result<(), AllocError>
+        requires holds { (s : NodeState) × IsLawful self.old.me self.old.n self.old.capacity fresh s.inputs × Holds (header_with self.old.me self.old.n self.old.capacity) (disk_of device) s }
+        ensures next { OnOk result ((s : NodeState) → IsLawful self.old.me self.old.n self.old.capacity fresh s.inputs → Holds (header_with self.old.me self.old.n self.old.capacity) (disk_of device) s
+            → (keep : Bool) × (self.new ≡ restarted (left_by keep s) self.old)) }
+        ensures err { OnErr result (self.new ≡ self.old) }
+    {
         self.runs = self.runs.wrapping_add(1);
         let (served, messages) = opened(
             self.alloc,
@@ -69,10 +79,11 @@ impl RingNode {
             self.capacity,
             self.runs,
         )?;
-        let keeps = durable < served.durable();
         self.messages = messages;
-        put(&mut self.served, served);
-        Ok((keeps, lost))
+        if let Some(before) = self.served.replace(served) {
+            let _device = before.end();
+        }
+        Ok(())
     }
 }
 
@@ -98,16 +109,5 @@ fn opened(
             let _device = served.end();
             Err(error)
         }
-    }
-}
-
-// Puts a node where there is none.
-fn put(place: &mut Option<Served>, served: Served)
-    requires { place.old ≡ None }
-    ensures { place.new ≡ Some served }
-{
-    match place.replace(served) {
-        None => {}
-        Some(_) => unreachable!(),
     }
 }
