@@ -40,7 +40,7 @@ as_many (t ∷ ts) = many_with t t.number ts (as_many ts)
 -- ---- nodes
 
 -- what is so of an item and of its new value is so of the items afterwards
-each_after_set : {A : Type 0} (l : List A) (k j : ℕ) (v d : A) (P : A → Type 0) → P v → P (get_or l j d) → P (get_or (set l k v) j d)
+pub each_after_set : {A : Type 0} (l : List A) (k j : ℕ) (v d : A) (P : A → Type 0) → P v → P (get_or l j d) → P (get_or (set l k v) j d)
 each_after_set [] k j v d P p q = q
 each_after_set (x ∷ l) zero zero v d P p q = p
 each_after_set (x ∷ l) zero (suc j) v d P p q = q
@@ -101,7 +101,7 @@ bounded_brought eager number i q w t u le b =
 -- ---- a new ring
 
 -- what is so of an item that is added, and of the others, is so of all
-each_after_push : {A : Type 0} (l : List A) (x d : A) (k : ℕ) (P : A → Type 0) → P d → P x → P (get_or l k d) → P (get_or (l ++ x ∷ []) k d)
+pub each_after_push : {A : Type 0} (l : List A) (x d : A) (k : ℕ) (P : A → Type 0) → P d → P x → P (get_or l k d) → P (get_or (l ++ x ∷ []) k d)
 each_after_push [] x d zero P none new old = new
 each_after_push [] x d (suc k) P none new old = none
 each_after_push (y ∷ l) x d zero P none new old = old

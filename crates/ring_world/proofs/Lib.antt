@@ -7,6 +7,7 @@ mod Nodes
 mod Opened
 mod Processes
 mod Promises
+mod Rest
 mod Runs
 mod Schedules
 mod Steps

@@ -5,6 +5,7 @@ pub mod Counts
 pub mod Events
 pub mod Happened
 pub mod Released
+pub mod Rest
 pub mod Ring
 pub mod State
 pub mod Step

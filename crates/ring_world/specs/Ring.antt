@@ -130,7 +130,10 @@ handed size i (ask.Latest group) = []
 unfoldable pub given : ℕ → Request → RingView → RingView
 given i q w = record w { events = w.events ++ handed w.size i q }
 
--- node i is asked, after its neighbour released what the request brings; in an eager ring what it accepts lands
+-- Node i is asked, after its neighbour released what the request brings; in an eager ring what it accepts lands. One
+-- round of Launch and Land is enough: between the steps of an eager world every input is durable (specs/Rest, which
+-- World keeps as its invariant, and shows as clause `eager` of World::show), so what lands is the one input that the
+-- request added.
 unfoldable pub brought : Bool → Option ℕ → ℕ → Request → RingView → RingView
 brought eager number i q w = let t = asked number i q (given i q w) in if eager then landed i t else t
 

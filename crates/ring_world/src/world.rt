@@ -39,13 +39,14 @@ pub struct World {
 
 impl Model for World {
     ghost use Rattle.ring_world.specs.Counts.{IsCounted};
+    ghost use Rattle.ring_world.specs.Rest.{IsAtRest};
     ghost use Rattle.ring_world.specs.State.{State};
 
     ghost Value = { State };
 
     ghost view = { λ w. record { ring = w.ring; eager = w.eager; tickets = w.tickets } };
 
-    ghost invariant = { λ w. IsCounted w.ring w.tickets };
+    ghost invariant = { λ w. IsCounted w.ring w.tickets × IsAtRest w.eager w.ring };
 }
 
 impl World {
@@ -141,6 +142,7 @@ impl World {
     pub fn show(&self, node: NodeNo) -> Result<Shown, Refusal>
         ensures inputs { IfOk result (λ shown. shown.inputs ≡ length (state_after self.now.ring.size self.now.ring.capacity self.now.ring.events node).inputs) }
         ensures durable { IfOk result (λ shown. shown.durable ≡ (state_after self.now.ring.size self.now.ring.capacity self.now.ring.events node).durable) }
+        ensures eager { IfOk result (λ shown. self.now.eager ≡ true → shown.durable ≡ shown.inputs) }
         ensures sent { IfOk result (λ shown. shown.sent ≡ length (sent node (state_after self.now.ring.size self.now.ring.capacity self.now.ring.events node).inputs)) }
         ensures taken { IfOk result (λ shown. shown.taken ≡ length (taken (state_after self.now.ring.size self.now.ring.capacity self.now.ring.events node).inputs)) }
         ensures credit { IfOk result (λ shown. shown.credit ≡ credit (state_after self.now.ring.size self.now.ring.capacity self.now.ring.events node).inputs) }

@@ -1,16 +1,20 @@
 use Rattle.std.proofs.Common.{length, sym, subst, ap, ◌∙◌, arith}
 use Rattle.ring_world.specs.Counts.{IsBounded}
+use Rattle.ring_world.specs.Rest.{IsAllDurable}
 use Rattle.ring_world.specs.Ring.{RingView}
 use Rattle.ring_world.specs.State.{State}
 use Rattle.ring_world.proofs.Counts.{bounded_stopped, few_lost}
+use Rattle.ring_world.proofs.Rest.{durable_stopped}
 use Rattle.ring_world.proofs.Working.{works_stopped, ring_works}
 use Rattle.ring_world.proofs.world.World.stop.Goals as goal
 
 pub invariant_of-self : goal.invariant_of-self
 invariant_of-self c =
     let works = ring_works c.self.inside.ring _ _ c.args.self.now c.self.view_is c.requires.works in
-    let next = c.in-Ok.ensures.next in
-    λ kept. subst (λ (w : RingView). IsBounded w c.self.inside.tickets) (sym next.1) (bounded_stopped next.0 c.args.node c.self.inside.ring c.self.inside.tickets (c.self.invariant works))
+    let next = c.in-Ok.ensures.next in (
+      λ kept. subst (λ (w : RingView). IsBounded w c.self.inside.tickets) (sym next.1) (bounded_stopped next.0 c.args.node c.self.inside.ring c.self.inside.tickets (c.self.invariant.0 works)),
+      λ eager kept. subst IsAllDurable (sym next.1) (durable_stopped next.0 c.args.node c.self.inside.ring (c.self.invariant.1 eager works)),
+    )
 
 pub reopened-requires-clause-works : goal.reopened-requires-clause-works
 reopened-requires-clause-works c =
@@ -25,7 +29,7 @@ returns-in-Ok-clause-works c =
 pub returns-in-Ok-clause-few : goal.returns-in-Ok-clause-few
 returns-in-Ok-clause-few c =
     let works = ring_works c.self.inside.ring _ _ c.args.self.now c.self.view_is c.requires.works in
-    let bound = few_lost c.args.node c.self.inside.ring c.self.inside.tickets (c.self.invariant works) in
+    let bound = few_lost c.args.node c.self.inside.ring c.self.inside.tickets (c.self.invariant.0 works) in
     let none = c.reopened.ensures.few in
     let is = ap length c.in-Ok.ensures.lost in
     let tickets = ap (λ (s : State). s.tickets) c.self.view_is in
