@@ -1,5 +1,5 @@
 // What nodes are asked, make durable and release.
-ghost use Rattle.std.specs.Prelude.{◌≡◌, ◌≤◌, ◌<◌, ◌+◌, ◌-◌, ◌∷◌, ◌++◌, ℕ, Bool, [], length, map, true, false, Some, OnOk, OnErr, IfOk, IfSome, vec_len, vec_capacity};
+ghost use Rattle.std.specs.Prelude.{◌≡◌, ◌≤◌, ◌<◌, ◌+◌, ◌-◌, ◌^◌, ◌∷◌, ◌++◌, ℕ, Bool, [], length, map, true, false, Some, OnOk, OnErr, IfOk, IfSome, vec_len, vec_capacity};
 ghost use Rattle.std.specs.List.{filter_map};
 ghost use Rattle.ring_node.specs.Node.{accepts};
 ghost use Rattle.group_commit.specs.Kept.{is_outside};
@@ -61,6 +61,7 @@ impl Ring {
     {
         // All memory first: an `Err` changes nothing. The events are the packet, the request, and a release for each
         // ticket, this one's too.
+        self.check_room()?;
         let at = node.number() as usize - 1;
         let open = self.nodes[at].open_tickets();
         self.events.reserve(open.saturating_add(3))?;
@@ -175,10 +176,22 @@ impl Ring {
         ensures rest { self.new ≡ record self.old { events = self.new.events; nodes = self.new.nodes } }
         ensures err { OnErr result (self.new ≡ self.old) }
     {
+        self.check_room()?;
         self.events.reserve(1)?;
         let accepted = self.nodes[node.number() as usize - 1].ask(number, *question)?;
         self.events.push_reserved(Happened::asked(node, question));
         Ok(accepted)
+    }
+
+    // Refuses a list of 2^60 events as want of memory, since no memory holds so many. A node gave at most a ticket an
+    // event, so it has one for the next.
+    fn check_room(&self) -> Result<(), AllocError>
+        ensures { OnOk result (length self.now.events < 2 ^ 60) }
+    {
+        if self.events.len() >= EVENTS {
+            return Err(AllocError);
+        }
+        Ok(())
     }
 
     // Launches and lands a batch of the node, where something waits: how many inputs.
@@ -217,6 +230,9 @@ impl Ring {
         Ok(replies)
     }
 }
+
+// More events than any memory holds.
+const EVENTS: usize = 1 << 60;
 
 // Adds the packet that a neighbour of the node releases to it, for what the request brings; there is room.
 fn push_handed(events: &mut Vec<Happened>, size: u8, node: NodeNo, question: &Request)
