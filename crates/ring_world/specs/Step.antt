@@ -88,6 +88,10 @@ Steps s event o t = (keeps_flying : Bool) × ((o, t) ≡ all_told (stepped keeps
 abbrev pub no_node : State → ℕ → Option Refusal
 no_node s i = where_so (nat_lt s.ring.size i) refused.BadNumber
 
+-- no flush of the node has this device call
+abbrev pub no_stop : State → ℕ → ℕ → Option Refusal
+no_stop s i call = or_else (no_node s i) (where_so (nat_eq call 0 || nat_lt 4 call) refused.BadNumber)
+
 abbrev pub unknown : Option (ℕ × Request) → Option Refusal
 unknown None = Some refused.Unknown
 unknown (Some delivery) = None
@@ -103,7 +107,7 @@ objection_to s (Deliver from place) = or_else (no_node s from) (or_else (unknown
 objection_to s DeliverAll = None
 objection_to s (Credit from upto) = or_else (no_node s from) (or_else (where_so (not (is_earned s.ring from upto)) refused.Unknown) (spent s))
 objection_to s (Crash node) = no_node s node
-objection_to s (Stop node call tear) = or_else (no_node s node) (where_so (nat_eq call 0 || nat_lt 4 call) refused.BadNumber)
+objection_to s (Stop node call tear) = no_stop s node call
 
 -- the first cause to refuse the event, want of memory aside
 unfoldable pub refusal_of : State → Event → Option Refusal

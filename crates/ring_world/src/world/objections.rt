@@ -2,7 +2,7 @@
 ghost use Rattle.std.specs.Prelude.{◌≡◌, false, IfSome};
 ghost use Rattle.group_commit.specs.Kept.{is_outside};
 ghost use Rattle.ring_world.specs.declared.event.Event.TheVariants as event;
-ghost use Rattle.ring_world.specs.Step.{refusal_of, objection_to, no_node, spent};
+ghost use Rattle.ring_world.specs.Step.{refusal_of, objection_to, no_node, no_stop, spent};
 
 use super::*;
 
@@ -22,7 +22,7 @@ impl World {
             Event::DeliverAll => None,
             Event::Credit { from, upto } => self.credit_objection(*from, *upto),
             Event::Crash(node) => self.node_objection(*node),
-            Event::Stop { node, call, tear } => self.stop_objection(*node, *call, *tear),
+            Event::Stop { node, call, .. } => self.stop_objection(*node, *call),
         }
     }
 
@@ -75,12 +75,10 @@ impl World {
         self.ticket_objection()
     }
 
-    #[tactic(auto, unfolding(crate::specs::Step::objection_to))]
-    fn stop_objection(&self, node: NodeNo, call: u64, tear: Tear) -> Option<Refusal>
-        ensures value { result ≡ objection_to self.now (event.Stop node call tear) }
+    fn stop_objection(&self, node: NodeNo, call: u64) -> Option<Refusal>
+        ensures value { result ≡ no_stop self.now node call }
         ensures memory { IfSome result (λ refusal. refusal ≡ Refusal.OutOfMemory → ⊥) }
     {
-        let _ = tear;
         if node.number() > self.ring.size() || call == 0 || call > 4 {
             return Some(Refusal::BadNumber);
         }

@@ -1,9 +1,9 @@
 // The events, none of which is refused.
-ghost use Rattle.std.specs.Prelude.{◌≡◌, ◌+◌, ◌≤◌, ◌<◌, ◌^◌, Bool, true, false, Some, IfOk, OnOk, OnErr, MatchBool, length};
+ghost use Rattle.std.specs.Prelude.{◌≡◌, ◌+◌, ◌≤◌, ◌<◌, ◌^◌, Bool, true, false, None, Some, IfOk, OnOk, OnErr, MatchBool, length};
 ghost use Rattle.ring_records.specs.Place.{before};
 ghost use Rattle.group_commit.specs.Kept.{is_outside};
 ghost use Rattle.ring_world.specs.Ring.{node_at, carried, is_earned, is_released};
-ghost use Rattle.ring_world.specs.Step.{told, nothing_told, submitted, flushed, crashed, stopped, delivered_all, put};
+ghost use Rattle.ring_world.specs.Step.{told, nothing_told, unknown, submitted, flushed, crashed, stopped, delivered_all, put};
 
 use super::*;
 
@@ -59,6 +59,7 @@ impl World {
     pub(super) fn deliver(&mut self, from: NodeNo, no: u64) -> Result<Outcome, AllocError>
         requires works { self.old.ring.failed ≡ false }
         requires inside { from ≤ self.old.ring.size }
+        requires there { unknown (carried self.old.ring from no) ≡ None }
         requires room { self.old.tickets < 2 ^ 60 }
         ensures step { IfOk result (λ outcome. (told outcome, self.new) ≡ put self.old (carried self.old.ring from no)) }
         ensures works { OnOk result (self.new.ring.failed ≡ false) }
@@ -70,7 +71,7 @@ impl World {
     {
         match self.ring.delivery(from, no) {
             Some(delivery) => self.submit(delivery.0, &delivery.1),
-            None => Ok(quiet(self.alloc, None)),
+            None => unreachable!(),
         }
     }
 
@@ -103,7 +104,7 @@ impl World {
         ensures tickets { self.new.tickets ≡ self.old.tickets }
     {
         match self.ring.sweep(self.eager) {
-            Ok(count) => Ok(quiet(self.alloc, Some(count))),
+            Ok(count) => Ok(all_delivered(self.alloc, count)),
             Err(error) => {
                 self.ring.fail();
                 Err(error)
@@ -188,15 +189,15 @@ fn made_durable(alloc: Global, count: u32, replies: Vec<(u64, Reply)>) -> Outcom
     }
 }
 
-// An outcome without replies.
-fn quiet(alloc: Global, delivered: Option<u32>) -> Outcome
-    ensures told { told result ≡ record nothing_told { delivered = delivered } }
+// So many deliveries were accepted.
+fn all_delivered(alloc: Global, count: u32) -> Outcome
+    ensures told { told result ≡ record nothing_told { delivered = Some count } }
     ensures few { length result.replies.items + length result.lost.items ≡ 0 }
 {
     Outcome {
         ticket: None,
         flushed: None,
-        delivered,
+        delivered: Some(count),
         replies: Vec::new(alloc),
         lost: Vec::new(alloc),
         up: None,
