@@ -1,13 +1,10 @@
 // A ring of durable nodes in memory, and what happened to it.
-ghost use Rattle.std.specs.Prelude.{◌≡◌, ◌≤◌, ◌∷◌, ◌++◌, ℕ, [], length, true, false, OnOk, OnErr, IfOk, IfSome};
-ghost use Rattle.std.specs.List.{filter_map};
+ghost use Rattle.std.specs.Prelude.{◌≡◌, ◌≤◌, ℕ, [], length, true, false, OnOk, IfOk, IfSome};
 ghost use Rattle.ring_records.specs.History.{credit as credit_of, taken as taken_in};
 ghost use Rattle.ring_records.specs.Emission.{sent as sent_by};
 ghost use Rattle.ring_records.specs.Message.{candidate_of};
 ghost use Rattle.ring_records.specs.Order.{is_msg};
-ghost use Rattle.ring_node.specs.Node.{accepts};
-ghost use Rattle.group_commit.specs.Kept.{is_outside};
-ghost use Rattle.ring_world.specs.Events.{IsDelivered, IsSchedule};
+ghost use Rattle.ring_world.specs.Events.{IsSchedule};
 ghost use Rattle.ring_world.specs.Ring.{new_nodes};
 ghost use Rattle.ring_world.specs.State.{is_ring};
 
@@ -42,7 +39,7 @@ impl Model for Ring {
 }
 
 impl Ring {
-    ghost use Rattle.ring_world.specs.Ring.{RingView, new_ring, ShowsNode, node_at, asked, waits, landed, settled, replies, reply_of, crashed, stopped, lost, given, brought, message, is_earned, is_released};
+    ghost use Rattle.ring_world.specs.Ring.{RingView, new_ring, ShowsNode, node_at, waits, message, is_earned, is_released};
 
     /// A ring of `size` nodes of this capacity in bytes, in which nothing has happened.
     pub fn new(alloc: Global, size: u8, capacity: u32) -> Result<Ring, AllocError>

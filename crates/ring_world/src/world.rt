@@ -1,20 +1,16 @@
 // A ring of durable nodes in memory, by its events.
-ghost use Rattle.std.specs.Prelude.{◌≡◌, ◌≢◌, ◌+◌, ◌≤◌, ◌<◌, ◌^◌, ◌⊎◌, ℕ, Bool, false, true, IsTrue, IfOk, IfErr, IfSome, OnOk, OnErr, MatchBool, None, Some, length};
+ghost use Rattle.std.specs.Prelude.{◌≡◌, ◌≢◌, ◌+◌, ◌≤◌, ◌<◌, ◌⊎◌, Bool, false, true, IsTrue, IfOk, IfErr, OnOk, OnErr, MatchBool, None, Some, length};
 ghost use Rattle.std.specs.List.{Contains};
 ghost use Rattle.ring_records.specs.declared.candidate.Candidate.{Candidate as TheCandidate};
 ghost use Rattle.ring_records.specs.declared.input.Input.TheVariants.{Stand};
 ghost use Rattle.ring_records.specs.Emission.{sent};
 ghost use Rattle.ring_records.specs.History.{taken, credit};
 ghost use Rattle.ring_records.specs.Order.{is_less};
-ghost use Rattle.ring_records.specs.Place.{before};
-ghost use Rattle.group_commit.specs.Kept.{is_outside};
 ghost use Rattle.ring_world.specs.declared.announced.Announced.{Announced as TheAnnounced};
-ghost use Rattle.ring_world.specs.declared.event.Event.TheVariants as event;
 ghost use Rattle.ring_world.specs.Announced.{announced};
 ghost use Rattle.ring_world.specs.Committed.{committed};
 ghost use Rattle.ring_world.specs.Events.{IsSchedule, state_after};
-ghost use Rattle.ring_world.specs.Ring.{carried, is_earned, is_released, waits, node_at};
-ghost use Rattle.ring_world.specs.Step.{told, no_node, spent, nothing_told};
+ghost use Rattle.ring_world.specs.Step.{told};
 
 use crate::announced::Announced;
 use crate::event::Event;
@@ -51,7 +47,7 @@ impl Model for World {
 
 impl World {
     ghost use Rattle.ring_world.specs.State.{State, opened, is_ring};
-    ghost use Rattle.ring_world.specs.Step.{Steps, refusal_of, objection_to, is_lasting, stepped, submitted, flushed, crashed, stopped, delivered_all, put};
+    ghost use Rattle.ring_world.specs.Step.{Steps, refusal_of, is_lasting, stepped};
 
     /// A ring of n nodes in which nothing has happened. In an eager one each input is made durable as it is accepted; else
     /// it waits for a flush. Refused as 2 where n is not 2 to 16 or the capacity of each node not 4,096 to 1,048,576

@@ -1,5 +1,5 @@
 // What nodes are asked, make durable and release.
-ghost use Rattle.std.specs.Prelude.{◌≡◌, ◌≤◌, ◌<◌, ◌+◌, ◌-◌, ◌^◌, ◌∷◌, ◌++◌, ℕ, Bool, [], length, map, true, false, Some, OnOk, OnErr, IfOk, IfSome, vec_len, vec_capacity};
+ghost use Rattle.std.specs.Prelude.{◌≡◌, ◌≤◌, ◌<◌, ◌+◌, ◌-◌, ◌^◌, ◌++◌, length, map, true, false, Some, OnOk, OnErr, IfOk, vec_len, vec_capacity};
 ghost use Rattle.std.specs.List.{filter_map};
 ghost use Rattle.ring_node.specs.Node.{accepts};
 ghost use Rattle.group_commit.specs.Kept.{is_outside};

@@ -1,5 +1,5 @@
 // Nodes that lose their memory.
-ghost use Rattle.std.specs.Prelude.{◌≡◌, ◌≤◌, ◌<◌, ◌+◌, ◌-◌, ◌∷◌, ◌++◌, ℕ, Bool, [], length, map, true, false, Some, OnOk, OnErr, IfOk, IfSome, vec_len, vec_capacity};
+ghost use Rattle.std.specs.Prelude.{◌≡◌, ◌≤◌, Bool, true, false, OnOk, OnErr, IfOk};
 ghost use Rattle.ring_world.specs.Ring.{waits, crashed, stopped, lost};
 
 use super::*;
