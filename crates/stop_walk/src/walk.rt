@@ -1,32 +1,42 @@
 // One run of the election.
+mod clients;
+mod leaders;
+mod links;
+
 use disk_model::Tear;
-use ring_records::{Bid, Candidate, GroupName, Key, NodeNo, Refusal, Reply, Request, Term};
-use ring_world::{Event, Outcome, World};
+use ring_records::{GroupName, Key, NodeNo, Term};
+use ring_world::{Event, World};
 use std::alloc::Global;
 
-/// Where a node is stopped: at which flush of the run, counted from 0, and how.
+/// Where a node is stopped.
 #[derive(Clone, Copy)]
 pub struct Point {
+    /// At which flush of the run, counted from 0.
     pub flush: u32,
+    /// At which device call of that flush, 1 to 4.
     pub call: u64,
+    /// What is left of the bytes that are not synced.
     pub tear: Tear,
 }
 
 /// How a run ended.
 #[derive(Drop)]
 pub struct End {
-    /// How many flushes it had before all nodes were crashed.
+    /// How many flushes it had.
     pub flushes: u32,
-    /// Whether each key has one leader, and every acknowledged Stand is known.
+    /// Whether all was as it has to be.
     pub is_good: bool,
 }
+
+/// How many nodes the ring has.
+const NODES: u8 = 3;
 
 /// Who stands: the node, the first letter of the group, and the bid.
 const STANDS: [(u8, u8, u32); 5] = [
     (1, b'r', 10),
     (2, b'r', 30),
     (3, b'b', 20),
-    (1, b'b', 7),
+    (1, b'b', 20),
     (3, b'r', 25),
 ];
 
@@ -35,87 +45,61 @@ const ROUNDS: u32 = 100;
 
 struct Walk {
     world: World,
+    // Where a node will be stopped, if anywhere.
     point: Option<Point>,
     flushes: u32,
+    // Whether all was as it has to be so far.
+    is_good: bool,
     // The last ticket of each Stand, and whether the Stand was acknowledged.
     tickets: [u64; 5],
     acknowledged: [bool; 5],
+    // The most inputs that each node showed as durable.
+    durable: [u64; 3],
 }
 
 /// A run in which a node is stopped there, if anywhere; `None` where an event was refused.
 pub fn run(alloc: Global, point: Option<Point>) -> Option<End> {
-    let world = World::new(alloc, 3, false, 4_096).ok()?;
+    let world = World::new(alloc, NODES, false, 4_096).ok()?;
     let mut walk = Walk {
         world,
         point,
         flushes: 0,
+        is_good: true,
         tickets: [0; 5],
         acknowledged: [false; 5],
+        durable: [0; 3],
     };
-    let end = walk.play();
+    let played = walk.play();
     let Walk {
         world,
-        point: _,
-        flushes: _,
+        point: left,
+        flushes,
+        is_good,
         tickets: _,
         acknowledged: _,
+        durable: _,
     } = walk;
     world.end();
-    end
+    played?;
+    let is_good = is_good && left.is_none();
+    Some(End { flushes, is_good })
 }
 
 impl Walk {
-    fn play(&mut self) -> Option<End> {
-        for stand in 0..5 {
-            self.stand(stand)?;
-        }
+    fn play(&mut self) -> Option<()> {
+        self.stand_all()?;
         self.settle()?;
-        let flushes = self.flushes;
-        self.point = None;
-        for number in 1..4 {
-            self.world.step(Event::Crash(node(number)?)).ok()?;
-            self.deliver_again(node(number)?)?;
-        }
-        self.settle()?;
-        let is_good = self.has_leader(b'r')? && self.has_leader(b'b')? && self.has_stands()?;
-        Some(End { flushes, is_good })
+        self.ask_leaders()?;
+        self.crash_all()?;
+        self.repeat_all()?;
+        self.ask_leaders()?;
+        self.ask_stands()
     }
 
-    // The client of this Stand asks for it.
-    fn stand(&mut self, stand: usize) -> Option<()> {
-        let outcome = self.ask_stand(stand)?;
-        if let (Some(ticket), Some(last)) = (outcome.ticket, self.tickets.get_mut(stand)) {
-            *last = ticket;
-        }
-        self.note(&outcome);
-        Some(())
-    }
-
-    fn ask_stand(&mut self, stand: usize) -> Option<Outcome> {
-        let (number, group, bid) = *STANDS.get(stand)?;
-        let bid = Bid::new(bid).ok()?;
-        let request = Request::Stand(key(group)?, bid);
-        self.world.step(Event::Submit(node(number)?, request)).ok()
-    }
-
-    // The Stands that the replies acknowledge.
-    fn note(&mut self, outcome: &Outcome) {
-        for (ticket, reply) in &outcome.replies {
-            for stand in 0..5 {
-                if self.tickets[stand] == *ticket && *reply == Reply::Stood {
-                    self.acknowledged[stand] = true;
-                }
-            }
-        }
-    }
-
-    // Flushes and deliveries, until nothing waits.
+    // Flushes, credits and deliveries, until nothing waits.
     fn settle(&mut self) -> Option<()> {
         for _ in 0..ROUNDS {
-            let mut waited = false;
-            for number in 1..4 {
-                waited |= self.flush(node(number)?)?;
-            }
+            let waited = self.flush_all()?;
             let all = self.world.step(Event::DeliverAll).ok()?;
             if !waited && all.delivered == Some(0) {
                 return Some(());
@@ -124,85 +108,53 @@ impl Walk {
         None
     }
 
+    // Each node is flushed, and then tells its predecessor what it has taken: whether anything waited.
+    fn flush_all(&mut self) -> Option<bool> {
+        let mut waited = false;
+        for number in 1..NODES + 1 {
+            let node = node(number)?;
+            waited |= self.flush(node)?;
+            waited |= self.credit(node)?;
+        }
+        Some(waited)
+    }
+
     // A flush, or the stop there: whether anything waited.
     fn flush(&mut self, node: NodeNo) -> Option<bool> {
         let number = self.flushes;
         self.flushes = number.saturating_add(1);
-        match self.point {
-            Some(Point { flush, call, tear }) if flush == number => {
+        if let Some(Point { flush, call, tear }) = self.point {
+            if flush == number {
+                self.point = None;
                 let stopped = self.world.step(Event::Stop { node, call, tear }).ok()?;
+                self.look_at(node)?;
                 self.ask_again(&stopped)?;
-                Some(true)
-            }
-            _ => {
-                let flushed = self.world.step(Event::Flush(node)).ok()?;
-                self.note(&flushed);
-                Some(flushed.flushed != Some(0))
+                return Some(true);
             }
         }
+        let flushed = self.world.step(Event::Flush(node)).ok()?;
+        self.look_at(node)?;
+        self.note(&flushed);
+        Some(flushed.flushed != Some(0))
     }
 
-    // The clients whose tickets were lost ask again.
-    fn ask_again(&mut self, stopped: &Outcome) -> Option<()> {
-        for ticket in &stopped.lost {
-            for stand in 0..5 {
-                if self.tickets[stand] == *ticket {
-                    self.stand(stand)?;
-                }
-            }
+    // All nodes lose their memory.
+    fn crash_all(&mut self) -> Option<()> {
+        for number in 1..NODES + 1 {
+            let node = node(number)?;
+            self.world.step(Event::Crash(node)).ok()?;
+            self.look_at(node)?;
         }
         Some(())
     }
 
-    // Every message of the link from a node arrives once more.
-    fn deliver_again(&mut self, from: NodeNo) -> Option<()> {
-        let sent = self.world.show(from).ok()?.sent;
-        for no in 0..sent {
-            self.world.step(Event::Deliver { from, no }).ok()?;
-        }
+    // The node, where nothing waits, holds all that it ever showed as durable.
+    fn look_at(&mut self, node: NodeNo) -> Option<()> {
+        let shown = self.world.show(node).ok()?;
+        let most = self.durable.get_mut(node.number() as usize - 1)?;
+        self.is_good &= *most <= shown.inputs && shown.durable == shown.inputs;
+        *most = shown.durable;
         Some(())
-    }
-
-    // Whether all nodes name one leader for the key of this group, and no other was ever named.
-    fn has_leader(&mut self, group: u8) -> Option<bool> {
-        let key = key(group)?;
-        let first = self.leader(1, key)?;
-        let second = self.leader(2, key)?;
-        let third = self.leader(3, key)?;
-        let mut is_one = first.is_some() && first == second && second == third;
-        for named in &self.world.announced().ok()? {
-            if named.key == key && Some(named.leader) != first {
-                is_one = false;
-            }
-        }
-        Some(is_one)
-    }
-
-    fn leader(&mut self, number: u8, key: Key) -> Option<Option<Candidate>> {
-        let event = Event::Submit(node(number)?, Request::Who(key));
-        let outcome = self.world.step(event).ok()?;
-        match outcome.replies.get(0) {
-            Some((_, Reply::Leader(leader))) => Some(*leader),
-            _ => None,
-        }
-    }
-
-    // Whether every acknowledged Stand is known at its node.
-    fn has_stands(&mut self) -> Option<bool> {
-        for stand in 0..5 {
-            if self.acknowledged[stand] && !self.is_known(stand)? {
-                return Some(false);
-            }
-        }
-        Some(true)
-    }
-
-    fn is_known(&mut self, stand: usize) -> Option<bool> {
-        let outcome = self.ask_stand(stand)?;
-        match outcome.replies.get(0) {
-            Some((_, Reply::Refused(Refusal::Already(_)))) => Some(true),
-            _ => Some(false),
-        }
     }
 }
 
