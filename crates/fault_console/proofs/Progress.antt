@@ -95,6 +95,7 @@ pub record Progress (script rest : List ℕ) (old now : Option (List ℕ)) (s : 
   pub tickets : tickets_of s ≤ n
   pub lines : count ≤ 1000002 * n
   pub few : n + length rest ≤ 1000000
+  pub short : length script ≤ 1000000
 
 pub begin : (script : List ℕ) (old : Option (List ℕ)) (s : Option State) → length script ≤ 1000000 → s ≡ None → Progress script script old old s 0
 begin script old s few none = record {
@@ -107,6 +108,7 @@ begin script old s few none = record {
   tickets = omega (arith, ap tickets_of none);
   lines = omega arith;
   few = omega arith;
+  short = few;
 }
 
 -- one more line, of which m lines out are printed
@@ -126,6 +128,7 @@ go_on script rest after line old now new s t count m out p first shorter prints 
       tickets = omega (arith, p.tickets);
       lines = omega (arith, p.lines, p.tickets, p.few);
       few = omega (arith, p.few);
+      short = p.short;
     }
 
 -- what was written, as the answer says
@@ -136,10 +139,10 @@ pub ends_ok : (script rest : List ℕ) (old now : Option (List ℕ)) (s : Option
 ends_ok script rest old now s count p none =
     let all : take p.n (lines_of script) ≡ lines_of script =
     sym (append-nil (take p.n (lines_of script))) ∙ ap (λ l. take p.n (lines_of script) ++ l) (sym (p.left ∙ ap lines_of none)) ∙ take-append-drop p.n (lines_of script) in
-    (text_of p.out, p.written, (p.out, s, subst (λ l. MayPrint None l p.out s) all p.ran, refl, p.counted))
+    (text_of p.out, p.written, (p.short, p.out, s, subst (λ l. MayPrint None l p.out s) all p.ran, refl, p.counted))
 
 pub ends_memory : (script rest : List ℕ) (old now : Option (List ℕ)) (s : Option State) (count : ℕ) → Progress script rest old now s count → Ends script old now (Err Memory)
-ends_memory script rest old now s count p = (text_of p.out, p.written, (p.n, p.out, s, p.ran, refl))
+ends_memory script rest old now s count p = (text_of p.out, p.written, (λ long. absurd (omega (arith, long, p.short)), p.n, p.out, s, p.ran, refl))
 
 pub ends_write : (script rest after line : List ℕ) (old now new : Option (List ℕ)) (s t : Option State) (count : ℕ) (out : List (List ℕ)) (front text : List ℕ)
     → Progress script rest old now s count → lines_of rest ≡ line ∷ lines_of after
@@ -155,6 +158,7 @@ ends_write script rest after line old now new s t count out front text p first p
       text_of p.out ++ front,
       Appends-trans old now new (text_of p.out) front p.written wrote,
       (
+        p.short,
         all,
         more.1,
         subst (λ l. MayPrint None l all more.1) (sym split)
@@ -188,9 +192,9 @@ pub ends_early : (known old : Option (List ℕ)) (e : RunFault) → (e ≡ Write
     → (script : List ℕ) × IfSome known (λ all. script ≡ all) × Ends script old old (Err e)
 ends_early None old Read w l = ([], tt, ([], Appends-nil old, refl))
 ends_early None old Write w l = absurd (w refl)
-ends_early None old Memory w l = ([], tt, ([], Appends-nil old, (0, [], None, (refl, refl), refl)))
+ends_early None old Memory w l = ([], tt, ([], Appends-nil old, (λ long. refl, 0, [], None, (refl, refl), refl)))
 ends_early None old Long w l = let long = some_long 1000000 in (long.0, tt, ([], Appends-nil old, (refl, long.1)))
 ends_early (Some script) old Read w l = (script, refl, ([], Appends-nil old, refl))
 ends_early (Some script) old Write w l = absurd (w refl)
-ends_early (Some script) old Memory w l = (script, refl, ([], Appends-nil old, (0, [], None, (refl, refl), refl)))
+ends_early (Some script) old Memory w l = (script, refl, ([], Appends-nil old, (λ long. refl, 0, [], None, (refl, refl), refl)))
 ends_early (Some script) old Long w l = (script, refl, ([], Appends-nil old, (refl, l refl)))

@@ -1,5 +1,5 @@
 -- The lines that a script may print.
-use Rattle.std.specs.Prelude.{◌≡◌, ℕ, ◌<◌, Bool, true, false, nat_eq, if◌then◌else◌, List, [], ◌∷◌, ◌++◌, length, map, take, Option, Some, None, Result, Ok, Err, codes, unwrap_or}
+use Rattle.std.specs.Prelude.{◌≡◌, ℕ, ◌<◌, ◌≤◌, Bool, true, false, nat_eq, if◌then◌else◌, List, [], ◌∷◌, ◌++◌, length, map, take, Option, Some, None, Result, Ok, Err, codes, unwrap_or}
 use Rattle.std.specs.Fmt.{decimal}
 use Rattle.std.specs.List.{list_any}
 use Rattle.ring_records.specs.Admission.{where_so}
@@ -168,16 +168,16 @@ text_of (line ∷ lines) = line ++ (10 ∷ text_of lines)
 abbrev pub IsFront : List ℕ → List ℕ → Type 0
 IsFront front text = (rest : List ℕ) × (text ≡ front ++ rest)
 
--- The bytes that a run writes for a script, by what it answers.
+-- The bytes that a run writes for a script, by what it answers: none for a script of more than 1,000,000 bytes.
 abbrev pub Wrote : List ℕ → Result ℕ RunFault → List ℕ → Type 0
 -- a text that the script may print, and the number of its lines
-Wrote script (Ok count) bytes = (out : List (List ℕ)) × (t : Option State) × MayPrint None (lines_of script) out t × (bytes ≡ text_of out) × (count ≡ length out)
+Wrote script (Ok count) bytes = (length script ≤ 1000000) × (out : List (List ℕ)) × (t : Option State) × MayPrint None (lines_of script) out t × (bytes ≡ text_of out) × (count ≡ length out)
 Wrote script (Err Read) bytes = bytes ≡ []
 Wrote script (Err Long) bytes = (bytes ≡ []) × (1000000 < length script)
 -- a front of such a text
-Wrote script (Err Write) bytes = (out : List (List ℕ)) × (t : Option State) × MayPrint None (lines_of script) out t × IsFront bytes (text_of out)
+Wrote script (Err Write) bytes = (length script ≤ 1000000) × (out : List (List ℕ)) × (t : Option State) × MayPrint None (lines_of script) out t × IsFront bytes (text_of out)
 -- the whole lines of the commands before
-Wrote script (Err Memory) bytes = (n : ℕ) × (out : List (List ℕ)) × (t : Option State) × MayPrint None (take n (lines_of script)) out t × (bytes ≡ text_of out)
+Wrote script (Err Memory) bytes = (1000000 < length script → bytes ≡ []) × (n : ℕ) × (out : List (List ℕ)) × (t : Option State) × MayPrint None (take n (lines_of script)) out t × (bytes ≡ text_of out)
 
 -- ---- what the printing functions add to a text
 
