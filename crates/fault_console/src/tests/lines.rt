@@ -4,7 +4,7 @@ use crate::run::RunFault;
 use std::alloc::{AllocError, Global};
 use std::test::Fail;
 
-const LINES: [(&str, &[u8], &str); 25] = [
+const LINES: [(&str, &[u8], &str); 26] = [
     (
         "a carriage return is dropped",
         b"ring 2\r\nring 2\r\n",
@@ -88,6 +88,11 @@ const LINES: [(&str, &[u8], &str); 25] = [
         "stop",
         b"ring 2\nstop\nstop 1\nstop 1 1\nstop 1 1 Old\nstop 9 9 ol\nstop 1 1 fill\nstop 1 1 old 1\nstop 1 1 new 1\nstop 9 9 fil 256\nstop 1 1 fill 1 1\nstop 0 1 old\nstop 3 1 new\nstop 1 0 old\nstop 1 5 old\nstop 1 0 fill 1\nstop 1 5 fill 1\nstop 1 1 fill 256\nstop 1 1 fill x\nstop 1 1 fill 255\nstop 2 4 fill 0\nstop 2 4 new\n",
         "ring 2\nno 25 line\nno 25 line\nno 25 line\nno 25 line\nno 25 line\nno 25 line\nno 25 line\nno 25 line\nno 25 line\nno 25 line\nno 2 number\nno 2 number\nno 2 number\nno 2 number\nno 2 number\nno 2 number\nno 2 number\nno 2 number\nup 1 0\nup 2 0\nup 2 0\n",
+    ),
+    (
+        "a checkpoint is a K that is no number, and TEAR is a fixed word, judged before any number",
+        b"ring 2\nstop 1 checkpoint new\nstop 1 checkpoint fill 5\nstop 1 checkpoint 4\nstop 1 9 torn\nstop checkpoint 9 torn\n",
+        "ring 2\nno 2 number\nno 2 number\nno 25 line\nno 25 line\nno 25 line\n",
     ),
     (
         "counts of words",

@@ -9,7 +9,7 @@ pub const FIRST_ELECTION: (&[u8], &str) = (
     "ring 3\n1: stood\n2: stood\n3: stood\ndelivered 9\n4: leader 2 30\n5: leader 2 30\n6: leader 2 30\n",
 );
 
-const ROWS: [(&str, &[u8], &str); 25] = [
+const ROWS: [(&str, &[u8], &str); 27] = [
     (
         "equal_bids",
         b"ring 3\nstand 1 red 5 10\nstand 3 red 5 10\ndeliver all\nwho 2 red 5\n",
@@ -120,6 +120,16 @@ const ROWS: [(&str, &[u8], &str); 25] = [
         "in a lazy ring a delivery waits for its flush",
         b"ring 2 lazy\nstand 1 red 5 10\ndeliver all\nflush 1\ndeliver all\nwho 2 red 5\nflush 2\n",
         "ring 2\n1: sealed\ndelivered 0\nflushed 1\n1: stood\ndelivered 1\n2: sealed\nflushed 1\n2: none\n",
+    ),
+    (
+        "what a stop kept is released, though no flush ever landed it",
+        b"ring 2 lazy\nstand 1 red 5 10\nstop 1 3 new\ndeliver all\n",
+        "ring 2\n1: sealed\n1: lost\nup 1 1\ndelivered 1\n",
+    ),
+    (
+        "tickets of `deliver all` never print, not at a crash, a stop or a flush either",
+        b"ring 2 lazy\nstand 1 red 5 10\nflush 1\ndeliver all\nwho 2 red 5\ncrash 2\ndeliver all\nstop 2 1 old\ndeliver all\nflush 2\n",
+        "ring 2\n1: sealed\nflushed 1\n1: stood\ndelivered 1\n2: sealed\n2: lost\nup 2 0\ndelivered 1\nup 2 0\ndelivered 1\nflushed 1\n",
     ),
     (
         "what is open at the end is given up",
