@@ -8,13 +8,12 @@ use Rattle.ring_records.specs.declared.msg.Msg.{Msg}
 use Rattle.ring_records.specs.declared.packet.Packet.{Packet}
 use Rattle.ring_records.specs.declared.request.Request.{Request}
 use Rattle.ring_records.specs.Admission.{fresh, IsLawful}
-use Rattle.ring_records.specs.Answer.{NodeState, launched}
+use Rattle.ring_records.specs.Answer.{NodeState, launched, left_by, flying_in}
 use Rattle.ring_records.specs.Emission.{sent}
 use Rattle.ring_records.specs.Release.{packets}
 use Rattle.ring_records.proofs.Leader.{Contains-nil}
 use Rattle.gated_journal.specs.Reading.{header_with, is_header}
-use Rattle.group_commit.specs.Desk.{flying_in}
-use Rattle.node_store.specs.State.{left_by, Holds}
+use Rattle.node_store.specs.State.{Holds}
 use Rattle.ring_node.specs.Messages.{carried_in}
 use Rattle.ring_node.specs.Node.{NodeView, new_node, state_of, durable_in, asked_with, flushed, restarted, left}
 use Rattle.ring_node.specs.Served.{shown_by, IsPlaced, AreInside, IsRingNode}

@@ -11,7 +11,7 @@ use Rattle.ring_records.specs.declared.msg.Msg.{Msg}
 use Rattle.ring_records.specs.declared.packet.Packet.{Packet}
 use Rattle.ring_records.specs.declared.packet.Packet.TheVariants.{Carry}
 use Rattle.ring_records.specs.Admission.{fresh, IsAdmitted, IsInTurn, IsLawful}
-use Rattle.ring_records.specs.Answer.{NodeState, launched}
+use Rattle.ring_records.specs.Answer.{NodeState, launched, flying_in}
 use Rattle.ring_records.specs.Emission.{emit, sent, carry}
 use Rattle.ring_records.specs.History.{message_of, taken}
 use Rattle.ring_records.specs.Lists.{found_after}
@@ -23,7 +23,6 @@ use Rattle.ring_records.proofs.LookBack.{IsItem, take-item}
 use Rattle.ring_records.proofs.Growth.{sent-append, EachAfter-take}
 use Rattle.ring_records.proofs.Leader.{Contains-nil}
 use Rattle.ring_records.proofs.Lists.{along, none≢some, found_after-push, Contains-option_cases}
-use Rattle.group_commit.specs.Desk.{flying_in}
 use Rattle.ring_node.specs.Messages.{message_in, carried_by, carried_in}
 use Rattle.ring_node.specs.Served.{AreInside}
 

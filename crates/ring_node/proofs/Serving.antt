@@ -13,14 +13,15 @@ use Rattle.disk_model.specs.declared.memory.MemDevice.{MemDevice}
 use Rattle.gated_journal.specs.Reading.{Header, ReadsAsOneOf}
 use Rattle.gated_journal.specs.Unread.{header_at, IsFault, IsUnread}
 use Rattle.node_store.specs.Recovery.{IsNotLawful}
-use Rattle.node_store.specs.State as states
+use Rattle.ring_records.specs.Answer as answers
 use Rattle.ring_records.specs.Lists.{EachAfter}
 use Rattle.ring_records.specs.Answer.{Answered, NodeState, answered, asked, gained, launched, landed, opened}
+use Rattle.ring_records.specs.Message.{is_outside}
 use Rattle.ring_records.specs.declared.refusal.Refusal.{Refusal}
 use Rattle.ring_records.specs.declared.refusal.Refusal.TheVariants.{Device, Failed, OutOfMemory}
 use Rattle.group_commit.specs.declared.desk.Desk.{Desk}
 use Rattle.group_commit.specs.Desk.{place_of, kept_at, objection, IsSealed}
-use Rattle.group_commit.specs.Kept.{Place, is_outside}
+use Rattle.group_commit.specs.Kept.{Place}
 use Rattle.group_commit.specs.Ticket.{TicketView, ticket_with}
 use Rattle.node_store.proofs.Standing.{lawful_asked}
 use Rattle.ring_node.specs.Node.{Open, new_node, asked_with, flushed, is_due, restarted}
@@ -94,11 +95,11 @@ none_lawful me n capacity = tt
 -- ---- a node that is stopped
 
 -- whether the batch landed or flies for good, the images read as what was launched
-pub stopped : (header : Header) (s t : NodeState) (image : List ℕ) → (t ≡ launched s) ⊎ (t ≡ landed (launched s)) → ReadsAsOneOf header (states.durable_in t) (states.flown_in t) image
-    → ReadsAsOneOf header (states.durable_in (launched s)) (states.flown_in (launched s)) image
-stopped header s t image (inl e) read = subst (λ (u : NodeState). ReadsAsOneOf header (states.durable_in u) (states.flown_in u) image) e read
+pub stopped : (header : Header) (s t : NodeState) (image : List ℕ) → (t ≡ launched s) ⊎ (t ≡ landed (launched s)) → ReadsAsOneOf header (answers.durable_in t) (answers.flown_in t) image
+    → ReadsAsOneOf header (answers.durable_in (launched s)) (answers.flown_in (launched s)) image
+stopped header s t image (inl e) read = subst (λ (u : NodeState). ReadsAsOneOf header (answers.durable_in u) (answers.flown_in u) image) e read
 stopped header s t image (inr e) read =
-    let all = subst (λ (u : NodeState). ReadsAsOneOf header (states.durable_in u) (states.flown_in u) image) e read in
+    let all = subst (λ (u : NodeState). ReadsAsOneOf header (answers.durable_in u) (answers.flown_in u) image) e read in
     ⊎_elim (λ old. inr old) (λ new. inr new) all
 
 -- ---- a node at work

@@ -3,8 +3,7 @@ use Rattle.std.specs.Prelude.{ℕ, ◌+◌, Bool, nat_le, nat_lt, List, [], ◌�
 use Rattle.ring_records.specs.declared.input.Input.{Input}
 use Rattle.ring_records.specs.declared.request.Request.{Request}
 use Rattle.ring_records.specs.Admission.{fresh}
-use Rattle.ring_records.specs.Answer.{Answered, NodeState, answered, gained, launched}
-use Rattle.node_store.specs.State.{left_by}
+use Rattle.ring_records.specs.Answer.{Answered, NodeState, answered, gained, launched, left_by}
 
 -- an open ticket: the number that the ring gave it, if any, and what the node keeps for it
 pub record Open : Type 0 where

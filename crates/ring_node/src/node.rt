@@ -3,9 +3,8 @@ ghost use Rattle.std.specs.Prelude.{◌≡◌, ◌-◌, ◌≤◌, ◌<◌, ◌^
 ghost use Rattle.std.specs.List.{filter};
 ghost use Rattle.ring_records.specs.Emission.{sent};
 ghost use Rattle.ring_records.specs.History.{taken, credit};
-ghost use Rattle.ring_records.specs.Message.{candidate_of};
+ghost use Rattle.ring_records.specs.Message.{candidate_of, is_outside};
 ghost use Rattle.gated_journal.specs.Reading.{header_with, is_header};
-ghost use Rattle.group_commit.specs.Kept.{is_outside};
 ghost use Rattle.ring_node.specs.Node.{new_node, durable_in, asked_with, accepts, flown, flushed, is_due};
 
 use crate::messages::add_carried;

@@ -3,10 +3,10 @@ ghost use Rattle.std.specs.Prelude.{◌≡◌, ◌<◌, length, Bool, IfOk, OnOk
 ghost use Rattle.std.specs.List.{filter_map};
 ghost use Rattle.disk_model.specs.MemDevice.{disk_of};
 ghost use Rattle.ring_records.specs.Admission.{fresh, IsLawful};
-ghost use Rattle.ring_records.specs.Answer.{NodeState};
+ghost use Rattle.ring_records.specs.Answer.{NodeState, left_by};
 ghost use Rattle.ring_records.specs.Emission.{sent};
 ghost use Rattle.gated_journal.specs.Reading.{header_with};
-ghost use Rattle.node_store.specs.State.{left_by, Holds};
+ghost use Rattle.node_store.specs.State.{Holds};
 ghost use Rattle.ring_node.specs.Node.{new_node, durable_in, restarted, left, number_of};
 
 use crate::messages::messages_of;

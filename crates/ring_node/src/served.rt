@@ -3,15 +3,15 @@ ghost use Rattle.std.specs.Prelude.{◌≡◌, ◌-◌, ◌≤◌, ◌<◌, ◌^
 ghost use Rattle.std.specs.List.{filter, filter_map};
 ghost use Rattle.disk_model.specs.MemDevice.{disk_of};
 ghost use Rattle.ring_records.specs.Admission.{fresh, IsLawful};
-ghost use Rattle.ring_records.specs.Answer.{NodeState, launched, landed};
+ghost use Rattle.ring_records.specs.Answer.{NodeState, launched, landed, left_by, flying_in};
 ghost use Rattle.ring_records.specs.Emission.{sent};
 ghost use Rattle.ring_records.specs.History.{taken, credit};
+ghost use Rattle.ring_records.specs.Message.{is_outside};
 ghost use Rattle.ring_records.specs.Release.{packets};
 ghost use Rattle.gated_journal.specs.Reading.{header_with, is_header};
-ghost use Rattle.group_commit.specs.Desk.{flying_in};
-ghost use Rattle.group_commit.specs.Kept.{is_outside, IsCount};
+ghost use Rattle.group_commit.specs.Kept.{IsCount};
 ghost use Rattle.node_store.specs.Node as nodes;
-ghost use Rattle.node_store.specs.State.{header_at, left_by, Holds};
+ghost use Rattle.node_store.specs.State.{header_at, Holds};
 ghost use Rattle.ring_node.specs.Node.{new_node, state_of, durable_in, asked_with, accepts, flown, flushed, is_due, restarted, number_of};
 ghost use Rattle.ring_node.specs.Served.{MatchFirst, IsKept, AreOpen};
 

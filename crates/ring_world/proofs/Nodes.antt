@@ -6,10 +6,9 @@ use Rattle.std.proofs.lemmas.List.{length-append, length-set, get_or-set_same, g
 use Rattle.std.proofs.lemmas.List.Elements.{Contains-push, Contains-push_cases, Contains-append_left}
 use Rattle.ring_records.specs.declared.request.Request.{Request}
 use Rattle.ring_records.specs.Admission.{fresh}
-use Rattle.ring_records.specs.Answer.{answered, NodeState, asked, launched, landed, opened}
+use Rattle.ring_records.specs.Answer.{answered, NodeState, asked, launched, landed, opened, left_by}
 use Rattle.ring_records.proofs.Leader.{Contains-nil}
 use Rattle.ring_node.specs.Node.{Open, NodeView, new_node, durable_in, answered_by, ticket_of, asked_with, flushed, is_due, restarted, left}
-use Rattle.node_store.specs.State.{left_by}
 use Rattle.ring_world.specs.Events.{Replied, Action, Submit, Launch, Land, Crash, Process, act, process, IsDelivered, IsReleasable, May, MayHappen}
 use Rattle.ring_world.specs.Ring.{RingView, ShowsNode, Shows, node_at, waits, due, without_due, release_of}
 use Rattle.ring_world.proofs.Moves.{Grows, Stays, grows_one, grows_two, process_two, release_all}

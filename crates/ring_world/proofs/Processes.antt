@@ -1,19 +1,20 @@
 -- What every action keeps of a node, and what it makes durable.
-use Rattle.std.proofs.Common.{ℕ, ◌≡◌, ◌⊎◌, ◌≤◌, true, false, List, [], ◌∷◌, ◌++◌, length, take, drop, Option, Some, None, refl, sym, ap, ◌∙◌, subst, inl, inr, arith}
+use Rattle.std.proofs.Common.{ℕ, ◌≡◌, ◌⊎◌, ◌+◌, ◌-◌, ◌≤◌, true, false, List, [], ◌∷◌, ◌++◌, length, take, drop, Option, Some, None, refl, sym, ap, ◌∙◌, subst, inl, inr, arith}
 use Rattle.std.specs.List.{Contains}
+use Rattle.std.proofs.Math.Seq.{take-add}
 use Rattle.std.proofs.lemmas.List.{append-nil, length-append, take-append-le, take-append-drop, take_all}
 use Rattle.std.proofs.lemmas.List.Elements.{Contains-push_cases, Contains-append_cases, Contains-append_left, Contains-append_right}
 use Rattle.ring_records.specs.declared.input.Input.{Input}
 use Rattle.ring_records.specs.declared.refusal.Refusal.{Refusal}
 use Rattle.ring_records.specs.declared.request.Request.{Request}
 use Rattle.ring_records.specs.Admission.{fresh, refusal, IsAdmitted, IsLawful}
-use Rattle.ring_records.specs.Answer.{input_of, if_free, if_input, gained, answer, Answered, answered, Answers, NodeState}
+use Rattle.ring_records.specs.Answer.{input_of, if_free, if_input, gained, answer, Answered, answered, Answers, NodeState, flying_in}
 use Rattle.ring_records.specs.Lists.{EachAfter}
 use Rattle.ring_records.proofs.Admission.{refusal-admitted}
-use Rattle.ring_records.proofs.Growth.{EachAfter-take, take-less}
+use Rattle.ring_records.proofs.Growth.{EachAfter-take}
 use Rattle.ring_records.proofs.Leader.{Contains-nil, Contains-cons_cases}
 use Rattle.ring_records.proofs.Lists.{EachAfter-push}
-use Rattle.ring_world.specs.Committed.{batch, made_durable}
+use Rattle.ring_world.specs.Committed.{made_durable}
 use Rattle.ring_world.specs.Events.{Thing, Replied, Rests, RestsOn, Action, Submit, Launch, Land, Release, Crash, Process, started, act}
 
 -- ---- what a request adds
@@ -115,16 +116,21 @@ module _ (me n capacity : ℕ) (p : Process) (sound : Sound me n capacity p) whe
   sound-next Launch = record { low = (let l = low in let h = high in omega arith); high = omega arith; lawful = sound.lawful; kept = sound.kept }
   sound-next Land = record { low = omega arith; high = high; lawful = sound.lawful; kept = sound.kept }
   sound-next (Release t) = sound
-  sound-next (Crash keeps_flying) = sound-started me n capacity _ (lawful-take _)
+  sound-next (Crash true) = sound-started me n capacity _ (lawful-take _)
+  sound-next (Crash false) = sound-started me n capacity _ (lawful-take _)
+
+  -- what flies comes behind what is durable
+  flies : take s.durable s.inputs ++ flying_in s ≡ take s.flying s.inputs
+  flies = sym (take-add s.durable (s.flying - s.durable) s.inputs) ∙ ap (λ k. take k s.inputs) (omega (arith, low))
 
   -- the durable inputs grow by those that the action makes durable
   pub durable-next : (a : Action) → take s.durable s.inputs ++ made_durable s a ≡ take (act me n capacity p a).state.durable (act me n capacity p a).state.inputs
   unfolding act made_durable
   durable-next (Submit q) = append-nil _ ∙ sym (take-append-le s.durable s.inputs _ (let l = low in let h = high in omega arith))
   durable-next Launch = append-nil _
-  durable-next Land = take-less s.durable s.flying s.inputs low
+  durable-next Land = flies
   durable-next (Release t) = append-nil _
-  durable-next (Crash true) = take-less s.durable s.flying s.inputs low ∙ sym (take_all _ (take s.flying s.inputs) (omega arith))
+  durable-next (Crash true) = flies ∙ sym (take_all _ (take s.flying s.inputs) (omega arith))
   durable-next (Crash false) = append-nil _ ∙ sym (take_all _ (take s.durable s.inputs) (omega arith))
 
   contains-taken : (k : ℕ) (x : Input) → Contains (take k s.inputs) x → Contains s.inputs x
@@ -140,19 +146,18 @@ module _ (me n capacity : ℕ) (p : Process) (sound : Sound me n capacity p) whe
   inputs-next Launch x here = inl here
   inputs-next Land x here = inl here
   inputs-next (Release t) x here = inl here
-  inputs-next (Crash keeps_flying) x here = inl (contains-taken _ x here)
+  inputs-next (Crash true) x here = inl (contains-taken _ x here)
+  inputs-next (Crash false) x here = inl (contains-taken _ x here)
 
-  contains-batch : (x : Input) → Contains (batch s) x → Contains s.inputs x
-  contains-batch x here =
-      let flown = take s.flying s.inputs in
-      contains-taken s.flying x (subst (λ h. Contains h x) (take-append-drop s.durable flown) (Contains-append_right (take s.durable flown) (drop s.durable flown) x here))
+  contains-flying : (x : Input) → Contains (flying_in s) x → Contains s.inputs x
+  contains-flying x here = contains-taken s.flying x (subst (λ h. Contains h x) flies (Contains-append_right (take s.durable s.inputs) (flying_in s) x here))
 
   -- what becomes durable was accepted
   pub durable-accepted : (a : Action) (x : Input) → Contains (made_durable s a) x → Contains s.inputs x
   unfolding made_durable
   durable-accepted (Submit q) x here = Contains-nil x here
   durable-accepted Launch x here = Contains-nil x here
-  durable-accepted Land x here = contains-batch x here
+  durable-accepted Land x here = contains-flying x here
   durable-accepted (Release t) x here = Contains-nil x here
-  durable-accepted (Crash true) x here = contains-batch x here
+  durable-accepted (Crash true) x here = contains-flying x here
   durable-accepted (Crash false) x here = Contains-nil x here

@@ -1,21 +1,17 @@
 -- The inputs of all nodes, in the order in which they became durable.
-use Rattle.std.specs.Prelude.{ℕ, if◌then◌else◌, List, [], take, drop, map}
+use Rattle.std.specs.Prelude.{ℕ, if◌then◌else◌, List, [], map}
 use Rattle.ring_records.specs.declared.input.Input.{Input}
-use Rattle.ring_records.specs.Answer.{NodeState}
+use Rattle.ring_records.specs.Answer.{NodeState, flying_in}
 use Rattle.ring_records.specs.Lists.{joined_after}
 use Rattle.ring_world.specs.Events.{Action, Submit, Launch, Land, Release, Crash, state_after}
-
--- the inputs that fly
-abbrev pub batch : NodeState → List Input
-batch s = drop s.durable (take s.flying s.inputs)
 
 -- the inputs that the action makes durable: the batch that lands, or that a crash keeps
 unfoldable pub made_durable : NodeState → Action → List Input
 made_durable s (Submit q) = []
 made_durable s Launch = []
-made_durable s Land = batch s
+made_durable s Land = flying_in s
 made_durable s (Release thing) = []
-made_durable s (Crash keeps_flying) = if keeps_flying then batch s else []
+made_durable s (Crash keeps_flying) = if keeps_flying then flying_in s else []
 
 -- those of the event, each with its node
 unfoldable pub committed_by : ℕ → ℕ → List (ℕ × Action) → ℕ × Action → List (ℕ × Input)

@@ -1,6 +1,6 @@
 -- What may happen to the nodes of a ring, crashes among it, and where it leads. A schedule is a list of events, oldest
 -- first. An event is a node and what it does.
-use Rattle.std.specs.Prelude.{ℕ, Bool, ◌≡◌, ◌<◌, ◌≤◌, if◌then◌else◌, List, [], ◌∷◌, ◌++◌, length, take, Some}
+use Rattle.std.specs.Prelude.{ℕ, Bool, ◌≡◌, ◌<◌, ◌≤◌, List, [], ◌∷◌, ◌++◌, length, take, Some}
 use Rattle.std.specs.List.{fold, Contains}
 use Rattle.ring_records.specs.declared.candidate.Candidate.{Candidate}
 use Rattle.ring_records.specs.declared.input.Input.{Input}
@@ -10,7 +10,7 @@ use Rattle.ring_records.specs.declared.packet.Packet.TheVariants.{Carry, Credit}
 use Rattle.ring_records.specs.declared.request.Request.{Request}
 use Rattle.ring_records.specs.declared.request.Request.TheVariants as ask
 use Rattle.ring_records.specs.Admission.{fresh}
-use Rattle.ring_records.specs.Answer.{Answered, answered, Answers, PacketRests, NodeState, asked, launched, landed, opened}
+use Rattle.ring_records.specs.Answer.{Answered, answered, Answers, PacketRests, NodeState, left_by, asked, launched, landed, opened}
 use Rattle.ring_records.specs.Leader.{leader}
 use Rattle.ring_records.specs.Lists.{EachAfter}
 use Rattle.ring_records.specs.Place.{before, after}
@@ -59,17 +59,13 @@ pub record Process : Type 0 where
 abbrev pub started : List Input → Process
 started inputs = record { state = opened inputs; kept = [] }
 
--- the inputs that a crash leaves: those that are durable, or those that flew too
-abbrev pub left_by_crash : Bool → NodeState → List Input
-left_by_crash keeps_flying s = take (if keeps_flying then s.flying else s.durable) s.inputs
-
 -- node me of a ring of n, with a capacity, after the action
 unfoldable pub act : ℕ → ℕ → ℕ → Process → Action → Process
 act me n capacity p (Submit q) = record { state = asked me n capacity fresh p.state q; kept = p.kept ++ answered me n capacity fresh p.state.inputs q ∷ [] }
 act me n capacity p Launch = record p { state = launched p.state }
 act me n capacity p Land = record p { state = landed p.state }
 act me n capacity p (Release thing) = p
-act me n capacity p (Crash keeps_flying) = started (left_by_crash keeps_flying p.state)
+act me n capacity p (Crash keeps_flying) = started (left_by keeps_flying p.state)
 
 -- node i after the events
 unfoldable pub process : ℕ → ℕ → List (ℕ × Action) → ℕ → Process

@@ -7,8 +7,8 @@ use Rattle.ring_records.specs.declared.request.Request.{Request}
 use Rattle.ring_records.specs.declared.request.Request.TheVariants as ask
 use Rattle.ring_records.specs.Admission.{where_so}
 use Rattle.ring_records.specs.Lists.{or_else}
+use Rattle.ring_records.specs.Message.{is_outside}
 use Rattle.ring_records.specs.Place.{before}
-use Rattle.group_commit.specs.Kept.{is_outside}
 use Rattle.ring_world.specs.Ring as ring
 use Rattle.ring_world.specs.Ring.{RingView, node_at, waits, landed, settled, replies, lost, brought, carried, is_earned, is_released, swept}
 use Rattle.ring_world.specs.State.{State}

@@ -1,8 +1,8 @@
 // What nodes are asked, make durable and release.
 ghost use Rattle.std.specs.Prelude.{◌≡◌, ◌≤◌, ◌<◌, ◌+◌, ◌-◌, ◌^◌, ◌++◌, length, map, true, false, Some, OnOk, OnErr, IfOk, vec_len, vec_capacity};
 ghost use Rattle.std.specs.List.{filter_map};
+ghost use Rattle.ring_records.specs.Message.{is_outside};
 ghost use Rattle.ring_node.specs.Node.{accepts};
-ghost use Rattle.group_commit.specs.Kept.{is_outside};
 ghost use Rattle.ring_world.specs.Events.{IsDelivered};
 ghost use Rattle.ring_world.specs.Ring.{node_at, asked, landed, settled, replies, reply_of, due, without_due, release_of, given, handed, brought, is_released};
 

@@ -1,6 +1,6 @@
 // What the links carry.
 ghost use Rattle.std.specs.Prelude.{◌≡◌, ◌≤◌, true, false, OnOk, IfOk, IfSome};
-ghost use Rattle.group_commit.specs.Kept.{is_outside};
+ghost use Rattle.ring_records.specs.Message.{is_outside};
 ghost use Rattle.ring_world.specs.Ring.{is_released, carried, ready, swept_one, swept};
 
 use super::*;

@@ -1,6 +1,5 @@
 // Why an event is refused.
 ghost use Rattle.std.specs.Prelude.{◌≡◌, false, IfSome};
-ghost use Rattle.group_commit.specs.Kept.{is_outside};
 ghost use Rattle.ring_world.specs.declared.event.Event.TheVariants as event;
 ghost use Rattle.ring_world.specs.Step.{refusal_of, objection_to, no_node, no_stop, spent};
 
@@ -36,7 +35,7 @@ impl World {
         if node.number() > size {
             return Some(Refusal::BadNumber);
         }
-        if is_outside(size, request) {
+        if request.is_outside(size) {
             return Some(Refusal::BadNumber);
         }
         if !self.ring.is_released(node, request) {
@@ -108,13 +107,3 @@ impl World {
 
 /// The most ticket numbers.
 const TICKETS: u64 = 1 << 60;
-
-// Whether the request's message is of a node above `n`.
-fn is_outside(n: u8, question: &Request) -> bool
-    ensures { result ≡ is_outside n question.now }
-{
-    match question {
-        Request::Take(_, msg) => msg.candidate().node.number() > n,
-        _ => false,
-    }
-}

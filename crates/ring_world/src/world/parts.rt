@@ -1,7 +1,7 @@
 // The events, none of which is refused.
 ghost use Rattle.std.specs.Prelude.{◌≡◌, ◌+◌, ◌≤◌, ◌<◌, ◌^◌, Bool, true, false, None, Some, IfOk, OnOk, OnErr, MatchBool, length};
+ghost use Rattle.ring_records.specs.Message.{is_outside};
 ghost use Rattle.ring_records.specs.Place.{before};
-ghost use Rattle.group_commit.specs.Kept.{is_outside};
 ghost use Rattle.ring_world.specs.Ring.{node_at, carried, is_earned, is_released};
 ghost use Rattle.ring_world.specs.Step.{told, nothing_told, unknown, submitted, flushed, crashed, stopped, delivered_all, put};
 

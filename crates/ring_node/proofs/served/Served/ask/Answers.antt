@@ -1,7 +1,7 @@
 use Rattle.std.proofs.Common.{◌≡◌, ◌<◌, ◌^◌, false, ap, sym, subst, ◌∙◌, ◌++◌, ◌∷◌, []}
 use Rattle.disk_model.specs.FuseDevice.{reach_of}
 use Rattle.disk_model.specs.MemDevice.{limit_of}
-use Rattle.group_commit.specs.Kept.{is_outside}
+use Rattle.ring_records.specs.Message.{is_outside}
 use Rattle.group_commit.specs.Ticket.{shown}
 use Rattle.node_store.specs.Node as nodes
 use Rattle.ring_node.specs.Node.{NodeView, asked_with}

@@ -1,6 +1,7 @@
 use Rattle.std.proofs.Common.{ℕ, take, subst}
 use Rattle.gated_journal.specs.Reading.{header_with, ReadsAsOneOf}
 use Rattle.node_store.specs.Node as nodes
+use Rattle.ring_records.specs.Answer as answers
 use Rattle.node_store.specs.State as states
 use Rattle.ring_node.specs.Node.{NodeView, state_of}
 use Rattle.ring_node.proofs.served.Served.end.Goals as goal
@@ -11,5 +12,5 @@ returns-clause-holds c = λ image left.
     let node = c.self.inside.node in
     let s = nodes.state_of node in
     let read = c.closed.ensures.holds image left in
-    let still = subst (λ (k : ℕ). ReadsAsOneOf (states.header_at (nodes.place_of node)) (states.durable_in s) (take k s.inputs) image) c.self.invariant.idle read in
-    subst (λ (v : NodeView). ReadsAsOneOf (header_with v.me v.n v.capacity) (states.durable_in (state_of v)) (states.flown_in (state_of v)) image) c.self.view_is still
+    let still = subst (λ (k : ℕ). ReadsAsOneOf (states.header_at (nodes.place_of node)) (answers.durable_in s) (take k s.inputs) image) c.self.invariant.idle read in
+    subst (λ (v : NodeView). ReadsAsOneOf (header_with v.me v.n v.capacity) (answers.durable_in (state_of v)) (answers.flown_in (state_of v)) image) c.self.view_is still

@@ -3,11 +3,11 @@ use Rattle.disk_model.specs.Disk.{Disk}
 use Rattle.disk_model.specs.FuseDevice.{inner_of, reach_of}
 use Rattle.disk_model.specs.MemDevice.{disk_of, limit_of}
 use Rattle.ring_records.specs.Admission.{fresh, IsLawful}
-use Rattle.ring_records.specs.Answer.{NodeState}
+use Rattle.ring_records.specs.Answer.{NodeState, left_by}
 use Rattle.gated_journal.specs.Reading.{header_with}
 use Rattle.group_commit.specs.Kept.{Place, place_with}
 use Rattle.node_store.specs.Node as nodes
-use Rattle.node_store.specs.State.{left_by, Holds}
+use Rattle.node_store.specs.State.{Holds}
 use Rattle.ring_node.proofs.Serving.{idle_reach, image_within, opens, opens_shown, no_cause}
 use Rattle.ring_node.proofs.served.Served.recover.Goals as goal
 use Rattle.ring_node.proofs.served.Served.recover.Goals.{After-recover}

@@ -4,6 +4,7 @@ use Rattle.ring_records.specs.Answer.{NodeState, launched, landed}
 use Rattle.gated_journal.specs.Reading.{header_with, ReadsAsOneOf}
 use Rattle.group_commit.specs.Kept.{Place}
 use Rattle.node_store.specs.Node as nodes
+use Rattle.ring_records.specs.Answer as answers
 use Rattle.node_store.specs.State as states
 use Rattle.ring_node.specs.Node.{NodeView, state_of}
 use Rattle.ring_node.specs.Served.{AreOpen}
@@ -29,8 +30,8 @@ returns-clause-holds c = λ image left.
     let place = c.flush_or_fail-flown.ensures.place ∙ c.arm.ensures.place in
     let before = subst (λ (d : Disk). MayLeave d image) c.crash.ensures.disk left in
     let read = c.closed-device.ensures.holds image before in
-    let named = subst (λ (p : Place). ReadsAsOneOf (states.header_at p) (states.durable_in (nodes.state_of later)) (states.flown_in (nodes.state_of later)) image) place read in
+    let named = subst (λ (p : Place). ReadsAsOneOf (states.header_at p) (answers.durable_in (nodes.state_of later)) (answers.flown_in (nodes.state_of later)) image) place read in
     let state : (nodes.state_of later ≡ launched (nodes.state_of node)) ⊎ (nodes.state_of later ≡ landed (launched (nodes.state_of node))) =
     ⊎_elim (λ flies. inl (flies ∙ ap launched c.arm.ensures.state)) (λ lands. inr (lands ∙ ap (λ (s : NodeState). landed (launched s)) c.arm.ensures.state)) c.in_ok-flown.ensures.state in
-    subst (λ (v : NodeView). ReadsAsOneOf (header_with v.me v.n v.capacity) (states.durable_in (launched (state_of v))) (states.flown_in (launched (state_of v))) image) c.self.view_is
+    subst (λ (v : NodeView). ReadsAsOneOf (header_with v.me v.n v.capacity) (answers.durable_in (launched (state_of v))) (answers.flown_in (launched (state_of v))) image) c.self.view_is
     (stopped (states.header_at (nodes.place_of node)) (nodes.state_of node) (nodes.state_of later) image state named)
