@@ -53,6 +53,8 @@ pub record Shows (size capacity : ℕ) (events : List (ℕ × Action)) (nodes : 
   pub count : length nodes ≡ size
   pub node : (at : ℕ) (other : NodeView) → at < size → ShowsNode size capacity events (at + 1) (slice_index_or nodes at other)
 
+-- What every ring keeps to: it has 2 to 16 nodes, and what was told is a schedule; while it works, all that happened is
+-- one, and its nodes are those that it reaches.
 pub record IsSound (size capacity : ℕ) (failed : Bool) (events told : List (ℕ × Action)) (nodes : List NodeView) : Type 0 where
   pub least : 2 ≤ size
   pub most : size ≤ 16

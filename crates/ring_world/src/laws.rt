@@ -1,5 +1,5 @@
-//! Laws of runs and schedules of a ring: public functions with an empty body, whose contracts say what follows from the definitions
-//! alone. No program calls them.
+//! Laws of runs and schedules of a ring: public functions with an empty body, whose contracts say what follows from the
+//! definitions alone. No program calls them.
 ghost use Rattle.std.specs.Prelude.{◌≡◌, ◌≢◌, ℕ, List, ◌∷◌, ◌++◌, take, IsTrue};
 ghost use Rattle.std.specs.List.{Contains};
 ghost use Rattle.ring_records.specs.declared.candidate.Candidate.{Candidate};

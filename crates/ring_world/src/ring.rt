@@ -77,7 +77,7 @@ impl Ring {
     }
 
     /// What happened may happen, and the nodes are those that it reaches.
-    pub fn is_lawful(&self)
+    pub fn shows_lawfully(&self)
         ensures told { IsSchedule self.now.size self.now.capacity self.now.told }
         ensures events { self.now.failed ≡ false → IsSchedule self.now.size self.now.capacity self.now.events }
         ensures shows { self.now.failed ≡ false → (i : ℕ) → 1 ≤ i → i ≤ self.now.size → ShowsNode self.now.size self.now.capacity self.now.events i (node_at self.now i) }

@@ -129,7 +129,7 @@ impl World {
         ensures greatest { IfOk result (λ list. (a : TheAnnounced) (d : TheCandidate) → Contains list.items a → Contains (committed self.now.ring.size self.now.ring.capacity self.now.ring.told) (d.node, Stand a.key d.bid) → d ≢ a.leader → IsTrue (is_less d a.leader)) }
     {
         laws::headline();
-        self.ring.is_lawful();
+        self.ring.shows_lawfully();
         let list = announced_in(self.alloc, self.ring.told())?;
         Ok(list)
     }
@@ -152,7 +152,7 @@ impl World {
         if node.number() > self.size() {
             return Err(Refusal::BadNumber);
         }
-        self.ring.is_lawful();
+        self.ring.shows_lawfully();
         Ok(Shown {
             inputs: self.ring.count(node),
             durable: self.ring.durable(node),

@@ -17,6 +17,7 @@ impl Ring {
         ensures size { (self.new.size ≡ self.old.size) × (self.new.capacity ≡ self.old.capacity) }
         ensures err { OnErr result (self.new.failed ≡ true) }
     {
+        // A return before the node is open again leaves a failed ring.
         self.failed = true;
         self.events.reserve(1)?;
         let lost = self.nodes[node.number() as usize - 1].crash()?;
@@ -38,6 +39,7 @@ impl Ring {
         ensures size { (self.new.size ≡ self.old.size) × (self.new.capacity ≡ self.old.capacity) }
         ensures err { OnErr result (self.new.failed ≡ true) }
     {
+        // A return before the node is open again leaves a failed ring.
         self.failed = true;
         self.events.reserve(2)?;
         let (keeps_flying, lost) = self.nodes[node.number() as usize - 1].stop(call, tear)?;
