@@ -6,39 +6,49 @@ use Rattle.ring_records.specs.declared.input.Input.TheVariants.{Stand, Take}
 use Rattle.ring_records.specs.declared.msg.Msg.{Msg}
 use Rattle.ring_records.specs.declared.msg.Msg.TheVariants.{Token, Elected}
 use Rattle.ring_records.specs.declared.packet.Packet.TheVariants.{Carry}
+use Rattle.ring_records.specs.declared.reply.Reply.{Reply}
 use Rattle.ring_records.specs.declared.reply.Reply.TheVariants as say
 use Rattle.ring_records.specs.declared.request.Request.{Request}
 use Rattle.ring_records.specs.declared.request.Request.TheVariants as ask
 use Rattle.ring_records.specs.WorkedRun.{red_5, winner}
 use Rattle.ring_world.specs.Events.{Replied, Sent, Shown, Action, Submit, Launch, Land, Release, Crash}
 
--- node i is asked, and what it accepts is durable
-abbrev pub settled : ℕ → Request → List (ℕ × Action)
-settled i q = (i, Submit q) ∷ (i, Launch) ∷ (i, Land) ∷ []
+-- node i releases its reply to the request, which rests on so many inputs
+abbrev pub replied : ℕ → Request → Reply → ℕ → ℕ × Action
+replied i q reply number = (i, Release (Replied (record { question = q; answer = record { reply = reply; number = number } })))
+
+-- node i is asked, and what it accepts is durable before it replies
+abbrev pub settled : ℕ → Request → Reply → ℕ → List (ℕ × Action)
+settled i q reply number = (i, Submit q) ∷ (i, Launch) ∷ (i, Land) ∷ replied i q reply number ∷ []
+
+-- node i stands for the key, first of all
+abbrev pub stood : ℕ → ℕ → List (ℕ × Action)
+stood i bid = settled i (ask.Stand red_5 bid) say.Stood 1
 
 -- a message goes from one node to the next, which takes it
-abbrev pub delivered : ℕ → ℕ → ℕ → Msg → List (ℕ × Action)
-delivered from to place msg = (from, Release (Sent (Carry place msg))) ∷ settled to (ask.Take place msg)
+abbrev pub delivered : ℕ → ℕ → ℕ → Msg → ℕ → List (ℕ × Action)
+delivered from to place msg number = (from, Release (Sent (Carry place msg))) ∷ settled to (ask.Take place msg) say.Taken number
 
 -- node i is asked who leads for the key, and says so: c, as it knows by so many inputs
 abbrev pub told : ℕ → ℕ → Candidate → List (ℕ × Action)
-told i number c = (i, Submit (ask.Who red_5)) ∷ (i, Release (Replied (record { question = ask.Who red_5; answer = record { reply = say.Leader (Some c); number = number } }))) ∷ []
+told i number c = (i, Submit (ask.Who red_5)) ∷ replied i (ask.Who red_5) (say.Leader (Some c)) number ∷ []
 
--- three nodes stand for one key, every message is delivered, each node says who leads, and the board of node 3 shows it
+-- What happens in an eager world in which three nodes stand for one key, every message is delivered, and each node says
+-- who leads. At last the board of node 3 shows it, which no node of a world has.
 abbrev pub election_events : List (ℕ × Action)
 election_events =
-    settled 1 (ask.Stand red_5 10)
-    ++ settled 2 (ask.Stand red_5 30)
-    ++ settled 3 (ask.Stand red_5 20)
-    ++ delivered 1 2 0 (Token red_5 (record { bid = 10; node = 1 }))
-    ++ delivered 2 3 0 (Token red_5 winner)
-    ++ delivered 3 1 0 (Token red_5 (record { bid = 20; node = 3 }))
-    ++ delivered 1 2 1 (Token red_5 (record { bid = 20; node = 3 }))
-    ++ delivered 3 1 1 (Token red_5 winner)
-    ++ delivered 1 2 2 (Token red_5 winner)
-    ++ delivered 2 3 1 (Elected red_5 winner)
-    ++ delivered 3 1 2 (Elected red_5 winner)
-    ++ delivered 1 2 3 (Elected red_5 winner)
+    stood 1 10
+    ++ stood 2 30
+    ++ stood 3 20
+    ++ delivered 1 2 0 (Token red_5 (record { bid = 10; node = 1 })) 2
+    ++ delivered 2 3 0 (Token red_5 winner) 2
+    ++ delivered 3 1 0 (Token red_5 (record { bid = 20; node = 3 })) 2
+    ++ delivered 1 2 1 (Token red_5 (record { bid = 20; node = 3 })) 3
+    ++ delivered 3 1 1 (Token red_5 winner) 3
+    ++ delivered 1 2 2 (Token red_5 winner) 4
+    ++ delivered 2 3 1 (Elected red_5 winner) 3
+    ++ delivered 3 1 2 (Elected red_5 winner) 4
+    ++ delivered 1 2 3 (Elected red_5 winner) 5
     ++ told 1 4 winner
     ++ told 2 5 winner
     ++ told 3 3 winner
@@ -52,11 +62,11 @@ alone = record { bid = 10; node = 1 }
 -- the second flies, which is kept. Then it sends the token on, and node 1 says that it leads.
 abbrev pub crash_events : List (ℕ × Action)
 crash_events =
-    settled 1 (ask.Stand red_5 10)
+    stood 1 10
     ++ (1, Release (Sent (Carry 0 (Token red_5 alone))))
     ∷ (2, Submit (ask.Take 0 (Token red_5 alone))) ∷ (2, Launch) ∷ (2, Crash false)
     ∷ (2, Submit (ask.Take 0 (Token red_5 alone))) ∷ (2, Launch) ∷ (2, Crash true)
-    ∷ delivered 2 1 0 (Token red_5 alone)
+    ∷ delivered 2 1 0 (Token red_5 alone) 2
     ++ told 1 2 alone
 
 -- what became durable in it
