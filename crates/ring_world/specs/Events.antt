@@ -77,8 +77,8 @@ state_after n capacity events i = (process n capacity events i).state
 
 -- ---- what may happen
 
--- A node whose device failed has Release and Crash alone until it is opened again. No event has to happen, so the lists in
--- which it keeps to that are among these.
+-- A node whose device failed has Release and Crash alone until it is opened again. No event has to happen, so the lists
+-- in which it keeps to that are among these.
 
 -- What the request brings node i was released to it: a message by the node before it, a credit by the node behind it. A
 -- packet may come again, and in any order.

@@ -14,8 +14,8 @@ use Rattle.ring_records.specs.Place.{after, before}
 use Rattle.ring_node.specs.Node.{Open, NodeView, new_node, state_of, durable_in, asked_with, accepts, flushed, is_due, restarted, left, number_of}
 use Rattle.ring_world.specs.Events.{Replied, Sent, Action, Submit, Launch, Land, Release, Crash, process, state_after, IsSchedule}
 
--- how many nodes it has, numbered from 1, and their capacity; whether a growth was refused, after which it is of no use;
--- what happened, and as much of that as was told; and node i at place i - 1
+-- how many nodes it has, numbered from 1, and their capacity; whether a growth was refused, after which it is of no
+-- use; what happened, and as much of that as was told; and node i at place i - 1
 pub record RingView : Type 0 where
   pub size : ℕ
   pub capacity : ℕ

@@ -25,7 +25,7 @@ settled i q reply number = (i, Submit q) ∷ (i, Launch) ∷ (i, Land) ∷ repli
 abbrev pub stood : ℕ → ℕ → List (ℕ × Action)
 stood i bid = settled i (ask.Stand red_5 bid) say.Stood 1
 
--- a message goes from one node to the next, which takes it
+-- a message goes from one node to the next, which takes it as the last of so many inputs
 abbrev pub delivered : ℕ → ℕ → ℕ → Msg → ℕ → List (ℕ × Action)
 delivered from to place msg number = (from, Release (Sent (Carry place msg))) ∷ settled to (ask.Take place msg) say.Taken number
 
@@ -34,7 +34,7 @@ abbrev pub told : ℕ → ℕ → Candidate → List (ℕ × Action)
 told i number c = (i, Submit (ask.Who red_5)) ∷ replied i (ask.Who red_5) (say.Leader (Some c)) number ∷ []
 
 -- What happens in an eager world in which three nodes stand for one key, every message is delivered, and each node says
--- who leads. At last the board of node 3 shows it, which no node of a world has.
+-- who leads. At last a board of node 3 shows the leader; the nodes of a world have no board.
 abbrev pub election_events : List (ℕ × Action)
 election_events =
     stood 1 10
@@ -58,8 +58,8 @@ election_events =
 abbrev pub alone : Candidate
 alone = record { bid = 10; node = 1 }
 
--- Node 1 stands, and node 2 takes its token twice: it crashes while the first Take flies, which is lost, and again while
--- the second flies, which is kept. Then it sends the token on, and node 1 says that it leads.
+-- Node 1 stands, and node 2 takes its token twice: it crashes while the first Take flies, which is lost, and again
+-- while the second flies, which is kept. Then it sends the token on, and node 1 says that it leads.
 abbrev pub crash_events : List (ℕ × Action)
 crash_events =
     stood 1 10

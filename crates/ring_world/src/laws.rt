@@ -45,9 +45,9 @@ pub fn headline()
     ensures greatest { (n capacity : ℕ) (events : List (ℕ × Action)) (key : Key) (c d : Candidate) → IsSchedule n capacity events → IsAnnounced events key c → Contains (committed n capacity events) (d.node, Stand key d.bid) → d ≢ c → IsTrue (is_less d c) }
 {}
 
-/// There are schedules with a leader. In an election of three nodes the inputs become durable in the order of the worked
-/// run, and the one of the greatest bid is announced. Of two batches that fly at a crash one is lost and one is kept,
-/// and a leader is announced after it.
+/// There are schedules with a leader. In an election of three nodes the inputs become durable in the order of the
+/// worked run, and the one of the greatest bid is announced. Of two batches that fly at a crash one is lost and one is
+/// kept, and a leader is announced after it.
 pub fn worked_schedules()
     ensures election { IsSchedule 3 65536 election_events }
     ensures election_durable { committed 3 65536 election_events ≡ first_election }

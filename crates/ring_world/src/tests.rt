@@ -1,5 +1,5 @@
-// What no clause says: that each call succeeds with ample memory, and what a stop leaves of a batch. The rows of scripts
-// are in fault_console.
+// What no clause says: that each call succeeds with ample memory, and what a stop leaves of a batch. The rows of
+// scripts are in fault_console.
 use crate::{Event, Outcome, World};
 use disk_model::Tear;
 use ring_records::{Bid, Candidate, GroupName, Key, Msg, NodeNo, Refusal, Reply, Request, Term};

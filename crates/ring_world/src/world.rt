@@ -49,9 +49,9 @@ impl World {
     ghost use Rattle.ring_world.specs.State.{State, opened, is_ring};
     ghost use Rattle.ring_world.specs.Step.{Steps, refusal_of, is_lasting, stepped};
 
-    /// A ring of n nodes in which nothing has happened. In an eager one each input is made durable as it is accepted; else
-    /// it waits for a flush. Refused as 2 where n is not 2 to 16 or the capacity of each node not 4,096 to 1,048,576
-    /// bytes, and as 8.
+    /// A ring of n nodes in which nothing has happened. In an eager one each input is made durable as it is accepted;
+    /// else it waits for a flush. Refused as 2 where n is not 2 to 16 or the capacity of each node not 4,096 to
+    /// 1,048,576 bytes, and as 8.
     pub fn new(alloc: Global, n: u8, eager: bool, capacity: u32) -> Result<World, Refusal>
         ensures made { IfOk result (λ world. world ≡ opened n eager capacity) }
         ensures accepted { OnOk result (is_ring n capacity ≡ true) }

@@ -120,8 +120,8 @@ impl Ring {
         }
     }
 
-    /// Asks the node, as `submit` does, and releases nothing: whether it accepts an input. Want of memory may leave some
-    /// of it done.
+    /// Asks the node, as `submit` does, and releases nothing: whether it accepts an input. Want of memory may leave
+    /// some of it done.
     pub fn bring(
         &mut self,
         eager: bool,
