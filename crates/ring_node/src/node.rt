@@ -14,8 +14,8 @@ use ring_records::{Msg, NodeNo, Request};
 use std::alloc::{AllocError, Global};
 use std::marker::Model;
 
-/// A node of a ring of 2 to 16 on a device in memory. Where it could not be opened again for want of memory, it is down:
-/// it holds nothing, and answers that memory is missing.
+/// A node of a ring of 2 to 16 on a device in memory. Where it could not be opened again for want of memory, it is
+/// down: it holds nothing, and answers that memory is missing.
 pub struct RingNode {
     pub(crate) alloc: Global,
     pub(crate) me: NodeNo,
@@ -58,8 +58,8 @@ impl RingNode {
         })
     }
 
-    /// Asks the node. Its ticket, under the number that the ring gives it, stays open until the reply is released. Whether
-    /// it accepts an input with the request.
+    /// Asks the node. Its ticket, under the number that the ring gives it, stays open until the reply is released.
+    /// Whether it accepts an input with the request.
     pub fn ask(&mut self, number: Option<u64>, question: Request) -> Result<bool, AllocError>
         requires inside { is_outside self.old.n question ≡ false }
         requires numbers { self.old.issued < 2 ^ 60 }

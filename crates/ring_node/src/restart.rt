@@ -17,8 +17,8 @@ use ring_records::{Msg, NodeNo};
 use std::alloc::{AllocError, Global};
 
 impl RingNode {
-    /// It loses its memory and is opened again from its device. The numbers of the tickets that were open, in order. After
-    /// an `Err` it is down.
+    /// It loses its memory and is opened again from its device. The numbers of the tickets that were open, in order.
+    /// After an `Err` it is down.
     pub fn crash(&mut self) -> Result<Vec<u64>, AllocError>
         ensures next { OnOk result (self.new ≡ restarted (durable_in self.old) self.old) }
         ensures lost { IfOk result (λ lost. lost.items ≡ filter_map number_of self.old.held) }
@@ -32,9 +32,9 @@ impl RingNode {
         Ok(lost)
     }
 
-    /// It is stopped at a device call of a flush, 1 to 4, with the device left by the tear, and is opened again: whether
-    /// it holds the batch then, and the numbers of the tickets that were open, in order. An input waits, so that the flush
-    /// calls the device: `durable` is below `count`. After an `Err` it is down.
+    /// It is stopped at a device call of a flush, 1 to 4, with the device left by the tear, and is opened again:
+    /// whether it holds the batch then, and the numbers of the tickets that were open, in order. An input waits, so
+    /// that the flush calls the device: `durable` is below `count`. After an `Err` it is down.
     pub fn stop(&mut self, call: u64, tear: Tear) -> Result<(bool, Vec<u64>), AllocError>
         requires waits { self.old.durable < length self.old.inputs }
         ensures next { IfOk result (λ r. self.new ≡ restarted (left r.0 self.old) self.old) }
