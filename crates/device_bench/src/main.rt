@@ -1,5 +1,5 @@
-//! `device_bench BYTES WRITES` fills a device in memory of so many bytes, then writes so many small pieces here and there
-//! over it, with a sync after each, and prints how many there were: 10,000 over 1 MiB where it has no words.
+//! `device_bench BYTES WRITES` fills a device in memory of so many bytes, then writes so many small pieces here and
+//! there over it, with a sync after each, and prints how many there were: 10,000 over 1 MiB where it has no words.
 //! bench/measure.sh times it.
 #![tactic(auto)]
 

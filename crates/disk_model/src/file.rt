@@ -66,8 +66,8 @@ impl From<DeviceFault> for OpenFault {
     }
 }
 
-/// A real file, of at most `FILE_LIMIT` bytes. A read or write that ends past that is a fault, and so is a read that ends
-/// past the file's end. After an error of the file each later call is a fault.
+/// A real file, of at most `FILE_LIMIT` bytes. A read or write that ends past that is a fault, and so is a read that
+/// ends past the file's end. After an error of the file each later call is a fault.
 #[derive(Drop)]
 pub struct FileDevice {
     file: fs::File,
@@ -105,8 +105,8 @@ fn load(file: &fs::File, held: &mut Buffer, len: usize) -> Result<(), OpenFault>
 impl FileDevice {
     ghost use Rattle.disk_model.specs.FileDevice.{disk_of, limit_of, count_of, has_failed};
 
-    /// A new, empty file. Refused as `Device` where the system refuses it, as where there is a file of this name; a file
-    /// may have been made then.
+    /// A new, empty file. Refused as `Device` where the system refuses it, as where there is a file of this name; a
+    /// file may have been made then.
     pub fn create<R: Files<File = fs::File>>(
         alloc: Global,
         files: &R,

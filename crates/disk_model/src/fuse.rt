@@ -19,8 +19,8 @@ enum Fuse {
     Spent,
 }
 
-/// A device that stands before another and lets its calls of `read_at`, `write_at` and `sync` pass until its fuse blows.
-/// A write at which it blows is passed on and then answered as a fault; such a read or sync is not passed on.
+/// A device that stands before another and lets its calls of `read_at`, `write_at` and `sync` pass until its fuse
+/// blows. A write at which it blows is passed on and then answered as a fault; such a read or sync is not passed on.
 #[derive(Drop)]
 pub struct FuseDevice<D: Device> {
     inner: D,

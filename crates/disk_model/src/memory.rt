@@ -23,8 +23,8 @@ pub enum Tear {
     Fill(u8),
 }
 
-/// A device in memory, empty at first. It takes all its memory when it is made. A read or write that ends past its limit
-/// is a fault; no other call fails.
+/// A device in memory, empty at first. It takes all its memory when it is made. A read or write that ends past its
+/// limit is a fault; no other call fails.
 #[derive(Drop)]
 pub struct MemDevice {
     held: Buffer,

@@ -4,8 +4,8 @@ ghost use Rattle.disk_model.specs.Disk.{IsTorn, IsSynced, Puts, LeavesOnly, HasC
 
 use crate::{Device, DeviceFault};
 
-/// Writes the bytes from `off` on and syncs: at Ok they are stable. A stop at any moment of the call leaves what it might
-/// have left before, torn in this range.
+/// Writes the bytes from `off` on and syncs: at Ok they are stable. A stop at any moment of the call leaves what it
+/// might have left before, torn in this range.
 pub fn write_through<D: Device>(device: &mut D, off: u64, bytes: &[u8]) -> Result<(), DeviceFault>
     ensures written { OnOk result (Puts off bytes.now (D.disk device.old).image (D.disk device.new).image) }
     ensures synced { OnOk result (IsSynced (D.disk device.new)) }

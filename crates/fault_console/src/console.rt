@@ -173,9 +173,9 @@ impl Console {
         }
     }
 
-    /// Obeys a line of the script: adds to `out` the lines that it prints, and gives their number, at most two more than
-    /// the ticket numbers that are taken. After want of memory, the only refusal, `out` has no meaning and the console
-    /// is of no more use than to be ended.
+    /// Obeys a line of the script: adds to `out` the lines that it prints, and gives their number, at most two more
+    /// than the ticket numbers that are taken. After want of memory, the only refusal, `out` has no meaning and the
+    /// console is of no more use than to be ended.
     #[tactic(auto, unfolding(crate::specs::Script::LinePrints))]
     pub fn obey(&mut self, alloc: Global, line: &[u8], out: &mut String) -> Result<u64, AllocError>
         requires small { tickets_of self.old.world ≤ 1000000 }

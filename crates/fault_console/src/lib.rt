@@ -1,19 +1,19 @@
 //! The console of a ring: a script of events, and what each of them brings, line by line.
 //!
 //! `ring N [MODE [CAP]]` comes first and makes the ring, of 2 to 16 nodes. MODE is `eager`, the default: each input is
-//! made durable as it is accepted; or `lazy`: it waits for a flush. CAP is the capacity of each node, 4,096 to 1,048,576
-//! bytes, 65,536 by default. Then these ask a node, each under the next ticket number, and print `K: ` with the reply, or
-//! `K: sealed` where that rests on inputs which are not durable yet:
+//! made durable as it is accepted; or `lazy`: it waits for a flush. CAP is the capacity of each node, 4,096 to
+//! 1,048,576 bytes, 65,536 by default. Then these ask a node, each under the next ticket number, and print `K: ` with
+//! the reply, or `K: sealed` where that rests on inputs which are not durable yet:
 //! - `stand I G T B`: node I stands for group G and term T with bid B;
 //! - `who I G T`, `latest I G`: node I is asked who leads;
 //! - `deliver I NO`: message NO of node I reaches the node behind it;
 //! - `credit I U`: node I tells the node before it that it took U messages.
 //!
-//! `deliver all` delivers what may be released, and prints `delivered C`. `flush I` makes a batch of node I durable, and
-//! prints `flushed C` and the replies that rested on it. `crash I` takes node I's memory, and `stop I K TEAR` stops its
-//! flush at device call K, 1 to 4, and tears what was not synced: `old`, `new` or `fill B`. Both open it again, and print
-//! `K: lost` for each ticket that was open there and `up I H`, H its inputs. `show I` prints the counts of node I. A line
-//! that is refused prints its refusal alone. Tickets that are open at the end are given up without a line.
+//! `deliver all` delivers what may be released, and prints `delivered C`. `flush I` makes a batch of node I durable,
+//! and prints `flushed C` and the replies that rested on it. `crash I` takes node I's memory, and `stop I K TEAR` stops
+//! its flush at device call K, 1 to 4, and tears what was not synced: `old`, `new` or `fill B`. Both open it again, and
+//! print `K: lost` for each ticket that was open there and `up I H`, H its inputs. `show I` prints the counts of node
+//! I. A line that is refused prints its refusal alone. Tickets that are open at the end are given up without a line.
 //!
 //! `specs/` says what a script may print: Words has lines, words and numbers, Judged the commands and their faults,
 //! Script the texts.

@@ -23,8 +23,8 @@ pub struct Batch {
 impl Batch {
     ghost use Rattle.gated_journal.specs.Batch.{is_size, batch_refusal, numbered, shown};
 
-    /// The inputs of this node from number `first` on, counted from 0. Refused as 2 where there are not 1 to 64 of them,
-    /// and as 8.
+    /// The inputs of this node from number `first` on, counted from 0. Refused as 2 where there are not 1 to 64 of
+    /// them, and as 8.
     pub fn new(alloc: Global, node: NodeNo, first: u64, inputs: &[Input]) -> Result<Batch, Refusal>
         ensures value { IfOk result (λ batch. shown batch ≡ numbered node first inputs.now) }
         ensures size { OnOk result (is_size (length inputs.now) ≡ true) }

@@ -13,8 +13,8 @@ pub fn one_reading()
     ensures frames { (offset : ℕ) (image : List ℕ) (inputs more : List Input) (place end : ℕ) → ReadsTo offset image inputs place → ReadsTo offset image more end → (inputs ≡ more) × (place ≡ end) }
 {}
 
-/// No image has both a reading and a fault. One that is read for a node of a ring has no fault for it, an image has no two
-/// faults, and frames that are damaged at one place are neither read nor damaged at another.
+/// No image has both a reading and a fault. One that is read for a node of a ring has no fault for it, an image has no
+/// two faults, and frames that are damaged at one place are neither read nor damaged at another.
 pub fn one_fault()
     ensures read { (node n : ℕ) (image : List ℕ) (refusal : Refusal) (header : Header) (inputs : List Input) → IsUnread node n image refusal → ReadsAs header image inputs → header.node ≡ node → header.n ≡ n → ⊥ }
     ensures fault { (node n : ℕ) (image : List ℕ) (refusal other : Refusal) → IsUnread node n image refusal → IsUnread node n image other → refusal ≡ other }

@@ -151,9 +151,9 @@ impl Desk {
         })
     }
 
-    /// Ends a ticket whose reply rests on durable inputs alone, and releases the reply, with a stub of it. Refused as 10
-    /// where no such ticket is open here; where an input that the reply rests on is not durable yet, as 9 on a desk that
-    /// has failed and else as 11. Then the ticket comes back.
+    /// Ends a ticket whose reply rests on durable inputs alone, and releases the reply, with a stub of it. Refused as
+    /// 10 where no such ticket is open here; where an input that the reply rests on is not durable yet, as 9 on a desk
+    /// that has failed and else as 11. Then the ticket comes back.
     pub fn redeem(&mut self, ticket: Ticket) -> Result<(Reply, Stub), (Ticket, Refusal)>
         ensures released { IfOk result (λ r. IsHere self.old (shown ticket) (stub r.1)) }
         ensures reply { IfOk result (λ r. r.0 ≡ (stub r.1).answer.reply) }
@@ -264,8 +264,8 @@ impl Desk {
         }
     }
 
-    /// The batch that flies is durable: what it lets the node release. It takes no memory. Refused as 10 where this is not
-    /// the receipt of that batch, or the desk has failed, and it comes back.
+    /// The batch that flies is durable: what it lets the node release. It takes no memory. Refused as 10 where this is
+    /// not the receipt of that batch, or the desk has failed, and it comes back.
     pub fn land(&mut self, receipt: Receipt) -> Result<Landed, (Receipt, Refusal)>
         ensures flying { OnOk result (IsFlying self.old (landed receipt)) }
         ensures works { OnOk result (is_failed self.old ≡ false) }
@@ -376,8 +376,8 @@ impl Desk {
         self.outbox.released.taken
     }
 
-    /// The messages of its durable inputs that the successor is not known to have taken, as Carry packets in order: those
-    /// from the last durable credit on. They may be released again.
+    /// The messages of its durable inputs that the successor is not known to have taken, as Carry packets in order:
+    /// those from the last durable credit on. They may be released again.
     pub fn window(&self) -> Result<Vec<Packet>, AllocError>
         ensures { IfOk result (λ packets. packets.items ≡ window (place_of self.now).me (take (state_of self.now).durable (state_of self.now).inputs)) }
     {

@@ -13,8 +13,8 @@ use std::mem::replace;
 pub struct Landed {
     /// How many inputs became durable, at most 64.
     pub count: u32,
-    /// The messages that they send to the successor, as Carry packets in order, and then, where a message was taken, one
-    /// Credit of all that were taken durably, to the predecessor.
+    /// The messages that they send to the successor, as Carry packets in order, and then, where a message was taken,
+    /// one Credit of all that were taken durably, to the predecessor.
     pub packets: Vec<Packet>,
     /// The leaders that they made known, in order.
     pub decisions: Vec<Decision>,

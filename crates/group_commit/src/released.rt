@@ -15,8 +15,8 @@ use node_core::Effects;
 use ring_records::{Decision, Input, Packet};
 use std::alloc::{AllocError, Global};
 
-/// What a node keeps of its durable inputs: the messages that the successor is not known to have taken, the leaders that
-/// became known, in order, and how many messages were taken.
+/// What a node keeps of its durable inputs: the messages that the successor is not known to have taken, the leaders
+/// that became known, in order, and how many messages were taken.
 #[derive(Drop)]
 pub(crate) struct Released {
     pub(crate) link: Outlink,

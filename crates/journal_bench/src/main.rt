@@ -1,7 +1,7 @@
-//! `journal_bench memory COMMITS` commits batches of 64 inputs to journals in memory, each of 1 MiB. `reopen TIMES` fills
-//! one, and reopens it so often. `file COMMITS PATH` commits to a file, and `bare COMMITS PATH` writes and syncs as often
-//! with no journal. It prints a count: of journals filled, of inputs read, of bytes of the file. Where it has no words it
-//! commits 100 batches in memory. bench/measure.sh times it.
+//! `journal_bench memory COMMITS` commits batches of 64 inputs to journals in memory, each of 1 MiB. `reopen TIMES`
+//! fills one, and reopens it so often. `file COMMITS PATH` commits to a file, and `bare COMMITS PATH` writes and syncs
+//! as often with no journal. It prints a count: of journals filled, of inputs read, of bytes of the file. Where it has
+//! no words it commits 100 batches in memory. bench/measure.sh times it.
 #![tactic(auto)]
 
 use disk_model::{Device, DeviceFault, FileDevice, MemDevice};

@@ -1,8 +1,8 @@
-//! `node_bench memory FLUSHES` has nodes in memory, each of 1 MiB and made when the one before is full, take 64 messages
-//! for each flush, and redeems their tickets behind it. `file FLUSHES PATH` has them on a file, and `bare FLUSHES PATH`
-//! writes and syncs as often with no node. `recover TIMES` fills a node in memory, and recovers it so often. It prints a
-//! count: of packets that landed, of bytes of the file, of inputs recovered. Where it has no words it flushes 10 times in
-//! memory. bench/measure.sh times it.
+//! `node_bench memory FLUSHES` has nodes in memory, each of 1 MiB and made when the one before is full, take 64
+//! messages for each flush, and redeems their tickets behind it. `file FLUSHES PATH` has them on a file, and `bare
+//! FLUSHES PATH` writes and syncs as often with no node. `recover TIMES` fills a node in memory, and recovers it so
+//! often. It prints a count: of packets that landed, of bytes of the file, of inputs recovered. Where it has no words
+//! it flushes 10 times in memory. bench/measure.sh times it.
 #![tactic(auto)]
 
 ghost use Rattle.std.specs.Prelude.{◌≡◌, ◌<◌, ◌≤◌, ℕ, false, nat_eq};

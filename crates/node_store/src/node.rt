@@ -77,10 +77,10 @@ impl<D: Device> Node<D> {
         }
     }
 
-    /// The node that a device holds, which it makes stable first: it stands for the inputs that its journal holds, all of
-    /// them durable. Refused as 15; as 17 where there is no header; as 19 where it names another node or ring size; as 16
-    /// with the offset of what is damaged; as 24 with the number of the first input, counted from 0, that is not admitted
-    /// after those before it; and as 8 where it is met.
+    /// The node that a device holds, which it makes stable first: it stands for the inputs that its journal holds, all
+    /// of them durable. Refused as 15; as 17 where there is no header; as 19 where it names another node or ring size;
+    /// as 16 with the offset of what is damaged; as 24 with the number of the first input, counted from 0, that is not
+    /// admitted after those before it; and as 8 where it is met.
     pub fn recover(
         alloc: Global,
         device: D,
@@ -159,9 +159,9 @@ impl<D: Device> Node<D> {
         self.desk.submit(question)
     }
 
-    /// Ends a ticket whose reply rests on durable inputs alone, and releases the reply, with a stub of it. Refused as 10
-    /// where no such ticket is open here; where an input that the reply rests on is not durable yet, as 9 on a node that
-    /// has failed and else as 11. Then the ticket comes back.
+    /// Ends a ticket whose reply rests on durable inputs alone, and releases the reply, with a stub of it. Refused as
+    /// 10 where no such ticket is open here; where an input that the reply rests on is not durable yet, as 9 on a node
+    /// that has failed and else as 11. Then the ticket comes back.
     pub fn redeem(&mut self, ticket: Ticket) -> Result<(Reply, Stub), (Ticket, Refusal)>
         ensures released { IfOk result (λ r. IsHere (desk_of self.old) (shown ticket) (stub r.1)) }
         ensures reply { IfOk result (λ r. r.0 ≡ (stub r.1).answer.reply) }
@@ -240,8 +240,8 @@ impl<D: Device> Node<D> {
         self.desk.durable_taken()
     }
 
-    /// The messages of its durable inputs that the successor is not known to have taken, as Carry packets in order: those
-    /// from the last durable credit on. They may be released again.
+    /// The messages of its durable inputs that the successor is not known to have taken, as Carry packets in order:
+    /// those from the last durable credit on. They may be released again.
     pub fn window(&self) -> Result<Vec<Packet>, AllocError>
         ensures { IfOk result (λ packets. packets.items ≡ window (place_of self.now).me (durable_in (state_of self.now))) }
     {
@@ -282,8 +282,8 @@ impl<D: Device> Node<D> {
         self.desk.open_tickets()
     }
 
-    /// Makes the first inputs that wait durable, at most 64, and tells what they let the node release; nothing where none
-    /// waits. Refused as 9 where it has failed, as 15, after which it has failed, and as 8.
+    /// Makes the first inputs that wait durable, at most 64, and tells what they let the node release; nothing where
+    /// none waits. Refused as 9 where it has failed, as 15, after which it has failed, and as 8.
     pub fn flush(&mut self) -> Result<Landed, Refusal>
         ensures state { OnOk result (state_of self.new ≡ landed (launched (state_of self.old))) }
         ensures count { IfOk result (λ l. l.count ≡ (launched (state_of self.old)).flying - (state_of self.old).durable) }

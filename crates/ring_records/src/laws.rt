@@ -57,7 +57,8 @@ pub fn latest_leads()
     ensures none { (me : ℕ) (h : List Input) (group : List ℕ) (term : ℕ) → latest me h group ≡ None → leader me h (record { group = group; term = term }) ≡ None }
 {}
 
-/// The decisions of a history tell its leaders, each of them and nothing else. In order of key there is one list of them.
+/// The decisions of a history tell its leaders, each of them and nothing else. In order of key there is one list of
+/// them.
 pub fn leaders_listed()
     ensures decided { (me : ℕ) (h : List Input) (d : Decision) → (Contains (decisions me [] h) d ↔ (leader me h d.key ≡ Some d.leader)) }
     ensures one { (me : ℕ) (h : List Input) (list other : List Decision) → AreLeaders me h list → AreLeaders me h other → list ≡ other }

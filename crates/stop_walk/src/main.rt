@@ -1,10 +1,10 @@
 //! `stop_walk` plays an election of two groups in a lazy ring of 3 nodes: once with no stop, and once for each flush of
-//! it, each of the flush's device calls and each of five tears, with a stop there, which is a crash where nothing waits.
-//! Clients whose tickets were lost ask again. When nothing waits any more all nodes are crashed, and every message and
-//! each node's credit is delivered again. Each key has to have one leader, the greatest that stood, at every node and
-//! before and after the crashes; each repeat has to be told as old; no node may lose what it showed as durable; and every
-//! Stand has to be acknowledged, and known at its node in the end. It prints how many runs there were, and in how many of
-//! them all was as it has to be, and fails where that is not in all of them.
+//! it, each of the flush's device calls and each of five tears, with a stop there, which is a crash where nothing
+//! waits. Clients whose tickets were lost ask again. When nothing waits any more all nodes are crashed, and every
+//! message and each node's credit is delivered again. Each key has to have one leader, the greatest that stood, at
+//! every node and before and after the crashes; each repeat has to be told as old; no node may lose what it showed as
+//! durable; and every Stand has to be acknowledged, and known at its node in the end. It prints how many runs there
+//! were, and in how many of them all was as it has to be, and fails where that is not in all of them.
 #![tactic(auto)]
 
 mod walk;
