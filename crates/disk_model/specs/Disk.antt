@@ -64,11 +64,15 @@ pub record Unsyncs (off n : ℕ) (old new : Disk) : Type 0 where
   pub stable : new.stable ≡ old.stable
   pub ranges : new.ranges ≡ old.ranges ++ (off, n) ∷ []
 
--- each byte of these ranges is this one, and the others stay, as does the end
-pub record Fills (byte : ℕ) (ranges : List (ℕ × ℕ)) (old new : List ℕ) : Type 0 where
-  pub size : length new ≡ length old
-  pub inside : (i : ℕ) → i < length old → IsInside ranges i → slice_index new i ≡ byte
-  pub outside : (i : ℕ) → IsOutside ranges i → slice_index new i ≡ slice_index old i
+-- a stop may leave any byte here: some range has this one, or it lies past the stable end
+abbrev pub IsUnsynced : Disk → ℕ → Type 0
+IsUnsynced disk i = IsInside disk.ranges i ⊎ (length disk.stable ≤ i)
+
+-- New is what is read, with this byte in place of each unsynced one.
+pub record Fills (byte : ℕ) (disk : Disk) (new : List ℕ) : Type 0 where
+  pub size : length new ≡ length disk.image
+  pub unsynced : (i : ℕ) → i < length disk.image → IsUnsynced disk i → slice_index new i ≡ byte
+  pub others : (i : ℕ) → i < length disk.stable → IsOutside disk.ranges i → slice_index new i ≡ slice_index disk.image i
 
 -- what a read gives becomes the stable image
 abbrev pub synced : Disk → Disk

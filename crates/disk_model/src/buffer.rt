@@ -1,6 +1,6 @@
 // A device's bytes in memory.
 ghost use Rattle.std.specs.Prelude.{◌≡◌, ◌↔◌, ◌⊎◌, ◌+◌, ◌^◌, ◌<◌, ◌≤◌, ◌++◌, ◌∷◌, [], ℕ, min, max, length, take, drop, true, false, slice_index, IfOk, OnOk, OnErr, IsOk};
-ghost use Rattle.disk_model.specs.Disk.{IsTorn, IsOutside, IsInside, IsPart, Puts, Unsyncs, Fills, Elapses, HasCause, IsInReach, with_image};
+ghost use Rattle.disk_model.specs.Disk.{IsTorn, IsOutside, IsUnsynced, IsPart, Puts, Unsyncs, Fills, Elapses, HasCause, IsInReach, with_image};
 ghost use Rattle.disk_model.specs.Shadow.{room_of, is_written, byte_before};
 
 use crate::history::History;
@@ -106,14 +106,13 @@ impl Buffer {
         self.size = shadow.size;
     }
 
-    /// A stop leaves this byte in place of each that was written since the last sync. The shadow is of this device's
-    /// writes.
+    /// A stop leaves this byte in place of each unsynced one. The shadow is of this device's writes.
     pub(crate) fn fill(&mut self, shadow: &Shadow, byte: u8)
         requires room { room_of shadow.now ≡ limit_of self.old }
-        requires clean { (i : ℕ) → IsOutside (disk_of self.old).ranges i → is_written shadow.now i ≡ false }
-        requires marked { (i : ℕ) → i < limit_of self.old → IsInside (disk_of self.old).ranges i → is_written shadow.now i ≡ true }
+        requires clean { (i : ℕ) → i < length (disk_of self.old).stable → IsOutside (disk_of self.old).ranges i → is_written shadow.now i ≡ false }
+        requires marked { (i : ℕ) → i < length (disk_of self.old).image → IsUnsynced (disk_of self.old) i → is_written shadow.now i ≡ true }
         ensures others { (i : ℕ) → is_written shadow.now i ≡ false → slice_index (disk_of self.new).image i ≡ slice_index (disk_of self.old).image i }
-        ensures fills { Fills byte (disk_of self.old).ranges (disk_of self.old).image (disk_of self.new).image }
+        ensures fills { Fills byte (disk_of self.old) (disk_of self.new).image }
         ensures disk { disk_of self.new ≡ with_image (disk_of self.old) (disk_of self.new).image }
         ensures limit { limit_of self.new ≡ limit_of self.old }
         ensures count { count_of self.new ≡ count_of self.old }
@@ -179,6 +178,7 @@ impl Device for Buffer {
         ensures limit { IsOk result ↔ (off + length bytes.now ≤ limit_of self.old) }
 
         ensures err { OnErr result ((disk_of self.new).image ≡ (disk_of self.old).image) }
+        ensures end { length (disk_of self.new).image ≤ max (length (disk_of self.old).image) (min (off + length bytes.now) (limit_of self.old)) }
 
         // At a fault too.
         ensures elsewhere { (i : ℕ) → (i < off) ⊎ (min (off + length bytes.now) (limit_of self.old) ≤ i) → slice_index (disk_of self.new).image i ≡ slice_index (disk_of self.old).image i }

@@ -1,6 +1,6 @@
 // A device in memory, for tests and simulations.
 ghost use Rattle.std.specs.Prelude.{◌≡◌, ◌↔◌, ◌+◌, ◌<◌, ◌≤◌, [], ℕ, List, length, true, false, slice_index, IsOk, IfOk, OnOk, OnErr};
-ghost use Rattle.disk_model.specs.Disk.{MayLeave, IsOutside, IsInside, IsPart, Puts, Unsyncs, Fills, Elapses, HasCause, IsInReach, with_image};
+ghost use Rattle.disk_model.specs.Disk.{MayLeave, IsOutside, IsUnsynced, IsPart, Puts, Unsyncs, Fills, Elapses, HasCause, IsInReach, with_image};
 ghost use Rattle.disk_model.specs.Buffer as buffer;
 ghost use Rattle.disk_model.specs.Shadow.{is_written, byte_before};
 
@@ -19,7 +19,7 @@ pub enum Tear {
     Old,
     /// They stay: all writes took effect.
     New,
-    /// Each of their bytes up to the new end becomes this one.
+    /// Each of their bytes up to the new end becomes this one, and so does a gap behind the old end.
     Fill(u8),
 }
 
@@ -31,8 +31,8 @@ pub struct MemDevice {
     shadow: Shadow,
     ghost same: { length shadow.bytes.items ≡ length held.bytes.items },
     ghost end: { shadow.size ≡ length held.history.stable },
-    ghost clean: { (i : ℕ) → IsOutside held.history.ranges i → is_written shadow i ≡ false },
-    ghost marked: { (i : ℕ) → i < length held.bytes.items → IsInside held.history.ranges i → is_written shadow i ≡ true },
+    ghost clean: { (i : ℕ) → i < length held.history.stable → IsOutside held.history.ranges i → is_written shadow i ≡ false },
+    ghost marked: { (i : ℕ) → i < length (buffer.disk_of held).image → IsUnsynced (buffer.disk_of held) i → is_written shadow i ≡ true },
     ghost before: { (i : ℕ) → byte_before shadow (buffer.disk_of held).image i ≡ slice_index held.history.stable i },
 }
 
@@ -55,7 +55,7 @@ impl MemDevice {
         ensures left { MayLeave (disk_of self.old) (disk_of self.new).image }
         ensures old { tear ≡ Tear.Old → (disk_of self.new).image ≡ (disk_of self.old).stable }
         ensures new { tear ≡ Tear.New → (disk_of self.new).image ≡ (disk_of self.old).image }
-        ensures fill { (byte : ℕ) → tear ≡ Tear.Fill byte → Fills byte (disk_of self.old).ranges (disk_of self.old).image (disk_of self.new).image }
+        ensures fill { (byte : ℕ) → tear ≡ Tear.Fill byte → Fills byte (disk_of self.old) (disk_of self.new).image }
         ensures disk { disk_of self.new ≡ with_image (disk_of self.old) (disk_of self.new).image }
         ensures limit { limit_of self.new ≡ limit_of self.old }
         ensures count { count_of self.new ≡ count_of self.old }
@@ -121,7 +121,9 @@ impl Device for MemDevice {
         let limit = self.held.limit();
         let at = off.min(limit as u64) as usize;
         let end = at + bytes.len().min(limit - at);
-        self.shadow.note(self.held.memory(), at, end);
+        // A gap behind the old end is unsynced with the range.
+        let from = at.min(self.held.size() as usize);
+        self.shadow.note(self.held.memory(), from, end);
         self.held.write_at(off, bytes)
     }
 

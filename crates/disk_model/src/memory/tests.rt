@@ -67,7 +67,7 @@ fn writes_that_grow(rt: HostRuntime) -> Result<(), Fail> {
         &rt,
         &[(10, b"Q")],
         b"abcdefgh\x00\x00Q",
-        b"abcdefgh\x00\x00\x07",
+        b"abcdefgh\x07\x07\x07",
     )
 }
 
