@@ -18,7 +18,7 @@ use Rattle.gated_journal.proofs.Rest.{used-joined}
 use Rattle.gated_journal.proofs.Results.{of_some}
 use Rattle.group_commit.specs.Kept.{Place}
 use Rattle.ring_records.specs.Release.{packets, decisions, carries, credits}
-use Rattle.node_store.specs.State.{header_at, ReadsOnce, Stands}
+use Rattle.node_store.specs.State.{header_at, IsLeft, until, ReadsOnce, Stands}
 
 -- ---- costs
 
@@ -125,10 +125,12 @@ module _ (place : Place) (s : NodeState) (failed : Bool) (header : Header) (disk
   }
 
   -- at each moment
-  pub moment : (t : NodeState) → flown_in t ≡ flown_in (launched s) → (image : List ℕ) → ReadsAsOneOf header (durable_in s) (durable_in s ++ batch) image
-      → ReadsAsOneOf (header_at place) (durable_in s) (flown_in t) image
-  moment t flown image read =
-      subst (λ l. ReadsAsOneOf (header_at place) (durable_in s) l image) (whole ∙ sym flown) (subst (λ h. ReadsAsOneOf h (durable_in s) (durable_in s ++ batch) image) stands.named read)
+  pub moment : (t : NodeState) → t.flying ≡ (launched s).flying → (image : List ℕ) → ReadsAsOneOf header (durable_in s) (durable_in s ++ batch) image
+      → IsLeft (header_at place) (until s t) image
+  moment t flown image read = record {
+    lawful = stands.lawful;
+    reads = subst (λ l. ReadsAsOneOf (header_at place) (durable_in s) l image) (whole ∙ ap (λ k. take k s.inputs) (sym flown)) (subst (λ h. ReadsAsOneOf h (durable_in s) (durable_in s ++ batch) image) stands.named read);
+  }
 
   -- and afterwards
   pub landed_all : (t : NodeState) (disk' : Disk) → durable_in t ≡ flown_in (launched s) → AllReadAs header disk' (durable_in s ++ batch) → AllReadAs (header_at place) disk' (durable_in t)

@@ -65,6 +65,10 @@ still_holds header s old new stays (inr is) holds = λ image left.
     let only : image ≡ old.image = torn_none old.image image (subst (λ (disk : Disk). MayLeave disk image) is left) in
     subst (λ (l : List ℕ). ReadsAsOneOf header (durable_in s) (flown_in s) l) (sym only) (holds old.image stays)
 
+pub same_image : (old new : Disk) → (new ≡ old) ⊎ (new ≡ synced old) → new.image ≡ old.image
+same_image old new (inl same) = ap (λ (disk : Disk). disk.image) same
+same_image old new (inr is) = ap (λ (disk : Disk). disk.image) is
+
 -- what is read stands in every image
 all_hold : (header : Header) (s : NodeState) (disk : Disk) (keep : Bool) → AllReadAs header disk (left_by keep s) → Holds header disk s
 all_hold header s disk keep all = λ image left. left_reads header s image keep (all image left)

@@ -13,7 +13,7 @@ use Rattle.ring_records.proofs.Lists.{EachAfter-push}
 use Rattle.gated_journal.specs.Reading.{Header, AllReadAs, ReadsAsOneOf}
 use Rattle.group_commit.specs.Desk.{IsUnlawful}
 use Rattle.group_commit.specs.Kept.{Place}
-use Rattle.node_store.specs.State.{header_at, Stands}
+use Rattle.node_store.specs.State.{header_at, IsLeft, Stands}
 
 -- ---- the history
 
@@ -44,6 +44,10 @@ module _ (place : Place) (s : NodeState) (failed : Bool) (header : Header) (disk
   -- what every image reads as that a stop may leave
   pub held : Stands place s failed header disk spoiled len room → (image : List ℕ) → MayLeave disk image → ReadsAsOneOf (header_at place) (durable_in s) (flown_in s) image
   held stands image left = subst (λ (h : Header). ReadsAsOneOf h (durable_in s) (flown_in s) image) stands.named (⊎_elim (λ old. inl old) (λ new. inr new.1) (stands.holds image left))
+
+  -- each of these is left of it
+  pub left : Stands place s failed header disk spoiled len room → (image : List ℕ) → MayLeave disk image → IsLeft (header_at place) s image
+  left stands image may = record { lawful = stands.lawful; reads = held stands image may }
 
   -- a request
   pub asks : (q : Request) → Stands place s failed header disk spoiled len room → Stands place (asked place.me place.n place.capacity fresh s q) failed header disk spoiled len room

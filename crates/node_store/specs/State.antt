@@ -15,6 +15,16 @@ header_at place = header_with place.me place.n place.capacity
 abbrev pub Holds : Header → Disk → NodeState → Type 0
 Holds header disk s = (image : List ℕ) → MayLeave disk image → ReadsAsOneOf header (durable_in s) (flown_in s) image
 
+-- A stop may have left this image of a node of this header and state: its history is lawful, and the image reads as the
+-- durable inputs, or as those that are durable or fly.
+pub record IsLeft (header : Header) (s : NodeState) (image : List ℕ) : Type 0 where
+  pub lawful : IsLawful header.node header.n header.capacity fresh s.inputs
+  pub reads : ReadsAsOneOf header (durable_in s) (flown_in s) image
+
+-- the old state, with what the new one has durable or flying in flight
+abbrev pub until : NodeState → NodeState → NodeState
+until old new = record old { flying = new.flying }
+
 -- ---- what a node keeps to
 
 -- The image reads as the one list or as the other, told in one way only: where both are one list, as the old one.

@@ -1,19 +1,19 @@
 ghost use Rattle.std.specs.Prelude.{◌≡◌, ◌+◌, ◌-◌, ◌⊎◌, ◌||◌, ◌<◌, ◌≤◌, ℕ, Bool, [], length, not, true, false, Some, None, nat_eq, if◌then◌else◌, IfOk, IfErr, OnOk, OnErr};
 ghost use Rattle.disk_model.specs.Disk.{MayLeave, LeavesOnly, synced};
 ghost use Rattle.ring_records.specs.Admission.{fresh, IsLawful};
-ghost use Rattle.ring_records.specs.Answer.{Answered, NodeState, asked, opened, launched, landed, durable_in, flown_in, flying_in, left_by};
+ghost use Rattle.ring_records.specs.Answer.{Answered, NodeState, asked, opened, launched, landed, durable_in, flying_in, left_by};
 ghost use Rattle.ring_records.specs.Emission.{sent};
 ghost use Rattle.ring_records.specs.History.{taken, credit};
 ghost use Rattle.ring_records.specs.Release.{packets, decisions, window, AreLeaders};
 ghost use Rattle.gated_journal.specs.Batch.{landed as receipted, lost};
 ghost use Rattle.gated_journal.specs.Journal as journals;
-ghost use Rattle.gated_journal.specs.Reading.{header_with, is_header, ReadsAs, AllReadAs, ReadsAsOneOf};
+ghost use Rattle.gated_journal.specs.Reading.{header_with, is_header, ReadsAs, AllReadAs};
 ghost use Rattle.gated_journal.specs.Unread.{IsFault, IsUnread};
 ghost use Rattle.group_commit.specs.Desk as desks;
 ghost use Rattle.group_commit.specs.Kept.{IsCount, place_with};
 ghost use Rattle.node_store.specs.Props.{Stands-prop};
 ghost use Rattle.node_store.specs.Recovery.{IsNotLawful, IsUnrecovered};
-ghost use Rattle.node_store.specs.State.{header_at, Holds, Stands};
+ghost use Rattle.node_store.specs.State.{header_at, Holds, IsLeft, until, Stands};
 
 use disk_model::{Device, FuseDevice};
 use gated_journal::{Journal, Receipt, Spoiled};
@@ -105,6 +105,12 @@ impl<D: Device> Node<D> {
             → IfOk result (λ made. (place_of made ≡ place_with node n capacity run) × ((keep : Bool) × (state_of made ≡ opened (left_by keep s)))) }
         ensures recovery_err { (capacity : ℕ) (s : NodeState) → IsLawful node n capacity fresh s.inputs → Holds (header_with node n capacity) (D.disk device) s
             → IfErr result (λ e. ((e.1 ≡ Refusal.OutOfMemory) ⊎ IsFault (D.count device) (D.count e.0) e.1) × Holds (header_with node n capacity) (D.disk e.0) s) }
+
+        // The same of what is read alone, whatever a stop may leave: of a file that was just opened no more is known.
+        ensures image { (capacity : ℕ) (s : NodeState) → IsLeft (header_with node n capacity) s (D.disk device).image
+            → IfOk result (λ made. (place_of made ≡ place_with node n capacity run) × ((keep : Bool) × (state_of made ≡ opened (left_by keep s)))) }
+        ensures image_err { (capacity : ℕ) (s : NodeState) → IsLeft (header_with node n capacity) s (D.disk device).image
+            → IfErr result (λ e. ((e.1 ≡ Refusal.OutOfMemory) ⊎ IsFault (D.count device) (D.count e.0) e.1) × ((D.disk e.0).image ≡ (D.disk device).image)) }
 
         // A refusal has its cause. While the device works it is the image's, or want of memory.
         ensures refusal { IfErr result (λ e. IsUnrecovered node n (D.count device) (D.count e.0) (D.disk device).image e.1) }
@@ -301,7 +307,7 @@ impl<D: Device> Node<D> {
         ensures in_reach { 0 < D.reach (device_of self.old) → 17 + (place_of self.old).capacity ≤ D.reach (device_of self.old) → IfErr result (λ why. (why ≡ Refusal.Failed) ⊎ (why ≡ Refusal.OutOfMemory)) }
 
         // A stop at any moment leaves the inputs that were durable, or also those that flew then.
-        ensures any_moment { LeavesOnly D.clock D.left_since (device_of self.old) (device_of self.new) (ReadsAsOneOf (header_at (place_of self.old)) (durable_in (state_of self.old)) (flown_in (state_of self.new))) }
+        ensures any_moment { LeavesOnly D.clock D.left_since (device_of self.old) (device_of self.new) (IsLeft (header_at (place_of self.old)) (until (state_of self.old) (state_of self.new))) }
         ensures device { OnOk result (D.count (device_of self.new) ≡ D.count (device_of self.old)) }
         ensures reach { D.reach (device_of self.new) ≡ D.reach (device_of self.old) }
         ensures place { place_of self.new ≡ place_of self.old }

@@ -1,13 +1,13 @@
 use Rattle.std.proofs.Common.{rules, ◌≡◌, ◌∙◌, sym, subst, ap, refl, false, ◌++◌}
 use Rattle.disk_model.proofs.Moments.{started, weaken, now}
-use Rattle.ring_records.specs.Answer.{launched, landed, durable_in, flown_in, flying_in}
+use Rattle.ring_records.specs.Answer.{launched, landed, durable_in, flying_in}
 use Rattle.gated_journal.specs.Journal as journals
 use Rattle.gated_journal.specs.Reading.{AllReadAs, ReadsAsOneOf}
 use Rattle.gated_journal.proofs.Results.{of_none}
 use Rattle.group_commit.specs.Desk as desks
-use Rattle.node_store.specs.State.{header_at}
+use Rattle.node_store.specs.State.{header_at, IsLeft, until}
 use Rattle.node_store.proofs.Flushed.{batch_of, all, fits, lands, breaks, moment, landed_all, durable_all, no_packets, no_decisions}
-use Rattle.node_store.proofs.Standing.{same, held}
+use Rattle.node_store.proofs.Standing.{same, left}
 use Rattle.node_store.proofs.node.Node.flush.Goals as goal
 
 pub commit-requires-clause-room : goal.commit-requires-clause-room
@@ -62,9 +62,9 @@ returns-in-Err-clause-any_moment g c =
     let node = c.args.self.now in
     let s = desks.state_of node.desk in
     let device = journals.device_of node.journal in
-    started g.D.Device.clock g.D.Device.left_since device _ (λ image left.
-    subst (λ t. ReadsAsOneOf (header_at (desks.place_of node.desk)) (durable_in s) (flown_in t) image) (sym c.in-Err.ensures.err)
-    (held _ _ _ _ (g.D.Device.disk device) _ _ _ node.stands image (g.met.D.Device.only_now device image left)))
+    started g.D.Device.clock g.D.Device.left_since device _ (λ image may.
+    subst (λ t. IsLeft (header_at (desks.place_of node.desk)) (until s t) image) (sym c.in-Err.ensures.err)
+    (left _ _ _ _ (g.D.Device.disk device) _ _ _ node.stands image (g.met.D.Device.only_now device image may)))
 
 pub returns-in-Ok-None-clause-packets : goal.returns-in-Ok-None-clause-packets
 returns-in-Ok-None-clause-packets g c =
@@ -109,8 +109,8 @@ returns-in-Ok-clause-any_moment g c =
     let moments = c.in-Ok.ensures.any_moment (durable_in s) (all _ _ _ _ _ _ _ _ works node.stands) in
     let state : desks.state_of desk ≡ landed (launched s) = c.land.ensures.state ∙ ap landed c.in-Ok-Some.ensures.state in
     weaken g.D.Device.clock g.D.Device.left_since (journals.device_of node.journal) (journals.device_of journal) (ReadsAsOneOf (journals.header_of node.journal) (durable_in s) (durable_in s ++ c.in-Ok-Some.batch.inputs.items))
-    (ReadsAsOneOf (header_at (desks.place_of node.desk)) (durable_in s) (flown_in (desks.state_of desk)))
-    (moment _ _ _ _ _ _ _ _ works node.stands c.in-Ok-Some.batch.inputs.items batch (desks.state_of desk) (ap flown_in state)) moments
+    (IsLeft (header_at (desks.place_of node.desk)) (until s (desks.state_of desk)))
+    (moment _ _ _ _ _ _ _ _ works node.stands c.in-Ok-Some.batch.inputs.items batch (desks.state_of desk) (ap (λ t. t.flying) state)) moments
 
 pub returns-in-Err-commit-clause-any_moment : goal.returns-in-Err-commit-clause-any_moment
 returns-in-Err-commit-clause-any_moment g c =
@@ -124,5 +124,5 @@ returns-in-Err-commit-clause-any_moment g c =
     let moments = c.in-Err-commit.ensures.any_moment (durable_in s) (all _ _ _ _ _ _ _ _ works node.stands) in
     let state : desks.state_of desk ≡ launched s = c.fail.ensures.state ∙ c.in-Ok-Some.ensures.state in
     weaken g.D.Device.clock g.D.Device.left_since (journals.device_of node.journal) (journals.device_of journal) (ReadsAsOneOf (journals.header_of node.journal) (durable_in s) (durable_in s ++ c.in-Ok-Some.batch.inputs.items))
-    (ReadsAsOneOf (header_at (desks.place_of node.desk)) (durable_in s) (flown_in (desks.state_of desk)))
-    (moment _ _ _ _ _ _ _ _ works node.stands c.in-Ok-Some.batch.inputs.items batch (desks.state_of desk) (ap flown_in state)) moments
+    (IsLeft (header_at (desks.place_of node.desk)) (until s (desks.state_of desk)))
+    (moment _ _ _ _ _ _ _ _ works node.stands c.in-Ok-Some.batch.inputs.items batch (desks.state_of desk) (ap (λ t. t.flying) state)) moments

@@ -1,4 +1,5 @@
-use Rattle.std.proofs.Common.{◌≡◌, ◌-◌, ⊎_elim, inl, inr, false, sym, subst, arith}
+use Rattle.std.proofs.Common.{◌≡◌, ◌-◌, ⊎_elim, inl, inr, false, sym, ap, ◌∙◌, subst, arith}
+use Rattle.disk_model.specs.Disk.{Disk}
 use Rattle.ring_records.specs.Admission.{fresh, used}
 use Rattle.ring_records.specs.Answer.{opened, left_by}
 use Rattle.gated_journal.specs.Journal as journals
@@ -7,7 +8,7 @@ use Rattle.gated_journal.specs.Unread.{IsFault}
 use Rattle.group_commit.specs.Desk as desks
 use Rattle.group_commit.specs.Kept.{place_with}
 use Rattle.node_store.specs.State.{header_at, Holds}
-use Rattle.node_store.proofs.Recovered.{kept_by, short_only, lawful_again, still_holds, holds_again, no_fault, capacity_again, place_again, state_again, named_again}
+use Rattle.node_store.proofs.Recovered.{kept_by, short_only, lawful_again, still_holds, same_image, holds_again, no_fault, capacity_again, place_again, state_again, named_again}
 use Rattle.node_store.proofs.Standing.{same, opens}
 use Rattle.node_store.proofs.node.Node.recover.Goals as goal
 
@@ -34,6 +35,13 @@ returns-in-Err-clause-recovery_err g c = λ capacity s lawful holds.
     let stays = g.met.D.Device.may_stay c.args.device in (
       no_fault c.args.node c.args.n capacity s _ _ old.image c.in-Err.refusal (holds old.image stays) c.in-Err.ensures.refusal,
       still_holds (header_with c.args.node c.args.n capacity) s old (g.D.Device.disk c.in-Err.device) stays c.in-Err.ensures.kept holds,
+    )
+
+pub returns-in-Err-clause-image_err : goal.returns-in-Err-clause-image_err
+returns-in-Err-clause-image_err g c = λ capacity s left.
+    let old = g.D.Device.disk c.args.device in (
+      no_fault c.args.node c.args.n capacity s _ _ old.image c.in-Err.refusal left.reads c.in-Err.ensures.refusal,
+      same_image old (g.D.Device.disk c.in-Err.device) c.in-Err.ensures.kept,
     )
 
 pub returns-in-Err-clause-refusal : goal.returns-in-Err-clause-refusal
@@ -63,4 +71,26 @@ returns-in-Err-open-clause-recovery_err g c = λ capacity s lawful holds.
     let held = holds_again header other s (g.D.Device.disk (journals.device_of c.in-Ok.journal)) found.1.0 inputs found.0 found.1.1 c.in-Ok.ensures.durable in (
       short_only c.args.node c.args.n c.capacity.result inputs c.in-Err-open.refusal (IsFault (g.D.Device.count c.args.device) (g.D.Device.count c.into_device.result) c.in-Err-open.refusal) again c.in-Err-open.ensures.refusal,
       subst (λ (d : g.row.D.Denot). Holds header (g.D.Device.disk d) s) (sym c.into_device.ensures) held,
+    )
+
+pub returns-in-Ok-open-clause-image : goal.returns-in-Ok-open-clause-image
+returns-in-Ok-open-clause-image g c = λ capacity s left.
+    let image = (g.D.Device.disk c.args.device).image in
+    let found = kept_by (header_with c.args.node c.args.n capacity) (journals.header_of c.in-Ok.journal) s image c.in-Ok.inputs.items left.reads c.in-Ok.ensures.reads in
+    let capacity_is : c.capacity.result ≡ capacity = capacity_again c.capacity.result (journals.header_of c.in-Ok.journal) (header_with c.args.node c.args.n capacity) c.capacity.ensures.value found.0 in (
+      place_again (desks.place_of c.in-Ok-open.desk) c.args.node c.args.n c.capacity.result capacity c.args.run c.in-Ok-open.ensures.place capacity_is,
+      (found.1.0, state_again (desks.state_of c.in-Ok-open.desk) c.in-Ok.inputs.items (left_by found.1.0 s) c.in-Ok-open.ensures.state found.1.1),
+    )
+
+pub returns-in-Err-open-clause-image_err : goal.returns-in-Err-open-clause-image_err
+returns-in-Err-open-clause-image_err g c = λ capacity s left.
+    let header = header_with c.args.node c.args.n capacity in
+    let other = journals.header_of c.in-Ok.journal in
+    let old = g.D.Device.disk c.args.device in
+    let inputs = c.in-Ok.inputs.items in
+    let found = kept_by header other s old.image inputs left.reads c.in-Ok.ensures.reads in
+    let capacity_is : c.capacity.result ≡ capacity = capacity_again c.capacity.result other header c.capacity.ensures.value found.0 in
+    let again = lawful_again c.args.node c.args.n capacity c.capacity.result s found.1.0 inputs capacity_is found.1.1 left.lawful in (
+      short_only c.args.node c.args.n c.capacity.result inputs c.in-Err-open.refusal (IsFault (g.D.Device.count c.args.device) (g.D.Device.count c.into_device.result) c.in-Err-open.refusal) again c.in-Err-open.ensures.refusal,
+      ap (λ (d : g.row.D.Denot). (g.D.Device.disk d).image) c.into_device.ensures ∙ ap (λ (d : Disk). d.image) c.in-Ok.ensures.disk,
     )
