@@ -1,5 +1,6 @@
-# run: an example, before any proof. test: the merge gate. ringctl and the bench programs: the proved programs. bench: their times.
-.PHONY: run test ringctl core_bench device_bench journal_bench node_bench bench clean
+# run: an example, before any proof. test: the merge gate. wrong_bodies: the wrong bodies that the gate does not try, of CRATES or of all.
+# ringctl and the bench programs: the proved programs. bench: their times.
+.PHONY: run test wrong_bodies ringctl core_bench device_bench journal_bench node_bench bench clean
 
 run:
 	@bench/try.sh examples/first_election.ring
@@ -7,6 +8,9 @@ run:
 test:
 	@must_not_compile/run.py
 	@rt ci
+
+wrong_bodies:
+	@wrong_bodies/run.py $(CRATES)
 
 ringctl:
 	@mkdir -p bin

@@ -2,7 +2,7 @@
 """Tries the edits of this folder, each on a copy of its crate: a value that must be spent is let go, and the compiler must say so.
 
 An edit has the lines `crate: NAME`, `file: src/NAME.rt`, `old: TEXT` and `new: TEXT`, the old text standing once in the file. `rt ci`
-tries those that only the prover can refuse; these are refused before a proof is begun."""
+and wrong_bodies/run.py try those that only the prover can refuse; these are refused before a proof is begun."""
 
 import pathlib
 import shutil
