@@ -1,6 +1,6 @@
 # run: an example, before any proof. test: the merge gate. wrong_bodies: the wrong bodies that the gate does not try, of CRATES or of all.
-# ringctl and the bench programs: the proved programs. bench: their times.
-.PHONY: run test wrong_bodies ringctl core_bench device_bench journal_bench node_bench bench clean
+# bin/NAME: a proved program. bench: the times of ringctl and of the works of bench.
+.PHONY: run test wrong_bodies bench clean always
 
 run:
 	@bench/try.sh examples/first_election.ring
@@ -12,33 +12,14 @@ test:
 wrong_bodies:
 	@wrong_bodies/run.py $(CRATES)
 
-ringctl:
+# rt finds out itself what has to be proved anew. It then runs the program, here on the words that the gate runs it on.
+bin/%: always
 	@mkdir -p bin
-	cd crates/ringctl && rt run < /dev/null
-	cp crates/ringctl/out/ringctl bin/ringctl
+	cd crates/$* && rt run -- $$(cat args 2> /dev/null) < /dev/null > /dev/null
+	cp crates/$*/out/$* $@
 
-core_bench:
-	@mkdir -p bin
-	cd crates/core_bench && rt run < /dev/null
-	cp crates/core_bench/out/core_bench bin/core_bench
-
-device_bench:
-	@mkdir -p bin
-	cd crates/device_bench && rt run < /dev/null
-	cp crates/device_bench/out/device_bench bin/device_bench
-
-journal_bench:
-	@mkdir -p bin
-	cd crates/journal_bench && rt run < /dev/null
-	cp crates/journal_bench/out/journal_bench bin/journal_bench
-
-node_bench:
-	@mkdir -p bin
-	cd crates/node_bench && rt run < /dev/null
-	cp crates/node_bench/out/node_bench bin/node_bench
-
-bench: ringctl core_bench device_bench journal_bench node_bench
-	@bench/measure.sh bin/ringctl bin/core_bench bin/device_bench bin/journal_bench bin/node_bench
+bench: bin/ringctl bin/bench
+	@bench/measure.sh bin/ringctl bin/bench
 
 clean:
 	rm -rf bin crates/*/out

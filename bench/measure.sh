@@ -1,12 +1,9 @@
 #!/usr/bin/env bash
-# measure.sh RINGCTL CORE_BENCH DEVICE_BENCH JOURNAL_BENCH NODE_BENCH: times the programs on some work and on more of it, the best of
-# fifteen runs each, and prints the times, their ratios and what was counted. It asserts nothing.
+# measure.sh RINGCTL BENCH: times the programs on some work and on more of it, the best of fifteen runs each, and prints the times, their
+# ratios and what was counted. It asserts nothing.
 set -eu
 ringctl=$(realpath "$1")
-core_bench=$(realpath "$2")
-device_bench=$(realpath "$3")
-journal_bench=$(realpath "$4")
-node_bench=$(realpath "$5")
+bench=$(realpath "$2")
 cd "$(dirname "$0")"
 work=$(mktemp -d)
 trap 'rm -rf "$work"' EXIT
@@ -41,9 +38,9 @@ for lines in 29000 58000; do
 done
 awk -v half="$time_29000" -v whole="$time_58000" 'BEGIN { printf "twice the lines: %.2f times as long\n", whole / half }'
 
-echo "core_bench, the inputs of one node:"
+echo "bench core, the inputs of one node:"
 for inputs in 0 10000 100000; do
-    nanoseconds=$(best /dev/null "$work/counts" "$core_bench" "$inputs")
+    nanoseconds=$(best /dev/null "$work/counts" "$bench" core "$inputs")
     eval "time_$inputs=$nanoseconds"
     awk -v ns="$nanoseconds" '{ counts = counts (NR > 1 ? ", " : "") $1 " " $2 }
         END { printf "%s: %.4f s\n", counts, ns / 1e9 }' "$work/counts"
@@ -52,11 +49,11 @@ awk -v start="$time_0" -v tenth="$time_10000" -v whole="$time_100000" \
     'BEGIN { printf "ten times the inputs: %.1f times as long, %.1f without the start of the program\n", whole / tenth, (whole - start) / (tenth - start) }'
 
 # Each time is less that of the same program with no writes, which fills the device.
-echo "device_bench, small writes, each with a sync:"
+echo "bench device, small writes, each with a sync:"
 for work_of in "1048576 10000" "1048576 500000" "1048576 1000000" "1024 1000000"; do
     read -r bytes writes <<< "$work_of"
-    empty=$(best /dev/null "$work/counts" "$device_bench" "$bytes" 0)
-    whole=$(best /dev/null "$work/counts" "$device_bench" "$bytes" "$writes")
+    empty=$(best /dev/null "$work/counts" "$bench" device "$bytes" 0)
+    whole=$(best /dev/null "$work/counts" "$bench" device "$bytes" "$writes")
     eval "time_${bytes}_$writes=$((whole - empty))"
     awk -v ns=$((whole - empty)) '{ printf "%s: %.4f s\n", $0, ns / 1e9 }' "$work/counts"
 done
@@ -64,29 +61,29 @@ awk -v half="$time_1048576_500000" -v whole="$time_1048576_1000000" -v small="$t
     'BEGIN { printf "twice the writes: %.2f times as long; a thousand times the bytes: %.2f times as long\n", whole / half, whole / small }'
 
 # Each file is new, in the folder of temporary files. Its syncs are the disk's, so its times say little and their ratio more.
-echo "journal_bench, batches of 64 inputs:"
-idle=$(best /dev/null "$work/counts" "$journal_bench" memory 0)
-memory=$(best /dev/null "$work/counts" "$journal_bench" memory 4960)
-full=$(best /dev/null "$work/counts" "$journal_bench" reopen 0)
-reopened=$(best /dev/null "$work/counts" "$journal_bench" reopen 10)
-file=$(best /dev/null "$work/counts" "$journal_bench" file 100 "$work/journal.bin")
-bare=$(best /dev/null "$work/counts" "$journal_bench" bare 100 "$work/bare.bin")
+echo "bench journal, batches of 64 inputs:"
+idle=$(best /dev/null "$work/counts" "$bench" journal memory 0)
+memory=$(best /dev/null "$work/counts" "$bench" journal memory 4960)
+full=$(best /dev/null "$work/counts" "$bench" journal reopen 0)
+reopened=$(best /dev/null "$work/counts" "$bench" journal reopen 10)
+file=$(best /dev/null "$work/counts" "$bench" journal file 100 "$work/journal.bin")
+bare=$(best /dev/null "$work/counts" "$bench" journal bare 100 "$work/bare.bin")
 awk -v idle="$idle" -v memory="$memory" -v full="$full" -v reopened="$reopened" -v file="$file" -v bare="$bare" 'BEGIN {
     printf "4960 commits to devices in memory: %.4f s, %d a second\n", (memory - idle) / 1e9, 4960 * 1e9 / (memory - idle)
     printf "reopening a full journal of 1 MiB: %.4f s\n", (reopened - full) / 10 / 1e9
     printf "100 commits to a file: %.4f s, %.2f times the same writes and syncs with no journal\n", file / 1e9, file / bare }'
 
 # Each time is less that of the same program with no flush, or before the node is recovered.
-echo "node_bench, flushes of 64 submits, whose tickets are redeemed:"
-idle=$(best /dev/null "$work/counts" "$node_bench" memory 0)
-half=$(best /dev/null "$work/counts" "$node_bench" memory 282)
-whole=$(best /dev/null "$work/counts" "$node_bench" memory 564)
-memory=$(best /dev/null "$work/counts" "$node_bench" memory 5640)
-full=$(best /dev/null "$work/counts" "$node_bench" recover 0)
-recovered=$(best /dev/null "$work/counts" "$node_bench" recover 10)
-empty=$(best /dev/null "$work/counts" "$node_bench" bare 0 "$work/bare.bin")
-file=$(best /dev/null "$work/counts" "$node_bench" file 100 "$work/node.bin")
-bare=$(best /dev/null "$work/counts" "$node_bench" bare 100 "$work/bare.bin")
+echo "bench node, flushes of 64 submits, whose tickets are redeemed:"
+idle=$(best /dev/null "$work/counts" "$bench" node memory 0)
+half=$(best /dev/null "$work/counts" "$bench" node memory 282)
+whole=$(best /dev/null "$work/counts" "$bench" node memory 564)
+memory=$(best /dev/null "$work/counts" "$bench" node memory 5640)
+full=$(best /dev/null "$work/counts" "$bench" node recover 0)
+recovered=$(best /dev/null "$work/counts" "$bench" node recover 10)
+empty=$(best /dev/null "$work/counts" "$bench" node bare 0 "$work/bare.bin")
+file=$(best /dev/null "$work/counts" "$bench" node file 100 "$work/node.bin")
+bare=$(best /dev/null "$work/counts" "$bench" node bare 100 "$work/bare.bin")
 awk -v idle="$idle" -v half="$half" -v whole="$whole" -v memory="$memory" -v full="$full" -v recovered="$recovered" -v empty="$empty" -v file="$file" -v bare="$bare" 'BEGIN {
     printf "5640 flushes of nodes in memory: %.4f s, %d a second, %d submits a second\n", (memory - idle) / 1e9, 5640 * 1e9 / (memory - idle), 64 * 5640 * 1e9 / (memory - idle)
     printf "twice the flushes of one node: %.2f times as long\n", (whole - idle) / (half - idle)

@@ -1,0 +1,84 @@
+// Why a run ends early.
+use disk_model::{DeviceFault, OpenFault};
+use ring_records::Refusal;
+use std::io;
+use thiserror::Error;
+
+/// Why a run ended before its works were done. Displayed without the program's name.
+#[derive(Debug, Drop, Error)]
+pub enum Fault {
+    /// The words ended within a work, or there is none.
+    #[error("a word is missing")]
+    Missing,
+    /// The word is no part's.
+    #[error("{0} is no part")]
+    NoPart(String),
+    /// The word is none of the part's works.
+    #[error("{0} is no work of this part")]
+    NoWork(String),
+    /// The word is no number from 0 to 2^32 - 1.
+    #[error("{0} is no amount")]
+    NoAmount(String),
+    /// A device of another size is asked for.
+    #[error("a device has 17 to 1073741824 bytes here")]
+    NoSize,
+    /// The system did not give the words, or not as text.
+    #[error("words cannot be read")]
+    Words,
+    /// A line was not printed.
+    #[error("output cannot be written")]
+    Output,
+    /// A file was not made, as where there is one of that name.
+    #[error("file cannot be made")]
+    File,
+    /// A device failed.
+    #[error("device failed")]
+    Device,
+    /// A growth was refused.
+    #[error("out of memory")]
+    Memory,
+    /// A call of the service was refused.
+    #[error("{0}")]
+    Refused(Refusal),
+}
+
+impl Fault {
+    /// Whether the words are at fault.
+    pub fn is_misuse(&self) -> bool {
+        matches!(
+            self,
+            Fault::Missing
+                | Fault::NoPart(_)
+                | Fault::NoWork(_)
+                | Fault::NoAmount(_)
+                | Fault::NoSize
+        )
+    }
+}
+
+impl From<Refusal> for Fault {
+    fn from(refusal: Refusal) -> Fault {
+        Fault::Refused(refusal)
+    }
+}
+
+impl From<DeviceFault> for Fault {
+    fn from(_: DeviceFault) -> Fault {
+        Fault::Device
+    }
+}
+
+impl From<OpenFault> for Fault {
+    fn from(fault: OpenFault) -> Fault {
+        match fault {
+            OpenFault::Device => Fault::File,
+            OpenFault::Memory => Fault::Memory,
+        }
+    }
+}
+
+impl From<io::Error> for Fault {
+    fn from(_: io::Error) -> Fault {
+        Fault::Output
+    }
+}

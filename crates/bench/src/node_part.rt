@@ -1,0 +1,178 @@
+// Durable nodes that take 64 messages for each flush, whose tickets are redeemed behind it, and are recovered.
+ghost use Rattle.std.specs.Prelude.{◌≡◌, ◌<◌, ◌≤◌, ℕ, false, nat_eq};
+ghost use Rattle.group_commit.specs.Ticket.{shown};
+ghost use Rattle.bench.specs.Tickets.{IsOpen};
+ghost use Rattle.node_store.specs.Node.{place_of, kept_at, issued_by};
+
+use crate::devices::{CAPACITY, in_memory, write_bare};
+use crate::fault::Fault;
+use crate::words::{next_amount, next_word};
+use disk_model::{Device, FileDevice};
+use group_commit::Ticket;
+use node_store::Node;
+use ring_records::{Bid, Candidate, GroupName, Key, Msg, NodeNo, Refusal, Request, Term};
+use std::alloc::{AllocGlobal, Global};
+use std::env::Args;
+
+/// How many flushes of 64 messages fill a node: each takes 64 times 29 bytes.
+const FULL: u32 = 564;
+
+/// The bytes of the frame of a flush.
+const FRAME: [u8; 1415] = [7; 1415];
+
+/// `memory FLUSHES`: flushes nodes in memory so often, each made when the one before is full. `file FLUSHES PATH`:
+/// flushes them on a new file. Both print how many packets landed. `recover TIMES`: recovers a full node in memory so
+/// often, and prints how many inputs that brought back. `bare FLUSHES PATH`: writes and syncs a new file as often as so
+/// many flushes do, with no node, and prints how many bytes it has then.
+pub fn run(rt: &HostRuntime, words: &mut Args) -> Result<(), Fault> {
+    let work = next_word(words)?;
+    match work.as_str() {
+        "memory" => println!(rt; "packets {}", memory(rt.alloc(), next_amount(words)?)?)?,
+        "recover" => println!(rt; "recovered {}", recover(rt.alloc(), next_amount(words)?)?)?,
+        "file" => println!(rt;
+            "packets {}",
+            on_file(rt, next_amount(words)?, next_word(words)?)?
+        )?,
+        "bare" => println!(rt;
+            "bytes {}",
+            bare(rt, next_amount(words)?, next_word(words)?)?
+        )?,
+        _ => return Err(Fault::NoWork(work)),
+    }
+    Ok(())
+}
+
+/// The key of group `red` and this term.
+fn key(term: u32) -> Result<Key, Refusal> {
+    let group = GroupName::read(b"red")?;
+    let term = Term::new(term)?;
+    Ok(Key { group, term })
+}
+
+/// Has node 1 take message `no` of its predecessor: a token of node 2 for a term of its own, which is sent on.
+fn take(no: u32) -> Result<Request, Refusal> {
+    let key = key(no.wrapping_add(1))?;
+    let (bid, node) = (Bid::new(7)?, NodeNo::new(2)?);
+    let candidate = Candidate { bid, node };
+    Ok(Request::Take(u64::from(no), Msg::Token { key, candidate }))
+}
+
+/// Redeems a ticket that is open. Where its reply is not released, closes the node and forfeits the ticket.
+fn redeem<D: Device>(node: &mut Node<D>, ticket: Ticket) -> Result<(), Refusal>
+    requires open { IsOpen node.old (shown ticket) }
+    ensures place { place_of node.new ≡ place_of node.old }
+    ensures issued { issued_by node.new ≡ issued_by node.old }
+    ensures others { (own : ℕ) → nat_eq own (shown ticket).own ≡ false → kept_at node.new own ≡ kept_at node.old own }
+{
+    match node.redeem(ticket) {
+        Ok((_reply, _stub)) => Ok(()),
+        Err((ticket, refusal)) => {
+            node.close();
+            match node.forfeit(ticket) {
+                Ok(()) => Err(refusal),
+                Err(_) => unreachable!(),
+            }
+        }
+    }
+}
+
+/// Takes so many messages from `no` on, flushes, and redeems their tickets. Tells how many packets landed.
+fn flush<D: Device>(node: &mut Node<D>, no: u32, count: u32) -> Result<u64, Refusal>
+    ensures place { place_of node.new ≡ place_of node.old }
+    ensures issued { issued_by node.old ≤ issued_by node.new }
+    ensures earlier { (own : ℕ) → own < issued_by node.old → kept_at node.new own ≡ kept_at node.old own }
+{
+    if count == 0 {
+        return match node.flush() {
+            Ok(landed) => Ok(landed.packets.len() as u64),
+            Err(refusal) => Err(refusal),
+        };
+    }
+    let ticket = node.submit(take(no)?)?;
+    let landed = flush(node, no.wrapping_add(1), count - 1);
+    redeem(node, ticket).and(landed)
+}
+
+/// Flushes a node so often. Tells how many packets landed.
+fn fill<D: Device>(node: &mut Node<D>, flushes: u32) -> Result<u64, Refusal> {
+    let mut no = 0u32;
+    let mut landed = 0u64;
+    for _ in 0..flushes {
+        landed = landed.wrapping_add(flush(node, no, 64)?);
+        no = no.wrapping_add(64);
+    }
+    Ok(landed)
+}
+
+/// Ends a node, all of whose tickets are redeemed.
+fn end<D: Device + Drop>(node: Node<D>) -> Result<D, Refusal> {
+    let mut ended = node;
+    ended.close();
+    if ended.open_tickets() > 0 {
+        return Err(Refusal::Early);
+    }
+    Ok(ended.into_device())
+}
+
+/// Has a new node on the device, flushes it so often, and ends it. Tells how many packets landed.
+fn one_node<D: Device + Drop>(alloc: Global, device: D, flushes: u32) -> Result<(D, u64), Refusal> {
+    match Node::create(alloc, device, NodeNo::new(1)?, 3, CAPACITY, 0) {
+        Ok(mut node) => {
+            let landed = fill(&mut node, flushes)?;
+            Ok((end(node)?, landed))
+        }
+        Err((_device, refusal)) => Err(refusal),
+    }
+}
+
+/// So many flushes of nodes on the device, one after the other. Tells how many packets landed.
+fn nodes<D: Device + Drop>(alloc: Global, device: D, flushes: u32) -> Result<u64, Refusal> {
+    let (mut device, mut landed) = one_node(alloc, device, flushes % FULL)?;
+    for _ in 0..flushes / FULL {
+        let (after, more) = one_node(alloc, device, FULL)?;
+        device = after;
+        landed = landed.wrapping_add(more);
+    }
+    Ok(landed)
+}
+
+/// So many flushes of nodes in memory. Tells how many packets landed.
+fn memory(alloc: Global, flushes: u32) -> Result<u64, Refusal> {
+    nodes(alloc, in_memory(alloc)?, flushes)
+}
+
+/// How many inputs a node has of which all are durable.
+fn inputs<D: Device>(node: &mut Node<D>) -> Result<u64, Refusal> {
+    let ticket = node.submit(Request::Who(key(1)?))?;
+    let inputs = ticket.number();
+    redeem(node, ticket)?;
+    Ok(inputs)
+}
+
+/// Recovers a full node so many times. Tells how many inputs that brought back.
+fn recover(alloc: Global, times: u32) -> Result<u64, Refusal> {
+    let (mut device, _) = one_node(alloc, in_memory(alloc)?, FULL)?;
+    let mut recovered = 0u64;
+    for run in 0..times {
+        match Node::recover(alloc, device, NodeNo::new(1)?, 3, u64::from(run) + 1) {
+            Ok(mut node) => {
+                recovered = recovered.wrapping_add(inputs(&mut node)?);
+                device = end(node)?;
+            }
+            Err((_device, refusal)) => return Err(refusal),
+        }
+    }
+    Ok(recovered)
+}
+
+/// So many flushes of nodes on a new file. Tells how many packets landed.
+fn on_file(rt: &HostRuntime, flushes: u32, path: String) -> Result<u64, Fault> {
+    let device = FileDevice::create(rt.alloc(), rt, &path)?;
+    Ok(nodes(rt.alloc(), device, flushes)?)
+}
+
+/// So many writes of a frame, with no node, on a new file. Tells how many bytes it has then.
+fn bare(rt: &HostRuntime, flushes: u32, path: String) -> Result<u64, Fault> {
+    let mut device = FileDevice::create(rt.alloc(), rt, &path)?;
+    Ok(write_bare(&mut device, &FRAME, flushes)?)
+}

@@ -1,0 +1,17 @@
+// Reading the words of a work.
+use crate::fault::Fault;
+use std::env::Args;
+
+/// The next word. Refused where there is none.
+pub fn next_word(words: &mut Args) -> Result<String, Fault> {
+    words.next().ok_or(Fault::Missing)
+}
+
+/// The next word as a number, 0 to 2^32 - 1. Refused where there is none, and with the word where it is no such number.
+pub fn next_amount(words: &mut Args) -> Result<u32, Fault> {
+    let word = next_word(words)?;
+    match word.parse::<u32>() {
+        Ok(amount) => Ok(amount),
+        Err(_) => Err(Fault::NoAmount(word)),
+    }
+}
