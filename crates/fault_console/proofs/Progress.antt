@@ -10,15 +10,17 @@ use Rattle.ring_records.specs.Texts.{refusal_text}
 use Rattle.ring_world.specs.Step.{Steps, stepped, all_told, refusal_of}
 use Rattle.ring_records.specs.declared.refusal.Refusal.{Refusal}
 use Rattle.ring_world.specs.declared.event.Event.{Event}
-use Rattle.fault_console.specs.Words.{lines_of}
-use Rattle.fault_console.specs.Judged.{is_silent, judged, opening_of, command_of}
+use Rattle.line_words.specs.Faults.{judged}
+use Rattle.line_words.specs.Texts.{text_of, IsFront}
+use Rattle.line_words.specs.Words.{lines_of}
+use Rattle.line_words.proofs.Texts.{text_of-append}
+use Rattle.fault_console.specs.Judged.{is_silent, opening_of, command_of}
 use Rattle.fault_console.specs.declared.commands.Command.{Command}
 use Rattle.fault_console.specs.declared.commands.Command.TheVariants as ask
 use Rattle.fault_console.specs.declared.commands.Opening.{Opening}
-use Rattle.fault_console.specs.Script.{LinePrints, Where, Speaks, Opens, Happens, Shows, Obeys, ring_line, lines_told, show_line, shown_at, unshown, MayPrint, text_of, tickets_of, Wrote, IsFront}
+use Rattle.fault_console.specs.Script.{LinePrints, Where, Speaks, Opens, Happens, Shows, Obeys, ring_line, lines_told, show_line, shown_at, unshown, MayPrint, tickets_of, Wrote}
 use Rattle.fault_console.specs.declared.run.RunFault.{RunFault}
 use Rattle.fault_console.specs.declared.run.RunFault.TheVariants.{Read, Write, Memory, Long}
-use Rattle.fault_console.proofs.Texts.{text_of-append}
 
 -- ---- runs
 
@@ -170,15 +172,6 @@ ends_write script rest after line old now new s t count out front text p first p
 -- the buffer has the text of one line, as it was empty before
 pub fresh_text : (text out cleared t : List ℕ) → text ≡ out → cleared ≡ [] → out ≡ cleared ++ t → text ≡ t
 fresh_text text out cleared t same none grown = same ∙ grown ∙ ap (λ l. l ++ t) none
-
--- a write took n more bytes
-pub wrote_more : (old now new : Option (List ℕ)) (bytes front rest left : List ℕ) (n : ℕ) → bytes ≡ front ++ rest → left ≡ drop n rest → Appends old now front → Appends now new (take n rest)
-    → (longer : List ℕ) × (bytes ≡ longer ++ left) × Appends old new longer
-wrote_more old now new bytes front rest left n whole same before took = (
-  front ++ take n rest,
-  whole ∙ ap (λ l. front ++ l) (sym (take-append-drop n rest)) ∙ sym (append_assoc front (take n rest) (drop n rest)) ∙ ap (λ l. (front ++ take n rest) ++ l) (sym same),
-  Appends-trans old now new front (take n rest) before took,
-)
 
 pub nothing_left : (rest : List ℕ) → length rest ≡ 0 → rest ≡ []
 nothing_left [] e = refl

@@ -1,18 +1,15 @@
--- A line to a command, or to the first fault.
+-- The words of a line to a command, or to the first fault.
 use Rattle.std.specs.Prelude.{ℕ, Bool, true, false, ◌||◌, ◌&&◌, List, [], ◌∷◌, length, slice_index, nat_lt, ◌==◌, if◌then◌else◌, Result, Ok, Err, codes}
 use Rattle.std.specs.Str.{bytes_eq}
 use Rattle.std.specs.List.{list_all}
-use Rattle.std.specs.Option.{ok_or}
 use Rattle.disk_model.specs.declared.memory.Tear.{Tear}
 use Rattle.disk_model.specs.declared.memory.Tear.TheVariants.{Old, New, Fill}
-use Rattle.ring_records.specs.Names.{is_name}
-use Rattle.ring_records.specs.declared.key.Key.{Key}
+use Rattle.line_words.specs.Faults.{◌>>=◌, number_word, name_word, bid_word, key_words}
 use Rattle.ring_records.specs.declared.refusal.Refusal.{Refusal}
-use Rattle.ring_records.specs.declared.refusal.Refusal.TheVariants.{BadName, BadNumber, BadLine}
+use Rattle.ring_records.specs.declared.refusal.Refusal.TheVariants.{BadLine}
 use Rattle.ring_records.specs.declared.request.Request.TheVariants.{Stand, Who, Latest}
 use Rattle.ring_world.specs.declared.event.Event.{Event}
 use Rattle.ring_world.specs.declared.event.Event.TheVariants.{Submit, Flush, Deliver, DeliverAll, Credit, Crash, Stop}
-use Rattle.fault_console.specs.Words.{words_of, number_in}
 use Rattle.fault_console.specs.declared.commands.Command.{Command}
 use Rattle.fault_console.specs.declared.commands.Command.TheVariants as ask
 use Rattle.fault_console.specs.declared.commands.Opening.{Opening}
@@ -20,16 +17,6 @@ use Rattle.fault_console.specs.declared.commands.Opening.{Opening}
 -- Lines without a word, and lines whose first byte is '#', print nothing.
 abbrev pub is_silent : List ℕ → Bool
 is_silent line = (nat_lt 0 (length line) && (slice_index line 0 == 35)) || list_all (λ b. b == 32) line
-
-infixl 10 ◌>>=◌
--- what follows, unless there is a fault already
-abbrev pub ◌>>=◌ : {A B : Type 0} → Result A Refusal → (A → Result B Refusal) → Result B Refusal
-(Ok x) >>= f = f x
-(Err e) >>= f = Err e
-
--- a number in its range
-abbrev pub number_word : ℕ → ℕ → List ℕ → Result ℕ Refusal
-number_word low high word = ok_or (number_in low high word) BadNumber
 
 -- how a ring is to be: eager, or not
 abbrev pub mode_word : List ℕ → Result Bool Refusal
@@ -39,24 +26,13 @@ mode_word word = if bytes_eq word (codes "eager") then Ok true else (if bytes_eq
 abbrev pub tear_word : List ℕ → Result Tear Refusal
 tear_word word = if bytes_eq word (codes "old") then Ok Old else (if bytes_eq word (codes "new") then Ok New else Err BadLine)
 
--- a group
-abbrev pub name_word : List ℕ → Result (List ℕ) Refusal
-name_word word = if is_name word then Ok word else Err BadName
-
--- a group and a term
-abbrev pub key_words : List ℕ → List ℕ → Result Key Refusal
-key_words g t = do
-  group ← name_word g
-  term ← number_word 1 999999999 t
-  Ok (record { group = group; term = term })
-
 -- The words behind the first word of each command, of a ring of so many nodes, from left to right.
 
 abbrev pub stand_words : ℕ → List ℕ → List ℕ → List ℕ → List ℕ → Result Event Refusal
 stand_words nodes i g t b = do
   node ← number_word 1 nodes i
   key ← key_words g t
-  bid ← number_word 0 999999999 b
+  bid ← bid_word b
   Ok (Submit node (Stand key bid))
 
 abbrev pub who_words : ℕ → List ℕ → List ℕ → List ℕ → Result Event Refusal
@@ -209,7 +185,3 @@ as_command judged = do
 unfoldable pub command_of : ℕ → List (List ℕ) → Result Command Refusal
 command_of nodes [] = Err BadLine
 command_of nodes (verb ∷ words) = if bytes_eq verb (codes "show") then show_of nodes words else as_command (event_of nodes verb words)
-
--- what a line that is not silent says, unless it is longer than 200 bytes
-unfoldable pub judged : {A : Type 0} → (List (List ℕ) → Result A Refusal) → List ℕ → Result A Refusal
-judged read line = if nat_lt 200 (length line) then Err BadLine else read (words_of line)

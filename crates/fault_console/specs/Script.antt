@@ -16,8 +16,10 @@ use Rattle.ring_world.specs.Step.{Told, Steps, refusal_of, no_node}
 use Rattle.ring_world.specs.declared.event.Event.{Event}
 use Rattle.ring_world.specs.declared.event.Event.TheVariants.{Submit, Flush, Deliver, DeliverAll, Credit, Crash, Stop}
 use Rattle.ring_world.specs.declared.shown.Shown.{Shown}
-use Rattle.fault_console.specs.Words.{lines_of}
-use Rattle.fault_console.specs.Judged.{is_silent, judged, opening_of, command_of}
+use Rattle.line_words.specs.Faults.{judged}
+use Rattle.line_words.specs.Texts.{text_of, IsFront, AddsLines}
+use Rattle.line_words.specs.Words.{lines_of}
+use Rattle.fault_console.specs.Judged.{is_silent, opening_of, command_of}
 use Rattle.fault_console.specs.declared.commands.Command.{Command}
 use Rattle.fault_console.specs.declared.commands.Command.TheVariants as ask
 use Rattle.fault_console.specs.declared.commands.Opening.{Opening}
@@ -159,15 +161,6 @@ MayPrint s [] out t = (out ≡ []) × (t ≡ s)
 MayPrint s (line ∷ lines) out t = (first : List (List ℕ)) × (mid : Option State) × (later : List (List ℕ))
     × LinePrints line s first mid × (out ≡ first ++ later) × MayPrint mid lines later t
 
--- each printed line ends with one line feed
-abbrev pub text_of : List (List ℕ) → List ℕ
-text_of [] = []
-text_of (line ∷ lines) = line ++ (10 ∷ text_of lines)
-
--- the front of the text
-abbrev pub IsFront : List ℕ → List ℕ → Type 0
-IsFront front text = (rest : List ℕ) × (text ≡ front ++ rest)
-
 -- The bytes that a run writes for a script, by what it answers: none for a script of more than 1,000,000 bytes.
 abbrev pub Wrote : List ℕ → Result ℕ RunFault → List ℕ → Type 0
 -- a text that the script may print, and the number of its lines
@@ -180,12 +173,6 @@ Wrote script (Err Write) bytes = (length script ≤ 1000000) × (out : List (Lis
 Wrote script (Err Memory) bytes = (1000000 < length script → bytes ≡ []) × (n : ℕ) × (out : List (List ℕ)) × (t : Option State) × MayPrint None (take n (lines_of script)) out t × (bytes ≡ text_of out)
 
 -- ---- what the printing functions add to a text
-
-abbrev pub AddsLines : List ℕ → List ℕ → List (List ℕ) → Type 0
-AddsLines old new lines = new ≡ old ++ text_of lines
-
-abbrev pub AddsLine : List ℕ → List ℕ → List ℕ → Type 0
-AddsLine old new line = AddsLines old new (line ∷ [])
 
 -- n lines are added, of which P holds
 abbrev pub Does : List ℕ → List ℕ → ℕ → (List (List ℕ) → Type 0) → Type 0

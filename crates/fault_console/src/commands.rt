@@ -2,16 +2,14 @@
 ghost use Rattle.std.specs.Prelude.{◌≡◌, ◌==◌, ◌≤◌, map, true, IfOk};
 ghost use Rattle.std.specs.List.{list_all};
 ghost use Rattle.ring_world.specs.State.{is_ring};
-ghost use Rattle.fault_console.specs.Judged.{judged, opening_of, command_of, event_of, as_command, ring_of, ring_words, mode_words, sized_words, mode_word, stand_of, stand_words, who_of, who_words, latest_of, latest_words, deliver_of, deliver_words, credit_of, credit_words, flush_of, flush_words, crash_of, crash_words, stop_of, stop_words, fill_words, tear_word, show_of, show_words, number_word, name_word, key_words, is_silent};
+ghost use Rattle.line_words.specs.Faults.{judged, number_word};
+ghost use Rattle.fault_console.specs.Judged.{opening_of, command_of, event_of, as_command, ring_of, ring_words, mode_words, sized_words, mode_word, stand_of, stand_words, who_of, who_words, latest_of, latest_words, deliver_of, deliver_words, credit_of, credit_words, flush_of, flush_words, crash_of, crash_words, stop_of, stop_words, fill_words, tear_word, show_of, show_words, is_silent};
 
-use crate::words::{number, words};
 use disk_model::Tear;
-use ring_records::{Bid, GroupName, Key, NodeNo, Refusal, Request, Term};
+use line_words::{read_bid, read_group, read_key, read_number, read_words};
+use ring_records::{NodeNo, Refusal, Request};
 use ring_world::Event;
 use std::alloc::{AllocError, Global};
-
-/// The most bytes of a line that is not silent, without its end.
-const LINE_BYTES: usize = 200;
 
 /// The capacity of each node of a ring where none is named, in bytes.
 const CAPACITY: u32 = 65_536;
@@ -36,44 +34,11 @@ pub enum Command {
     Show(NodeNo),
 }
 
-fn read_number(word: &[u8], low: u64, high: u64) -> Result<u64, Refusal>
-    ensures value { result ≡ number_word low high word.now }
-    ensures range { IfOk result (λ n. (low ≤ n) × (n ≤ high)) }
-{
-    number(word, low, high).ok_or(Refusal::BadNumber)
-}
-
 fn read_node(nodes: u8, word: &[u8]) -> Result<NodeNo, Refusal>
     requires { nodes ≤ 16 }
     ensures { result ≡ number_word 1 nodes word.now }
 {
     NodeNo::new(read_number(word, 1, nodes as u64)? as u8)
-}
-
-fn read_group(word: &[u8]) -> Result<GroupName, Refusal>
-    ensures { result ≡ name_word word.now }
-{
-    GroupName::read(word)
-}
-
-fn read_term(word: &[u8]) -> Result<Term, Refusal>
-    ensures { result ≡ number_word 1 999999999 word.now }
-{
-    Term::new(read_number(word, 1, 999_999_999)? as u32)
-}
-
-fn read_key(group: &[u8], term: &[u8]) -> Result<Key, Refusal>
-    ensures { result ≡ key_words group.now term.now }
-{
-    let group = read_group(group)?;
-    let term = read_term(term)?;
-    Ok(Key { group, term })
-}
-
-fn read_bid(word: &[u8]) -> Result<Bid, Refusal>
-    ensures { result ≡ number_word 0 999999999 word.now }
-{
-    Bid::new(read_number(word, 0, 999_999_999)? as u32)
 }
 
 fn read_mode(word: &[u8]) -> Result<bool, Refusal>
@@ -414,30 +379,26 @@ fn read_command(nodes: u8, words: &[&[u8]]) -> Result<Command, Refusal>
 
 /// How the ring is to be that a line which is not silent makes, where none is made yet. Refused as 25 where the line is
 /// no command, and else as 2 where a number is none in its range.
-#[tactic(auto, unfolding(crate::specs::Judged::judged))]
 pub fn judge_opening(alloc: Global, line: &[u8]) -> Result<Result<Opening, Refusal>, AllocError>
     ensures value { IfOk result (λ r. r ≡ judged opening_of line.now) }
     ensures range { IfOk result (λ r. IfOk r (λ o. is_ring o.nodes o.capacity ≡ true)) }
 {
-    if line.len() > LINE_BYTES {
-        return Ok(Err(Refusal::BadLine));
+    match read_words(alloc, line)? {
+        Ok(words) => Ok(read_opening(&words)),
+        Err(refusal) => Ok(Err(refusal)),
     }
-    let words = words(alloc, line)?;
-    Ok(read_opening(&words))
 }
 
 /// What a line which is not silent asks for, in a ring of so many nodes. Refused as 25 where the line is no
 /// command, and else as 1 or 2 by its first word that is no group or no number in its range.
-#[tactic(auto, unfolding(crate::specs::Judged::judged))]
 pub fn judge(alloc: Global, nodes: u8, line: &[u8]) -> Result<Result<Command, Refusal>, AllocError>
     requires { nodes ≤ 16 }
     ensures { IfOk result (λ r. r ≡ judged (command_of nodes) line.now) }
 {
-    if line.len() > LINE_BYTES {
-        return Ok(Err(Refusal::BadLine));
+    match read_words(alloc, line)? {
+        Ok(words) => Ok(read_command(nodes, &words)),
+        Err(refusal) => Ok(Err(refusal)),
     }
-    let words = words(alloc, line)?;
-    Ok(read_command(nodes, &words))
 }
 
 fn are_spaces(line: &[u8]) -> bool

@@ -3,11 +3,13 @@ ghost use Rattle.std.specs.Prelude.{◌≡◌, ◌∷◌, [], ◌+◌, ◌≤◌
 ghost use Rattle.ring_records.specs.Texts.{refusal_text};
 ghost use Rattle.ring_world.specs.State.{opened, is_ring};
 ghost use Rattle.ring_world.specs.Step.{refusal_of};
-ghost use Rattle.fault_console.specs.Judged.{judged, command_of};
+ghost use Rattle.line_words.specs.Faults.{judged};
+ghost use Rattle.fault_console.specs.Judged.{command_of};
 ghost use Rattle.fault_console.specs.Script.{Does, Happens, LinePrints, Obeys, Opens, Shows, ring_line, shown_at, tickets_of, unshown};
 
 use crate::commands::{Command, Opening, judge, judge_opening, line_is_silent};
-use crate::print::{count_lines, print_outcome, print_refusal, print_ring, print_shown};
+use crate::print::{count_lines, print_outcome, print_ring, print_shown};
+use line_words::print_refusal;
 use ring_records::{NodeNo, Refusal};
 use ring_world::{Event, Shown, World};
 use std::alloc::{AllocError, Global};

@@ -1,19 +1,12 @@
 // The lines that a line of the script prints.
 ghost use Rattle.std.specs.Prelude.{◌≡◌, ◌≤◌, ◌+◌, ◌<◌, ◌^◌, ◌∷◌, ◌++◌, [], OnOk, string_bytes, length, map};
-ghost use Rattle.ring_records.specs.Texts.{refusal_text};
+ghost use Rattle.line_words.specs.Texts.{AddsLine, AddsLines};
 ghost use Rattle.ring_world.specs.Step.{told};
-ghost use Rattle.fault_console.specs.Script.{AddsLine, AddsLines, ring_line, reply_line, sealed_line, lost_line, up_line, flushed_line, delivered_line, held_text, links_text, show_line, is_answered, sealed_of, sealed_lines, lines_told};
+ghost use Rattle.fault_console.specs.Script.{ring_line, reply_line, sealed_line, lost_line, up_line, flushed_line, delivered_line, held_text, links_text, show_line, is_answered, sealed_of, sealed_lines, lines_told};
 
-use ring_records::{NodeNo, Refusal, Reply};
+use ring_records::{NodeNo, Reply};
 use ring_world::{Event, Outcome, Shown};
 use std::alloc::AllocError;
-
-/// Adds the line of a refusal.
-pub fn print_refusal(out: &mut String, refusal: Refusal) -> Result<(), AllocError>
-    ensures { OnOk result (AddsLine (string_bytes out.old) (string_bytes out.new) (refusal_text refusal)) }
-{
-    writeln!(out, "{refusal}")
-}
 
 /// Adds the line of a ring that is made.
 pub fn print_ring(out: &mut String, nodes: u8) -> Result<(), AllocError>
@@ -125,7 +118,7 @@ fn print_if_sealed(out: &mut String, sealed: Option<u64>) -> Result<(), AllocErr
     }
 }
 
-#[tactic(auto, using(crate::proofs::Texts::adds_more))]
+#[tactic(auto, using(line_words::proofs::Texts::adds_more))]
 fn print_asked(
     out: &mut String,
     ticket: Option<u64>,
@@ -137,7 +130,7 @@ fn print_asked(
     print_if_sealed(out, sealed(ticket, replies))
 }
 
-#[tactic(auto, using(crate::proofs::Texts::adds_more))]
+#[tactic(auto, using(line_words::proofs::Texts::adds_more))]
 fn print_flush(out: &mut String, count: u32, replies: &[(u64, Reply)]) -> Result<(), AllocError>
     ensures { OnOk result (AddsLines (string_bytes out.old) (string_bytes out.new) (flushed_line count ∷ map reply_line replies.now)) }
 {
@@ -145,7 +138,7 @@ fn print_flush(out: &mut String, count: u32, replies: &[(u64, Reply)]) -> Result
     print_replies(out, replies)
 }
 
-#[tactic(auto, using(crate::proofs::Texts::adds_more))]
+#[tactic(auto, using(line_words::proofs::Texts::adds_more))]
 fn print_reopened(
     out: &mut String,
     lost: &[u64],

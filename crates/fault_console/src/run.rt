@@ -1,10 +1,10 @@
 // Reading a script, and writing what it prints.
 ghost use Rattle.std.specs.Prelude.{◌≡◌, ◌<◌, ◌≤◌, ℕ, List, None, IfErr, IfOk, IfSome, IsErrOf, OnOk, length};
 ghost use Rattle.std.specs.Io.KnownBytes.{Appends};
-ghost use Rattle.fault_console.specs.Script.{Wrote, IsFront};
+ghost use Rattle.fault_console.specs.Script.{Wrote};
 
 use crate::console::Console;
-use crate::words::first_line;
+use line_words::{first_line, write_whole};
 use std::alloc::Global;
 use std::io::{Read, Write};
 use thiserror::Error;
@@ -56,26 +56,6 @@ fn read_script<R: Read>(alloc: Global, reader: &mut R) -> Result<Vec<u8>, RunFau
     Err(RunFault::Long)
 }
 
-// Writes the bytes, by at most as many writes. At an `Err` a front of them was written.
-fn write_bytes<W: Write>(writer: &mut W, bytes: &[u8]) -> Result<(), RunFault>
-    ensures ok { OnOk result (Appends (W.contents writer.old) (W.contents writer.new) bytes.now) }
-    ensures front { (front : List ℕ) × IsFront front bytes.now × Appends (W.contents writer.old) (W.contents writer.new) front }
-    ensures err { IfErr result (λ e. e ≡ RunFault.Write) }
-{
-    let mut rest = bytes;
-    for _ in 0..bytes.len() {
-        if rest.is_empty() {
-            return Ok(());
-        }
-        match writer.write(rest) {
-            Ok(0) => return Err(RunFault::Write),
-            Ok(count) => rest = rest.split_at(count).1,
-            Err(_) => return Err(RunFault::Write),
-        }
-    }
-    Ok(())
-}
-
 // Prints what a script prints, one line of it after the other, so that want of memory leaves whole lines.
 fn obey_all<W: Write>(
     console: &mut Console,
@@ -97,7 +77,7 @@ fn obey_all<W: Write>(
             Ok(lines) => lines,
             Err(_) => return Err(RunFault::Memory),
         };
-        match write_bytes(writer, out.as_bytes()) {
+        match write_whole(writer, out.as_bytes()) {
             Ok(()) => count += lines,
             Err(_) => return Err(RunFault::Write),
         }

@@ -1,6 +1,5 @@
--- Lines, words, numbers and names, by a look at the bytes.
-use Rattle.std.specs.Prelude.{ℕ, Bool, ◌&&◌, List, length, filter, nat_lt, nat_le, ◌==◌, if◌then◌else◌, Option, Some, None}
-use Rattle.std.specs.Str.Parse.{digits_value}
+-- Lines and words, by a look at the bytes.
+use Rattle.std.specs.Prelude.{ℕ, Bool, ◌&&◌, List, length, filter, nat_lt, ◌==◌}
 use Rattle.std.specs.Str.Lines.{lines}
 use Rattle.std.specs.Char.{is_ascii_digit}
 use Rattle.std.specs.List.{slice_split, list_all}
@@ -16,9 +15,3 @@ words_of line = filter (λ word. nat_lt 0 (length word)) (slice_split (λ b. b =
 -- a number is 1 to 10 decimal digits; leading zeros are allowed
 abbrev pub is_number : List ℕ → Bool
 is_number word = nat_lt 0 (length word) && (nat_lt (length word) 11 && list_all is_ascii_digit word)
-
--- the number, where it is one and lies from low to high
-unfoldable pub number_in : ℕ → ℕ → List ℕ → Option ℕ
-number_in low high word =
-    let n = digits_value 10 word in
-    if is_number word && (nat_le low n && nat_le n high) then Some n else None

@@ -1,5 +1,5 @@
-use Rattle.fault_console.proofs.Lines.{lines_end, lines_next_slice}
-use Rattle.fault_console.proofs.words.first_line.Goals as goal
+use Rattle.line_words.proofs.Lines.{lines_end, lines_next_slice}
+use Rattle.line_words.proofs.line.first_line.Goals as goal
 
 pub returns-in-None-clause-line : goal.returns-in-None-clause-line
 returns-in-None-clause-line c = lines_end c.args.text.now c.requires (cc)

@@ -1,0 +1,19 @@
+-- The bytes of printed lines.
+use Rattle.std.specs.Prelude.{◌≡◌, ℕ, List, [], ◌∷◌, ◌++◌}
+
+-- each printed line ends with one line feed
+abbrev pub text_of : List (List ℕ) → List ℕ
+text_of [] = []
+text_of (line ∷ lines) = line ++ (10 ∷ text_of lines)
+
+-- the front of the text
+abbrev pub IsFront : List ℕ → List ℕ → Type 0
+IsFront front text = (rest : List ℕ) × (text ≡ front ++ rest)
+
+-- ---- what is added to a text
+
+abbrev pub AddsLines : List ℕ → List ℕ → List (List ℕ) → Type 0
+AddsLines old new lines = new ≡ old ++ text_of lines
+
+abbrev pub AddsLine : List ℕ → List ℕ → List ℕ → Type 0
+AddsLine old new line = AddsLines old new (line ∷ [])
