@@ -7,6 +7,7 @@ mod cause;
 mod note;
 mod op;
 mod say;
+mod sends;
 mod value;
 
 pub use ask::Ask;
@@ -14,4 +15,5 @@ pub use cause::Cause;
 pub use note::Note;
 pub use op::Op;
 pub use say::Say;
+pub use sends::Sends;
 pub use value::{candidate, key};

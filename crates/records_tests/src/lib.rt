@@ -1,0 +1,19 @@
+//! The tests of ring_records: what no clause says of it, and that its definitions say what is meant.
+#![tactic(auto)]
+
+#[cfg(test)]
+mod admission;
+#[cfg(test)]
+mod answers;
+#[cfg(test)]
+mod elections;
+#[cfg(test)]
+mod records;
+#[cfg(test)]
+mod releases;
+#[cfg(test)]
+mod rows;
+#[cfg(test)]
+mod texts;
+#[cfg(test)]
+mod values;

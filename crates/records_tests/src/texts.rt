@@ -1,0 +1,77 @@
+// Texts as they are printed.
+use crate::rows::bid;
+use ring_records::{Refusal, Term};
+use std::alloc::Global;
+use std::process::Abort;
+use test_rows::{Cause, Say};
+
+/// The reply is printed so.
+fn replies(rt: &impl Abort, alloc: Global, say: Say, want: &str) {
+    let reply = say.reply().expect(rt, "a reply");
+    let text = format!(in alloc; "{reply}").expect(rt, "ample memory");
+    assert_eq!(rt; text.as_str(), want);
+}
+
+#[test]
+fn prints_replies(rt: HostRuntime) {
+    let rows = [
+        (Say::Stood, "stood"),
+        (Say::Taken, "taken"),
+        (Say::Acked, "acked"),
+        (Say::Nobody, "none"),
+        (Say::Leader(30, 2), "leader 2 30"),
+        (Say::NoTerm, "none"),
+        (Say::Latest(5, 30, 2), "term 5 leader 2 30"),
+        (Say::Refused(Cause::Stale(5)), "no 5 stale 5"),
+    ];
+    for (say, want) in rows {
+        replies(&rt, rt.alloc(), say, want);
+    }
+}
+
+/// The refusal has this number, and is printed so.
+fn refuses(rt: &impl Abort, alloc: Global, refusal: Refusal, number: u8, want: &str) {
+    let text = format!(in alloc; "{refusal}").expect(rt, "ample memory");
+    assert_eq!(rt; (refusal.number(), text.as_str()), (number, want));
+}
+
+#[test]
+fn prints_refusals(rt: HostRuntime) {
+    let bid = bid(&rt, 0);
+    let term = Term::new(999_999_999).expect(&rt, "a term");
+    let rows = [
+        (Refusal::BadName, 1, "no 1 name"),
+        (Refusal::BadNumber, 2, "no 2 number"),
+        (Refusal::Already(bid), 3, "no 3 already 0"),
+        (Refusal::Late, 4, "no 4 late"),
+        (Refusal::Stale(term), 5, "no 5 stale 999999999"),
+        (Refusal::Limit, 6, "no 6 limit"),
+        (Refusal::Full, 7, "no 7 full"),
+        (Refusal::OutOfMemory, 8, "no 8 memory"),
+        (Refusal::Failed, 9, "no 9 failed"),
+        (Refusal::Foreign, 10, "no 10 foreign"),
+        (Refusal::Early, 11, "no 11 early"),
+        (Refusal::Busy, 12, "no 12 busy"),
+        (Refusal::Old(2), 13, "no 13 old 2"),
+        (Refusal::Gap(0), 13, "no 13 gap 0"),
+        (
+            Refusal::AckAhead(18_446_744_073_709_551_615),
+            14,
+            "no 14 ahead 18446744073709551615",
+        ),
+        (Refusal::Device(1), 15, "no 15 device 1"),
+        (Refusal::Damaged(16), 16, "no 16 damaged 16"),
+        (Refusal::NotFormatted, 17, "no 17 unformatted"),
+        (Refusal::OldLayout(2), 18, "no 18 oldlayout 2"),
+        (Refusal::WrongNode, 19, "no 19 wrongnode"),
+        (Refusal::NoPlace, 20, "no 20 noplace"),
+        (Refusal::Unknown, 21, "no 21 unknown"),
+        (Refusal::Mismatch, 22, "no 22 mismatch"),
+        (Refusal::Retired(term), 23, "no 23 retired 999999999"),
+        (Refusal::Unlawful(12), 24, "no 24 unlawful 12"),
+        (Refusal::BadLine, 25, "no 25 line"),
+    ];
+    for (refusal, number, want) in rows {
+        refuses(&rt, rt.alloc(), refusal, number, want);
+    }
+}

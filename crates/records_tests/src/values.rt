@@ -1,0 +1,87 @@
+// Where the ranges of names and numbers end, how values are ordered, and the way round a ring.
+use crate::rows::{candidate, key};
+use ring_records::{Bid, GroupName, NodeNo, Term};
+use std::process::Abort;
+
+#[test]
+fn reads_names_within_their_borders(rt: HostRuntime) {
+    let names = [
+        ("a", true),
+        ("a-1", true),
+        ("a-", true),
+        ("abcdefghijklmnop", true),
+        ("abcdefghijklmnopq", false),
+        ("", false),
+        ("1a", false),
+        ("-a", false),
+        ("Red", false),
+        ("rEd", false),
+        ("re d", false),
+        ("re_d", false),
+    ];
+    for (text, is_name) in names {
+        let read = GroupName::read(text.as_bytes());
+        assert_eq!(rt; read.is_ok(), is_name, "{text}");
+        if let Ok(name) = read {
+            let copy = name.as_bytes() == text.as_bytes();
+            assert_eq!(rt; copy, true, "{text}");
+        }
+    }
+}
+
+#[test]
+fn takes_numbers_within_their_borders(rt: HostRuntime) {
+    let numbers = [
+        (0, false, true),
+        (1, true, true),
+        (999_999_999, true, true),
+        (1_000_000_000, false, false),
+        (4_294_967_295, false, false),
+    ];
+    for (number, is_term, is_bid) in numbers {
+        let (term, bid) = (Term::new(number), Bid::new(number));
+        assert_eq!(rt; (term.is_ok(), bid.is_ok()), (is_term, is_bid), "{number}");
+    }
+    for (number, is_node) in [(0, false), (1, true), (16, true), (17, false), (255, false)] {
+        let node = NodeNo::new(number);
+        assert_eq!(rt; node.is_ok(), is_node, "{number}");
+    }
+}
+
+/// The first name is below the second, and its keys are, whatever their terms.
+fn orders_keys(rt: &impl Abort, low: &str, high: &str) {
+    let (before, behind) = (key(rt, low, 2), key(rt, high, 1));
+    assert_eq!(rt; before.group < behind.group, true, "{low} {high}");
+    assert_eq!(rt; before < behind, true, "{low} {high}");
+}
+
+/// The first candidate is below the second.
+fn orders_candidates(rt: &impl Abort, low: (u32, u8), high: (u32, u8)) {
+    let (lesser, greater) = (candidate(rt, low), candidate(rt, high));
+    assert_eq!(rt; lesser < greater, true, "{low:?} {high:?}");
+    assert_eq!(rt; lesser.is_below(&greater), true, "{low:?} {high:?}");
+    assert_eq!(rt; greater.is_below(&lesser), false, "{low:?} {high:?}");
+    assert_eq!(rt; lesser.is_below(&lesser), false, "{low:?}");
+}
+
+#[test]
+fn orders_names_keys_and_candidates(rt: HostRuntime) {
+    for pair in ["a", "a-", "a1", "ab", "abc", "b"].windows(2) {
+        orders_keys(&rt, pair[0], pair[1]);
+    }
+    for pair in [(0, 2), (10, 1), (10, 16), (11, 1)].windows(2) {
+        orders_candidates(&rt, pair[0], pair[1]);
+    }
+}
+
+#[test]
+fn goes_round_the_ring(rt: HostRuntime) {
+    let first = NodeNo::new(1).expect(&rt, "a node");
+    let second = NodeNo::new(2).expect(&rt, "a node");
+    let last = NodeNo::new(3).expect(&rt, "a node");
+    assert_eq!(rt; (first.successor(3), last.successor(3)), (second, first));
+    assert_eq!(rt;
+        (first.predecessor(3), second.predecessor(3)),
+        (last, first)
+    );
+}
