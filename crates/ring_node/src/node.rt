@@ -201,6 +201,3 @@ impl RingNode {
         self.messages.get(no as usize).copied()
     }
 }
-
-#[cfg(test)]
-mod tests;

@@ -12,8 +12,6 @@ pub mod laws;
 mod outcome;
 mod ring;
 mod shown;
-#[cfg(test)]
-mod tests;
 mod world;
 
 pub use announced::Announced;

@@ -1,23 +1,18 @@
-// What no clause says: that the calls succeed with ample memory, and at which call of its device a stop keeps the batch.
-use super::*;
+// A node of a ring in memory: its replies, and at which call of its device a stop keeps the batch.
 use disk_model::Tear;
-use ring_records::{Bid, GroupName, Key, Reply, Term};
+use ring_node::RingNode;
+use ring_records::{Bid, NodeNo, Reply, Request};
 use std::alloc::AllocGlobal;
 use std::process::Abort;
-
-/// Term 5 of group `red`.
-fn key(rt: &impl Abort) -> Key {
-    let group = GroupName::read(b"red").expect(rt, "a group name");
-    let term = Term::new(5).expect(rt, "a term");
-    Key { group, term }
-}
+use test_rows::key;
 
 /// Node 1 of a ring of 3, which was asked to stand under number 7: it accepts, and its reply is sealed.
 fn stood<R: Abort + AllocGlobal>(rt: &R) -> RingNode {
     let made = RingNode::new(rt.alloc(), NodeNo::first(), 3, 4096);
     let mut made = made.expect(rt, "ample memory");
+    let key = key("red", 5).expect(rt, "a key");
     let bid = Bid::new(10).expect(rt, "a bid");
-    let accepts = made.ask(Some(7), Request::Stand(key(rt), bid));
+    let accepts = made.ask(Some(7), Request::Stand(key, bid));
     assert_eq!(rt; accepts.ok(), Some(true));
     assert!(rt; made.release().is_none());
     made

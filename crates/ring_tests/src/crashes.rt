@@ -1,10 +1,16 @@
 // What crashes and stops leave.
-use super::*;
+use crate::worlds::{asks, happens, is_refused, is_sealed, node, ring, sweeps};
+use disk_model::Tear;
+use ring_records::{Refusal, Reply};
+use ring_world::Event;
+use std::alloc::Global;
+use std::process::Abort;
+use test_rows::Ask;
 
 /// Node 1 of a lazy ring of 3 stands under ticket 1, and is stopped: the ticket is lost, and the Stand is kept or not.
 fn keeps(rt: &impl Abort, alloc: Global, call: u64, tear: Tear, kept: u64) {
     let mut world = ring(rt, alloc, 3, false);
-    let stood = asks(rt, &mut world, 1, Ask::Stand(10));
+    let stood = asks(rt, &mut world, 1, Ask::Stand("red", 5, 10));
     is_sealed(rt, &stood, 1);
     let node = node(rt, 1);
     let stopped = happens(rt, &mut world, Event::Stop { node, call, tear });
@@ -35,7 +41,7 @@ fn a_stop_keeps_a_batch_behind_its_gate(rt: HostRuntime) {
 #[test]
 fn a_flush_releases_what_was_sealed(rt: HostRuntime) {
     let mut world = ring(&rt, rt.alloc(), 3, false);
-    let stood = asks(&rt, &mut world, 1, Ask::Stand(10));
+    let stood = asks(&rt, &mut world, 1, Ask::Stand("red", 5, 10));
     is_sealed(&rt, &stood, 1);
     sweeps(&rt, &mut world, 0);
     let node = node(&rt, 1);

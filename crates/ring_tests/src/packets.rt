@@ -1,32 +1,39 @@
 // Packets come from neighbours alone, and only what these released.
-use super::*;
+use crate::worlds::{answers, asks, happens, is_refused, node, ring, submit};
+use ring_records::Refusal;
+use ring_world::Event;
+use test_rows::{Ask, Cause, Note, Say};
+
+/// The request to take a token for term 5 of `red`, under this number, with the bid and the node of its candidate.
+fn take(no: u64, bid: u32, of: u8) -> Ask {
+    Ask::Take(no, Note::Token("red", 5, bid, of))
+}
 
 #[test]
 fn nobody_takes_what_was_not_released(rt: HostRuntime) {
     let mut world = ring(&rt, rt.alloc(), 3, true);
-    let stood = asks(&rt, &mut world, 1, Ask::Stand(10));
-    answers(&rt, &stood, 1, Reply::Stood);
-    let first = Ask::Take(0, 10, 1);
+    let stood = asks(&rt, &mut world, 1, Ask::Stand("red", 5, 10));
+    answers(&rt, &stood, 1, Say::Stood);
+    let first = take(0, 10, 1);
     for (to, ask, refusal) in [
-        (2, Ask::Take(0, 11, 1), Refusal::Unknown),
-        (2, Ask::Take(1, 10, 1), Refusal::Unknown),
-        (2, Ask::Take(0, 10, 4), Refusal::BadNumber),
+        (2, take(0, 11, 1), Refusal::Unknown),
+        (2, take(1, 10, 1), Refusal::Unknown),
+        (2, take(0, 10, 4), Refusal::BadNumber),
         (3, first, Refusal::Unknown),
         (4, first, Refusal::BadNumber),
         (1, Ask::Acked(1), Refusal::Unknown),
     ] {
-        let event = Event::Submit(node(&rt, to), ask.request(&rt));
+        let event = submit(&rt, to, ask);
         is_refused(&rt, &mut world, event, refusal);
     }
-    let late = Reply::Refused(Refusal::Late);
-    for (to, ask, ticket, reply) in [
-        (2, first, 2, Reply::Taken),
-        (2, Ask::Stand(40), 3, late),
-        (1, Ask::Acked(1), 4, Reply::Acked),
-        (2, first, 5, Reply::Refused(Refusal::Old(1))),
+    for (to, ask, ticket, say) in [
+        (2, first, 2, Say::Taken),
+        (2, Ask::Stand("red", 5, 40), 3, Say::Refused(Cause::Late)),
+        (1, Ask::Acked(1), 4, Say::Acked),
+        (2, first, 5, Say::Refused(Cause::Old(1))),
     ] {
         let outcome = asks(&rt, &mut world, to, ask);
-        answers(&rt, &outcome, ticket, reply);
+        answers(&rt, &outcome, ticket, say);
     }
     world.end();
 }
@@ -34,12 +41,12 @@ fn nobody_takes_what_was_not_released(rt: HostRuntime) {
 #[test]
 fn credits_are_earned(rt: HostRuntime) {
     let mut world = ring(&rt, rt.alloc(), 3, true);
-    let stood = asks(&rt, &mut world, 1, Ask::Stand(10));
-    answers(&rt, &stood, 1, Reply::Stood);
+    let stood = asks(&rt, &mut world, 1, Ask::Stand("red", 5, 10));
+    answers(&rt, &stood, 1, Say::Stood);
     let no = 0;
     let from = node(&rt, 1);
     let taken = happens(&rt, &mut world, Event::Deliver { from, no });
-    answers(&rt, &taken, 2, Reply::Taken);
+    answers(&rt, &taken, 2, Say::Taken);
     is_refused(
         &rt,
         &mut world,
@@ -57,6 +64,6 @@ fn credits_are_earned(rt: HostRuntime) {
     }
     let from = node(&rt, 2);
     let acked = happens(&rt, &mut world, Event::Credit { from, upto: 1 });
-    answers(&rt, &acked, 3, Reply::Acked);
+    answers(&rt, &acked, 3, Say::Acked);
     world.end();
 }

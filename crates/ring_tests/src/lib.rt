@@ -1,0 +1,16 @@
+//! Tests of a ring in memory: its nodes, and the events that happen to it.
+//!
+//! What no clause says: that each call succeeds with ample memory, and what a stop leaves of a batch. The rows of
+//! scripts are in console_tests.
+#![tactic(auto)]
+
+#[cfg(test)]
+mod crashes;
+#[cfg(test)]
+mod nodes;
+#[cfg(test)]
+mod packets;
+#[cfg(test)]
+mod rings;
+#[cfg(test)]
+mod worlds;
