@@ -1,5 +1,5 @@
 //! Laws of the definitions: public functions with an empty body, whose contracts say what follows from `specs/` alone.
-ghost use Rattle.std.specs.Prelude.{◌≡◌, ◌↔◌, ◌≤◌, ◌+◌, ◌||◌, ℕ, true, false, if◌then◌else◌, List, [], ◌∷◌, ◌++◌, Some, None, slice_get, unwrap_or, length, Ok};
+ghost use Rattle.std.specs.Prelude.{◌≡◌, ◌↔◌, ◌≤◌, ◌+◌, ◌||◌, ℕ, Option, true, false, if◌then◌else◌, List, [], ◌∷◌, ◌++◌, Some, None, slice_get, unwrap_or, length, Ok};
 ghost use Rattle.std.specs.List.{cons_option, Contains};
 ghost use Rattle.ring_records.specs.declared.candidate.Candidate.{Candidate};
 ghost use Rattle.ring_records.specs.declared.decision.Decision.{Decision};
@@ -10,9 +10,10 @@ ghost use Rattle.ring_records.specs.Admission.{Base, fresh, cost, used, IsAllowe
 ghost use Rattle.ring_records.specs.declared.packet.Packet.{Packet};
 ghost use Rattle.ring_records.specs.declared.request.Request.{Request};
 ghost use Rattle.ring_records.specs.Answer.{Answer, Answers, PacketRests};
+ghost use Rattle.ring_records.specs.Content.{named_by, leader_in, leads_in, IsNotBelow};
 ghost use Rattle.ring_records.specs.Emission.{emit, sent};
 ghost use Rattle.ring_records.specs.History.{names, touched, bid_for, stood, message_of, taken, upto_of, credit, is_stand, stands};
-ghost use Rattle.ring_records.specs.Leader.{makes_leader, leader, latest};
+ghost use Rattle.ring_records.specs.Leader.{makes_leader, leader, latest, IsLatest};
 ghost use Rattle.ring_records.specs.Lists.{or_else};
 ghost use Rattle.ring_records.specs.Record.{AreBytes, HasRecord, BeginsWith, record_of, record_read};
 ghost use Rattle.ring_records.specs.Release.{packets, decisions, window, AreLeaders};
@@ -62,6 +63,15 @@ pub fn latest_leads()
 pub fn leaders_listed()
     ensures decided { (me : ℕ) (h : List Input) (d : Decision) → (Contains (decisions me [] h) d ↔ (leader me h d.key ≡ Some d.leader)) }
     ensures one { (me : ℕ) (h : List Input) (list other : List Decision) → AreLeaders me h list → AreLeaders me h other → list ≡ other }
+{}
+
+/// The content of a list of decisions. The first decision for a key stays, however the list goes on, and so the latest
+/// leader of a group never goes down. The decisions of a history, in order of key, name the leaders that it knows.
+pub fn content()
+    ensures one_more { (ds : List Decision) (d : Decision) (key : Key) → leader_in (ds ++ d ∷ []) key ≡ or_else (leader_in ds key) (named_by key d) }
+    ensures stays { (ds more : List Decision) (key : Key) (c : Candidate) → leader_in ds key ≡ Some c → leader_in (ds ++ more) key ≡ Some c }
+    ensures never_down { (ds more : List Decision) (group : List ℕ) (a b : Option (ℕ × Candidate)) → IsLatest (leads_in ds group) a → IsLatest (leads_in (ds ++ more) group) b → IsNotBelow a b }
+    ensures leaders { (me : ℕ) (h : List Input) (list : List Decision) (key : Key) → AreLeaders me h list → leader_in list key ≡ leader me h key }
 {}
 
 /// An input is admitted exactly where no cause to refuse it is found, and the history alone allows it exactly where

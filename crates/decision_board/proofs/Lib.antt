@@ -1,0 +1,4 @@
+mod Adding
+mod Boards
+mod Maps
+mod Steps

@@ -1,0 +1,5 @@
+pub mod Boards
+pub mod History
+pub mod Leaders
+pub mod Posts
+pub mod Stores

@@ -1,0 +1,78 @@
+// The leaders by key.
+ghost use Rattle.std.specs.Prelude.{◌≡◌, ℕ, OnOk, OnErr};
+ghost use Rattle.std.specs.FinMap as map;
+ghost use Rattle.ring_records.specs.Leader.{IsLatest};
+ghost use Rattle.decision_board.specs.Leaders.{leads, put};
+
+use ring_records::{Candidate, GroupName, Key, Term};
+use std::alloc::{AllocError, Global};
+use std::collections::BTreeMap;
+use std::marker::Model;
+
+/// The leaders, as a finite map from key to leader.
+#[derive(Drop)]
+pub struct Leaders {
+    by_key: BTreeMap<Key, Candidate>,
+}
+
+impl Model for Leaders {
+    ghost use Rattle.std.specs.FinMap as map;
+    ghost use Rattle.ring_records.specs.KeyOrder.{key_cmp};
+    ghost use Rattle.ring_records.specs.declared.candidate.Candidate.{Candidate};
+    ghost use Rattle.decision_board.specs.Leaders.{coded_leaders, HaveTerms};
+
+    ghost Value = { map.FinMap key_cmp Candidate };
+
+    ghost coded = { coded_leaders };
+
+    ghost view = { λ l. map.from_entries l.by_key.entries };
+
+    ghost invariant = { λ l. HaveTerms (map.from_entries l.by_key.entries) };
+}
+
+impl Leaders {
+    /// No leaders.
+    pub fn new(alloc: Global) -> Leaders
+        ensures { result ≡ map.empty }
+    {
+        Leaders {
+            by_key: BTreeMap::new(alloc),
+        }
+    }
+
+    /// The leader for the key, if there is one.
+    pub fn who(&self, key: &Key) -> Option<Candidate>
+        ensures { result ≡ map.get self.now key.now }
+    {
+        self.by_key.get(key).copied()
+    }
+
+    /// The greatest term of the group with a leader, and that leader.
+    pub fn latest(&self, group: &GroupName) -> Option<(Term, Candidate)>
+        ensures { IsLatest (leads self.now group.now) result }
+    {
+        let first = Key {
+            group: *group,
+            term: Term::first(),
+        };
+        let last = Key {
+            group: *group,
+            term: Term::last(),
+        };
+        let (key, leader) = self.by_key.range(first..=last).next_back()?;
+        Some((key.term, *leader))
+    }
+
+    /// Puts the leader where the key has none. An `Err` changes nothing.
+    pub fn put(&mut self, key: Key, leader: Candidate) -> Result<(), AllocError>
+        ensures ok { OnOk result (self.new ≡ put self.old key leader) }
+        ensures err { OnErr result (self.new ≡ self.old) }
+    {
+        if self.by_key.contains_key(&key) {
+            return Ok(());
+        }
+        let _number = key.term.number();
+        self.by_key.insert(key, leader)?;
+        Ok(())
+    }
+}

@@ -1,0 +1,144 @@
+// The readers' end of a board. No call of a reader waits.
+ghost use Rattle.std.specs.Prelude.{◌≡◌, ◌⊎◌, ℕ, [], Option, Some, MatchOption, IfOk, IfErr};
+ghost use mathlib.Core.List.{IsPrefix};
+ghost use Rattle.left_right.specs.Sides.{view};
+ghost use Rattle.ring_records.specs.Content.{leader_in, leads_in, IsNotBelow};
+ghost use Rattle.ring_records.specs.Leader.{IsLatest};
+ghost use Rattle.ring_records.specs.declared.candidate.Candidate.{Candidate};
+ghost use Rattle.ring_records.specs.declared.refusal.Refusal.TheVariants.{NoPlace};
+ghost use Rattle.decision_board.specs.Boards.{seen, learned};
+
+use crate::history::{Front, Naming};
+use crate::rule::{Posted, Sees};
+use crate::store::Store;
+use crate::told::Told;
+use core::mem::replace_with;
+use left_right::reader::Reader;
+use ring_records::{Candidate, Decision, GroupName, Key, Refusal, Term};
+use std::marker::Model;
+
+pub(crate) type Place<J> = Reader<Store, [Decision; 0], Posted<J>>;
+
+/// A reader of a board. Contracts see the list of decisions that it saw last, and the longest list that it learned.
+#[derive(Drop)]
+pub struct BoardReader<J: Naming> {
+    place: Reader<Store, [Decision; 0], Posted<J>>,
+    seen: Front,
+    learned: Front,
+}
+
+impl<J: Naming> Model for BoardReader<J> {
+    ghost use Rattle.std.specs.Prelude.{◌≡◌, List};
+    ghost use Rattle.ring_records.specs.declared.decision.Decision.{Decision};
+    ghost use mathlib.Core.List.{IsPrefix};
+
+    ghost Value = { List Decision × List Decision };
+
+    ghost view = { λ r. (r.seen.seen.log, r.learned.seen.log) };
+
+    ghost invariant = { λ r. (r.seen.seen.book ≡ J.book) × (r.learned.seen.book ≡ J.book) × IsPrefix r.seen.seen.log r.place.place.me.0.client };
+}
+
+impl<J: Naming> BoardReader<J> {
+    pub(crate) fn new(place: Place<J>, start: Front, told: Front) -> BoardReader<J>
+        requires start { (start.seen.book ≡ J.book) × (start.seen.log ≡ []) }
+        requires told { told.seen.book ≡ J.book }
+        ensures seen { seen result ≡ [] }
+        ensures learned { learned result ≡ told.seen.log }
+    {
+        BoardReader {
+            place,
+            seen: start,
+            learned: told,
+        }
+    }
+
+    /// The leader for the key in the list that is seen then; refused as 20 after the board's end.
+    pub fn who(&mut self, key: &Key) -> Result<Option<Candidate>, Refusal>
+        ensures answer { IfOk result (λ a. a ≡ leader_in (seen self.new) key.now) }
+        ensures begins { IfOk result (λ _. IsPrefix (seen self.old) (seen self.new) × IsPrefix (learned self.old) (seen self.new)) }
+        ensures stays { IfOk result (λ a. (leader : Candidate) → leader_in (seen self.old) key.now ≡ Some leader → a ≡ Some leader) }
+        ensures learned { learned self.new ≡ learned self.old }
+        ensures refused { IfErr result (λ e. (e ≡ NoPlace) × (self.new ≡ self.old)) }
+    {
+        match replace_with(&mut self.place, *key, find::<J>) {
+            Some((answer, front)) => {
+                // What is published never goes back, so it covers what was told.
+                if !front.covers(&self.learned) {
+                    return Err(Refusal::NoPlace);
+                }
+                self.seen = front;
+                Ok(answer)
+            }
+            None => Err(Refusal::NoPlace),
+        }
+    }
+
+    /// The greatest term of the group with a leader, and that leader, in the list that is seen then; refused as 20 after
+    /// the board's end.
+    pub fn latest(&mut self, group: &GroupName) -> Result<Option<(Term, Candidate)>, Refusal>
+        ensures answer { IfOk result (λ a. IsLatest (leads_in (seen self.new) group.now) a) }
+        ensures begins { IfOk result (λ _. IsPrefix (seen self.old) (seen self.new) × IsPrefix (learned self.old) (seen self.new)) }
+        ensures never_down { IfOk result (λ a. (before : Option (ℕ × Candidate)) → IsLatest (leads_in (seen self.old) group.now) before → IsNotBelow before a) }
+        ensures learned { learned self.new ≡ learned self.old }
+        ensures refused { IfErr result (λ e. (e ≡ NoPlace) × (self.new ≡ self.old)) }
+    {
+        match replace_with(&mut self.place, *group, find_latest::<J>) {
+            Some((answer, front)) => {
+                // What is published never goes back, so it covers what was told.
+                if !front.covers(&self.learned) {
+                    return Err(Refusal::NoPlace);
+                }
+                self.seen = front;
+                Ok(answer)
+            }
+            None => Err(Refusal::NoPlace),
+        }
+    }
+
+    /// Learns what the board told. Each later read sees it.
+    pub fn learn(&mut self, told: Told<J>)
+        ensures seen { seen self.new ≡ seen self.old }
+        ensures one { (learned self.new ≡ learned self.old) ⊎ (learned self.new ≡ told) }
+        ensures before { IsPrefix (learned self.old) (learned self.new) }
+        ensures told { IsPrefix told (learned self.new) }
+        ensures one_history { IsPrefix (seen self.new) told ⊎ IsPrefix told (seen self.new) }
+    {
+        let front = told.into_front();
+        self.seen.one_history(&front);
+        if front.covers(&self.learned) {
+            self.learned = front;
+        }
+    }
+}
+
+// The leader for the key, and the list that names it.
+fn find<J: Naming>(place: Place<J>, key: Key) -> (Place<J>, Option<(Option<Candidate>, Front)>)
+    ensures { MatchOption result.1 (view result.0.place ≡ view place.place) (λ a. (a.0 ≡ leader_in a.1.seen.log key) × (a.1.seen.book ≡ J.book) × (view result.0.place ≡ a.1.seen.log) × IsPrefix (view place.place) a.1.seen.log) }
+{
+    match place.enter_as::<Sees<J>>() {
+        Ok(reading) => {
+            let answer = reading.get().who(&key);
+            let front = reading.get().front.again();
+            (reading.leave(), Some((answer, front)))
+        }
+        Err(place) => (place, None),
+    }
+}
+
+// The latest leader of the group, and the list that names it.
+fn find_latest<J: Naming>(
+    place: Place<J>,
+    group: GroupName,
+) -> (Place<J>, Option<(Option<(Term, Candidate)>, Front)>)
+    ensures { MatchOption result.1 (view result.0.place ≡ view place.place) (λ a. IsLatest (leads_in a.1.seen.log group) a.0 × (a.1.seen.book ≡ J.book) × (view result.0.place ≡ a.1.seen.log) × IsPrefix (view place.place) a.1.seen.log) }
+{
+    match place.enter_as::<Sees<J>>() {
+        Ok(reading) => {
+            let answer = reading.get().latest(&group);
+            let front = reading.get().front.again();
+            (reading.leave(), Some((answer, front)))
+        }
+        Err(place) => (place, None),
+    }
+}
