@@ -104,6 +104,3 @@ impl Ballot {
         }
     }
 }
-
-#[cfg(test)]
-mod tests;

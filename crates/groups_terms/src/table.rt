@@ -168,6 +168,3 @@ fn hear(ballot: &mut Ballot, me: NodeNo, msg: &Msg) -> Option<Msg>
         Msg::Elected { key, candidate } => ballot.hear_elected(me, *key, *candidate),
     }
 }
-
-#[cfg(test)]
-mod tests;

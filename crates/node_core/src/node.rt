@@ -201,6 +201,3 @@ impl NodeCore {
         )
     }
 }
-
-#[cfg(test)]
-mod tests;

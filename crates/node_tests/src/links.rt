@@ -1,0 +1,129 @@
+// Each public call of the links with ample memory: numbers below, at and above the expected one; credits of every kind;
+// the window behind each credit.
+use crate::rows::{msg, refusal};
+use neighbour_link::{Inlink, Judged, Outlink};
+use ring_records::Msg;
+use std::alloc::Global;
+use std::process::Abort;
+use test_rows::Cause;
+use test_rows::Note::Token;
+
+/// The token of node 1 with this bid.
+fn token(rt: &impl Abort, bid: u32) -> Msg {
+    msg(rt, Token("red", 5, bid, 1))
+}
+
+/// Sends the tokens with bids from `first` to below `end`, each under its bid as its number.
+fn queue(rt: &impl Abort, link: &mut Outlink, first: u32, end: u32) {
+    for bid in first..end {
+        assert!(rt; link.sent() < u64::MAX);
+        let no = link.queue(token(rt, bid)).expect(rt, "ample memory");
+        assert_eq!(rt; no, bid as u64);
+    }
+}
+
+/// The link has the tokens with bids from `credited` to below `sent` in its window.
+fn shows(rt: &impl Abort, link: &Outlink, credited: u32, sent: u32) {
+    assert_eq!(rt; link.credited(), credited as u64);
+    assert_eq!(rt; link.sent(), sent as u64);
+    let mut window = link.window();
+    for bid in credited..sent {
+        assert_eq!(rt;
+            window.first().copied(),
+            Some(token(rt, bid)),
+            "number {bid} behind {credited}"
+        );
+        window = window.split_at(1).1;
+    }
+    assert!(rt; window.is_empty(), "more than {sent}");
+}
+
+#[test]
+fn the_expected_number_alone_is_next(rt: HostRuntime) {
+    // Messages taken, a number, and what it is.
+    let rows = [
+        (0, 0, Judged::Next),
+        (0, 1, Judged::Gap),
+        (0, u64::MAX, Judged::Gap),
+        (2, 0, Judged::Old),
+        (2, 1, Judged::Old),
+        (2, 2, Judged::Next),
+        (2, 3, Judged::Gap),
+    ];
+    for (taken, no, judged) in rows {
+        let mut link = Inlink::new();
+        for _ in 0..taken {
+            assert!(&rt; link.expected() < u64::MAX);
+            link.take();
+        }
+        assert_eq!(rt; link.expected(), taken);
+        assert_eq!(rt; link.judge(no), judged, "{no} where {taken} were taken");
+    }
+}
+
+/// Messages sent, a credit before, a credit, and why it is refused.
+type Row = (u32, u32, u32, Option<Cause>);
+
+/// The link on which so many messages were sent and so many of them credited.
+fn credited(rt: &impl Abort, alloc: Global, sent: u32, credit: u32) -> Outlink {
+    let mut link = Outlink::new(alloc);
+    queue(rt, &mut link, 0, sent);
+    if credit > 0 {
+        link.credit(credit as u64).expect(rt, "a credit before");
+    }
+    link
+}
+
+/// The credit is judged so, and so it is credited.
+fn credits(rt: &impl Abort, alloc: Global, row: Row) {
+    let (sent, before, upto, cause) = row;
+    let mut link = credited(rt, alloc, sent, before);
+    let now = if cause.is_none() { upto } else { before };
+    let judged = link.judge(upto as u64).err();
+    let refused = link.credit(upto as u64).err();
+    assert_eq!(rt; judged, refused);
+    assert_eq!(rt;
+        refused,
+        refusal(rt, cause),
+        "{upto} behind {before} of {sent}"
+    );
+    shows(rt, &link, now, sent);
+}
+
+#[test]
+fn credits_are_above_the_last_and_not_above_the_sent(rt: HostRuntime) {
+    let rows = [
+        (0, 0, 0, Some(Cause::Old(0))),
+        (0, 0, 1, Some(Cause::AckAhead(0))),
+        (3, 0, 0, Some(Cause::Old(0))),
+        (3, 0, 1, None),
+        (3, 0, 3, None),
+        (3, 0, 4, Some(Cause::AckAhead(3))),
+        (3, 2, 1, Some(Cause::Old(2))),
+        (3, 2, 2, Some(Cause::Old(2))),
+        (3, 2, 3, None),
+        (3, 3, 3, Some(Cause::Old(3))),
+        (3, 3, 4, Some(Cause::AckAhead(3))),
+    ];
+    for row in rows {
+        credits(&rt, rt.alloc(), row);
+    }
+}
+
+#[test]
+fn the_window_begins_at_the_credit(rt: HostRuntime) {
+    let mut link = Outlink::new(rt.alloc());
+    shows(&rt, &link, 0, 0);
+    link.reserve(64).expect(&rt, "ample memory");
+    shows(&rt, &link, 0, 0);
+    // How many are sent by then, and the credit that comes then.
+    let mut sent = 0;
+    for (end, upto) in [(5, 1), (5, 2), (5, 3), (6, 4), (9, 8), (9, 9), (12, 10)] {
+        queue(&rt, &mut link, sent, end);
+        sent = end;
+        link.credit(upto as u64).expect(&rt, "a credit");
+        shows(&rt, &link, upto, end);
+        let copy = link.try_copy().expect(&rt, "ample memory");
+        shows(&rt, &copy, upto, end);
+    }
+}

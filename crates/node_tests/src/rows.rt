@@ -1,0 +1,45 @@
+// What rows name, as values.
+use ring_records::{Bid, Candidate, Input, Key, Msg, NodeNo, Refusal};
+use std::process::Abort;
+use test_rows::{Cause, Note, Op};
+
+pub fn bid(rt: &impl Abort, number: u32) -> Bid {
+    Bid::new(number).expect(rt, "a bid")
+}
+
+pub fn node(rt: &impl Abort, number: u8) -> NodeNo {
+    NodeNo::new(number).expect(rt, "a node")
+}
+
+pub fn key(rt: &impl Abort, group: &str, term: u32) -> Key {
+    test_rows::key(group, term).expect(rt, "a key")
+}
+
+/// The candidate of this bid and node.
+pub fn candidate(rt: &impl Abort, numbers: (u32, u8)) -> Candidate {
+    test_rows::candidate(numbers.0, numbers.1).expect(rt, "a candidate")
+}
+
+/// The leader of this bid and node, or none.
+pub fn leader(rt: &impl Abort, numbers: Option<(u32, u8)>) -> Option<Candidate> {
+    match numbers {
+        Some(numbers) => Some(candidate(rt, numbers)),
+        None => None,
+    }
+}
+
+pub fn msg(rt: &impl Abort, note: Note) -> Msg {
+    note.msg().expect(rt, "a message")
+}
+
+pub fn input(rt: &impl Abort, op: Op) -> Input {
+    op.input().expect(rt, "an input")
+}
+
+/// The refusal for this cause, or none.
+pub fn refusal(rt: &impl Abort, cause: Option<Cause>) -> Option<Refusal> {
+    match cause {
+        Some(cause) => Some(cause.refusal().expect(rt, "a cause")),
+        None => None,
+    }
+}

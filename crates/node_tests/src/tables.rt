@@ -1,0 +1,77 @@
+// Each public call of a table with ample memory: one key after the other, and the latest of a group.
+use crate::rows::{bid, candidate, key, msg, node};
+use cr_automaton::Ballot;
+use groups_terms::Table;
+use ring_records::{GroupName, Key, Msg, Term};
+use std::process::Abort;
+use test_rows::Note::{self, Elected};
+
+#[test]
+fn a_stand_touches_one_key(rt: HostRuntime) {
+    let (red, own) = (key(&rt, "red", 5), bid(&rt, 30));
+    let mut table = Table::new(rt.alloc(), node(&rt, 2));
+    assert_eq!(rt; table.ballot(&red), None);
+    assert_eq!(rt; table.stands(), 0);
+    let token = table.stand(red, own).expect(&rt, "ample memory");
+    let candidate = candidate(&rt, (30, 2));
+    assert_eq!(rt;
+        token,
+        Msg::Token {
+            key: red,
+            candidate
+        }
+    );
+    let kept = Ballot {
+        stood: Some(own),
+        leader: None,
+    };
+    assert_eq!(rt; table.ballot(&red), Some(kept));
+    assert_eq!(rt; table.who(&red), None);
+    assert_eq!(rt; table.stands(), 1);
+    for (group, term) in [("red", 4), ("red", 6), ("re", 5), ("redd", 5)] {
+        assert_eq!(rt; table.ballot(&key(&rt, group, term)), None);
+    }
+}
+
+/// The table hears the message; then the latest leader of the group has this term, and this bid and node.
+fn hears(
+    rt: &impl Abort,
+    table: &mut Table,
+    group: &GroupName,
+    note: Note,
+    latest: (u32, (u32, u8)),
+) {
+    let on = table.hear(&msg(rt, note));
+    assert!(rt; on.is_ok(), "ample memory");
+    let term = Term::new(latest.0).expect(rt, "a term");
+    let want = Some((term, candidate(rt, latest.1)));
+    assert_eq!(rt; table.latest(group), want);
+}
+
+/// The leader for the key has this bid and node, and the table has no Stand.
+fn is_led(rt: &impl Abort, table: &Table, key: &Key, numbers: (u32, u8)) {
+    assert_eq!(rt; table.who(key), Some(candidate(rt, numbers)));
+    assert_eq!(rt; table.stands(), 0);
+}
+
+#[test]
+fn the_latest_is_of_the_greatest_term(rt: HostRuntime) {
+    let mut table = Table::new(rt.alloc(), node(&rt, 2));
+    let red = key(&rt, "red", 8);
+    assert_eq!(rt; table.latest(&red.group), None);
+    let greatest = (9, (90, 3));
+    let rows = [
+        (Elected("red", 7, 70, 3), (7, (70, 3))),
+        (Elected("red", 9, 90, 3), greatest),
+        (Elected("red", 8, 80, 3), greatest),
+        (Elected("blu", 99, 99, 3), greatest),
+        (Elected("red", 9, 91, 3), greatest),
+    ];
+    for (note, latest) in rows {
+        hears(&rt, &mut table, &red.group, note, latest);
+    }
+    is_led(&rt, &table, &red, (80, 3));
+    let copy = table.try_copy().expect(&rt, "ample memory");
+    is_led(&rt, &copy, &red, (80, 3));
+    assert_eq!(rt; copy.latest(&red.group), table.latest(&red.group));
+}
