@@ -24,6 +24,4 @@ mod console;
 mod print;
 /// Runs of a whole script, from a reader to a writer.
 pub mod run;
-#[cfg(test)]
-mod tests;
 mod words;
