@@ -24,5 +24,3 @@ mod console;
 mod print;
 /// Runs of a whole script, from a reader to a writer.
 pub mod run;
-#[cfg(test)]
-mod tests;

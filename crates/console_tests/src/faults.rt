@@ -1,15 +1,17 @@
 // Readers and writers that fail, or that do little at a time.
-use crate::run::{RunFault, run};
-use crate::tests::rows::FIRST_ELECTION;
-use std::alloc::Global;
+use crate::session::{FIRST_ELECTION, Line, Session};
+use fault_console::run::{RunFault, run};
+use std::alloc::AllocGlobal;
 use std::io::{self, ErrorKind, Read, Write};
+use std::process::Abort;
 use std::test::Fail;
 
-// A short script over small devices, and its text.
-const SHORT: (&[u8], &str) = (
-    b"ring 2 lazy 4096\nstand 1 red 5 10\nflush 1\n",
-    "ring 2\n1: sealed\nflushed 1\n1: stood\n",
-);
+// A short script over small devices.
+const SHORT: &[Line] = &[
+    ("ring 2 lazy 4096", &["ring 2"]),
+    ("stand 1 red 5 10", &["1: sealed"]),
+    ("flush 1", &["flushed 1", "1: stood"]),
+];
 
 // Gives at most `size` bytes a read, and fails after `reads` reads.
 #[derive(Drop)]
@@ -60,57 +62,54 @@ impl Write for Narrow {
     }
 }
 
-#[test]
-fn each_read_fails_in_turn(rt: HostRuntime) {
-    let (script, text) = FIRST_ELECTION;
-    // one byte a read, and one read that finds the end
-    for reads in 0..script.len() + 2 {
-        let mut reader = Drip {
-            rest: script,
-            size: 1,
-            reads,
-        };
-        let mut out = Vec::new(rt.alloc());
-        let answer = run(rt.alloc(), &mut reader, &mut out);
-        if reads <= script.len() {
-            assert_eq!(rt; answer, Err(RunFault::Read), "after {reads} reads");
-            assert!(rt; out.is_empty(), "after {reads} reads");
-        } else {
-            assert_eq!(rt; answer, Ok(8));
-            assert!(rt; out.as_slice() == text.as_bytes());
-        }
+// Reads one byte at a time, and fails after so many reads: then nothing was printed, and else all was.
+fn assert_read<R: Abort + AllocGlobal>(rt: &R, session: &Session, reads: usize) {
+    let mut reader = Drip {
+        rest: &session.script,
+        size: 1,
+        reads,
+    };
+    let mut out = Vec::new(rt.alloc());
+    let answer = run(rt.alloc(), &mut reader, &mut out);
+    if reads <= session.script.len() {
+        assert_eq!(rt; answer, Err(RunFault::Read), "after {reads} reads");
+        assert!(rt; out.is_empty(), "after {reads} reads");
+    } else {
+        assert_eq!(rt; answer, Ok(8));
+        assert!(rt; out.as_slice() == session.text.as_bytes());
     }
 }
 
-// What SHORT answers over such a writer, and what that took.
-fn written(
-    alloc: Global,
-    size: usize,
-    writes: usize,
-    takes_nothing: bool,
-) -> (Result<u64, RunFault>, Vec<u8>) {
-    let mut reader = SHORT.0;
-    let mut writer = Narrow {
-        text: Vec::new(alloc),
-        size,
-        writes,
-        takes_nothing,
-    };
-    let answer = run(alloc, &mut reader, &mut writer);
-    (answer, writer.text)
+#[test]
+fn each_read_fails_in_turn(rt: HostRuntime) -> Result<(), Fail> {
+    let session = Session::of(rt.alloc(), FIRST_ELECTION)?;
+    // one byte a read, and one read that finds the end
+    for reads in 0..session.script.len() + 2 {
+        assert_read(&rt, &session, reads);
+    }
+    Ok(())
 }
 
-// Whether all of SHORT's text was written, or where a write failed, what was written before it.
-fn is_told(answer: Result<u64, RunFault>, out: &[u8], writes: usize) -> bool {
-    let text = SHORT.1.as_bytes();
+// Whether all of a text of four lines was written, or, where a write failed, what was written before it.
+fn is_told(text: &[u8], answer: Result<u64, RunFault>, out: &[u8], writes: usize) -> bool {
     if out == text {
         return answer == Ok(4);
     }
     answer == Err(RunFault::Write) && text.starts_with(out) && writes <= out.len()
 }
 
+// The text of the session is written as far as the writer takes it.
+fn assert_written<R: Abort + AllocGlobal>(rt: &R, session: &Session, mut writer: Narrow) {
+    let mut reader = session.script.as_slice();
+    let (size, writes) = (writer.size, writer.writes);
+    let answer = run(rt.alloc(), &mut reader, &mut writer);
+    let told = is_told(session.text.as_bytes(), answer, &writer.text, writes);
+    assert!(rt; told, "{writes} writes of {size}");
+}
+
 #[test]
-fn each_write_fails_in_turn(rt: HostRuntime) {
+fn each_write_fails_in_turn(rt: HostRuntime) -> Result<(), Fail> {
+    let session = Session::of(rt.alloc(), SHORT)?;
     for (size, takes_nothing) in [
         (1, false),
         (1, true),
@@ -118,11 +117,18 @@ fn each_write_fails_in_turn(rt: HostRuntime) {
         (1_000, false),
         (1_000, true),
     ] {
-        for writes in 0..SHORT.1.len() + 1 {
-            let (answer, out) = written(rt.alloc(), size, writes, takes_nothing);
-            assert!(rt; is_told(answer, &out, writes), "{writes} writes of {size}");
+        for writes in 0..session.text.len() + 1 {
+            let text = Vec::new(rt.alloc());
+            let writer = Narrow {
+                text,
+                size,
+                writes,
+                takes_nothing,
+            };
+            assert_written(&rt, &session, writer);
         }
     }
+    Ok(())
 }
 
 // Gives one byte a read, and counts the reads.

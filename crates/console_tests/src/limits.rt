@@ -1,0 +1,61 @@
+// Worked sessions of many lines.
+use crate::session::{Line, Session, assert_played};
+use std::alloc::{AllocError, Global};
+
+// Node 1 stands for terms 1 to `terms` of group `red` with this bid, and each ticket is answered so.
+fn add_stands(
+    session: &mut Session,
+    alloc: Global,
+    terms: u32,
+    bid: u32,
+    answer: &str,
+) -> Result<(), AllocError> {
+    for at in 0..terms {
+        let term = at + 1;
+        let command = format!(in alloc; "stand 1 red {term} {bid}\n")?;
+        let reply = format!(in alloc; "{term}: {answer}")?;
+        session.add(command.as_bytes(), &[reply.as_str()])?;
+    }
+    Ok(())
+}
+
+// A flush takes 64 inputs, and the next one takes the last.
+#[test]
+fn batches_of_64(rt: HostRuntime) -> Result<(), AllocError> {
+    let mut session = Session::of(rt.alloc(), &[("ring 2 lazy", &["ring 2"])])?;
+    add_stands(&mut session, rt.alloc(), 65, 1, "sealed")?;
+    session.add_lines(&[("flush 1", &["flushed 64"])])?;
+    for ticket in 1..65_u32 {
+        writeln!(session.text, "{ticket}: stood")?;
+    }
+    session.add_lines(&[("flush 1", &["flushed 1", "65: stood"])])?;
+    assert_played(&rt, "batches_of_64", &session);
+    Ok(())
+}
+
+// 204 times a cost of 20 is 4,080 of 4,096 bytes.
+#[test]
+fn full_capacity(rt: HostRuntime) -> Result<(), AllocError> {
+    const END: &[Line] = &[
+        ("stand 1 red 205 10", &["205: no 7 full"]),
+        (
+            "show 1",
+            &["node 1 inputs 204 durable 204 sent 204 taken 0 credit 0"],
+        ),
+    ];
+    let mut session = Session::of(rt.alloc(), &[("ring 2 eager 4096", &["ring 2"])])?;
+    add_stands(&mut session, rt.alloc(), 204, 10, "stood")?;
+    session.add_lines(END)?;
+    assert_played(&rt, "full_capacity", &session);
+    Ok(())
+}
+
+// A node stands for 1,024 terms, and not for one more.
+#[test]
+fn stand_limit(rt: HostRuntime) -> Result<(), AllocError> {
+    let mut session = Session::of(rt.alloc(), &[("ring 2", &["ring 2"])])?;
+    add_stands(&mut session, rt.alloc(), 1_024, 10, "stood")?;
+    session.add_lines(&[("stand 1 red 1025 10", &["1025: no 6 limit"])])?;
+    assert_played(&rt, "stand_limit", &session);
+    Ok(())
+}

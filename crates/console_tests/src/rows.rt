@@ -1,0 +1,154 @@
+// Worked sessions, whose text is known by the protocol.
+use crate::session::{FIRST_ELECTION, Line, Session, assert_named, assert_session, played};
+use std::test::Fail;
+
+#[test]
+fn first_election(rt: HostRuntime) {
+    assert_session(&rt, FIRST_ELECTION);
+}
+
+// A whole run with ample memory, shown, so that one without can be held beside it.
+#[test]
+fn a_run_is_shown(rt: HostRuntime) -> Result<(), Fail> {
+    let first = Session::of(rt.alloc(), FIRST_ELECTION)?;
+    let (answer, out) = played(rt.alloc(), &first.script);
+    let text = str::from_utf8(&out).unwrap_or("bytes that are no text");
+    let _ = println!(rt; "{text}{answer:?}");
+    assert_eq!(rt; answer, Ok(8));
+    assert_eq!(rt; text, first.text.as_str());
+    Ok(())
+}
+
+#[test]
+fn equal_bids(rt: HostRuntime) {
+    const SESSION: &[Line] = &[
+        ("ring 3", &["ring 3"]),
+        ("stand 1 red 5 10", &["1: stood"]),
+        ("stand 3 red 5 10", &["2: stood"]),
+        ("deliver all", &["delivered 8"]),
+        ("who 2 red 5", &["3: leader 3 10"]),
+    ];
+    assert_session(&rt, SESSION);
+}
+
+#[test]
+fn late_after_relay(rt: HostRuntime) {
+    const SESSION: &[Line] = &[
+        ("ring 3 lazy", &["ring 3"]),
+        ("stand 1 red 5 10", &["1: sealed"]),
+        ("flush 1", &["flushed 1", "1: stood"]),
+        ("deliver 1 0", &["2: sealed"]),
+        ("stand 2 red 5 40", &["3: sealed"]),
+        ("flush 2", &["flushed 1", "2: taken", "3: no 4 late"]),
+    ];
+    assert_session(&rt, SESSION);
+}
+
+#[test]
+fn stopped_at_the_gate(rt: HostRuntime) {
+    const SESSION: &[Line] = &[
+        ("ring 3 lazy", &["ring 3"]),
+        ("stand 1 red 5 10", &["1: sealed"]),
+        ("stop 1 3 fill 1", &["1: lost", "up 1 1"]),
+        ("stand 1 red 5 10", &["2: no 3 already 10"]),
+    ];
+    assert_session(&rt, SESSION);
+}
+
+#[test]
+fn stopped_before_the_gate(rt: HostRuntime) {
+    const AT_CALL_1: &[Line] = &[
+        ("ring 3 lazy", &["ring 3"]),
+        ("stand 1 red 5 10", &["1: sealed"]),
+        ("stop 1 1 fill 1", &["1: lost", "up 1 0"]),
+        ("stand 1 red 5 10", &["2: sealed"]),
+    ];
+    const AT_CALL_4: &[Line] = &[
+        ("ring 3 lazy", &["ring 3"]),
+        ("stand 1 red 5 10", &["1: sealed"]),
+        ("stop 1 4 fill 7", &["1: lost", "up 1 0"]),
+        ("stand 1 red 5 10", &["2: sealed"]),
+    ];
+    assert_named(&rt, "at call 1", AT_CALL_1);
+    assert_named(&rt, "at call 4", AT_CALL_4);
+}
+
+#[test]
+fn repeats_are_old(rt: HostRuntime) {
+    const SESSION: &[Line] = &[
+        ("ring 3", &["ring 3"]),
+        ("stand 1 red 5 10", &["1: stood"]),
+        ("stand 1 blue 1 3", &["2: stood"]),
+        ("deliver 1 0", &["3: taken"]),
+        ("deliver 1 1", &["4: taken"]),
+        ("deliver 1 1", &["5: no 13 old 2"]),
+        ("deliver 1 1", &["6: no 13 old 2"]),
+        ("deliver 1 0", &["7: no 13 old 2"]),
+    ];
+    assert_session(&rt, SESSION);
+}
+
+#[test]
+fn gaps_are_refused(rt: HostRuntime) {
+    const SESSION: &[Line] = &[
+        ("ring 3", &["ring 3"]),
+        ("stand 1 red 5 10", &["1: stood"]),
+        ("stand 1 blue 1 3", &["2: stood"]),
+        ("deliver 1 1", &["3: no 13 gap 0"]),
+        ("deliver 1 0", &["4: taken"]),
+        ("deliver 1 1", &["5: taken"]),
+        ("deliver 1 2", &["no 21 unknown"]),
+    ];
+    assert_session(&rt, SESSION);
+}
+
+#[test]
+fn credit_after_sync(rt: HostRuntime) {
+    const SESSION: &[Line] = &[
+        ("ring 3 lazy", &["ring 3"]),
+        ("stand 1 red 5 10", &["1: sealed"]),
+        ("flush 1", &["flushed 1", "1: stood"]),
+        ("deliver 1 0", &["2: sealed"]),
+        ("crash 2", &["2: lost", "up 2 0"]),
+        ("credit 2 1", &["no 21 unknown"]),
+        ("deliver 1 0", &["3: sealed"]),
+        ("flush 2", &["flushed 1", "3: taken"]),
+        ("credit 2 1", &["4: sealed"]),
+        ("flush 1", &["flushed 1", "4: acked"]),
+        (
+            "show 1",
+            &["node 1 inputs 2 durable 2 sent 1 taken 0 credit 1"],
+        ),
+    ];
+    assert_session(&rt, SESSION);
+}
+
+#[test]
+fn ring_of_two(rt: HostRuntime) {
+    const SESSION: &[Line] = &[
+        ("ring 2", &["ring 2"]),
+        ("stand 2 red 1 0", &["1: stood"]),
+        ("deliver all", &["delivered 4"]),
+        ("who 1 red 1", &["2: leader 2 0"]),
+    ];
+    assert_session(&rt, SESSION);
+}
+
+#[test]
+fn stale_after_crash(rt: HostRuntime) {
+    const SESSION: &[Line] = &[
+        ("ring 2", &["ring 2"]),
+        ("stand 1 red 9 5", &["1: stood"]),
+        ("deliver all", &["delivered 4"]),
+        ("stand 1 red 4 5", &["2: no 5 stale 9"]),
+        ("latest 1 red", &["3: term 9 leader 1 5"]),
+        ("crash 1", &["up 1 3"]),
+        ("latest 1 red", &["4: term 9 leader 1 5"]),
+    ];
+    assert_session(&rt, SESSION);
+}
+
+#[test]
+fn empty_script(rt: HostRuntime) {
+    assert_session(&rt, &[]);
+}
