@@ -1,5 +1,6 @@
 // The worked rows, byte for byte.
 use super::*;
+use disk_model::{FileDevice, Tear};
 use std::fs;
 
 #[test]

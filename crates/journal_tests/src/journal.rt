@@ -1,11 +1,12 @@
-// What no clause says: the bytes on the device, and that calls succeed with ample memory. The bytes are worked out by
-// hand from the layout.
-use super::*;
-use disk_model::{Device, FileDevice, FuseDevice, MemDevice, Tear};
-use ring_records::{Bid, GroupName, Input, Key, NodeNo, Refusal, Term};
+// The journals of gated_journal: what no clause says, which is the bytes on the device, and that calls succeed with ample
+// memory. The bytes are worked out by hand from the layout.
+use disk_model::{Device, FuseDevice, MemDevice};
+use gated_journal::{Batch, Journal};
+use ring_records::{Input, NodeNo, Refusal};
 use std::alloc::{AllocGlobal, Global};
 use std::process::Abort;
 use std::test::Fail;
+use test_rows::Op;
 
 mod cuts;
 mod images;
@@ -23,14 +24,8 @@ const COMMITTED: [u8; 37] = [
     0x0D, 1, 3, 0x72, 0x65, 0x64, 0, 0, 0, 5, 0, 0, 0, 0x0A, 0,
 ];
 
-/// Stand of group `red`, term 5, bid 10.
 fn stand() -> Result<Input, Refusal> {
-    let (group, term) = (GroupName::read(b"red")?, Term::new(5)?);
-    let bid = Bid::new(10)?;
-    Ok(Input::Stand {
-        key: Key { group, term },
-        bid,
-    })
+    Op::Stand("red", 5, 10).input()
 }
 
 /// A read of the whole device gives these bytes.

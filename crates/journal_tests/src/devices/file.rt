@@ -1,6 +1,5 @@
 // Files of the system: what was written and synced is read back after the file is opened again; what is refused.
-use super::{FILE_LIMIT, FileDevice, OpenFault};
-use crate::Device;
+use disk_model::{Device, FILE_LIMIT, FileDevice, OpenFault};
 use std::alloc::AllocGlobal;
 use std::fs;
 use std::process::Abort;

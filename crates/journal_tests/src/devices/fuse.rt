@@ -1,6 +1,5 @@
 // A fuse in both modes at each call: which calls fail, what is passed on, and what is counted.
-use super::FuseDevice;
-use crate::{Device, MemDevice};
+use disk_model::{Device, FuseDevice, MemDevice, Tear};
 use std::alloc::Global;
 use std::test::Fail;
 
@@ -79,7 +78,7 @@ fn a_sync_that_fails_makes_nothing_stable(rt: HostRuntime) -> Result<(), Fail> {
     let mut device = FuseDevice::new(written(rt.alloc())?, 0, true);
     assert!(&rt; device.sync().is_err());
     let mut inner = device.into_inner();
-    inner.crash(crate::Tear::Old);
+    inner.crash(Tear::Old);
     assert_eq!(rt; inner.size(), 0);
     Ok(())
 }

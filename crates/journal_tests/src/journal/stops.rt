@@ -1,6 +1,7 @@
 // A stop at each of the four calls of a commit, with each tear: the list from before it, or with the whole batch. And how
 // many calls of the device there are.
 use super::*;
+use disk_model::Tear;
 
 /// How many inputs are found after a stop of the commit of a second input, at its call behind so many that passed.
 fn found<R: Abort + AllocGlobal>(rt: &R, passed: u64, tear: Tear) -> Result<usize, Fail> {

@@ -1,7 +1,6 @@
 // What each tear leaves, over writes that overlap, grow or lie apart; and that calls succeed and fail at the limit. The
 // values are worked out by hand from what the tears say.
-use super::{MemDevice, Tear};
-use crate::Device;
+use disk_model::{Device, MemDevice, Tear};
 use std::alloc::{AllocGlobal, Global};
 use std::process::Abort;
 use std::test::Fail;
