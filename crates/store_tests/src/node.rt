@@ -1,13 +1,14 @@
-// What no clause says: that the calls succeed with ample memory, and what a stop leaves of a node. All nodes are of a
-// ring of 3, of capacity 4,096, but where a row says otherwise.
-use super::*;
+// The nodes of node_store: what no clause says, which is that the calls succeed with ample memory, and what a stop leaves
+// of a node. All nodes are of a ring of 3, of capacity 4,096, but where a row says otherwise.
+use crate::journal::empty_device;
+use crate::rows::{Sends, leads_are, node, reply, request, sends_are};
 use disk_model::{FuseDevice, MemDevice, Tear};
 use group_commit::{Landed, Ticket};
-use ring_records::{
-    Bid, Candidate, GroupName, Key, Msg, NodeNo, Packet, Refusal, Reply, Request, Term,
-};
+use node_store::Node;
+use ring_records::Refusal;
 use std::alloc::AllocGlobal;
 use std::process::Abort;
+use test_rows::{Ask, Cause, Note, Say};
 
 mod memory;
 mod refusals;
@@ -16,38 +17,6 @@ mod stops;
 mod windows;
 
 type Stored = Node<FuseDevice<MemDevice>>;
-
-fn node(rt: &impl Abort, number: u8) -> NodeNo {
-    NodeNo::new(number).expect(rt, "a node")
-}
-
-/// The key of group `red` and this term.
-fn key(rt: &impl Abort, number: u32) -> Key {
-    let group = GroupName::read(b"red").expect(rt, "a group name");
-    let term = Term::new(number).expect(rt, "a term");
-    Key { group, term }
-}
-
-/// A Stand for a term of group `red`.
-fn stand(rt: &impl Abort, term: u32, number: u32) -> Request {
-    let key = key(rt, term);
-    let bid = Bid::new(number).expect(rt, "a bid");
-    Request::Stand(key, bid)
-}
-
-/// The token for term 5 of group `red` that names the candidate of this bid and node.
-fn token(rt: &impl Abort, number: u32, of: u8) -> Msg {
-    let key = key(rt, 5);
-    let bid = Bid::new(number).expect(rt, "a bid");
-    let node = node(rt, of);
-    let candidate = Candidate { bid, node };
-    Msg::Token { key, candidate }
-}
-
-fn empty_device<R: Abort + AllocGlobal>(rt: &R) -> FuseDevice<MemDevice> {
-    let device = MemDevice::new(rt.alloc(), 17 + 4096).expect(rt, "ample memory");
-    FuseDevice::idle(device)
-}
 
 /// A new node, in a ring of `n`, at its opening 0.
 fn created<R: Abort + AllocGlobal>(rt: &R, number: u8, n: u8) -> Stored {
@@ -67,7 +36,8 @@ fn recovered<R: Abort + AllocGlobal>(rt: &R, device: FuseDevice<MemDevice>, numb
 }
 
 /// The node gives a ticket of this number for the request.
-fn asks(rt: &impl Abort, made: &mut Stored, question: Request, number: u64) -> Ticket {
+fn asks(rt: &impl Abort, made: &mut Stored, ask: Ask, number: u64) -> Ticket {
+    let question = request(rt, ask);
     let ticket = made.submit(question).expect(rt, "a ticket");
     assert_eq!(rt; ticket.number(), number);
     assert_eq!(rt; ticket.question(), question);
@@ -75,8 +45,9 @@ fn asks(rt: &impl Abort, made: &mut Stored, question: Request, number: u64) -> T
 }
 
 /// The ticket is redeemed with this reply.
-fn redeems(rt: &impl Abort, made: &mut Stored, ticket: Ticket, reply: Reply) {
+fn redeems(rt: &impl Abort, made: &mut Stored, ticket: Ticket, say: Say) {
     let number = ticket.number();
+    let reply = reply(rt, say);
     match made.redeem(ticket) {
         Ok((found, stub)) => {
             assert_eq!(rt; found, reply);
@@ -118,7 +89,7 @@ fn flushes(rt: &impl Abort, made: &mut Stored, count: u32) -> Landed {
 
 /// The node has so many inputs, and so many of them are durable.
 fn counts(made: &Stored) -> (usize, u64) {
-    (made.desk.history().len(), made.desk.durable())
+    (made.history().len(), made.durable())
 }
 
 /// The device of a node that takes no requests and has no open ticket.

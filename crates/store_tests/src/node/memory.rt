@@ -1,14 +1,16 @@
 // Calls that are refused for want of memory change nothing, and succeed when they are made again.
 use super::*;
 
+const STAND: Ask = Ask::Stand("red", 5, 10);
+
 /// The node gives a ticket for a Stand, at the second call where the first finds no memory.
 fn stands_at_last(rt: &impl Abort, made: &mut Stored) -> Ticket {
-    match made.submit(stand(rt, 5, 10)) {
+    match made.submit(request(rt, STAND)) {
         Ok(ticket) => ticket,
         Err(refusal) => {
             assert_eq!(rt; refusal, Refusal::OutOfMemory);
             assert_eq!(rt; counts(made), (0, 0));
-            asks(rt, made, stand(rt, 5, 10), 1)
+            asks(rt, made, STAND, 1)
         }
     }
 }
@@ -41,7 +43,7 @@ fn refused_growths(rt: HostRuntime) {
     let mut made = created(&rt, 1, 3);
     let stood = stands_at_last(&rt, &mut made);
     assert_eq!(rt; flushes_at_last(&rt, &mut made).packets.len(), 1);
-    redeems(&rt, &mut made, stood, Reply::Stood);
+    redeems(&rt, &mut made, stood, Say::Stood);
     made.close();
     let made = recovers_at_last(&rt, ended(&rt, made));
     assert_eq!(rt; counts(&made), (1, 1));

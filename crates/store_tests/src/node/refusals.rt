@@ -1,8 +1,10 @@
 // What is refused, with the device handed back.
 use super::*;
+use crate::journal::{commits, journal_of};
+use crate::rows::inputs;
 use disk_model::Device;
-use gated_journal::{Batch, Journal};
-use ring_records::Input;
+use gated_journal::Batch;
+use test_rows::Op;
 
 #[test]
 fn nodes_and_capacities_out_of_range(rt: HostRuntime) {
@@ -80,23 +82,10 @@ fn an_open_gate_with_no_frame(rt: HostRuntime) {
 
 /// A device whose journal, of node 1 of 3, holds one credit of a message that was never sent.
 fn unlawful<R: Abort + AllocGlobal>(rt: &R) -> FuseDevice<MemDevice> {
-    let Ok(mut journal) = Journal::format(empty_device(rt), node(rt, 1), 3, 4096) else {
-        panic!(rt; "not formatted");
-    };
-    let inputs = [Input::Acked { upto: 1 }];
-    let batch = Batch::new(rt.alloc(), journal.node(), 0, &inputs).expect(rt, "a batch");
-    assert!(rt; !journal.is_spoiled());
-    assert!(rt; batch.node() == journal.node());
-    assert!(rt; batch.first() == journal.len());
-    assert!(rt; journal.room() >= batch.cost());
-    match journal.commit(batch) {
-        Ok(receipt) => {
-            receipt.into_parts();
-        }
-        Err(spoiled) => {
-            spoiled.into_parts();
-        }
-    }
+    let mut journal = journal_of(rt, node(rt, 1));
+    let inputs = inputs(rt, rt.alloc(), &[Op::Acked(1)]);
+    let batch = Batch::new(rt.alloc(), node(rt, 1), 0, &inputs).expect(rt, "a batch");
+    commits(rt, &mut journal, batch).into_parts();
     journal.into_device()
 }
 
@@ -117,20 +106,23 @@ fn a_device_that_fails_as_a_node_is_recovered(rt: HostRuntime) {
     }
 }
 
+/// No ticket is given for the request, since the node is closed.
+fn takes_no(rt: &impl Abort, made: &mut Stored, ask: Ask) {
+    let question = request(rt, ask);
+    match made.submit(question) {
+        Ok(_ticket) => panic!(rt; "a ticket"),
+        Err(refusal) => assert_eq!(rt; refusal, Refusal::Failed),
+    }
+}
+
 #[test]
 fn a_closed_node_takes_no_requests(rt: HostRuntime) {
     let mut made = created(&rt, 1, 3);
-    let stood = asks(&rt, &mut made, stand(&rt, 5, 10), 1);
+    let stood = asks(&rt, &mut made, Ask::Stand("red", 5, 10), 1);
     assert!(rt; made.is_open());
     made.close();
-    match made.submit(Request::Who(key(&rt, 5))) {
-        Ok(_ticket) => panic!(&rt; "a ticket"),
-        Err(refusal) => assert_eq!(rt; refusal, Refusal::Failed),
-    }
+    takes_no(&rt, &mut made, Ask::Who("red", 5));
     flushes(&rt, &mut made, 1);
-    redeems(&rt, &mut made, stood, Reply::Stood);
-    match made.submit(Request::Take(0, token(&rt, 10, 4))) {
-        Ok(_ticket) => panic!(&rt; "a ticket"),
-        Err(refusal) => assert_eq!(rt; refusal, Refusal::Failed),
-    }
+    redeems(&rt, &mut made, stood, Say::Stood);
+    takes_no(&rt, &mut made, Ask::Take(0, Note::Token("red", 5, 10, 4)));
 }
