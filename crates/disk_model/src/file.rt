@@ -18,9 +18,6 @@ use std::path::Path;
 use std::rt::Files;
 use std::{fs, io};
 
-#[cfg(test)]
-mod tests;
-
 /// How long a file may be that is a device, in bytes.
 pub const FILE_LIMIT: usize = (1 << 21) + (1 << 12);
 

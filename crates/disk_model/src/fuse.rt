@@ -5,9 +5,6 @@ ghost use Rattle.disk_model.specs.Fuse.{is_idle, fails_at, planned};
 
 use crate::{Device, DeviceFault};
 
-#[cfg(test)]
-mod tests;
-
 // Which calls from now on fail.
 #[derive(Clone, Copy, Debug)]
 enum Fuse {

@@ -9,9 +9,6 @@ use crate::shadow::Shadow;
 use crate::{Device, DeviceFault};
 use std::alloc::{AllocError, Global};
 
-#[cfg(test)]
-mod tests;
-
 /// What a stop makes of the ranges written since the last sync that succeeded.
 #[derive(Clone, Copy, Debug, PartialEq, Eq)]
 pub enum Tear {

@@ -17,25 +17,3 @@ pub fn write_through<D: Device>(device: &mut D, off: u64, bytes: &[u8]) -> Resul
     device.write_at(off, bytes)?;
     device.sync()
 }
-
-#[cfg(test)]
-mod tests {
-    use super::write_through;
-    use crate::{Device, FuseDevice, MemDevice, Tear};
-    use std::test::Fail;
-
-    // The device's calls are a write and a sync. The fuse fails the first, the second, or none; the stop then takes back
-    // what was not stable.
-    #[test]
-    fn what_is_written_through_outlives_a_stop(rt: HostRuntime) -> Result<(), Fail> {
-        for (after, fails, left) in [(0, true, 0), (1, true, 0), (2, false, 3)] {
-            let mut device = FuseDevice::new(MemDevice::new(rt.alloc(), 8)?, after, true);
-            assert_eq!(rt; write_through(&mut device, 0, b"abc").is_err(), fails);
-            assert_eq!(rt; device.size(), 3);
-            let mut inner = device.into_inner();
-            inner.crash(Tear::Old);
-            assert_eq!(rt; inner.size(), left);
-        }
-        Ok(())
-    }
-}

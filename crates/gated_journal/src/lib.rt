@@ -13,6 +13,3 @@ mod spent;
 pub use batch::Batch;
 pub use journal::Journal;
 pub use spent::{Receipt, Spoiled};
-
-#[cfg(test)]
-mod tests;

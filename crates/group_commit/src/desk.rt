@@ -481,6 +481,4 @@ fn accept(
 }
 
 mod decisions;
-#[cfg(test)]
-mod tests;
 mod vouch;

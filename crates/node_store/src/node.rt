@@ -414,6 +414,3 @@ fn is_in_range(node: NodeNo, n: u8, capacity: u32) -> bool
 {
     2 <= n && n <= 16 && node.number() <= n && 4096 <= capacity && capacity <= 1_048_576
 }
-
-#[cfg(test)]
-mod tests;

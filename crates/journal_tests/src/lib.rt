@@ -1,0 +1,7 @@
+//! Tests of the devices and of the journal over them.
+#![tactic(auto)]
+
+#[cfg(test)]
+mod devices;
+#[cfg(test)]
+mod journal;

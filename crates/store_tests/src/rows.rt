@@ -1,0 +1,70 @@
+// What desks and nodes are given and give, in plain numbers. All numbers and names of rows are in their ranges.
+use ring_records::{Decision, Input, NodeNo, Packet, Reply, Request};
+use std::alloc::Global;
+use std::process::Abort;
+use test_rows::{Ask, Note, Op, Say, candidate, key};
+
+pub fn node(rt: &impl Abort, number: u8) -> NodeNo {
+    NodeNo::new(number).expect(rt, "a node")
+}
+
+pub fn request(rt: &impl Abort, ask: Ask) -> Request {
+    ask.request().expect(rt, "a request")
+}
+
+pub fn reply(rt: &impl Abort, say: Say) -> Reply {
+    say.reply().expect(rt, "a reply")
+}
+
+pub fn inputs(rt: &impl Abort, alloc: Global, ops: &[Op]) -> Vec<Input> {
+    let mut inputs = Vec::new(alloc);
+    for op in ops {
+        let input = op.input().expect(rt, "an input");
+        inputs.push(input).expect(rt, "ample memory");
+    }
+    inputs
+}
+
+/// A packet in plain numbers.
+#[derive(Clone, Copy)]
+pub enum Sends {
+    /// The number of the message, and the message.
+    Carry(u64, Note),
+    /// How many messages are taken.
+    Credit(u64),
+}
+
+impl Sends {
+    fn packet(self, rt: &impl Abort) -> Packet {
+        match self {
+            Sends::Carry(no, note) => {
+                let msg = note.msg().expect(rt, "a message");
+                Packet::Carry { no, msg }
+            }
+            Sends::Credit(upto) => Packet::Credit { upto },
+        }
+    }
+}
+
+/// The packets are these, in this order.
+pub fn sends_are(rt: &impl Abort, packets: &[Packet], sends: &[Sends]) {
+    assert_eq!(rt; packets.len(), sends.len());
+    for (place, want) in sends.iter().enumerate() {
+        let packet = want.packet(rt);
+        assert_eq!(rt; packets.get(place).copied(), Some(packet), "{place}");
+    }
+}
+
+/// That a candidate leads: the group and the term, and the bid and the node of the candidate.
+pub type Leads = (&'static str, u32, u32, u8);
+
+/// The decisions are these, in this order.
+pub fn leads_are(rt: &impl Abort, decisions: &[Decision], leads: &[Leads]) {
+    assert_eq!(rt; decisions.len(), leads.len());
+    for (place, (group, term, bid, node)) in leads.iter().enumerate() {
+        let key = key(group, *term).expect(rt, "a key");
+        let leader = candidate(*bid, *node).expect(rt, "a candidate");
+        let decision = Decision { key, leader };
+        assert_eq!(rt; decisions.get(place).copied(), Some(decision), "{place}");
+    }
+}
