@@ -84,3 +84,12 @@ why_not (Err refusal) e = absurd cc
 pub on_ok : {T E : Type 0} {P : Type 0} (r : Result T E) → is_ok r ≡ true → OnOk r P → P
 on_ok (Ok x) e p = p
 on_ok (Err x) e p = absurd cc
+
+pub ok_then : {T E : Type 0} {P Q : Type 0} (r : Result T E) → (P → Q) → OnOk r P → OnOk r Q
+ok_then (Ok x) f p = f p
+ok_then (Err x) f p = tt
+
+-- what holds of a place holds of the same place
+pub at_place : (P : ℕ → ℕ → ℕ → Type 0) {a b d me n capacity : ℕ} → a ≡ me → b ≡ n → d ≡ capacity → P a b d → P me n capacity
+at_place P {a} {b} {d} {me} {n} {capacity} me_is ring_is capacity_is holds =
+    subst (λ k. P me n k) capacity_is (subst (λ k. P me k d) ring_is (subst (λ k. P k b d) me_is holds))

@@ -50,6 +50,17 @@ waits_next me durable flying old new h x effects within holds brings same_releas
       count = subst (λ (l : Landed). durable < flying → l.count ≡ flying - durable) (sym same_landing) holds.count;
     }
 
+-- where nothing flies, it needs no memory for what flies
+pub holds_still : (me : ℕ) (outbox : Outbox) (h : List Input) (durable flying : ℕ) → Holds me outbox h durable flying → Holds me outbox h durable durable
+holds_still me outbox h durable flying holds = record {
+  released = holds.released;
+  waiting = holds.waiting;
+  room = record { messages = omega arith; decisions = omega (arith, holds.room.decisions) };
+  blank = holds.blank;
+  ready = λ less. absurd (omega (arith, less));
+  count = λ less. absurd (omega (arith, less));
+}
+
 -- ---- an outbox where nothing waits
 
 pub holds_none : (me : ℕ) (outbox : Outbox) → Keeps me outbox.released [] → vec_len outbox.released.decisions ≤ vec_capacity outbox.released.decisions

@@ -11,6 +11,7 @@ ghost use Rattle.group_commit.specs.Outbox.{Holds};
 ghost use Rattle.node_core.specs.Core.{CoreStandsFor};
 ghost use Rattle.group_commit.specs.Kept.{answered_with, place_with, kept_in, IsCount};
 
+use crate::desk::parts::{accept, prepare, replay};
 use crate::judge::judge;
 use crate::kept::Kept;
 use crate::landed::Landed;
@@ -77,17 +78,8 @@ impl Desk {
     {
         let mut core = NodeCore::new(alloc, node, n, capacity);
         let mut outbox = Outbox::new(alloc);
-        for i in 0..inputs.len() {
-            let input = inputs[i];
-            if core.admit(&input).is_err() {
-                return Err(Refusal::Unlawful(i as u64));
-            }
-            let Ok(effects) = core.apply(input) else {
-                return Err(Refusal::OutOfMemory);
-            };
-            if outbox.add(&input, &effects).is_err() {
-                return Err(Refusal::OutOfMemory);
-            }
+        if let Err(refusal) = replay(&mut core, &mut outbox, &inputs) {
+            return Err(refusal);
         }
         let count = inputs.len() as u64;
         Ok(Desk {
@@ -135,11 +127,9 @@ impl Desk {
         if keep(&mut self.tickets, own, kept).is_err() {
             return Err(Refusal::OutOfMemory);
         }
-        if let Some(input) = input {
-            if accept(&mut self.core, &mut self.inputs, &mut self.outbox, &input).is_err() {
-                take_back(&mut self.tickets, own);
-                return Err(Refusal::OutOfMemory);
-            }
+        if accept(&mut self.core, &mut self.inputs, &mut self.outbox, &input).is_err() {
+            take_back(&mut self.tickets, own);
+            return Err(Refusal::OutOfMemory);
         }
         self.issued += 1;
         Ok(Ticket {
@@ -239,23 +229,15 @@ impl Desk {
         ensures ready { (is_closed self.new ≡ is_closed self.old) × (is_failed self.new ≡ is_failed self.old) }
         ensures same { (own : ℕ) → kept_at self.new own ≡ kept_at self.old own }
     {
-        if self.is_failed {
-            return Err(Refusal::Failed);
-        }
-        if self.flying > self.durable {
-            return Err(Refusal::Busy);
+        if let Some(refusal) = self.launch_objection() {
+            return Err(refusal);
         }
         let start = self.durable as usize;
         let end = self.inputs.len().min(start + 64);
         if start == end {
             return Ok(None);
         }
-        if self.outbox.load((end - start) as u32).is_err() {
-            return Err(Refusal::OutOfMemory);
-        }
-        let alloc = *self.inputs.allocator();
-        let waiting = &self.inputs[start..end];
-        match Batch::new(alloc, self.node, self.durable, waiting) {
+        match prepare(&mut self.outbox, self.node, &self.inputs, start, end) {
             Ok(batch) => {
                 self.flying = end as u64;
                 Ok(Some(batch))
@@ -435,6 +417,19 @@ impl Desk {
         }
         None
     }
+
+    // Why nothing is launched, before memory is asked for.
+    fn launch_objection(&self) -> Option<Refusal>
+        ensures { result ≡ launch_objection self.now }
+    {
+        if self.is_failed {
+            return Some(Refusal::Failed);
+        }
+        if self.flying > self.durable {
+            return Some(Refusal::Busy);
+        }
+        None
+    }
 }
 
 // How many inputs there are with this one, if there is one.
@@ -460,25 +455,6 @@ fn take_back(tickets: &mut BTreeMap<u64, Kept>, own: u64)
     tickets.remove(&own);
 }
 
-// Accepts an input that the core admits. An `Err` changes nothing.
-fn accept(
-    core: &mut NodeCore,
-    inputs: &mut Vec<Input>,
-    outbox: &mut Outbox,
-    input: &Input,
-) -> Result<(), AllocError>
-    requires stands { CoreStandsFor core.old inputs.old.items }
-    requires free { refusal core.old.table.me core.old.size core.old.capacity fresh inputs.old.items input.now ≡ None }
-    ensures inputs { OnOk result (inputs.new.items ≡ inputs.old.items ++ input.now ∷ []) }
-    ensures stands { CoreStandsFor core.new inputs.new.items }
-    ensures place { (core.new.table.me ≡ core.old.table.me) × (core.new.size ≡ core.old.size) × (core.new.capacity ≡ core.old.capacity) }
-    ensures holds { (durable flying : ℕ) → durable ≤ length inputs.old.items → Holds core.old.table.me outbox.old inputs.old.items durable flying → Holds core.old.table.me outbox.new inputs.new.items durable flying }
-    ensures err { OnErr result (inputs.new.items ≡ inputs.old.items) }
-{
-    inputs.reserve(1)?;
-    outbox.accept(core, input)?;
-    inputs.extend_from_slice(&[*input])
-}
-
 mod decisions;
+mod parts;
 mod vouch;

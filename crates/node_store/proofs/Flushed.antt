@@ -1,10 +1,11 @@
 -- A batch that flies, and what becomes of it.
-use Rattle.std.proofs.Common.{◌≡◌, ◌≢◌, ⊎_elim, inl, inr, ℕ, ◌+◌, ◌-◌, ◌<◌, ◌≤◌, Bool, true, false, List, [], ◌∷◌, ◌++◌, length, take, drop, Option, Some, IfSome, refl, sym, ◌∙◌, ap, subst, arith, length-take, length-drop}
+use Rattle.std.proofs.Common.{◌≡◌, ◌≢◌, ⊎_elim, inl, inr, ℕ, ◌+◌, ◌-◌, ◌<◌, ◌≤◌, Bool, true, false, List, [], ◌∷◌, ◌++◌, length, take, drop, Option, Some, IfSome, refl, sym, ◌∙◌, ap, subst, arith, length-take, length-drop, if◌then◌else◌, None}
 use Rattle.std.proofs.Math.Seq.{take-add}
 use Rattle.std.proofs.lemmas.Bool.{cases_lt}
 use Rattle.std.proofs.lemmas.List.Sums.{sum_by-take-drop}
 use Rattle.disk_model.specs.Disk.{Disk, MayLeave}
 use Rattle.ring_records.specs.declared.input.Input.{Input}
+use Rattle.ring_records.specs.declared.refusal.Refusal.{Refusal}
 use Rattle.ring_records.specs.Admission.{fresh, used, cost, Fits, IsAdmitted, IsLawful}
 use Rattle.ring_records.specs.Answer.{NodeState, launched, landed, durable_in, flown_in, flying_in}
 use Rattle.ring_records.specs.History.{taken}
@@ -34,6 +35,13 @@ used_within me n capacity h lawful = along (IsAdmitted me n capacity fresh) (λ 
 used-front : (k : ℕ) (h : List Input) → used fresh (take k h) ≤ used fresh h
 unfolding used
 used-front k h = omega (arith, sum_by-take-drop cost h k)
+
+-- ---- what may be launched
+
+-- a node of which a batch is launched has not failed
+pub works_launched : (failed : Bool) (why : Refusal) (busy : Option Refusal) → (if failed then Some why else busy) ≡ None → failed ≡ false
+works_launched true why busy free = absurd cc
+works_launched false why busy free = refl
 
 -- ---- lists
 

@@ -1,5 +1,5 @@
-use Rattle.std.proofs.Common.{◌+◌, ◌++◌, ◌∷◌, [], ap, sym, ◌∙◌, arith}
-use Rattle.ring_node.specs.Node.{new_node}
+use Rattle.std.proofs.Common.{◌+◌, List, ◌++◌, ◌∷◌, [], ap, sym, ◌∙◌, arith}
+use Rattle.ring_node.specs.Node.{NodeView, new_node}
 use Rattle.ring_world.specs.Ring.{new_nodes}
 use Rattle.ring_world.proofs.Opened.{header_fits, ring_least, new_nodes_more, after_next}
 use Rattle.ring_world.proofs.ring.fill.Goals as goal
@@ -32,6 +32,6 @@ loop-preserved c =
     record {
       next = λ lt. after_next c.args.size c.loop.node (c.loop.counter + 1) c.successor-node.result here lt c.successor-node.ensures.value;
       inside = c.successor-node.ensures.inside;
-      items = c.push_reserved.ensures.items ∙ ((λ t. c.loop.invariant.items t ++ new t ∷ []) ∙ sym (new_nodes_more c.args.size c.args.capacity c.loop.counter));
+      items = ◌∙◌ {A = List NodeView} c.push_reserved.ensures.items ((λ t. c.loop.invariant.items t ++ new t ∷ []) ∙ sym (new_nodes_more c.args.size c.args.capacity c.loop.counter));
       room = omega (arith, len, capacity, room, test);
     }

@@ -10,5 +10,5 @@ returns c =
     let list = c.in_ok-decisions.decisions.items in
     let sorted = c.sort_unstable_by_key.ensures in
     let copied : list ≡ j.outbox.released.decisions.items = search rules in
-    let keys = sorted.sorted (λ (d : Decision). d.key) (always_returns_same _ (λ a r. r ≡ a.0.now.key) _ (λ a r f k. search rules)) in
+    let keys = sorted.sorted (λ (d : Decision). d.key) (search (rules, always_returns_same)) in
     leaders-sorted j.node (take j.durable j.inputs.items) list c.sort_unstable_by_key.new.self.items (copied ∙ j.holds.released.decisions) sorted.permutation keys

@@ -1,4 +1,4 @@
-use Rattle.std.proofs.Common.{rules, ◌≡◌, ◌∙◌, sym, subst, ap, refl, false, ◌++◌}
+use Rattle.std.proofs.Common.{◌≡◌, ◌∙◌, sym, subst, ap, refl, ◌++◌}
 use Rattle.disk_model.proofs.Moments.{started, weaken, now}
 use Rattle.ring_records.specs.Answer.{launched, landed, durable_in, flying_in}
 use Rattle.gated_journal.specs.Journal as journals
@@ -6,14 +6,14 @@ use Rattle.gated_journal.specs.Reading.{AllReadAs, ReadsAsOneOf}
 use Rattle.gated_journal.proofs.Results.{of_none}
 use Rattle.group_commit.specs.Desk as desks
 use Rattle.node_store.specs.State.{header_at, IsLeft, until}
-use Rattle.node_store.proofs.Flushed.{batch_of, all, fits, lands, breaks, moment, landed_all, durable_all, no_packets, no_decisions}
+use Rattle.node_store.proofs.Flushed.{works_launched, batch_of, all, fits, lands, breaks, moment, landed_all, durable_all, no_packets, no_decisions}
 use Rattle.node_store.proofs.Standing.{same, left}
 use Rattle.node_store.proofs.node.Node.flush.Goals as goal
 
 pub commit-requires-clause-room : goal.commit-requires-clause-room
 commit-requires-clause-room g c =
     let node = c.args.self.now in
-    let works : desks.is_failed node.desk ≡ false = search rules in
+    let works = works_launched (desks.is_failed node.desk) _ _ c.in-Ok-Some.ensures.free in
     let batch : c.in-Ok-Some.batch.inputs.items ≡ flying_in (launched (desks.state_of node.desk)) =
     batch_of c.in-Ok-Some.field-0 c.in-Ok-Some.batch _ _ _ (desks.state_of node.desk) c.in-Ok-Some.field-0-is c.in-Ok-Some.ensures.batch c.in-Ok-Some.ensures.state in
     fits _ _ _ _ _ _ _ _ works node.stands c.in-Ok-Some.batch.inputs.items batch
@@ -25,7 +25,7 @@ invariant_of-self-in-Ok g c =
     let desk = c.land.new.desk in
     let s = desks.state_of node.desk in
     let disk = g.D.Device.disk (journals.device_of journal) in
-    let works : desks.is_failed node.desk ≡ false = search rules in
+    let works = works_launched (desks.is_failed node.desk) _ _ c.in-Ok-Some.ensures.free in
     let batch : c.in-Ok-Some.batch.inputs.items ≡ flying_in (launched s) =
     batch_of c.in-Ok-Some.field-0 c.in-Ok-Some.batch _ _ _ (desks.state_of node.desk) c.in-Ok-Some.field-0-is c.in-Ok-Some.ensures.batch c.in-Ok-Some.ensures.state in
     let read : AllReadAs (journals.header_of node.journal) disk (durable_in s ++ c.in-Ok-Some.batch.inputs.items) = c.in-Ok.ensures.durable (durable_in s) (all _ _ _ _ _ _ _ _ works node.stands) in
@@ -44,7 +44,7 @@ invariant_of-self-in-Err-commit g c =
     let desk = c.fail.new.desk in
     let s = desks.state_of node.desk in
     let disk = g.D.Device.disk (journals.device_of journal) in
-    let works : desks.is_failed node.desk ≡ false = search rules in
+    let works = works_launched (desks.is_failed node.desk) _ _ c.in-Ok-Some.ensures.free in
     let batch : c.in-Ok-Some.batch.inputs.items ≡ flying_in (launched s) =
     batch_of c.in-Ok-Some.field-0 c.in-Ok-Some.batch _ _ _ (desks.state_of node.desk) c.in-Ok-Some.field-0-is c.in-Ok-Some.ensures.batch c.in-Ok-Some.ensures.state in
     let moments = c.in-Err-commit.ensures.any_moment (durable_in s) (all _ _ _ _ _ _ _ _ works node.stands) in
@@ -80,7 +80,7 @@ pub returns-in-Ok-None-clause-durable : goal.returns-in-Ok-None-clause-durable
 returns-in-Ok-None-clause-durable g c =
     let node = c.args.self.now in
     let disk = g.D.Device.disk (journals.device_of node.journal) in
-    let works : desks.is_failed node.desk ≡ false = search rules in
+    let works = works_launched (desks.is_failed node.desk) _ _ c.in-Ok-None.ensures.free in
     durable_all _ _ _ _ disk _ _ _ works node.stands (desks.state_of c.launch.new.self) (ap durable_in c.in-Ok-None.ensures.state)
 
 pub returns-in-Ok-clause-durable : goal.returns-in-Ok-clause-durable
@@ -90,7 +90,7 @@ returns-in-Ok-clause-durable g c =
     let desk = c.land.new.desk in
     let s = desks.state_of node.desk in
     let disk = g.D.Device.disk (journals.device_of journal) in
-    let works : desks.is_failed node.desk ≡ false = search rules in
+    let works = works_launched (desks.is_failed node.desk) _ _ c.in-Ok-Some.ensures.free in
     let batch : c.in-Ok-Some.batch.inputs.items ≡ flying_in (launched s) =
     batch_of c.in-Ok-Some.field-0 c.in-Ok-Some.batch _ _ _ (desks.state_of node.desk) c.in-Ok-Some.field-0-is c.in-Ok-Some.ensures.batch c.in-Ok-Some.ensures.state in
     let read : AllReadAs (journals.header_of node.journal) disk (durable_in s ++ c.in-Ok-Some.batch.inputs.items) = c.in-Ok.ensures.durable (durable_in s) (all _ _ _ _ _ _ _ _ works node.stands) in
@@ -103,7 +103,7 @@ returns-in-Ok-clause-any_moment g c =
     let journal = c.commit.new.self in
     let desk = c.land.new.desk in
     let s = desks.state_of node.desk in
-    let works : desks.is_failed node.desk ≡ false = search rules in
+    let works = works_launched (desks.is_failed node.desk) _ _ c.in-Ok-Some.ensures.free in
     let batch : c.in-Ok-Some.batch.inputs.items ≡ flying_in (launched s) =
     batch_of c.in-Ok-Some.field-0 c.in-Ok-Some.batch _ _ _ (desks.state_of node.desk) c.in-Ok-Some.field-0-is c.in-Ok-Some.ensures.batch c.in-Ok-Some.ensures.state in
     let moments = c.in-Ok.ensures.any_moment (durable_in s) (all _ _ _ _ _ _ _ _ works node.stands) in
@@ -118,7 +118,7 @@ returns-in-Err-commit-clause-any_moment g c =
     let journal = c.commit.new.self in
     let desk = c.fail.new.desk in
     let s = desks.state_of node.desk in
-    let works : desks.is_failed node.desk ≡ false = search rules in
+    let works = works_launched (desks.is_failed node.desk) _ _ c.in-Ok-Some.ensures.free in
     let batch : c.in-Ok-Some.batch.inputs.items ≡ flying_in (launched s) =
     batch_of c.in-Ok-Some.field-0 c.in-Ok-Some.batch _ _ _ (desks.state_of node.desk) c.in-Ok-Some.field-0-is c.in-Ok-Some.ensures.batch c.in-Ok-Some.ensures.state in
     let moments = c.in-Err-commit.ensures.any_moment (durable_in s) (all _ _ _ _ _ _ _ _ works node.stands) in

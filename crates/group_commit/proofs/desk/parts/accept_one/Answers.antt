@@ -1,7 +1,7 @@
 use Rattle.std.proofs.Common.{rules, ◌≡◌, ◌∷◌, ◌++◌, List, [], sym, subst}
 use Rattle.ring_records.specs.declared.input.Input.{Input}
 use Rattle.group_commit.specs.Outbox.{Holds}
-use Rattle.group_commit.proofs.desk.accept.Goals as goal
+use Rattle.group_commit.proofs.desk.parts.accept_one.Goals as goal
 
 pub returns-clause-holds : goal.returns-clause-holds
 returns-clause-holds c = λ durable flying within holds.
