@@ -71,6 +71,7 @@ impl Leaders {
         if self.by_key.contains_key(&key) {
             return Ok(());
         }
+        // The number that is read is known to be in its range, which `latest` looks through.
         let _number = key.term.number();
         self.by_key.insert(key, leader)?;
         Ok(())

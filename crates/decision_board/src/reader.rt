@@ -62,13 +62,13 @@ impl<J: Naming> BoardReader<J> {
         ensures refused { IfErr result (λ e. (e ≡ NoPlace) × (self.new ≡ self.old)) }
     {
         match replace_with(&mut self.place, *key, find::<J>) {
-            Some((answer, front)) => {
+            Some((leader, front)) => {
                 // What is published never goes back, so it covers what was told.
                 if !front.covers(&self.learned) {
                     return Err(Refusal::NoPlace);
                 }
                 self.seen = front;
-                Ok(answer)
+                Ok(leader)
             }
             None => Err(Refusal::NoPlace),
         }
@@ -84,13 +84,13 @@ impl<J: Naming> BoardReader<J> {
         ensures refused { IfErr result (λ e. (e ≡ NoPlace) × (self.new ≡ self.old)) }
     {
         match replace_with(&mut self.place, *group, find_latest::<J>) {
-            Some((answer, front)) => {
+            Some((latest, front)) => {
                 // What is published never goes back, so it covers what was told.
                 if !front.covers(&self.learned) {
                     return Err(Refusal::NoPlace);
                 }
                 self.seen = front;
-                Ok(answer)
+                Ok(latest)
             }
             None => Err(Refusal::NoPlace),
         }
@@ -118,9 +118,9 @@ fn find<J: Naming>(place: Place<J>, key: Key) -> (Place<J>, Option<(Option<Candi
 {
     match place.enter_as::<Sees<J>>() {
         Ok(reading) => {
-            let answer = reading.get().who(&key);
+            let leader = reading.get().who(&key);
             let front = reading.get().front.again();
-            (reading.leave(), Some((answer, front)))
+            (reading.leave(), Some((leader, front)))
         }
         Err(place) => (place, None),
     }
@@ -135,9 +135,9 @@ fn find_latest<J: Naming>(
 {
     match place.enter_as::<Sees<J>>() {
         Ok(reading) => {
-            let answer = reading.get().latest(&group);
+            let latest = reading.get().latest(&group);
             let front = reading.get().front.again();
-            (reading.leave(), Some((answer, front)))
+            (reading.leave(), Some((latest, front)))
         }
         Err(place) => (place, None),
     }

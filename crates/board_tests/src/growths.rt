@@ -1,0 +1,114 @@
+// Refused growths: what a call that is refused for memory leaves.
+//
+// The test passes as it stands, with memory enough. `rt try --test --fail-alloc N` has its growth N refused.
+ghost use Rattle.std.specs.Prelude.{◌≡◌};
+
+use crate::rows::{Latest, decision, term_and_leader};
+use decision_board::{Board, BoardReader, Naming, Opened};
+use ring_records::{Decision, Refusal};
+use std::alloc::Global;
+use std::marker::Brand;
+use std::sync::Wait;
+use std::test::*;
+
+/// What was refused, and what a reader of the board read of the group right after, once all was called again.
+#[derive(Drop)]
+struct Refused {
+    appends: usize,
+    publishes: usize,
+    others: usize,
+    between: Latest,
+    after: Latest,
+}
+
+/// Calls again where the first call was refused, and counts the refusals.
+fn append_twice<J: Naming>(
+    board: &mut Board<J>,
+    decision: &Decision,
+    refused: &mut Refused,
+) -> Result<(), Refusal> {
+    match board.append(*decision) {
+        Ok(()) => return Ok(()),
+        Err(Refusal::OutOfMemory) => refused.appends = refused.appends.saturating_add(1),
+        Err(_) => refused.others = refused.others.saturating_add(1),
+    }
+    board.append(*decision)
+}
+
+/// Calls again where the first call was refused, and reads in between.
+fn publish_twice<J: Naming, R: Wait>(
+    rt: &R,
+    board: &mut Board<J>,
+    reader: &mut BoardReader<J>,
+    decision: &Decision,
+    refused: &mut Refused,
+) -> Result<(), Refusal> {
+    match board.publish(rt) {
+        Ok(()) => return Ok(()),
+        Err(Refusal::OutOfMemory) => refused.publishes = refused.publishes.saturating_add(1),
+        Err(_) => refused.others = refused.others.saturating_add(1),
+    }
+    refused.between = reader.latest(&decision.key.group);
+    board.publish(rt)
+}
+
+fn grow_all<J: Naming, R: Wait>(
+    rt: &R,
+    alloc: Global,
+    opened: Opened,
+    old: &Decision,
+    new: &[Decision],
+) -> Result<Refused, Refusal>
+    requires { opened ≡ J.book }
+{
+    let mut board: Board<J> = Board::new(alloc, opened, std::slice::from_ref(old), 2)?;
+    let place = board.reader();
+    let Ok(mut reader) = place else {
+        board.end(rt);
+        return Err(Refusal::NoPlace);
+    };
+    let mut refused = Refused {
+        appends: 0,
+        publishes: 0,
+        others: 0,
+        between: term_and_leader(old),
+        after: Ok(None),
+    };
+    let mut all = Ok(());
+    for decision in new {
+        let appended = append_twice(&mut board, decision, &mut refused);
+        all = all.and(appended);
+    }
+    let published = publish_twice(rt, &mut board, &mut reader, old, &mut refused);
+    reader.learn(board.tell());
+    refused.after = reader.latest(&old.key.group);
+    board.end(rt);
+    all?;
+    published?;
+    Ok(refused)
+}
+
+#[test]
+fn refused_growths(rt: HostRuntime) -> Result<(), Fail> {
+    let old = decision(&rt, "red", 4, 1, 7);
+    let more = [
+        decision(&rt, "red", 5, 2, 30),
+        decision(&rt, "red", 6, 3, 1),
+        decision(&rt, "red", 7, 1, 2),
+        decision(&rt, "red", 8, 2, 3),
+        decision(&rt, "red", 9, 3, 4),
+    ];
+    let first = grow_all::<Brand, _>(&rt, rt.alloc(), Opened::new(), &old, &more);
+    let made = match first {
+        Ok(refused) => refused,
+        Err(refusal) => {
+            // Making the board was refused. It can be made again, of another history.
+            assert!(rt; refusal == Refusal::OutOfMemory);
+            grow_all::<Brand, _>(&rt, rt.alloc(), Opened::new(), &old, &more)?
+        }
+    };
+    assert_eq!(rt; made.others, 0);
+    assert!(rt; made.between == term_and_leader(&old));
+    assert!(rt; made.after == term_and_leader(&more[4]));
+    Ok(())
+}

@@ -1,0 +1,11 @@
+//! The tests of a board: by calls, with refused growths, and with readers in threads of their own.
+#![tactic(auto)]
+
+#[cfg(test)]
+mod calls;
+#[cfg(test)]
+mod growths;
+#[cfg(test)]
+mod rows;
+#[cfg(test)]
+mod threads;

@@ -1,0 +1,23 @@
+// Decisions as plain numbers.
+use ring_records::{Candidate, Decision, Key, Refusal, Term};
+use std::process::Abort;
+
+/// The key of this group and term.
+pub fn key(rt: &impl Abort, group: &str, term: u32) -> Key {
+    test_rows::key(group, term).expect(rt, "a key")
+}
+
+/// The decision for this group and term, that the node of this number and bid leads.
+pub fn decision(rt: &impl Abort, group: &str, term: u32, node: u8, bid: u32) -> Decision {
+    let key = key(rt, group, term);
+    let leader = test_rows::candidate(bid, node).expect(rt, "a candidate");
+    Decision { key, leader }
+}
+
+/// What a read of the latest leader answers.
+pub type Latest = Result<Option<(Term, Candidate)>, Refusal>;
+
+/// What a read answers where this decision is the latest of its group.
+pub fn term_and_leader(decision: &Decision) -> Latest {
+    Ok(Some((decision.key.term, decision.leader)))
+}
