@@ -1,0 +1,69 @@
+-- A node that is asked, and flushed.
+use Rattle.std.proofs.Common.{ℕ, ◌≡◌, ◌+◌, ◌≤◌, ◌^◌, Bool, true, false, ◌||◌, nat_eq, nat_le, if◌then◌else◌, List, length, Option, Some, None, refl, sym, ap, ◌∙◌, arith, rules}
+use Rattle.std.specs.Prelude.{is_some}
+use Rattle.std.proofs.lemmas.Bool.{leb-true}
+use Rattle.std.proofs.lemmas.List.{length-append}
+use Rattle.std.proofs.lemmas.Option.{same_Some}
+use Rattle.ring_records.specs.declared.input.Input.{Input}
+use Rattle.ring_records.specs.declared.refusal.Refusal.{Refusal}
+use Rattle.ring_records.specs.declared.refusal.Refusal.TheVariants.{BadNumber, Failed, Limit}
+use Rattle.ring_records.specs.declared.request.Request.{Request}
+use Rattle.ring_records.specs.Admission.{fresh, refusal}
+use Rattle.ring_records.specs.Answer.{NodeState, input_of, gained, if_free, if_input, asked}
+use Rattle.group_commit.specs.declared.desk.Desk.{Desk}
+use Rattle.group_commit.specs.Desk.{place_of, kept_at, issued_by, answered, IsHere}
+use Rattle.group_commit.specs.Ticket.{TicketView, ticket_with}
+
+one_if_free : (o : Option Refusal) (x : Input) → length (if_free o x) ≤ 1
+one_if_free None x = omega arith
+one_if_free (Some r) x = omega arith
+
+one_if_input : (me n capacity : ℕ) (h : List Input) (o : Option Input) → length (if_input me n capacity fresh h o) ≤ 1
+one_if_input me n capacity h None = omega arith
+one_if_input me n capacity h (Some x) = one_if_free (refusal me n capacity fresh h x) x
+
+one_gained : (me n capacity : ℕ) (h : List Input) (q : Request) → length (gained me n capacity fresh h q) ≤ 1
+unfolding gained
+one_gained me n capacity h q = one_if_input me n capacity h (input_of q)
+
+-- where nothing waited, at most one input waits behind a request
+pub one_waits : (me n capacity : ℕ) (s t : NodeState) (q : Request) → t ≡ asked me n capacity fresh s q → length s.inputs ≡ s.durable → length t.inputs ≤ t.durable + 1
+one_waits me n capacity s t q e durable =
+    let one = one_gained me n capacity s.inputs q in
+    let inputs = ap (λ v. length v.inputs) e in
+    let same = ap (λ v. v.durable) e in
+    omega (arith, one, inputs, same, durable, length-append s.inputs (gained me n capacity fresh s.inputs q))
+
+-- no number of a ticket is left
+no_number : (b : Bool) (why : Refusal) → (if b then Some Limit else None) ≡ Some why → (why ≡ Limit) × (b ≡ true)
+no_number true why e = (sym (same_Some Limit why e), refl)
+no_number false why e = cc
+
+-- why a node that takes requests gives no ticket to a client
+pub no_ticket : (closed failed outside : Bool) (issued : ℕ) (why : Refusal) → closed ≡ false → failed ≡ false → outside ≡ false
+    → (if closed || failed then Some Failed else (if outside then Some BadNumber else (if nat_le (2 ^ 60) issued then Some Limit else None))) ≡ Some why
+    → (why ≡ Limit) × (2 ^ 60 ≤ issued)
+no_ticket true failed outside issued why c f o e = cc
+no_ticket false true outside issued why c f o e = cc
+no_ticket false false true issued why c f o e = cc
+no_ticket false false false issued why c f o e = let p = no_number (nat_le (2 ^ 60) issued) why e in (p.0, leb-true (2 ^ 60) issued p.1)
+
+-- the answer is kept for the ticket that was given
+pub is_here : (old next : Desk) (q : Request) (ticket : TicketView) → ticket ≡ ticket_with (place_of old) (issued_by old) (answered old q) → place_of next ≡ place_of old
+    → kept_at next (issued_by old) ≡ Some (answered old q) → IsHere next ticket (answered old q)
+is_here old next q ticket e place kept = record {
+  node = ap (λ t. t.node) e ∙ sym (ap (λ p. p.me) place);
+  run = ap (λ t. t.run) e ∙ sym (ap (λ p. p.run) place);
+  own = ap (λ t. kept_at next t.own) e ∙ kept;
+  question = sym (ap (λ t. t.question) e);
+}
+
+same_number : (n : ℕ) → nat_eq n n ≡ true
+same_number n = search rules
+
+pub its_own : {A : Type 0} (n : ℕ) (x y : A) → (if nat_eq n n then x else y) ≡ x
+its_own n x y = ap (λ b. if b then x else y) (same_number n)
+
+pub none_of : {A : Type 0} (o : Option A) → is_some o ≡ false → o ≡ None
+none_of None e = refl
+none_of (Some x) e = cc

@@ -1,0 +1,26 @@
+// What answers the questions of a session.
+use ring_records::{Bid, GroupName, Key, Refusal, Reply};
+
+/// What answers the questions of a session: a node, or what stands in front of one.
+pub trait Service {
+    ghost use Rattle.std.specs.Prelude.{Result};
+    ghost use Rattle.ring_records.specs.declared.refusal.Refusal.{Refusal};
+    ghost use Rattle.ring_records.specs.declared.reply.Reply.{Reply};
+    ghost use Rattle.ring_records.specs.declared.request.Request.{Request};
+    ghost use Rattle.ring_records.specs.declared.request.Request.TheVariants as ask;
+
+    // What may come of a question: the service before it, the question, the answer, and the service after it.
+    ghost answers: { Self → Request → Result Reply Refusal → Self → Type 0 };
+
+    /// Stands for a key with a bid.
+    fn stand(&mut self, key: Key, bid: Bid) -> Result<Reply, Refusal>
+        ensures { answers self.old (ask.Stand key bid) result self.new };
+
+    /// Who leads for the key.
+    fn who(&mut self, key: &Key) -> Result<Reply, Refusal>
+        ensures { answers self.old (ask.Who key.now) result self.new };
+
+    /// The greatest term of the group with a known leader, and that leader.
+    fn latest(&mut self, group: &GroupName) -> Result<Reply, Refusal>
+        ensures { answers self.old (ask.Latest group.now) result self.new };
+}

@@ -1,0 +1,137 @@
+// A service over one node.
+ghost use Rattle.std.specs.Prelude.{◌≡◌, ◌⊎◌, ◌+◌, ◌≤◌, ◌<◌, ℕ, length, true, false, not, is_some, nat_lt, Some, None, IfOk, IfErr, OnOk, OnErr};
+ghost use Rattle.std.specs.Option.{ForNone};
+ghost use Rattle.gated_journal.specs.Unread.{IsFault};
+ghost use Rattle.group_commit.specs.Desk.{IsHere};
+ghost use Rattle.group_commit.specs.Ticket.{shown};
+ghost use Rattle.node_store.specs.Node as nodes;
+ghost use Rattle.ring_records.specs.Answer.{Answered, opened};
+ghost use Rattle.ring_records.specs.Message.{is_outside};
+
+use crate::Service;
+use disk_model::Device;
+use group_commit::Ticket;
+use node_store::Node;
+use ring_records::{Bid, GroupName, Key, Refusal, Reply, Request};
+use std::mem::replace;
+
+/// A service over one node, which flushes it until nothing waits before it answers. Refused as 6 and as 8, the node is
+/// as it was. Where a flush is refused, as 15 or as 8, the input stays accepted, its ticket is kept, and each question
+/// from then on is refused as 9. It is not let go: `into_parts` ends it.
+pub struct SoloService<D: Device> {
+    node: Node<D>,
+    unanswered: Option<Ticket>,
+    ghost idle: { ForNone unanswered ((length (nodes.state_of node).inputs ≡ (nodes.state_of node).durable) × ((nodes.state_of node).flying ≡ (nodes.state_of node).durable)) },
+    ghost open: { ForNone unanswered ((nodes.is_closed node ≡ false) × (nodes.is_failed node ≡ false)) },
+}
+
+impl<D: Device> SoloService<D> {
+    ghost use Rattle.sessions.specs.Solo.{has_failed, node_of, SoloAnswers};
+
+    /// A service over a node that takes requests and whose inputs are all durable, as one that was just created or
+    /// recovered.
+    pub fn new(node: Node<D>) -> SoloService<D>
+        requires open { (nodes.is_closed node ≡ false) × (nodes.is_failed node ≡ false) }
+        requires durable { nodes.state_of node ≡ opened (nodes.state_of node).inputs }
+        ensures node { node_of result ≡ node }
+        ensures works { has_failed result ≡ false }
+    {
+        let unanswered = None;
+        SoloService { node, unanswered }
+    }
+
+    /// Ends it, and gives the node and the ticket of the question whose flush was refused, if one was.
+    pub fn into_parts(self) -> (Node<D>, Option<Ticket>)
+        ensures node { result.0 ≡ node_of self }
+        ensures ticket { is_some result.1 ≡ has_failed self }
+    {
+        let SoloService { node, unanswered } = self;
+        (node, unanswered)
+    }
+
+    fn answer(&mut self, question: Request) -> Result<Reply, Refusal>
+        requires { (n : ℕ) → is_outside n question ≡ false }
+        ensures { SoloAnswers D.count self.old question result self.new }
+    {
+        if self.unanswered.is_some() {
+            return Err(Refusal::Failed);
+        }
+        let ticket = match self.node.submit(question) {
+            Ok(ticket) => ticket,
+            Err(refusal) => return Err(refusal),
+        };
+        match settle(&mut self.node) {
+            Ok(()) => Ok(release(&mut self.node, ticket)),
+            Err(refusal) => {
+                match replace(&mut self.unanswered, Some(ticket)) {
+                    None => {}
+                    Some(_) => unreachable!(),
+                }
+                Err(refusal)
+            }
+        }
+    }
+}
+
+impl<D: Device> Service for SoloService<D> {
+    ghost use Rattle.sessions.specs.Solo.{SoloAnswers};
+
+    ghost answers = { SoloAnswers D.count };
+
+    fn stand(&mut self, key: Key, bid: Bid) -> Result<Reply, Refusal> {
+        self.answer(Request::Stand(key, bid))
+    }
+
+    fn who(&mut self, key: &Key) -> Result<Reply, Refusal> {
+        self.answer(Request::Who(*key))
+    }
+
+    fn latest(&mut self, group: &GroupName) -> Result<Reply, Refusal> {
+        self.answer(Request::Latest(*group))
+    }
+}
+
+fn waits<D: Device>(node: &Node<D>) -> bool
+    ensures { result ≡ nat_lt (nodes.state_of node.now).durable (length (nodes.state_of node.now).inputs) }
+{
+    node.durable() < node.history().len() as u64
+}
+
+// Makes what waits durable, which is one input at most.
+fn settle<D: Device>(node: &mut Node<D>) -> Result<(), Refusal>
+    requires one { length (nodes.state_of node.old).inputs ≤ (nodes.state_of node.old).durable + 1 }
+    requires durable { (nodes.state_of node.old).durable ≤ length (nodes.state_of node.old).inputs }
+    requires idle { (nodes.state_of node.old).flying ≡ (nodes.state_of node.old).durable }
+    requires works { nodes.is_failed node.old ≡ false }
+    ensures state { OnOk result (nodes.state_of node.new ≡ opened (nodes.state_of node.old).inputs) }
+    ensures ready { OnOk result ((nodes.is_failed node.new ≡ false) × (nodes.is_closed node.new ≡ nodes.is_closed node.old)) }
+    ensures kept { OnOk result ((own : ℕ) → nodes.kept_at node.new own ≡ nodes.kept_at node.old own) }
+    ensures inputs { OnErr result ((nodes.state_of node.new).inputs ≡ (nodes.state_of node.old).inputs) }
+    ensures cause { IfErr result (λ why. IsFault (D.count (nodes.device_of node.old)) (D.count (nodes.device_of node.new)) why ⊎ (why ≡ Refusal.OutOfMemory)) }
+    ensures place { nodes.place_of node.new ≡ nodes.place_of node.old }
+{
+    if !waits(node) {
+        return Ok(());
+    }
+    match node.flush() {
+        Ok(landed) => {
+            drop(landed);
+            Ok(())
+        }
+        Err(refusal) => Err(refusal),
+    }
+}
+
+// The reply that is kept for the ticket, which rests on durable inputs alone.
+fn release<D: Device>(node: &mut Node<D>, ticket: Ticket) -> Reply
+    requires here { (kept : Answered) × IsHere (nodes.desk_of node.old) (shown ticket) kept × (kept.answer.number ≤ (nodes.state_of node.old).durable) }
+    ensures reply { (kept : Answered) → IsHere (nodes.desk_of node.old) (shown ticket) kept → result ≡ kept.answer.reply }
+    ensures place { nodes.place_of node.new ≡ nodes.place_of node.old }
+    ensures state { nodes.state_of node.new ≡ nodes.state_of node.old }
+    ensures ready { (nodes.is_closed node.new ≡ nodes.is_closed node.old) × (nodes.is_failed node.new ≡ nodes.is_failed node.old) }
+{
+    match node.redeem(ticket) {
+        Ok((reply, _)) => reply,
+        Err(_) => unreachable!(),
+    }
+}
