@@ -98,6 +98,50 @@ fn forfeits(rt: &impl Abort, desk: &mut Desk, ticket: Ticket) {
     }
 }
 
+fn keeps(rt: &impl Abort, tickets: &mut Vec<Ticket>, ticket: Ticket) {
+    match tickets.push(ticket) {
+        Ok(()) => {}
+        Err(_ticket) => panic!(rt; "ample memory"),
+    }
+}
+
+/// The oldest of the tickets.
+fn next(rt: &impl Abort, tickets: &mut Vec<Ticket>) -> Ticket {
+    assert!(rt; !tickets.is_empty());
+    tickets.remove(0)
+}
+
+/// The desk gives tickets of these numbers for the requests, in this order.
+fn asks_all<R: Abort + AllocGlobal>(rt: &R, desk: &mut Desk, rows: &[(Ask, u64)]) -> Vec<Ticket> {
+    let mut tickets = Vec::new(rt.alloc());
+    for (ask, number) in rows {
+        let ticket = asks(rt, desk, *ask, *number);
+        keeps(rt, &mut tickets, ticket);
+    }
+    tickets
+}
+
+/// None of so many tickets is redeemed yet, and each comes back.
+fn all_wait(rt: &impl Abort, desk: &mut Desk, tickets: &mut Vec<Ticket>, count: usize) {
+    assert_eq!(rt; tickets.len(), count);
+    for _ in 0..count {
+        let ticket = next(rt, tickets);
+        let ticket = comes_back(rt, desk, ticket, Refusal::Early);
+        keeps(rt, tickets, ticket);
+    }
+}
+
+/// The tickets are redeemed with these replies, in this order.
+fn redeems_all(rt: &impl Abort, desk: &mut Desk, tickets: Vec<Ticket>, says: &[Say]) {
+    let mut tickets = tickets;
+    for say in says {
+        let ticket = next(rt, &mut tickets);
+        redeems(rt, desk, ticket, *say);
+    }
+    assert!(rt; tickets.is_empty());
+    tickets.destroy_empty();
+}
+
 /// How many inputs the desk has, how many are durable or fly, and how many are durable.
 fn counts(desk: &Desk) -> (usize, u64, u64) {
     (desk.history().len(), desk.flying(), desk.durable())

@@ -3,6 +3,13 @@ use super::*;
 use crate::journal::commit;
 use gated_journal::Spoiled;
 
+/// The receipt is of so many inputs of node 1 from number 0 on.
+fn is_of(rt: &impl Abort, receipt: Receipt, count: usize) {
+    let (node, first, inputs) = receipt.into_parts();
+    assert_eq!(rt; (node.number(), first), (1, 0));
+    assert_eq!(rt; inputs.len(), count);
+}
+
 #[test]
 fn what_waits_is_launched_once(rt: HostRuntime) {
     let mut station = station_of(&rt, 1, &[]);
@@ -11,8 +18,7 @@ fn what_waits_is_launched_once(rt: HostRuntime) {
     let credited = asks(&rt, &mut station.desk, Ask::Acked(1), 2);
     assert_eq!(rt; counts(&station.desk), (2, 0, 0));
     let receipt = launches(&rt, &mut station, 2);
-    assert_eq!(rt; (receipt.node().number(), receipt.first()), (1, 0));
-    assert_eq!(rt; receipt.into_parts().2.len(), 2);
+    is_of(&rt, receipt, 2);
     assert_eq!(rt; counts(&station.desk), (2, 2, 0));
     launches_none(&rt, &mut station.desk, Some(Refusal::Busy));
     let stood = comes_back(&rt, &mut station.desk, stood, Refusal::Early);
@@ -53,15 +59,19 @@ fn fails(rt: &impl Abort, desk: &mut Desk, spoiled: Spoiled) {
     }
 }
 
+/// The device fails with the one input that waits; the desk fails by that batch, and another desk does not.
+fn fails_by_its_own<R: Abort + AllocGlobal>(rt: &R, station: &mut Station) {
+    let spoiled = spoils(rt, station);
+    let mut other = opened(rt, &[Op::Stand("red", 5, 10)]);
+    let spoiled = is_foreign(rt, &mut other, spoiled);
+    fails(rt, &mut station.desk, spoiled);
+}
+
 #[test]
 fn a_desk_whose_device_failed_launches_and_takes_no_more(rt: HostRuntime) {
-    let stand = Ask::Stand("red", 5, 10);
     let mut station = station_of(&rt, 1, &[]);
-    let stood = asks(&rt, &mut station.desk, stand, 1);
-    let spoiled = spoils(&rt, &mut station);
-    let mut other = opened(&rt, &[Op::Stand("red", 5, 10)]);
-    let spoiled = is_foreign(&rt, &mut other, spoiled);
-    fails(&rt, &mut station.desk, spoiled);
+    let stood = asks(&rt, &mut station.desk, Ask::Stand("red", 5, 10), 1);
+    fails_by_its_own(&rt, &mut station);
     launches_none(&rt, &mut station.desk, Some(Refusal::Failed));
     refuses(&rt, &mut station.desk, Ask::Who("red", 5), Refusal::Failed);
     let stood = comes_back(&rt, &mut station.desk, stood, Refusal::Failed);

@@ -1,5 +1,6 @@
 // What leaders the durable inputs made known.
 use super::*;
+use crate::rows::Sends::{Carry, Credit};
 
 /// The desk has these decisions, in this order.
 fn decides(rt: &impl Abort, desk: &Desk, leads: &[Leads]) {
@@ -7,15 +8,21 @@ fn decides(rt: &impl Abort, desk: &Desk, leads: &[Leads]) {
     leads_are(rt, &decisions, leads);
 }
 
+/// The desk of this node that opens with these inputs has these decisions.
+fn opens_with<R: Abort + AllocGlobal>(rt: &R, number: u8, ops: &[Op], leads: &[Leads]) {
+    let desk = opened_as(rt, number, 0, ops);
+    decides(rt, &desk, leads);
+}
+
 #[test]
 fn nothing_decided(rt: HostRuntime) {
-    decides(&rt, &opened(&rt, &[]), &[]);
+    opens_with(&rt, 1, &[], &[]);
     let passes = [
         Op::Stand("red", 5, 10),
         Op::Take(0, Note::Token("red", 5, 20, 3)),
         Op::Take(1, Note::Token("red", 5, 30, 2)),
     ];
-    decides(&rt, &opened(&rt, &passes), &[]);
+    opens_with(&rt, 1, &passes, &[]);
 }
 
 #[test]
@@ -26,7 +33,7 @@ fn first_election(rt: HostRuntime) {
         Op::Take(1, Note::Token("red", 5, 30, 2)),
         Op::Take(2, Note::Elected("red", 5, 30, 2)),
     ];
-    decides(&rt, &opened(&rt, &first), &[("red", 5, 30, 2)]);
+    opens_with(&rt, 1, &first, &[("red", 5, 30, 2)]);
     let second = [
         Op::Stand("red", 5, 30),
         Op::Take(0, Note::Token("red", 5, 10, 1)),
@@ -34,7 +41,7 @@ fn first_election(rt: HostRuntime) {
         Op::Take(2, Note::Token("red", 5, 30, 2)),
         Op::Take(3, Note::Elected("red", 5, 30, 2)),
     ];
-    decides(&rt, &opened_as(&rt, 2, 0, &second), &[("red", 5, 30, 2)]);
+    opens_with(&rt, 2, &second, &[("red", 5, 30, 2)]);
 }
 
 #[test]
@@ -52,7 +59,7 @@ fn order_of_keys(rt: HostRuntime) {
         ("red", 9, 7, 3),
         ("reds", 1, 4, 3),
     ];
-    decides(&rt, &opened(&rt, &announced), &leads);
+    opens_with(&rt, 1, &announced, &leads);
 }
 
 #[test]
@@ -64,20 +71,20 @@ fn first_leader_of_a_key(rt: HostRuntime) {
         Op::Take(2, Note::Elected("red", 9, 8, 2)),
     ];
     let leads = [("red", 5, 30, 2), ("red", 9, 7, 3)];
-    decides(&rt, &opened(&rt, &announced), &leads);
+    opens_with(&rt, 1, &announced, &leads);
 }
 
 #[test]
 fn leader_that_waits(rt: HostRuntime) {
+    let announced = Note::Elected("red", 5, 30, 2);
     let leads = [("red", 5, 30, 2)];
-    let take = Ask::Take(0, Note::Elected("red", 5, 30, 2));
     let mut station = station_of(&rt, 1, &[]);
-    let taken = asks(&rt, &mut station.desk, take, 1);
+    let taken = asks(&rt, &mut station.desk, Ask::Take(0, announced), 1);
     decides(&rt, &station.desk, &[]);
     let receipt = launches(&rt, &mut station, 1);
     decides(&rt, &station.desk, &[]);
-    let landed = landed(&rt, &mut station.desk, receipt, 1);
-    leads_are(&rt, &landed.decisions, &leads);
+    let sends = [Carry(0, announced), Credit(1)];
+    lands(&rt, &mut station.desk, receipt, 1, &sends, &leads);
     decides(&rt, &station.desk, &leads);
     redeems(&rt, &mut station.desk, taken, Say::Taken);
 }

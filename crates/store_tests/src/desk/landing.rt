@@ -21,15 +21,18 @@ fn passes(
 #[test]
 fn what_landed_is_released(rt: HostRuntime) {
     let token = Note::Token("red", 5, 20, 3);
+    let rows = [
+        (Ask::Stand("red", 5, 10), 1),
+        (Ask::Take(0, token), 2),
+        (Ask::Stand("red", 5, 20), 2),
+        (Ask::Who("red", 5), 2),
+    ];
+    let already = Say::Refused(Cause::Already(10));
+    let says = [Say::Stood, Say::Taken, already, Say::Nobody];
     let mut station = station_of(&rt, 1, &[]);
-    let stood = asks(&rt, &mut station.desk, Ask::Stand("red", 5, 10), 1);
-    let taken = asks(&rt, &mut station.desk, Ask::Take(0, token), 2);
-    let again = asks(&rt, &mut station.desk, Ask::Stand("red", 5, 20), 2);
-    let who = asks(&rt, &mut station.desk, Ask::Who("red", 5), 2);
+    let mut tickets = asks_all(&rt, &mut station.desk, &rows);
     let receipt = launches(&rt, &mut station, 2);
-    let stood = comes_back(&rt, &mut station.desk, stood, Refusal::Early);
-    let again = comes_back(&rt, &mut station.desk, again, Refusal::Early);
-    let who = comes_back(&rt, &mut station.desk, who, Refusal::Early);
+    all_wait(&rt, &mut station.desk, &mut tickets, 4);
     let sends = [
         Carry(0, Note::Token("red", 5, 10, 1)),
         Carry(1, token),
@@ -37,11 +40,7 @@ fn what_landed_is_released(rt: HostRuntime) {
     ];
     lands(&rt, &mut station.desk, receipt, 2, &sends, &[]);
     assert_eq!(rt; counts(&station.desk), (2, 2, 2));
-    redeems(&rt, &mut station.desk, who, Say::Nobody);
-    redeems(&rt, &mut station.desk, taken, Say::Taken);
-    redeems(&rt, &mut station.desk, stood, Say::Stood);
-    let already = Say::Refused(Cause::Already(10));
-    redeems(&rt, &mut station.desk, again, already);
+    redeems_all(&rt, &mut station.desk, tickets, &says);
 }
 
 #[test]
@@ -89,12 +88,20 @@ fn leaders_become_known_in_order(rt: HostRuntime) {
     let announced = Note::Elected("red", 9, 4, 3);
     let token = Note::Token("red", 5, 10, 1);
     let won = Note::Elected("red", 5, 10, 1);
-    let mut station = station_of(&rt, 1, &[]);
-    let stood = asks(&rt, &mut station.desk, Ask::Stand("red", 5, 10), 1);
-    let other = asks(&rt, &mut station.desk, Ask::Take(0, announced), 2);
-    let home = asks(&rt, &mut station.desk, Ask::Take(1, token), 3);
-    let again = asks(&rt, &mut station.desk, Ask::Take(2, won), 4);
-    let latest = asks(&rt, &mut station.desk, Ask::Latest("red"), 4);
+    let rows = [
+        (Ask::Stand("red", 5, 10), 1),
+        (Ask::Take(0, announced), 2),
+        (Ask::Take(1, token), 3),
+        (Ask::Take(2, won), 4),
+        (Ask::Latest("red"), 4),
+    ];
+    let says = [
+        Say::Stood,
+        Say::Taken,
+        Say::Taken,
+        Say::Taken,
+        Say::Latest(9, 4, 3),
+    ];
     let sends = [
         Carry(0, token),
         Carry(1, announced),
@@ -102,12 +109,10 @@ fn leaders_become_known_in_order(rt: HostRuntime) {
         Credit(3),
     ];
     let leads = [("red", 9, 4, 3), ("red", 5, 10, 1)];
+    let mut station = station_of(&rt, 1, &[]);
+    let tickets = asks_all(&rt, &mut station.desk, &rows);
     settles(&rt, &mut station, 4, &sends, &leads);
-    redeems(&rt, &mut station.desk, stood, Say::Stood);
-    redeems(&rt, &mut station.desk, other, Say::Taken);
-    redeems(&rt, &mut station.desk, home, Say::Taken);
-    redeems(&rt, &mut station.desk, again, Say::Taken);
-    redeems(&rt, &mut station.desk, latest, Say::Latest(9, 4, 3));
+    redeems_all(&rt, &mut station.desk, tickets, &says);
 }
 
 #[test]

@@ -54,27 +54,30 @@ const OTHERS: [(u8, &'static [Op], &'static [Op]); 6] = [
     (1, &[], &[STOOD, TAKEN, Op::Acked(1)]),
 ];
 
+fn others_are_foreign<R: Abort + AllocGlobal>(rt: &R, desk: &mut Desk) {
+    for (number, before, ops) in OTHERS {
+        is_foreign(rt, desk, number, before, ops);
+    }
+}
+
 #[test]
 fn of_the_batch_that_flies_alone(rt: HostRuntime) {
-    let take = Ask::Take(0, Note::Token("red", 5, 20, 3));
-    let mut station = station_of(&rt, 1, &[]);
-    let stood = asks(&rt, &mut station.desk, Ask::Stand("red", 5, 10), 1);
-    let taken = asks(&rt, &mut station.desk, take, 2);
-    is_foreign(&rt, &mut station.desk, 1, &[], &[STOOD, TAKEN]);
-    let receipt = launches(&rt, &mut station, 2);
-    for (number, before, ops) in OTHERS {
-        is_foreign(&rt, &mut station.desk, number, before, ops);
-    }
-    let stood = comes_back(&rt, &mut station.desk, stood, Refusal::Early);
+    let token = Note::Token("red", 5, 20, 3);
+    let rows = [(Ask::Stand("red", 5, 10), 1), (Ask::Take(0, token), 2)];
     let sends = [
         Carry(0, Note::Token("red", 5, 10, 1)),
-        Carry(1, Note::Token("red", 5, 20, 3)),
+        Carry(1, token),
         Credit(1),
     ];
+    let mut station = station_of(&rt, 1, &[]);
+    let mut tickets = asks_all(&rt, &mut station.desk, &rows);
+    is_foreign(&rt, &mut station.desk, 1, &[], &[STOOD, TAKEN]);
+    let receipt = launches(&rt, &mut station, 2);
+    others_are_foreign(&rt, &mut station.desk);
+    all_wait(&rt, &mut station.desk, &mut tickets, 2);
     lands(&rt, &mut station.desk, receipt, 2, &sends, &[]);
     is_foreign(&rt, &mut station.desk, 1, &[], &[STOOD, TAKEN]);
-    redeems(&rt, &mut station.desk, stood, Say::Stood);
-    redeems(&rt, &mut station.desk, taken, Say::Taken);
+    redeems_all(&rt, &mut station.desk, tickets, &[Say::Stood, Say::Taken]);
 }
 
 /// The desk, which has launched this one input, learns that the device failed.

@@ -8,10 +8,7 @@ fn stand_for_64<R: Abort + AllocGlobal>(rt: &R, desk: &mut Desk) -> Vec<Ticket> 
     let mut tickets = Vec::new(rt.alloc());
     for term in 1..65 {
         let ticket = asks(rt, desk, Ask::Stand("red", term, 1), u64::from(term));
-        match tickets.push(ticket) {
-            Ok(()) => {}
-            Err(_ticket) => panic!(rt; "ample memory"),
-        }
+        keeps(rt, &mut tickets, ticket);
     }
     tickets
 }
@@ -64,15 +61,27 @@ fn relays(rt: &impl Abort, station: &mut Station) -> Request {
     }
 }
 
+/// The message of node 1 that its Stand sends once it is durable.
+fn relayed<R: Abort + AllocGlobal>(rt: &R) -> Request {
+    let mut first = station_of(rt, 1, &[]);
+    let stood = asks(rt, &mut first.desk, Ask::Stand("red", 5, 10), 1);
+    let message = relays(rt, &mut first);
+    redeems(rt, &mut first.desk, stood, Say::Stood);
+    message
+}
+
+/// The node accepts the message as its first input.
+fn takes(rt: &impl Abort, desk: &mut Desk, message: Request) -> Ticket {
+    let taken = desk.submit(message).expect(rt, "a ticket");
+    assert_eq!(rt; taken.number(), 1);
+    taken
+}
+
 #[test]
 fn late_after_relay(rt: HostRuntime) {
-    let mut first = station_of(&rt, 1, &[]);
-    let stood = asks(&rt, &mut first.desk, Ask::Stand("red", 5, 10), 1);
-    let message = relays(&rt, &mut first);
-    redeems(&rt, &mut first.desk, stood, Say::Stood);
+    let message = relayed(&rt);
     let mut second = station_of(&rt, 2, &[]);
-    let taken = second.desk.submit(message).expect(&rt, "a ticket");
-    assert_eq!(rt; taken.number(), 1);
+    let taken = takes(&rt, &mut second.desk, message);
     let late = asks(&rt, &mut second.desk, Ask::Stand("red", 5, 40), 1);
     let taken = comes_back(&rt, &mut second.desk, taken, Refusal::Early);
     let late = comes_back(&rt, &mut second.desk, late, Refusal::Early);

@@ -6,6 +6,8 @@ const STAND: Op = Op::Stand("red", 5, 10);
 
 const TOKEN: Note = Note::Token("red", 5, 20, 2);
 
+const RELAYED: Op = Op::Take(0, TOKEN);
+
 const WHO: Ask = Ask::Who("red", 5);
 
 const LATEST: Ask = Ask::Latest("red");
@@ -47,6 +49,12 @@ fn vouches<R: Abort + AllocGlobal>(rt: &R, desk: &Desk, rows: &[Row]) {
     }
 }
 
+/// The same of the desk that opens with these inputs, later.
+fn opened_vouches<R: Abort + AllocGlobal>(rt: &R, ops: &[Op], rows: &[Row]) {
+    let desk = opened_as(rt, 1, 1, ops);
+    vouches(rt, &desk, rows);
+}
+
 /// The desk vouches for this.
 fn vouches_for(rt: &impl Abort, desk: &Desk, stub: &Stub) {
     assert_eq!(rt; desk.vouch(stub), Ok(true));
@@ -72,20 +80,21 @@ fn own_stubs(rt: HostRuntime) {
 #[test]
 fn stubs_after_more_inputs(rt: HostRuntime) {
     const ANNOUNCED: Op = Op::Take(0, Note::Elected("red", 5, 30, 2));
-    let late = opened_as(&rt, 1, 1, &[STAND, ANNOUNCED]);
     let rows: [Row; 4] = [
         (&[STAND], WHO, 1, Say::Nobody, true),
         (&[STAND, ANNOUNCED], WHO, 2, Say::Leader(30, 2), true),
         (&[ANNOUNCED], WHO, 1, Say::Leader(30, 2), false),
-        (&[STAND, Op::Take(0, TOKEN)], WHO, 2, Say::Nobody, false),
+        (&[STAND, RELAYED], WHO, 2, Say::Nobody, false),
     ];
-    vouches(&rt, &late, &rows);
+    opened_vouches(&rt, &[STAND, ANNOUNCED], &rows);
 }
 
 #[test]
 fn numbers_that_are_not_durable(rt: HostRuntime) {
+    let row: Row = (&[STAND, RELAYED], WHO, 2, Say::Nobody, true);
+    opened_vouches(&rt, &[STAND, RELAYED], &[row]);
     let rows: [Row; 2] = [
-        (&[STAND, Op::Take(0, TOKEN)], WHO, 2, Say::Nobody, false),
+        (&[STAND, RELAYED], WHO, 2, Say::Nobody, false),
         (&[STAND], Ask::Take(0, TOKEN), 2, Say::Taken, false),
     ];
     let mut early = opened_as(&rt, 1, 1, &[STAND]);
@@ -97,54 +106,42 @@ fn numbers_that_are_not_durable(rt: HostRuntime) {
 
 #[test]
 fn accepted_inputs(rt: HostRuntime) {
-    let desk = opened(&rt, &[STAND, Op::Take(0, TOKEN), Op::Acked(1)]);
     let rows: [Row; 3] = [
         (&[], Ask::Stand("red", 5, 10), 1, Say::Stood, true),
         (&[STAND], Ask::Take(0, TOKEN), 2, Say::Taken, true),
-        (
-            &[STAND, Op::Take(0, TOKEN)],
-            Ask::Acked(1),
-            3,
-            Say::Acked,
-            true,
-        ),
+        (&[STAND, RELAYED], Ask::Acked(1), 3, Say::Acked, true),
     ];
-    vouches(&rt, &desk, &rows);
+    opened_vouches(&rt, &[STAND, RELAYED, Op::Acked(1)], &rows);
 }
 
 #[test]
 fn inputs_of_another_history(rt: HostRuntime) {
     const OTHER: Note = Note::Token("red", 5, 21, 2);
     const ANNOUNCED: Note = Note::Elected("red", 5, 20, 2);
-    let desk = opened(&rt, &[STAND, Op::Take(0, TOKEN)]);
+    const STOOD: Op = Op::Stand("red", 5, 11);
     let again = Ask::Stand("red", 5, 20);
     let already = Say::Refused(Cause::Already(11));
+    let row: Row = (&[STOOD], again, 1, already, true);
+    opened_vouches(&rt, &[STOOD], &[row]);
     let rows: [Row; 4] = [
         (&[], Ask::Stand("red", 5, 11), 1, Say::Stood, false),
         (&[STAND], Ask::Take(0, OTHER), 2, Say::Taken, false),
         (&[STAND], Ask::Take(0, ANNOUNCED), 2, Say::Taken, false),
-        (&[Op::Stand("red", 5, 11)], again, 1, already, false),
+        (&[STOOD], again, 1, already, false),
     ];
-    vouches(&rt, &desk, &rows);
+    opened_vouches(&rt, &[STAND, RELAYED], &rows);
 }
 
 #[test]
 fn numbers_of_other_inputs(rt: HostRuntime) {
-    const OTHER: Op = Op::Stand("red", 6, 7);
+    const OTHER: [Op; 2] = [Op::Stand("red", 6, 7), Op::Stand("red", 8, 3)];
     let stand = Ask::Stand("red", 5, 10);
-    let desk = opened(&rt, &[STAND, Op::Take(0, TOKEN)]);
     let rows: [Row; 3] = [
-        (&[OTHER], stand, 2, Say::Stood, false),
-        (
-            &[OTHER, Op::Stand("red", 8, 3)],
-            stand,
-            3,
-            Say::Stood,
-            false,
-        ),
+        (&OTHER[..1], stand, 2, Say::Stood, false),
+        (&OTHER, stand, 3, Say::Stood, false),
         (&[], Ask::Take(0, TOKEN), 1, Say::Taken, false),
     ];
-    vouches(&rt, &desk, &rows);
+    opened_vouches(&rt, &[STAND, RELAYED], &rows);
 }
 
 /// What one history accepts, another one refuses at the same number.
@@ -152,61 +149,42 @@ fn numbers_of_other_inputs(rt: HostRuntime) {
 fn replies_of_another_kind(rt: HostRuntime) {
     let stand = Ask::Stand("red", 5, 10);
     let late = Say::Refused(Cause::Late);
-    let stood = opened(&rt, &[STAND]);
-    let relayed = opened(&rt, &[Op::Take(0, TOKEN)]);
-    vouches(&rt, &stood, &[(&[], stand, 1, Say::Stood, true)]);
-    vouches(
-        &rt,
-        &stood,
-        &[(&[Op::Take(0, TOKEN)], stand, 1, late, false)],
-    );
-    vouches(
-        &rt,
-        &relayed,
-        &[(&[Op::Take(0, TOKEN)], stand, 1, late, true)],
-    );
-    vouches(&rt, &relayed, &[(&[], stand, 1, Say::Stood, false)]);
+    let rows: [Row; 2] = [
+        (&[], stand, 1, Say::Stood, true),
+        (&[RELAYED], stand, 1, late, false),
+    ];
+    opened_vouches(&rt, &[STAND], &rows);
+    let rows: [Row; 2] = [
+        (&[], stand, 1, Say::Stood, false),
+        (&[RELAYED], stand, 1, late, true),
+    ];
+    opened_vouches(&rt, &[RELAYED], &rows);
 }
 
 #[test]
 fn refused_replies(rt: HostRuntime) {
-    const RELAYED: Op = Op::Take(0, TOKEN);
+    const CREDITED: [Op; 2] = [RELAYED, Op::Acked(1)];
+    const THREE: [Op; 3] = [RELAYED, Op::Acked(1), Op::Stand("red", 6, 7)];
+    const UNCREDITED: [Op; 2] = [RELAYED, Op::Stand("red", 6, 7)];
     // Of the node's own, which it does not send on.
     const HOME: Op = Op::Take(0, Note::Elected("red", 5, 10, 1));
     let stand = Ask::Stand("red", 5, 10);
     let late = Say::Refused(Cause::Late);
     let already = Say::Refused(Cause::Already(20));
     let ahead = Say::Refused(Cause::AckAhead(0));
-    let desk = opened(&rt, &[RELAYED, Op::Acked(1)]);
+    let old = Say::Refused(Cause::Old(1));
+    let older = Say::Refused(Cause::Old(0));
     let rows: [Row; 8] = [
         (&[RELAYED], stand, 1, late, true),
-        (&[RELAYED, Op::Acked(1)], stand, 2, late, true),
-        (
-            &[RELAYED, Op::Acked(1), Op::Stand("red", 6, 7)],
-            stand,
-            3,
-            late,
-            false,
-        ),
+        (&CREDITED, stand, 2, late, true),
+        (&THREE, stand, 3, late, false),
         (&[Op::Stand("red", 5, 20)], stand, 1, already, false),
         (&[], Ask::Acked(1), 0, ahead, true),
         (&[HOME], Ask::Acked(1), 1, ahead, false),
-        (
-            &[RELAYED, Op::Acked(1)],
-            Ask::Acked(1),
-            2,
-            Say::Refused(Cause::Old(1)),
-            true,
-        ),
-        (
-            &[RELAYED, Op::Stand("red", 6, 7)],
-            Ask::Acked(0),
-            2,
-            Say::Refused(Cause::Old(0)),
-            false,
-        ),
+        (&CREDITED, Ask::Acked(1), 2, old, true),
+        (&UNCREDITED, Ask::Acked(0), 2, older, false),
     ];
-    vouches(&rt, &desk, &rows);
+    opened_vouches(&rt, &CREDITED, &rows);
 }
 
 #[test]
@@ -217,7 +195,6 @@ fn questions(rt: HostRuntime) {
         Op::Stand("red", 4, 10),
         Op::Take(0, Note::Token("red", 4, 10, 1)),
     ];
-    let desk = opened(&rt, &[STAND, OWN]);
     let rows: [Row; 8] = [
         (&[], WHO, 0, Say::Nobody, true),
         (&[STAND], WHO, 1, Say::Nobody, true),
@@ -228,7 +205,7 @@ fn questions(rt: HostRuntime) {
         (&[STAND, OWN], LATEST, 2, Say::Latest(5, 10, 1), true),
         (&LESSER, LATEST, 2, Say::Latest(4, 10, 1), false),
     ];
-    vouches(&rt, &desk, &rows);
+    opened_vouches(&rt, &[STAND, OWN], &rows);
 }
 
 #[test]

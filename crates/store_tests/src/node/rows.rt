@@ -14,14 +14,19 @@ fn sends(rt: &impl Abort, made: &mut Stored, count: u32, sends: &[Sends]) {
     leads_are(rt, &landed.decisions, &[]);
 }
 
+/// Node 1, whose one input, a Stand, is durable.
+fn stood<R: Abort + AllocGlobal>(rt: &R) -> Stored {
+    let mut first = created(rt, 1, 3);
+    let stood = asks(rt, &mut first, Ask::Stand("red", 5, 10), 1);
+    let stood = comes_back(rt, &mut first, stood, Refusal::Early);
+    sends(rt, &mut first, 1, &[SENT]);
+    redeems(rt, &mut first, stood, Say::Stood);
+    first
+}
+
 #[test]
 fn late_after_relay(rt: HostRuntime) {
-    let mut first = created(&rt, 1, 3);
-    let stood = asks(&rt, &mut first, Ask::Stand("red", 5, 10), 1);
-    let stood = comes_back(&rt, &mut first, stood, Refusal::Early);
-    sends(&rt, &mut first, 1, &[SENT]);
-    redeems(&rt, &mut first, stood, Say::Stood);
-
+    let _ = stood(&rt);
     let mut second = created(&rt, 2, 3);
     let taken = asks(&rt, &mut second, Ask::Take(0, TOKEN), 1);
     let late = asks(&rt, &mut second, Ask::Stand("red", 5, 40), 1);
@@ -34,23 +39,28 @@ fn late_after_relay(rt: HostRuntime) {
     assert!(rt; second.is_open());
 }
 
+/// Node 2 after a crash, which lost the first message of node 1.
+fn lost<R: Abort + AllocGlobal>(rt: &R) -> Stored {
+    let mut second = created(rt, 2, 3);
+    let lost = asks(rt, &mut second, Ask::Take(0, TOKEN), 1);
+    let lost = comes_back(rt, &mut second, lost, Refusal::Early);
+    forfeits(rt, &mut second, lost);
+    let second = stopped(rt, second, Tear::Old, 2);
+    assert_eq!(rt; counts(&second), (0, 0));
+    second
+}
+
+/// Node 2 takes the message, and credits it once that is durable.
+fn takes(rt: &impl Abort, second: &mut Stored) {
+    let taken = asks(rt, second, Ask::Take(0, TOKEN), 1);
+    sends(rt, second, 1, &[SENT, Credit(1)]);
+    redeems(rt, second, taken, Say::Taken);
+}
+
 #[test]
 fn credit_after_sync(rt: HostRuntime) {
-    let mut first = created(&rt, 1, 3);
-    let stood = asks(&rt, &mut first, Ask::Stand("red", 5, 10), 1);
-    flushes(&rt, &mut first, 1);
-    redeems(&rt, &mut first, stood, Say::Stood);
-
-    let mut second = created(&rt, 2, 3);
-    let lost = asks(&rt, &mut second, Ask::Take(0, TOKEN), 1);
-    let lost = comes_back(&rt, &mut second, lost, Refusal::Early);
-    forfeits(&rt, &mut second, lost);
-    let mut second = stopped(&rt, second, Tear::Old, 2);
-    assert_eq!(rt; counts(&second), (0, 0));
-    let taken = asks(&rt, &mut second, Ask::Take(0, TOKEN), 1);
-    sends(&rt, &mut second, 1, &[SENT, Credit(1)]);
-    redeems(&rt, &mut second, taken, Say::Taken);
-
+    let mut first = stood(&rt);
+    takes(&rt, &mut lost(&rt));
     let acked = asks(&rt, &mut first, Ask::Acked(1), 2);
     let acked = comes_back(&rt, &mut first, acked, Refusal::Early);
     sends(&rt, &mut first, 1, &[]);

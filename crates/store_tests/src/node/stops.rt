@@ -52,6 +52,19 @@ fn a_relay_outlives_a_stop(rt: HostRuntime) {
     redeems(&rt, &mut made, next, Say::Refused(Cause::Old(1)));
 }
 
+/// Once closed, the node does not end the ticket, which is not of it and comes back.
+fn holds_no(rt: &impl Abort, made: &mut Stored, ticket: Ticket) -> Ticket {
+    made.close();
+    assert!(rt; !made.is_open());
+    match made.forfeit(ticket) {
+        Ok(()) => panic!(rt; "forfeited"),
+        Err((ticket, refusal)) => {
+            assert_eq!(rt; refusal, Refusal::Foreign);
+            ticket
+        }
+    }
+}
+
 #[test]
 fn a_ticket_of_the_opening_before_is_foreign(rt: HostRuntime) {
     let mut made = created(&rt, 1, 3);
@@ -59,14 +72,7 @@ fn a_ticket_of_the_opening_before_is_foreign(rt: HostRuntime) {
     let mut again = stopped(&rt, created(&rt, 1, 3), Tear::New, 1);
     let here = asks(&rt, &mut again, Ask::Who("red", 5), 0);
     let who = comes_back(&rt, &mut again, who, Refusal::Foreign);
-    again.close();
-    let who = match again.forfeit(who) {
-        Ok(()) => panic!(&rt; "forfeited"),
-        Err((who, refusal)) => {
-            assert_eq!(rt; refusal, Refusal::Foreign);
-            who
-        }
-    };
+    let who = holds_no(&rt, &mut again, who);
     redeems(&rt, &mut made, who, Say::Nobody);
     redeems(&rt, &mut again, here, Say::Nobody);
 }
