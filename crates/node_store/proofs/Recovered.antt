@@ -19,7 +19,7 @@ use Rattle.gated_journal.proofs.Fault.{not_read}
 use Rattle.gated_journal.proofs.Unique.{unique_inputs, header_unique}
 use Rattle.group_commit.specs.Desk.{IsUnlawful}
 use Rattle.group_commit.specs.Kept.{Place, place_with}
-use Rattle.node_store.specs.State.{Holds}
+use Rattle.node_store.specs.State.{header_at, Holds}
 
 -- ---- what is read
 
@@ -107,3 +107,15 @@ state_again made inputs left is same = is ∙ ap opened same
 
 pub named_again : (node n capacity : ℕ) (header : Header) → header.node ≡ node → header.n ≡ n → capacity ≡ header.capacity → header ≡ header_with node n capacity
 named_again node n capacity header node_is n_is capacity_is = λ i. record { node = node_is i; n = n_is i; capacity = sym capacity_is i }
+
+-- what the journal holds, told of the node that is made of it
+pub as_made : (P : Header → List Input → Type 0) (node n capacity run : ℕ) (header : Header) (inputs : List Input) (made : Place) (now : NodeState) → header.node ≡ node → header.n ≡ n → capacity ≡ header.capacity
+    → made ≡ place_with node n capacity run → now ≡ opened inputs → P header inputs → P (header_at made) now.inputs
+as_made P node n capacity run header inputs made now node_is n_is capacity_is place state holds =
+    let named = named_again node n capacity header node_is n_is capacity_is ∙ ap header_at (sym place) in
+    subst (λ (m : Header × List Input). P m.0 m.1) (λ i. (named i, (sym state i).inputs)) holds
+
+pub lawful_made : (node n capacity run : ℕ) (inputs : List Input) (made : Place) (now : NodeState) → made ≡ place_with node n capacity run → now ≡ opened inputs
+    → IsLawful node n capacity fresh inputs → IsLawful node n made.capacity fresh now.inputs
+lawful_made node n capacity run inputs made now place state lawful =
+    subst (λ (m : Place × NodeState). IsLawful node n m.0.capacity fresh m.1.inputs) (λ i. (sym place i, sym state i)) lawful

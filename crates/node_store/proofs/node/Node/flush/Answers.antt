@@ -1,6 +1,7 @@
-use Rattle.std.proofs.Common.{◌≡◌, ◌∙◌, sym, subst, ap, refl, ◌++◌}
+use Rattle.std.proofs.Common.{◌≡◌, ◌∙◌, ◌-◌, sym, subst, ap, refl, ◌++◌}
 use Rattle.disk_model.proofs.Moments.{started, weaken, now}
-use Rattle.ring_records.specs.Answer.{launched, landed, durable_in, flying_in}
+use Rattle.ring_records.specs.Answer.{NodeState, launched, landed, durable_in, flying_in}
+use Rattle.ring_records.specs.Release.{packets, decisions}
 use Rattle.gated_journal.specs.Journal as journals
 use Rattle.gated_journal.specs.Reading.{AllReadAs, ReadsAsOneOf}
 use Rattle.gated_journal.proofs.Results.{of_none}
@@ -82,6 +83,22 @@ returns-in-Ok-None-clause-durable g c =
     let disk = g.D.Device.disk (journals.device_of node.journal) in
     let works = works_launched (desks.is_failed node.desk) _ _ c.in-Ok-None.ensures.free in
     durable_all _ _ _ _ disk _ _ _ works node.stands (desks.state_of c.launch.new.self) (ap durable_in c.in-Ok-None.ensures.state)
+
+pub returns-in-Ok-clause-state : goal.returns-in-Ok-clause-state
+returns-in-Ok-clause-state g c = c.land.ensures.state ∙ ap landed c.in-Ok-Some.ensures.state
+
+pub returns-in-Ok-clause-count : goal.returns-in-Ok-clause-count
+returns-in-Ok-clause-count g c = c.land.ensures.count ∙ ap (λ (s : NodeState). s.flying - s.durable) c.in-Ok-Some.ensures.state
+
+pub returns-in-Ok-clause-packets : goal.returns-in-Ok-clause-packets
+returns-in-Ok-clause-packets g c =
+    c.land.ensures.packets
+    ∙ (λ i. packets ((c.in-Ok-Some.ensures.place i).me) (durable_in (c.in-Ok-Some.ensures.state i)) (flying_in (c.in-Ok-Some.ensures.state i)))
+
+pub returns-in-Ok-clause-decisions : goal.returns-in-Ok-clause-decisions
+returns-in-Ok-clause-decisions g c =
+    c.land.ensures.decisions
+    ∙ (λ i. decisions ((c.in-Ok-Some.ensures.place i).me) (durable_in (c.in-Ok-Some.ensures.state i)) (flying_in (c.in-Ok-Some.ensures.state i)))
 
 pub returns-in-Ok-clause-durable : goal.returns-in-Ok-clause-durable
 returns-in-Ok-clause-durable g c =

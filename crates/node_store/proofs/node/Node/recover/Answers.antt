@@ -1,14 +1,14 @@
 use Rattle.std.proofs.Common.{◌≡◌, ◌-◌, ⊎_elim, inl, inr, false, sym, ap, ◌∙◌, subst, arith}
 use Rattle.disk_model.specs.Disk.{Disk}
 use Rattle.ring_records.specs.Admission.{fresh, used}
-use Rattle.ring_records.specs.Answer.{opened, left_by}
+use Rattle.ring_records.specs.Answer.{NodeState, opened, left_by}
 use Rattle.gated_journal.specs.Journal as journals
-use Rattle.gated_journal.specs.Reading.{header_with}
+use Rattle.gated_journal.specs.Reading.{header_with, ReadsAs, AllReadAs}
 use Rattle.gated_journal.specs.Unread.{IsFault}
 use Rattle.group_commit.specs.Desk as desks
-use Rattle.group_commit.specs.Kept.{place_with}
+use Rattle.group_commit.specs.Kept.{Place, place_with}
 use Rattle.node_store.specs.State.{header_at, Holds}
-use Rattle.node_store.proofs.Recovered.{kept_by, short_only, lawful_again, still_holds, same_image, holds_again, no_fault, capacity_again, place_again, state_again, named_again}
+use Rattle.node_store.proofs.Recovered.{kept_by, short_only, lawful_again, still_holds, same_image, holds_again, no_fault, capacity_again, place_again, state_again, named_again, lawful_made, as_made}
 use Rattle.node_store.proofs.Standing.{same, opens}
 use Rattle.node_store.proofs.node.Node.recover.Goals as goal
 
@@ -49,6 +49,34 @@ returns-in-Err-clause-refusal g c = record { cause = inl c.in-Err.ensures.refusa
 
 pub returns-in-Err-clause-works : goal.returns-in-Err-clause-works
 returns-in-Err-clause-works g c = λ reach fits. ⊎_elim (λ short. inl short) (λ unread. inr (inl unread)) (c.in-Err.ensures.works reach fits)
+
+pub returns-in-Ok-open-clause-place : goal.returns-in-Ok-open-clause-place
+returns-in-Ok-open-clause-place g c =
+    c.in-Ok-open.ensures.place ∙ ap (λ (p : Place). place_with c.args.node c.args.n p.capacity c.args.run) (sym c.in-Ok-open.ensures.place)
+
+pub returns-in-Ok-open-clause-state : goal.returns-in-Ok-open-clause-state
+returns-in-Ok-open-clause-state g c = c.in-Ok-open.ensures.state ∙ ap (λ (s : NodeState). opened s.inputs) (sym c.in-Ok-open.ensures.state)
+
+pub returns-in-Ok-open-clause-lawful : goal.returns-in-Ok-open-clause-lawful
+returns-in-Ok-open-clause-lawful g c =
+    let desk = c.in-Ok-open.desk in
+    lawful_made c.args.node c.args.n c.capacity.result c.args.run c.in-Ok.inputs.items (desks.place_of desk) (desks.state_of desk) c.in-Ok-open.ensures.place c.in-Ok-open.ensures.state c.in-Ok-open.ensures.lawful
+
+pub returns-in-Ok-open-clause-reads : goal.returns-in-Ok-open-clause-reads
+returns-in-Ok-open-clause-reads g c =
+    let desk = c.in-Ok-open.desk in
+    let read = c.in-Ok.ensures in
+    let image = (g.D.Device.disk c.args.device).image in
+    as_made (λ header inputs. ReadsAs header image inputs) c.args.node c.args.n c.capacity.result c.args.run (journals.header_of c.in-Ok.journal) c.in-Ok.inputs.items (desks.place_of desk) (desks.state_of desk)
+    read.header.0 read.header.1 c.capacity.ensures.value c.in-Ok-open.ensures.place c.in-Ok-open.ensures.state read.reads
+
+pub returns-in-Ok-open-clause-durable : goal.returns-in-Ok-open-clause-durable
+returns-in-Ok-open-clause-durable g c =
+    let desk = c.in-Ok-open.desk in
+    let read = c.in-Ok.ensures in
+    let disk = g.D.Device.disk (journals.device_of c.in-Ok.journal) in
+    as_made (λ header inputs. AllReadAs header disk inputs) c.args.node c.args.n c.capacity.result c.args.run (journals.header_of c.in-Ok.journal) c.in-Ok.inputs.items (desks.place_of desk) (desks.state_of desk)
+    read.header.0 read.header.1 c.capacity.ensures.value c.in-Ok-open.ensures.place c.in-Ok-open.ensures.state read.durable
 
 pub returns-in-Ok-open-clause-recovery : goal.returns-in-Ok-open-clause-recovery
 returns-in-Ok-open-clause-recovery g c = λ capacity s lawful holds.
