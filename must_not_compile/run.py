@@ -1,8 +1,9 @@
 #!/usr/bin/env python3
-"""Tries the edits of this folder, each on a copy of its crate: a value that must be spent is let go, and the compiler must say so.
+"""Tries the edits of this folder, each on a copy of its crate, which the compiler must refuse for the reason that the edit tells.
 
-An edit has the lines `crate: NAME`, `file: src/NAME.rt`, `old: TEXT` and `new: TEXT`, the old text standing once in the file. `rt ci`
-and wrong_bodies/run.py try those that only the prover can refuse; these are refused before a proof is begun."""
+An edit has the lines `crate: NAME`, `file: src/NAME.rt`, `old: TEXT` and `new: TEXT`, the old text standing once in the file. Where it
+lets go a value that must be spent, no more is said; else a line `error: NAME` names what the compiler must say. `rt ci` and
+wrong_bodies/run.py try those that only the prover can refuse; these are refused before a proof is begun."""
 
 import pathlib
 import shutil
@@ -14,9 +15,13 @@ FOLDER = pathlib.Path(__file__).resolve().parent
 ROOT = FOLDER.parent
 
 
-def refusal(edit):
+def parts(edit):
+    """The lines of an edit, by their names."""
+    return dict(line.split(": ", 1) for line in edit.read_text().splitlines())
+
+
+def refusal(said):
     """What the compiler says of the crate with this edit."""
-    said = dict(line.split(": ", 1) for line in edit.read_text().splitlines())
     with tempfile.TemporaryDirectory() as room:
         copy = pathlib.Path(room)
         shutil.copy(ROOT / "crates.txt", copy)
@@ -34,7 +39,8 @@ def refusal(edit):
 def main():
     failed = 0
     for edit in sorted(FOLDER.glob("*.edit")):
-        refused = "error[linear-value-let-go]" in refusal(edit)
+        said = parts(edit)
+        refused = f"error[{said.get('error', 'linear-value-let-go')}]" in refusal(said)
         failed += not refused
         print(f"must_not_compile/{edit.name}: {'refused, as it must be' if refused else 'NOT REFUSED'}")
     return 1 if failed else 0

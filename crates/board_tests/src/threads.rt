@@ -93,7 +93,7 @@ fn publish_terms<J: Naming, R: Wait>(
     Ok(())
 }
 
-/// Whether the latest term never goes down over many reads, with the first term's leader as it was.
+/// Whether the latest term never goes down over many reads.
 fn reads_rise<J: Naming>(reader: &mut BoardReader<J>, group: &GroupName) -> Result<bool, Refusal> {
     let mut before: u32 = 0;
     for _ in 0..READS {
