@@ -1,0 +1,140 @@
+// Services, readers and writers that a test can look into.
+use ring_records::{Bid, Candidate, GroupName, Key, NodeNo, Refusal, Reply, Term};
+use sessions::Service;
+use std::cell::Cell;
+use std::io::{self, ErrorKind, Read, Write};
+
+/// Answers with the rows of a table, one after the other, and with `none` after them.
+#[derive(Drop)]
+pub struct Parrot<'a> {
+    pub answers: &'a [Result<Reply, Refusal>],
+    pub asked: usize,
+}
+
+impl<'a> Parrot<'a> {
+    fn next(&mut self) -> Result<Reply, Refusal> {
+        let answer = match self.answers.get(self.asked) {
+            Some(answer) => *answer,
+            None => Ok(Reply::Leader(None)),
+        };
+        self.asked = self.asked.saturating_add(1);
+        answer
+    }
+}
+
+impl<'a> Service for Parrot<'a> {
+    ghost answers = { λ s q r t. Unit {0} };
+
+    fn stand(&mut self, _key: Key, _bid: Bid) -> Result<Reply, Refusal> {
+        self.next()
+    }
+
+    fn who(&mut self, _key: &Key) -> Result<Reply, Refusal> {
+        self.next()
+    }
+
+    fn latest(&mut self, _group: &GroupName) -> Result<Reply, Refusal> {
+        self.next()
+    }
+}
+
+/// Node 2 with bid 30, in term 5.
+pub fn led() -> Result<(Term, Candidate), Refusal> {
+    let bid = Bid::new(30)?;
+    let node = NodeNo::new(2)?;
+    Ok((Term::new(5)?, Candidate { bid, node }))
+}
+
+/// Gives at most `size` bytes a read, and fails after `reads` reads.
+#[derive(Drop)]
+pub struct Drip<'a> {
+    pub rest: &'a [u8],
+    pub size: usize,
+    pub reads: usize,
+}
+
+impl<'a> Read for Drip<'a> {
+    fn read(&mut self, buf: &mut [u8]) -> io::Result<usize> {
+        if self.reads == 0 {
+            return Err(io::Error::from(ErrorKind::BrokenPipe));
+        }
+        self.reads -= 1;
+        let count = self.size.min(buf.len()).min(self.rest.len());
+        buf[..count].copy_from_slice(&self.rest[..count]);
+        self.rest = &self.rest[count..];
+        Ok(count)
+    }
+}
+
+/// Takes at most `size` bytes a write; after `writes` writes it fails, or takes nothing.
+#[derive(Drop)]
+pub struct Narrow {
+    pub text: Vec<u8>,
+    pub size: usize,
+    pub writes: usize,
+    pub takes_nothing: bool,
+}
+
+impl Write for Narrow {
+    fn write(&mut self, buf: &[u8]) -> io::Result<usize> {
+        if self.writes == 0 {
+            if self.takes_nothing {
+                return Ok(0);
+            }
+            return Err(io::Error::from(ErrorKind::BrokenPipe));
+        }
+        self.writes -= 1;
+        let count = self.size.min(buf.len());
+        self.text.extend_from_slice(&buf[..count])?;
+        Ok(count)
+    }
+
+    fn flush(&mut self) -> io::Result<()> {
+        Ok(())
+    }
+}
+
+/// A client that sends a line only once all its lines before were answered: so many answers were flushed out to it.
+#[derive(Drop)]
+pub struct Client<'a> {
+    pub lines: &'a [&'a [u8]],
+    pub sent: usize,
+    pub heard: &'a Cell<usize>,
+}
+
+impl<'a> Read for Client<'a> {
+    fn read(&mut self, buf: &mut [u8]) -> io::Result<usize> {
+        if self.heard.get() != self.sent {
+            return Err(io::Error::from(ErrorKind::BrokenPipe));
+        }
+        let line = match self.lines.get(self.sent) {
+            Some(line) => *line,
+            None => return Ok(0),
+        };
+        self.sent = self.sent.saturating_add(1);
+        let count = line.len().min(buf.len());
+        buf[..count].copy_from_slice(&line[..count]);
+        Ok(count)
+    }
+}
+
+/// Where the client hears the answers that were flushed out; fails to flush after so many.
+#[derive(Drop)]
+pub struct Ear<'a> {
+    pub heard: &'a Cell<usize>,
+    pub flushes: usize,
+}
+
+impl<'a> Write for Ear<'a> {
+    fn write(&mut self, buf: &[u8]) -> io::Result<usize> {
+        Ok(buf.len())
+    }
+
+    fn flush(&mut self) -> io::Result<()> {
+        if self.heard.get() == self.flushes {
+            return Err(io::Error::from(ErrorKind::BrokenPipe));
+        }
+        self.heard.set(self.heard.get().saturating_add(1));
+        Ok(())
+    }
+}
