@@ -13,7 +13,7 @@ ghost use Rattle.group_commit.specs.Kept.{answered_with, place_with, kept_in, Is
 
 use crate::desk::parts::{accept, prepare, replay};
 use crate::judge::judge;
-use crate::kept::Kept;
+use crate::kept::{Kept, keep, take_back};
 use crate::landed::Landed;
 use crate::outbox::Outbox;
 use crate::ticket::{Stub, Ticket};
@@ -437,22 +437,6 @@ fn count_with(inputs: &[Input], input: &Option<Input>) -> u64
     ensures { result ≡ length (inputs.now ++ cons_option input.now []) }
 {
     inputs.len() as u64 + u64::from(input.is_some())
-}
-
-// Keeps the answer for the ticket of this number.
-fn keep(tickets: &mut BTreeMap<u64, Kept>, own: u64, kept: Kept) -> Result<(), AllocError>
-    ensures kept { OnOk result ((other : ℕ) → kept_in tickets.new.entries other ≡ (if nat_eq other own then Some kept else kept_in tickets.old.entries other)) }
-    ensures err { OnErr result ((other : ℕ) → kept_in tickets.new.entries other ≡ kept_in tickets.old.entries other) }
-{
-    tickets.insert(own, kept)?;
-    Ok(())
-}
-
-// Keeps nothing for the ticket of this number.
-fn take_back(tickets: &mut BTreeMap<u64, Kept>, own: u64)
-    ensures { (other : ℕ) → kept_in tickets.new.entries other ≡ (if nat_eq other own then None else kept_in tickets.old.entries other) }
-{
-    tickets.remove(&own);
 }
 
 mod decisions;

@@ -1,7 +1,7 @@
 use Rattle.std.proofs.Common.{◌∙◌, ap, cond, Some}
 use Rattle.group_commit.specs.Kept.{kept_in}
 use Rattle.group_commit.proofs.Numbers.{is_number}
-use Rattle.group_commit.proofs.desk.keep.Goals as goal
+use Rattle.group_commit.proofs.kept.keep.Goals as goal
 
 pub returns-clause-kept : goal.returns-clause-kept
 returns-clause-kept c = λ other.

@@ -1,7 +1,7 @@
 use Rattle.std.proofs.Common.{◌∙◌, ap, cond, None}
 use Rattle.group_commit.specs.Kept.{kept_in}
 use Rattle.group_commit.proofs.Numbers.{is_number}
-use Rattle.group_commit.proofs.desk.take_back.Goals as goal
+use Rattle.group_commit.proofs.kept.take_back.Goals as goal
 
 pub returns : goal.returns
 returns c = λ other.
