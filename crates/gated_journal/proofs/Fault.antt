@@ -3,13 +3,13 @@ use Rattle.std.proofs.Common.{◌≡◌, ◌⊎◌, inl, inr, ℕ, ◌≤◌, Li
 use Rattle.ring_records.specs.declared.input.Input.{Input}
 use Rattle.ring_records.specs.declared.refusal.Refusal.{Refusal}
 use Rattle.ring_records.specs.declared.refusal.Refusal.TheVariants.{Damaged}
-use Rattle.gated_journal.specs.Reading.{Header, ReadsAs}
+use Rattle.gated_journal.specs.Reading.{Member, ReadsAs}
 use Rattle.gated_journal.specs.Unread.{header_at, IsBroken, IsUnread}
 use Rattle.gated_journal.proofs.Behind.{inside}
 use Rattle.gated_journal.proofs.Head.{header_again}
 use Rattle.gated_journal.proofs.Unique.{not_both, damaged_once}
 
-pub not_read : (node n : ℕ) (image : List ℕ) (refusal : Refusal) (header : Header) (inputs : List Input) → IsUnread node n image refusal → ReadsAs header image inputs → header.node ≡ node → header.n ≡ n → ⊥
+pub not_read : (node n : ℕ) (image : List ℕ) (refusal : Refusal) (header : Member) (inputs : List Input) → IsUnread node n image refusal → ReadsAs header image inputs → header.node ≡ node → header.n ≡ n → ⊥
 not_read node n image refusal header inputs unread read node_is n_is =
     let at = read.at in
     let long : 17 ≤ length image = omega (arith, at.frames.ends, inside 16 image inputs read.place at.frames) in

@@ -6,7 +6,7 @@ use Rattle.std.proofs.lemmas.Slice.Eq.{bytes_eq-Decides}
 use Rattle.disk_model.specs.Disk.{IsPart}
 use Rattle.ring_records.specs.declared.refusal.Refusal.{Refusal}
 use Rattle.ring_records.specs.declared.refusal.Refusal.TheVariants.{NotFormatted, WrongNode, Damaged}
-use Rattle.gated_journal.specs.Reading.{number_at, mark, header_with, Header, HasHeader}
+use Rattle.gated_journal.specs.Reading.{number_at, mark, member, Member, HasHeader}
 use Rattle.gated_journal.proofs.Kept.{take_same}
 use Rattle.gated_journal.specs.Unread.{head_at, header_at}
 
@@ -32,7 +32,7 @@ as_ok x = Ok x
 same_ok : (x y : ℕ) → as_ok x ≡ as_ok y → x ≡ y
 same_ok x y e = cc
 
-pub header_found : (node n capacity : ℕ) (image : List ℕ) → header_at node n image ≡ Ok capacity → (17 ≤ length image) × HasHeader (header_with node n capacity) image
+pub header_found : (node n capacity : ℕ) (image : List ℕ) → header_at node n image ≡ Ok capacity → (17 ≤ length image) × HasHeader (member node n capacity) image
 header_found node n capacity image e =
     let a = passed (ltb (length image) 17) NotFormatted (head_at node n image) capacity e in
     let b = passed (not (bytes_eq (take 8 image) mark)) NotFormatted _ capacity a.1 in
@@ -59,7 +59,7 @@ pub header_same : (node n : ℕ) (head image : List ℕ) → IsPart 0 head image
 header_same node n head image part long in_image = head_same node n head image part long (omega (arith, in_image)) ∙ sym (rw (le-ltb (length image) 17 in_image) refl)
 
 -- and such a header is found
-pub header_again : (header : Header) (image : List ℕ) → 17 ≤ length image → HasHeader header image → header_at header.node header.n image ≡ Ok header.capacity
+pub header_again : (header : Member) (image : List ℕ) → 17 ≤ length image → HasHeader header image → header_at header.node header.n image ≡ Ok header.capacity
 header_again header image long head =
     let long_is = le-ltb (length image) 17 long in
     let marked = (bytes_eq-Decides (take 8 image) mark).1 head.marked in

@@ -6,7 +6,7 @@ use Rattle.std.specs.Coded.{le_prop, Unit-prop, ×_prop}
 use Rattle.ring_records.specs.declared.input.Input.{Input}
 use Rattle.gated_journal.specs.Frames.{frames, joined, AreBatches, ReadsTo}
 use Rattle.gated_journal.specs.Props.{IsBatch-prop}
-use Rattle.gated_journal.specs.Reading.{Header, HasHeader, ReadsAt, ReadsAs}
+use Rattle.gated_journal.specs.Reading.{Member, HasHeader, ReadsAt, ReadsAs}
 use Rattle.gated_journal.proofs.Unique.{parts-unique, unique}
 
 Inputs-set : IsSet (List Input)
@@ -59,7 +59,7 @@ module _ (offset : ℕ) (image : List ℕ) (inputs : List Input) (place : ℕ) w
       let parts : ◌≡◌ {A = Parts} (p.batches, (p.gate, p.after)) (q.batches, (q.gate, q.after)) = λ i. (same.0 i, (gate i, after i)) in
       ap reads_by (with_fact Facts-prop (parts_of p) (parts_of q) parts)
 
-HasHeader-prop : (header : Header) (image : List ℕ) → IsProp (HasHeader header image)
+HasHeader-prop : (header : Member) (image : List ℕ) → IsProp (HasHeader header image)
 HasHeader-prop header image p q =
     let bytes_set : IsSet (List ℕ) = hlevel props in
     let number_set : IsSet ℕ = hlevel props in
@@ -73,10 +73,10 @@ HasHeader-prop header image p q =
       blank = number_set _ _ p.blank q.blank i;
     }
 
-ReadsAt-prop : (header : Header) (image : List ℕ) (inputs : List Input) (place : ℕ) → IsProp (ReadsAt header image inputs place)
+ReadsAt-prop : (header : Member) (image : List ℕ) (inputs : List Input) (place : ℕ) → IsProp (ReadsAt header image inputs place)
 ReadsAt-prop header image inputs place p q i = record { head = HasHeader-prop header image p.head q.head i; frames = ReadsTo-prop 16 image inputs place p.frames q.frames i }
 
-pub ReadsAs-prop : (header : Header) (image : List ℕ) (inputs : List Input) → IsProp (ReadsAs header image inputs)
+pub ReadsAs-prop : (header : Member) (image : List ℕ) (inputs : List Input) → IsProp (ReadsAs header image inputs)
 ReadsAs-prop header image inputs p q =
     let place : p.place ≡ q.place = (unique 16 image inputs inputs p.place q.place p.at.frames q.at.frames).1 in
     ap (λ (r : (place : ℕ) × ReadsAt header image inputs place). record { place = r.0; at = r.1 })

@@ -13,7 +13,7 @@ use Rattle.ring_records.specs.Record.{record_of}
 use Rattle.ring_records.proofs.LookBack.{IsItem, take-item}
 use Rattle.ring_records.proofs.Records.{cost-record, record-long}
 use Rattle.gated_journal.specs.Frames.{records, body, frames, joined, AreBatches, IsFrame, ReadsTo, Appends}
-use Rattle.gated_journal.specs.Reading.{Header, HasHeader, ReadsAt, IsAtRest, AllReadAs, ReadsAsOneOf, new_image, is_header}
+use Rattle.gated_journal.specs.Reading.{Member, HasHeader, ReadsAt, IsAtRest, AllReadAs, ReadsAsOneOf, new_image, is_header}
 use Rattle.gated_journal.proofs.Behind.{inside}
 use Rattle.gated_journal.proofs.Kept.{header_kept}
 use Rattle.gated_journal.proofs.Unique.{unique}
@@ -65,7 +65,7 @@ used-item inputs i x here =
 byte-put : (bytes old new : List ℕ) → Puts 0 bytes old new → (i : ℕ) → i < length bytes → get_or new i 0 ≡ get_or bytes i 0
 byte-put bytes old new put i lt = ap (λ (k : ℕ). get_or new k 0) (sym (zero-add i)) ∙ put.here i lt
 
-pub formatted : (header : Header) (old new : List ℕ) → 4096 ≤ header.capacity → header.capacity ≤ 1048576 → Puts 0 (new_image header) old new → ReadsAt header new [] 16
+pub formatted : (header : Member) (old new : List ℕ) → 4096 ≤ header.capacity → header.capacity ≤ 1048576 → Puts 0 (new_image header) old new → ReadsAt header new [] 16
 formatted header old new from to put =
     let bytes = new_image header in
     let long : 17 ≤ length new = omega (arith, put.size (omega arith)) in
@@ -97,14 +97,14 @@ formatted header old new from to put =
 -- ---- at rest
 
 -- what all images read as ends at the journal's place
-pub at_place : (header : Header) (disk : Disk) (place count sum : ℕ) (inputs : List Input) → IsAtRest header disk place count sum → MayLeave disk disk.image → AllReadAs header disk inputs → ReadsAt header disk.image inputs place
+pub at_place : (header : Member) (disk : Disk) (place count sum : ℕ) (inputs : List Input) → IsAtRest header disk place count sum → MayLeave disk disk.image → AllReadAs header disk inputs → ReadsAt header disk.image inputs place
 at_place header disk place count sum inputs rest stays all =
     let read = all disk.image stays in
     let end_is : read.place ≡ place = ∥∥₁_elim rest.reads (ℕ_set read.place place) (λ r. (unique 16 disk.image inputs r.0 read.place place read.at.frames r.1.0.frames).1) in
     subst (λ (end : ℕ). ReadsAt header disk.image inputs end) end_is read.at
 
 -- and the journal's counts are those of what is read
-pub counts : (header : Header) (disk : Disk) (place count sum : ℕ) (inputs : List Input) → IsAtRest header disk place count sum → MayLeave disk disk.image → AllReadAs header disk inputs → (count ≡ length inputs) × (sum ≡ used fresh inputs)
+pub counts : (header : Member) (disk : Disk) (place count sum : ℕ) (inputs : List Input) → IsAtRest header disk place count sum → MayLeave disk disk.image → AllReadAs header disk inputs → (count ≡ length inputs) × (sum ≡ used fresh inputs)
 counts header disk place count sum inputs rest stays all =
     let read = all disk.image stays in
     let same : (r : (more : List Input) × (ReadsAt header disk.image more place × ((length more ≡ count) × (used fresh more ≡ sum)))) → r.0 ≡ inputs =
@@ -114,14 +114,14 @@ counts header disk place count sum inputs rest stays all =
     )
 
 -- where nothing waits for a sync, a stop leaves what is read
-pub all_read : (header : Header) (disk : Disk) (inputs : List Input) (place : ℕ) → IsSynced disk → ReadsAt header disk.image inputs place → AllReadAs header disk inputs
+pub all_read : (header : Member) (disk : Disk) (inputs : List Input) (place : ℕ) → IsSynced disk → ReadsAt header disk.image inputs place → AllReadAs header disk inputs
 all_read header disk inputs place is read image left = record { place = place; at = subst (λ (l : List ℕ). ReadsAt header l inputs place) (sym (synced_only disk image is left)) read }
 
-pub rest_of : (header : Header) (disk : Disk) (inputs : List Input) (place : ℕ) → IsSynced disk → ReadsAt header disk.image inputs place → IsAtRest header disk place (length inputs) (used fresh inputs)
+pub rest_of : (header : Member) (disk : Disk) (inputs : List Input) (place : ℕ) → IsSynced disk → ReadsAt header disk.image inputs place → IsAtRest header disk place (length inputs) (used fresh inputs)
 rest_of header disk inputs place is read = record { synced = is; reads = ∣ (inputs, (read, (refl, refl))) ∣₁ }
 
 -- one batch more
-pub rest_next : (header : Header) (disk new : Disk) (place end count sum : ℕ) (batch : List Input) → IsAtRest header disk place count sum → IsSynced new
+pub rest_next : (header : Member) (disk new : Disk) (place end count sum : ℕ) (batch : List Input) → IsAtRest header disk place count sum → IsSynced new
     → ((inputs : List Input) → ReadsAt header disk.image inputs place → ReadsAt header new.image (inputs ++ batch) end) → IsAtRest header new end (count + length batch) (sum + used fresh batch)
 rest_next header disk new place end count sum batch rest is step = record {
   synced = is;
@@ -129,7 +129,7 @@ rest_next header disk new place end count sum batch rest is step = record {
 }
 
 -- a moment of a commit of a whole journal
-pub moment : (header : Header) (old now : List ℕ) (inputs batch : List Input) (place n : ℕ) → ReadsAt header old inputs place → Appends 16 inputs batch place n old now → ReadsAsOneOf header inputs (inputs ++ batch) now
+pub moment : (header : Member) (old now : List ℕ) (inputs batch : List Input) (place n : ℕ) → ReadsAt header old inputs place → Appends 16 inputs batch place n old now → ReadsAsOneOf header inputs (inputs ++ batch) now
 moment header old now inputs batch place n read is =
     let in_old = inside 16 old inputs place read.frames in
     let low : 16 ≤ place = omega (arith, read.frames.ends) in
@@ -154,14 +154,14 @@ fits batch bytes frame =
     }
 
 -- the journal after a commit
-pub after : (header : Header) (old new : List ℕ) (inputs batch : List Input) (place n : ℕ) → ReadsAt header old inputs place → ReadsTo 16 new (inputs ++ batch) (place + n) × Changes place (1 + n) old new → ReadsAt header new (inputs ++ batch) (place + n)
+pub after : (header : Member) (old new : List ℕ) (inputs batch : List Input) (place n : ℕ) → ReadsAt header old inputs place → ReadsTo 16 new (inputs ++ batch) (place + n) × Changes place (1 + n) old new → ReadsAt header new (inputs ++ batch) (place + n)
 after header old new inputs batch place n read done =
     let in_old = inside 16 old inputs place read.frames in
     let low : 16 ≤ place = omega (arith, read.frames.ends) in
     record { head = header_kept header place (1 + n) old new low (omega (arith, in_old, low)) done.1 read.head; frames = done.0 }
 
 -- the capacity of a header that may be written
-pub in_range : (header : Header) → is_header header ≡ true → (4096 ≤ header.capacity) × (header.capacity ≤ 1048576)
+pub in_range : (header : Member) → is_header header ≡ true → (4096 ≤ header.capacity) × (header.capacity ≤ 1048576)
 in_range header is =
     let capacity = leb 4096 header.capacity && leb header.capacity 1048576 in
     let size = leb header.n 16 && (leb header.node header.n && capacity) in
@@ -180,7 +180,7 @@ pub record Opens (inputs : List Input) (place : ℕ) : Type 0 where
   pub counted : length inputs ≤ used fresh inputs
   pub bound : used fresh inputs + 32 ≤ 2 * place
 
-pub opens : (header : Header) (image : List ℕ) (inputs : List Input) (place : ℕ) → ReadsAt header image inputs place → Opens inputs place
+pub opens : (header : Member) (image : List ℕ) (inputs : List Input) (place : ℕ) → ReadsAt header image inputs place → Opens inputs place
 opens header image inputs place read =
     let r = read.frames in
     let same = ap (used fresh) r.same in

@@ -5,7 +5,7 @@ use Rattle.ring_records.specs.declared.input.Input.{Input}
 use Rattle.ring_records.specs.Record.{record_of}
 use Rattle.ring_records.proofs.Records.{records-apart}
 use Rattle.gated_journal.specs.Frames.{records, body, frames, joined, HaveRecords, IsBatch, AreBatches, ReadsTo}
-use Rattle.gated_journal.specs.Reading.{Header, HasHeader, ReadsAs}
+use Rattle.gated_journal.specs.Reading.{Member, HasHeader, ReadsAs}
 use Rattle.gated_journal.specs.Unread.{NoFrame, IsDamagedAt}
 
 records-unique : (b c : List Input) (r s : List ℕ) → HaveRecords b → HaveRecords c → length b ≡ length c → records b ++ r ≡ records c ++ s → (b ≡ c) × (r ≡ s)
@@ -84,10 +84,10 @@ damaged_once offset image at other one two =
     (sym one.up_to.whole ∙ two.up_to.whole)).0 in
     one.up_to.ends ∙ ap (λ (bs : List (List Input)). offset + length (frames bs)) same ∙ sym two.up_to.ends
 
-pub unique_inputs : (header other : Header) (image : List ℕ) (inputs more : List Input) → ReadsAs header image inputs → ReadsAs other image more → inputs ≡ more
+pub unique_inputs : (header other : Member) (image : List ℕ) (inputs more : List Input) → ReadsAs header image inputs → ReadsAs other image more → inputs ≡ more
 unique_inputs header other image inputs more one two = (unique 16 image inputs more one.place two.place one.at.frames two.at.frames).0
 
-pub header_unique : (header other : Header) (image : List ℕ) → HasHeader header image → HasHeader other image → header ≡ other
+pub header_unique : (header other : Member) (image : List ℕ) → HasHeader header image → HasHeader other image → header ≡ other
 header_unique header other image one two =
     let node : header.node ≡ other.node = sym one.node ∙ two.node in
     let n : header.n ≡ other.n = sym one.n ∙ two.n in

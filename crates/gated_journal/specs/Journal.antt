@@ -1,15 +1,15 @@
 -- What a journal shows.
 use Rattle.std.specs.Prelude.{ℕ, ◌-◌, Bool}
 use Rattle.disk_model.specs.declared.device.Device.{Ghosts}
-use Rattle.gated_journal.specs.Reading.{Header, header_with}
+use Rattle.gated_journal.specs.Reading.{Member, member}
 use Rattle.gated_journal.specs.declared.journal.Journal.{Journal}
 
 module _ {D : Type 0} {g : Ghosts D} where
   abbrev pub device_of : Journal D g → D
   device_of journal = journal.device
 
-  abbrev pub header_of : Journal D g → Header
-  header_of journal = header_with journal.node journal.n journal.capacity
+  abbrev pub member_of : Journal D g → Member
+  member_of journal = member journal.node journal.n journal.capacity
 
   -- how many inputs it holds
   abbrev pub len_of : Journal D g → ℕ

@@ -12,27 +12,27 @@ number_at zero off image = 0
 number_at (suc k) off image = number_at k off image * 256 + slice_index image (off + k)
 
 -- what a header names: the node, the ring's size and the capacity
-pub record Header : Type 0 where
+pub record Member : Type 0 where
   pub node : ℕ
   pub n : ℕ
   pub capacity : ℕ
 
-abbrev pub header_with : ℕ → ℕ → ℕ → Header
-header_with node n capacity = record { node = node; n = n; capacity = capacity }
+abbrev pub member : ℕ → ℕ → ℕ → Member
+member node n capacity = record { node = node; n = n; capacity = capacity }
 
 -- each of them is in its range
-abbrev pub is_header : Header → Bool
+abbrev pub is_header : Member → Bool
 is_header header = nat_le 2 header.n && (nat_le header.n 16 && (nat_le header.node header.n && (nat_le 4096 header.capacity && nat_le header.capacity 1048576)))
 
 abbrev pub mark : List ℕ
 mark = codes "CRJRNL01"
 
 -- a header, and a closed gate
-abbrev pub new_image : Header → List ℕ
+abbrev pub new_image : Member → List ℕ
 new_image header = mark ++ header.node ∷ header.n ∷ to_be_bytes w32 header.capacity ++ 0 ∷ 0 ∷ 0 ∷ []
 
 -- the image begins with this header, whose capacity is in its range
-pub record HasHeader (header : Header) (image : List ℕ) : Type 0 where
+pub record HasHeader (header : Member) (image : List ℕ) : Type 0 where
   pub marked : take 8 image ≡ mark
   pub node : slice_index image 8 ≡ header.node
   pub n : slice_index image 9 ≡ header.n
@@ -42,25 +42,25 @@ pub record HasHeader (header : Header) (image : List ℕ) : Type 0 where
   pub blank : number_at 2 14 image ≡ 0
 
 -- the image has this header, frames of these inputs behind it, and the closed gate at this place
-pub record ReadsAt (header : Header) (image : List ℕ) (inputs : List Input) (place : ℕ) : Type 0 where
+pub record ReadsAt (header : Member) (image : List ℕ) (inputs : List Input) (place : ℕ) : Type 0 where
   pub head : HasHeader header image
   pub frames : ReadsTo 16 image inputs place
 
 -- *Reading*: the image reads as these inputs
-pub record ReadsAs (header : Header) (image : List ℕ) (inputs : List Input) : Type 0 where
+pub record ReadsAs (header : Member) (image : List ℕ) (inputs : List Input) : Type 0 where
   pub place : ℕ
   pub at : ReadsAt header image inputs place
 
 -- Nothing waits for a sync, and the image reads as so many inputs that take so many bytes of the capacity, with the
 -- closed gate at this place.
-pub record IsAtRest (header : Header) (disk : Disk) (place count sum : ℕ) : Type 0 where
+pub record IsAtRest (header : Member) (disk : Disk) (place count sum : ℕ) : Type 0 where
   pub synced : IsSynced disk
   pub reads : ∥ ((inputs : List Input) × (ReadsAt header disk.image inputs place × ((length inputs ≡ count) × (used fresh inputs ≡ sum)))) ∥₁
 
 -- every image that a stop may leave reads as these inputs
-abbrev pub AllReadAs : Header → Disk → List Input → Type 0
+abbrev pub AllReadAs : Member → Disk → List Input → Type 0
 AllReadAs header disk inputs = (image : List ℕ) → MayLeave disk image → ReadsAs header image inputs
 
 -- the image reads as the one list or as the other
-abbrev pub ReadsAsOneOf : Header → List Input → List Input → List ℕ → Type 0
+abbrev pub ReadsAsOneOf : Member → List Input → List Input → List ℕ → Type 0
 ReadsAsOneOf header old new image = ReadsAs header image old ⊎ ReadsAs header image new

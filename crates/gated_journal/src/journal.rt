@@ -2,10 +2,11 @@ ghost use Rattle.std.specs.Prelude.{◌≡◌, ◌+◌, ◌++◌, ◌-◌, ◌�
 ghost use Rattle.disk_model.specs.Disk.{MayLeave, LeavesOnly, HasCause, synced};
 ghost use Rattle.ring_records.specs.declared.input.Input.{Input};
 ghost use Rattle.ring_records.specs.Admission.{fresh, used};
-ghost use Rattle.gated_journal.specs.Reading.{header_with, is_header, new_image, IsAtRest, ReadsAs, AllReadAs, ReadsAsOneOf};
+ghost use Rattle.gated_journal.specs.Reading.{member, is_header, new_image, IsAtRest, ReadsAs, AllReadAs, ReadsAsOneOf};
 ghost use Rattle.gated_journal.specs.Unread.{IsFault, IsUnread, IsUnopened};
 
 use crate::commit::append;
+use crate::layout::{FRAMES, is_header};
 use crate::open::{Opened, open};
 use crate::spell::used_of;
 use crate::{Batch, Receipt, Spoiled};
@@ -25,7 +26,7 @@ pub struct Journal<D: Device> {
     count: u64,
     used: u64,
     is_spoiled: bool,
-    ghost settled: { is_spoiled ≡ false → IsAtRest (header_with node n capacity) (D.disk device) place count used },
+    ghost settled: { is_spoiled ≡ false → IsAtRest (member node n capacity) (D.disk device) place count used },
     ghost from: { 16 ≤ place },
     ghost within: { place ≤ 16 + used },
     ghost counted: { count ≤ used },
@@ -33,15 +34,9 @@ pub struct Journal<D: Device> {
     ghost small: { capacity ≤ 1048576 },
 }
 
-fn is_header(node: NodeNo, n: u8, capacity: u32) -> bool
-    ensures { result ≡ is_header (header_with node n capacity) }
-{
-    2 <= n && n <= 16 && node.number() <= n && 4096 <= capacity && capacity <= 1_048_576
-}
-
 // A header, and a closed gate.
 fn new_image(node: NodeNo, n: u8, capacity: u32) -> [u8; 17]
-    ensures { result ≡ new_image (header_with node n capacity) }
+    ensures { result ≡ new_image (member node n capacity) }
 {
     let c = capacity.to_be_bytes();
     let node = node.number();
@@ -52,23 +47,23 @@ fn new_image(node: NodeNo, n: u8, capacity: u32) -> [u8; 17]
 
 impl<D: Device> Journal<D> {
     ghost use Rattle.gated_journal.specs.Batch.{shown, landed, lost};
-    ghost use Rattle.gated_journal.specs.Journal.{device_of, header_of, len_of, room_of, is_spoiled};
+    ghost use Rattle.gated_journal.specs.Journal.{device_of, member_of, len_of, room_of, is_spoiled};
 
     /// An empty journal: one write and one sync. Refused as 2 where `n` is not 2 to 16, `node` is above it, or the
     /// capacity is not 4,096 to 1,048,576 bytes, and as 15.
     pub fn format(device: D, node: NodeNo, n: u8, capacity: u32) -> Result<Journal<D>, (D, Refusal)>
-        ensures empty { IfOk result (λ journal. AllReadAs (header_with node n capacity) (D.disk (device_of journal)) []) }
-        ensures header { IfOk result (λ journal. header_of journal ≡ header_with node n capacity) }
+        ensures empty { IfOk result (λ journal. AllReadAs (member node n capacity) (D.disk (device_of journal)) []) }
+        ensures header { IfOk result (λ journal. member_of journal ≡ member node n capacity) }
         ensures ready { IfOk result (λ journal. is_spoiled journal ≡ false) }
         ensures len { IfOk result (λ journal. len_of journal ≡ 0) }
         ensures room { IfOk result (λ journal. room_of journal ≡ capacity) }
-        ensures range { OnOk result (is_header (header_with node n capacity) ≡ true) }
+        ensures range { OnOk result (is_header (member node n capacity) ≡ true) }
         ensures same { IfOk result (λ journal. D.count (device_of journal) ≡ D.count device) }
 
         // Refused as 2, the device is as it was; as 15, the device failed.
-        ensures number { IfErr result (λ e. is_header (header_with node n capacity) ≡ false → (e.1 ≡ Refusal.BadNumber) × (e.0 ≡ device)) }
-        ensures fault { IfErr result (λ e. is_header (header_with node n capacity) ≡ true → (e.1 ≡ Refusal.Device (D.count e.0)) × (min (D.count device + 1) (2 ^ 64 - 1) ≤ D.count e.0)) }
-        ensures works { is_header (header_with node n capacity) ≡ true → 0 < D.reach device → 17 ≤ D.reach device → IsOk result }
+        ensures number { IfErr result (λ e. is_header (member node n capacity) ≡ false → (e.1 ≡ Refusal.BadNumber) × (e.0 ≡ device)) }
+        ensures fault { IfErr result (λ e. is_header (member node n capacity) ≡ true → (e.1 ≡ Refusal.Device (D.count e.0)) × (min (D.count device + 1) (2 ^ 64 - 1) ≤ D.count e.0)) }
+        ensures works { is_header (member node n capacity) ≡ true → 0 < D.reach device → 17 ≤ D.reach device → IsOk result }
         ensures reach { IfOk result (λ journal. D.reach (device_of journal) ≡ D.reach device) }
     {
         if !is_header(node, n, capacity) {
@@ -81,7 +76,7 @@ impl<D: Device> Journal<D> {
                 node,
                 n,
                 capacity,
-                place: 16,
+                place: FRAMES,
                 count: 0,
                 used: 0,
                 is_spoiled: false,
@@ -103,12 +98,12 @@ impl<D: Device> Journal<D> {
         n: u8,
     ) -> Result<(Journal<D>, Vec<Input>), (D, Refusal)>
         // What is read stood there at the start, and stands in every image that a stop may leave afterwards.
-        ensures reads { IfOk result (λ r. ReadsAs (header_of r.0) (D.disk device).image r.1.items) }
-        ensures durable { IfOk result (λ r. AllReadAs (header_of r.0) (D.disk (device_of r.0)) r.1.items) }
-        ensures header { IfOk result (λ r. ((header_of r.0).node ≡ node) × ((header_of r.0).n ≡ n)) }
+        ensures reads { IfOk result (λ r. ReadsAs (member_of r.0) (D.disk device).image r.1.items) }
+        ensures durable { IfOk result (λ r. AllReadAs (member_of r.0) (D.disk (device_of r.0)) r.1.items) }
+        ensures header { IfOk result (λ r. ((member_of r.0).node ≡ node) × ((member_of r.0).n ≡ n)) }
         ensures ready { IfOk result (λ r. is_spoiled r.0 ≡ false) }
         ensures len { IfOk result (λ r. len_of r.0 ≡ length r.1.items) }
-        ensures room { IfOk result (λ r. room_of r.0 ≡ (header_of r.0).capacity - used fresh r.1.items) }
+        ensures room { IfOk result (λ r. room_of r.0 ≡ (member_of r.0).capacity - used fresh r.1.items) }
 
         // A refusal has its cause. While the device works it is the image's, or want of memory.
         ensures refusal { IfErr result (λ e. IsUnopened node n (D.count device) (D.count e.0) (D.disk device).image e.1) }
@@ -156,14 +151,14 @@ impl<D: Device> Journal<D> {
 
     /// The node whose inputs it holds.
     pub fn node(&self) -> NodeNo
-        ensures { result ≡ (header_of self.now).node }
+        ensures { result ≡ (member_of self.now).node }
     {
         self.node
     }
 
     /// The bytes that its inputs may take by their costs, 4,096 to 1,048,576.
     pub fn capacity(&self) -> u32
-        ensures value { result ≡ (header_of self.now).capacity }
+        ensures value { result ≡ (member_of self.now).capacity }
         ensures from { 4096 ≤ result }
         ensures to { result ≤ 1048576 }
     {
@@ -173,7 +168,7 @@ impl<D: Device> Journal<D> {
     /// How many inputs it holds.
     pub fn len(&self) -> u64
         ensures value { result ≡ len_of self.now }
-        ensures list { is_spoiled self.now ≡ false → (inputs : List Input) → AllReadAs (header_of self.now) (D.disk (device_of self.now)) inputs → result ≡ length inputs }
+        ensures list { is_spoiled self.now ≡ false → (inputs : List Input) → AllReadAs (member_of self.now) (D.disk (device_of self.now)) inputs → result ≡ length inputs }
     {
         self.count
     }
@@ -181,7 +176,7 @@ impl<D: Device> Journal<D> {
     /// How many bytes of the capacity are left.
     pub fn room(&self) -> u32
         ensures value { result ≡ room_of self.now }
-        ensures list { is_spoiled self.now ≡ false → (inputs : List Input) → AllReadAs (header_of self.now) (D.disk (device_of self.now)) inputs → result ≡ (header_of self.now).capacity - used fresh inputs }
+        ensures list { is_spoiled self.now ≡ false → (inputs : List Input) → AllReadAs (member_of self.now) (D.disk (device_of self.now)) inputs → result ≡ (member_of self.now).capacity - used fresh inputs }
     {
         u64::from(self.capacity).saturating_sub(self.used) as u32
     }
@@ -220,24 +215,24 @@ impl<D: Device> Journal<D> {
     /// Makes a batch durable, whole, by four device calls. At `Err` the device failed, and the journal is spoiled.
     pub fn commit(&mut self, batch: Batch) -> Result<Receipt, Spoiled>
         requires ready { is_spoiled self.old ≡ false }
-        requires node { (shown batch).node ≡ (header_of self.old).node }
+        requires node { (shown batch).node ≡ (member_of self.old).node }
         requires first { (shown batch).first ≡ len_of self.old }
         requires room { used fresh (shown batch).inputs ≤ room_of self.old }
 
         // A stop at any moment of the call leaves the inputs from before it, with the whole batch or without.
-        ensures any_moment { (inputs : List Input) → AllReadAs (header_of self.old) (D.disk (device_of self.old)) inputs
-            → LeavesOnly D.clock D.left_since (device_of self.old) (device_of self.new) (ReadsAsOneOf (header_of self.old) inputs (inputs ++ (shown batch).inputs)) }
+        ensures any_moment { (inputs : List Input) → AllReadAs (member_of self.old) (D.disk (device_of self.old)) inputs
+            → LeavesOnly D.clock D.left_since (device_of self.old) (device_of self.new) (ReadsAsOneOf (member_of self.old) inputs (inputs ++ (shown batch).inputs)) }
 
         // At `Ok` the batch is durable.
-        ensures durable { OnOk result ((inputs : List Input) → AllReadAs (header_of self.old) (D.disk (device_of self.old)) inputs
-            → AllReadAs (header_of self.old) (D.disk (device_of self.new)) (inputs ++ (shown batch).inputs)) }
+        ensures durable { OnOk result ((inputs : List Input) → AllReadAs (member_of self.old) (D.disk (device_of self.old)) inputs
+            → AllReadAs (member_of self.old) (D.disk (device_of self.new)) (inputs ++ (shown batch).inputs)) }
         ensures spoils { is_spoiled self.new ≡ is_err result }
         ensures cause { HasCause (D.count (device_of self.old)) (D.count (device_of self.new)) result }
-        ensures works { 0 < D.reach (device_of self.old) → 17 + (header_of self.old).capacity ≤ D.reach (device_of self.old) → IsOk result }
+        ensures works { 0 < D.reach (device_of self.old) → 17 + (member_of self.old).capacity ≤ D.reach (device_of self.old) → IsOk result }
         ensures reach { D.reach (device_of self.new) ≡ D.reach (device_of self.old) }
         ensures receipt { IfOk result (λ receipt. landed receipt ≡ shown batch) }
         ensures spoiled { IfErr result (λ spoiled. lost spoiled ≡ shown batch) }
-        ensures header { header_of self.new ≡ header_of self.old }
+        ensures header { member_of self.new ≡ member_of self.old }
         ensures len { OnOk result (len_of self.new ≡ len_of self.old + length (shown batch).inputs) }
         ensures kept { OnErr result ((len_of self.new ≡ len_of self.old) × (room_of self.new ≡ room_of self.old)) }
         ensures left { OnOk result (room_of self.new ≡ room_of self.old - used fresh (shown batch).inputs) }
@@ -274,7 +269,7 @@ impl<D: Device> Journal<D> {
 impl<D: Device> Journal<FuseDevice<D>> {
     ghost use Rattle.disk_model.specs.Fuse.{planned};
     ghost use Rattle.disk_model.specs.FuseDevice.{inner_of, will_fail, own_faults};
-    ghost use Rattle.gated_journal.specs.Journal.{device_of, header_of, len_of, room_of, is_spoiled};
+    ghost use Rattle.gated_journal.specs.Journal.{device_of, member_of, len_of, room_of, is_spoiled};
 
     /// Sets the device's fuse anew: from now on `after` of its calls pass, and then the next fails if `once`, else all
     /// later ones.
@@ -282,7 +277,7 @@ impl<D: Device> Journal<FuseDevice<D>> {
         ensures fuse { (k : ℕ) → will_fail (device_of self.new) k ≡ planned after once k }
         ensures inner { inner_of (device_of self.new) ≡ inner_of (device_of self.old) }
         ensures faults { own_faults (device_of self.new) ≡ own_faults (device_of self.old) }
-        ensures header { header_of self.new ≡ header_of self.old }
+        ensures header { member_of self.new ≡ member_of self.old }
         ensures len { len_of self.new ≡ len_of self.old }
         ensures room { room_of self.new ≡ room_of self.old }
         ensures spoiled { is_spoiled self.new ≡ is_spoiled self.old }

@@ -3,20 +3,20 @@ ghost use Rattle.std.specs.Prelude.{◌≡◌, ℕ, List};
 ghost use Rattle.ring_records.specs.declared.input.Input.{Input};
 ghost use Rattle.ring_records.specs.declared.refusal.Refusal.{Refusal};
 ghost use Rattle.gated_journal.specs.Frames.{ReadsTo};
-ghost use Rattle.gated_journal.specs.Reading.{Header, ReadsAs};
+ghost use Rattle.gated_journal.specs.Reading.{Member, ReadsAs};
 ghost use Rattle.gated_journal.specs.Unread.{IsUnread, IsDamagedAt};
 
 /// No image reads as two lists, nor under two headers, and no bytes behind an offset hold two lists of frames.
 pub fn one_reading()
-    ensures inputs { (header other : Header) (image : List ℕ) (inputs more : List Input) → ReadsAs header image inputs → ReadsAs other image more → inputs ≡ more }
-    ensures header { (header other : Header) (image : List ℕ) (inputs more : List Input) → ReadsAs header image inputs → ReadsAs other image more → header ≡ other }
+    ensures inputs { (header other : Member) (image : List ℕ) (inputs more : List Input) → ReadsAs header image inputs → ReadsAs other image more → inputs ≡ more }
+    ensures header { (header other : Member) (image : List ℕ) (inputs more : List Input) → ReadsAs header image inputs → ReadsAs other image more → header ≡ other }
     ensures frames { (offset : ℕ) (image : List ℕ) (inputs more : List Input) (place end : ℕ) → ReadsTo offset image inputs place → ReadsTo offset image more end → (inputs ≡ more) × (place ≡ end) }
 {}
 
 /// No image has both a reading and a fault. One that is read for a node of a ring has no fault for it, an image has no
 /// two faults, and frames that are damaged at one place are neither read nor damaged at another.
 pub fn one_fault()
-    ensures read { (node n : ℕ) (image : List ℕ) (refusal : Refusal) (header : Header) (inputs : List Input) → IsUnread node n image refusal → ReadsAs header image inputs → header.node ≡ node → header.n ≡ n → ⊥ }
+    ensures read { (node n : ℕ) (image : List ℕ) (refusal : Refusal) (header : Member) (inputs : List Input) → IsUnread node n image refusal → ReadsAs header image inputs → header.node ≡ node → header.n ≡ n → ⊥ }
     ensures fault { (node n : ℕ) (image : List ℕ) (refusal other : Refusal) → IsUnread node n image refusal → IsUnread node n image other → refusal ≡ other }
     ensures frames { (offset : ℕ) (image : List ℕ) (inputs : List Input) (place damaged : ℕ) → ReadsTo offset image inputs place → IsDamagedAt offset image damaged → ⊥ }
     ensures place { (offset : ℕ) (image : List ℕ) (place other : ℕ) → IsDamagedAt offset image place → IsDamagedAt offset image other → place ≡ other }

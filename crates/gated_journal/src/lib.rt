@@ -5,6 +5,7 @@ mod batch;
 mod commit;
 mod journal;
 pub mod laws;
+mod layout;
 mod open;
 mod scan;
 mod spell;
@@ -12,4 +13,5 @@ mod spent;
 
 pub use batch::Batch;
 pub use journal::Journal;
+pub use layout::{device_size, is_header};
 pub use spent::{Receipt, Spoiled};

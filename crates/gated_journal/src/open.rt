@@ -3,9 +3,10 @@ ghost use Rattle.std.specs.Prelude.{◌≡◌, ◌+◌, ◌≤◌, ◌<◌, ◌^
 ghost use Rattle.disk_model.specs.Disk.{MayLeave, IsSynced, IsPart, LeavesOnly, IsInReach, synced};
 ghost use Rattle.ring_records.specs.declared.refusal.Refusal.TheVariants.{OutOfMemory};
 ghost use Rattle.gated_journal.specs.Frames.{ReadsTo};
-ghost use Rattle.gated_journal.specs.Reading.{header_with, ReadsAt};
+ghost use Rattle.gated_journal.specs.Reading.{member, ReadsAt};
 ghost use Rattle.gated_journal.specs.Unread.{head_at, header_at, IsFault, IsBroken, IsUnread, IsUnopened};
 
+use crate::layout::FRAMES;
 use crate::scan::{Unread, scan};
 use disk_model::Device;
 use ring_records::{Input, NodeNo, Refusal};
@@ -106,30 +107,35 @@ fn read_header<D: Device>(device: &mut D, node: NodeNo, n: u8) -> Result<u32, Re
     capacity_of(&head, node, n)
 }
 
-// Reads the frames behind the header: their inputs, and the place of the closed gate.
-fn read_frames<D: Device>(alloc: Global, device: &mut D) -> Result<(Vec<Input>, u64), Refusal>
-    requires long { 17 ≤ length (D.disk device.old).image }
-    ensures frames { IfOk result (λ read. ReadsTo 16 (D.disk device.old).image read.0.items read.1) }
-    ensures small { IfOk result (λ read. read.1 < 2 ^ 63 + 16) }
+// Reads the frames from `from` on: their inputs, and the place of the closed gate.
+fn read_frames<D: Device>(
+    alloc: Global,
+    device: &mut D,
+    from: u64,
+) -> Result<(Vec<Input>, u64), Refusal>
+    requires long { from < length (D.disk device.old).image }
+    requires near { from < 2 ^ 32 }
+    ensures frames { IfOk result (λ read. ReadsTo from (D.disk device.old).image read.0.items read.1) }
+    ensures small { IfOk result (λ read. read.1 < 2 ^ 63 + from) }
     ensures disk { D.disk device.new ≡ D.disk device.old }
     ensures any_moment { LeavesOnly D.clock D.left_since device.old device.new (MayLeave (D.disk device.old)) }
-    ensures refusal { IfErr result (λ refusal. IsFault (D.count device.old) (D.count device.new) refusal ⊎ ((refusal ≡ OutOfMemory) ⊎ IsBroken 16 (D.disk device.old).image refusal)) }
+    ensures refusal { IfErr result (λ refusal. IsFault (D.count device.old) (D.count device.new) refusal ⊎ ((refusal ≡ OutOfMemory) ⊎ IsBroken from (D.disk device.old).image refusal)) }
     ensures later { D.count device.old ≤ D.count device.new }
     ensures same { OnOk result (D.count device.new ≡ D.count device.old) }
     ensures first { IfErr result (λ refusal. IsFault (D.count device.old) (D.count device.new) refusal ⊎ (D.count device.new ≡ D.count device.old)) }
-    ensures works { 0 < D.reach device.old → length (D.disk device.old).image ≤ D.reach device.old → IfErr result (λ refusal. (refusal ≡ OutOfMemory) ⊎ IsBroken 16 (D.disk device.old).image refusal) }
+    ensures works { 0 < D.reach device.old → length (D.disk device.old).image ≤ D.reach device.old → IfErr result (λ refusal. (refusal ≡ OutOfMemory) ⊎ IsBroken from (D.disk device.old).image refusal) }
     ensures reach { D.reach device.new ≡ D.reach device.old }
 {
     let size = device.size() as usize;
-    let Ok(mut bytes) = vec![in alloc; 0; size - 16] else {
+    let Ok(mut bytes) = vec![in alloc; 0; size - from as usize] else {
         return Err(Refusal::OutOfMemory);
     };
-    if let Err(refusal) = read_part(device, 16, &mut bytes) {
+    if let Err(refusal) = read_part(device, from, &mut bytes) {
         return Err(refusal);
     }
     match scan(alloc, &bytes) {
-        Ok((inputs, place)) => Ok((inputs, 16 + place)),
-        Err(Unread::Damaged(place)) => Err(Refusal::Damaged(16 + place)),
+        Ok((inputs, place)) => Ok((inputs, from + place)),
+        Err(Unread::Damaged(place)) => Err(Refusal::Damaged(from + place)),
         Err(Unread::Memory) => Err(Refusal::OutOfMemory),
     }
 }
@@ -141,7 +147,7 @@ pub(crate) fn open<D: Device>(
     node: NodeNo,
     n: u8,
 ) -> Result<Opened, Refusal>
-    ensures reads { IfOk result (λ opened. ReadsAt (header_with node n opened.capacity) (D.disk device.old).image opened.inputs.items opened.place) }
+    ensures reads { IfOk result (λ opened. ReadsAt (member node n opened.capacity) (D.disk device.old).image opened.inputs.items opened.place) }
     ensures synced { OnOk result (IsSynced (D.disk device.new)) }
     ensures disk { OnOk result (D.disk device.new ≡ synced (D.disk device.old)) }
     ensures kept { (D.disk device.new ≡ D.disk device.old) ⊎ (D.disk device.new ≡ synced (D.disk device.old)) }
@@ -156,7 +162,7 @@ pub(crate) fn open<D: Device>(
 {
     match read_header(device, node, n) {
         Err(refusal) => Err(refusal),
-        Ok(capacity) => match read_frames(alloc, device) {
+        Ok(capacity) => match read_frames(alloc, device, FRAMES) {
             Err(refusal) => Err(refusal),
             Ok((inputs, place)) => Ok(Opened {
                 capacity,

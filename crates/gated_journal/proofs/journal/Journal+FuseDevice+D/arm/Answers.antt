@@ -1,12 +1,12 @@
 use Rattle.std.proofs.Common.{sym, subst}
-use Rattle.gated_journal.specs.Reading.{header_with, IsAtRest}
+use Rattle.gated_journal.specs.Reading.{member, IsAtRest}
 use Rattle.gated_journal.proofs.journal.Journal+FuseDevice+D.arm.Goals as goal
 
 pub invariant_of-self : goal.invariant_of-self
 invariant_of-self g c =
     let j = c.args.self.now in
     record {
-      settled = λ ready. subst (λ device. IsAtRest (header_with j.node j.n j.capacity) (g.D.Device.disk device) j.place j.count j.used) (sym c.arm.ensures.inner) (j.settled ready);
+      settled = λ ready. subst (λ device. IsAtRest (member j.node j.n j.capacity) (g.D.Device.disk device) j.place j.count j.used) (sym c.arm.ensures.inner) (j.settled ready);
       from = j.from;
       within = j.within;
       counted = j.counted;

@@ -2,7 +2,7 @@ use Rattle.std.proofs.Common.{◌≡◌, ◌≤◌, ◌+◌, ◌-◌, ◌++◌, 
 use Rattle.disk_model.proofs.Moments.{weaken}
 use Rattle.ring_records.specs.Admission.{fresh, used}
 use Rattle.gated_journal.specs.Frames.{IsFrame}
-use Rattle.gated_journal.specs.Reading.{ReadsAsOneOf, IsAtRest, header_with}
+use Rattle.gated_journal.specs.Reading.{ReadsAsOneOf, IsAtRest, member}
 use Rattle.gated_journal.proofs.Rest.{at_place, all_read, rest_next, moment, after, fits}
 use Rattle.gated_journal.proofs.journal.Journal.commit.Goals as goal
 
@@ -35,7 +35,7 @@ invariant_of-self g c =
     let j = c.args.self.now in
     let b = c.args.batch in
     let batch = b.inputs.items in
-    let header = header_with j.node j.n j.capacity in
+    let header = member j.node j.n j.capacity in
     let old = g.D.Device.disk j.device in
     let new = g.D.Device.disk c.append.new.device in
     let rest = j.settled c.requires.ready in
@@ -62,7 +62,7 @@ returns-in-Ok-clause-any_moment g c = λ inputs all.
     let j = c.args.self.now in
     let b = c.args.batch in
     let batch = b.inputs.items in
-    let header = header_with j.node j.n j.capacity in
+    let header = member j.node j.n j.capacity in
     let old = g.D.Device.disk j.device in
     let rest = j.settled c.requires.ready in
     let frame = subst (λ l. IsFrame batch l) (sym c.deref.ensures.value) b.framed in
@@ -75,7 +75,7 @@ returns-in-Ok-clause-durable g c = λ inputs all.
     let j = c.args.self.now in
     let b = c.args.batch in
     let batch = b.inputs.items in
-    let header = header_with j.node j.n j.capacity in
+    let header = member j.node j.n j.capacity in
     let old = g.D.Device.disk j.device in
     let new = g.D.Device.disk c.append.new.device in
     let rest = j.settled c.requires.ready in
@@ -89,7 +89,7 @@ returns-clause-any_moment g c = λ inputs all.
     let j = c.args.self.now in
     let b = c.args.batch in
     let batch = b.inputs.items in
-    let header = header_with j.node j.n j.capacity in
+    let header = member j.node j.n j.capacity in
     let old = g.D.Device.disk j.device in
     let rest = j.settled c.requires.ready in
     let frame = subst (λ l. IsFrame batch l) (sym c.deref.ensures.value) b.framed in

@@ -1,14 +1,14 @@
 use Rattle.std.proofs.Common.{[], sym, ◌∙◌, subst, arith}
 use Rattle.disk_model.specs.Disk.{Puts}
 use Rattle.ring_records.specs.Admission.{used}
-use Rattle.gated_journal.specs.Reading.{header_with, ReadsAt}
+use Rattle.gated_journal.specs.Reading.{member, ReadsAt}
 use Rattle.gated_journal.proofs.Rest.{formatted, rest_of, all_read, in_range}
 use Rattle.gated_journal.proofs.journal.Journal.format.Goals as goal
 
 pub invariant_of-result : goal.invariant_of-result
 unfolding used
 invariant_of-result g c =
-    let header = header_with c.args.node c.args.n c.args.capacity in
+    let header = member c.args.node c.args.n c.args.capacity in
     let old = g.D.Device.disk c.args.device in
     let new = g.D.Device.disk c.write_through.new.device in
     let range = in_range header (sym c.is_header.ensures ∙ c.if-not-is_header.false) in
@@ -25,7 +25,7 @@ invariant_of-result g c =
 
 pub returns-in-Ok-clause-empty : goal.returns-in-Ok-clause-empty
 returns-in-Ok-clause-empty g c =
-    let header = header_with c.args.node c.args.n c.args.capacity in
+    let header = member c.args.node c.args.n c.args.capacity in
     let old = g.D.Device.disk c.args.device in
     let new = g.D.Device.disk c.write_through.new.device in
     let range = in_range header (sym c.is_header.ensures ∙ c.if-not-is_header.false) in

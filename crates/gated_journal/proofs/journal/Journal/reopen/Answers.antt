@@ -1,6 +1,6 @@
 use Rattle.std.proofs.Common.{rules, ◌≡◌, ℕ, List, length, sym, ◌∙◌, ap, subst, arith}
 use Rattle.ring_records.specs.Admission.{fresh, used}
-use Rattle.gated_journal.specs.Reading.{header_with, ReadsAt, IsAtRest}
+use Rattle.gated_journal.specs.Reading.{member, ReadsAt, IsAtRest}
 use Rattle.gated_journal.proofs.Rest.{opens, all_read, rest_of}
 use Rattle.gated_journal.proofs.journal.Journal.reopen.Goals as goal
 
@@ -12,7 +12,7 @@ used_of-requires g c =
 pub invariant_of-journal : goal.invariant_of-journal
 invariant_of-journal g c =
     let f = c.in-Ok.field-0 in
-    let header = header_with c.args.node c.args.n f.capacity in
+    let header = member c.args.node c.args.n f.capacity in
     let disk = g.D.Device.disk c.open.new.device in
     let o = opens _ _ f.inputs.items f.place c.in-Ok.ensures.reads in
     let read : ReadsAt header disk.image f.inputs.items f.place = subst (λ (l : List ℕ). ReadsAt header l f.inputs.items f.place) (sym c.open.ensures.image) c.in-Ok.ensures.reads in
@@ -31,7 +31,7 @@ invariant_of-journal g c =
 pub returns-in-Ok-clause-durable : goal.returns-in-Ok-clause-durable
 returns-in-Ok-clause-durable g c =
     let f = c.in-Ok.field-0 in
-    let header = header_with c.args.node c.args.n f.capacity in
+    let header = member c.args.node c.args.n f.capacity in
     let disk = g.D.Device.disk c.open.new.device in
     let read : ReadsAt header disk.image f.inputs.items f.place = subst (λ (l : List ℕ). ReadsAt header l f.inputs.items f.place) (sym c.open.ensures.image) c.in-Ok.ensures.reads in
     all_read header disk f.inputs.items f.place c.in-Ok.ensures.synced read

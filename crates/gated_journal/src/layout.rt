@@ -1,0 +1,23 @@
+//! Where a journal lies on its device.
+ghost use Rattle.std.specs.Prelude.{◌≡◌, ◌+◌};
+ghost use Rattle.gated_journal.specs.Reading.{member, is_header};
+
+use ring_records::NodeNo;
+
+/// The offset of the frames of a journal of layout 1: they stand behind its header.
+pub(crate) const FRAMES: u64 = 16;
+
+/// Whether a journal may have this header: of a ring of 2 to 16 nodes, a node of it, and a capacity of 4,096 to
+/// 1,048,576 bytes.
+pub fn is_header(node: NodeNo, n: u8, capacity: u32) -> bool
+    ensures { result ≡ is_header (member node n capacity) }
+{
+    2 <= n && n <= 16 && node.number() <= n && 4096 <= capacity && capacity <= 1_048_576
+}
+
+/// How many bytes of a device a journal of this capacity may come to use: its header, its frames, and a gate.
+pub fn device_size(capacity: u32) -> u64
+    ensures { result ≡ 17 + capacity }
+{
+    FRAMES + u64::from(capacity) + 1
+}
