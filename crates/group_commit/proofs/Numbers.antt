@@ -1,38 +1,80 @@
--- Tickets by their numbers.
-use Rattle.std.proofs.Common.{◌≡◌, ℕ, ◌+◌, ◌<◌, ◌≤◌, Bool, true, false, eqb, nat_eq, if◌then◌else◌, Option, Some, None, is_none, refl, sym, ◌∙◌, ap, arith}
+-- Open tickets by their numbers.
+use Rattle.std.proofs.Common.{◌≡◌, ◌≢◌, ℕ, ◌+◌, ◌<◌, ◌≤◌, Bool, true, false, nat_eq, cond, List, [], ◌∷◌, ◌++◌, Option, Some, None, refl, sym, ◌∙◌, ap, arith}
 use Rattle.std.proofs.lemmas.Bool.{eq-eqb, eqb-true, ne_eqb}
+use Rattle.std.specs.BTreeMap.{insert_entry}
 use Rattle.std.specs.Cmp.{ranks}
-use Rattle.std.specs.Ordering.{nat_cmp, is_eq, MatchOrdering}
+use Rattle.std.specs.Map.{lookup, remove_entry}
+use Rattle.std.specs.Ordering.{nat_cmp, is_eq, match_ordering, MatchOrdering}
 use Rattle.std.specs.declared.cmp.Ordering.{Ordering}
 use Rattle.std.specs.declared.cmp.Ordering.TheVariants.{Less, Equal, Greater}
 use Rattle.ring_records.specs.Answer.{Answered}
+use Rattle.group_commit.specs.Kept.{AreBelow}
 
-by_rank : (a b : ℕ) (o : Ordering) → MatchOrdering o (a < b) (a ≡ b) (b < a) → is_eq o ≡ eqb b a
-by_rank a b Less lt = sym (ne_eqb b a (λ e. omega (arith, e, lt)))
-by_rank a b Equal e = sym (eq-eqb b a (sym e))
-by_rank a b Greater lt = sym (ne_eqb b a (λ e. omega (arith, e, lt)))
+by_rank : (a b : ℕ) (o : Ordering) → MatchOrdering o (a < b) (a ≡ b) (b < a) → is_eq o ≡ nat_eq a b
+by_rank a b Less lt = sym (ne_eqb a b (λ e. omega (arith, e, lt)))
+by_rank a b Equal e = sym (eq-eqb a b e)
+by_rank a b Greater lt = sym (ne_eqb a b (λ e. omega (arith, e, lt)))
 
-pub is_number : (a b : ℕ) → is_eq (nat_cmp a b) ≡ eqb b a
-is_number a b = by_rank a b (nat_cmp a b) (ranks a b)
+-- the test by which a map finds a number
+pub is_number : (own : ℕ) → (λ (k : ℕ). is_eq (nat_cmp own k)) ≡ nat_eq own
+is_number own = λ i k. by_rank own k (nat_cmp own k) (ranks own k) i
 
--- what was kept last and is taken back was not there before
-pub undone : (before mid after : ℕ → Option Answered) (own : ℕ) (kept : Answered) → is_none (before own) ≡ true
-    → ((other : ℕ) → mid other ≡ (if nat_eq other own then Some kept else before other)) → ((other : ℕ) → after other ≡ (if nat_eq other own then None else mid other))
-    → (other : ℕ) → after other ≡ before other
-undone before mid after own kept none keeps takes other = by_number (nat_eq other own) refl
+above : (a b : ℕ) (o : Ordering) → MatchOrdering o (a < b) (a ≡ b) (b < a) → b < a → o ≡ Greater
+above a b Less lt gt = absurd (omega (arith, lt, gt))
+above a b Equal e gt = absurd (omega (arith, e, gt))
+above a b Greater lt gt = refl
+
+-- a number above all others goes to the end
+pub inserted_last : (own : ℕ) (kept : Answered) (tickets : List (ℕ × Answered)) → AreBelow own tickets → insert_entry nat_cmp tickets own kept ≡ tickets ++ (own, kept) ∷ []
+unfolding AreBelow
+inserted_last own kept [] below = refl
+inserted_last own kept (t ∷ tickets) below =
+    ap (λ o. match_ordering o ((own, kept) ∷ t ∷ tickets) ((t.0, kept) ∷ tickets) (t ∷ insert_entry nat_cmp tickets own kept)) (above own t.0 (nat_cmp own t.0) (ranks own t.0) below.0)
+    ∙ ap (λ (ts : List (ℕ × Answered)). t ∷ ts) (inserted_last own kept tickets below.1)
+
+-- so it is found, and is taken back to what there was
+pub found_last : (own : ℕ) (kept : Answered) (tickets : List (ℕ × Answered)) → AreBelow own tickets → lookup (nat_eq own) (tickets ++ (own, kept) ∷ []) ≡ Some kept
+unfolding AreBelow
+found_last own kept [] below = rw (eq-eqb own own refl) refl
+found_last own kept (t ∷ tickets) below = rw (ne_eqb own t.0 (λ e. omega (arith, e, below.0))) (found_last own kept tickets below.1)
+
+pub undone : (own : ℕ) (kept : Answered) (tickets : List (ℕ × Answered)) → AreBelow own tickets → remove_entry (nat_eq own) (tickets ++ (own, kept) ∷ []) ≡ tickets
+unfolding AreBelow
+undone own kept [] below = rw (eq-eqb own own refl) refl
+undone own kept (t ∷ tickets) below = rw (ne_eqb own t.0 (λ e. omega (arith, e, below.0))) (ap (λ (ts : List (ℕ × Answered)). t ∷ ts) (undone own kept tickets below.1))
+
+-- the number of a ticket that is given is below the next
+pub below_next : (own : ℕ) (kept : Answered) (tickets : List (ℕ × Answered)) → AreBelow own tickets → AreBelow (own + 1) (tickets ++ (own, kept) ∷ [])
+unfolding AreBelow
+below_next own kept [] below = (omega arith, tt)
+below_next own kept (t ∷ tickets) below = (omega (arith, below.0), below_next own kept tickets below.1)
+
+pub below_without : (own number : ℕ) (tickets : List (ℕ × Answered)) → AreBelow number tickets → AreBelow number (remove_entry (nat_eq own) tickets)
+unfolding AreBelow
+below_without own number [] below = tt
+below_without own number (t ∷ tickets) below = by_test (nat_eq own t.0) (below_without own number tickets below.1)
   where
-    none_of : (o : Option Answered) → is_none o ≡ true → None ≡ o
-    none_of None e = refl
-    none_of (Some x) e = absurd cc
+    by_test : (b : Bool) → AreBelow number (remove_entry (nat_eq own) tickets) → AreBelow number (cond b tickets (t ∷ remove_entry (nat_eq own) tickets))
+    by_test true others = below.1
+    by_test false others = (below.0, others)
 
-    by_number : (b : Bool) → nat_eq other own ≡ b → after other ≡ before other
-    by_number true e = let same : other ≡ own = eqb-true other own e in takes other ∙ rw e (none_of (before own) none) ∙ ap before (sym same)
-    by_number false e = takes other ∙ rw e (keeps other ∙ rw e refl)
+pub below_none : (number : ℕ) → AreBelow number []
+unfolding AreBelow
+below_none number = tt
 
--- where nothing was kept from a number on, nothing is kept behind it once it is given
-pub still_none : (before after : ℕ → Option Answered) (own : ℕ) (kept : Answered) → ((other : ℕ) → own ≤ other → is_none (before other) ≡ true)
-    → ((other : ℕ) → after other ≡ (if nat_eq other own then Some kept else before other))
-    → (other : ℕ) → own + 1 ≤ other → is_none (after other) ≡ true
-still_none before after own kept none keeps other later =
-    let apart : nat_eq other own ≡ false = ne_eqb other own (λ e. omega (arith, e, later)) in
-    ap is_none (keeps other ∙ rw apart refl) ∙ none other (omega (arith, later))
+-- ---- for those who hold several tickets
+
+-- another ticket ends
+pub kept_without : (own other : ℕ) (tickets : List (ℕ × Answered)) → own ≢ other → lookup (nat_eq own) (remove_entry (nat_eq other) tickets) ≡ lookup (nat_eq own) tickets
+kept_without own other [] apart = refl
+kept_without own other (t ∷ tickets) apart = by_test (nat_eq other t.0) refl (kept_without own other tickets apart)
+  where
+    by_test : (b : Bool) → nat_eq other t.0 ≡ b → lookup (nat_eq own) (remove_entry (nat_eq other) tickets) ≡ lookup (nat_eq own) tickets
+        → lookup (nat_eq own) (cond b tickets (t ∷ remove_entry (nat_eq other) tickets)) ≡ lookup (nat_eq own) (t ∷ tickets)
+    by_test true e others = sym (rw (ne_eqb own t.0 (λ same. apart (same ∙ sym (eqb-true other t.0 e)))) refl)
+    by_test false e others = ap (λ found. cond (nat_eq own t.0) (Some t.1) found) others
+
+-- another ticket is given
+pub kept_before : (own other : ℕ) (kept : Answered) (tickets : List (ℕ × Answered)) → own ≢ other → lookup (nat_eq own) (tickets ++ (other, kept) ∷ []) ≡ lookup (nat_eq own) tickets
+kept_before own other kept [] apart = rw (ne_eqb own other apart) refl
+kept_before own other kept (t ∷ tickets) apart = ap (λ found. cond (nat_eq own t.0) (Some t.1) found) (kept_before own other kept tickets apart)

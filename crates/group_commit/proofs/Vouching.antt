@@ -14,6 +14,7 @@ use Rattle.ring_records.specs.Admission.{fresh, refusal, IsAdmitted, IsLawful}
 use Rattle.ring_records.specs.Answer.{Answer, Answered, NodeState, answer, input_of, if_free, unless, gained, reply}
 use Rattle.ring_records.proofs.Growth.{EachAfter-take}
 use Rattle.ring_records.proofs.Lists.{none≢some}
+use Rattle.gated_journal.specs.Reading.{Member}
 use Rattle.group_commit.specs.Vouch.{acceptance, Accepts, IsInput, IsVouched}
 
 -- where a reply accepts an input, the history of its number has the input
@@ -54,10 +55,10 @@ pub accepts_one : (q : Request) (reply : Reply) (x y : Input) → Accepts q repl
 accepts_one q reply x y a b = same_Some x y (sym a.asked ∙ b.asked)
 
 -- where the reply accepts this input, nothing but its place vouches for it
-pub only_there : (me n capacity : ℕ) (s : NodeState) (a : Answered) (x : Input) → a.answer.number ≤ length s.inputs → Accepts a.question a.answer.reply x → IsVouched me n capacity s a → IsInput s.inputs a.answer.number x
-only_there me n capacity s a x within accepts vouched = elim vouched.gives [
+pub only_there : (member : Member) (s : NodeState) (a : Answered) (x : Input) → a.answer.number ≤ length s.inputs → Accepts a.question a.answer.reply x → IsVouched member s a → IsInput s.inputs a.answer.number x
+only_there member s a x within accepts vouched = elim vouched.gives [
   | inl accepted ↦ subst (IsInput s.inputs a.answer.number) (accepts_one a.question a.answer.reply accepted.input x accepted.accepts accepts) accepted.is_input
-  | inr same ↦ absurd (grows me n capacity (take a.answer.number s.inputs) a.question a.answer x accepts (length-take-le a.answer.number s.inputs within) same)
+  | inr same ↦ absurd (grows member.node member.n member.capacity (take a.answer.number s.inputs) a.question a.answer x accepts (length-take-le a.answer.number s.inputs within) same)
 ]
 
 -- the input at the place of this number, compared with another

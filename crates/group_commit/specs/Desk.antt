@@ -1,89 +1,114 @@
--- What a desk shows.
-use Rattle.std.specs.Prelude.{ℕ, ◌≡◌, ◌<◌, ◌^◌, ◌⊎◌, Bool, ◌||◌, if◌then◌else◌, List, take, nat_lt, nat_le, slice_get, Option, Some, None}
+-- What a desk is seen as, what its calls make of it, and why they are refused.
+use Rattle.std.specs.Prelude.{ℕ, ◌≡◌, ◌<◌, ◌^◌, ◌⊎◌, ◌+◌, Bool, false, ◌||◌, if◌then◌else◌, List, [], ◌∷◌, ◌++◌, take, nat_eq, nat_lt, nat_le, slice_get, Option, Some, None}
+use Rattle.std.specs.Map.{lookup, remove_entry}
 use Rattle.ring_records.specs.declared.input.Input.{Input}
 use Rattle.ring_records.specs.declared.refusal.Refusal.{Refusal}
 use Rattle.ring_records.specs.declared.refusal.Refusal.TheVariants as refused
 use Rattle.ring_records.specs.Admission.{fresh, refusal, IsLawful}
 use Rattle.ring_records.specs.declared.request.Request.{Request}
 use Rattle.ring_records.specs.Answer as answers
-use Rattle.ring_records.specs.Answer.{Answered, NodeState, flying_in}
+use Rattle.ring_records.specs.Answer.{Answered, NodeState, asked, opened, flying_in}
 use Rattle.ring_records.specs.Message.{is_outside}
 use Rattle.gated_journal.specs.Batch.{Numbered}
-use Rattle.group_commit.specs.declared.desk.Desk.{Desk}
-use Rattle.group_commit.specs.Ticket.{TicketView}
-use Rattle.group_commit.specs.Kept.{Place, place_with, kept_in}
+use Rattle.gated_journal.specs.Reading.{Member}
+use Rattle.group_commit.specs.Ticket.{TicketView, ticket_with}
 
-abbrev pub place_of : Desk → Place
-place_of desk = place_with desk.node desk.n desk.capacity desk.run
+-- Whose it is, and which opening of its node; what the node accepted, and how much of that is durable or flies; what is
+-- kept for each open ticket, by the ticket's own number, in the order in which they were given; how many were given; and
+-- whether it is closed, and whether it has failed.
+pub record DeskView : Type 0 where
+  pub member : Member
+  pub run : ℕ
+  pub state : NodeState
+  pub tickets : List (ℕ × Answered)
+  pub issued : ℕ
+  pub closed : Bool
+  pub failed : Bool
 
--- V, d and f
-abbrev pub state_of : Desk → NodeState
-state_of desk = record { inputs = desk.inputs.items; durable = desk.durable; flying = desk.flying }
+-- just opened with these inputs
+abbrev pub new_desk : Member → ℕ → List Input → DeskView
+new_desk member run inputs = record { member = member; run = run; state = opened inputs; tickets = []; issued = 0; closed = false; failed = false }
 
--- what is kept for the open ticket of this number
-abbrev pub kept_at : Desk → ℕ → Option Answered
-kept_at desk own = kept_in desk.tickets.entries own
+-- what it answers to a request
+abbrev pub answered : DeskView → Request → Answered
+answered desk q = answers.answered desk.member.node desk.member.n desk.member.capacity fresh desk.state.inputs q
 
--- how many tickets were given
-abbrev pub issued_by : Desk → ℕ
-issued_by desk = desk.issued
+-- the ticket that it gives for a request
+abbrev pub ticket_for : Request → DeskView → TicketView
+ticket_for q desk = ticket_with desk.member.node desk.run desk.issued (answered desk q)
 
-abbrev pub is_closed : Desk → Bool
-is_closed desk = desk.is_closed
+-- ---- what its calls make of it
 
-abbrev pub is_failed : Desk → Bool
-is_failed desk = desk.is_failed
+-- it gave a ticket for the request
+abbrev pub submitted : Request → DeskView → DeskView
+submitted q desk = record desk {
+  state = asked desk.member.node desk.member.n desk.member.capacity fresh desk.state q;
+  tickets = desk.tickets ++ (desk.issued, answered desk q) ∷ [];
+  issued = desk.issued + 1;
+}
 
--- the answer that a desk gives to a request
-abbrev pub answered : Desk → Request → Answered
-answered desk q = answers.answered desk.node desk.n desk.capacity fresh desk.inputs.items q
+-- the ticket of this number ended
+abbrev pub ended : ℕ → DeskView → DeskView
+ended own desk = record desk { tickets = remove_entry (nat_eq own) desk.tickets }
+
+-- a batch flies
+abbrev pub launched : DeskView → DeskView
+launched desk = record desk { state = answers.launched desk.state }
+
+-- what flies is durable
+abbrev pub landed : DeskView → DeskView
+landed desk = record desk { state = answers.landed desk.state }
 
 -- ---- refusals
 
 -- why no ticket is given, before memory is asked for: the desk takes none, the message is of no node of the ring, or all
 -- numbers of tickets were given
-abbrev pub objection : Desk → Request → Option Refusal
+abbrev pub objection : DeskView → Request → Option Refusal
 objection desk q =
-    if desk.is_closed || desk.is_failed then Some refused.Failed
-    else (if is_outside desk.n q then Some refused.BadNumber
+    if desk.closed || desk.failed then Some refused.Failed
+    else (if is_outside desk.member.n q then Some refused.BadNumber
     else (if nat_le (2 ^ 60) desk.issued then Some refused.Limit
     else None))
 
 -- the refusal names the first of these inputs that is not admitted after those before it
-pub record IsUnlawful (me n capacity : ℕ) (inputs : List Input) (why : Refusal) : Type 0 where
+pub record IsUnlawful (member : Member) (inputs : List Input) (why : Refusal) : Type 0 where
   pub place : ℕ
   pub is : why ≡ refused.Unlawful place
-  pub before : IsLawful me n capacity fresh (take place inputs)
+  pub before : IsLawful member.node member.n member.capacity fresh (take place inputs)
   pub input : Input
   pub there : slice_get inputs place ≡ Some input
   pub refused_for : Refusal
-  pub because : refusal me n capacity fresh (take place inputs) input ≡ Some refused_for
+  pub because : refusal member.node member.n member.capacity fresh (take place inputs) input ≡ Some refused_for
+
+-- why nothing is launched, before memory is asked for
+abbrev pub launch_objection : DeskView → Option Refusal
+launch_objection desk =
+    if desk.failed then Some refused.Failed
+    else (if nat_lt desk.state.durable desk.state.flying then Some refused.Busy
+    else None)
 
 -- ---- tickets
 
+-- what is kept for the open ticket of this number
+abbrev pub kept_at : DeskView → ℕ → Option Answered
+kept_at desk own = lookup (nat_eq own) desk.tickets
+
 -- an open ticket of this desk has the ticket's node, opening, own number and request, and this is kept for it
-pub record IsHere (desk : Desk) (ticket : TicketView) (kept : Answered) : Type 0 where
-  pub node : ticket.node ≡ desk.node
+pub record IsHere (desk : DeskView) (ticket : TicketView) (kept : Answered) : Type 0 where
+  pub node : ticket.node ≡ desk.member.node
   pub run : ticket.run ≡ desk.run
   pub own : kept_at desk ticket.own ≡ Some kept
   pub question : kept.question ≡ ticket.question
 
 -- why its reply is not released: no such ticket is open here, or the reply rests on inputs that are not durable
-pub record IsSealed (desk : Desk) (ticket : TicketView) (why : Refusal) : Type 0 where
+pub record IsSealed (desk : DeskView) (ticket : TicketView) (why : Refusal) : Type 0 where
   pub cause : ((why ≡ refused.Foreign) × ((kept : Answered) → IsHere desk ticket kept → ⊥))
-      ⊎ ((kept : Answered) × IsHere desk ticket kept × (desk.durable < kept.answer.number) × (why ≡ (if desk.is_failed then refused.Failed else refused.Early)))
+      ⊎ ((kept : Answered) × IsHere desk ticket kept × (desk.state.durable < kept.answer.number) × (why ≡ (if desk.failed then refused.Failed else refused.Early)))
 
 -- ---- batches
 
 -- these are the node's inputs that fly
-pub record IsFlying (desk : Desk) (batch : Numbered) : Type 0 where
-  pub node : batch.node ≡ desk.node
-  pub first : batch.first ≡ desk.durable
-  pub inputs : batch.inputs ≡ flying_in (state_of desk)
-
--- why nothing is launched, before memory is asked for
-abbrev pub launch_objection : Desk → Option Refusal
-launch_objection desk =
-    if desk.is_failed then Some refused.Failed
-    else (if nat_lt desk.durable desk.flying then Some refused.Busy
-    else None)
+pub record IsFlying (desk : DeskView) (batch : Numbered) : Type 0 where
+  pub node : batch.node ≡ desk.member.node
+  pub first : batch.first ≡ desk.state.durable
+  pub inputs : batch.inputs ≡ flying_in desk.state

@@ -1,33 +1,26 @@
--- What is kept for a ticket, and by whom.
-use Rattle.std.specs.Prelude.{ℕ, ◌≡◌, ◌↔◌, List, length, Option, IsSome}
-use Rattle.std.specs.List.{Contains}
-use Rattle.std.specs.List.Sorted.{IsStrictlySortedBy}
-use Rattle.std.specs.Map.{lookup}
-use Rattle.std.specs.Ordering.{nat_cmp, is_eq}
-use Rattle.ring_records.specs.declared.reply.Reply.{Reply}
-use Rattle.ring_records.specs.declared.request.Request.{Request}
-use Rattle.ring_records.specs.Answer.{Answered}
+-- What a desk keeps to.
+use Rattle.std.specs.Prelude.{ℕ, ◌≡◌, ◌<◌, ◌≤◌, List, [], ◌∷◌, length}
+use Rattle.ring_records.specs.Admission.{fresh, IsLawful}
+use Rattle.ring_records.specs.Answer.{Answered, NodeState}
+use Rattle.gated_journal.specs.Reading.{Member}
+use Rattle.node_core.specs.Core.{CoreView, CoreStandsFor}
+use Rattle.group_commit.specs.Outbox.{Holds}
+use Rattle.group_commit.specs.declared.outbox.Outbox.{Outbox}
 
--- the node, the size of its ring, its capacity, and which opening of the node this is
-pub record Place : Type 0 where
-  pub me : ℕ
-  pub n : ℕ
-  pub capacity : ℕ
-  pub run : ℕ
+-- the number of each ticket is below this one
+unfoldable pub AreBelow : ℕ → List (ℕ × Answered) → Type 0
+AreBelow number [] = Unit {0}
+AreBelow number (ticket ∷ tickets) = (ticket.0 < number) × AreBelow number tickets
 
-abbrev pub place_with : ℕ → ℕ → ℕ → ℕ → Place
-place_with me n capacity run = record { me = me; n = n; capacity = capacity; run = run }
-
-abbrev pub answered_with : Request → Reply → ℕ → Answered
-answered_with q reply number = record { question = q; answer = record { reply = reply; number = number } }
-
--- what is kept under this number
-abbrev pub kept_in : List (ℕ × Answered) → ℕ → Option Answered
-kept_in entries own = lookup (λ k. is_eq (nat_cmp own k)) entries
-
--- So many numbers have something kept under them: these, and no other.
-pub record IsCount (kept : ℕ → Option Answered) (count : ℕ) : Type 0 where
-  pub numbers : List ℕ
-  pub count_is : length numbers ≡ count
-  pub rising : IsStrictlySortedBy nat_cmp numbers
-  pub each : (own : ℕ) → (Contains numbers own ↔ IsSome (kept own))
+-- The core stands for the inputs, which are lawful; so many are durable, and so many durable or flying; the outbox holds
+-- what they let the node release; and no number of a ticket is given twice.
+pub record IsDesk (core : CoreView) (outbox : Outbox) (member : Member) (s : NodeState) (tickets : List (ℕ × Answered)) (issued : ℕ) : Type 0 where
+  pub stands : CoreStandsFor core s.inputs
+  pub me : core.table.me ≡ member.node
+  pub ring : core.size ≡ member.n
+  pub bytes : core.capacity ≡ member.capacity
+  pub in_order : s.durable ≤ s.flying
+  pub accepted : s.flying ≤ length s.inputs
+  pub lawful : IsLawful member.node member.n member.capacity fresh s.inputs
+  pub holds : Holds member.node outbox s.inputs s.durable s.flying
+  pub given : AreBelow issued tickets

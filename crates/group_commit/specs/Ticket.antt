@@ -1,8 +1,8 @@
 -- What a ticket, a kept reply and a stub show.
 use Rattle.std.specs.Prelude.{ℕ}
+use Rattle.ring_records.specs.declared.reply.Reply.{Reply}
 use Rattle.ring_records.specs.declared.request.Request.{Request}
 use Rattle.ring_records.specs.Answer.{Answered}
-use Rattle.group_commit.specs.Kept.{Place}
 use Rattle.group_commit.specs.declared.ticket.Stub.{Stub}
 use Rattle.group_commit.specs.declared.ticket.Ticket.{Ticket}
 
@@ -15,11 +15,14 @@ pub record TicketView : Type 0 where
   pub question : Request
   pub number : ℕ
 
-abbrev pub ticket_with : Place → ℕ → Answered → TicketView
-ticket_with place own answered = record { node = place.me; run = place.run; own = own; question = answered.question; number = answered.answer.number }
+abbrev pub ticket_with : ℕ → ℕ → ℕ → Answered → TicketView
+ticket_with node run own answered = record { node = node; run = run; own = own; question = answered.question; number = answered.answer.number }
 
 abbrev pub shown : Ticket → TicketView
 shown ticket = record { node = ticket.node; run = ticket.run; own = ticket.own; question = ticket.question; number = ticket.number }
 
+abbrev pub answered_with : Request → Reply → ℕ → Answered
+answered_with q reply number = record { question = q; answer = record { reply = reply; number = number } }
+
 abbrev pub stub : Stub → Answered
-stub s = record { question = s.question; answer = record { reply = s.reply; number = s.number } }
+stub s = answered_with s.question s.reply s.number

@@ -7,6 +7,7 @@ use Rattle.ring_records.specs.declared.reply.Reply.TheVariants as say
 use Rattle.ring_records.specs.declared.request.Request.{Request}
 use Rattle.ring_records.specs.Admission.{fresh}
 use Rattle.ring_records.specs.Answer.{Answered, NodeState, answer, input_of}
+use Rattle.gated_journal.specs.Reading.{Member}
 
 -- the reply that says that the input is accepted
 unfoldable pub acceptance : Input → Reply
@@ -33,6 +34,6 @@ pub record IsAcceptance (inputs : List Input) (a : Answered) : Type 0 where
 
 -- The history gives this answer to the request, and as many inputs as its number are durable: the reply accepts the
 -- last of them, or they give the answer.
-pub record IsVouched (me n capacity : ℕ) (s : NodeState) (a : Answered) : Type 0 where
+pub record IsVouched (member : Member) (s : NodeState) (a : Answered) : Type 0 where
   pub durable : a.answer.number ≤ s.durable
-  pub gives : IsAcceptance s.inputs a ⊎ (a.answer ≡ answer me n capacity fresh (take a.answer.number s.inputs) a.question)
+  pub gives : IsAcceptance s.inputs a ⊎ (a.answer ≡ answer member.node member.n member.capacity fresh (take a.answer.number s.inputs) a.question)

@@ -1,19 +1,16 @@
 //! A node's inputs: which of them are durable, which fly, and the replies that wait for them.
-ghost use Rattle.std.specs.Prelude.{◌≡◌, ◌+◌, ◌-◌, ◌++◌, ◌∷◌, ◌≤◌, ◌⊎◌, ◌||◌, ℕ, List, [], not, true, false, Some, None, length, take, nat_eq, if◌then◌else◌, is_none, IfSome, IfNone, MatchOption, IfOk, IfErr, OnOk, OnErr};
+ghost use Rattle.std.specs.Prelude.{◌≡◌, ◌+◌, ◌-◌, ◌++◌, ◌∷◌, ◌≤◌, ◌⊎◌, ◌||◌, ℕ, List, [], not, true, false, Some, None, length, IfSome, IfNone, MatchOption, IfOk, IfErr, OnOk, OnErr};
 ghost use Rattle.std.specs.List.{cons_option};
-ghost use Rattle.ring_records.specs.Admission.{fresh, refusal, IsLawful};
-ghost use Rattle.ring_records.specs.Answer.{Answered, asked, opened, launched, landed as landed_state, flying_in};
+ghost use Rattle.ring_records.specs.Admission.{fresh, IsLawful};
+ghost use Rattle.ring_records.specs.Answer.{Answered, durable_in, flying_in};
 ghost use Rattle.ring_records.specs.Emission.{sent};
 ghost use Rattle.ring_records.specs.History.{taken, credit};
-ghost use Rattle.ring_records.specs.Props.{IsLawful-prop};
 ghost use Rattle.ring_records.specs.Release.{packets, decisions, window};
-ghost use Rattle.group_commit.specs.Outbox.{Holds};
-ghost use Rattle.node_core.specs.Core.{CoreStandsFor};
-ghost use Rattle.group_commit.specs.Kept.{answered_with, place_with, kept_in, IsCount};
+ghost use Rattle.gated_journal.specs.Reading.{member};
 
 use crate::desk::parts::{accept, prepare, replay};
 use crate::judge::judge;
-use crate::kept::{Kept, keep, take_back};
+use crate::kept::{Kept, keep, kept_for, take_back};
 use crate::landed::Landed;
 use crate::outbox::Outbox;
 use crate::ticket::{Stub, Ticket};
@@ -22,6 +19,7 @@ use node_core::NodeCore;
 use ring_records::{Input, NodeNo, Packet, Refusal, Reply, Request};
 use std::alloc::{AllocError, AllocFailed, Global};
 use std::collections::BTreeMap;
+use std::marker::Model;
 
 /// The most tickets of an opening.
 const TICKETS: u64 = 1 << 60;
@@ -42,21 +40,25 @@ pub struct Desk {
     issued: u64,
     is_closed: bool,
     is_failed: bool,
-    ghost stands: { CoreStandsFor core inputs.items },
-    ghost me: { core.table.me ≡ node },
-    ghost ring: { core.size ≡ n },
-    ghost bytes: { core.capacity ≡ capacity },
-    ghost in_order: { durable ≤ flying },
-    ghost accepted: { flying ≤ length inputs.items },
-    ghost lawful: { IsLawful node n capacity fresh inputs.items } by { IsLawful-prop node n capacity fresh inputs.items },
-    ghost holds: { Holds node outbox inputs.items durable flying },
-    ghost given: { (own : ℕ) → issued ≤ own → is_none (kept_in tickets.entries own) ≡ true },
+}
+
+impl Model for Desk {
+    ghost use Rattle.group_commit.specs.Desk.{DeskView};
+
+    ghost Value = { DeskView };
+
+    ghost use Rattle.gated_journal.specs.Reading.{member};
+    ghost use Rattle.group_commit.specs.Kept.{IsDesk};
+
+    ghost view = { λ d. record { member = member d.node d.n d.capacity; run = d.run; state = record { inputs = d.inputs.items; durable = d.durable; flying = d.flying }; tickets = d.tickets.entries; issued = d.issued; closed = d.is_closed; failed = d.is_failed } };
+
+    ghost invariant = { λ d. IsDesk d.core d.outbox (member d.node d.n d.capacity) (record { inputs = d.inputs.items; durable = d.durable; flying = d.flying }) d.tickets.entries d.issued };
 }
 
 impl Desk {
-    ghost use Rattle.group_commit.specs.Desk.{place_of, state_of, kept_at, issued_by, is_closed, is_failed, answered, objection, IsUnlawful, IsHere, IsSealed, IsFlying, launch_objection};
-    ghost use Rattle.gated_journal.specs.Batch.{shown as batch_shown, landed, lost, numbered};
-    ghost use Rattle.group_commit.specs.Ticket.{shown, stub, ticket_with};
+    ghost use Rattle.group_commit.specs.Desk.{new_desk, answered, ticket_for, submitted, ended, launched, landed, objection, launch_objection, IsUnlawful, IsHere, IsSealed, IsFlying};
+    ghost use Rattle.gated_journal.specs.Batch.{shown as batch_shown, landed as receipted, lost, numbered};
+    ghost use Rattle.group_commit.specs.Ticket.{shown, stub, answered_with};
 
     /// The desk of a node that holds these inputs, all of them durable. Refused as 24 with the number of the first
     /// input, counted from 0, that is not admitted after those before it, and as 8.
@@ -68,13 +70,9 @@ impl Desk {
         run: u64,
         inputs: Vec<Input>,
     ) -> Result<Desk, Refusal>
-        ensures place { IfOk result (λ desk. place_of desk ≡ place_with node n capacity run) }
-        ensures state { IfOk result (λ desk. state_of desk ≡ opened inputs.items) }
-        ensures kept { IfOk result (λ desk. (own : ℕ) → kept_at desk own ≡ None) }
-        ensures issued { IfOk result (λ desk. issued_by desk ≡ 0) }
-        ensures ready { IfOk result (λ desk. (is_closed desk ≡ false) × (is_failed desk ≡ false)) }
+        ensures desk { IfOk result (λ desk. desk ≡ new_desk (member node n capacity) run inputs.items) }
         ensures lawful { OnOk result (IsLawful node n capacity fresh inputs.items) }
-        ensures refusal { IfErr result (λ refusal. (refusal ≡ Refusal.OutOfMemory) ⊎ IsUnlawful node n capacity inputs.items refusal) }
+        ensures refusal { IfErr result (λ refusal. (refusal ≡ Refusal.OutOfMemory) ⊎ IsUnlawful (member node n capacity) inputs.items refusal) }
     {
         let mut core = NodeCore::new(alloc, node, n, capacity);
         let mut outbox = Outbox::new(alloc);
@@ -103,15 +101,12 @@ impl Desk {
     /// where it is closed or has failed, as 2 where a Take's message is of no node of the ring, as 6 at 2^60 tickets,
     /// and as 8. Every other refusal is a reply.
     pub fn submit(&mut self, question: Request) -> Result<Ticket, Refusal>
-        ensures ticket { IfOk result (λ ticket. shown ticket ≡ ticket_with (place_of self.old) (issued_by self.old) (answered self.old question)) }
-        ensures state { OnOk result (state_of self.new ≡ asked (place_of self.old).me (place_of self.old).n (place_of self.old).capacity fresh (state_of self.old) question) }
-        ensures kept { OnOk result ((own : ℕ) → kept_at self.new own ≡ (if nat_eq own (issued_by self.old) then Some (answered self.old question) else kept_at self.old own)) }
-        ensures issued { OnOk result (issued_by self.new ≡ issued_by self.old + 1) }
-        ensures refusal { IfErr result (λ refusal. (objection self.old question ≡ Some refusal) ⊎ ((objection self.old question ≡ None) × (refusal ≡ Refusal.OutOfMemory))) }
+        ensures ticket { IfOk result (λ ticket. shown ticket ≡ ticket_for question self.old) }
+        ensures next { OnOk result (self.new ≡ submitted question self.old) }
+        ensures here { IfOk result (λ ticket. IsHere self.new (shown ticket) (answered self.old question)) }
         ensures free { OnOk result (objection self.old question ≡ None) }
-        ensures place { place_of self.new ≡ place_of self.old }
-        ensures ready { (is_closed self.new ≡ is_closed self.old) × (is_failed self.new ≡ is_failed self.old) }
-        ensures same { OnErr result ((state_of self.new ≡ state_of self.old) × (issued_by self.new ≡ issued_by self.old) × ((own : ℕ) → kept_at self.new own ≡ kept_at self.old own)) }
+        ensures refusal { IfErr result (λ refusal. (objection self.old question ≡ Some refusal) ⊎ ((objection self.old question ≡ None) × (refusal ≡ Refusal.OutOfMemory))) }
+        ensures same { OnErr result (self.new ≡ self.old) }
     {
         if let Some(refusal) = self.objection(&question) {
             return Err(refusal);
@@ -147,15 +142,11 @@ impl Desk {
     pub fn redeem(&mut self, ticket: Ticket) -> Result<(Reply, Stub), (Ticket, Refusal)>
         ensures released { IfOk result (λ r. IsHere self.old (shown ticket) (stub r.1)) }
         ensures reply { IfOk result (λ r. r.0 ≡ (stub r.1).answer.reply) }
-        ensures durable { IfOk result (λ r. (stub r.1).answer.number ≤ (state_of self.old).durable) }
-        ensures ends { OnOk result ((own : ℕ) → kept_at self.new own ≡ (if nat_eq own (shown ticket).own then None else kept_at self.old own)) }
+        ensures durable { IfOk result (λ r. (stub r.1).answer.number ≤ self.old.state.durable) }
+        ensures next { OnOk result (self.new ≡ ended (shown ticket).own self.old) }
         ensures refusal { IfErr result (λ e. IsSealed self.old (shown ticket) e.1) }
         ensures back { IfErr result (λ e. shown e.0 ≡ shown ticket) }
-        ensures same { OnErr result ((own : ℕ) → kept_at self.new own ≡ kept_at self.old own) }
-        ensures place { place_of self.new ≡ place_of self.old }
-        ensures state { state_of self.new ≡ state_of self.old }
-        ensures issued { issued_by self.new ≡ issued_by self.old }
-        ensures ready { (is_closed self.new ≡ is_closed self.old) × (is_failed self.new ≡ is_failed self.old) }
+        ensures same { OnErr result (self.new ≡ self.old) }
     {
         let Some((reply, number)) = self.found(&ticket) else {
             return Err((ticket, Refusal::Foreign));
@@ -190,16 +181,12 @@ impl Desk {
     /// Ends a ticket with no reply, on a desk that is closed or has failed. Refused as 10 where no such ticket is open
     /// here, and the ticket comes back.
     pub fn forfeit(&mut self, ticket: Ticket) -> Result<(), (Ticket, Refusal)>
-        requires ended { (is_closed self.old || is_failed self.old) ≡ true }
+        requires over { (self.old.closed || self.old.failed) ≡ true }
         ensures here { OnOk result ((kept : Answered) × IsHere self.old (shown ticket) kept) }
-        ensures ends { OnOk result ((own : ℕ) → kept_at self.new own ≡ (if nat_eq own (shown ticket).own then None else kept_at self.old own)) }
+        ensures next { OnOk result (self.new ≡ ended (shown ticket).own self.old) }
         ensures foreign { IfErr result (λ e. (e.1 ≡ Refusal.Foreign) × ((kept : Answered) → IsHere self.old (shown ticket) kept → ⊥)) }
         ensures back { IfErr result (λ e. shown e.0 ≡ shown ticket) }
-        ensures same { OnErr result ((own : ℕ) → kept_at self.new own ≡ kept_at self.old own) }
-        ensures place { place_of self.new ≡ place_of self.old }
-        ensures state { state_of self.new ≡ state_of self.old }
-        ensures issued { issued_by self.new ≡ issued_by self.old }
-        ensures ready { (is_closed self.new ≡ is_closed self.old) × (is_failed self.new ≡ is_failed self.old) }
+        ensures same { OnErr result (self.new ≡ self.old) }
     {
         if self.found(&ticket).is_none() {
             return Err((ticket, Refusal::Foreign));
@@ -218,16 +205,12 @@ impl Desk {
     /// The first inputs that wait, at most 64, as a batch to be made durable; they fly from then on. `None` where none
     /// waits. Refused as 9 where the desk has failed, as 12 where a batch is flying, and as 8.
     pub fn launch(&mut self) -> Result<Option<Batch>, Refusal>
-        ensures batch { IfOk result (λ some. IfSome some (λ batch. batch_shown batch ≡ numbered (place_of self.old).me (state_of self.old).durable (flying_in (state_of self.new)))) }
-        ensures none { IfOk result (λ some. IfNone some ((state_of self.old).durable ≡ length (state_of self.old).inputs)) }
-        ensures state { OnOk result (state_of self.new ≡ launched (state_of self.old)) }
+        ensures batch { IfOk result (λ some. IfSome some (λ batch. batch_shown batch ≡ numbered self.old.member.node self.old.state.durable (flying_in self.new.state))) }
+        ensures none { IfOk result (λ some. IfNone some (self.old.state.durable ≡ length self.old.state.inputs)) }
+        ensures next { OnOk result (self.new ≡ launched self.old) }
         ensures free { OnOk result (launch_objection self.old ≡ None) }
         ensures refusal { IfErr result (λ refusal. (launch_objection self.old ≡ Some refusal) ⊎ ((launch_objection self.old ≡ None) × (refusal ≡ Refusal.OutOfMemory))) }
-        ensures err { OnErr result (state_of self.new ≡ state_of self.old) }
-        ensures place { place_of self.new ≡ place_of self.old }
-        ensures issued { issued_by self.new ≡ issued_by self.old }
-        ensures ready { (is_closed self.new ≡ is_closed self.old) × (is_failed self.new ≡ is_failed self.old) }
-        ensures same { (own : ℕ) → kept_at self.new own ≡ kept_at self.old own }
+        ensures same { OnErr result (self.new ≡ self.old) }
     {
         if let Some(refusal) = self.launch_objection() {
             return Err(refusal);
@@ -249,19 +232,15 @@ impl Desk {
     /// The batch that flies is durable: what it lets the node release. It takes no memory. Refused as 10 where this is
     /// not the receipt of that batch, or the desk has failed, and it comes back.
     pub fn land(&mut self, receipt: Receipt) -> Result<Landed, (Receipt, Refusal)>
-        ensures flying { OnOk result (IsFlying self.old (landed receipt)) }
-        ensures works { OnOk result (is_failed self.old ≡ false) }
-        ensures count { IfOk result (λ landed. landed.count ≡ (state_of self.old).flying - (state_of self.old).durable) }
-        ensures packets { IfOk result (λ landed. landed.packets.items ≡ packets (place_of self.old).me (take (state_of self.old).durable (state_of self.old).inputs) (flying_in (state_of self.old))) }
-        ensures decisions { IfOk result (λ landed. landed.decisions.items ≡ decisions (place_of self.old).me (take (state_of self.old).durable (state_of self.old).inputs) (flying_in (state_of self.old))) }
-        ensures state { OnOk result (state_of self.new ≡ landed_state (state_of self.old)) }
-        ensures foreign { IfErr result (λ e. (e.1 ≡ Refusal.Foreign) × (IsFlying self.old (landed receipt) → is_failed self.old ≡ false → ⊥)) }
-        ensures back { IfErr result (λ e. landed e.0 ≡ landed receipt) }
-        ensures err { OnErr result (state_of self.new ≡ state_of self.old) }
-        ensures place { place_of self.new ≡ place_of self.old }
-        ensures issued { issued_by self.new ≡ issued_by self.old }
-        ensures ready { (is_closed self.new ≡ is_closed self.old) × (is_failed self.new ≡ is_failed self.old) }
-        ensures same { (own : ℕ) → kept_at self.new own ≡ kept_at self.old own }
+        ensures flying { OnOk result (IsFlying self.old (receipted receipt)) }
+        ensures works { OnOk result (self.old.failed ≡ false) }
+        ensures count { IfOk result (λ landed. landed.count ≡ self.old.state.flying - self.old.state.durable) }
+        ensures packets { IfOk result (λ landed. landed.packets.items ≡ packets self.old.member.node (durable_in self.old.state) (flying_in self.old.state)) }
+        ensures decisions { IfOk result (λ landed. landed.decisions.items ≡ decisions self.old.member.node (durable_in self.old.state) (flying_in self.old.state)) }
+        ensures next { OnOk result (self.new ≡ landed self.old) }
+        ensures foreign { IfErr result (λ e. (e.1 ≡ Refusal.Foreign) × (IsFlying self.old (receipted receipt) → self.old.failed ≡ false → ⊥)) }
+        ensures back { IfErr result (λ e. receipted e.0 ≡ receipted receipt) }
+        ensures same { OnErr result (self.new ≡ self.old) }
     {
         if self.is_failed || !self.is_flying(receipt.node(), receipt.first(), receipt.inputs()) {
             return Err((receipt, Refusal::Foreign));
@@ -277,16 +256,11 @@ impl Desk {
     /// The device failed with the batch that flies: nothing more is launched, nor becomes durable. Refused as 10 where
     /// this is not that batch, and it comes back.
     pub fn fail(&mut self, spoiled: Spoiled) -> Result<(), (Spoiled, Refusal)>
-        ensures failed { OnOk result (is_failed self.new ≡ true) }
         ensures flying { OnOk result (IsFlying self.old (lost spoiled)) }
+        ensures next { OnOk result (self.new ≡ record self.old { failed = true }) }
         ensures foreign { IfErr result (λ e. (e.1 ≡ Refusal.Foreign) × (IsFlying self.old (lost spoiled) → ⊥)) }
         ensures back { IfErr result (λ e. lost e.0 ≡ lost spoiled) }
-        ensures err { OnErr result (is_failed self.new ≡ is_failed self.old) }
-        ensures closed { is_closed self.new ≡ is_closed self.old }
-        ensures place { place_of self.new ≡ place_of self.old }
-        ensures state { state_of self.new ≡ state_of self.old }
-        ensures issued { issued_by self.new ≡ issued_by self.old }
-        ensures same { (own : ℕ) → kept_at self.new own ≡ kept_at self.old own }
+        ensures same { OnErr result (self.new ≡ self.old) }
     {
         if !self.is_flying(spoiled.node(), spoiled.first(), spoiled.inputs()) {
             return Err((spoiled, Refusal::Foreign));
@@ -298,62 +272,57 @@ impl Desk {
 
     /// Takes no more requests; all else goes on.
     pub fn close(&mut self)
-        ensures closed { is_closed self.new ≡ true }
-        ensures failed { is_failed self.new ≡ is_failed self.old }
-        ensures place { place_of self.new ≡ place_of self.old }
-        ensures state { state_of self.new ≡ state_of self.old }
-        ensures issued { issued_by self.new ≡ issued_by self.old }
-        ensures same { (own : ℕ) → kept_at self.new own ≡ kept_at self.old own }
+        ensures { self.new ≡ record self.old { closed = true } }
     {
         self.is_closed = true;
     }
 
     /// The inputs that it accepted, oldest first.
     pub fn history(&self) -> &[Input]
-        ensures inputs { result.now ≡ (state_of self.now).inputs }
-        ensures lawful { IsLawful (place_of self.now).me (place_of self.now).n (place_of self.now).capacity fresh result.now }
+        ensures inputs { result.now ≡ self.now.state.inputs }
+        ensures lawful { IsLawful self.now.member.node self.now.member.n self.now.member.capacity fresh result.now }
     {
         &self.inputs
     }
 
     /// How many of its inputs are durable.
     pub fn durable(&self) -> u64
-        ensures { result ≡ (state_of self.now).durable }
+        ensures { result ≡ self.now.state.durable }
     {
         self.durable
     }
 
     /// How many of its inputs are durable or fly.
     pub fn flying(&self) -> u64
-        ensures { result ≡ (state_of self.now).flying }
+        ensures { result ≡ self.now.state.flying }
     {
         self.flying
     }
 
     /// How many messages its inputs sent to the successor.
     pub fn sent(&self) -> u64
-        ensures { result ≡ length (sent (place_of self.now).me (state_of self.now).inputs) }
+        ensures { result ≡ length (sent self.now.member.node self.now.state.inputs) }
     {
         self.core.sent()
     }
 
     /// How many messages of the predecessor its inputs took.
     pub fn taken(&self) -> u64
-        ensures { result ≡ length (taken (state_of self.now).inputs) }
+        ensures { result ≡ length (taken self.now.state.inputs) }
     {
         self.core.taken()
     }
 
     /// The last credit of the successor, 0 before the first: so many messages the successor is known to have taken.
     pub fn credit(&self) -> u64
-        ensures { result ≡ credit (state_of self.now).inputs }
+        ensures { result ≡ credit self.now.state.inputs }
     {
         self.core.credit()
     }
 
     /// How many messages of the predecessor its durable inputs took: so many it may credit.
     pub fn durable_taken(&self) -> u64
-        ensures { result ≡ length (taken (take (state_of self.now).durable (state_of self.now).inputs)) }
+        ensures { result ≡ length (taken (durable_in self.now.state)) }
     {
         self.outbox.released.taken
     }
@@ -361,21 +330,21 @@ impl Desk {
     /// The messages of its durable inputs that the successor is not known to have taken, as Carry packets in order:
     /// those from the last durable credit on. They may be released again.
     pub fn window(&self) -> Result<Vec<Packet>, AllocError>
-        ensures { IfOk result (λ packets. packets.items ≡ window (place_of self.now).me (take (state_of self.now).durable (state_of self.now).inputs)) }
+        ensures { IfOk result (λ packets. packets.items ≡ window self.now.member.node (durable_in self.now.state)) }
     {
         self.outbox.released.window(*self.inputs.allocator())
     }
 
     /// How many tickets are open: given, and neither redeemed nor forfeited.
     pub fn open_tickets(&self) -> usize
-        ensures { IsCount (kept_at self.now) result }
+        ensures { result ≡ length self.now.tickets }
     {
         self.tickets.len()
     }
 
     /// Whether it takes requests: it was not closed and has not failed.
     pub fn is_open(&self) -> bool
-        ensures { result ≡ not (is_closed self.now || is_failed self.now) }
+        ensures { result ≡ not (self.now.closed || self.now.failed) }
     {
         !(self.is_closed || self.is_failed)
     }
@@ -387,7 +356,7 @@ impl Desk {
         if ticket.node != self.node || ticket.run != self.run {
             return None;
         }
-        match self.tickets.get(&ticket.own) {
+        match kept_for(&self.tickets, ticket.own) {
             Some(kept) if kept.question == ticket.question => Some((kept.reply, kept.number)),
             _ => None,
         }

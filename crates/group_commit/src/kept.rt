@@ -1,6 +1,7 @@
 //! What is kept for a ticket.
-ghost use Rattle.std.specs.Prelude.{◌≡◌, ℕ, Some, None, nat_eq, if◌then◌else◌, OnOk, OnErr};
-ghost use Rattle.group_commit.specs.Kept.{kept_in};
+ghost use Rattle.std.specs.Prelude.{◌≡◌, ◌++◌, ◌∷◌, [], nat_eq, option_copied, OnOk, OnErr};
+ghost use Rattle.std.specs.Map.{lookup, remove_entry};
+ghost use Rattle.group_commit.specs.Kept.{AreBelow};
 
 use ring_records::{Reply, Request};
 use std::alloc::AllocError;
@@ -23,22 +24,30 @@ impl Model for Kept {
     ghost view = { λ k. record { question = k.question; answer = record { reply = k.reply; number = k.number } } };
 }
 
-/// Keeps the answer for the ticket of this number.
+/// Keeps the answer for a ticket whose number is above those of all others.
 pub(crate) fn keep(
     tickets: &mut BTreeMap<u64, Kept>,
     own: u64,
     kept: Kept,
 ) -> Result<(), AllocError>
-    ensures kept { OnOk result ((other : ℕ) → kept_in tickets.new.entries other ≡ (if nat_eq other own then Some kept else kept_in tickets.old.entries other)) }
-    ensures err { OnErr result ((other : ℕ) → kept_in tickets.new.entries other ≡ kept_in tickets.old.entries other) }
+    requires last { AreBelow own tickets.old.entries }
+    ensures kept { OnOk result (tickets.new.entries ≡ tickets.old.entries ++ (own, kept) ∷ []) }
+    ensures same { OnErr result (tickets.new.entries ≡ tickets.old.entries) }
 {
     tickets.insert(own, kept)?;
     Ok(())
 }
 
+/// What is kept for the ticket of this number, if anything is.
+pub(crate) fn kept_for(tickets: &BTreeMap<u64, Kept>, own: u64) -> Option<&Kept>
+    ensures { option_copied result ≡ lookup (nat_eq own) tickets.now.entries }
+{
+    tickets.get(&own)
+}
+
 /// Keeps nothing for the ticket of this number.
 pub(crate) fn take_back(tickets: &mut BTreeMap<u64, Kept>, own: u64)
-    ensures { (other : ℕ) → kept_in tickets.new.entries other ≡ (if nat_eq other own then None else kept_in tickets.old.entries other) }
+    ensures { tickets.new.entries ≡ remove_entry (nat_eq own) tickets.old.entries }
 {
     tickets.remove(&own);
 }

@@ -3,6 +3,7 @@ ghost use Rattle.std.specs.Prelude.{◌≡◌, ◌+◌, ◌-◌, ◌++◌, ◌�
 ghost use Rattle.std.specs.List.{cons_option};
 ghost use Rattle.ring_records.specs.Admission.{fresh, refusal, IsLawful};
 ghost use Rattle.gated_journal.specs.Batch.{shown as batch_shown, numbered};
+ghost use Rattle.gated_journal.specs.Reading.{member};
 ghost use Rattle.node_core.specs.Core.{CoreStandsFor};
 ghost use Rattle.group_commit.specs.Desk.{IsUnlawful};
 ghost use Rattle.group_commit.specs.Outbox.{Holds};
@@ -25,7 +26,7 @@ pub(super) fn replay(
     ensures place { OnOk result ((core.new.table.me ≡ core.old.table.me) × (core.new.size ≡ core.old.size) × (core.new.capacity ≡ core.old.capacity)) }
     ensures lawful { OnOk result (IsLawful core.old.table.me core.old.size core.old.capacity fresh inputs.now) }
     ensures holds { OnOk result (Holds core.old.table.me outbox.new inputs.now (length inputs.now) (length inputs.now)) }
-    ensures refusal { IfErr result (λ refusal. (refusal ≡ Refusal.OutOfMemory) ⊎ IsUnlawful core.old.table.me core.old.size core.old.capacity inputs.now refusal) }
+    ensures refusal { IfErr result (λ refusal. (refusal ≡ Refusal.OutOfMemory) ⊎ IsUnlawful (member core.old.table.me core.old.size core.old.capacity) inputs.now refusal) }
 {
     for i in 0..inputs.len() {
         let input = inputs[i];

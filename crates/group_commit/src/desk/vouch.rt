@@ -15,14 +15,13 @@ use ring_records::{Input, NodeNo, Refusal, Reply, Request};
 use std::alloc::{AllocError, Global};
 
 impl Desk {
-    ghost use Rattle.group_commit.specs.Desk.{place_of, state_of};
     ghost use Rattle.group_commit.specs.Vouch.{IsVouched};
 
     /// Whether its history gives the stub's reply to the stub's request at the stub's number k, and k inputs are
     /// durable. Refused as 8. No other call looks back: this one takes the first k inputs again, in k log k steps.
     pub fn vouch(&self, stub: &Stub) -> Result<bool, Refusal>
-        ensures yes { IfOk result (λ b. b ≡ true → IsVouched (place_of self.now).me (place_of self.now).n (place_of self.now).capacity (state_of self.now) (released stub.now)) }
-        ensures no { IfOk result (λ b. b ≡ false → IsVouched (place_of self.now).me (place_of self.now).n (place_of self.now).capacity (state_of self.now) (released stub.now) → ⊥) }
+        ensures yes { IfOk result (λ b. b ≡ true → IsVouched self.now.member self.now.state (released stub.now)) }
+        ensures no { IfOk result (λ b. b ≡ false → IsVouched self.now.member self.now.state (released stub.now) → ⊥) }
         ensures refusal { IfErr result (λ e. e ≡ Refusal.OutOfMemory) }
     {
         if stub.number > self.durable {

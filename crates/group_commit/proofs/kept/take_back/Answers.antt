@@ -1,8 +1,7 @@
-use Rattle.std.proofs.Common.{◌∙◌, ap, cond, None}
-use Rattle.group_commit.specs.Kept.{kept_in}
+use Rattle.std.proofs.Common.{◌∙◌, ap, ℕ, Bool}
+use Rattle.std.specs.Map.{remove_entry}
 use Rattle.group_commit.proofs.Numbers.{is_number}
 use Rattle.group_commit.proofs.kept.take_back.Goals as goal
 
 pub returns : goal.returns
-returns c = λ other.
-    c.remove.ensures.updates.0 other ∙ ap (λ b. cond b None (kept_in c.args.tickets.now.entries other)) (is_number c.args.own other)
+returns c = c.remove.ensures.entries ∙ ap (λ (test : ℕ → Bool). remove_entry test c.args.tickets.now.entries) (is_number c.args.own)

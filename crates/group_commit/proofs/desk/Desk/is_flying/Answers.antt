@@ -1,24 +1,26 @@
-use Rattle.std.proofs.Common.{rules, ◌≡◌, ◌-◌, ◌∙◌, ap, List, take, drop}
+use Rattle.std.proofs.Common.{rules, ◌≡◌, ◌-◌, ◌∙◌, ap, sym, subst, List, take, drop}
 use Rattle.std.specs.Bool.{Decides}
 use lib.Pointwise.{pointwise}
 use Rattle.std.proofs.lemmas.Slice.Eq.{slice_eq-Decides}
 use Rattle.ring_records.specs.declared.input.Input.{Input}
 use Rattle.ring_records.specs.contracts.input.InputPartialEq as derived
-use Rattle.ring_records.specs.Answer.{flying_in}
-use Rattle.group_commit.specs.Desk.{state_of}
+use Rattle.gated_journal.specs.Batch.{numbered}
+use Rattle.group_commit.specs.Desk.{DeskView, IsFlying}
 use Rattle.group_commit.proofs.desk.Desk.is_flying.Goals as goal
 
 same : (a b : Input) → Decides ((derived.TheImpl.eq-value).it a b) (a ≡ b)
 same a b = search rules
 
 -- whether the inputs are those that fly
-told : (c : goal.After-eq-then-first-self) → Decides c.eq-then-first-self.result (c.args.inputs.now ≡ flying_in (state_of c.args.self.now))
+told : (c : goal.After-eq-then-first-self) → Decides c.eq-then-first-self.result (c.args.inputs.now ≡ take (c.self.inside.flying - c.self.inside.durable) (drop c.self.inside.durable c.self.inside.inputs.items))
 told c =
-    let j = c.args.self.now in
-    slice_eq-Decides same _ _ _ (c.eq-then-first-self.ensures ∙ ap (λ (l : List Input). pointwise (derived.TheImpl.eq-value).it c.args.inputs.now (take (j.flying - j.durable) (drop j.durable l))) c.deref.ensures.value)
+    let d = c.self.inside in
+    slice_eq-Decides same _ _ _ (c.eq-then-first-self.ensures ∙ ap (λ (l : List Input). pointwise (derived.TheImpl.eq-value).it c.args.inputs.now (take (d.flying - d.durable) (drop d.durable l))) c.deref.ensures.value)
 
 pub returns-then-first-self-clause-yes : goal.returns-then-first-self-clause-yes
-returns-then-first-self-clause-yes c = λ e. record { node = search rules; first = search rules; inputs = (told c).0 e }
+returns-then-first-self-clause-yes c = λ e. subst (λ (v : DeskView). IsFlying v (numbered c.args.node c.args.first c.args.inputs.now)) c.self.view_is (record { node = search rules; first = search rules; inputs = (told c).0 e })
 
 pub returns-then-first-self-clause-no : goal.returns-then-first-self-clause-no
-returns-then-first-self-clause-no c = λ e is. let yes = (told c).1 is.inputs in cc
+returns-then-first-self-clause-no c = λ e is.
+    let here = subst (λ (v : DeskView). IsFlying v (numbered c.args.node c.args.first c.args.inputs.now)) (sym c.self.view_is) is in
+    let yes = (told c).1 here.inputs in cc

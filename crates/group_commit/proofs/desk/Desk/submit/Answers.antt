@@ -1,55 +1,111 @@
-use Rattle.std.proofs.Common.{rules, ◌≡◌, ℕ, ◌∙◌, ◌++◌, List, [], sym, ap, true, length, nat_eq, if◌then◌else◌, Some, is_none, is_ok, arith}
-use Rattle.ring_records.specs.Admission.{fresh, IsLawful}
-use Rattle.ring_records.specs.Answer.{reply, gained}
-use Rattle.ring_records.specs.declared.input.Input.{Input}
+use Rattle.std.proofs.Common.{rules, ◌≡◌, ◌∙◌, ◌+◌, ◌∷◌, ◌++◌, ℕ, List, [], refl, sym, ap, subst, length, nat_eq, true, is_ok, Some, arith, length-append}
 use Rattle.std.specs.List.{cons_option}
-use Rattle.group_commit.specs.Kept.{answered_with, kept_in}
-use Rattle.group_commit.proofs.Numbers.{still_none, undone}
+use Rattle.std.specs.Map.{lookup, remove_entry}
+use Rattle.ring_records.specs.declared.input.Input.{Input}
+use Rattle.ring_records.specs.Admission.{fresh, IsLawful}
+use Rattle.ring_records.specs.Answer.{Answered, reply, gained}
+use Rattle.gated_journal.specs.Reading.{member}
+use Rattle.group_commit.specs.Desk.{DeskView, answered, submitted}
+use Rattle.group_commit.specs.declared.desk.Desk.TheInside.{Inside}
+use Rattle.group_commit.specs.Kept.{AreBelow}
+use Rattle.group_commit.specs.Ticket.{answered_with}
+use Rattle.group_commit.proofs.Numbers.{undone, found_last, below_next}
 use Rattle.group_commit.proofs.Opening.{at_place, on_ok}
 use Rattle.group_commit.proofs.desk.Desk.submit.Goals as goal
+use Rattle.group_commit.proofs.desk.Desk.submit.Goals.{After-take_back, After-accept}
 
--- nothing is kept that was not kept before
-same_kept : (c : goal.After-take_back) (other : ℕ) → kept_in c.take_back.new.tickets.entries other ≡ kept_in c.args.self.now.tickets.entries other
-same_kept c = undone (kept_in c.args.self.now.tickets.entries) (kept_in c.keep.new.tickets.entries) (kept_in c.take_back.new.tickets.entries) c.args.self.now.issued (record { question = c.args.question; answer = record { reply = c.judge.result.0; number = c.count_with-number.result } })
-    (c.args.self.now.given c.args.self.now.issued (omega arith)) (search rules) c.take_back.ensures
+-- the desk with these inputs and tickets
+abbrev shown_by : Inside → List Input → List (ℕ × Answered) → DeskView
+shown_by d inputs tickets = record { member = member d.node d.n d.capacity; run = d.run; state = record { inputs = inputs; durable = d.durable; flying = d.flying }; tickets = tickets; issued = d.issued; closed = d.is_closed; failed = d.is_failed }
+
+abbrev seen : Inside → DeskView
+seen d = shown_by d d.inputs.items d.tickets.entries
+
+abbrev next_by : Inside → List Input → List (ℕ × Answered) → DeskView
+next_by d inputs tickets = record (shown_by d inputs tickets) { issued = d.issued + 1 }
+
+-- what is taken back was not there before
+same_tickets : (c : After-take_back) → c.take_back.new.tickets.entries ≡ c.self.inside.tickets.entries
+same_tickets c =
+    let d = c.self.inside in
+    let kept : is_ok c.keep.result ≡ true = search rules in
+    c.take_back.ensures ∙ ap (remove_entry (nat_eq d.issued)) (on_ok c.keep.result kept c.keep.ensures.kept) ∙ undone d.issued _ d.tickets.entries c.self.invariant.given
 
 pub invariant_of-self-then-is_err-2 : goal.invariant_of-self-then-is_err-2
 invariant_of-self-then-is_err-2 c =
-    let j = c.args.self.now in
-    let items : c.accept.new.inputs.items ≡ j.inputs.items = search rules in
+    let i = c.self.invariant in
+    let items : c.accept.new.inputs.items ≡ c.self.inside.inputs.items = search rules in
     record {
       stands = search rules;
-      me = c.accept.ensures.place.0 ∙ j.me;
-      ring = c.accept.ensures.place.1 ∙ j.ring;
-      bytes = c.accept.ensures.place.2 ∙ j.bytes;
-      in_order = j.in_order;
+      me = c.accept.ensures.place.0 ∙ i.me;
+      ring = c.accept.ensures.place.1 ∙ i.ring;
+      bytes = c.accept.ensures.place.2 ∙ i.bytes;
+      in_order = i.in_order;
       accepted = search rules;
       lawful = search rules;
       holds = search rules;
-      given = λ own le. ap is_none (same_kept c own) ∙ j.given own le;
+      given = subst (λ (ts : List (ℕ × Answered)). AreBelow c.self.inside.issued ts) (sym (same_tickets (goal.at.invariant_of-self-then-is_err-2 c).After-take_back)) i.given;
     }
 
 pub returns-then-is_err-2-clause-same : goal.returns-then-is_err-2-clause-same
-returns-then-is_err-2-clause-same c = search rules
+returns-then-is_err-2-clause-same c =
+    let items : c.accept.new.inputs.items ≡ c.self.inside.inputs.items = search rules in
+    let same = same_tickets (goal.at.returns-then-is_err-2-clause-same c).After-take_back in
+    (λ i. shown_by c.self.inside (items i) (same i)) ∙ c.self.view_is
 
-pub invariant_of-self-2-clause-lawful : goal.invariant_of-self-2-clause-lawful
-invariant_of-self-2-clause-lawful c =
-    let j = c.args.self.now in
+-- what is kept is what the desk answers
+kept_is : (c : After-accept) → answered_with c.args.question c.judge.result.0 c.count_with-number.result ≡ answered (seen c.self.inside) c.args.question
+kept_is c =
+    let d = c.self.inside in
+    let i = c.self.invariant in
+    let replies = c.judge.ensures.reply d.inputs.items i.stands ∙ (λ k. reply (i.me k) (i.ring k) (i.bytes k) fresh d.inputs.items c.args.question) in
+    let gains = c.judge.ensures.input d.inputs.items i.stands ∙ (λ k. gained (i.me k) (i.ring k) (i.bytes k) fresh d.inputs.items c.args.question) in
+    let same : c.deref.result.now ≡ d.inputs.items = search rules in
+    let number = c.count_with-number.ensures ∙ ap (λ (l : List Input). length (l ++ cons_option c.judge.result.1 [])) same ∙ ap (λ (l : List Input). length (d.inputs.items ++ l)) gains in
+    λ k. answered_with c.args.question (replies k) (number k)
+
+-- the ticket stands behind the others
+tickets_are : (c : After-accept) → c.keep.new.tickets.entries ≡ c.self.inside.tickets.entries ++ (c.self.inside.issued, answered (seen c.self.inside) c.args.question) ∷ []
+tickets_are c =
+    let d = c.self.inside in
+    let kept : is_ok c.keep.result ≡ true = search rules in
+    on_ok c.keep.result kept c.keep.ensures.kept ∙ (λ k. d.tickets.entries ++ (d.issued, kept_is c k) ∷ [])
+
+pub invariant_of-self-2 : goal.invariant_of-self-2
+invariant_of-self-2 c =
+    let d = c.self.inside in
+    let i = c.self.invariant in
     let accepted : is_ok c.accept.result ≡ true = search rules in
     let grown = on_ok c.accept.result accepted c.accept.ensures.lawful in
-    at_place (λ me n capacity. IsLawful me n capacity fresh c.accept.new.inputs.items) j.me j.ring j.bytes (grown (at_place (λ me n capacity. IsLawful me n capacity fresh j.inputs.items) (sym j.me) (sym j.ring) (sym j.bytes) j.lawful))
+    let inputs = on_ok c.accept.result accepted c.accept.ensures.inputs in
+    record {
+      stands = search rules;
+      me = c.accept.ensures.place.0 ∙ i.me;
+      ring = c.accept.ensures.place.1 ∙ i.ring;
+      bytes = c.accept.ensures.place.2 ∙ i.bytes;
+      in_order = i.in_order;
+      accepted = omega (arith, i.accepted, ap length inputs, length-append d.inputs.items (cons_option c.judge.result.1 []));
+      lawful = at_place (λ me n capacity. IsLawful me n capacity fresh c.accept.new.inputs.items) i.me i.ring i.bytes (grown (at_place (λ me n capacity. IsLawful me n capacity fresh d.inputs.items) (sym i.me) (sym i.ring) (sym i.bytes) i.lawful));
+      holds = search rules;
+      given = subst (λ (ts : List (ℕ × Answered)). AreBelow (d.issued + 1) ts) (sym (tickets_are (goal.at.invariant_of-self-2 c).After-accept)) (below_next d.issued _ d.tickets.entries i.given);
+    }
 
-pub invariant_of-self-2-clause-given : goal.invariant_of-self-2-clause-given
-invariant_of-self-2-clause-given c =
-    still_none (kept_in c.args.self.now.tickets.entries) (kept_in c.keep.new.tickets.entries) c.args.self.now.issued (answered_with c.args.question c.judge.result.0 (c.count_with-number.result)) c.args.self.now.given (search rules)
+pub returns-clause-here : goal.returns-clause-here
+returns-clause-here c =
+    let d = c.self.inside in
+    let a = (goal.at.returns-clause-here c).After-accept in
+    record {
+      node = refl;
+      run = refl;
+      own = ap (λ (ts : List (ℕ × Answered)). lookup (nat_eq d.issued) ts) (tickets_are a) ∙ found_last d.issued _ d.tickets.entries c.self.invariant.given ∙ ap (λ (v : DeskView). Some (answered v c.args.question)) c.self.view_is;
+      question = refl;
+    }
 
-pub returns-clause-kept : goal.returns-clause-kept
-returns-clause-kept c =
-    let j = c.args.self.now in
-    let is_kept : is_ok c.keep.result ≡ true = search rules in
-    let stored = on_ok c.keep.result is_kept c.keep.ensures.kept in
-    let replies = c.judge.ensures.reply j.inputs.items j.stands ∙ (λ i. reply (j.me i) (j.ring i) (j.bytes i) fresh j.inputs.items c.args.question) in
-    let gains = c.judge.ensures.input j.inputs.items j.stands ∙ (λ i. gained (j.me i) (j.ring i) (j.bytes i) fresh j.inputs.items c.args.question) in
-    let same : c.deref.result.now ≡ j.inputs.items = search rules in
-    let number = c.count_with-number.ensures ∙ ap (λ (l : List Input). length (l ++ cons_option c.judge.result.1 [])) same ∙ ap (λ (l : List Input). length (j.inputs.items ++ l)) gains in
-    λ own. stored own ∙ (λ i. if nat_eq own j.issued then Some (answered_with c.args.question (replies i) (number i)) else kept_in j.tickets.entries own)
+pub returns-clause-next : goal.returns-clause-next
+returns-clause-next c =
+    let d = c.self.inside in
+    let i = c.self.invariant in
+    let a = (goal.at.returns-clause-next c).After-accept in
+    let accepted : is_ok c.accept.result ≡ true = search rules in
+    let inputs = on_ok c.accept.result accepted c.accept.ensures.inputs ∙ ap (λ (l : List Input). d.inputs.items ++ l) (c.judge.ensures.input d.inputs.items i.stands ∙ (λ k. gained (i.me k) (i.ring k) (i.bytes k) fresh d.inputs.items c.args.question)) in
+    (λ k. next_by d (inputs k) (tickets_are a k)) ∙ ap (λ (v : DeskView). submitted c.args.question v) c.self.view_is

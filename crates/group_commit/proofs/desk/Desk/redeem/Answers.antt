@@ -1,0 +1,20 @@
+use Rattle.std.proofs.Common.{ℕ, List, sym, subst}
+use Rattle.ring_records.specs.Answer.{Answered}
+use Rattle.group_commit.specs.Kept.{AreBelow}
+use Rattle.group_commit.proofs.Numbers.{below_without}
+use Rattle.group_commit.proofs.desk.Desk.redeem.Goals as goal
+
+pub invariant_of-self : goal.invariant_of-self
+invariant_of-self c =
+    let i = c.self.invariant in
+    record {
+      stands = i.stands;
+      me = i.me;
+      ring = i.ring;
+      bytes = i.bytes;
+      in_order = i.in_order;
+      accepted = i.accepted;
+      lawful = i.lawful;
+      holds = i.holds;
+      given = subst (λ (ts : List (ℕ × Answered)). AreBelow c.self.inside.issued ts) (sym c.take_back.ensures) (below_without _ _ _ i.given);
+    }
