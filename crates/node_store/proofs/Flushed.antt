@@ -14,12 +14,13 @@ use Rattle.ring_records.proofs.Counts.{used-push}
 use Rattle.ring_records.proofs.Lists.{along}
 use Rattle.gated_journal.specs.declared.batch.Batch.{Batch}
 use Rattle.gated_journal.specs.Batch.{Numbered, numbered, shown}
-use Rattle.gated_journal.specs.Reading.{Header, ReadsAs, AllReadAs, ReadsAsOneOf}
+use Rattle.gated_journal.specs.Reading.{Member, ReadsAs, AllReadAs, ReadsAsOneOf}
 use Rattle.gated_journal.proofs.Rest.{used-joined}
 use Rattle.gated_journal.proofs.Results.{of_some}
-use Rattle.group_commit.specs.Kept.{Place}
+use Rattle.group_commit.specs.Desk.{DeskView}
+use Rattle.group_commit.specs.Desk as desks
 use Rattle.ring_records.specs.Release.{packets, decisions, carries, credits}
-use Rattle.node_store.specs.State.{header_at, IsLeft, until, ReadsOnce, Stands}
+use Rattle.node_store.specs.State.{IsLeft, until, ReadsOnce, Stands}
 
 -- ---- costs
 
@@ -71,20 +72,20 @@ no_decisions me s whole = ap (decisions me (durable_in s)) (sym (nothing_flies s
 
 -- ---- a node that flushes
 
-module _ (place : Place) (s : NodeState) (failed : Bool) (header : Header) (disk : Disk) (spoiled : Bool) (len room : ℕ) (works : failed ≡ false) (stands : Stands place s failed header disk spoiled len room) where
-  forward : s.durable ≤ (launched s).flying
-  forward = omega (arith, stands.counts.durable, stands.counts.flying)
-
+module _ (desk : DeskView) (journal : Member) (disk : Disk) (spoiled : Bool) (len room : ℕ) (works : desk.failed ≡ false) (stands : Stands desk journal disk spoiled len room) where
   -- its images hold the durable inputs
-  pub all : AllReadAs header disk (durable_in s)
-  all image left = ⊎_elim (λ old. old) (λ new. absurd (new.0 (ap (λ k. take k s.inputs) (sym (stands.ready works).idle)))) (stands.holds image left)
+  pub all : AllReadAs journal disk (durable_in desk.state)
+  all image left = ⊎_elim (λ old. old) (λ new. absurd (new.0 (ap (λ k. take k desk.state.inputs) (sym (stands.ready works).idle)))) (stands.holds image left)
 
-  pub durable_all : (t : NodeState) → durable_in t ≡ durable_in s → AllReadAs (header_at place) disk (durable_in t)
-  durable_all t same = λ image left. subst (λ l. ReadsAs (header_at place) image l) (sym same) (subst (λ h. ReadsAs h image (durable_in s)) stands.named (all image left))
+  pub durable_all : (t : NodeState) → durable_in t ≡ durable_in desk.state → AllReadAs desk.member disk (durable_in t)
+  durable_all t same = λ image left. subst (λ l. ReadsAs desk.member image l) (sym same) (subst (λ m. ReadsAs m image (durable_in desk.state)) stands.named (all image left))
 
-module _ (place : Place) (s : NodeState) (failed : Bool) (header : Header) (disk : Disk) (spoiled : Bool) (len room : ℕ) (works : failed ≡ false) (stands : Stands place s failed header disk spoiled len room) (batch : List Input) (is : batch ≡ flying_in (launched s)) where
+module _ (desk : DeskView) (journal : Member) (disk : Disk) (spoiled : Bool) (len room : ℕ) (works : desk.failed ≡ false) (stands : Stands desk journal disk spoiled len room) (batch : List Input) (is : batch ≡ flying_in (launched desk.state)) where
+  abbrev s : NodeState
+  s = desk.state
+
   ahead : s.durable ≤ (launched s).flying
-  ahead = forward place s failed header disk spoiled len room works stands
+  ahead = omega (arith, stands.counts.durable, stands.counts.flying)
 
   whole : durable_in s ++ batch ≡ flown_in (launched s)
   whole = ap (λ l. durable_in s ++ l) is ∙ from_to s.durable (launched s).flying s.inputs ahead
@@ -99,48 +100,48 @@ module _ (place : Place) (s : NodeState) (failed : Bool) (header : Header) (disk
 
   -- the batch fits
   pub fits : used fresh batch ≤ room
-  fits = omega (arith, costs, used-front (launched s).flying s.inputs, used_within place.me place.n place.capacity s.inputs stands.lawful, (stands.ready works).left)
+  fits = omega (arith, costs, used-front (launched s).flying s.inputs, used_within desk.member.node desk.member.n desk.member.capacity s.inputs stands.lawful, (stands.ready works).left)
 
   -- it landed
-  pub lands : (failed' : Bool) (header' : Header) (disk' : Disk) (spoiled' : Bool) (len' room' : ℕ) → header' ≡ header → AllReadAs header disk' (durable_in s ++ batch) → spoiled' ≡ false
-      → len' ≡ len + length batch → room' ≡ room - used fresh batch → Stands place (landed (launched s)) failed' header' disk' spoiled' len' room'
-  lands failed' header' disk' spoiled' len' room' same read unspoiled longer less =
+  pub lands : (journal' : Member) (disk' : Disk) (spoiled' : Bool) (len' room' : ℕ) → journal' ≡ journal → AllReadAs journal disk' (durable_in s ++ batch) → spoiled' ≡ false
+      → len' ≡ len + length batch → room' ≡ room - used fresh batch → Stands (desks.landed (desks.launched desk)) journal' disk' spoiled' len' room'
+  lands journal' disk' spoiled' len' room' same read unspoiled longer less =
       let ready = stands.ready works in
       record {
         counts = record { durable = omega arith; flying = omega arith };
         lawful = stands.lawful;
         named = same ∙ stands.named;
-        holds = λ image left. inl (subst (λ h. ReadsAs h image (flown_in (launched s))) (sym same) (subst (λ l. ReadsAs header image l) whole (read image left)));
+        holds = λ image left. inl (subst (λ m. ReadsAs m image (flown_in (launched s))) (sym same) (subst (λ l. ReadsAs journal image l) whole (read image left)));
         ready = λ _. record { idle = refl; works = unspoiled; count = omega (arith, longer, ready.count, count); left = omega (arith, less, ready.left, costs) };
       }
 
   -- the device failed
-  once : (image : List ℕ) → ReadsAsOneOf header (durable_in s) (durable_in s ++ batch) image → ReadsOnce header (durable_in s) (flown_in (launched s)) image
+  once : (image : List ℕ) → ReadsAsOneOf journal (durable_in s) (durable_in s ++ batch) image → ReadsOnce journal (durable_in s) (flown_in (launched s)) image
   once image (inl old) = inl old
   once image (inr new) =
-      let flown : ReadsAs header image (flown_in (launched s)) = subst (λ l. ReadsAs header image l) whole new in
+      let flown : ReadsAs journal image (flown_in (launched s)) = subst (λ l. ReadsAs journal image l) whole new in
       ⊎_elim (λ lt. inr (shorter s.durable (launched s).flying s.inputs lt (omega arith), flown))
-      (λ le. inl (subst (λ k. ReadsAs header image (take k s.inputs)) (omega (arith, le, ahead)) flown)) (cases_lt s.durable (launched s).flying)
+      (λ le. inl (subst (λ k. ReadsAs journal image (take k s.inputs)) (omega (arith, le, ahead)) flown)) (cases_lt s.durable (launched s).flying)
 
-  pub breaks : (failed' : Bool) (header' : Header) (disk' : Disk) (spoiled' : Bool) (len' room' : ℕ) → failed' ≡ true → header' ≡ header
-      → ((image : List ℕ) → MayLeave disk' image → ReadsAsOneOf header (durable_in s) (durable_in s ++ batch) image) → Stands place (launched s) failed' header' disk' spoiled' len' room'
-  breaks failed' header' disk' spoiled' len' room' broken same read = record {
+  pub breaks : (journal' : Member) (disk' : Disk) (spoiled' : Bool) (len' room' : ℕ) → journal' ≡ journal
+      → ((image : List ℕ) → MayLeave disk' image → ReadsAsOneOf journal (durable_in s) (durable_in s ++ batch) image) → Stands (record (desks.launched desk) { failed = true }) journal' disk' spoiled' len' room'
+  breaks journal' disk' spoiled' len' room' same read = record {
     counts = record { durable = ahead; flying = omega arith };
     lawful = stands.lawful;
     named = same ∙ stands.named;
-    holds = λ image left. subst (λ h. ReadsOnce h (durable_in s) (flown_in (launched s)) image) (sym same) (once image (read image left));
-    ready = λ works'. let both = sym broken ∙ works' in absurd cc;
+    holds = λ image left. subst (λ m. ReadsOnce m (durable_in s) (flown_in (launched s)) image) (sym same) (once image (read image left));
+    ready = λ works'. absurd cc;
   }
 
   -- at each moment
-  pub moment : (t : NodeState) → t.flying ≡ (launched s).flying → (image : List ℕ) → ReadsAsOneOf header (durable_in s) (durable_in s ++ batch) image
-      → IsLeft (header_at place) (until s t) image
+  pub moment : (t : NodeState) → t.flying ≡ (launched s).flying → (image : List ℕ) → ReadsAsOneOf journal (durable_in s) (durable_in s ++ batch) image
+      → IsLeft desk.member (until s t) image
   moment t flown image read = record {
     lawful = stands.lawful;
-    reads = subst (λ l. ReadsAsOneOf (header_at place) (durable_in s) l image) (whole ∙ ap (λ k. take k s.inputs) (sym flown)) (subst (λ h. ReadsAsOneOf h (durable_in s) (durable_in s ++ batch) image) stands.named read);
+    reads = subst (λ l. ReadsAsOneOf desk.member (durable_in s) l image) (whole ∙ ap (λ k. take k s.inputs) (sym flown)) (subst (λ m. ReadsAsOneOf m (durable_in s) (durable_in s ++ batch) image) stands.named read);
   }
 
   -- and afterwards
-  pub landed_all : (t : NodeState) (disk' : Disk) → durable_in t ≡ flown_in (launched s) → AllReadAs header disk' (durable_in s ++ batch) → AllReadAs (header_at place) disk' (durable_in t)
+  pub landed_all : (t : NodeState) (disk' : Disk) → durable_in t ≡ flown_in (launched s) → AllReadAs journal disk' (durable_in s ++ batch) → AllReadAs desk.member disk' (durable_in t)
   landed_all t disk' flown read = λ image left.
-      subst (λ l. ReadsAs (header_at place) image l) (whole ∙ sym flown) (subst (λ h. ReadsAs h image (durable_in s ++ batch)) stands.named (read image left))
+      subst (λ l. ReadsAs desk.member image l) (whole ∙ sym flown) (subst (λ m. ReadsAs m image (durable_in s ++ batch)) stands.named (read image left))

@@ -7,42 +7,41 @@ use Rattle.ring_records.specs.declared.input.Input.{Input}
 use Rattle.ring_records.specs.declared.refusal.Refusal.{Refusal}
 use Rattle.ring_records.specs.declared.refusal.Refusal.TheVariants.{OutOfMemory}
 use Rattle.ring_records.specs.Admission.{fresh, IsAdmitted, IsLawful}
-use Rattle.ring_records.specs.Answer.{NodeState, opened, durable_in, flown_in, left_by}
+use Rattle.ring_records.specs.Answer.{NodeState, durable_in, flown_in, left_by}
 use Rattle.ring_records.specs.Lists.{EachAfter}
 use Rattle.ring_records.proofs.Admission.{admitted-free}
 use Rattle.ring_records.proofs.Growth.{EachAfter-at, EachAfter-take}
 use Rattle.ring_records.proofs.Lists.{none≢some}
 use Rattle.ring_records.proofs.LookBack.{IsItem, cut-item}
-use Rattle.gated_journal.specs.Reading.{Header, header_with, ReadsAs, AllReadAs, ReadsAsOneOf}
+use Rattle.gated_journal.specs.Reading.{Member, member, ReadsAs, AllReadAs, ReadsAsOneOf}
 use Rattle.gated_journal.specs.Unread.{IsFault, IsUnopened}
 use Rattle.gated_journal.proofs.Fault.{not_read}
 use Rattle.gated_journal.proofs.Unique.{unique_inputs, header_unique}
-use Rattle.group_commit.specs.Desk.{IsUnlawful}
-use Rattle.group_commit.specs.Kept.{Place, place_with}
-use Rattle.node_store.specs.State.{header_at, Holds}
+use Rattle.group_commit.specs.Desk.{DeskView, new_desk, IsUnlawful}
+use Rattle.node_store.specs.State.{Holds}
 
 -- ---- what is read
 
 -- what an image reads as that a stop may leave
-pub kept_by : (header other : Header) (s : NodeState) (image : List ℕ) (inputs : List Input) → ReadsAsOneOf header (durable_in s) (flown_in s) image → ReadsAs other image inputs
+pub kept_by : (header other : Member) (s : NodeState) (image : List ℕ) (inputs : List Input) → ReadsAsOneOf header (durable_in s) (flown_in s) image → ReadsAs other image inputs
     → (other ≡ header) × ((keep : Bool) × (inputs ≡ left_by keep s))
 kept_by header other s image inputs (inl old) read = (header_unique other header image read.at.head old.at.head, (false, unique_inputs other header image inputs (durable_in s) read old))
 kept_by header other s image inputs (inr new) read = (header_unique other header image read.at.head new.at.head, (true, unique_inputs other header image inputs (flown_in s) read new))
 
-left_reads : (header : Header) (s : NodeState) (image : List ℕ) (keep : Bool) → ReadsAs header image (left_by keep s) → ReadsAsOneOf header (durable_in s) (flown_in s) image
+left_reads : (header : Member) (s : NodeState) (image : List ℕ) (keep : Bool) → ReadsAs header image (left_by keep s) → ReadsAsOneOf header (durable_in s) (flown_in s) image
 left_reads header s image false read = inl read
 left_reads header s image true read = inr read
 
 -- ---- what is lawful
 
 -- what a stop leaves of a lawful history is lawful
-left_lawful : (me n capacity : ℕ) (s : NodeState) (keep : Bool) → IsLawful me n capacity fresh s.inputs → IsLawful me n capacity fresh (left_by keep s)
+pub left_lawful : (me n capacity : ℕ) (s : NodeState) (keep : Bool) → IsLawful me n capacity fresh s.inputs → IsLawful me n capacity fresh (left_by keep s)
 unfolding IsLawful
 left_lawful me n capacity s false lawful = EachAfter-take (IsAdmitted me n capacity fresh) s.durable s.inputs lawful
 left_lawful me n capacity s true lawful = EachAfter-take (IsAdmitted me n capacity fresh) s.flying s.inputs lawful
 
 -- no input of a lawful history is not admitted
-no_unlawful : (me n capacity : ℕ) (inputs : List Input) (why : Refusal) → IsLawful me n capacity fresh inputs → IsUnlawful me n capacity inputs why → ⊥
+no_unlawful : (me n capacity : ℕ) (inputs : List Input) (why : Refusal) → IsLawful me n capacity fresh inputs → IsUnlawful (member me n capacity) inputs why → ⊥
 unfolding IsLawful
 no_unlawful me n capacity inputs why lawful un =
     let front = take un.place inputs in
@@ -52,14 +51,14 @@ no_unlawful me n capacity inputs why lawful un =
     none≢some un.refused_for (sym (admitted-free me n capacity fresh front un.input admitted) ∙ un.because)
 
 -- so where a desk is not opened with one, memory is short
-pub short_only : (me n capacity : ℕ) (inputs : List Input) (why : Refusal) (Fault : Type 0) → IsLawful me n capacity fresh inputs → (why ≡ OutOfMemory) ⊎ IsUnlawful me n capacity inputs why → (why ≡ OutOfMemory) ⊎ Fault
+pub short_only : (me n capacity : ℕ) (inputs : List Input) (why : Refusal) (Fault : Type 0) → IsLawful me n capacity fresh inputs → (why ≡ OutOfMemory) ⊎ IsUnlawful (member me n capacity) inputs why → (why ≡ OutOfMemory) ⊎ Fault
 short_only me n capacity inputs why Fault lawful (inl short) = inl short
 short_only me n capacity inputs why Fault lawful (inr unlawful) = absurd (no_unlawful me n capacity inputs why lawful unlawful)
 
 -- ---- what is refused
 
 -- the device is handed back as it was, or synced
-pub still_holds : (header : Header) (s : NodeState) (old new : Disk) → MayLeave old old.image → (new ≡ old) ⊎ (new ≡ synced old) → Holds header old s → Holds header new s
+pub still_holds : (header : Member) (s : NodeState) (old new : Disk) → MayLeave old old.image → (new ≡ old) ⊎ (new ≡ synced old) → Holds header old s → Holds header new s
 still_holds header s old new stays (inl same) holds = subst (λ (disk : Disk). Holds header disk s) (sym same) holds
 still_holds header s old new stays (inr is) holds = λ image left.
     let only : image ≡ old.image = torn_none old.image image (subst (λ (disk : Disk). MayLeave disk image) is left) in
@@ -70,52 +69,47 @@ same_image old new (inl same) = ap (λ (disk : Disk). disk.image) same
 same_image old new (inr is) = ap (λ (disk : Disk). disk.image) is
 
 -- what is read stands in every image
-all_hold : (header : Header) (s : NodeState) (disk : Disk) (keep : Bool) → AllReadAs header disk (left_by keep s) → Holds header disk s
+all_hold : (header : Member) (s : NodeState) (disk : Disk) (keep : Bool) → AllReadAs header disk (left_by keep s) → Holds header disk s
 all_hold header s disk keep all = λ image left. left_reads header s image keep (all image left)
 
-some_list : (header : Header) (old new : List Input) (image : List ℕ) → ReadsAsOneOf header old new image → (inputs : List Input) × ReadsAs header image inputs
+some_list : (header : Member) (old new : List Input) (image : List ℕ) → ReadsAsOneOf header old new image → (inputs : List Input) × ReadsAs header image inputs
 some_list header old new image (inl read) = (old, read)
 some_list header old new image (inr read) = (new, read)
 
 -- an image that reads has no fault, so its journal is refused for the device or for memory
-pub no_fault : (node n capacity : ℕ) (s : NodeState) (before now : ℕ) (image : List ℕ) (why : Refusal) → ReadsAsOneOf (header_with node n capacity) (durable_in s) (flown_in s) image
+pub no_fault : (node n capacity : ℕ) (s : NodeState) (before now : ℕ) (image : List ℕ) (why : Refusal) → ReadsAsOneOf (member node n capacity) (durable_in s) (flown_in s) image
     → IsUnopened node n before now image why → (why ≡ OutOfMemory) ⊎ IsFault before now why
 no_fault node n capacity s before now image why read un =
-    let found = some_list (header_with node n capacity) (durable_in s) (flown_in s) image read in
+    let found = some_list (member node n capacity) (durable_in s) (flown_in s) image read in
     ⊎_elim (λ fault. inr fault)
-    (⊎_elim (λ short. inl short.2) (λ unread. absurd (not_read node n image why (header_with node n capacity) found.0 unread found.1 refl refl))) un.cause
+    (⊎_elim (λ short. inl short.2) (λ unread. absurd (not_read node n image why (member node n capacity) found.0 unread found.1 refl refl))) un.cause
 
 -- what a journal holds that a stop left is lawful
 pub lawful_again : (me n capacity found : ℕ) (s : NodeState) (keep : Bool) (inputs : List Input) → found ≡ capacity → inputs ≡ left_by keep s → IsLawful me n capacity fresh s.inputs → IsLawful me n found fresh inputs
 lawful_again me n capacity found s keep inputs capacity_is is lawful =
     subst (λ (k : ℕ). IsLawful me n k fresh inputs) (sym capacity_is) (subst (λ (l : List Input). IsLawful me n capacity fresh l) (sym is) (left_lawful me n capacity s keep lawful))
 
-pub holds_again : (header other : Header) (s : NodeState) (disk : Disk) (keep : Bool) (inputs : List Input) → other ≡ header → inputs ≡ left_by keep s → AllReadAs other disk inputs → Holds header disk s
+pub holds_again : (header other : Member) (s : NodeState) (disk : Disk) (keep : Bool) (inputs : List Input) → other ≡ header → inputs ≡ left_by keep s → AllReadAs other disk inputs → Holds header disk s
 holds_again header other s disk keep inputs same is all =
-    all_hold header s disk keep (subst (λ (h : Header). AllReadAs h disk (left_by keep s)) same (subst (λ (l : List Input). AllReadAs other disk l) is all))
+    all_hold header s disk keep (subst (λ (h : Member). AllReadAs h disk (left_by keep s)) same (subst (λ (l : List Input). AllReadAs other disk l) is all))
 
 -- ---- what it stands for
 
-pub capacity_again : (value : ℕ) (found header : Header) → value ≡ found.capacity → found ≡ header → value ≡ header.capacity
-capacity_again value found header is same = is ∙ ap (λ (h : Header). h.capacity) same
+pub capacity_again : (value : ℕ) (found header : Member) → value ≡ found.capacity → found ≡ header → value ≡ header.capacity
+capacity_again value found header is same = is ∙ ap (λ (h : Member). h.capacity) same
 
-pub place_again : (made : Place) (node n found capacity run : ℕ) → made ≡ place_with node n found run → found ≡ capacity → made ≡ place_with node n capacity run
-place_again made node n found capacity run is same = is ∙ ap (λ (k : ℕ). place_with node n k run) same
+pub named_again : (node n capacity : ℕ) (journal : Member) → journal.node ≡ node → journal.n ≡ n → capacity ≡ journal.capacity → journal ≡ member node n capacity
+named_again node n capacity journal node_is n_is capacity_is = λ i. record { node = node_is i; n = n_is i; capacity = sym capacity_is i }
 
-pub state_again : (made : NodeState) (inputs left : List Input) → made ≡ opened inputs → inputs ≡ left → made ≡ opened left
-state_again made inputs left is same = is ∙ ap opened same
-
-pub named_again : (node n capacity : ℕ) (header : Header) → header.node ≡ node → header.n ≡ n → capacity ≡ header.capacity → header ≡ header_with node n capacity
-named_again node n capacity header node_is n_is capacity_is = λ i. record { node = node_is i; n = n_is i; capacity = sym capacity_is i }
+pub made_again : (desk : DeskView) (node n found capacity run : ℕ) (inputs left : List Input) → desk ≡ new_desk (member node n found) run inputs → found ≡ capacity → inputs ≡ left → desk ≡ new_desk (member node n capacity) run left
+made_again desk node n found capacity run inputs left is capacity_is inputs_are = is ∙ (λ i. new_desk (member node n (capacity_is i)) run (inputs_are i))
 
 -- what the journal holds, told of the node that is made of it
-pub as_made : (P : Header → List Input → Type 0) (node n capacity run : ℕ) (header : Header) (inputs : List Input) (made : Place) (now : NodeState) → header.node ≡ node → header.n ≡ n → capacity ≡ header.capacity
-    → made ≡ place_with node n capacity run → now ≡ opened inputs → P header inputs → P (header_at made) now.inputs
-as_made P node n capacity run header inputs made now node_is n_is capacity_is place state holds =
-    let named = named_again node n capacity header node_is n_is capacity_is ∙ ap header_at (sym place) in
-    subst (λ (m : Header × List Input). P m.0 m.1) (λ i. (named i, (sym state i).inputs)) holds
+pub as_made : (P : Member → List Input → Type 0) (node n capacity run : ℕ) (journal : Member) (inputs : List Input) (desk : DeskView) → journal.node ≡ node → journal.n ≡ n → capacity ≡ journal.capacity
+    → desk ≡ new_desk (member node n capacity) run inputs → P journal inputs → P desk.member desk.state.inputs
+as_made P node n capacity run journal inputs desk node_is n_is capacity_is is holds =
+    subst (λ (d : DeskView). P d.member d.state.inputs) (sym is) (subst (λ (m : Member). P m inputs) (named_again node n capacity journal node_is n_is capacity_is) holds)
 
-pub lawful_made : (node n capacity run : ℕ) (inputs : List Input) (made : Place) (now : NodeState) → made ≡ place_with node n capacity run → now ≡ opened inputs
-    → IsLawful node n capacity fresh inputs → IsLawful node n made.capacity fresh now.inputs
-lawful_made node n capacity run inputs made now place state lawful =
-    subst (λ (m : Place × NodeState). IsLawful node n m.0.capacity fresh m.1.inputs) (λ i. (sym place i, sym state i)) lawful
+pub lawful_made : (node n capacity run : ℕ) (inputs : List Input) (desk : DeskView) → desk ≡ new_desk (member node n capacity) run inputs
+    → IsLawful node n capacity fresh inputs → IsLawful node n desk.member.capacity fresh desk.state.inputs
+lawful_made node n capacity run inputs desk is lawful = subst (λ (d : DeskView). IsLawful node n d.member.capacity fresh d.state.inputs) (sym is) lawful

@@ -1,19 +1,18 @@
 -- What keeps a node and its journal together.
-use Rattle.std.proofs.Common.{◌≡◌, ◌-◌, ◌≤◌, inl, ℕ, Bool, false, List, [], ◌++◌, inl, inr, ⊎_elim, length, take, Option, Some, None, refl, sym, subst, arith, append-nil, length-append}
+use Rattle.std.proofs.Common.{◌≡◌, ◌-◌, ◌≤◌, inl, ℕ, Bool, true, false, List, [], ◌++◌, inl, inr, ⊎_elim, length, take, Option, Some, None, refl, sym, subst, arith, append-nil, length-append}
 use Rattle.std.proofs.lemmas.List.{take_all, take-append-le}
 use Rattle.disk_model.specs.Disk.{Disk, MayLeave}
 use Rattle.ring_records.specs.declared.input.Input.{Input}
 use Rattle.ring_records.specs.declared.refusal.Refusal.{Refusal}
 use Rattle.ring_records.specs.declared.request.Request.{Request}
 use Rattle.ring_records.specs.Admission.{fresh, used, refusal, IsAdmitted, IsLawful}
-use Rattle.ring_records.specs.Answer.{NodeState, asked, opened, gained, input_of, if_free, if_input, durable_in, flown_in}
+use Rattle.ring_records.specs.Answer.{gained, input_of, if_free, if_input, durable_in, flown_in}
 use Rattle.ring_records.proofs.Admission.{refusal-admitted}
 use Rattle.ring_records.specs.Lists.{EachAfter}
 use Rattle.ring_records.proofs.Lists.{EachAfter-push}
-use Rattle.gated_journal.specs.Reading.{Header, AllReadAs, ReadsAsOneOf}
-use Rattle.group_commit.specs.Desk.{IsUnlawful}
-use Rattle.group_commit.specs.Kept.{Place}
-use Rattle.node_store.specs.State.{header_at, IsLeft, Stands}
+use Rattle.gated_journal.specs.Reading.{Member, AllReadAs, ReadsAsOneOf}
+use Rattle.group_commit.specs.Desk.{DeskView, new_desk, submitted, ended, IsUnlawful}
+use Rattle.node_store.specs.State.{IsLeft, Stands}
 
 -- ---- the history
 
@@ -33,42 +32,44 @@ lawful_asked me n capacity h q lawful = lawful_by me n capacity h (input_of q) l
 
 -- ---- the desk
 
-module _ (place : Place) (s : NodeState) (failed : Bool) (header : Header) (disk : Disk) (spoiled : Bool) (len room : ℕ) where
-  pub same : (place' : Place) (s' : NodeState) (failed' : Bool) → place' ≡ place → s' ≡ s → failed' ≡ failed
-      → Stands place s failed header disk spoiled len room → Stands place' s' failed' header disk spoiled len room
-  same place' s' failed' place_same state_same failed_same stands =
-      subst (λ (p : Place). Stands p s' failed' header disk spoiled len room) (sym place_same)
-      (subst (λ (t : NodeState). Stands place t failed' header disk spoiled len room) (sym state_same)
-      (subst (λ (b : Bool). Stands place s b header disk spoiled len room) (sym failed_same) stands))
-
+module _ (desk : DeskView) (journal : Member) (disk : Disk) (spoiled : Bool) (len room : ℕ) where
   -- what every image reads as that a stop may leave
-  pub held : Stands place s failed header disk spoiled len room → (image : List ℕ) → MayLeave disk image → ReadsAsOneOf (header_at place) (durable_in s) (flown_in s) image
-  held stands image left = subst (λ (h : Header). ReadsAsOneOf h (durable_in s) (flown_in s) image) stands.named (⊎_elim (λ old. inl old) (λ new. inr new.1) (stands.holds image left))
+  pub held : Stands desk journal disk spoiled len room → (image : List ℕ) → MayLeave disk image → ReadsAsOneOf desk.member (durable_in desk.state) (flown_in desk.state) image
+  held stands image left = subst (λ (m : Member). ReadsAsOneOf m (durable_in desk.state) (flown_in desk.state) image) stands.named (⊎_elim (λ old. inl old) (λ new. inr new.1) (stands.holds image left))
 
   -- each of these is left of it
-  pub left : Stands place s failed header disk spoiled len room → (image : List ℕ) → MayLeave disk image → IsLeft (header_at place) s image
+  pub left : Stands desk journal disk spoiled len room → (image : List ℕ) → MayLeave disk image → IsLeft desk.member desk.state image
   left stands image may = record { lawful = stands.lawful; reads = held stands image may }
 
   -- a request
-  pub asks : (q : Request) → Stands place s failed header disk spoiled len room → Stands place (asked place.me place.n place.capacity fresh s q) failed header disk spoiled len room
+  pub asks : (q : Request) → Stands desk journal disk spoiled len room → Stands (submitted q desk) journal disk spoiled len room
   asks q stands =
-      let more = gained place.me place.n place.capacity fresh s.inputs q in
+      let m = desk.member in
+      let s = desk.state in
+      let more = gained m.node m.n m.capacity fresh s.inputs q in
       let bound : s.durable ≤ length s.inputs = omega (arith, stands.counts.durable, stands.counts.flying) in
       let durable : take s.durable (s.inputs ++ more) ≡ take s.durable s.inputs = take-append-le s.durable s.inputs more bound in
       let flown : take s.flying (s.inputs ++ more) ≡ take s.flying s.inputs = take-append-le s.flying s.inputs more stands.counts.flying in
       record {
         counts = record { durable = stands.counts.durable; flying = omega (arith, stands.counts.flying, length-append s.inputs more) };
-        lawful = lawful_asked place.me place.n place.capacity s.inputs q stands.lawful;
+        lawful = lawful_asked m.node m.n m.capacity s.inputs q stands.lawful;
         named = stands.named;
         holds = rw (durable, flown) stands.holds;
         ready = λ works. let r = stands.ready works in record { idle = r.idle; works = r.works; count = r.count; left = rw durable r.left };
       }
 
+  -- a ticket that ends, and a node that is closed
+  pub ends : (own : ℕ) → Stands desk journal disk spoiled len room → Stands (ended own desk) journal disk spoiled len room
+  ends own stands = record { counts = stands.counts; lawful = stands.lawful; named = stands.named; holds = stands.holds; ready = stands.ready }
+
+  pub closes : Stands desk journal disk spoiled len room → Stands (record desk { closed = true }) journal disk spoiled len room
+  closes stands = record { counts = stands.counts; lawful = stands.lawful; named = stands.named; holds = stands.holds; ready = stands.ready }
+
 -- a node that is opened
-pub opens : (place : Place) (inputs : List Input) (failed : Bool) (header : Header) (disk : Disk) (spoiled : Bool) (len room : ℕ) → header ≡ header_at place
-    → IsLawful place.me place.n place.capacity fresh inputs → AllReadAs header disk inputs → spoiled ≡ false → len ≡ length inputs → room ≡ place.capacity - used fresh inputs
-    → Stands place (opened inputs) failed header disk spoiled len room
-opens place inputs failed header disk spoiled len room named lawful all works count left =
+pub opens : (member journal : Member) (run : ℕ) (inputs : List Input) (disk : Disk) (spoiled : Bool) (len room : ℕ) → journal ≡ member
+    → IsLawful member.node member.n member.capacity fresh inputs → AllReadAs journal disk inputs → spoiled ≡ false → len ≡ length inputs → room ≡ member.capacity - used fresh inputs
+    → Stands (new_desk member run inputs) journal disk spoiled len room
+opens member journal run inputs disk spoiled len room named lawful all works count left =
     let whole : take (length inputs) inputs ≡ inputs = take_all (length inputs) inputs (omega arith) in
     record {
       counts = record { durable = omega arith; flying = omega arith };
@@ -79,11 +80,11 @@ opens place inputs failed header disk spoiled len room named lawful all works co
     }
 
 -- a new node
-pub opens_empty : (place : Place) (failed : Bool) (header : Header) (disk : Disk) (spoiled : Bool) (len room : ℕ) → header ≡ header_at place
-    → AllReadAs header disk [] → spoiled ≡ false → len ≡ 0 → room ≡ place.capacity → Stands place (opened []) failed header disk spoiled len room
+pub opens_empty : (member journal : Member) (run : ℕ) (disk : Disk) (spoiled : Bool) (len room : ℕ) → journal ≡ member
+    → AllReadAs journal disk [] → spoiled ≡ false → len ≡ 0 → room ≡ member.capacity → Stands (new_desk member run []) journal disk spoiled len room
 unfolding IsLawful EachAfter used
-opens_empty place failed header disk spoiled len room named all works count left = opens place [] failed header disk spoiled len room named tt all works count (omega (arith, left))
+opens_empty member journal run disk spoiled len room named all works count left = opens member journal run [] disk spoiled len room named tt all works count (omega (arith, left))
 
 -- no list is empty and has an input that is not admitted
-pub not_unlawful : (me n capacity : ℕ) (why : Refusal) → IsUnlawful me n capacity [] why → ⊥
-not_unlawful me n capacity why un = cc
+pub not_unlawful : (member : Member) (why : Refusal) → IsUnlawful member [] why → ⊥
+not_unlawful member why un = cc

@@ -8,14 +8,14 @@ use Rattle.ring_records.specs.declared.input.Input.{Input}
 use Rattle.ring_records.specs.Admission.{fresh}
 use Rattle.ring_records.specs.Answer.{NodeState, durable_in, flown_in}
 use Rattle.ring_records.specs.Props.{IsLawful-prop}
-use Rattle.gated_journal.specs.Reading.{Header}
+use Rattle.gated_journal.specs.Reading.{Member}
 use Rattle.gated_journal.proofs.Once.{ReadsAs-prop}
 use Rattle.gated_journal.proofs.Unique.{unique_inputs}
-use Rattle.group_commit.specs.Kept.{Place}
+use Rattle.group_commit.specs.Desk.{DeskView}
 use Rattle.node_store.specs.State.{ReadsOnce, IsReady, Stands}
 
 -- an image does not read as two lists
-ReadsOnce-prop : (header : Header) (old new : List Input) (image : List ℕ) → IsProp (ReadsOnce header old new image)
+ReadsOnce-prop : (header : Member) (old new : List Input) (image : List ℕ) → IsProp (ReadsOnce header old new image)
 ReadsOnce-prop header old new image (inl p) (inl q) = λ i. inl (ReadsAs-prop header image old p q i)
 ReadsOnce-prop header old new image (inl p) (inr q) = absurd (q.0 (unique_inputs header header image old new p q.1))
 ReadsOnce-prop header old new image (inr p) (inl q) = absurd (p.0 (unique_inputs header header image old new q p.1))
@@ -24,8 +24,8 @@ ReadsOnce-prop header old new image (inr p) (inr q) = λ i. inr (apart p.0 q.0 i
     apart : IsProp (old ≢ new)
     apart = hlevel props
 
-IsReady-prop : (place : Place) (s : NodeState) (spoiled : Bool) (len room : ℕ) → IsProp (IsReady place s spoiled len room)
-IsReady-prop place s spoiled len room p q =
+IsReady-prop : (capacity : ℕ) (s : NodeState) (spoiled : Bool) (len room : ℕ) → IsProp (IsReady capacity s spoiled len room)
+IsReady-prop capacity s spoiled len room p q =
     let number_set : IsSet ℕ = hlevel props in
     let bool_set : IsSet Bool = hlevel props in
     λ i. record {
@@ -35,13 +35,14 @@ IsReady-prop place s spoiled len room p q =
       left = number_set _ _ p.left q.left i;
     }
 
-pub Stands-prop : (place : Place) (s : NodeState) (failed : Bool) (header : Header) (disk : Disk) (spoiled : Bool) (len room : ℕ) → IsProp (Stands place s failed header disk spoiled len room)
-Stands-prop place s failed header disk spoiled len room p q =
-    let header_set : IsSet Header = hlevel props in
+pub Stands-prop : (desk : DeskView) (journal : Member) (disk : Disk) (spoiled : Bool) (len room : ℕ) → IsProp (Stands desk journal disk spoiled len room)
+Stands-prop desk journal disk spoiled len room p q =
+    let s = desk.state in
+    let member_set : IsSet Member = hlevel props in
     λ i. record {
       counts = record { durable = le_prop p.counts.durable q.counts.durable i; flying = le_prop p.counts.flying q.counts.flying i };
-      lawful = IsLawful-prop place.me place.n place.capacity fresh s.inputs p.lawful q.lawful i;
-      named = header_set _ _ p.named q.named i;
-      holds = λ image left. ReadsOnce-prop header (durable_in s) (flown_in s) image (p.holds image left) (q.holds image left) i;
-      ready = λ works. IsReady-prop place s spoiled len room (p.ready works) (q.ready works) i;
+      lawful = IsLawful-prop desk.member.node desk.member.n desk.member.capacity fresh s.inputs p.lawful q.lawful i;
+      named = member_set _ _ p.named q.named i;
+      holds = λ image left. ReadsOnce-prop journal (durable_in s) (flown_in s) image (p.holds image left) (q.holds image left) i;
+      ready = λ works. IsReady-prop desk.member.capacity s spoiled len room (p.ready works) (q.ready works) i;
     }

@@ -3,7 +3,7 @@ use Rattle.std.specs.Prelude.{◌≡◌, ◌⊎◌, ℕ, List}
 use Rattle.ring_records.specs.declared.input.Input.{Input}
 use Rattle.ring_records.specs.declared.refusal.Refusal.{Refusal}
 use Rattle.ring_records.specs.declared.refusal.Refusal.TheVariants.{OutOfMemory}
-use Rattle.gated_journal.specs.Reading.{header_with, ReadsAs}
+use Rattle.gated_journal.specs.Reading.{member, ReadsAs}
 use Rattle.gated_journal.specs.Unread.{IsUnopened}
 use Rattle.group_commit.specs.Desk.{IsUnlawful}
 
@@ -11,14 +11,14 @@ use Rattle.group_commit.specs.Desk.{IsUnlawful}
 pub record IsNotLawful (node n : ℕ) (image : List ℕ) (why : Refusal) : Type 0 where
   pub capacity : ℕ
   pub inputs : List Input
-  pub reads : ReadsAs (header_with node n capacity) image inputs
-  pub unlawful : IsUnlawful node n capacity inputs why
+  pub reads : ReadsAs (member node n capacity) image inputs
+  pub unlawful : IsUnlawful (member node n capacity) inputs why
 
 -- the image reads as inputs of this node, and memory for them is not found
 pub record IsShort (node n : ℕ) (image : List ℕ) (why : Refusal) : Type 0 where
   pub capacity : ℕ
   pub inputs : List Input
-  pub reads : ReadsAs (header_with node n capacity) image inputs
+  pub reads : ReadsAs (member node n capacity) image inputs
   pub is : why ≡ OutOfMemory
 
 -- the node's journal is not opened, or it is, and the node does not stand for what it holds

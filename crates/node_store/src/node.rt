@@ -1,22 +1,21 @@
-ghost use Rattle.std.specs.Prelude.{◌≡◌, ◌+◌, ◌-◌, ◌⊎◌, ◌||◌, ◌<◌, ◌≤◌, ℕ, Bool, [], length, not, true, false, Some, None, nat_eq, if◌then◌else◌, IfOk, IfErr, OnOk, OnErr};
+ghost use Rattle.std.specs.Prelude.{◌≡◌, ◌+◌, ◌-◌, ◌⊎◌, ◌||◌, ◌<◌, ◌≤◌, ℕ, Bool, [], length, not, true, false, None, Some, IfOk, IfErr, OnOk, OnErr};
 ghost use Rattle.disk_model.specs.Disk.{MayLeave, LeavesOnly, synced};
 ghost use Rattle.ring_records.specs.Admission.{fresh, IsLawful};
-ghost use Rattle.ring_records.specs.Answer.{Answered, NodeState, asked, opened, launched, landed, durable_in, flying_in, left_by};
+ghost use Rattle.ring_records.specs.Answer.{Answered, NodeState, durable_in, flying_in, left_by};
 ghost use Rattle.ring_records.specs.Emission.{sent};
 ghost use Rattle.ring_records.specs.History.{taken, credit};
 ghost use Rattle.ring_records.specs.Release.{packets, decisions, window, AreLeaders};
 ghost use Rattle.gated_journal.specs.Batch.{landed as receipted, lost};
 ghost use Rattle.gated_journal.specs.Journal as journals;
-ghost use Rattle.gated_journal.specs.Reading.{header_with, is_header, ReadsAs, AllReadAs};
+ghost use Rattle.gated_journal.specs.Reading.{member, is_header, ReadsAs, AllReadAs};
 ghost use Rattle.gated_journal.specs.Unread.{IsFault, IsUnread};
-ghost use Rattle.group_commit.specs.Desk as desks;
-ghost use Rattle.group_commit.specs.Kept.{IsCount, place_with};
+ghost use Rattle.group_commit.specs.Desk.{new_desk, answered, ticket_for, submitted, ended, launched, landed, objection, IsHere, IsSealed, IsFlying};
 ghost use Rattle.node_store.specs.Props.{Stands-prop};
 ghost use Rattle.node_store.specs.Recovery.{IsNotLawful, IsUnrecovered};
-ghost use Rattle.node_store.specs.State.{header_at, Holds, IsLeft, until, Stands};
+ghost use Rattle.node_store.specs.State.{Holds, IsLeft, until, Stands};
 
 use disk_model::{Device, FuseDevice};
-use gated_journal::{Journal, Receipt, Spoiled};
+use gated_journal::{Journal, Receipt, Spoiled, is_header};
 use group_commit::{Desk, Landed, Stub, Ticket};
 use ring_records::{Decision, Input, NodeNo, Packet, Refusal, Reply, Request};
 use std::alloc::{AllocError, Global};
@@ -27,13 +26,12 @@ pub struct Node<D: Device> {
     alloc: Global,
     desk: Desk,
     journal: Journal<D>,
-    ghost stands: { Stands (desks.place_of desk) (desks.state_of desk) (desks.is_failed desk) (journals.header_of journal) (D.disk (journals.device_of journal)) (journals.is_spoiled journal) (journals.len_of journal) (journals.room_of journal) } by { Stands-prop (desks.place_of desk) (desks.state_of desk) (desks.is_failed desk) (journals.header_of journal) (D.disk (journals.device_of journal)) (journals.is_spoiled journal) (journals.len_of journal) (journals.room_of journal) },
+    ghost stands: { Stands desk (journals.member_of journal) (D.disk (journals.device_of journal)) (journals.is_spoiled journal) (journals.len_of journal) (journals.room_of journal) } by { Stands-prop desk (journals.member_of journal) (D.disk (journals.device_of journal)) (journals.is_spoiled journal) (journals.len_of journal) (journals.room_of journal) },
 }
 
 impl<D: Device> Node<D> {
-    ghost use Rattle.group_commit.specs.Desk.{answered, objection, IsHere, IsSealed};
-    ghost use Rattle.group_commit.specs.Ticket.{shown, stub, ticket_with};
-    ghost use Rattle.node_store.specs.Node.{desk_of, place_of, state_of, kept_at, issued_by, is_closed, is_failed, device_of};
+    ghost use Rattle.group_commit.specs.Ticket.{shown, stub};
+    ghost use Rattle.node_store.specs.Node.{desk_of, state_of, device_of};
 
     /// A new node, which has accepted nothing, on a device that is formatted for it. Refused as 2 where `n` is not 2 to
     /// 16, `node` is above it, or the capacity is not 4,096 to 1,048,576 bytes, as 15, and as 8. What the device holds
@@ -46,22 +44,18 @@ impl<D: Device> Node<D> {
         capacity: u32,
         run: u64,
     ) -> Result<Node<D>, (D, Refusal)>
-        ensures place { IfOk result (λ made. place_of made ≡ place_with node n capacity run) }
-        ensures state { IfOk result (λ made. state_of made ≡ opened []) }
-        ensures kept { IfOk result (λ made. (own : ℕ) → kept_at made own ≡ None) }
-        ensures issued { IfOk result (λ made. issued_by made ≡ 0) }
-        ensures ready { IfOk result (λ made. (is_closed made ≡ false) × (is_failed made ≡ false)) }
-        ensures empty { IfOk result (λ made. AllReadAs (header_with node n capacity) (D.disk (device_of made)) []) }
-        ensures range { OnOk result (is_header (header_with node n capacity) ≡ true) }
+        ensures desk { IfOk result (λ made. desk_of made ≡ new_desk (member node n capacity) run []) }
+        ensures empty { IfOk result (λ made. AllReadAs (member node n capacity) (D.disk (device_of made)) []) }
+        ensures range { OnOk result (is_header (member node n capacity) ≡ true) }
         ensures same { IfOk result (λ made. D.count (device_of made) ≡ D.count device) }
         ensures reach { IfOk result (λ made. D.reach (device_of made) ≡ D.reach device) }
 
         // Refused as 2 or 8, the device is as it was; as 15, the device failed.
-        ensures number { IfErr result (λ e. is_header (header_with node n capacity) ≡ false → (e.1 ≡ Refusal.BadNumber) × (e.0 ≡ device)) }
-        ensures fault { IfErr result (λ e. is_header (header_with node n capacity) ≡ true → IsFault (D.count device) (D.count e.0) e.1 ⊎ ((e.1 ≡ Refusal.OutOfMemory) × (e.0 ≡ device))) }
+        ensures number { IfErr result (λ e. is_header (member node n capacity) ≡ false → (e.1 ≡ Refusal.BadNumber) × (e.0 ≡ device)) }
+        ensures fault { IfErr result (λ e. is_header (member node n capacity) ≡ true → IsFault (D.count device) (D.count e.0) e.1 ⊎ ((e.1 ≡ Refusal.OutOfMemory) × (e.0 ≡ device))) }
         ensures works { 0 < D.reach device → 17 ≤ D.reach device → IfErr result (λ e. (e.1 ≡ Refusal.BadNumber) ⊎ (e.1 ≡ Refusal.OutOfMemory)) }
     {
-        if !is_in_range(node, n, capacity) {
+        if !is_header(node, n, capacity) {
             return Err((device, Refusal::BadNumber));
         }
         match Desk::open(alloc, node, n, capacity, run, Vec::new(alloc)) {
@@ -88,28 +82,24 @@ impl<D: Device> Node<D> {
         n: u8,
         run: u64,
     ) -> Result<Node<D>, (D, Refusal)>
-        ensures place { IfOk result (λ made. place_of made ≡ place_with node n (place_of made).capacity run) }
-        ensures state { IfOk result (λ made. state_of made ≡ opened (state_of made).inputs) }
-        ensures kept { IfOk result (λ made. (own : ℕ) → kept_at made own ≡ None) }
-        ensures issued { IfOk result (λ made. issued_by made ≡ 0) }
-        ensures ready { IfOk result (λ made. (is_closed made ≡ false) × (is_failed made ≡ false)) }
-        ensures lawful { IfOk result (λ made. IsLawful node n (place_of made).capacity fresh (state_of made).inputs) }
+        ensures desk { IfOk result (λ made. desk_of made ≡ new_desk (member node n (desk_of made).member.capacity) run (state_of made).inputs) }
+        ensures lawful { IfOk result (λ made. IsLawful node n (desk_of made).member.capacity fresh (state_of made).inputs) }
 
         // Its inputs stood on the device at the start, and stand in every image that a stop may leave afterwards.
-        ensures reads { IfOk result (λ made. ReadsAs (header_at (place_of made)) (D.disk device).image (state_of made).inputs) }
-        ensures durable { IfOk result (λ made. AllReadAs (header_at (place_of made)) (D.disk (device_of made)) (state_of made).inputs) }
+        ensures reads { IfOk result (λ made. ReadsAs (desk_of made).member (D.disk device).image (state_of made).inputs) }
+        ensures durable { IfOk result (λ made. AllReadAs (desk_of made).member (D.disk (device_of made)) (state_of made).inputs) }
 
         // A node that was stopped stands again for its durable inputs, or also for those that flew. It is refused only
         // where the device fails or memory is not found, and then the device holds what it held.
-        ensures recovery { (capacity : ℕ) (s : NodeState) → IsLawful node n capacity fresh s.inputs → Holds (header_with node n capacity) (D.disk device) s
-            → IfOk result (λ made. (place_of made ≡ place_with node n capacity run) × ((keep : Bool) × (state_of made ≡ opened (left_by keep s)))) }
-        ensures recovery_err { (capacity : ℕ) (s : NodeState) → IsLawful node n capacity fresh s.inputs → Holds (header_with node n capacity) (D.disk device) s
-            → IfErr result (λ e. ((e.1 ≡ Refusal.OutOfMemory) ⊎ IsFault (D.count device) (D.count e.0) e.1) × Holds (header_with node n capacity) (D.disk e.0) s) }
+        ensures recovery { (capacity : ℕ) (s : NodeState) → IsLawful node n capacity fresh s.inputs → Holds (member node n capacity) (D.disk device) s
+            → IfOk result (λ made. (keep : Bool) × (desk_of made ≡ new_desk (member node n capacity) run (left_by keep s))) }
+        ensures recovery_err { (capacity : ℕ) (s : NodeState) → IsLawful node n capacity fresh s.inputs → Holds (member node n capacity) (D.disk device) s
+            → IfErr result (λ e. ((e.1 ≡ Refusal.OutOfMemory) ⊎ IsFault (D.count device) (D.count e.0) e.1) × Holds (member node n capacity) (D.disk e.0) s) }
 
         // The same of what is read alone, whatever a stop may leave: of a file that was just opened no more is known.
-        ensures image { (capacity : ℕ) (s : NodeState) → IsLeft (header_with node n capacity) s (D.disk device).image
-            → IfOk result (λ made. (place_of made ≡ place_with node n capacity run) × ((keep : Bool) × (state_of made ≡ opened (left_by keep s)))) }
-        ensures image_err { (capacity : ℕ) (s : NodeState) → IsLeft (header_with node n capacity) s (D.disk device).image
+        ensures image { (capacity : ℕ) (s : NodeState) → IsLeft (member node n capacity) s (D.disk device).image
+            → IfOk result (λ made. (keep : Bool) × (desk_of made ≡ new_desk (member node n capacity) run (left_by keep s))) }
+        ensures image_err { (capacity : ℕ) (s : NodeState) → IsLeft (member node n capacity) s (D.disk device).image
             → IfErr result (λ e. ((e.1 ≡ Refusal.OutOfMemory) ⊎ IsFault (D.count device) (D.count e.0) e.1) × ((D.disk e.0).image ≡ (D.disk device).image)) }
 
         // A refusal has its cause. While the device works it is the image's, or want of memory.
@@ -151,15 +141,12 @@ impl<D: Device> Node<D> {
     /// where it is closed or has failed, as 2 where a Take's message is of no node of the ring, as 6 at 2^60 tickets,
     /// and as 8. Every other refusal is a reply.
     pub fn submit(&mut self, question: Request) -> Result<Ticket, Refusal>
-        ensures ticket { IfOk result (λ ticket. shown ticket ≡ ticket_with (place_of self.old) (issued_by self.old) (answered (desk_of self.old) question)) }
-        ensures state { OnOk result (state_of self.new ≡ asked (place_of self.old).me (place_of self.old).n (place_of self.old).capacity fresh (state_of self.old) question) }
-        ensures kept { OnOk result ((own : ℕ) → kept_at self.new own ≡ (if nat_eq own (issued_by self.old) then Some (answered (desk_of self.old) question) else kept_at self.old own)) }
-        ensures issued { OnOk result (issued_by self.new ≡ issued_by self.old + 1) }
-        ensures refusal { IfErr result (λ refusal. (objection (desk_of self.old) question ≡ Some refusal) ⊎ ((objection (desk_of self.old) question ≡ None) × (refusal ≡ Refusal.OutOfMemory))) }
+        ensures ticket { IfOk result (λ ticket. shown ticket ≡ ticket_for question (desk_of self.old)) }
+        ensures next { OnOk result (desk_of self.new ≡ submitted question (desk_of self.old)) }
+        ensures here { IfOk result (λ ticket. IsHere (desk_of self.new) (shown ticket) (answered (desk_of self.old) question)) }
         ensures free { OnOk result (objection (desk_of self.old) question ≡ None) }
-        ensures place { place_of self.new ≡ place_of self.old }
-        ensures ready { (is_closed self.new ≡ is_closed self.old) × (is_failed self.new ≡ is_failed self.old) }
-        ensures same { OnErr result ((state_of self.new ≡ state_of self.old) × (issued_by self.new ≡ issued_by self.old) × ((own : ℕ) → kept_at self.new own ≡ kept_at self.old own)) }
+        ensures refusal { IfErr result (λ refusal. (objection (desk_of self.old) question ≡ Some refusal) ⊎ ((objection (desk_of self.old) question ≡ None) × (refusal ≡ Refusal.OutOfMemory))) }
+        ensures same { OnErr result (desk_of self.new ≡ desk_of self.old) }
         ensures device { device_of self.new ≡ device_of self.old }
     {
         self.desk.submit(question)
@@ -172,14 +159,10 @@ impl<D: Device> Node<D> {
         ensures released { IfOk result (λ r. IsHere (desk_of self.old) (shown ticket) (stub r.1)) }
         ensures reply { IfOk result (λ r. r.0 ≡ (stub r.1).answer.reply) }
         ensures durable { IfOk result (λ r. (stub r.1).answer.number ≤ (state_of self.old).durable) }
-        ensures ends { OnOk result ((own : ℕ) → kept_at self.new own ≡ (if nat_eq own (shown ticket).own then None else kept_at self.old own)) }
+        ensures next { OnOk result (desk_of self.new ≡ ended (shown ticket).own (desk_of self.old)) }
         ensures refusal { IfErr result (λ e. IsSealed (desk_of self.old) (shown ticket) e.1) }
         ensures back { IfErr result (λ e. shown e.0 ≡ shown ticket) }
-        ensures same { OnErr result ((own : ℕ) → kept_at self.new own ≡ kept_at self.old own) }
-        ensures place { place_of self.new ≡ place_of self.old }
-        ensures state { state_of self.new ≡ state_of self.old }
-        ensures issued { issued_by self.new ≡ issued_by self.old }
-        ensures ready { (is_closed self.new ≡ is_closed self.old) × (is_failed self.new ≡ is_failed self.old) }
+        ensures same { OnErr result (desk_of self.new ≡ desk_of self.old) }
         ensures device { device_of self.new ≡ device_of self.old }
     {
         self.desk.redeem(ticket)
@@ -188,16 +171,12 @@ impl<D: Device> Node<D> {
     /// Ends a ticket with no reply, on a node that is closed or has failed. Refused as 10 where no such ticket is open
     /// here, and the ticket comes back.
     pub fn forfeit(&mut self, ticket: Ticket) -> Result<(), (Ticket, Refusal)>
-        requires ended { (is_closed self.old || is_failed self.old) ≡ true }
+        requires over { ((desk_of self.old).closed || (desk_of self.old).failed) ≡ true }
         ensures here { OnOk result ((kept : Answered) × IsHere (desk_of self.old) (shown ticket) kept) }
-        ensures ends { OnOk result ((own : ℕ) → kept_at self.new own ≡ (if nat_eq own (shown ticket).own then None else kept_at self.old own)) }
+        ensures next { OnOk result (desk_of self.new ≡ ended (shown ticket).own (desk_of self.old)) }
         ensures foreign { IfErr result (λ e. (e.1 ≡ Refusal.Foreign) × ((kept : Answered) → IsHere (desk_of self.old) (shown ticket) kept → ⊥)) }
         ensures back { IfErr result (λ e. shown e.0 ≡ shown ticket) }
-        ensures same { OnErr result ((own : ℕ) → kept_at self.new own ≡ kept_at self.old own) }
-        ensures place { place_of self.new ≡ place_of self.old }
-        ensures state { state_of self.new ≡ state_of self.old }
-        ensures issued { issued_by self.new ≡ issued_by self.old }
-        ensures ready { (is_closed self.new ≡ is_closed self.old) × (is_failed self.new ≡ is_failed self.old) }
+        ensures same { OnErr result (desk_of self.new ≡ desk_of self.old) }
         ensures device { device_of self.new ≡ device_of self.old }
     {
         self.desk.forfeit(ticket)
@@ -206,7 +185,7 @@ impl<D: Device> Node<D> {
     /// The inputs that it accepted, oldest first.
     pub fn history(&self) -> &[Input]
         ensures inputs { result.now ≡ (state_of self.now).inputs }
-        ensures lawful { IsLawful (place_of self.now).me (place_of self.now).n (place_of self.now).capacity fresh result.now }
+        ensures lawful { IsLawful (desk_of self.now).member.node (desk_of self.now).member.n (desk_of self.now).member.capacity fresh result.now }
     {
         self.desk.history()
     }
@@ -220,7 +199,7 @@ impl<D: Device> Node<D> {
 
     /// How many messages its inputs sent to the successor.
     pub fn sent(&self) -> u64
-        ensures { result ≡ length (sent (place_of self.now).me (state_of self.now).inputs) }
+        ensures { result ≡ length (sent (desk_of self.now).member.node (state_of self.now).inputs) }
     {
         self.desk.sent()
     }
@@ -249,26 +228,21 @@ impl<D: Device> Node<D> {
     /// The messages of its durable inputs that the successor is not known to have taken, as Carry packets in order:
     /// those from the last durable credit on. They may be released again.
     pub fn window(&self) -> Result<Vec<Packet>, AllocError>
-        ensures { IfOk result (λ packets. packets.items ≡ window (place_of self.now).me (durable_in (state_of self.now))) }
+        ensures { IfOk result (λ packets. packets.items ≡ window (desk_of self.now).member.node (durable_in (state_of self.now))) }
     {
         self.desk.window()
     }
 
     /// A decision for each key whose leader its durable inputs tell, in order of key.
     pub fn decisions(&self) -> Result<Vec<Decision>, AllocError>
-        ensures { IfOk result (λ decisions. AreLeaders (place_of self.now).me (durable_in (state_of self.now)) decisions.items) }
+        ensures { IfOk result (λ decisions. AreLeaders (desk_of self.now).member.node (durable_in (state_of self.now)) decisions.items) }
     {
         self.desk.decisions()
     }
 
     /// Takes no more requests; all else goes on.
     pub fn close(&mut self)
-        ensures closed { is_closed self.new ≡ true }
-        ensures failed { is_failed self.new ≡ is_failed self.old }
-        ensures place { place_of self.new ≡ place_of self.old }
-        ensures state { state_of self.new ≡ state_of self.old }
-        ensures issued { issued_by self.new ≡ issued_by self.old }
-        ensures same { (own : ℕ) → kept_at self.new own ≡ kept_at self.old own }
+        ensures next { desk_of self.new ≡ record (desk_of self.old) { closed = true } }
         ensures device { device_of self.new ≡ device_of self.old }
     {
         self.desk.close();
@@ -276,14 +250,14 @@ impl<D: Device> Node<D> {
 
     /// Whether it takes requests: it was not closed and has not failed.
     pub fn is_open(&self) -> bool
-        ensures { result ≡ not (is_closed self.now || is_failed self.now) }
+        ensures { result ≡ not ((desk_of self.now).closed || (desk_of self.now).failed) }
     {
         self.desk.is_open()
     }
 
     /// How many tickets are open: given, and neither redeemed nor forfeited.
     pub fn open_tickets(&self) -> usize
-        ensures { IsCount (kept_at self.now) result }
+        ensures { result ≡ length (desk_of self.now).tickets }
     {
         self.desk.open_tickets()
     }
@@ -291,29 +265,26 @@ impl<D: Device> Node<D> {
     /// Makes the first inputs that wait durable, at most 64, and tells what they let the node release; nothing where
     /// none waits. Refused as 9 where it has failed, as 15, after which it has failed, and as 8.
     pub fn flush(&mut self) -> Result<Landed, Refusal>
-        ensures state { OnOk result (state_of self.new ≡ landed (launched (state_of self.old))) }
-        ensures count { IfOk result (λ l. l.count ≡ (launched (state_of self.old)).flying - (state_of self.old).durable) }
-        ensures packets { IfOk result (λ l. l.packets.items ≡ packets (place_of self.old).me (durable_in (state_of self.old)) (flying_in (launched (state_of self.old)))) }
-        ensures decisions { IfOk result (λ l. l.decisions.items ≡ decisions (place_of self.old).me (durable_in (state_of self.old)) (flying_in (launched (state_of self.old)))) }
-        ensures durable { OnOk result (AllReadAs (header_at (place_of self.old)) (D.disk (device_of self.new)) (durable_in (state_of self.new))) }
-        ensures works { OnOk result ((is_failed self.old ≡ false) × (is_failed self.new ≡ false)) }
+        ensures next { OnOk result (desk_of self.new ≡ landed (launched (desk_of self.old))) }
+        ensures count { IfOk result (λ l. l.count ≡ (launched (desk_of self.old)).state.flying - (state_of self.old).durable) }
+        ensures packets { IfOk result (λ l. l.packets.items ≡ packets (desk_of self.old).member.node (durable_in (state_of self.old)) (flying_in (launched (desk_of self.old)).state)) }
+        ensures decisions { IfOk result (λ l. l.decisions.items ≡ decisions (desk_of self.old).member.node (durable_in (state_of self.old)) (flying_in (launched (desk_of self.old)).state)) }
+        ensures durable { OnOk result (AllReadAs (desk_of self.old).member (D.disk (device_of self.new)) (durable_in (state_of self.new))) }
+        ensures works { OnOk result ((desk_of self.old).failed ≡ false) }
 
         // Refused as 9 where it had failed, and nowhere else; as 15, the device failed, and the batch flies for good.
-        ensures failed { IfErr result (λ why. is_failed self.old ≡ true → why ≡ Refusal.Failed) }
-        ensures cause { IfErr result (λ why. is_failed self.old ≡ false → IsFault (D.count (device_of self.old)) (D.count (device_of self.new)) why ⊎ (why ≡ Refusal.OutOfMemory)) }
-        ensures fault { IfErr result (λ why. IsFault (D.count (device_of self.old)) (D.count (device_of self.new)) why → (is_failed self.new ≡ true) × (state_of self.new ≡ launched (state_of self.old))) }
-        ensures same { IfErr result (λ why. (why ≡ Refusal.Failed) ⊎ (why ≡ Refusal.OutOfMemory)
-            → (state_of self.new ≡ state_of self.old) × (is_failed self.new ≡ is_failed self.old) × (device_of self.new ≡ device_of self.old)) }
-        ensures in_reach { 0 < D.reach (device_of self.old) → 17 + (place_of self.old).capacity ≤ D.reach (device_of self.old) → IfErr result (λ why. (why ≡ Refusal.Failed) ⊎ (why ≡ Refusal.OutOfMemory)) }
+        ensures failed { IfErr result (λ why. (desk_of self.old).failed ≡ true → why ≡ Refusal.Failed) }
+        ensures cause { IfErr result (λ why. (desk_of self.old).failed ≡ false → IsFault (D.count (device_of self.old)) (D.count (device_of self.new)) why ⊎ (why ≡ Refusal.OutOfMemory)) }
+        ensures fault { IfErr result (λ why. IsFault (D.count (device_of self.old)) (D.count (device_of self.new)) why → desk_of self.new ≡ record (launched (desk_of self.old)) { failed = true }) }
+        ensures same { IfErr result (λ why. (why ≡ Refusal.Failed) ⊎ (why ≡ Refusal.OutOfMemory) → (desk_of self.new ≡ desk_of self.old) × (device_of self.new ≡ device_of self.old)) }
+        ensures in_reach { 0 < D.reach (device_of self.old)
+            → 17 + (desk_of self.old).member.capacity ≤ D.reach (device_of self.old) → IfErr result (λ why. (why ≡ Refusal.Failed) ⊎ (why ≡ Refusal.OutOfMemory)) }
 
         // A stop at any moment leaves the inputs that were durable, or also those that flew then.
-        ensures any_moment { LeavesOnly D.clock D.left_since (device_of self.old) (device_of self.new) (IsLeft (header_at (place_of self.old)) (until (state_of self.old) (state_of self.new))) }
+        ensures any_moment { LeavesOnly D.clock D.left_since (device_of self.old) (device_of self.new) (IsLeft (desk_of self.old).member (until (state_of self.old) (state_of self.new))) }
+        ensures stays { desk_of self.new ≡ record (desk_of self.old) { state = state_of self.new; failed = (desk_of self.new).failed } }
         ensures device { OnOk result (D.count (device_of self.new) ≡ D.count (device_of self.old)) }
         ensures reach { D.reach (device_of self.new) ≡ D.reach (device_of self.old) }
-        ensures place { place_of self.new ≡ place_of self.old }
-        ensures closed { is_closed self.new ≡ is_closed self.old }
-        ensures issued { issued_by self.new ≡ issued_by self.old }
-        ensures kept { (own : ℕ) → kept_at self.new own ≡ kept_at self.old own }
     {
         match self.desk.launch() {
             Err(refusal) => Err(refusal),
@@ -334,14 +305,14 @@ impl<D: Device> Node<D> {
 
     /// Ends a node that is closed or has failed and has no open ticket, and gives its device.
     pub fn into_device(self) -> D
-        requires ended { (is_closed self || is_failed self) ≡ true }
-        requires spent { IsCount (kept_at self) 0 }
+        requires over { ((desk_of self).closed || (desk_of self).failed) ≡ true }
+        requires spent { length (desk_of self).tickets ≡ 0 }
         ensures device { result ≡ device_of self }
-        ensures lawful { IsLawful (place_of self).me (place_of self).n (place_of self).capacity fresh (state_of self).inputs }
+        ensures lawful { IsLawful (desk_of self).member.node (desk_of self).member.n (desk_of self).member.capacity fresh (state_of self).inputs }
 
         // A stop leaves the inputs that were durable, or also those that flew.
-        ensures holds { Holds (header_at (place_of self)) (D.disk result) (state_of self) }
-        ensures durable { is_failed self ≡ false → AllReadAs (header_at (place_of self)) (D.disk result) (durable_in (state_of self)) }
+        ensures holds { Holds (desk_of self).member (D.disk result) (state_of self) }
+        ensures durable { (desk_of self).failed ≡ false → AllReadAs (desk_of self).member (D.disk result) (durable_in (state_of self)) }
     {
         let Node {
             alloc: _,
@@ -355,7 +326,7 @@ impl<D: Device> Node<D> {
 impl<D: Device> Node<FuseDevice<D>> {
     ghost use Rattle.disk_model.specs.Fuse.{planned};
     ghost use Rattle.disk_model.specs.FuseDevice.{inner_of, will_fail, own_faults};
-    ghost use Rattle.node_store.specs.Node.{place_of, state_of, kept_at, issued_by, is_closed, is_failed, device_of};
+    ghost use Rattle.node_store.specs.Node.{desk_of, device_of};
 
     /// Sets the device's fuse anew: from now on `after` of its calls pass, and then the next fails if `once`, else all
     /// later ones.
@@ -363,11 +334,7 @@ impl<D: Device> Node<FuseDevice<D>> {
         ensures fuse { (k : ℕ) → will_fail (device_of self.new) k ≡ planned after once k }
         ensures inner { inner_of (device_of self.new) ≡ inner_of (device_of self.old) }
         ensures faults { own_faults (device_of self.new) ≡ own_faults (device_of self.old) }
-        ensures place { place_of self.new ≡ place_of self.old }
-        ensures state { state_of self.new ≡ state_of self.old }
-        ensures issued { issued_by self.new ≡ issued_by self.old }
-        ensures ready { (is_closed self.new ≡ is_closed self.old) × (is_failed self.new ≡ is_failed self.old) }
-        ensures same { (own : ℕ) → kept_at self.new own ≡ kept_at self.old own }
+        ensures desk { desk_of self.new ≡ desk_of self.old }
     {
         self.journal.arm(after, once);
     }
@@ -375,16 +342,12 @@ impl<D: Device> Node<FuseDevice<D>> {
 
 // The batch that flies is durable.
 fn land(desk: &mut Desk, receipt: Receipt) -> Landed
-    requires works { desks.is_failed desk.old ≡ false }
-    requires flying { desks.IsFlying desk.old (receipted receipt) }
-    ensures count { result.count ≡ (desks.state_of desk.old).flying - (desks.state_of desk.old).durable }
-    ensures packets { result.packets.items ≡ packets (desks.place_of desk.old).me (durable_in (desks.state_of desk.old)) (flying_in (desks.state_of desk.old)) }
-    ensures decisions { result.decisions.items ≡ decisions (desks.place_of desk.old).me (durable_in (desks.state_of desk.old)) (flying_in (desks.state_of desk.old)) }
-    ensures state { desks.state_of desk.new ≡ landed (desks.state_of desk.old) }
-    ensures ready { (desks.is_closed desk.new ≡ desks.is_closed desk.old) × (desks.is_failed desk.new ≡ false) }
-    ensures place { desks.place_of desk.new ≡ desks.place_of desk.old }
-    ensures issued { desks.issued_by desk.new ≡ desks.issued_by desk.old }
-    ensures same { (own : ℕ) → desks.kept_at desk.new own ≡ desks.kept_at desk.old own }
+    requires works { desk.old.failed ≡ false }
+    requires flying { IsFlying desk.old (receipted receipt) }
+    ensures count { result.count ≡ desk.old.state.flying - desk.old.state.durable }
+    ensures packets { result.packets.items ≡ packets desk.old.member.node (durable_in desk.old.state) (flying_in desk.old.state) }
+    ensures decisions { result.decisions.items ≡ decisions desk.old.member.node (durable_in desk.old.state) (flying_in desk.old.state) }
+    ensures next { desk.new ≡ landed desk.old }
 {
     match desk.land(receipt) {
         Ok(landed) => landed,
@@ -394,23 +357,11 @@ fn land(desk: &mut Desk, receipt: Receipt) -> Landed
 
 // The device failed with the batch that flies.
 fn fail(desk: &mut Desk, spoiled: Spoiled)
-    requires flying { desks.IsFlying desk.old (lost spoiled) }
-    ensures failed { desks.is_failed desk.new ≡ true }
-    ensures closed { desks.is_closed desk.new ≡ desks.is_closed desk.old }
-    ensures place { desks.place_of desk.new ≡ desks.place_of desk.old }
-    ensures state { desks.state_of desk.new ≡ desks.state_of desk.old }
-    ensures issued { desks.issued_by desk.new ≡ desks.issued_by desk.old }
-    ensures same { (own : ℕ) → desks.kept_at desk.new own ≡ desks.kept_at desk.old own }
+    requires flying { IsFlying desk.old (lost spoiled) }
+    ensures next { desk.new ≡ record desk.old { failed = true } }
 {
     match desk.fail(spoiled) {
         Ok(()) => {}
         Err(_) => unreachable!(),
     }
-}
-
-// Whether a node of this number, in a ring of `n` and with this capacity, may be.
-fn is_in_range(node: NodeNo, n: u8, capacity: u32) -> bool
-    ensures { result ≡ is_header (header_with node n capacity) }
-{
-    2 <= n && n <= 16 && node.number() <= n && 4096 <= capacity && capacity <= 1_048_576
 }

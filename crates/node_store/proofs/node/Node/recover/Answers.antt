@@ -1,15 +1,14 @@
-use Rattle.std.proofs.Common.{◌≡◌, ◌-◌, ⊎_elim, inl, inr, false, sym, ap, ◌∙◌, subst, arith}
+use Rattle.std.proofs.Common.{◌≡◌, ◌-◌, ⊎_elim, inl, inr, sym, ap, ◌∙◌, subst, arith}
 use Rattle.disk_model.specs.Disk.{Disk}
 use Rattle.ring_records.specs.Admission.{fresh, used}
-use Rattle.ring_records.specs.Answer.{NodeState, opened, left_by}
+use Rattle.ring_records.specs.Answer.{left_by}
 use Rattle.gated_journal.specs.Journal as journals
-use Rattle.gated_journal.specs.Reading.{header_with, ReadsAs, AllReadAs}
+use Rattle.gated_journal.specs.Reading.{Member, member, ReadsAs, AllReadAs}
 use Rattle.gated_journal.specs.Unread.{IsFault}
-use Rattle.group_commit.specs.Desk as desks
-use Rattle.group_commit.specs.Kept.{Place, place_with}
-use Rattle.node_store.specs.State.{header_at, Holds}
-use Rattle.node_store.proofs.Recovered.{kept_by, short_only, lawful_again, still_holds, same_image, holds_again, no_fault, capacity_again, place_again, state_again, named_again, lawful_made, as_made}
-use Rattle.node_store.proofs.Standing.{same, opens}
+use Rattle.group_commit.specs.Desk.{DeskView, new_desk}
+use Rattle.node_store.specs.State.{Holds, Stands}
+use Rattle.node_store.proofs.Recovered.{kept_by, short_only, lawful_again, still_holds, same_image, holds_again, no_fault, capacity_again, made_again, named_again, lawful_made, as_made}
+use Rattle.node_store.proofs.Standing.{opens}
 use Rattle.node_store.proofs.node.Node.recover.Goals as goal
 
 pub invariant_of-result : goal.invariant_of-result
@@ -18,15 +17,14 @@ invariant_of-result g c =
     let journal = c.in-Ok.journal in
     let disk = g.D.Device.disk (journals.device_of journal) in
     let inputs = c.in-Ok.inputs.items in
-    let place = place_with c.args.node c.args.n c.capacity.result c.args.run in
+    let here = member c.args.node c.args.n c.capacity.result in
     let made = c.in-Ok-open.ensures in
     let read = c.in-Ok.ensures in
-    let named : journals.header_of journal ≡ header_at place = named_again c.args.node c.args.n c.capacity.result (journals.header_of journal) read.header.0 read.header.1 c.capacity.ensures.value in
+    let named : journals.member_of journal ≡ here = named_again c.args.node c.args.n c.capacity.result (journals.member_of journal) read.header.0 read.header.1 c.capacity.ensures.value in
     let left : journals.room_of journal ≡ c.capacity.result - used fresh inputs = omega (arith, read.room, c.capacity.ensures.value) in
     record {
-      stands = same place (opened inputs) false (journals.header_of journal) disk (journals.is_spoiled journal) (journals.len_of journal) (journals.room_of journal) (desks.place_of desk) (desks.state_of desk) (desks.is_failed desk)
-          made.place made.state made.ready.1
-          (opens place inputs false (journals.header_of journal) disk (journals.is_spoiled journal) (journals.len_of journal) (journals.room_of journal) named (made.lawful) read.durable read.ready read.len left);
+      stands = subst (λ (d : DeskView). Stands d (journals.member_of journal) disk (journals.is_spoiled journal) (journals.len_of journal) (journals.room_of journal)) (sym made.desk)
+          (opens here (journals.member_of journal) c.args.run inputs disk (journals.is_spoiled journal) (journals.len_of journal) (journals.room_of journal) named made.lawful read.durable read.ready read.len left);
     }
 
 pub returns-in-Err-clause-recovery_err : goal.returns-in-Err-clause-recovery_err
@@ -34,7 +32,7 @@ returns-in-Err-clause-recovery_err g c = λ capacity s lawful holds.
     let old = g.D.Device.disk c.args.device in
     let stays = g.met.D.Device.may_stay c.args.device in (
       no_fault c.args.node c.args.n capacity s _ _ old.image c.in-Err.refusal (holds old.image stays) c.in-Err.ensures.refusal,
-      still_holds (header_with c.args.node c.args.n capacity) s old (g.D.Device.disk c.in-Err.device) stays c.in-Err.ensures.kept holds,
+      still_holds (member c.args.node c.args.n capacity) s old (g.D.Device.disk c.in-Err.device) stays c.in-Err.ensures.kept holds,
     )
 
 pub returns-in-Err-clause-image_err : goal.returns-in-Err-clause-image_err
@@ -50,47 +48,40 @@ returns-in-Err-clause-refusal g c = record { cause = inl c.in-Err.ensures.refusa
 pub returns-in-Err-clause-works : goal.returns-in-Err-clause-works
 returns-in-Err-clause-works g c = λ reach fits. ⊎_elim (λ short. inl short) (λ unread. inr (inl unread)) (c.in-Err.ensures.works reach fits)
 
-pub returns-in-Ok-open-clause-place : goal.returns-in-Ok-open-clause-place
-returns-in-Ok-open-clause-place g c =
-    c.in-Ok-open.ensures.place ∙ ap (λ (p : Place). place_with c.args.node c.args.n p.capacity c.args.run) (sym c.in-Ok-open.ensures.place)
-
-pub returns-in-Ok-open-clause-state : goal.returns-in-Ok-open-clause-state
-returns-in-Ok-open-clause-state g c = c.in-Ok-open.ensures.state ∙ ap (λ (s : NodeState). opened s.inputs) (sym c.in-Ok-open.ensures.state)
+pub returns-in-Ok-open-clause-desk : goal.returns-in-Ok-open-clause-desk
+returns-in-Ok-open-clause-desk g c =
+    let desk = c.in-Ok-open.ensures.desk in
+    desk ∙ ap (λ (d : DeskView). new_desk (member c.args.node c.args.n d.member.capacity) c.args.run d.state.inputs) (sym desk)
 
 pub returns-in-Ok-open-clause-lawful : goal.returns-in-Ok-open-clause-lawful
 returns-in-Ok-open-clause-lawful g c =
-    let desk = c.in-Ok-open.desk in
-    lawful_made c.args.node c.args.n c.capacity.result c.args.run c.in-Ok.inputs.items (desks.place_of desk) (desks.state_of desk) c.in-Ok-open.ensures.place c.in-Ok-open.ensures.state c.in-Ok-open.ensures.lawful
+    lawful_made c.args.node c.args.n c.capacity.result c.args.run c.in-Ok.inputs.items c.in-Ok-open.desk c.in-Ok-open.ensures.desk c.in-Ok-open.ensures.lawful
 
 pub returns-in-Ok-open-clause-reads : goal.returns-in-Ok-open-clause-reads
 returns-in-Ok-open-clause-reads g c =
-    let desk = c.in-Ok-open.desk in
     let read = c.in-Ok.ensures in
     let image = (g.D.Device.disk c.args.device).image in
-    as_made (λ header inputs. ReadsAs header image inputs) c.args.node c.args.n c.capacity.result c.args.run (journals.header_of c.in-Ok.journal) c.in-Ok.inputs.items (desks.place_of desk) (desks.state_of desk)
-    read.header.0 read.header.1 c.capacity.ensures.value c.in-Ok-open.ensures.place c.in-Ok-open.ensures.state read.reads
+    as_made (λ m inputs. ReadsAs m image inputs) c.args.node c.args.n c.capacity.result c.args.run (journals.member_of c.in-Ok.journal) c.in-Ok.inputs.items c.in-Ok-open.desk
+    read.header.0 read.header.1 c.capacity.ensures.value c.in-Ok-open.ensures.desk read.reads
 
 pub returns-in-Ok-open-clause-durable : goal.returns-in-Ok-open-clause-durable
 returns-in-Ok-open-clause-durable g c =
-    let desk = c.in-Ok-open.desk in
     let read = c.in-Ok.ensures in
     let disk = g.D.Device.disk (journals.device_of c.in-Ok.journal) in
-    as_made (λ header inputs. AllReadAs header disk inputs) c.args.node c.args.n c.capacity.result c.args.run (journals.header_of c.in-Ok.journal) c.in-Ok.inputs.items (desks.place_of desk) (desks.state_of desk)
-    read.header.0 read.header.1 c.capacity.ensures.value c.in-Ok-open.ensures.place c.in-Ok-open.ensures.state read.durable
+    as_made (λ m inputs. AllReadAs m disk inputs) c.args.node c.args.n c.capacity.result c.args.run (journals.member_of c.in-Ok.journal) c.in-Ok.inputs.items c.in-Ok-open.desk
+    read.header.0 read.header.1 c.capacity.ensures.value c.in-Ok-open.ensures.desk read.durable
 
 pub returns-in-Ok-open-clause-recovery : goal.returns-in-Ok-open-clause-recovery
 returns-in-Ok-open-clause-recovery g c = λ capacity s lawful holds.
     let image = (g.D.Device.disk c.args.device).image in
-    let found = kept_by (header_with c.args.node c.args.n capacity) (journals.header_of c.in-Ok.journal) s image c.in-Ok.inputs.items (holds image (g.met.D.Device.may_stay c.args.device)) c.in-Ok.ensures.reads in
-    let capacity_is : c.capacity.result ≡ capacity = capacity_again c.capacity.result (journals.header_of c.in-Ok.journal) (header_with c.args.node c.args.n capacity) c.capacity.ensures.value found.0 in (
-      place_again (desks.place_of c.in-Ok-open.desk) c.args.node c.args.n c.capacity.result capacity c.args.run c.in-Ok-open.ensures.place capacity_is,
-      (found.1.0, state_again (desks.state_of c.in-Ok-open.desk) c.in-Ok.inputs.items (left_by found.1.0 s) c.in-Ok-open.ensures.state found.1.1),
-    )
+    let found = kept_by (member c.args.node c.args.n capacity) (journals.member_of c.in-Ok.journal) s image c.in-Ok.inputs.items (holds image (g.met.D.Device.may_stay c.args.device)) c.in-Ok.ensures.reads in
+    let capacity_is : c.capacity.result ≡ capacity = capacity_again c.capacity.result (journals.member_of c.in-Ok.journal) (member c.args.node c.args.n capacity) c.capacity.ensures.value found.0 in
+    (found.1.0, made_again c.in-Ok-open.desk c.args.node c.args.n c.capacity.result capacity c.args.run c.in-Ok.inputs.items (left_by found.1.0 s) c.in-Ok-open.ensures.desk capacity_is found.1.1)
 
 pub returns-in-Err-open-clause-recovery_err : goal.returns-in-Err-open-clause-recovery_err
 returns-in-Err-open-clause-recovery_err g c = λ capacity s lawful holds.
-    let header = header_with c.args.node c.args.n capacity in
-    let other = journals.header_of c.in-Ok.journal in
+    let header = member c.args.node c.args.n capacity in
+    let other = journals.member_of c.in-Ok.journal in
     let image = (g.D.Device.disk c.args.device).image in
     let inputs = c.in-Ok.inputs.items in
     let found = kept_by header other s image inputs (holds image (g.met.D.Device.may_stay c.args.device)) c.in-Ok.ensures.reads in
@@ -104,16 +95,14 @@ returns-in-Err-open-clause-recovery_err g c = λ capacity s lawful holds.
 pub returns-in-Ok-open-clause-image : goal.returns-in-Ok-open-clause-image
 returns-in-Ok-open-clause-image g c = λ capacity s left.
     let image = (g.D.Device.disk c.args.device).image in
-    let found = kept_by (header_with c.args.node c.args.n capacity) (journals.header_of c.in-Ok.journal) s image c.in-Ok.inputs.items left.reads c.in-Ok.ensures.reads in
-    let capacity_is : c.capacity.result ≡ capacity = capacity_again c.capacity.result (journals.header_of c.in-Ok.journal) (header_with c.args.node c.args.n capacity) c.capacity.ensures.value found.0 in (
-      place_again (desks.place_of c.in-Ok-open.desk) c.args.node c.args.n c.capacity.result capacity c.args.run c.in-Ok-open.ensures.place capacity_is,
-      (found.1.0, state_again (desks.state_of c.in-Ok-open.desk) c.in-Ok.inputs.items (left_by found.1.0 s) c.in-Ok-open.ensures.state found.1.1),
-    )
+    let found = kept_by (member c.args.node c.args.n capacity) (journals.member_of c.in-Ok.journal) s image c.in-Ok.inputs.items left.reads c.in-Ok.ensures.reads in
+    let capacity_is : c.capacity.result ≡ capacity = capacity_again c.capacity.result (journals.member_of c.in-Ok.journal) (member c.args.node c.args.n capacity) c.capacity.ensures.value found.0 in
+    (found.1.0, made_again c.in-Ok-open.desk c.args.node c.args.n c.capacity.result capacity c.args.run c.in-Ok.inputs.items (left_by found.1.0 s) c.in-Ok-open.ensures.desk capacity_is found.1.1)
 
 pub returns-in-Err-open-clause-image_err : goal.returns-in-Err-open-clause-image_err
 returns-in-Err-open-clause-image_err g c = λ capacity s left.
-    let header = header_with c.args.node c.args.n capacity in
-    let other = journals.header_of c.in-Ok.journal in
+    let header = member c.args.node c.args.n capacity in
+    let other = journals.member_of c.in-Ok.journal in
     let old = g.D.Device.disk c.args.device in
     let inputs = c.in-Ok.inputs.items in
     let found = kept_by header other s old.image inputs left.reads c.in-Ok.ensures.reads in

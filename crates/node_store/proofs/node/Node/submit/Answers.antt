@@ -1,17 +1,18 @@
-use Rattle.group_commit.specs.Desk as desks
+use Rattle.std.proofs.Common.{sym, subst}
 use Rattle.gated_journal.specs.Journal as journals
+use Rattle.group_commit.specs.Desk.{DeskView}
+use Rattle.node_store.specs.State.{Stands}
 use Rattle.node_store.proofs.Results.{of_both}
-use Rattle.node_store.proofs.Standing.{same, asks}
+use Rattle.node_store.proofs.Standing.{asks}
 use Rattle.node_store.proofs.node.Node.submit.Goals as goal
 
 pub invariant_of-self : goal.invariant_of-self
 invariant_of-self g c =
     let node = c.args.self.now in
-    let new = c.submit.new.self in
-    let disk = g.D.Device.disk (journals.device_of node.journal) in
-    let failed = c.submit.ensures.ready.1 in
+    let journal = node.journal in
+    let P = λ (d : DeskView). Stands d (journals.member_of journal) (g.D.Device.disk (journals.device_of journal)) (journals.is_spoiled journal) (journals.len_of journal) (journals.room_of journal) in
     record {
-      stands = of_both c.submit.result _ _ _ c.submit.ensures.state c.submit.ensures.same
-          (λ state. same _ _ _ _ disk _ _ _ (desks.place_of new) (desks.state_of new) (desks.is_failed new) c.submit.ensures.place state failed (asks _ _ _ _ disk _ _ _ c.args.question node.stands))
-          (λ as_before. same _ _ _ _ disk _ _ _ (desks.place_of new) (desks.state_of new) (desks.is_failed new) c.submit.ensures.place as_before.0 failed node.stands);
+      stands = of_both c.submit.result _ _ _ c.submit.ensures.next c.submit.ensures.same
+          (λ next. subst P (sym next) (asks _ _ _ _ _ _ c.args.question node.stands))
+          (λ as_before. subst P (sym as_before) node.stands);
     }
