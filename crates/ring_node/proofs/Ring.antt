@@ -12,17 +12,17 @@ use Rattle.ring_records.specs.Answer.{NodeState, launched, left_by, flying_in}
 use Rattle.ring_records.specs.Emission.{sent}
 use Rattle.ring_records.specs.Release.{packets}
 use Rattle.ring_records.proofs.Leader.{Contains-nil}
-use Rattle.gated_journal.specs.Reading.{header_with, is_header}
+use Rattle.gated_journal.specs.Reading.{member, is_header}
 use Rattle.node_store.specs.State.{Holds}
 use Rattle.ring_node.specs.Messages.{carried_in}
 use Rattle.ring_node.specs.Node.{NodeView, new_node, state_of, durable_in, asked_with, flushed, restarted, left}
 use Rattle.ring_node.specs.Served.{shown_by, IsPlaced, AreInside, IsRingNode}
 use Rattle.ring_node.proofs.Sending.{sent-none, sent-batch, batch-few, inside, inside-front}
 
-me_within : (me n capacity : ℕ) → is_header (header_with me n capacity) ≡ true → me ≤ n
+me_within : (me n capacity : ℕ) → is_header (member me n capacity) ≡ true → me ≤ n
 me_within me n capacity range = grind (arith, nat_tests)
 
-module _ (me n capacity : ℕ) (range : is_header (header_with me n capacity) ≡ true) where
+module _ (me n capacity : ℕ) (range : is_header (member me n capacity) ≡ true) where
   -- a node that is opened, and the messages of all its inputs
   starts : (inputs : List Input) (messages : List Msg) → IsLawful me n capacity fresh inputs → messages ≡ sent me inputs → IsRingNode me n capacity (Some (restarted inputs (new_node me n capacity))) messages
   unfolding restarted
@@ -125,9 +125,9 @@ named me n capacity served messages ring v is = named_here me n capacity served 
 -- by the names of a node that is down
 module _ (v down : NodeView) (same : down ≡ new_node v.me v.n v.capacity) where
   -- what a device holds
-  pub held_down : (disk : Disk) (s : NodeState) → IsLawful v.me v.n v.capacity fresh s.inputs → Holds (header_with v.me v.n v.capacity) disk s
-      → IsLawful down.me down.n down.capacity fresh s.inputs × Holds (header_with down.me down.n down.capacity) disk s
-  held_down disk s lawful holds = subst (λ (u : NodeView). IsLawful u.me u.n u.capacity fresh s.inputs × Holds (header_with u.me u.n u.capacity) disk s) (sym same) (lawful, holds)
+  pub held_down : (disk : Disk) (s : NodeState) → IsLawful v.me v.n v.capacity fresh s.inputs → Holds (member v.me v.n v.capacity) disk s
+      → IsLawful down.me down.n down.capacity fresh s.inputs × Holds (member down.me down.n down.capacity) disk s
+  held_down disk s lawful holds = subst (λ (u : NodeView). IsLawful u.me u.n u.capacity fresh s.inputs × Holds (member u.me u.n u.capacity) disk s) (sym same) (lawful, holds)
 
   -- what it is opened again with
   pub again : (inputs : List Input) → restarted inputs down ≡ restarted inputs v

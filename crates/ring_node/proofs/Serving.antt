@@ -1,5 +1,5 @@
 -- A node at work, and what its calls make of it.
-use Rattle.std.proofs.Common.{arith, Err, ◌≡◌, ◌⊎◌, ⊎_elim, if◌then◌else◌, ℕ, ◌+◌, ◌<◌, ◌≤◌, ◌^◌, Bool, true, false, List, [], ◌∷◌, ◌++◌, map, length, take, Option, Some, None, inl, inr, refl, sym, ap, subst, ◌∙◌, length-append}
+use Rattle.std.proofs.Common.{arith, Err, ◌≡◌, ◌⊎◌, ⊎_elim, if◌then◌else◌, ℕ, ◌+◌, ◌<◌, ◌≤◌, ◌^◌, true, false, List, [], ◌∷◌, ◌++◌, length, take, Option, Some, None, inl, inr, refl, sym, ap, subst, ◌∙◌, length-append}
 use Rattle.std.proofs.lemmas.Bool.Decides.{nat_tests}
 use Rattle.std.proofs.lemmas.List.{take-append-le, length-take}
 use Rattle.std.specs.List.{filter}
@@ -10,45 +10,30 @@ use Rattle.disk_model.specs.FuseDevice.{inner_of, is_idle_device, reach_of}
 use Rattle.disk_model.specs.MemDevice.{disk_of, limit_of}
 use Rattle.disk_model.specs.declared.fuse.FuseDevice.{FuseDevice}
 use Rattle.disk_model.specs.declared.memory.MemDevice.{MemDevice}
-use Rattle.gated_journal.specs.Reading.{Header, ReadsAsOneOf}
+use Rattle.gated_journal.specs.Reading.{Member, member, ReadsAsOneOf}
 use Rattle.gated_journal.specs.Unread.{header_at, IsFault, IsUnread}
 use Rattle.node_store.specs.Recovery.{IsNotLawful}
 use Rattle.ring_records.specs.Answer as answers
 use Rattle.ring_records.specs.Lists.{EachAfter}
-use Rattle.ring_records.specs.Answer.{Answered, NodeState, answered, asked, gained, launched, landed, opened}
+use Rattle.ring_records.specs.Answer.{Answered, NodeState, gained, launched, landed}
 use Rattle.ring_records.specs.Message.{is_outside}
 use Rattle.ring_records.specs.declared.refusal.Refusal.{Refusal}
 use Rattle.ring_records.specs.declared.refusal.Refusal.TheVariants.{Device, Failed, OutOfMemory}
-use Rattle.group_commit.specs.declared.desk.Desk.{Desk}
-use Rattle.group_commit.specs.Desk.{place_of, kept_at, objection, IsSealed}
-use Rattle.group_commit.specs.Kept.{Place}
+use Rattle.group_commit.specs.Desk as desks
+use Rattle.group_commit.specs.Desk.{DeskView, new_desk, ticket_for, submitted, ended, objection, kept_at, IsHere, IsSealed}
 use Rattle.group_commit.specs.Ticket.{TicketView, ticket_with}
 use Rattle.node_store.proofs.Standing.{lawful_asked}
-use Rattle.ring_node.specs.Node.{Open, new_node, asked_with, flushed, is_due, restarted}
-use Rattle.ring_node.specs.Served.{HeldView, MatchFirst, open_with, IsKept, AreOpen, view_with, IsServed}
-use Rattle.ring_node.proofs.Queue.{Answers, without, with_answer, open_same, with_other, without_none, open_more, taken_rest, views_same, views_more, views_rest, taken_first, first_shown, due_shown, none_due}
+use Rattle.ring_node.specs.Node.{NodeView, new_node, asked_with, flushed, restarted}
+use Rattle.ring_node.specs.Open.{Open, is_due}
+use Rattle.ring_node.specs.Served.{HeldView, MatchFirst, AreHeld, shown_with, view_with, IsServed}
+use Rattle.ring_node.proofs.Queue.{First, held_none, held_more, shown_more, first, held_from, none_due, ended_first, found_first}
 
-module _ (place : Place) (s : NodeState) (kept : Answers) (issued : ℕ) (closed failed : Bool) (reach : ℕ) (queue : List HeldView) where
-  abbrev Here : Type 0
-  Here = IsServed place s kept issued closed failed reach queue
+-- what is at work by other names
+pub by_name : (desk : DeskView) (reach : ℕ) (queue : List HeldView) (desk' : DeskView) (reach' : ℕ) (queue' : List HeldView) → desk' ≡ desk → reach' ≡ reach → queue' ≡ queue → IsServed desk reach queue → IsServed desk' reach' queue'
+by_name desk reach queue desk' reach' queue' d r q here = subst (λ (a : DeskView × ℕ × List HeldView). IsServed a.0 a.1 a.2) (λ i. (sym d i, sym r i, sym q i)) here
 
-  kept_on : (now : Answers) → ((own : ℕ) → now own ≡ kept own) → Here → IsServed place s now issued closed failed reach queue
-  kept_on now each h = record {
-    takes = h.takes;
-    works = h.works;
-    idle = h.idle;
-    within = h.within;
-    lawful = h.lawful;
-    held = open_same place kept now 0 0 (length s.inputs) queue (λ own le. each own) h.held;
-    given = λ own le. each own ∙ h.given own le;
-    reaches = h.reaches;
-  }
-
-  -- what is at work by other names
-  pub by_name : (place' : Place) (s' : NodeState) (issued' : ℕ) (closed' failed' : Bool) (reach' : ℕ) (queue' : List HeldView) → place' ≡ place → s' ≡ s → issued' ≡ issued → closed' ≡ closed
-      → failed' ≡ failed → reach' ≡ reach → queue' ≡ queue → Here → IsServed place' s' kept issued' closed' failed' reach' queue'
-  by_name place' s' issued' closed' failed' reach' queue' p t m x y r q h =
-      subst (λ (a : Place × NodeState × ℕ × Bool × Bool × ℕ × List HeldView). IsServed a.0 a.1 kept a.2 a.3 a.4 a.5 a.6) (λ i. (sym p i, sym t i, sym m i, sym x i, sym y i, sym r i, sym q i)) h
+pub same_view : (desk desk' : DeskView) (queue queue' : List HeldView) → desk' ≡ desk → queue' ≡ queue → view_with desk' queue' ≡ view_with desk queue
+same_view desk desk' queue queue' d q = λ i. view_with (d i) (q i)
 
 -- ---- a node that is opened
 
@@ -63,30 +48,24 @@ image_within device idle =
     let long = length-take (inner_of device).held.size (inner_of device).held.bytes.items in
     omega arith
 
-starts : (place : Place) (inputs : List Input) (kept : Answers) (reach : ℕ) → IsLawful place.me place.n place.capacity fresh inputs → ((own : ℕ) → kept own ≡ None) → 17 + place.capacity ≤ reach
-    → IsServed place (opened inputs) kept 0 false false reach []
-unfolding AreOpen
-starts place inputs kept reach lawful none reaches = record {
+pub starts : (node n capacity run : ℕ) (inputs : List Input) (reach : ℕ) → IsLawful node n capacity fresh inputs → 17 + capacity ≤ reach → IsServed (new_desk (member node n capacity) run inputs) reach []
+starts node n capacity run inputs reach lawful reaches = record {
   takes = refl;
   works = refl;
   idle = refl;
   within = omega arith;
   lawful = lawful;
-  held = record { none = λ own le. none own; within = omega arith };
-  given = λ own le. none own;
+  held = held_none node run (length inputs);
   reaches = reaches;
 }
 
-pub opens : (place : Place) (inputs : List Input) (kept : Answers) → IsLawful place.me place.n place.capacity fresh inputs → ((own : ℕ) → kept own ≡ None) → (place' : Place) (s' : NodeState) (issued' : ℕ) (closed' failed' : Bool) (reach' : ℕ) (queue' : List HeldView)
-    → place' ≡ place → s' ≡ opened inputs → issued' ≡ 0 → closed' ≡ false → failed' ≡ false → 17 + place.capacity ≤ reach' → queue' ≡ [] → IsServed place' s' kept issued' closed' failed' reach' queue'
-opens place inputs kept lawful none place' s' issued' closed' failed' reach' queue' p t m x y r q =
-    by_name place (opened inputs) kept 0 false false reach' [] place' s' issued' closed' failed' reach' queue' p t m x y refl q (starts place inputs kept reach' lawful none r)
+pub new_shown : (node n capacity : ℕ) → view_with (new_desk (member node n capacity) 0 []) [] ≡ new_node node n capacity
+unfolding shown_with
+new_shown node n capacity = refl
 
-pub opens_shown : (place : Place) (inputs : List Input) (kept : Answers) (place' : Place) (s' : NodeState) (issued' : ℕ) (queue' : List HeldView) → place' ≡ place → s' ≡ opened inputs → issued' ≡ 0 → queue' ≡ []
-    → view_with place' s' kept issued' queue' ≡ restarted inputs (new_node place.me place.n place.capacity)
-unfolding restarted
-opens_shown place inputs kept place' s' issued' queue' p t m q =
-    λ i. record { me = (p i).me; n = (p i).n; capacity = (p i).capacity; inputs = (t i).inputs; durable = (t i).durable; held = map (open_with kept) (q i); issued = m i }
+pub starts_shown : (node n capacity run : ℕ) (inputs : List Input) → view_with (new_desk (member node n capacity) run inputs) [] ≡ restarted inputs (new_node node n capacity)
+unfolding restarted shown_with
+starts_shown node n capacity run inputs = refl
 
 pub none_lawful : (me n capacity : ℕ) → IsLawful me n capacity fresh []
 unfolding IsLawful EachAfter
@@ -95,71 +74,88 @@ none_lawful me n capacity = tt
 -- ---- a node that is stopped
 
 -- whether the batch landed or flies for good, the images read as what was launched
-pub stopped : (header : Header) (s t : NodeState) (image : List ℕ) → (t ≡ launched s) ⊎ (t ≡ landed (launched s)) → ReadsAsOneOf header (answers.durable_in t) (answers.flown_in t) image
+pub stopped : (header : Member) (s t : NodeState) (image : List ℕ) → (t ≡ launched s) ⊎ (t ≡ landed (launched s)) → ReadsAsOneOf header (answers.durable_in t) (answers.flown_in t) image
     → ReadsAsOneOf header (answers.durable_in (launched s)) (answers.flown_in (launched s)) image
 stopped header s t image (inl e) read = subst (λ (u : NodeState). ReadsAsOneOf header (answers.durable_in u) (answers.flown_in u) image) e read
 stopped header s t image (inr e) read =
     let all = subst (λ (u : NodeState). ReadsAsOneOf header (answers.durable_in u) (answers.flown_in u) image) e read in
     ⊎_elim (λ old. inr old) (λ new. inr new) all
 
+-- ---- the oldest ticket
+
+module _ (desk : DeskView) (from top : ℕ) (queue : List HeldView) (held : AreHeld desk.member.node desk.run from top desk.tickets queue) (h : HeldView) (rest : List HeldView) (is : queue ≡ h ∷ rest) where
+  pub oldest : First desk.member.node desk.run from top desk.tickets h rest
+  oldest = first desk.member.node desk.run from top desk.tickets h rest queue is held
+
+  own_is : h.ticket.own ≡ oldest.own
+  own_is = ap (λ (t : TicketView). t.own) oldest.is
+
+  pub number_is : oldest.kept.answer.number ≡ h.ticket.number
+  number_is = sym (ap (λ (t : TicketView). t.number) oldest.is)
+
+  -- it is open
+  pub is_here : IsHere desk h.ticket oldest.kept
+  is_here = record {
+    node = ap (λ (t : TicketView). t.node) oldest.is;
+    run = ap (λ (t : TicketView). t.run) oldest.is;
+    own = (λ i. kept_at (record desk { tickets = oldest.are i }) (own_is i)) ∙ found_first oldest.own oldest.kept oldest.others;
+    question = sym (ap (λ (t : TicketView). t.question) oldest.is);
+  }
+
+  -- where it ends, the others are left
+  pub others_are : (ended h.ticket.own desk).tickets ≡ oldest.others
+  others_are = (λ i. (ended (own_is i) (record desk { tickets = oldest.are i })).tickets) ∙ ended_first oldest.own oldest.kept oldest.others
+
+  pub others_held : AreHeld desk.member.node desk.run from top (ended h.ticket.own desk).tickets rest
+  others_held = subst (λ (ts : List (ℕ × Answered)). AreHeld desk.member.node desk.run from top ts rest) (sym others_are) (held_from desk.member.node desk.run oldest.kept.answer.number from top oldest.others rest oldest.low oldest.held)
+
+  -- what was kept for it was shown first
+  module _ (answered : Answered) (there : IsHere desk h.ticket answered) where
+    same : oldest.kept ≡ answered
+    same = let e = is_here.own in let f = there.own in cc
+
+    pub first_number : answered.answer.number ≡ h.ticket.number
+    first_number = ap (λ (a : Answered). a.answer.number) (sym same) ∙ number_is
+
+    pub first_shown : shown_with desk.tickets queue ≡ record { number = h.number; kept = answered } ∷ shown_with (ended h.ticket.own desk).tickets rest
+    unfolding shown_with
+    first_shown = (λ i. shown_with (oldest.are i) (is i)) ∙ (λ i. record { number = h.number; kept = same i } ∷ shown_with (sym others_are i) rest)
+
 -- ---- a node at work
 
-module _ (place : Place) (s : NodeState) (kept : Answers) (issued : ℕ) (closed failed : Bool) (reach : ℕ) (queue : List HeldView) (here : IsServed place s kept issued closed failed reach queue) where
-  -- nothing changes
-  pub stays : (place' : Place) (s' : NodeState) (now : Answers) (issued' : ℕ) (closed' failed' : Bool) (reach' : ℕ) (queue' : List HeldView) → place' ≡ place → s' ≡ s → ((own : ℕ) → now own ≡ kept own)
-      → issued' ≡ issued → closed' ≡ closed → failed' ≡ failed → reach' ≡ reach → queue' ≡ queue → IsServed place' s' now issued' closed' failed' reach' queue'
-  stays place' s' now issued' closed' failed' reach' queue' p t k m x y r q =
-      by_name place s now issued closed failed reach queue place' s' issued' closed' failed' reach' queue' p t m x y r q (kept_on place s kept issued closed failed reach queue now k here)
-
-  pub stays_shown : (place' : Place) (s' : NodeState) (now : Answers) (issued' : ℕ) (queue' : List HeldView) → place' ≡ place → s' ≡ s → ((own : ℕ) → now own ≡ kept own) → issued' ≡ issued → queue' ≡ queue
-      → view_with place' s' now issued' queue' ≡ view_with place s kept issued queue
-  stays_shown place' s' now issued' queue' p t k m q =
-      let shown : map (open_with now) queue' ≡ map (open_with kept) queue = ap (map (open_with now)) q ∙ views_same place kept now 0 0 (length s.inputs) queue (λ own le. k own) here.held in
-      λ i. record { me = (p i).me; n = (p i).n; capacity = (p i).capacity; inputs = (t i).inputs; durable = (t i).durable; held = shown i; issued = m i }
-
+module _ (desk : DeskView) (reach : ℕ) (queue : List HeldView) (here : IsServed desk reach queue) where
   -- it is asked
-  module _ (question : Request) (h : HeldView) where
-    abbrev a : Answered
-    a = answered place.me place.n place.capacity fresh s.inputs question
+  module _ (q : Request) (h : HeldView) (is : h.ticket ≡ ticket_for q desk) where
+    pub gives : IsServed (submitted q desk) reach (queue ++ h ∷ [])
+    gives =
+        let m = desk.member in
+        let s = desk.state in
+        let more = gained m.node m.n m.capacity fresh s.inputs q in
+        let a = desks.answered desk q in
+        let long = length-append s.inputs more in
+        let within = here.within in
+        record {
+          takes = here.takes;
+          works = here.works;
+          idle = here.idle;
+          within = omega arith;
+          lawful = lawful_asked m.node m.n m.capacity s.inputs q here.lawful;
+          held = held_more m.node desk.run 0 (length s.inputs) (length (s.inputs ++ more)) desk.issued a h desk.tickets queue is (omega arith) (omega arith) here.held;
+          reaches = here.reaches;
+        }
 
-    abbrev more : List Input
-    more = gained place.me place.n place.capacity fresh s.inputs question
-
-    module _ (now : Answers) (next : (own : ℕ) → now own ≡ with_answer issued a kept own) (is : h.ticket ≡ ticket_with place issued a) where
-      gives : IsServed place (asked place.me place.n place.capacity fresh s question) now (issued + 1) closed failed reach (queue ++ h ∷ [])
-      gives =
-          let long = length-append s.inputs more in
-          let within = here.within in
-          record {
-            takes = here.takes;
-            works = here.works;
-            idle = here.idle;
-            within = omega arith;
-            lawful = lawful_asked place.me place.n place.capacity s.inputs question here.lawful;
-            held = open_more place kept now 0 0 (length s.inputs) (length (s.inputs ++ more)) issued a queue h (omega arith) is (omega arith) (omega arith) here.given next here.held;
-            given = λ own le. next own ∙ (with_other issued own a kept (inr (omega arith)) ∙ here.given own (omega arith));
-            reaches = here.reaches;
-          }
-
-      pub asks : (place' : Place) (s' : NodeState) (issued' : ℕ) (closed' failed' : Bool) (reach' : ℕ) (queue' : List HeldView) → place' ≡ place → s' ≡ asked place.me place.n place.capacity fresh s question
-          → issued' ≡ issued + 1 → closed' ≡ closed → failed' ≡ failed → reach' ≡ reach → queue' ≡ queue ++ h ∷ [] → IsServed place' s' now issued' closed' failed' reach' queue'
-      asks place' s' issued' closed' failed' reach' queue' p t m x y r q =
-          by_name place (asked place.me place.n place.capacity fresh s question) now (issued + 1) closed failed reach (queue ++ h ∷ []) place' s' issued' closed' failed' reach' queue' p t m x y r q gives
-
-      pub asks_shown : (place' : Place) (s' : NodeState) (issued' : ℕ) (queue' : List HeldView) → place' ≡ place → s' ≡ asked place.me place.n place.capacity fresh s question → issued' ≡ issued + 1 → queue' ≡ queue ++ h ∷ []
-          → view_with place' s' now issued' queue' ≡ asked_with h.number question (view_with place s kept issued queue)
-      unfolding asked_with
-      asks_shown place' s' issued' queue' p t m q =
-          let shown : map (open_with now) queue' ≡ map (open_with kept) queue ++ record { number = h.number; kept = a } ∷ [] =
-          ap (map (open_with now)) q ∙ views_more place kept now 0 0 (length s.inputs) issued a queue h is here.given next here.held in
-          λ i. record { me = (p i).me; n = (p i).n; capacity = (p i).capacity; inputs = (t i).inputs; durable = (t i).durable; held = shown i; issued = m i }
+    pub gives_shown : view_with (submitted q desk) (queue ++ h ∷ []) ≡ asked_with h.number q (view_with desk queue)
+    unfolding asked_with
+    gives_shown =
+        let shown = shown_more desk.member.node desk.run 0 (length desk.state.inputs) desk.issued (desks.answered desk q) h desk.tickets queue here.held in
+        λ i. record (view_with (submitted q desk) (queue ++ h ∷ [])) { held = shown i }
 
   -- its durable inputs stay
-  pub durable_more : (more : List Input) → take s.durable (s.inputs ++ more) ≡ take s.durable s.inputs
-  durable_more more = take-append-le s.durable s.inputs more here.within
+  pub durable_more : (more : List Input) → take desk.state.durable (desk.state.inputs ++ more) ≡ take desk.state.durable desk.state.inputs
+  durable_more more = take-append-le desk.state.durable desk.state.inputs more here.within
 
   -- a batch landed
-  lands : IsServed place (landed (launched s)) kept issued closed failed reach queue
+  pub lands : IsServed (desks.landed (desks.launched desk)) reach queue
   lands = record {
     takes = here.takes;
     works = here.works;
@@ -167,76 +163,45 @@ module _ (place : Place) (s : NodeState) (kept : Answers) (issued : ℕ) (closed
     within = omega arith;
     lawful = here.lawful;
     held = here.held;
-    given = here.given;
     reaches = here.reaches;
   }
 
-  pub flushes : (place' : Place) (s' : NodeState) (now : Answers) (issued' : ℕ) (closed' failed' : Bool) (reach' : ℕ) → place' ≡ place → s' ≡ landed (launched s) → ((own : ℕ) → now own ≡ kept own)
-      → issued' ≡ issued → closed' ≡ closed → failed' ≡ failed → reach' ≡ reach → IsServed place' s' now issued' closed' failed' reach' queue
-  flushes place' s' now issued' closed' failed' reach' p t k m x y r =
-      by_name place (landed (launched s)) now issued closed failed reach queue place' s' issued' closed' failed' reach' queue p t m x y r refl (kept_on place (landed (launched s)) kept issued closed failed reach queue now k lands)
-
-  pub flushes_shown : (place' : Place) (s' : NodeState) (now : Answers) (issued' : ℕ) → place' ≡ place → s' ≡ landed (launched s) → ((own : ℕ) → now own ≡ kept own) → issued' ≡ issued
-      → view_with place' s' now issued' queue ≡ flushed (view_with place s kept issued queue)
-  flushes_shown place' s' now issued' p t k m =
-      let shown = views_same place kept now 0 0 (length s.inputs) queue (λ own le. k own) here.held in
-      λ i. record { me = (p i).me; n = (p i).n; capacity = (p i).capacity; inputs = (t i).inputs; durable = (t i).durable; held = shown i; issued = m i }
-
   -- where the oldest ticket is not due, none is
-  pub sealed : MatchFirst (λ h. s.durable < h.ticket.number) queue → filter (is_due s.durable) (map (open_with kept) queue) ≡ []
-  sealed first = none_due place kept s.durable 0 0 (length s.inputs) queue first here.held
+  pub sealed : MatchFirst (λ h. desk.state.durable < h.ticket.number) queue → filter (is_due desk.state.durable) (shown_with desk.tickets queue) ≡ []
+  sealed late = none_due desk.member.node desk.run desk.state.durable 0 (length desk.state.inputs) desk.tickets queue late here.held
 
-  -- the oldest ticket ended
-  module _ (h : HeldView) (rest : List HeldView) (now : Answers) (is : queue ≡ h ∷ rest) (ends : (own : ℕ) → now own ≡ without h.ticket.own kept own) where
-    releases : IsServed place s now issued closed failed reach rest
-    releases = record {
+  -- the oldest ticket ends
+  module _ (h : HeldView) (rest : List HeldView) (is : queue ≡ h ∷ rest) where
+    pub ends : IsServed (ended h.ticket.own desk) reach rest
+    ends = record {
       takes = here.takes;
       works = here.works;
       idle = here.idle;
       within = here.within;
       lawful = here.lawful;
-      held = taken_rest place place kept now 0 0 (length s.inputs) h rest queue is refl ends here.held;
-      given = λ own le. ends own ∙ without_none h.ticket.own own kept (here.given own le);
+      held = others_held desk 0 (length desk.state.inputs) queue here.held h rest is;
       reaches = here.reaches;
     }
 
-    pub released : (place' : Place) (s' : NodeState) (issued' : ℕ) (closed' failed' : Bool) (reach' : ℕ) → place' ≡ place → s' ≡ s → issued' ≡ issued → closed' ≡ closed → failed' ≡ failed → reach' ≡ reach
-        → IsServed place' s' now issued' closed' failed' reach' rest
-    released place' s' issued' closed' failed' reach' p t m x y r = by_name place s now issued closed failed reach rest place' s' issued' closed' failed' reach' rest p t m x y r refl releases
+    low : MatchFirst (λ (x : HeldView). x.ticket.number ≤ desk.state.durable) queue → h.ticket.number ≤ desk.state.durable
+    low due = subst (MatchFirst (λ (x : HeldView). x.ticket.number ≤ desk.state.durable)) is due
 
-    rest_shown : map (open_with now) rest ≡ map (open_with kept) rest
-    rest_shown = views_rest place kept now 0 0 (length s.inputs) h rest ends (subst (λ (l : List HeldView). AreOpen place kept 0 0 (length s.inputs) l) is here.held)
+    pub early : MatchFirst (λ (x : HeldView). x.ticket.number ≤ desk.state.durable) queue → (oldest desk 0 (length desk.state.inputs) queue here.held h rest is).kept.answer.number ≤ desk.state.durable
+    early due = omega (arith, low due, number_is desk 0 (length desk.state.inputs) queue here.held h rest is)
 
-    module _ (answered : Answered) (own : kept h.ticket.own ≡ Some answered) where
-      abbrev reply : Open
-      reply = record { number = h.number; kept = answered }
-
-      pub some_shown : map (open_with kept) queue ≡ reply ∷ map (open_with now) rest
-      some_shown =
-          let first = first_shown place kept h answered own in
-          ap (map (open_with kept)) is ∙ (λ i. first i ∷ sym rest_shown i)
-
-      pub some_due : MatchFirst (λ (x : HeldView). x.ticket.number ≤ s.durable) queue → is_due s.durable reply ≡ true
-      some_due first =
-          let low : h.ticket.number ≤ s.durable = subst (MatchFirst (λ (x : HeldView). x.ticket.number ≤ s.durable)) is first in
-          let k = taken_first place kept 0 0 (length s.inputs) h rest queue is here.held in
-          ap (is_due s.durable) (sym (first_shown place kept h answered own)) ∙ due_shown place kept s.durable h k low
-
-  -- an open ticket is released, where it is due
-  pub oldest : (h : HeldView) (rest : List HeldView) → queue ≡ h ∷ rest → IsKept place kept h.ticket
-  oldest h rest is = taken_first place kept 0 0 (length s.inputs) h rest queue is here.held
-
-  pub oldest_due : (h : HeldView) (rest : List HeldView) → queue ≡ h ∷ rest → MatchFirst (λ (x : HeldView). x.ticket.number ≤ s.durable) queue → h.ticket.number ≤ s.durable
-  oldest_due h rest is first = subst (MatchFirst (λ (x : HeldView). x.ticket.number ≤ s.durable)) is first
+    pub ends_due : (answered : Answered) → IsHere desk h.ticket answered → MatchFirst (λ (x : HeldView). x.ticket.number ≤ desk.state.durable) queue → is_due desk.state.durable (record { number = h.number; kept = answered }) ≡ true
+    ends_due answered there due =
+        let le = low due in
+        let number = first_number desk 0 (length desk.state.inputs) queue here.held h rest is answered there in
+        grind (arith, nat_tests)
 
 -- a ticket that is open and due is not refused
-pub not_sealed : (desk : Desk) (ticket : TicketView) (why : Refusal) → IsKept (place_of desk) (kept_at desk) ticket → ticket.number ≤ desk.durable → IsSealed desk ticket why → ⊥
-not_sealed desk ticket why k low sealed = elim sealed.cause [
-  | inl foreign ↦ foreign.1 k.answered (record { node = k.node; run = k.run; own = k.own; question = k.question })
-  | inr early ↦ let same : early.0 ≡ k.answered = (let e = early.1.own in let f = k.own in cc) in
+pub not_sealed : (desk : DeskView) (ticket : TicketView) (kept : Answered) (why : Refusal) → IsHere desk ticket kept → kept.answer.number ≤ desk.state.durable → IsSealed desk ticket why → ⊥
+not_sealed desk ticket kept why here low sealed = elim sealed.cause [
+  | inl foreign ↦ foreign.1 kept here
+  | inr early ↦ let same : early.0 ≡ kept = (let e = early.1.own in let f = here.own in cc) in
       let number = ap (λ (a : Answered). a.answer.number) same in
       let lt = early.2 in
-      let is = k.number in
       absurd (omega arith)
 ]
 
@@ -252,7 +217,7 @@ head_fault : (node n : ℕ) (image : List ℕ) (count : ℕ) → header_at node 
 head_fault node n image count fault = grind (arith, nat_tests)
 
 -- a node that takes requests takes one of its ring while it gave few tickets
-pub unobjected : (desk : Desk) (question : Request) → desk.is_closed ≡ false → desk.is_failed ≡ false → is_outside desk.n question ≡ false → desk.issued < 2 ^ 60 → objection desk question ≡ None
+pub unobjected : (desk : DeskView) (question : Request) → desk.closed ≡ false → desk.failed ≡ false → is_outside desk.member.n question ≡ false → desk.issued < 2 ^ 60 → objection desk question ≡ None
 unobjected desk question takes works inside few = grind (arith, nat_tests)
 
 pub no_objection : {objection : Option Refusal} {why : Refusal} → (objection ≡ Some why) ⊎ ((objection ≡ None) × (why ≡ OutOfMemory)) → objection ≡ None → why ≡ OutOfMemory

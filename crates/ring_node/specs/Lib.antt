@@ -1,3 +1,4 @@
 pub mod Messages
 pub mod Node
+pub mod Open
 pub mod Served

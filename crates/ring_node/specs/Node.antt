@@ -1,14 +1,10 @@
 -- What a node of the ring shows, and what its calls make of it. Nothing flies between its calls.
-use Rattle.std.specs.Prelude.{ℕ, ◌+◌, Bool, nat_le, nat_lt, List, [], ◌∷◌, ◌++◌, length, take, Option}
+use Rattle.std.specs.Prelude.{ℕ, ◌+◌, Bool, nat_lt, List, [], ◌∷◌, ◌++◌, length, take, Option}
 use Rattle.ring_records.specs.declared.input.Input.{Input}
 use Rattle.ring_records.specs.declared.request.Request.{Request}
 use Rattle.ring_records.specs.Admission.{fresh}
 use Rattle.ring_records.specs.Answer.{Answered, NodeState, answered, gained, launched, left_by}
-
--- an open ticket: the number that the ring gave it, if any, and what the node keeps for it
-pub record Open : Type 0 where
-  pub number : Option ℕ
-  pub kept : Answered
+use Rattle.ring_node.specs.Open.{Open}
 
 -- which node it is, of how large a ring, and its capacity; the inputs that it accepted, and how many of them are
 -- durable; its open tickets, the oldest first; and how many tickets it gave since it was opened
@@ -49,7 +45,7 @@ asked_with number q v = record v { inputs = v.inputs ++ gained v.me v.n v.capaci
 abbrev pub accepts : NodeView → Request → Bool
 accepts v q = nat_lt (length v.inputs) (answered_by v q).answer.number
 
--- ---- batches and replies
+-- ---- batches
 
 -- how many inputs are durable once a batch landed
 abbrev pub flown : NodeView → ℕ
@@ -58,10 +54,6 @@ flown v = (launched (state_of v)).flying
 -- after a batch landed
 abbrev pub flushed : NodeView → NodeView
 flushed v = record v { durable = flown v }
-
--- the ticket's reply rests on so many inputs at most
-abbrev pub is_due : ℕ → Open → Bool
-is_due durable t = nat_le t.kept.answer.number durable
 
 -- ---- crashes
 
@@ -72,7 +64,3 @@ restarted inputs v = record v { inputs = inputs; durable = length inputs; held =
 -- the inputs that a stop within a flush leaves: with the batch, or without
 abbrev pub left : Bool → NodeView → List Input
 left keeps_flying v = left_by keeps_flying (launched (state_of v))
-
--- the ticket's number, if it has one
-abbrev pub number_of : Open → Option ℕ
-number_of t = t.number

@@ -4,8 +4,9 @@ ghost use Rattle.std.specs.List.{filter};
 ghost use Rattle.ring_records.specs.Emission.{sent};
 ghost use Rattle.ring_records.specs.History.{taken, credit};
 ghost use Rattle.ring_records.specs.Message.{candidate_of, is_outside};
-ghost use Rattle.gated_journal.specs.Reading.{header_with, is_header};
-ghost use Rattle.ring_node.specs.Node.{new_node, durable_in, asked_with, accepts, flown, flushed, is_due};
+ghost use Rattle.gated_journal.specs.Reading.{member, is_header};
+ghost use Rattle.ring_node.specs.Node.{new_node, durable_in, asked_with, accepts, flown, flushed};
+ghost use Rattle.ring_node.specs.Open.{is_due};
 
 use crate::messages::add_carried;
 use crate::released::Released;
@@ -43,7 +44,7 @@ impl Model for RingNode {
 impl RingNode {
     /// Node `me` of a ring of `n`, of this capacity in bytes, which has accepted nothing.
     pub fn new(alloc: Global, me: NodeNo, n: u8, capacity: u32) -> Result<RingNode, AllocError>
-        requires range { is_header (header_with me n capacity) ≡ true }
+        requires range { is_header (member me n capacity) ≡ true }
         ensures made { IfOk result (λ node. node ≡ new_node me n capacity) }
     {
         let served = Served::create(alloc, me, n, capacity)?;

@@ -14,7 +14,7 @@ pub struct Released {
 
 impl Model for Released {
     ghost use Rattle.group_commit.specs.Ticket.{stub as released};
-    ghost use Rattle.ring_node.specs.Node.{Open};
+    ghost use Rattle.ring_node.specs.Open.{Open};
 
     ghost Value = { Open };
 

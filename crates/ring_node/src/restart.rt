@@ -5,9 +5,10 @@ ghost use Rattle.disk_model.specs.MemDevice.{disk_of};
 ghost use Rattle.ring_records.specs.Admission.{fresh, IsLawful};
 ghost use Rattle.ring_records.specs.Answer.{NodeState, left_by};
 ghost use Rattle.ring_records.specs.Emission.{sent};
-ghost use Rattle.gated_journal.specs.Reading.{header_with};
+ghost use Rattle.gated_journal.specs.Reading.{member};
 ghost use Rattle.node_store.specs.State.{Holds};
-ghost use Rattle.ring_node.specs.Node.{new_node, durable_in, restarted, left, number_of};
+ghost use Rattle.ring_node.specs.Node.{new_node, durable_in, restarted, left};
+ghost use Rattle.ring_node.specs.Open.{number_of};
 
 use crate::messages::messages_of;
 use crate::node::RingNode;
@@ -65,8 +66,8 @@ impl RingNode {
 
     // Opens it again from its device.
     fn open_again(&mut self, device: MemDevice) -> Result<(), AllocError>
-        requires holds { (s : NodeState) × IsLawful self.old.me self.old.n self.old.capacity fresh s.inputs × Holds (header_with self.old.me self.old.n self.old.capacity) (disk_of device) s }
-        ensures next { OnOk result ((s : NodeState) → IsLawful self.old.me self.old.n self.old.capacity fresh s.inputs → Holds (header_with self.old.me self.old.n self.old.capacity) (disk_of device) s
+        requires holds { (s : NodeState) × IsLawful self.old.me self.old.n self.old.capacity fresh s.inputs × Holds (member self.old.me self.old.n self.old.capacity) (disk_of device) s }
+        ensures next { OnOk result ((s : NodeState) → IsLawful self.old.me self.old.n self.old.capacity fresh s.inputs → Holds (member self.old.me self.old.n self.old.capacity) (disk_of device) s
             → (keep : Bool) × (self.new ≡ restarted (left_by keep s) self.old)) }
         ensures err { OnErr result (self.new ≡ self.old) }
     {
@@ -96,8 +97,8 @@ fn opened(
     capacity: u32,
     run: u64,
 ) -> Result<(Served, Vec<Msg>), AllocError>
-    requires holds { (s : NodeState) × IsLawful me n capacity fresh s.inputs × Holds (header_with me n capacity) (disk_of device) s }
-    ensures served { IfOk result (λ r. (s : NodeState) → IsLawful me n capacity fresh s.inputs → Holds (header_with me n capacity) (disk_of device) s
+    requires holds { (s : NodeState) × IsLawful me n capacity fresh s.inputs × Holds (member me n capacity) (disk_of device) s }
+    ensures served { IfOk result (λ r. (s : NodeState) → IsLawful me n capacity fresh s.inputs → Holds (member me n capacity) (disk_of device) s
         → (keep : Bool) × (r.0 ≡ restarted (left_by keep s) (new_node me n capacity))) }
     ensures messages { IfOk result (λ r. r.1.items ≡ sent me r.0.inputs) }
     ensures lawful { IfOk result (λ r. IsLawful me n capacity fresh r.0.inputs) }

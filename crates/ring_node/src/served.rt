@@ -3,20 +3,22 @@ ghost use Rattle.std.specs.Prelude.{◌≡◌, ◌-◌, ◌≤◌, ◌<◌, ◌^
 ghost use Rattle.std.specs.List.{filter, filter_map};
 ghost use Rattle.disk_model.specs.MemDevice.{disk_of};
 ghost use Rattle.ring_records.specs.Admission.{fresh, IsLawful};
-ghost use Rattle.ring_records.specs.Answer.{NodeState, launched, landed, left_by, flying_in};
+ghost use Rattle.ring_records.specs.Answer.{Answered, NodeState, launched, landed, left_by, flying_in};
 ghost use Rattle.ring_records.specs.Emission.{sent};
 ghost use Rattle.ring_records.specs.History.{taken, credit};
 ghost use Rattle.ring_records.specs.Message.{is_outside};
 ghost use Rattle.ring_records.specs.Release.{packets};
-ghost use Rattle.gated_journal.specs.Reading.{header_with, is_header};
-ghost use Rattle.group_commit.specs.Kept.{IsCount};
+ghost use Rattle.gated_journal.specs.Reading.{member, is_header};
+ghost use Rattle.group_commit.specs.Desk.{ended, IsHere};
 ghost use Rattle.node_store.specs.Node as nodes;
-ghost use Rattle.node_store.specs.State.{header_at, Holds};
-ghost use Rattle.ring_node.specs.Node.{new_node, state_of, durable_in, asked_with, accepts, flown, flushed, is_due, restarted, number_of};
-ghost use Rattle.ring_node.specs.Served.{MatchFirst, IsKept, AreOpen};
+ghost use Rattle.node_store.specs.State.{Holds};
+ghost use Rattle.ring_node.specs.Node.{new_node, state_of, durable_in, asked_with, accepts, flown, flushed, restarted};
+ghost use Rattle.ring_node.specs.Open.{is_due, number_of};
+ghost use Rattle.ring_node.specs.Served.{MatchFirst, AreHeld};
 
 use crate::released::Released;
 use disk_model::{Device, FuseDevice, MemDevice, Tear};
+use gated_journal::device_size;
 use group_commit::{Landed, Ticket};
 use node_store::Node;
 use ring_records::{Input, NodeNo, Refusal, Request};
@@ -59,9 +61,9 @@ impl Model for Served {
 
     ghost use Rattle.node_store.specs.Node as nodes;
 
-    ghost view = { λ s. view_with (nodes.place_of s.node) (nodes.state_of s.node) (nodes.kept_at s.node) (nodes.issued_by s.node) s.held.items };
+    ghost view = { λ s. view_with (nodes.desk_of s.node) s.held.items };
 
-    ghost invariant = { λ s. IsServed (nodes.place_of s.node) (nodes.state_of s.node) (nodes.kept_at s.node) (nodes.issued_by s.node) (nodes.is_closed s.node) (nodes.is_failed s.node) (reach_of limit_of (nodes.device_of s.node)) s.held.items };
+    ghost invariant = { λ s. IsServed (nodes.desk_of s.node) (reach_of limit_of (nodes.device_of s.node)) s.held.items };
 }
 
 impl Served {
@@ -72,10 +74,10 @@ impl Served {
         n: u8,
         capacity: u32,
     ) -> Result<Served, AllocError>
-        requires range { is_header (header_with me n capacity) ≡ true }
+        requires range { is_header (member me n capacity) ≡ true }
         ensures { IfOk result (λ made. made ≡ new_node me n capacity) }
     {
-        let device = MemDevice::new(alloc, 17 + capacity as usize)?;
+        let device = MemDevice::new(alloc, device_size(capacity) as usize)?;
         match Node::create(alloc, FuseDevice::idle(device), me, n, capacity, 0) {
             Ok(node) => Ok(Served {
                 node,
@@ -94,12 +96,12 @@ impl Served {
         capacity: u32,
         run: u64,
     ) -> Result<Served, AllocError>
-        requires holds { (s : NodeState) × IsLawful me n capacity fresh s.inputs × Holds (header_with me n capacity) (disk_of device) s }
-        ensures { IfOk result (λ made. (s : NodeState) → IsLawful me n capacity fresh s.inputs → Holds (header_with me n capacity) (disk_of device) s
+        requires holds { (s : NodeState) × IsLawful me n capacity fresh s.inputs × Holds (member me n capacity) (disk_of device) s }
+        ensures { IfOk result (λ made. (s : NodeState) → IsLawful me n capacity fresh s.inputs → Holds (member me n capacity) (disk_of device) s
             → (keep : Bool) × (made ≡ restarted (left_by keep s) (new_node me n capacity))) }
     {
         // A device that was stopped does not tell that it still reaches so far, and an empty read does.
-        if device.read_at(17 + u64::from(capacity), &mut []).is_err() {
+        if device.read_at(device_size(capacity), &mut []).is_err() {
             return Err(AllocError);
         }
         match Node::recover(alloc, FuseDevice::idle(device), me, n, run) {
@@ -176,7 +178,7 @@ impl Served {
     /// Ends the node and gives up its open tickets. Its device.
     pub(crate) fn end(self) -> MemDevice
         ensures lawful { IsLawful self.me self.n self.capacity fresh self.inputs }
-        ensures holds { Holds (header_with self.me self.n self.capacity) (disk_of result) (state_of self) }
+        ensures holds { Holds (member self.me self.n self.capacity) (disk_of result) (state_of self) }
     {
         let Served { node, held } = self;
         closed(node, held)
@@ -186,7 +188,7 @@ impl Served {
     /// memory.
     pub(crate) fn stop(self, call: u64, tear: Tear) -> Result<MemDevice, AllocError>
         ensures lawful { OnOk result (IsLawful self.me self.n self.capacity fresh self.inputs) }
-        ensures holds { IfOk result (λ device. Holds (header_with self.me self.n self.capacity) (disk_of device) (launched (state_of self))) }
+        ensures holds { IfOk result (λ device. Holds (member self.me self.n self.capacity) (disk_of device) (launched (state_of self))) }
     {
         let Served { mut node, held } = self;
         node.arm(call.saturating_sub(1), false);
@@ -286,11 +288,10 @@ fn is_due(held: &VecDeque<Held>, durable: u64) -> bool
 
 // Flushes the node, whose device may fail. Refused where memory is missing, and then nothing is changed.
 fn flush_or_fail(node: &mut Node<Disk>) -> Result<(), AllocError>
-    requires works { nodes.is_failed node.old ≡ false }
+    requires works { (nodes.desk_of node.old).failed ≡ false }
     ensures state { OnOk result ((nodes.state_of node.new ≡ launched (nodes.state_of node.old)) ⊎ (nodes.state_of node.new ≡ landed (launched (nodes.state_of node.old)))) }
     ensures inputs { (nodes.state_of node.new).inputs ≡ (nodes.state_of node.old).inputs }
-    ensures place { nodes.place_of node.new ≡ nodes.place_of node.old }
-    ensures kept { (own : ℕ) → nodes.kept_at node.new own ≡ nodes.kept_at node.old own }
+    ensures stays { nodes.desk_of node.new ≡ record (nodes.desk_of node.old) { state = nodes.state_of node.new; failed = (nodes.desk_of node.new).failed } }
 {
     match node.flush() {
         Ok(_landed) => Ok(()),
@@ -303,9 +304,9 @@ fn flush_or_fail(node: &mut Node<Disk>) -> Result<(), AllocError>
 
 // Closes the node and gives up its open tickets. Its device.
 fn closed(mut node: Node<Disk>, held: VecDeque<Held>) -> MemDevice
-    requires held { AreOpen (nodes.place_of node) (nodes.kept_at node) 0 0 (length (nodes.state_of node).inputs) held.items }
-    ensures lawful { IsLawful (nodes.place_of node).me (nodes.place_of node).n (nodes.place_of node).capacity fresh (nodes.state_of node).inputs }
-    ensures holds { Holds (header_at (nodes.place_of node)) (disk_of result) (nodes.state_of node) }
+    requires held { AreHeld (nodes.desk_of node).member.node (nodes.desk_of node).run 0 (length (nodes.state_of node).inputs) (nodes.desk_of node).tickets held.items }
+    ensures lawful { IsLawful (nodes.desk_of node).member.node (nodes.desk_of node).member.n (nodes.desk_of node).member.capacity fresh (nodes.state_of node).inputs }
+    ensures holds { Holds (nodes.desk_of node).member (disk_of result) (nodes.state_of node) }
 {
     node.close();
     forfeit_all(&mut node, held);
@@ -314,12 +315,9 @@ fn closed(mut node: Node<Disk>, held: VecDeque<Held>) -> MemDevice
 
 // Gives up the tickets.
 fn forfeit_all(node: &mut Node<Disk>, mut held: VecDeque<Held>)
-    requires ended { nodes.is_closed node.old ≡ true }
-    requires held { (top : ℕ) × AreOpen (nodes.place_of node.old) (nodes.kept_at node.old) 0 0 top held.items }
-    ensures spent { IsCount (nodes.kept_at node.new) 0 }
-    ensures closed { nodes.is_closed node.new ≡ true }
-    ensures place { nodes.place_of node.new ≡ nodes.place_of node.old }
-    ensures state { nodes.state_of node.new ≡ nodes.state_of node.old }
+    requires over { (nodes.desk_of node.old).closed ≡ true }
+    requires held { (from top : ℕ) × AreHeld (nodes.desk_of node.old).member.node (nodes.desk_of node.old).run from top (nodes.desk_of node.old).tickets held.items }
+    ensures next { nodes.desk_of node.new ≡ record (nodes.desk_of node.old) { tickets = [] } }
     ensures device { nodes.device_of node.new ≡ nodes.device_of node.old }
 {
     while let Some(first) = held.pop_front() {
@@ -330,12 +328,9 @@ fn forfeit_all(node: &mut Node<Disk>, mut held: VecDeque<Held>)
 
 // Gives up a ticket that is open.
 fn forfeit(node: &mut Node<Disk>, held: Held)
-    requires ended { nodes.is_closed node.old ≡ true }
-    requires kept { IsKept (nodes.place_of node.old) (nodes.kept_at node.old) held.ticket }
-    ensures ends { (own : ℕ) → nodes.kept_at node.new own ≡ (if nat_eq own held.ticket.own then None else nodes.kept_at node.old own) }
-    ensures closed { nodes.is_closed node.new ≡ true }
-    ensures place { nodes.place_of node.new ≡ nodes.place_of node.old }
-    ensures state { nodes.state_of node.new ≡ nodes.state_of node.old }
+    requires over { (nodes.desk_of node.old).closed ≡ true }
+    requires here { (kept : Answered) × IsHere (nodes.desk_of node.old) held.ticket kept }
+    ensures next { nodes.desk_of node.new ≡ ended held.ticket.own (nodes.desk_of node.old) }
     ensures device { nodes.device_of node.new ≡ nodes.device_of node.old }
 {
     let Held { number: _, ticket } = held;

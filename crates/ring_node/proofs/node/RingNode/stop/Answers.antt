@@ -2,7 +2,7 @@ use Rattle.std.proofs.Common.{◌≡◌, nat_lt, ap, subst, ◌∙◌}
 use Rattle.disk_model.specs.MemDevice.{disk_of}
 use Rattle.ring_records.specs.Admission.{fresh, IsLawful}
 use Rattle.ring_records.specs.Answer.{launched}
-use Rattle.gated_journal.specs.Reading.{header_with}
+use Rattle.gated_journal.specs.Reading.{member}
 use Rattle.node_store.specs.State.{Holds}
 use Rattle.ring_node.specs.Node.{NodeView, state_of}
 use Rattle.ring_node.proofs.Ring.{held_down, stopped}
@@ -11,13 +11,13 @@ use Rattle.ring_node.proofs.node.RingNode.stop.Goals.{In_ok-device}
 
 -- what the node that was taken down left on its device
 left : (c : In_ok-device) → IsLawful c.take_down.new.self.me c.take_down.new.self.n c.take_down.new.self.capacity fresh c.args.self.now.inputs
-    × Holds (header_with c.take_down.new.self.me c.take_down.new.self.n c.take_down.new.self.capacity) (disk_of c.in_ok-device.device) (launched (state_of c.args.self.now))
+    × Holds (member c.take_down.new.self.me c.take_down.new.self.n c.take_down.new.self.capacity) (disk_of c.in_ok-device.device) (launched (state_of c.args.self.now))
 left c =
     let taken = c.in_ok-served.ensures.taken in
     let disk = disk_of c.in_ok-device.device in
     held_down c.args.self.now c.take_down.new.self c.take_down.ensures.down disk (launched (state_of c.args.self.now))
     (subst (λ (v : NodeView). IsLawful v.me v.n v.capacity fresh v.inputs) taken c.in_ok-device.ensures.lawful)
-    (subst (λ (v : NodeView). Holds (header_with v.me v.n v.capacity) disk (launched (state_of v))) taken c.in_ok-device.ensures.holds)
+    (subst (λ (v : NodeView). Holds (member v.me v.n v.capacity) disk (launched (state_of v))) taken c.in_ok-device.ensures.holds)
 
 pub open_again-requires : goal.open_again-requires
 open_again-requires c =
