@@ -1,5 +1,6 @@
 -- The lines that a script may print.
-use Rattle.std.specs.Prelude.{◌≡◌, ℕ, ◌<◌, ◌≤◌, Bool, true, false, nat_eq, if◌then◌else◌, List, [], ◌∷◌, ◌++◌, length, map, take, Option, Some, None, Result, Ok, Err, codes, unwrap_or}
+use Rattle.std.specs.Prelude.{◌≡◌, ℕ, ◌≤◌, Bool, nat_eq, if◌then◌else◌, List, [], ◌∷◌, ◌++◌, length, map, take, drop, Option, Some, None, IfSome, MatchBool, Result, Ok, Err, codes, unwrap_or}
+use Rattle.std.specs.Io.KnownBytes.{Appends}
 use Rattle.std.specs.Fmt.{decimal}
 use Rattle.std.specs.List.{list_any}
 use Rattle.ring_records.specs.Admission.{where_so}
@@ -16,15 +17,13 @@ use Rattle.ring_world.specs.Step.{Told, Steps, refusal_of, no_node}
 use Rattle.ring_world.specs.declared.event.Event.{Event}
 use Rattle.ring_world.specs.declared.event.Event.TheVariants.{Submit, Flush, Deliver, DeliverAll, Credit, Crash, Stop}
 use Rattle.ring_world.specs.declared.shown.Shown.{Shown}
-use Rattle.line_words.specs.Faults.{judged}
+use Rattle.line_words.specs.Forms.{line_says}
 use Rattle.line_words.specs.Texts.{text_of, IsFront, AddsLines}
 use Rattle.line_words.specs.Words.{lines_of}
-use Rattle.fault_console.specs.Judged.{is_silent, opening_of, command_of}
+use Rattle.fault_console.specs.Commands.{is_silent, shapes, commands}
 use Rattle.fault_console.specs.declared.commands.Command.{Command}
 use Rattle.fault_console.specs.declared.commands.Command.TheVariants as ask
-use Rattle.fault_console.specs.declared.commands.Opening.{Opening}
-use Rattle.fault_console.specs.declared.run.RunFault.{RunFault}
-use Rattle.fault_console.specs.declared.run.RunFault.TheVariants.{Read, Write, Memory, Long}
+use Rattle.fault_console.specs.declared.commands.RingShape.{RingShape}
 
 -- ---- the lines of a command
 
@@ -92,7 +91,7 @@ reopened_lines node o = map lost_line o.lost ++ (up_line node (unwrap_or o.up 0)
 abbrev pub lines_told : Event → Told → List (List ℕ)
 lines_told (Submit node request) o = asked_lines o
 lines_told (Flush node) o = flushed_lines o
-lines_told (Deliver from place) o = asked_lines o
+lines_told (Deliver from message) o = asked_lines o
 lines_told DeliverAll o = delivered_line (unwrap_or o.delivered 0) ∷ []
 lines_told (Credit from upto) o = asked_lines o
 lines_told (Crash node) o = reopened_lines node o
@@ -111,66 +110,90 @@ unshown w node = or_else (where_so w.ring.failed Failed) (no_node w node)
 
 -- ---- the lines of a script
 
--- what a line of the script may print, and what the ring may become (none before it is made)
+-- what may be printed, and the ring afterwards: none before it is made
 abbrev pub Prints : Type 1
-Prints = Option State → List (List ℕ) → Option State → Type 0
+Prints = List (List ℕ) → Option State → Type 0
 
--- nothing is printed, and nothing changes
-abbrev pub Nothing : Prints
-Nothing s out t = (out ≡ []) × (t ≡ s)
+-- The refusal alone is printed, and the ring stays as it is.
+abbrev pub Refuses : Option State → Refusal → Prints
+Refuses ring refusal out next = (out ≡ refusal_text refusal ∷ []) × (next ≡ ring)
 
--- the refusal alone, and nothing changes
-abbrev pub Refuses : Refusal → Prints
-Refuses refusal s out t = (out ≡ refusal_text refusal ∷ []) × (t ≡ s)
+-- A ring is to be made: the fault of the line, or the ring's line, and it is new.
+abbrev pub Opens : Result RingShape Refusal → Prints
+Opens (Err refusal) out next = Refuses None refusal out next
+Opens (Ok shape) out next = (out ≡ ring_line shape.nodes ∷ []) × (next ≡ Some (opened shape.nodes shape.eager shape.capacity))
 
--- before the ring is made
-abbrev pub Opens : Result Opening Refusal → Prints
-Opens (Err refusal) s out t = Refuses refusal s out t
-Opens (Ok o) s out t = (out ≡ ring_line o.nodes ∷ []) × (t ≡ Some (opened o.nodes o.eager o.capacity))
-
--- an event of the world w: its refusal where there is one, else the lines of what it tells
+-- An event of the world w: its refusal, where it has one, or the lines of what it tells, and where that leads.
 abbrev pub Happens : State → Event → Option Refusal → Prints
-Happens w event (Some refusal) s out t = Refuses refusal s out t
-Happens w event None s out t = (o : Told) × (v : State) × Steps w event o v × (out ≡ lines_told event o) × (t ≡ Some v)
+Happens w event (Some refusal) out next = Refuses (Some w) refusal out next
+Happens w event None out next = (told : Told) × (v : State) × Steps w event told v × (out ≡ lines_told event told) × (next ≡ Some v)
 
--- a node of the world w is shown: its refusal where there is one, else its line, and nothing changes
+-- A node of the world w is to be shown: why it is not, or its line, and the ring stays as it is.
 abbrev pub Shows : State → ℕ → Option Refusal → Prints
-Shows w node (Some refusal) s out t = Refuses refusal s out t
-Shows w node None s out t = (out ≡ show_line node (shown_at w node) ∷ []) × (t ≡ s)
+Shows w node (Some refusal) out next = Refuses (Some w) refusal out next
+Shows w node None out next = (out ≡ show_line node (shown_at w node) ∷ []) × (next ≡ Some w)
 
--- afterwards
+-- A command to the world w: the fault of the line, or an event, or a node to show.
 abbrev pub Obeys : State → Result Command Refusal → Prints
-Obeys w (Err refusal) s out t = Refuses refusal s out t
-Obeys w (Ok (ask.Event event)) s out t = Happens w event (refusal_of w event) s out t
-Obeys w (Ok (ask.Show node)) s out t = Shows w node (unshown w node) s out t
+Obeys w (Err refusal) out next = Refuses (Some w) refusal out next
+Obeys w (Ok (ask.Event event)) out next = Happens w event (refusal_of w event) out next
+Obeys w (Ok (ask.Show node)) out next = Shows w node (unshown w node) out next
 
-abbrev pub Speaks : Option State → List ℕ → Prints
-Speaks None line = Opens (judged opening_of line)
-Speaks (Some w) line = Obeys w (judged (command_of w.ring.size) line)
+-- A line that is not silent makes the ring, or it is a command to its world.
+abbrev pub Answers : Option State → List ℕ → Prints
+Answers None line out next = Opens (line_says shapes line) out next
+Answers (Some w) line out next = Obeys w (line_says (commands w.ring.size) line) out next
 
-abbrev pub Where : Bool → Option State → List ℕ → Prints
-Where true ring line = Nothing
-Where false ring line = Speaks ring line
+-- A line, read where the ring is this: a silent one prints nothing, and the ring stays as it is.
+unfoldable pub LinePrints : Option State → List ℕ → Prints
+LinePrints ring line out next = MatchBool (is_silent line) ((out ≡ []) × (next ≡ ring)) (Answers ring line out next)
 
-unfoldable pub LinePrints : List ℕ → Prints
-LinePrints line s out t = Where (is_silent line) s line s out t
+-- Lines, one after the other: what the first prints, and behind it what the others print in the ring that it leads to.
+abbrev pub MayPrint : Option State → List (List ℕ) → Prints
+MayPrint ring [] out last = (out ≡ []) × (last ≡ ring)
+MayPrint ring (line ∷ lines) out last = (first : List (List ℕ)) × (next : Option State) × (others : List (List ℕ))
+    × LinePrints ring line first next × (out ≡ first ++ others) × MayPrint next lines others last
 
--- From s the lines of a script may print out, and lead to t.
-abbrev pub MayPrint : Option State → List (List ℕ) → List (List ℕ) → Option State → Type 0
-MayPrint s [] out t = (out ≡ []) × (t ≡ s)
-MayPrint s (line ∷ lines) out t = (first : List (List ℕ)) × (mid : Option State) × (later : List (List ℕ))
-    × LinePrints line s first mid × (out ≡ first ++ later) × MayPrint mid lines later t
+-- ---- what a run writes for a script
 
--- The bytes that a run writes for a script, by what it answers: none for a script of more than 1,000,000 bytes.
-abbrev pub Wrote : List ℕ → Result ℕ RunFault → List ℕ → Type 0
--- a text that the script may print, and the number of its lines
-Wrote script (Ok count) bytes = (length script ≤ 1000000) × (out : List (List ℕ)) × (t : Option State) × MayPrint None (lines_of script) out t × (bytes ≡ text_of out) × (count ≡ length out)
-Wrote script (Err Read) bytes = bytes ≡ []
-Wrote script (Err Long) bytes = (bytes ≡ []) × (1000000 < length script)
--- a front of such a text
-Wrote script (Err Write) bytes = (length script ≤ 1000000) × (out : List (List ℕ)) × (t : Option State) × MayPrint None (lines_of script) out t × IsFront bytes (text_of out)
--- the whole lines of the commands before
-Wrote script (Err Memory) bytes = (1000000 < length script → bytes ≡ []) × (n : ℕ) × (out : List (List ℕ)) × (t : Option State) × MayPrint None (take n (lines_of script)) out t × (bytes ≡ text_of out)
+-- all that the script may print, in so many lines
+pub record IsWhole (script : List ℕ) (count : ℕ) (bytes : List ℕ) : Type 0 where
+  pub short : length script ≤ 1000000
+  pub out : List (List ℕ)
+  pub ring : Option State
+  pub prints : MayPrint None (lines_of script) out ring
+  pub text : bytes ≡ text_of out
+  pub counted : count ≡ length out
+
+-- a front of all that the script may print
+pub record IsCut (script bytes : List ℕ) : Type 0 where
+  pub short : length script ≤ 1000000
+  pub out : List (List ℕ)
+  pub ring : Option State
+  pub prints : MayPrint None (lines_of script) out ring
+  pub front : IsFront bytes (text_of out)
+
+-- All that the first n lines of the script may print. The next line is the one at which memory was refused. However it
+-- goes on from there, it prints a line or more: so n is the greatest number of lines that the text of this run shows.
+pub record IsUpTo (script bytes : List ℕ) : Type 0 where
+  pub short : length script ≤ 1000000
+  pub n : ℕ
+  pub line : List ℕ
+  pub later : List (List ℕ)
+  pub left : drop n (lines_of script) ≡ line ∷ later
+  pub out : List (List ℕ)
+  pub ring : Option State
+  pub prints : MayPrint None (take n (lines_of script)) out ring
+  pub text : bytes ≡ text_of out
+  pub greatest : (more : List (List ℕ)) (next : Option State) → LinePrints ring line more next → 1 ≤ length more
+
+-- the bytes that are written behind the old ones, of which P holds
+abbrev pub Wrote : Option (List ℕ) → Option (List ℕ) → (List ℕ → Type 0) → Type 0
+Wrote old new P = (bytes : List ℕ) × Appends old new bytes × P bytes
+
+-- The same of the script and these bytes; the script is what the reader has, where it tells that.
+abbrev pub WroteOf : Option (List ℕ) → Option (List ℕ) → Option (List ℕ) → (List ℕ → List ℕ → Type 0) → Type 0
+WroteOf known old new P = (script : List ℕ) × IfSome known (λ all. script ≡ all) × Wrote old new (P script)
 
 -- ---- what the printing functions add to a text
 

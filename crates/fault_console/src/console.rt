@@ -1,13 +1,13 @@
 // One line of the script after the other.
-ghost use Rattle.std.specs.Prelude.{◌≡◌, ◌∷◌, [], ◌+◌, ◌≤◌, true, Ok, Some, None, IfErr, IfOk, OnOk, string_bytes};
+ghost use Rattle.std.specs.Prelude.{◌≡◌, ◌∷◌, [], ◌+◌, ◌≤◌, true, false, Ok, Some, None, IfErr, IfOk, OnErr, OnOk, string_bytes};
 ghost use Rattle.ring_records.specs.Texts.{refusal_text};
 ghost use Rattle.ring_world.specs.State.{opened, is_ring};
 ghost use Rattle.ring_world.specs.Step.{refusal_of};
-ghost use Rattle.line_words.specs.Faults.{judged};
-ghost use Rattle.fault_console.specs.Judged.{command_of};
+ghost use Rattle.line_words.specs.Forms.{line_says};
+ghost use Rattle.fault_console.specs.Commands.{commands, is_silent};
 ghost use Rattle.fault_console.specs.Script.{Does, Happens, LinePrints, Obeys, Opens, Shows, ring_line, shown_at, tickets_of, unshown};
 
-use crate::commands::{Command, Opening, judge, judge_opening, line_is_silent};
+use crate::commands::{Command, RingShape, line_is_silent, read_command, read_shape};
 use crate::print::{count_lines, print_outcome, print_ring, print_shown};
 use line_words::print_refusal;
 use ring_records::{NodeNo, Refusal};
@@ -32,7 +32,7 @@ fn refuse(out: &mut String, refusal: Refusal) -> Result<u64, AllocError>
 fn perform(world: &mut World, event: Event, out: &mut String) -> Result<u64, AllocError>
     requires small { world.old.tickets ≤ 1000000 }
     ensures prints { IfOk result (λ n. Does (string_bytes out.old) (string_bytes out.new) n
-        (λ lines. Happens world.old event (refusal_of world.old event) (Some world.old) lines (Some world.new))) }
+        (λ lines. Happens world.old event (refusal_of world.old event) lines (Some world.new))) }
     ensures tickets { OnOk result (world.new.tickets ≤ world.old.tickets + 1) }
     ensures few { IfOk result (λ n. n ≤ world.old.tickets + 2) }
 {
@@ -60,7 +60,7 @@ fn shown(world: &World, node: NodeNo) -> Result<Shown, Refusal>
 // What the world shows of the node, or why it shows none.
 fn show(world: &World, node: NodeNo, out: &mut String) -> Result<u64, AllocError>
     ensures prints { IfOk result (λ n. Does (string_bytes out.old) (string_bytes out.new) n
-        (λ lines. Shows world.now node (unshown world.now node) (Some world.now) lines (Some world.now))) }
+        (λ lines. Shows world.now node (unshown world.now node) lines (Some world.now))) }
     ensures few { IfOk result (λ n. n ≡ 1) }
 {
     match shown(world, node) {
@@ -75,7 +75,7 @@ fn show(world: &World, node: NodeNo, out: &mut String) -> Result<u64, AllocError
 fn follow(world: &mut World, command: Command, out: &mut String) -> Result<u64, AllocError>
     requires small { world.old.tickets ≤ 1000000 }
     ensures prints { IfOk result (λ n. Does (string_bytes out.old) (string_bytes out.new) n
-        (λ lines. Obeys world.old (Ok command) (Some world.old) lines (Some world.new))) }
+        (λ lines. Obeys world.old (Ok command) lines (Some world.new))) }
     ensures tickets { OnOk result (world.new.tickets ≤ world.old.tickets + 1) }
     ensures few { IfOk result (λ n. n ≤ world.old.tickets + 2) }
 {
@@ -87,16 +87,16 @@ fn follow(world: &mut World, command: Command, out: &mut String) -> Result<u64, 
 
 fn answer(
     world: &mut World,
-    judged: Result<Command, Refusal>,
+    said: Result<Command, Refusal>,
     out: &mut String,
 ) -> Result<u64, AllocError>
     requires small { world.old.tickets ≤ 1000000 }
     ensures prints { IfOk result (λ n. Does (string_bytes out.old) (string_bytes out.new) n
-        (λ lines. Obeys world.old judged (Some world.old) lines (Some world.new))) }
+        (λ lines. Obeys world.old said lines (Some world.new))) }
     ensures tickets { OnOk result (world.new.tickets ≤ world.old.tickets + 1) }
     ensures few { IfOk result (λ n. n ≤ world.old.tickets + 2) }
 {
-    match judged {
+    match said {
         Ok(command) => follow(world, command, out),
         Err(refusal) => refuse(out, refusal),
     }
@@ -105,21 +105,21 @@ fn answer(
 fn speak(alloc: Global, world: &mut World, line: &[u8], out: &mut String) -> Result<u64, AllocError>
     requires small { world.old.tickets ≤ 1000000 }
     ensures prints { IfOk result (λ n. Does (string_bytes out.old) (string_bytes out.new) n
-        (λ lines. Obeys world.old (judged (command_of world.old.ring.size) line.now) (Some world.old) lines (Some world.new))) }
+        (λ lines. Obeys world.old (line_says (commands world.old.ring.size) line.now) lines (Some world.new))) }
     ensures tickets { OnOk result (world.new.tickets ≤ world.old.tickets + 1) }
     ensures few { IfOk result (λ n. n ≤ world.old.tickets + 2) }
 {
-    match judge(alloc, world.size(), line) {
-        Ok(judged) => answer(world, judged, out),
+    match read_command(alloc, world.size(), line) {
+        Ok(said) => answer(world, said, out),
         Err(_) => Err(AllocError),
     }
 }
 
-fn new_world(alloc: Global, opening: Opening) -> Result<World, AllocError>
-    requires { is_ring opening.nodes opening.capacity ≡ true }
-    ensures { IfOk result (λ w. w ≡ opened opening.nodes opening.eager opening.capacity) }
+fn new_world(alloc: Global, shape: RingShape) -> Result<World, AllocError>
+    requires { is_ring shape.nodes shape.capacity ≡ true }
+    ensures { IfOk result (λ w. w ≡ opened shape.nodes shape.eager shape.capacity) }
 {
-    match World::new(alloc, opening.nodes, opening.eager, opening.capacity) {
+    match World::new(alloc, shape.nodes, shape.eager, shape.capacity) {
         Ok(world) => Ok(world),
         Err(refusal) => {
             let is_memory = matches!(refusal, Refusal::OutOfMemory);
@@ -129,29 +129,29 @@ fn new_world(alloc: Global, opening: Opening) -> Result<World, AllocError>
     }
 }
 
-fn make(alloc: Global, opening: Opening, out: &mut String) -> Result<World, AllocError>
-    requires { is_ring opening.nodes opening.capacity ≡ true }
-    ensures world { IfOk result (λ w. w ≡ opened opening.nodes opening.eager opening.capacity) }
-    ensures prints { OnOk result (Does (string_bytes out.old) (string_bytes out.new) 1 (λ lines. lines ≡ ring_line opening.nodes ∷ [])) }
+fn make(alloc: Global, shape: RingShape, out: &mut String) -> Result<World, AllocError>
+    requires { is_ring shape.nodes shape.capacity ≡ true }
+    ensures world { IfOk result (λ w. w ≡ opened shape.nodes shape.eager shape.capacity) }
+    ensures prints { OnOk result (Does (string_bytes out.old) (string_bytes out.new) 1 (λ lines. lines ≡ ring_line shape.nodes ∷ [])) }
 {
     // so that want of memory leaves no ring that has to be ended
-    print_ring(out, opening.nodes)?;
-    new_world(alloc, opening)
+    print_ring(out, shape.nodes)?;
+    new_world(alloc, shape)
 }
 
 fn open(
     alloc: Global,
-    judged: Result<Opening, Refusal>,
+    said: Result<RingShape, Refusal>,
     out: &mut String,
 ) -> Result<(Option<World>, u64), AllocError>
-    requires { IfOk judged (λ o. is_ring o.nodes o.capacity ≡ true) }
+    requires { IfOk said (λ shape. is_ring shape.nodes shape.capacity ≡ true) }
     ensures prints { IfOk result (λ r. Does (string_bytes out.old) (string_bytes out.new) r.1
-        (λ lines. Opens judged None lines r.0)) }
+        (λ lines. Opens said lines r.0)) }
     ensures tickets { IfOk result (λ r. tickets_of r.0 ≡ 0) }
     ensures few { IfOk result (λ r. r.1 ≡ 1) }
 {
-    match judged {
-        Ok(opening) => Ok((Some(make(alloc, opening, out)?), 1)),
+    match said {
+        Ok(shape) => Ok((Some(make(alloc, shape, out)?), 1)),
         Err(refusal) => {
             let count = refuse(out, refusal)?;
             Ok((None, count))
@@ -175,16 +175,17 @@ impl Console {
         }
     }
 
-    /// Obeys a line of the script: adds to `out` the lines that it prints, and gives their number, at most two more
+    /// Obeys a line of the script: adds to `out` the lines that it prints, and gives their count, at most two more
     /// than the ticket numbers that are taken. After want of memory, the only refusal, `out` has no meaning and the
     /// console is of no more use than to be ended.
     #[tactic(auto, unfolding(crate::specs::Script::LinePrints))]
     pub fn obey(&mut self, alloc: Global, line: &[u8], out: &mut String) -> Result<u64, AllocError>
         requires small { tickets_of self.old.world ≤ 1000000 }
         ensures prints { IfOk result (λ n. Does (string_bytes out.old) (string_bytes out.new) n
-            (λ lines. LinePrints line.now self.old.world lines self.new.world)) }
+            (λ lines. LinePrints self.old.world line.now lines self.new.world)) }
         ensures tickets { OnOk result (tickets_of self.new.world ≤ tickets_of self.old.world + 1) }
         ensures few { IfOk result (λ n. n ≤ tickets_of self.old.world + 2) }
+        ensures speaks { OnErr result (is_silent line.now ≡ false) }
     {
         if line_is_silent(line) {
             return Ok(0);
@@ -192,7 +193,7 @@ impl Console {
         match &mut self.world {
             Some(world) => speak(alloc, world, line, out),
             None => {
-                let (world, count) = open(alloc, judge_opening(alloc, line)?, out)?;
+                let (world, count) = open(alloc, read_shape(alloc, line)?, out)?;
                 if let Some(before) = replace(&mut self.world, world) {
                     before.end();
                 }

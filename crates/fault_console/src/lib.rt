@@ -15,7 +15,7 @@
 //! print `K: lost` for each ticket that was open there and `up I H`, H its inputs. `show I` prints the counts of node
 //! I. A line that is refused prints its refusal alone. Tickets that are open at the end are given up without a line.
 //!
-//! `specs/` says what a script may print: Judged has the commands and their faults, Script the texts. Lines, words and
+//! `specs/` says what a script may print: Commands has the form of each command, Script the texts. Lines, words and
 //! numbers are those of line_words.
 #![tactic(auto)]
 

@@ -1,7 +1,7 @@
 // Reading a script, and writing what it prints.
-ghost use Rattle.std.specs.Prelude.{◌≡◌, ◌<◌, ◌≤◌, ℕ, List, None, IfErr, IfOk, IfSome, IsErrOf, OnOk, length};
+ghost use Rattle.std.specs.Prelude.{◌≡◌, ◌⊎◌, ◌<◌, ◌≤◌, [], None, IfOk, IfSome, IsErrOf, length};
 ghost use Rattle.std.specs.Io.KnownBytes.{Appends};
-ghost use Rattle.fault_console.specs.Script.{Wrote};
+ghost use Rattle.fault_console.specs.Script.{IsCut, IsUpTo, IsWhole, Wrote, WroteOf};
 
 use crate::console::Console;
 use line_words::{first_line, write_whole};
@@ -65,7 +65,11 @@ fn obey_all<W: Write>(
 ) -> Result<u64, RunFault>
     requires few { length script.now ≤ 1000000 }
     requires fresh { console.old.world ≡ None }
-    ensures { (bytes : List ℕ) × Appends (W.contents writer.old) (W.contents writer.new) bytes × Wrote script.now result bytes }
+    ensures ok { IfOk result (λ count. Wrote (W.contents writer.old) (W.contents writer.new) (IsWhole script.now count)) }
+    ensures write { IsErrOf result RunFault.Write → Wrote (W.contents writer.old) (W.contents writer.new) (IsCut script.now) }
+    ensures memory { IsErrOf result RunFault.Memory → Wrote (W.contents writer.old) (W.contents writer.new) (IsUpTo script.now) }
+    ensures read { IsErrOf result RunFault.Read → ⊥ }
+    ensures long { IsErrOf result RunFault.Long → ⊥ }
 {
     let mut out = String::new(alloc);
     let mut rest = script;
@@ -89,7 +93,11 @@ fn obey_all<W: Write>(
 // A console that obeys the script, and is ended whatever comes of it.
 fn play<W: Write>(alloc: Global, script: &[u8], writer: &mut W) -> Result<u64, RunFault>
     requires { length script.now ≤ 1000000 }
-    ensures { (bytes : List ℕ) × Appends (W.contents writer.old) (W.contents writer.new) bytes × Wrote script.now result bytes }
+    ensures ok { IfOk result (λ count. Wrote (W.contents writer.old) (W.contents writer.new) (IsWhole script.now count)) }
+    ensures write { IsErrOf result RunFault.Write → Wrote (W.contents writer.old) (W.contents writer.new) (IsCut script.now) }
+    ensures memory { IsErrOf result RunFault.Memory → Wrote (W.contents writer.old) (W.contents writer.new) (IsUpTo script.now) }
+    ensures read { IsErrOf result RunFault.Read → ⊥ }
+    ensures long { IsErrOf result RunFault.Long → ⊥ }
 {
     let mut console = Console::new();
     let answer = obey_all(&mut console, alloc, script, writer);
@@ -106,8 +114,13 @@ pub fn run<R: Read, W: Write>(
     reader: &mut R,
     writer: &mut W,
 ) -> Result<u64, RunFault>
-    ensures { (script : List ℕ) × IfSome (R.remaining reader.old) (λ all. script ≡ all)
-        × ((bytes : List ℕ) × Appends (W.contents writer.old) (W.contents writer.new) bytes × Wrote script result bytes) }
+    ensures ok { IfOk result (λ count. WroteOf (R.remaining reader.old) (W.contents writer.old) (W.contents writer.new) (λ script. IsWhole script count)) }
+    ensures read { IsErrOf result RunFault.Read → Appends (W.contents writer.old) (W.contents writer.new) [] }
+    ensures long { IsErrOf result RunFault.Long → IfSome (R.remaining reader.old) (λ script. 1000000 < length script)
+        × Appends (W.contents writer.old) (W.contents writer.new) [] }
+    ensures write { IsErrOf result RunFault.Write → WroteOf (R.remaining reader.old) (W.contents writer.old) (W.contents writer.new) IsCut }
+    ensures memory { IsErrOf result RunFault.Memory → Appends (W.contents writer.old) (W.contents writer.new) []
+        ⊎ WroteOf (R.remaining reader.old) (W.contents writer.old) (W.contents writer.new) IsUpTo }
 {
     match read_script(alloc, reader) {
         Ok(script) => play(alloc, &script, writer),

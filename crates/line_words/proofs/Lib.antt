@@ -1,3 +1,4 @@
+pub mod Forms
 pub mod Lines
 pub mod Texts
 pub mod Written

@@ -1,3 +1,3 @@
-pub mod Faults
+pub mod Forms
 pub mod Texts
 pub mod Words

@@ -3,10 +3,10 @@ ghost use Rattle.std.specs.Prelude.{◌≡◌, ◌≤◌, map, IfOk, IfErr, true
 ghost use Rattle.std.specs.Char.{is_ascii_digit};
 ghost use Rattle.std.specs.List.{list_all};
 ghost use Rattle.std.specs.Str.Parse.{digits_value};
-ghost use Rattle.line_words.specs.Faults.{bid_word, key_words, name_word, number_word, term_word, words_in};
+ghost use Rattle.line_words.specs.Forms.{bid_word, name_word, number_word, term_word, words_in};
 ghost use Rattle.line_words.specs.Words.{is_number, words_of};
 
-use ring_records::{Bid, GroupName, Key, Refusal, Term};
+use ring_records::{Bid, GroupName, Refusal, Term};
 use std::alloc::{AllocError, Global};
 
 /// The most bytes of a line, without its end.
@@ -21,7 +21,7 @@ fn split_words(alloc: Global, line: &[u8]) -> Result<Vec<&[u8]>, AllocError>
 }
 
 /// The words of a line, which is given without its end. Refused as 25 where it has more than 200 bytes.
-#[tactic(auto, unfolding(crate::specs::Faults::words_in))]
+#[tactic(auto, unfolding(crate::specs::Forms::words_in))]
 pub fn read_words(alloc: Global, line: &[u8]) -> Result<Result<Vec<&[u8]>, Refusal>, AllocError>
     ensures words { IfOk result (λ r. IfOk r (λ v. words_in line.now ≡ Ok (map (λ x. x.now) v.items))) }
     ensures refused { IfOk result (λ r. IfErr r (λ e. words_in line.now ≡ Err e)) }
@@ -57,7 +57,7 @@ fn value_of(word: &[u8]) -> u64
 }
 
 /// The number that a word writes in 1 to 10 digits. Refused as 2 where it is none from `low` to `high`.
-#[tactic(auto, unfolding(crate::specs::Faults::number_word))]
+#[tactic(auto, unfolding(crate::specs::Forms::number_word))]
 pub fn read_number(word: &[u8], low: u64, high: u64) -> Result<u64, Refusal>
     ensures value { result ≡ number_word low high word.now }
     ensures range { IfOk result (λ n. (low ≤ n) × (n ≤ high)) }
@@ -92,13 +92,4 @@ pub fn read_bid(word: &[u8]) -> Result<Bid, Refusal>
     ensures { result ≡ bid_word word.now }
 {
     Bid::new(read_number(word, 0, 999_999_999)? as u32)
-}
-
-/// The key of the words for a group and a term. Refused as `read_group` and then `read_term` refuse them.
-pub fn read_key(group: &[u8], term: &[u8]) -> Result<Key, Refusal>
-    ensures { result ≡ key_words group.now term.now }
-{
-    let group = read_group(group)?;
-    let term = read_term(term)?;
-    Ok(Key { group, term })
 }

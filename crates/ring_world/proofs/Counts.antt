@@ -1,32 +1,34 @@
 -- How many tickets with a number the parts of an event leave open.
-use Rattle.std.proofs.Common.{ℕ, zero, suc, ◌≡◌, ◌+◌, ◌-◌, ◌≤◌, Bool, true, false, not, cond, List, [], ◌∷◌, ◌++◌, length, set, get_or, Option, Some, None, refl, ap, ◌∙◌, arith}
+use Rattle.std.proofs.Common.{ℕ, zero, suc, ◌≡◌, ◌+◌, ◌-◌, ◌≤◌, Bool, true, false, not, cond, List, [], ◌∷◌, ◌++◌, length, replicate, set, get_or, Option, Some, None, refl, ap, ◌∙◌, arith}
 use Rattle.std.specs.List.{filter, filter_map, cons_option}
 use Rattle.std.proofs.lemmas.List.{length-append}
 use Rattle.std.proofs.lemmas.List.Elements.{filter_map-append}
 use Rattle.ring_records.specs.declared.request.Request.{Request}
-use Rattle.ring_node.specs.Node.{Open, NodeView, asked_with, ticket_of, flushed, restarted, is_due, number_of, left, durable_in, new_node}
+use Rattle.ring_node.specs.Open.{Open, is_due, sealed, number_of}
 use Rattle.ring_world.specs.Counts.{numbered, IsBounded}
 use Rattle.ring_world.specs.Events.{Action}
-use Rattle.ring_world.specs.Ring.{RingView, node_at, happens, asked, landed, waits, settled, without_due, due, reply_of, with_reply, replies, lost, crashed, stopped, given, brought, swept, swept_with, swept_on, swept_one, ready, new_ring, new_nodes}
+use Rattle.ring_world.specs.Ring.{RingView, held_at, node_at, happens, asked, answered_by, landed, waits, settled, due_at, reply_of, with_reply, replies, Part, released, and_then, round, rounds, drained, lost, crashed, stopped, given, brought, swept, swept_with, swept_on, swept_one, next_delivery, new_ring}
 
 -- ---- lists of tickets
 
-some_more : (o : Option ℕ) (l k : List ℕ) → length l ≤ length k → length l ≤ length (cons_option o k)
-some_more None l k le = le
-some_more (Some n) l k le = omega arith
+with_one : (o : Option ℕ) (l : List ℕ) → length (cons_option o l) ≡ length (cons_option o []) + length l
+with_one None l = omega arith
+with_one (Some n) l = omega arith
 
-some_both : (o : Option ℕ) (l k : List ℕ) → length l ≤ length k → length (cons_option o l) ≤ length (cons_option o k)
-some_both None l k le = le
-some_both (Some n) l k le = omega arith
+split_if : (t : Open) (ts passed others : List Open) (b : Bool) → numbered passed + numbered others ≡ numbered ts → numbered (cond b (t ∷ passed) passed) + numbered (cond (not b) (t ∷ others) others) ≡ numbered (t ∷ ts)
+split_if t ts passed others true e =
+    let one = with_one t.number (filter_map number_of passed) in
+    let all = with_one t.number (filter_map number_of ts) in
+    omega arith
+split_if t ts passed others false e =
+    let one = with_one t.number (filter_map number_of others) in
+    let all = with_one t.number (filter_map number_of ts) in
+    omega arith
 
-fewer_if : (t : Open) (ts kept : List Open) (b : Bool) → length (filter_map number_of kept) ≤ length (filter_map number_of ts) → length (filter_map number_of (cond b (t ∷ kept) kept)) ≤ length (filter_map number_of (t ∷ ts))
-fewer_if t ts kept true le = some_both t.number (filter_map number_of kept) (filter_map number_of ts) le
-fewer_if t ts kept false le = some_more t.number (filter_map number_of kept) (filter_map number_of ts) le
-
--- some of the tickets have no more numbers than all
-fewer : (p : Open → Bool) (ts : List Open) → length (filter_map number_of (filter p ts)) ≤ length (filter_map number_of ts)
-fewer p [] = omega arith
-fewer p (t ∷ ts) = fewer_if t ts (filter p ts) (p t) (fewer p ts)
+-- what passes a test and what does not are all
+split : (p : Open → Bool) (ts : List Open) → numbered (filter p ts) + numbered (filter (λ t. not (p t)) ts) ≡ numbered ts
+split p [] = refl
+split p (t ∷ ts) = split_if t ts (filter p ts) (filter (λ u. not (p u)) ts) (p t) (split p ts)
 
 many_with : (t : Open) (o : Option ℕ) (ts : List Open) → length (filter_map reply_of ts) ≡ length (filter_map number_of ts) → length (cons_option (with_reply o t.kept.answer.reply) (filter_map reply_of ts)) ≡ length (cons_option o (filter_map number_of ts))
 many_with t None ts e = e
@@ -40,102 +42,150 @@ as_many (t ∷ ts) = many_with t t.number ts (as_many ts)
 -- ---- nodes
 
 -- what is so of an item and of its new value is so of the items afterwards
-pub each_after_set : {A : Type 0} (l : List A) (k j : ℕ) (v d : A) (P : A → Type 0) → P v → P (get_or l j d) → P (get_or (set l k v) j d)
+each_after_set : {A : Type 0} (l : List A) (k j : ℕ) (v d : A) (P : A → Type 0) → P v → P (get_or l j d) → P (get_or (set l k v) j d)
 each_after_set [] k j v d P p q = q
 each_after_set (x ∷ l) zero zero v d P p q = p
 each_after_set (x ∷ l) zero (suc j) v d P p q = q
 each_after_set (x ∷ l) (suc k) zero v d P p q = q
 each_after_set (x ∷ l) (suc k) (suc j) v d P p q = each_after_set l k j v d P p q
 
-bounded_happens : (w : RingView) (es : List (ℕ × Action)) (i : ℕ) (v : NodeView) (t : ℕ) → IsBounded w t → numbered v ≤ t → IsBounded (happens es i v w) t
-unfolding IsBounded
-bounded_happens w es i v t b le = λ j. each_after_set w.nodes (i - 1) (j - 1) v (new_node j w.size w.capacity) (λ u. numbered u ≤ t) le (b j)
+-- no more tickets than were put there
+set_there : (l : List (List Open)) (k : ℕ) (ts : List Open) → numbered (get_or (set l k ts) k []) ≤ numbered ts
+set_there [] k ts = omega arith
+set_there (x ∷ l) zero ts = omega arith
+set_there (x ∷ l) (suc k) ts = set_there l k ts
 
-pub bounded_more : (w : RingView) (t u : ℕ) → t ≤ u → IsBounded w t → IsBounded w u
+bounded_happens : (w : RingView) (es : List (ℕ × Action)) (i : ℕ) (ts : List Open) (t : ℕ) → IsBounded w t → numbered ts ≤ t → IsBounded (happens es i ts w) t
+unfolding IsBounded
+bounded_happens w es i ts t b le = λ j. each_after_set w.held (i - 1) (j - 1) ts [] (λ us. numbered us ≤ t) le (b j)
+
+bounded_more : (w : RingView) (t u : ℕ) → t ≤ u → IsBounded w t → IsBounded w u
 unfolding IsBounded
 bounded_more w t u le b = λ j. let h = b j in omega arith
 
-at_node : (w : RingView) (t i : ℕ) → IsBounded w t → numbered (node_at w i) ≤ t
+at_node : (w : RingView) (t i : ℕ) → IsBounded w t → numbered (held_at w i) ≤ t
 unfolding IsBounded
 at_node w t i b = b i
 
-asked_numbers : (number : Option ℕ) (q : Request) (v : NodeView) → numbered (asked_with number q v) ≡ numbered v + length (cons_option number [])
-unfolding asked_with
-asked_numbers number q v = ap length (filter_map-append number_of v.held (ticket_of number v q ∷ [])) ∙ length-append (filter_map number_of v.held) (filter_map number_of (ticket_of number v q ∷ []))
+-- more events open no ticket
+bounded_log : (w : RingView) (es : List (ℕ × Action)) (t : ℕ) → IsBounded w t → IsBounded (record w { events = es }) t
+unfolding IsBounded
+bounded_log w es t b = λ j. b j
 
-pub bounded_asked : (number : Option ℕ) (i : ℕ) (q : Request) (w : RingView) (t u : ℕ) → t + length (cons_option number []) ≤ u → IsBounded w t → IsBounded (asked number i q w) u
+bounded_asked : (number : Option ℕ) (i : ℕ) (q : Request) (w : RingView) (t u : ℕ) → t + length (cons_option number []) ≤ u → IsBounded w t → IsBounded (asked number i q w) u
 unfolding asked
 bounded_asked number i q w t u le b =
-    bounded_happens w _ i _ u (bounded_more w t u (omega arith) b) (let e = asked_numbers number q (node_at w i) in let h = at_node w t i b in omega arith)
-
-bounded_if : (w v : RingView) (c : Bool) (t : ℕ) → IsBounded w t → IsBounded v t → IsBounded (cond c v w) t
-bounded_if w v true t b e = e
-bounded_if w v false t b e = b
-
-pub bounded_landed : (i : ℕ) (w : RingView) (t : ℕ) → IsBounded w t → IsBounded (landed i w) t
-unfolding landed
-bounded_landed i w t b = bounded_if w _ (waits w i) t b (bounded_happens w _ i (flushed (node_at w i)) t b (at_node w t i b))
-
-pub bounded_settled : (i : ℕ) (w : RingView) (t : ℕ) → IsBounded w t → IsBounded (settled i w) t
-unfolding settled
-bounded_settled i w t b = bounded_happens w _ i (without_due (node_at w i)) t b (let h = at_node w t i b in let f = fewer (λ s. not (is_due (node_at w i).durable s)) (node_at w i).held in omega arith)
-
-pub bounded_crashed : (i : ℕ) (w : RingView) (t : ℕ) → IsBounded w t → IsBounded (crashed i w) t
-unfolding crashed restarted
-bounded_crashed i w t b = bounded_happens w _ i (restarted (durable_in (node_at w i)) (node_at w i)) t b (omega arith)
-
-pub bounded_stopped : (keeps_flying : Bool) (i : ℕ) (w : RingView) (t : ℕ) → IsBounded w t → IsBounded (stopped keeps_flying i w) t
-unfolding stopped restarted
-bounded_stopped keeps_flying i w t b = bounded_happens w _ i (restarted (left keeps_flying (node_at w i)) (node_at w i)) t b (omega arith)
+    let ticket : Open = record { number = number; kept = answered_by w i q } in
+    let more = ap length (filter_map-append number_of (held_at w i) (ticket ∷ [])) ∙ length-append (filter_map number_of (held_at w i)) (filter_map number_of (ticket ∷ [])) in
+    bounded_happens w _ i (held_at w i ++ ticket ∷ []) u (bounded_more w t u (omega arith) b) (let h = at_node w t i b in omega arith)
 
 bounded_given : (i : ℕ) (q : Request) (w : RingView) (t : ℕ) → IsBounded w t → IsBounded (given i q w) t
-unfolding given IsBounded
-bounded_given i q w t b = λ j. b j
+unfolding given
+bounded_given i q w t b = bounded_log w _ t b
 
-pub bounded_brought : (eager : Bool) (number : Option ℕ) (i : ℕ) (q : Request) (w : RingView) (t u : ℕ) → t + length (cons_option number []) ≤ u → IsBounded w t → IsBounded (brought eager number i q w) u
+pub bounded_crashed : (i : ℕ) (w : RingView) (t : ℕ) → IsBounded w t → IsBounded (crashed i w) t
+unfolding crashed
+bounded_crashed i w t b = bounded_happens w _ i [] t b (omega arith)
+
+pub bounded_stopped : (keeps_flying : Bool) (i : ℕ) (w : RingView) (t : ℕ) → IsBounded w t → IsBounded (stopped keeps_flying i w) t
+unfolding stopped
+bounded_stopped keeps_flying i w t b = bounded_happens w _ i [] t b (omega arith)
+
+-- ---- what is released
+
+-- the tickets of node i that the part answers are open before it and not after it, and it opens none
+record IsPaid (i : ℕ) (w : RingView) (p : Part) : Type 0 where
+  here : length p.0 + numbered (held_at p.1 i) ≤ numbered (held_at w i)
+  all : (t : ℕ) → IsBounded w t → IsBounded p.1 t
+
+paid_round : (i : ℕ) (w : RingView) → IsPaid i w (round i w)
+unfolding replies settled landed
+paid_round i w =
+    let t = landed i w in
+    let held = held_at w i in
+    let answers = as_many (due_at t i) in
+    let parts = split (is_due (node_at t i).durable) held in
+    let there = set_there w.held (i - 1) (sealed (node_at t i).durable held) in
+    record {
+      here = omega arith;
+      all = λ u b. bounded_happens t _ i (sealed (node_at t i).durable held) u (bounded_log w _ u b) (let h = at_node w u i b in omega arith);
+    }
+
+paid_released : (i : ℕ) (w : RingView) → IsPaid i w (released i w)
+unfolding replies settled
+paid_released i w =
+    let held = held_at w i in
+    let answers = as_many (due_at w i) in
+    let parts = split (is_due (node_at w i).durable) held in
+    let there = set_there w.held (i - 1) (sealed (node_at w i).durable held) in
+    record {
+      here = omega arith;
+      all = λ u b. bounded_happens w _ i (sealed (node_at w i).durable held) u b (let h = at_node w u i b in omega arith);
+    }
+
+paid_nothing : (i : ℕ) (w : RingView) → IsPaid i w ([], w)
+paid_nothing i w = record { here = omega arith; all = λ t b. b }
+
+paid_then : (i : ℕ) (w : RingView) (p : Part) (next : RingView → Part) → IsPaid i w p → IsPaid i p.1 (next p.1) → IsPaid i w (and_then p next)
+paid_then i w p next first then =
+    let l = length-append p.0 (next p.1).0 in
+    let h = first.here in
+    let k = then.here in
+    record { here = omega (arith, l, h, k); all = λ t b. then.all t (first.all t b) }
+
+paid_if : (i : ℕ) (w : RingView) (b : Bool) (p r : Part) → IsPaid i w p → IsPaid i w r → IsPaid i w (cond b p r)
+paid_if i w true p r h k = h
+paid_if i w false p r h k = k
+
+paid_rounds : (most i : ℕ) (w : RingView) → IsPaid i w (rounds most i w)
+unfolding rounds
+paid_rounds zero i w = paid_nothing i w
+paid_rounds (suc most) i w =
+    paid_if i w (waits w i) (and_then (round i w) (rounds most i)) ([], w) (paid_then i w (round i w) (rounds most i) (paid_round i w) (paid_rounds most i (round i w).1)) (paid_nothing i w)
+
+paid_brought : (number : Option ℕ) (i : ℕ) (q : Request) (w : RingView) → IsPaid i (asked number i q (given i q w)) (brought number i q w)
 unfolding brought
-bounded_brought eager number i q w t u le b =
-    let a = bounded_asked number i q (given i q w) t u le (bounded_given i q w t b) in
-    bounded_if (asked number i q (given i q w)) (landed i (asked number i q (given i q w))) eager u a (bounded_landed i (asked number i q (given i q w)) u a)
+paid_brought number i q w =
+    let t = asked number i q (given i q w) in
+    let first = paid_released i t in
+    paid_if i t w.eager (and_then (released i t) (drained i)) (released i t)
+    (paid_then i t (released i t) (drained i) first (paid_rounds (length (node_at (settled i t) i).inputs) i (settled i t))) first
+
+-- so few are told and left open
+pub bounded_brought : (number : Option ℕ) (i : ℕ) (q : Request) (w : RingView) (t u : ℕ) → t + length (cons_option number []) ≤ u → IsBounded w t → (length (brought number i q w).0 ≤ u) × IsBounded (brought number i q w).1 u
+bounded_brought number i q w t u le b =
+    let opens = bounded_asked number i q (given i q w) t u le (bounded_given i q w t b) in
+    let paid = paid_brought number i q w in
+    let h = at_node (asked number i q (given i q w)) u i opens in
+    let k = paid.here in
+    (omega (arith, h, k), paid.all u opens)
+
+pub bounded_round : (i : ℕ) (w : RingView) (t : ℕ) → IsBounded w t → (length (round i w).0 ≤ t) × IsBounded (round i w).1 t
+bounded_round i w t b =
+    let paid = paid_round i w in
+    let h = at_node w t i b in
+    let k = paid.here in
+    (omega (arith, h, k), paid.all t b)
+
+pub few_lost : (i : ℕ) (w : RingView) (t : ℕ) → IsBounded w t → length (lost i w) ≤ t
+unfolding lost
+few_lost i w t b = at_node w t i b
 
 -- ---- a new ring
 
--- what is so of an item that is added, and of the others, is so of all
-pub each_after_push : {A : Type 0} (l : List A) (x d : A) (k : ℕ) (P : A → Type 0) → P d → P x → P (get_or l k d) → P (get_or (l ++ x ∷ []) k d)
-each_after_push [] x d zero P none new old = new
-each_after_push [] x d (suc k) P none new old = none
-each_after_push (y ∷ l) x d zero P none new old = old
-each_after_push (y ∷ l) x d (suc k) P none new old = each_after_push l x d k P none new old
+none_open : (count k : ℕ) → numbered (get_or (replicate count []) k []) ≤ 0
+none_open zero k = omega arith
+none_open (suc count) zero = omega arith
+none_open (suc count) (suc k) = none_open count k
 
-none_open : (size capacity count k : ℕ) (d : NodeView) → numbered d ≤ 0 → numbered (get_or (new_nodes size capacity count) k d) ≤ 0
-unfolding new_nodes
-none_open size capacity zero k d none = none
-none_open size capacity (suc count) k d none =
-    each_after_push (new_nodes size capacity count) (new_node (count + 1) size capacity) d k (λ v. numbered v ≤ 0) none (omega arith) (none_open size capacity count k d none)
-
-pub bounded_new : (size capacity : ℕ) → IsBounded (new_ring size capacity) 0
+pub bounded_new : (size : ℕ) (eager : Bool) (capacity : ℕ) → IsBounded (new_ring size eager capacity) 0
 unfolding IsBounded
-bounded_new size capacity = λ i. none_open size capacity size (i - 1) (new_node i size capacity) (omega arith)
+bounded_new size eager capacity = λ i. none_open size (i - 1)
 
 -- what was told changes no node
 pub bounded_told : (w : RingView) (t : ℕ) → IsBounded w t → IsBounded (record w { told = w.events }) t
 unfolding IsBounded
 bounded_told w t b = λ i. b i
-
--- ---- what is told
-
-pub few_replies : (i : ℕ) (w : RingView) (t : ℕ) → IsBounded w t → length (replies i w) ≤ t
-unfolding replies
-few_replies i w t b =
-    let v = node_at w i in
-    let e = as_many (due v) in
-    let f = fewer (is_due v.durable) v.held in
-    let h = at_node w t i b in
-    omega arith
-
-pub few_lost : (i : ℕ) (w : RingView) (t : ℕ) → IsBounded w t → length (lost i w) ≤ t
-unfolding lost
-few_lost i w t b = at_node w t i b
 
 -- ---- deliveries
 
@@ -143,15 +193,15 @@ bounded_on : (others : RingView → ℕ × RingView) (one : Bool × RingView) (t
 bounded_on others (true, w) t more b = more w b
 bounded_on others (false, w) t more b = b
 
-bounded_one : (eager : Bool) (i : ℕ) (q : Request) (w : RingView) (t : ℕ) → IsBounded w t → IsBounded (swept_one eager i q w).1 t
+bounded_one : (i : ℕ) (q : Request) (w : RingView) (t : ℕ) → IsBounded w t → IsBounded (swept_one i q w).1 t
 unfolding swept_one
-bounded_one eager i q w t b = bounded_settled i (brought eager None i q w) t (bounded_brought eager None i q w t t (omega arith) b)
+bounded_one i q w t b = (bounded_brought None i q w t t (omega arith) b).1
 
-bounded_with : (eager : Bool) (others : RingView → ℕ × RingView) (w : RingView) (delivery : Option (ℕ × Request)) (t : ℕ) → ((w : RingView) → IsBounded w t → IsBounded (others w).1 t) → IsBounded w t → IsBounded (swept_with eager others w delivery).1 t
-bounded_with eager others w None t more b = b
-bounded_with eager others w (Some delivery) t more b = bounded_on others (swept_one eager delivery.0 delivery.1 w) t more (bounded_one eager delivery.0 delivery.1 w t b)
+bounded_with : (others : RingView → ℕ × RingView) (w : RingView) (delivery : Option (ℕ × Request)) (t : ℕ) → ((w : RingView) → IsBounded w t → IsBounded (others w).1 t) → IsBounded w t → IsBounded (swept_with others w delivery).1 t
+bounded_with others w None t more b = b
+bounded_with others w (Some delivery) t more b = bounded_on others (swept_one delivery.0 delivery.1 w) t more (bounded_one delivery.0 delivery.1 w t b)
 
-pub bounded_swept : (eager : Bool) (count : ℕ) (w : RingView) (t : ℕ) → IsBounded w t → IsBounded (swept eager count w).1 t
+pub bounded_swept : (count : ℕ) (w : RingView) (t : ℕ) → IsBounded w t → IsBounded (swept count w).1 t
 unfolding swept
-bounded_swept eager zero w t b = b
-bounded_swept eager (suc count) w t b = bounded_with eager (swept eager count) w (ready w 1 w.size) t (λ v c. bounded_swept eager count v t c) b
+bounded_swept zero w t b = b
+bounded_swept (suc count) w t b = bounded_with (swept count) w (next_delivery w) t (λ v c. bounded_swept count v t c) b

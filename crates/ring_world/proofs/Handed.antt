@@ -1,6 +1,5 @@
 -- What a neighbour may release, and that it brings what is asked.
-use Rattle.std.proofs.Common.{ℕ, ◌≡◌, ◌≤◌, true, List, [], ◌∷◌, ◌++◌, length, take, Option, Some, None, leb, eqb, sym, ap, ◌∙◌, subst, arith}
-use Rattle.std.specs.Prelude.{slice_get}
+use Rattle.std.proofs.Common.{ℕ, ◌≡◌, ◌≤◌, true, List, [], ◌∷◌, ◌++◌, length, take, Option, Some, None, leb, eqb, sym, ap, ◌∙◌, arith}
 use Rattle.std.proofs.lemmas.Bool.{and_parts, and_from, eqb-true, leb-true}
 use Rattle.std.proofs.lemmas.Bool.Decides.{nat_tests}
 use Rattle.std.proofs.lemmas.List.Elements.{Contains-push}
@@ -11,17 +10,14 @@ use Rattle.ring_records.specs.declared.packet.Packet.{Packet}
 use Rattle.ring_records.specs.declared.packet.Packet.TheVariants.{Carry, Credit}
 use Rattle.ring_records.specs.declared.request.Request.{Request}
 use Rattle.ring_records.specs.declared.request.Request.TheVariants as ask
-use Rattle.ring_records.specs.Answer.{PacketRests}
-use Rattle.ring_records.specs.Emission.{sent}
+use Rattle.ring_records.specs.Answer.{PacketRests, durable_in}
 use Rattle.ring_records.specs.History.{taken}
 use Rattle.ring_records.specs.Order.{is_key, is_candidate, is_msg}
 use Rattle.ring_records.specs.Place.{after, before}
 use Rattle.ring_records.proofs.Keys.{is_key-true, is_key-same}
-use Rattle.ring_node.specs.Node.{durable_in}
-use Rattle.ring_world.specs.Events.{Sent, Rests, Action, Release, Process, process, IsDelivered, IsReleasable}
-use Rattle.ring_world.specs.Ring.{RingView, Shows, node_at, handed, is_sent, message, is_earned, is_released}
+use Rattle.ring_world.specs.Events.{Sent, Rests, Action, Release, Process, process, IsDelivered, IsReleasable, IsSchedule}
+use Rattle.ring_world.specs.Ring.{RingView, node_at, handed, is_sent, message, is_earned, is_released}
 use Rattle.ring_world.proofs.Moves.{Stays, release_one, release_none}
-use Rattle.ring_world.proofs.Nodes.{mine}
 
 is_candidate-true : (a b : Candidate) → is_candidate a b ≡ true → a ≡ b
 unfolding is_candidate
@@ -63,7 +59,7 @@ pub after_high : (n i : ℕ) → 1 ≤ i → i ≤ n → after n i ≤ n
 unfolding after
 after_high n i low high = grind (arith, nat_tests)
 
-module _ (w : RingView) (shows : Shows w.size w.capacity w.events w.nodes) where
+module _ (w : RingView) (schedule : IsSchedule w.size w.capacity w.events) where
   -- the packets that node b may release
   module _ (b : ℕ) (low : 1 ≤ b) (high : b ≤ w.size) where
     abbrev p : Process
@@ -74,26 +70,22 @@ module _ (w : RingView) (shows : Shows w.size w.capacity w.events w.nodes) where
     packet_releasable packet rests = record { number = p.state.durable; durable = omega arith; rests = rests }
 
     pub packet_stays : (packet : Packet) → PacketRests b (take p.state.durable p.state.inputs) packet → Stays w.size w.capacity w.events ((b, Release (Sent packet)) ∷ [])
-    packet_stays packet rests = release_one w.size w.capacity w.events b (Sent packet) shows.schedule low high (packet_releasable packet rests)
+    packet_stays packet rests = release_one w.size w.capacity w.events b (Sent packet) schedule low high (packet_releasable packet rests)
 
     pub carry_rests : (place : ℕ) (msg : Msg) → is_sent (message w b place) msg ≡ true → PacketRests b (take p.state.durable p.state.inputs) (Carry place msg)
-    carry_rests place msg e =
-        let here = mine w shows b low high in
-        let same : message w b place ≡ slice_get (sent b (take p.state.durable p.state.inputs)) place = λ t. slice_get (sent (here.me t) (take (here.state t).durable (here.state t).inputs)) place in
-        sym same ∙ is_sent-same (message w b place) msg e
+    carry_rests place msg e = is_sent-same (message w b place) msg e
 
     pub credit_rests : (upto : ℕ) → is_earned w b upto ≡ true → PacketRests b (take p.state.durable p.state.inputs) (Credit upto)
     credit_rests upto e =
-        let here = mine w shows b low high in
-        let parts = and_parts (leb 1 upto) (leb upto (length (taken (durable_in (node_at w b))))) e in
-        let same : length (taken (durable_in (node_at w b))) ≡ length (taken (take p.state.durable p.state.inputs)) = λ t. length (taken (take (here.state t).durable (here.state t).inputs)) in
-        (leb-true 1 upto parts.0, subst (λ k. upto ≤ k) same (leb-true upto (length (taken (durable_in (node_at w b)))) parts.1))
+        let takes = length (taken (durable_in (node_at w b))) in
+        let parts = and_parts (leb 1 upto) (leb upto takes) e in
+        (leb-true 1 upto parts.0, leb-true upto takes parts.1)
 
   -- what its neighbour hands to node i changes no node, and is what the request brings
   module _ (i : ℕ) (first : 1 ≤ i) (last : i ≤ w.size) where
     pub handed_stays : (q : Request) → is_released w i q ≡ true → Stays w.size w.capacity w.events (handed w.size i q)
     unfolding is_released
-    handed_stays (ask.Stand key bid) e = release_none w.size w.capacity w.events shows.schedule
+    handed_stays (ask.Stand key bid) e = release_none w.size w.capacity w.events schedule
     handed_stays (ask.Take place msg) e =
         let b = before w.size i in
         let low = before_low w.size i first last in
@@ -104,8 +96,8 @@ module _ (w : RingView) (shows : Shows w.size w.capacity w.events w.nodes) where
         let low = after_low w.size i first last in
         let high = after_high w.size i first last in
         packet_stays b low high (Credit upto) (credit_rests b low high upto e)
-    handed_stays (ask.Who key) e = release_none w.size w.capacity w.events shows.schedule
-    handed_stays (ask.Latest group) e = release_none w.size w.capacity w.events shows.schedule
+    handed_stays (ask.Who key) e = release_none w.size w.capacity w.events schedule
+    handed_stays (ask.Latest group) e = release_none w.size w.capacity w.events schedule
 
 -- the request is delivered once it is handed over
 pub handed_delivers : (n i : ℕ) (events : List (ℕ × Action)) (q : Request) → IsDelivered n (events ++ handed n i q) i q

@@ -7,11 +7,12 @@ mod Nodes
 mod Opened
 mod Processes
 mod Promises
+mod Reached
 mod Rest
 mod Runs
 mod Schedules
 mod Steps
 mod Sweeps
 mod Tickets
+mod Ties
 mod WorkedSchedule
-mod Working

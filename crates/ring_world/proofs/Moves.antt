@@ -4,7 +4,7 @@ use Rattle.std.specs.List.{Contains}
 use Rattle.std.proofs.lemmas.Bool.{cases_eq}
 use Rattle.ring_records.proofs.Leader.{Contains-here, Contains-later}
 use Rattle.ring_records.proofs.Lists.{EachAfter-push}
-use Rattle.ring_node.specs.Node.{Open}
+use Rattle.ring_node.specs.Open.{Open}
 use Rattle.ring_world.specs.Events.{Thing, Replied, Action, Release, Process, act, process, IsReleasable, May, MayHappen, IsSchedule}
 use Rattle.ring_world.specs.Ring.{release_of}
 use Rattle.ring_world.proofs.Schedules.{process-same, process-other}
@@ -35,6 +35,11 @@ module _ (n capacity : ℕ) (events : List (ℕ × Action)) (i : ℕ) (a b : Act
       ap (λ es. process n capacity es i) (sym joined)
       ∙ (process-same n capacity (events ++ (i, a) ∷ []) i b ∙ ap (λ p. act i n capacity p b) (process-same n capacity events i a))
 
+  pub process_two-other : (k : ℕ) → (i ≡ k → ⊥) → process n capacity (events ++ (i, a) ∷ (i, b) ∷ []) k ≡ process n capacity events k
+  process_two-other k ne =
+      ap (λ es. process n capacity es k) (sym joined)
+      ∙ (process-other n capacity (events ++ (i, a) ∷ []) i b k ne ∙ process-other n capacity events i a k ne)
+
   pub grows_two : IsSchedule n capacity events → MayHappen n capacity events (i, a) → May n capacity (events ++ (i, a) ∷ []) i (act i n capacity (process n capacity events i) a) b → Grows n capacity events ((i, a) ∷ (i, b) ∷ []) i
   grows_two schedule may then =
       let one = grows_one n capacity events i a schedule may in
@@ -47,20 +52,32 @@ module _ (n capacity : ℕ) (events : List (ℕ × Action)) (i : ℕ) (a b : Act
 
 -- ---- releases
 
+-- a release changes no node
+pub process-release : (n capacity : ℕ) (events : List (ℕ × Action)) (i : ℕ) (t : Thing) (k : ℕ) → process n capacity (events ++ (i, Release t) ∷ []) k ≡ process n capacity events k
+unfolding act
+process-release n capacity events i t k = elim (cases_eq i k) [
+  | inl e ↦ subst (λ j. process n capacity (events ++ (i, Release t) ∷ []) j ≡ process n capacity events j) e (process-same n capacity events i (Release t))
+  | inr ne ↦ process-other n capacity events i (Release t) k ne
+]
+
+-- nor do many
+pub process-releases : (n capacity i : ℕ) (ts : List Open) (events : List (ℕ × Action)) (k : ℕ) → process n capacity (events ++ map (release_of i) ts) k ≡ process n capacity events k
+process-releases n capacity i [] events k = ap (λ es. process n capacity es k) (append-nil events)
+process-releases n capacity i (t ∷ ts) events k =
+    ap (λ es. process n capacity es k) (sym (append_assoc events (release_of i t ∷ []) (map (release_of i) ts)))
+    ∙ (process-releases n capacity i ts (events ++ release_of i t ∷ []) k ∙ process-release n capacity events i (Replied t.kept) k)
+
 pub release_one : (n capacity : ℕ) (events : List (ℕ × Action)) (i : ℕ) (t : Thing) → IsSchedule n capacity events → 1 ≤ i → i ≤ n → IsReleasable i n capacity (process n capacity events i) t → Stays n capacity events ((i, Release t) ∷ [])
-unfolding May act
+unfolding May
 release_one n capacity events i t schedule first last may = record {
   schedule = (grows_one n capacity events i (Release t) schedule (record { first = first; last = last; may = may })).schedule;
-  same = λ k. elim (cases_eq i k) [
-    | inl e ↦ subst (λ j. process n capacity (events ++ (i, Release t) ∷ []) j ≡ process n capacity events j) e (process-same n capacity events i (Release t))
-    | inr ne ↦ process-other n capacity events i (Release t) k ne
-  ];
+  same = λ k. process-release n capacity events i t k;
 }
 
 pub release_none : (n capacity : ℕ) (events : List (ℕ × Action)) → IsSchedule n capacity events → Stays n capacity events []
 release_none n capacity events schedule = record {
   schedule = subst (IsSchedule n capacity) (sym (append-nil events)) schedule;
-  same = λ k. ap (λ es. process n capacity es k) (append-nil events);
+  same = λ k. process-releases n capacity 1 [] events k;
 }
 
 pub release_all : (n capacity i : ℕ) → 1 ≤ i → i ≤ n → (ts : List Open) (events : List (ℕ × Action)) → IsSchedule n capacity events → ((t : Open) → Contains ts t → IsReleasable i n capacity (process n capacity events i) (Replied t.kept))
@@ -70,8 +87,7 @@ release_all n capacity i first last (t ∷ ts) events schedule each =
     let one = release_one n capacity events i (Replied t.kept) schedule first last (each t (Contains-here t ts)) in
     let rest = release_all n capacity i first last ts (events ++ release_of i t ∷ []) one.schedule
     (λ u there. subst (λ (p : Process). IsReleasable i n capacity p (Replied u.kept)) (sym (one.same i)) (each u (Contains-later t ts u there))) in
-    let joined = append_assoc events (release_of i t ∷ []) (map (release_of i) ts) in
     record {
-      schedule = subst (IsSchedule n capacity) joined rest.schedule;
-      same = λ k. ap (λ es. process n capacity es k) (sym joined) ∙ (rest.same k ∙ one.same k);
+      schedule = subst (IsSchedule n capacity) (append_assoc events (release_of i t ∷ []) (map (release_of i) ts)) rest.schedule;
+      same = λ k. process-releases n capacity i (t ∷ ts) events k;
     }

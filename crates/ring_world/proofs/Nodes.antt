@@ -1,5 +1,5 @@
 -- The nodes of a ring stay those that its events reach.
-use Rattle.std.proofs.Common.{ℕ, ◌≡◌, ◌≤◌, ◌<◌, ◌+◌, ◌-◌, Bool, true, false, min, List, [], ◌∷◌, ◌++◌, length, take, map, set, get_or, Option, sym, ap, ◌∙◌, subst, inl, inr, arith}
+use Rattle.std.proofs.Common.{ℕ, ◌≡◌, ◌≤◌, ◌<◌, ◌+◌, ◌-◌, Bool, true, false, nat_lt, min, List, [], ◌∷◌, ◌++◌, length, take, map, set, get_or, Option, sym, ap, ◌∙◌, subst, inl, inr, arith}
 use Rattle.std.specs.List.{Contains}
 use Rattle.std.proofs.lemmas.Bool.{cases_eq, leb-true, ltb-true}
 use Rattle.std.proofs.lemmas.List.{length-append, length-set, get_or-set_same, get_or-set_other}
@@ -8,9 +8,11 @@ use Rattle.ring_records.specs.declared.request.Request.{Request}
 use Rattle.ring_records.specs.Admission.{fresh}
 use Rattle.ring_records.specs.Answer.{answered, NodeState, asked, launched, landed, opened, left_by}
 use Rattle.ring_records.proofs.Leader.{Contains-nil}
-use Rattle.ring_node.specs.Node.{Open, NodeView, new_node, durable_in, answered_by, ticket_of, asked_with, flushed, is_due, restarted, left}
+use Rattle.ring_node.specs.Node.{NodeView, new_node, durable_in, answered_by, ticket_of, asked_with, flushed, restarted, left}
+use Rattle.ring_node.specs.Open.{Open, due, is_due}
 use Rattle.ring_world.specs.Events.{Replied, Action, Submit, Launch, Land, Crash, Process, act, process, IsDelivered, IsReleasable, May, MayHappen}
-use Rattle.ring_world.specs.Ring.{RingView, ShowsNode, Shows, node_at, waits, due, without_due, release_of}
+use Rattle.ring_world.specs.Ring.{release_of}
+use Rattle.ring_world.specs.Shows.{ShowsNode, Shows, without_due}
 use Rattle.ring_world.proofs.Moves.{Grows, Stays, grows_one, grows_two, process_two, release_all}
 use Rattle.ring_world.proofs.Schedules.{process-same}
 use Rattle.ring_world.proofs.Tickets.{from_filter}
@@ -26,106 +28,104 @@ still n capacity events more k v same shows = record {
   few = (let l = length-append events more in let f = shows.few in omega arith);
 }
 
-module _ (w : RingView) (shows : Shows w.size w.capacity w.events w.nodes) where
+module _ (n capacity : ℕ) (events : List (ℕ × Action)) (nodes : List NodeView) (shows : Shows n capacity events nodes) where
   -- the events change no node
-  pub resting : (more : List (ℕ × Action)) → Stays w.size w.capacity w.events more → Shows w.size w.capacity (w.events ++ more) w.nodes
+  pub resting : (more : List (ℕ × Action)) → Stays n capacity events more → Shows n capacity (events ++ more) nodes
   resting more rests = record {
     schedule = rests.schedule;
     count = shows.count;
-    node = λ at other lt. still w.size w.capacity w.events more (at + 1) _ (rests.same (at + 1)) (shows.node at other lt);
+    node = λ at other lt. still n capacity events more (at + 1) _ (rests.same (at + 1)) (shows.node at other lt);
   }
 
-  module _ (i : ℕ) (first : 1 ≤ i) (last : i ≤ w.size) where
+  module _ (i : ℕ) (first : 1 ≤ i) (last : i ≤ n) where
     abbrev v : NodeView
-    v = node_at w i
+    v = get_or nodes (i - 1) (new_node i n capacity)
 
     abbrev p : Process
-    p = process w.size w.capacity w.events i
+    p = process n capacity events i
 
-    pub mine : ShowsNode w.size w.capacity w.events i (node_at w i)
-    mine = subst (λ k. ShowsNode w.size w.capacity w.events k v) (let e : i - 1 + 1 ≡ i = omega arith in e) (shows.node (i - 1) (new_node i w.size w.capacity) (omega arith))
+    pub mine : ShowsNode n capacity events i (get_or nodes (i - 1) (new_node i n capacity))
+    mine = subst (λ k. ShowsNode n capacity events k v) (let e : i - 1 + 1 ≡ i = omega arith in e) (shows.node (i - 1) (new_node i n capacity) (omega arith))
 
     -- the events change node i alone
-    module _ (more : List (ℕ × Action)) (grows : Grows w.size w.capacity w.events more i) (u : NodeView) (here : ShowsNode w.size w.capacity (w.events ++ more) i u) where
-      node_after : (at : ℕ) (other : NodeView) → at < w.size → ShowsNode w.size w.capacity (w.events ++ more) (at + 1) (get_or (set w.nodes (i - 1) u) at other)
+    module _ (more : List (ℕ × Action)) (grows : Grows n capacity events more i) (u : NodeView) (here : ShowsNode n capacity (events ++ more) i u) where
+      node_after : (at : ℕ) (other : NodeView) → at < n → ShowsNode n capacity (events ++ more) (at + 1) (get_or (set nodes (i - 1) u) at other)
       node_after at other lt = elim (cases_eq at (i - 1)) [
         | inl e ↦ (let place : i ≡ at + 1 = omega arith in
-            let got : get_or (set w.nodes (i - 1) u) at other ≡ u = ap (λ k. get_or (set w.nodes (i - 1) u) k other) e ∙ get_or-set_same w.nodes (i - 1) u other (let c = shows.count in omega arith) in
-            subst (ShowsNode w.size w.capacity (w.events ++ more) (at + 1)) (sym got) (subst (λ k. ShowsNode w.size w.capacity (w.events ++ more) k u) place here))
-        | inr ne ↦ subst (ShowsNode w.size w.capacity (w.events ++ more) (at + 1)) (sym (get_or-set_other w.nodes (i - 1) at u other ne))
-            (still w.size w.capacity w.events more (at + 1) _ (grows.others (at + 1) (λ q. ne (omega arith))) (shows.node at other lt))
+            let got : get_or (set nodes (i - 1) u) at other ≡ u = ap (λ k. get_or (set nodes (i - 1) u) k other) e ∙ get_or-set_same nodes (i - 1) u other (let c = shows.count in omega arith) in
+            subst (ShowsNode n capacity (events ++ more) (at + 1)) (sym got) (subst (λ k. ShowsNode n capacity (events ++ more) k u) place here))
+        | inr ne ↦ subst (ShowsNode n capacity (events ++ more) (at + 1)) (sym (get_or-set_other nodes (i - 1) at u other ne))
+            (still n capacity events more (at + 1) _ (grows.others (at + 1) (λ q. ne (omega arith))) (shows.node at other lt))
       ]
 
-      pub moved : Shows w.size w.capacity (w.events ++ more) (set w.nodes (i - 1) u)
-      moved = record { schedule = grows.schedule; count = length-set w.nodes (i - 1) u ∙ shows.count; node = node_after }
+      pub moved : Shows n capacity (events ++ more) (set nodes (i - 1) u)
+      moved = record { schedule = grows.schedule; count = length-set nodes (i - 1) u ∙ shows.count; node = node_after }
 
     -- ---- node i is asked
 
     abbrev submission : Request → List (ℕ × Action)
     submission q = (i, Submit q) ∷ []
 
-    answered_same : (q : Request) → answered_by v q ≡ answered i w.size w.capacity fresh p.state.inputs q
+    pub answered_same : (q : Request) → answered_by v q ≡ answered i n capacity fresh p.state.inputs q
     answered_same q t = answered (mine.me t) (mine.ring t) (mine.room t) fresh (mine.state t).inputs q
 
-    asked_here : (number : Option ℕ) (q : Request) → ShowsNode w.size w.capacity (w.events ++ submission q) i (asked_with number q v)
+    asked_here : (number : Option ℕ) (q : Request) → ShowsNode n capacity (events ++ submission q) i (asked_with number q v)
     unfolding asked_with act
     asked_here number q =
-        let same = process-same w.size w.capacity w.events i (Submit q) in
+        let same = process-same n capacity events i (Submit q) in
         record {
           me = mine.me;
           ring = mine.ring;
           room = mine.room;
           state = (λ t. asked (mine.me t) (mine.ring t) (mine.room t) fresh (mine.state t) q) ∙ ap (λ (r : Process). r.state) (sym same);
           kept = λ t here. subst (λ (r : Process). Contains r.kept t.kept) (sym same) (elim (Contains-push_cases v.held (ticket_of number v q) t here) [
-            | inl old ↦ Contains-append_left p.kept (answered i w.size w.capacity fresh p.state.inputs q ∷ []) t.kept (mine.kept t old)
-            | inr new ↦ subst (λ (u : Open). Contains (p.kept ++ answered i w.size w.capacity fresh p.state.inputs q ∷ []) u.kept) new
-                (subst (Contains (p.kept ++ answered i w.size w.capacity fresh p.state.inputs q ∷ [])) (sym (answered_same q)) (Contains-push p.kept (answered i w.size w.capacity fresh p.state.inputs q)))
+            | inl old ↦ Contains-append_left p.kept (answered i n capacity fresh p.state.inputs q ∷ []) t.kept (mine.kept t old)
+            | inr new ↦ subst (λ (u : Open). Contains (p.kept ++ answered i n capacity fresh p.state.inputs q ∷ []) u.kept) new
+                (subst (Contains (p.kept ++ answered i n capacity fresh p.state.inputs q ∷ [])) (sym (answered_same q)) (Contains-push p.kept (answered i n capacity fresh p.state.inputs q)))
           ]);
-          few = (let l = length-append w.events (submission q) in let f = mine.few in omega arith);
+          few = (let l = length-append events (submission q) in let f = mine.few in omega arith);
         }
 
-    pub asked_shows : (number : Option ℕ) (q : Request) → IsDelivered w.size w.events i q → Shows w.size w.capacity (w.events ++ submission q) (set w.nodes (i - 1) (asked_with number q v))
+    pub asked_shows : (number : Option ℕ) (q : Request) → IsDelivered n events i q → Shows n capacity (events ++ submission q) (set nodes (i - 1) (asked_with number q v))
     unfolding May
     asked_shows number q delivered =
-        moved (submission q) (grows_one w.size w.capacity w.events i (Submit q) shows.schedule (record { first = first; last = last; may = delivered })) (asked_with number q v) (asked_here number q)
+        moved (submission q) (grows_one n capacity events i (Submit q) shows.schedule (record { first = first; last = last; may = delivered })) (asked_with number q v) (asked_here number q)
 
     -- ---- a batch of node i lands
 
     abbrev batch : List (ℕ × Action)
     batch = (i, Launch) ∷ (i, Land) ∷ []
 
-    may_launch : MayHappen w.size w.capacity w.events (i, Launch)
+    may_launch : MayHappen n capacity events (i, Launch)
     unfolding May
     may_launch = record { first = first; last = last; may = sym (ap (λ (s : NodeState). s.flying) mine.state) ∙ ap (λ (s : NodeState). s.durable) mine.state }
 
-    may_land : waits w i ≡ true → p.state.durable < min (p.state.durable + 64) (length p.state.inputs)
-    may_land e =
-        let more = ltb-true v.durable (length v.inputs) e in
-        subst (λ (s : NodeState). s.durable < min (s.durable + 64) (length s.inputs)) mine.state (let h : v.durable < min (v.durable + 64) (length v.inputs) = omega arith in h)
+    may_land : nat_lt p.state.durable (length p.state.inputs) ≡ true → p.state.durable < min (p.state.durable + 64) (length p.state.inputs)
+    may_land e = let more = ltb-true p.state.durable (length p.state.inputs) e in omega arith
 
-    landed_here : ShowsNode w.size w.capacity (w.events ++ batch) i (flushed v)
+    landed_here : ShowsNode n capacity (events ++ batch) i (flushed v)
     unfolding act
     landed_here =
-        let same = process_two w.size w.capacity w.events i Launch Land in
+        let same = process_two n capacity events i Launch Land in
         record {
           me = mine.me;
           ring = mine.ring;
           room = mine.room;
           state = ap (λ (s : NodeState). landed (launched s)) mine.state ∙ ap (λ (r : Process). r.state) (sym same);
           kept = λ t here. subst (λ (r : Process). Contains r.kept t.kept) (sym same) (mine.kept t here);
-          few = (let l = length-append w.events batch in let f = mine.few in omega arith);
+          few = (let l = length-append events batch in let f = mine.few in omega arith);
         }
 
-    pub landed_shows : waits w i ≡ true → Shows w.size w.capacity (w.events ++ batch) (set w.nodes (i - 1) (flushed v))
+    pub landed_shows : nat_lt p.state.durable (length p.state.inputs) ≡ true → Shows n capacity (events ++ batch) (set nodes (i - 1) (flushed v))
     unfolding May act
-    landed_shows e = moved batch (grows_two w.size w.capacity w.events i Launch Land shows.schedule may_launch (may_land e)) (flushed v) landed_here
+    landed_shows e = moved batch (grows_two n capacity events i Launch Land shows.schedule may_launch (may_land e)) (flushed v) landed_here
 
     -- ---- replies of node i are released
 
     abbrev releases : List (ℕ × Action)
-    releases = map (release_of i) (due v)
+    releases = map (release_of i) (due v.durable v.held)
 
-    due_releasable : (t : Open) → Contains (due v) t → IsReleasable i w.size w.capacity p (Replied t.kept)
+    due_releasable : (t : Open) → Contains (due v.durable v.held) t → IsReleasable i n capacity p (Replied t.kept)
     unfolding IsReleasable
     due_releasable t here =
         let from = from_filter (is_due v.durable) v.held t here in
@@ -133,12 +133,12 @@ module _ (w : RingView) (shows : Shows w.size w.capacity w.events w.nodes) where
         let durable = ap (λ (s : NodeState). s.durable) mine.state in
         (mine.kept t from.0, omega (arith, low, durable))
 
-    releases_rest : Stays w.size w.capacity w.events releases
-    releases_rest = release_all w.size w.capacity i first last (due v) w.events shows.schedule due_releasable
+    releases_rest : Stays n capacity events releases
+    releases_rest = release_all n capacity i first last (due v.durable v.held) events shows.schedule due_releasable
 
-    settled_here : ShowsNode w.size w.capacity (w.events ++ releases) i (without_due v)
+    settled_here : ShowsNode n capacity (events ++ releases) i (without_due v)
     settled_here =
-        let now = still w.size w.capacity w.events releases i v (releases_rest.same i) mine in
+        let now = still n capacity events releases i v (releases_rest.same i) mine in
         record {
           me = now.me;
           ring = now.ring;
@@ -148,12 +148,12 @@ module _ (w : RingView) (shows : Shows w.size w.capacity w.events w.nodes) where
           few = now.few;
         }
 
-    pub settled_shows : Shows w.size w.capacity (w.events ++ releases) (set w.nodes (i - 1) (without_due v))
+    pub settled_shows : Shows n capacity (events ++ releases) (set nodes (i - 1) (without_due v))
     settled_shows = moved releases (record { schedule = releases_rest.schedule; others = λ k ne. releases_rest.same k }) (without_due v) settled_here
 
     -- ---- node i loses its memory
 
-    reopened : (more : List (ℕ × Action)) (inputs : List _) → process w.size w.capacity (w.events ++ more) i ≡ record { state = opened inputs; kept = [] } → ShowsNode w.size w.capacity (w.events ++ more) i (restarted inputs v)
+    reopened : (more : List (ℕ × Action)) (inputs : List _) → process n capacity (events ++ more) i ≡ record { state = opened inputs; kept = [] } → ShowsNode n capacity (events ++ more) i (restarted inputs v)
     unfolding restarted
     reopened more inputs same = record {
       me = mine.me;
@@ -167,22 +167,22 @@ module _ (w : RingView) (shows : Shows w.size w.capacity w.events w.nodes) where
     abbrev crash : List (ℕ × Action)
     crash = (i, Crash false) ∷ []
 
-    pub crashed_shows : Shows w.size w.capacity (w.events ++ crash) (set w.nodes (i - 1) (restarted (durable_in v) v))
+    pub crashed_shows : Shows n capacity (events ++ crash) (set nodes (i - 1) (restarted (durable_in v) v))
     unfolding May act
     crashed_shows =
-        moved crash (grows_one w.size w.capacity w.events i (Crash false) shows.schedule (record { first = first; last = last; may = tt })) (restarted (durable_in v) v)
-        (reopened crash (durable_in v) (process-same w.size w.capacity w.events i (Crash false) ∙ ap (λ (s : NodeState). record { state = opened (take s.durable s.inputs); kept = [] }) (sym mine.state)))
+        moved crash (grows_one n capacity events i (Crash false) shows.schedule (record { first = first; last = last; may = tt })) (restarted (durable_in v) v)
+        (reopened crash (durable_in v) (process-same n capacity events i (Crash false) ∙ ap (λ (s : NodeState). record { state = opened (take s.durable s.inputs); kept = [] }) (sym mine.state)))
 
     abbrev stop : Bool → List (ℕ × Action)
     stop keeps_flying = (i, Launch) ∷ (i, Crash keeps_flying) ∷ []
 
-    stopped_here : (keeps_flying : Bool) → process w.size w.capacity (w.events ++ stop keeps_flying) i ≡ record { state = opened (left keeps_flying v); kept = [] }
+    stopped_here : (keeps_flying : Bool) → process n capacity (events ++ stop keeps_flying) i ≡ record { state = opened (left keeps_flying v); kept = [] }
     unfolding act
-    stopped_here true = process_two w.size w.capacity w.events i Launch (Crash true) ∙ ap (λ (s : NodeState). record { state = opened (left_by true (launched s)); kept = [] }) (sym mine.state)
-    stopped_here false = process_two w.size w.capacity w.events i Launch (Crash false) ∙ ap (λ (s : NodeState). record { state = opened (left_by false (launched s)); kept = [] }) (sym mine.state)
+    stopped_here true = process_two n capacity events i Launch (Crash true) ∙ ap (λ (s : NodeState). record { state = opened (left_by true (launched s)); kept = [] }) (sym mine.state)
+    stopped_here false = process_two n capacity events i Launch (Crash false) ∙ ap (λ (s : NodeState). record { state = opened (left_by false (launched s)); kept = [] }) (sym mine.state)
 
-    pub stopped_shows : (keeps_flying : Bool) → Shows w.size w.capacity (w.events ++ stop keeps_flying) (set w.nodes (i - 1) (restarted (left keeps_flying v) v))
+    pub stopped_shows : (keeps_flying : Bool) → Shows n capacity (events ++ stop keeps_flying) (set nodes (i - 1) (restarted (left keeps_flying v) v))
     unfolding May
     stopped_shows keeps_flying =
-        moved (stop keeps_flying) (grows_two w.size w.capacity w.events i Launch (Crash keeps_flying) shows.schedule may_launch tt) (restarted (left keeps_flying v) v)
+        moved (stop keeps_flying) (grows_two n capacity events i Launch (Crash keeps_flying) shows.schedule may_launch tt) (restarted (left keeps_flying v) v)
         (reopened (stop keeps_flying) (left keeps_flying v) (stopped_here keeps_flying))

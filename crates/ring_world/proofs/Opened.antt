@@ -1,20 +1,20 @@
 -- A ring in which nothing has happened.
-use Rattle.std.proofs.Common.{ℕ, zero, suc, ◌≡◌, ◌≤◌, ◌<◌, ◌+◌, true, false, List, [], ◌∷◌, ◌++◌, length, get_or, refl, sym, ap, ◌∙◌, subst, inl, inr, add-one, arith}
+use Rattle.std.proofs.Common.{ℕ, zero, suc, ◌≡◌, ◌≤◌, ◌<◌, ◌+◌, true, false, List, [], ◌∷◌, ◌++◌, length, map, replicate, get_or, refl, sym, ap, ◌∙◌, subst, inl, inr, add-one, arith}
 use Rattle.std.proofs.lemmas.Bool.{cases_lt}
 use Rattle.std.proofs.lemmas.Bool.Decides.{nat_tests}
-use Rattle.std.proofs.lemmas.List.{get_or_append_left, length-append}
+use Rattle.std.proofs.lemmas.List.{get_or_append_left, length-append, map_push, replicate_more}
 use Rattle.std.proofs.Math.Seq.{get_or-append_seam}
 use Rattle.ring_records.specs.Lists.{EachAfter}
 use Rattle.ring_records.specs.Place.{after}
 use Rattle.ring_records.specs.Ring.{part}
 use Rattle.ring_records.proofs.Leader.{Contains-nil}
-use Rattle.gated_journal.specs.Reading.{header_with, is_header}
+use Rattle.gated_journal.specs.Reading.{member, is_header}
 use Rattle.ring_node.specs.Node.{NodeView, new_node}
 use Rattle.ring_world.specs.Events.{process, IsSchedule}
-use Rattle.ring_world.specs.Ring.{ShowsNode, Shows, IsSound, new_nodes}
+use Rattle.ring_world.specs.Shows.{ShowsNode, Shows, IsSound, held_of, new_nodes}
 use Rattle.ring_world.specs.State.{is_ring}
 
-pub header_fits : (k size capacity : ℕ) → is_ring size capacity ≡ true → k ≤ size → is_header (header_with k size capacity) ≡ true
+pub header_fits : (k size capacity : ℕ) → is_ring size capacity ≡ true → k ≤ size → is_header (member k size capacity) ≡ true
 header_fits k size capacity ring inside = grind (arith, nat_tests)
 
 pub ring_least : (size capacity : ℕ) → is_ring size capacity ≡ true → 2 ≤ size
@@ -71,6 +71,14 @@ fresh_shows size capacity = record {
   count = new_nodes_count size capacity size;
   node = λ at other lt. subst (ShowsNode size capacity [] (at + 1)) (sym (new_node_at size capacity size at other lt)) (fresh_node size capacity at);
 }
+
+-- no ticket is open
+pub none_held : (size capacity k : ℕ) → map held_of (new_nodes size capacity k) ≡ replicate k []
+unfolding new_nodes
+none_held size capacity zero = refl
+none_held size capacity (suc k) =
+    map_push held_of (new_nodes size capacity k) (new_node (k + 1) size capacity)
+    ∙ (ap (λ hs. hs ++ [] ∷ []) (none_held size capacity k) ∙ (replicate_more k [] ∙ ap (λ m. replicate m []) (add-one k)))
 
 pub fresh_sound : (size capacity : ℕ) (nodes : List NodeView) → is_ring size capacity ≡ true → nodes ≡ new_nodes size capacity size → IsSound size capacity false [] [] nodes
 unfolding IsSchedule EachAfter

@@ -1,31 +1,29 @@
 -- The parts of an event leave nothing waiting in an eager ring.
-use Rattle.std.proofs.Common.{ℕ, zero, suc, ◌≡◌, ◌+◌, ◌-◌, ◌≤◌, Bool, true, false, nat_lt, cond, List, [], ◌∷◌, ◌++◌, length, set, get_or, Option, Some, None, refl, sym, subst, arith}
-use Rattle.std.proofs.lemmas.Bool.{ltb-false}
+use Rattle.std.proofs.Common.{ℕ, zero, suc, ◌≡◌, ◌+◌, ◌≤◌, Bool, true, false, min, cond, List, [], ◌∷◌, ◌++◌, length, Option, Some, None, refl, sym, ◌∙◌, subst, inl, inr, arith}
+use Rattle.std.proofs.lemmas.Bool.{cases_eq, ltb-false, ltb-true}
 use Rattle.std.proofs.lemmas.List.{length-append}
 use Rattle.ring_records.specs.declared.input.Input.{Input}
 use Rattle.ring_records.specs.declared.refusal.Refusal.{Refusal}
 use Rattle.ring_records.specs.declared.request.Request.{Request}
 use Rattle.ring_records.specs.Admission.{fresh, refusal}
-use Rattle.ring_records.specs.Answer.{input_of, gained, if_free, if_input}
-use Rattle.ring_node.specs.Node.{NodeView, asked_with, flushed, restarted, left, durable_in, new_node}
-use Rattle.ring_world.specs.Events.{Action, Launch, Land}
+use Rattle.ring_records.specs.Answer.{NodeState, input_of, gained, if_free, if_input}
+use Rattle.ring_records.specs.Ring.{part}
+use Rattle.ring_world.specs.Events.{Action, Launch, Crash, Process, act, process, state_after}
 use Rattle.ring_world.specs.Rest.{IsAllDurable}
-use Rattle.ring_world.specs.Ring.{RingView, node_at, happens, asked, landed, waits, settled, without_due, crashed, stopped, given, brought, swept, swept_with, swept_on, swept_one, ready, new_ring, new_nodes}
-use Rattle.ring_world.proofs.Counts.{each_after_set, each_after_push}
-
--- ---- nodes
+use Rattle.ring_world.specs.Ring.{RingView, Part, node_at, asked, landed, waits, settled, released, and_then, round, rounds, drained, crashed, stopped, given, brought, swept, swept_with, swept_on, swept_one, next_delivery, new_ring}
+use Rattle.ring_world.proofs.Moves.{process_two, process_two-other}
+use Rattle.ring_world.proofs.Reached.{node_given, node_settled, node_asked, asked-other, node_landed, landed-other, landed_idle}
+use Rattle.ring_world.proofs.Schedules.{process-same, process-other}
 
 -- no input of the node waits
-abbrev IsStill : NodeView → Type 0
-IsStill v = v.durable ≡ length v.inputs
-
-durable_happens : (w : RingView) (es : List (ℕ × Action)) (i : ℕ) (v : NodeView) → IsAllDurable w → IsStill v → IsAllDurable (happens es i v w)
-unfolding IsAllDurable
-durable_happens w es i v all is = λ j. each_after_set w.nodes (i - 1) (j - 1) v (new_node j w.size w.capacity) IsStill is (all j)
+abbrev IsStill : NodeState → Type 0
+IsStill s = s.durable ≡ length s.inputs
 
 pub at_node : (w : RingView) (i : ℕ) → IsAllDurable w → IsStill (node_at w i)
 unfolding IsAllDurable
 at_node w i all = all i
+
+-- ---- requests
 
 one_if_free : (o : Option Refusal) (x : Input) → length (if_free o x) ≤ 1
 one_if_free None x = omega arith
@@ -40,117 +38,178 @@ one_gained : (me n capacity : ℕ) (h : List Input) (q : Request) → length (ga
 unfolding gained
 one_gained me n capacity h q = one_if_input me n capacity h (input_of q)
 
--- it waits alone, and a batch takes it
-flushed_still : (number : Option ℕ) (q : Request) (v : NodeView) → IsStill v → IsStill (flushed (asked_with number q v))
-unfolding asked_with
-flushed_still number q v is =
-    let more = gained v.me v.n v.capacity fresh v.inputs q in
-    let l = length-append v.inputs more in
-    let one = one_gained v.me v.n v.capacity v.inputs q in
-    omega arith
+-- ---- rounds
 
--- where nothing waits, nothing was added
-idle_still : (number : Option ℕ) (q : Request) (v : NodeView) → IsStill v → nat_lt (asked_with number q v).durable (length (asked_with number q v).inputs) ≡ false → IsStill (asked_with number q v)
-unfolding asked_with
-idle_still number q v is none =
-    let more = gained v.me v.n v.capacity fresh v.inputs q in
-    let l = length-append v.inputs more in
-    let low = ltb-false v.durable (length (v.inputs ++ more)) none in
-    omega arith
+-- at node i at most so many inputs wait, and at no other node does any
+record IsNear (most : ℕ) (w : RingView) (i : ℕ) : Type 0 where
+  least : (node_at w i).durable ≤ length (node_at w i).inputs
+  few : length (node_at w i).inputs ≤ (node_at w i).durable + most
+  others : (j : ℕ) → (i ≡ j → ⊥) → IsStill (node_at w j)
 
--- ---- a node that is changed twice
+none_near : (w : RingView) (i : ℕ) → IsNear 0 w i → IsAllDurable w
+unfolding IsAllDurable
+none_near w i near = λ j. elim (cases_eq i j) [
+  | inl same ↦ subst (λ k. IsStill (node_at w k)) same (let least = near.least in let few = near.few in omega arith)
+  | inr ne ↦ near.others j ne
+]
 
-flushed_twice : (l : List NodeView) (k j : ℕ) (v d other : NodeView) → IsStill (flushed v) → IsStill (get_or l j other) → IsStill (get_or (set (set l k v) k (flushed (get_or (set l k v) k d))) j other)
-flushed_twice [] k j v d other p q = q
-flushed_twice (x ∷ l) zero zero v d other p q = p
-flushed_twice (x ∷ l) zero (suc j) v d other p q = q
-flushed_twice (x ∷ l) (suc k) zero v d other p q = q
-flushed_twice (x ∷ l) (suc k) (suc j) v d other p q = flushed_twice l k j v d other p q
+settled_near : (most : ℕ) (w : RingView) (i : ℕ) → IsNear most w i → IsNear most (settled i w) i
+settled_near most w i near =
+    let same = sym (node_settled w i i) in
+    record {
+      least = subst (λ (s : NodeState). s.durable ≤ length s.inputs) same near.least;
+      few = subst (λ (s : NodeState). length s.inputs ≤ s.durable + most) same near.few;
+      others = λ j ne. subst IsStill (sym (node_settled w i j)) (near.others j ne);
+    }
 
-idle_once : (l : List NodeView) (k j : ℕ) (v d other : NodeView) → (nat_lt v.durable (length v.inputs) ≡ false → IsStill v) → nat_lt (get_or (set l k v) k d).durable (length (get_or (set l k v) k d).inputs) ≡ false → IsStill (get_or l j other) → IsStill (get_or (set l k v) j other)
-idle_once [] k j v d other p none q = q
-idle_once (x ∷ l) zero zero v d other p none q = p none
-idle_once (x ∷ l) zero (suc j) v d other p none q = q
-idle_once (x ∷ l) (suc k) zero v d other p none q = q
-idle_once (x ∷ l) (suc k) (suc j) v d other p none q = idle_once l k j v d other p none q
+-- a batch makes an input durable at least
+landed_near : (most : ℕ) (w : RingView) (i : ℕ) → waits w i ≡ true → IsNear (most + 1) w i → IsNear most (landed i w) i
+landed_near most w i e near =
+    let s = node_at w i in
+    let low = ltb-true s.durable (length s.inputs) e in
+    let few = near.few in
+    let same = sym (node_landed w i e) in
+    record {
+      least = subst (λ (r : NodeState). r.durable ≤ length r.inputs) same (let le : min (s.durable + 64) (length s.inputs) ≤ length s.inputs = omega arith in le);
+      few = subst (λ (r : NodeState). length r.inputs ≤ r.durable + most) same (let le : length s.inputs ≤ min (s.durable + 64) (length s.inputs) + most = omega arith in le);
+      others = λ j ne. subst IsStill (sym (landed-other w i e j ne)) (near.others j ne);
+    }
 
--- ---- the parts of an event
+idle_near : (most : ℕ) (w : RingView) (i : ℕ) → waits w i ≡ false → IsNear most w i → IsNear 0 w i
+idle_near most w i e near = record {
+  least = near.least;
+  few = (let none = ltb-false (node_at w i).durable (length (node_at w i).inputs) e in omega arith);
+  others = near.others;
+}
 
-module _ (number : Option ℕ) (i : ℕ) (q : Request) (w : RingView) (all : IsAllDurable w) where
-  -- node i was asked
-  abbrev t : RingView
-  t = asked number i q (given i q w)
+rounds_if : (most i : ℕ) (w : RingView) → IsNear (most + 1) w i → ((v : RingView) → IsNear most v i → IsAllDurable (rounds most i v).1) → (b : Bool) → waits w i ≡ b → IsAllDurable (cond b (and_then (round i w) (rounds most i)) ([], w)).1
+rounds_if most i w near others true e = others (settled i (landed i w)) (settled_near most (landed i w) i (landed_near most w i e near))
+rounds_if most i w near others false e = none_near w i (idle_near (most + 1) w i e near)
 
-  lands : (b : Bool) → waits t i ≡ b → IsAllDurable (cond b (happens ((i, Launch) ∷ (i, Land) ∷ []) i (flushed (node_at t i)) t) t)
-  unfolding asked given IsAllDurable
-  lands true e = λ j. flushed_twice w.nodes (i - 1) (j - 1) (asked_with number q (node_at w i)) (new_node i w.size w.capacity) (new_node j w.size w.capacity) (flushed_still number q (node_at w i) (all i)) (all j)
-  lands false e = λ j. idle_once w.nodes (i - 1) (j - 1) (asked_with number q (node_at w i)) (new_node i w.size w.capacity) (new_node j w.size w.capacity) (idle_still number q (node_at w i) (all i)) e (all j)
+-- rounds leave nothing waiting where they are as many as inputs wait
+near_rounds : (most i : ℕ) (w : RingView) → IsNear most w i → IsAllDurable (rounds most i w).1
+unfolding rounds
+near_rounds zero i w near = none_near w i near
+near_rounds (suc most) i w near =
+    rounds_if most i w (let few = near.few in record { least = near.least; few = omega arith; others = near.others }) (λ v closer. near_rounds most i v closer) (waits w i) refl
 
-  -- what a request adds to a ring where nothing waits, one round makes durable
-  pub durable_brought : IsAllDurable (brought true number i q w)
-  unfolding brought landed
-  durable_brought = lands (waits t i) refl
+-- what is asked waits alone
+asked_near : (number : Option ℕ) (i : ℕ) (q : Request) (w : RingView) → IsAllDurable w → IsNear 1 (asked number i q w) i
+unfolding IsAllDurable
+asked_near number i q w all =
+    let s = node_at w i in
+    let more = gained i w.size w.capacity fresh s.inputs q in
+    let is = all i in
+    let l = length-append s.inputs more in
+    let one = one_gained i w.size w.capacity s.inputs q in
+    let same = sym (node_asked w i number q) in
+    record {
+      least = subst (λ (r : NodeState). r.durable ≤ length r.inputs) same (let le : s.durable ≤ length (s.inputs ++ more) = omega arith in le);
+      few = subst (λ (r : NodeState). length r.inputs ≤ r.durable + 1) same (let le : length (s.inputs ++ more) ≤ s.durable + 1 = omega arith in le);
+      others = λ j ne. subst IsStill (sym (asked-other w i number q j ne)) (all j);
+    }
 
-durable_if : (w v : RingView) (c : Bool) → IsAllDurable w → IsAllDurable v → IsAllDurable (cond c v w)
-durable_if w v true p q = q
-durable_if w v false p q = p
+durable_given : (i : ℕ) (q : Request) (w : RingView) → IsAllDurable w → IsAllDurable (given i q w)
+unfolding IsAllDurable
+durable_given i q w all = λ j. subst IsStill (sym (node_given w i q j)) (all j)
 
-pub durable_landed : (i : ℕ) (w : RingView) → IsAllDurable w → IsAllDurable (landed i w)
-unfolding landed
-durable_landed i w all = durable_if w _ (waits w i) all (durable_happens w _ i (flushed (node_at w i)) all (let is = at_node w i all in omega arith))
+-- in an eager ring where nothing waits, rounds make durable what a request adds
+pub durable_brought : (number : Option ℕ) (i : ℕ) (q : Request) (w : RingView) → w.eager ≡ true → IsAllDurable w → IsAllDurable (brought number i q w).1
+unfolding brought
+durable_brought number i q w eager all =
+    let t = settled i (asked number i q (given i q w)) in
+    let near = settled_near 1 (asked number i q (given i q w)) i (asked_near number i q (given i q w) (durable_given i q w all)) in
+    let first : Part = released i (asked number i q (given i q w)) in
+    subst (λ b. IsAllDurable (cond b (and_then first (drained i)) first).1) (sym eager)
+    (near_rounds (length (node_at t i).inputs) i t (let least = near.least in record { least = near.least; few = omega arith; others = near.others }))
+
+-- ---- the other parts
 
 pub durable_settled : (i : ℕ) (w : RingView) → IsAllDurable w → IsAllDurable (settled i w)
-unfolding settled
-durable_settled i w all = durable_happens w _ i (without_due (node_at w i)) all (at_node w i all)
+unfolding IsAllDurable
+durable_settled i w all = λ j. subst IsStill (sym (node_settled w i j)) (all j)
+
+durable_landed : (i : ℕ) (w : RingView) → IsAllDurable w → (b : Bool) → waits w i ≡ b → IsAllDurable (landed i w)
+durable_landed i w all true e = (let is = at_node w i all in let low = ltb-true (node_at w i).durable (length (node_at w i).inputs) e in absurd (omega arith))
+durable_landed i w all false e = subst IsAllDurable (sym (landed_idle w i e)) all
+
+pub durable_round : (i : ℕ) (w : RingView) → IsAllDurable w → IsAllDurable (round i w).1
+durable_round i w all = durable_settled i (landed i w) (durable_landed i w all (waits w i) refl)
+
+module _ (n capacity : ℕ) (events : List (ℕ × Action)) (i : ℕ) (all : (j : ℕ) → IsStill (state_after n capacity events j)) where
+  still_one : (a : Action) → IsStill (act i n capacity (process n capacity events i) a).state → (j : ℕ) → IsStill (state_after n capacity (events ++ (i, a) ∷ []) j)
+  still_one a here j = elim (cases_eq i j) [
+    | inl e ↦ subst (λ k. IsStill (state_after n capacity (events ++ (i, a) ∷ []) k)) e (subst (λ (p : Process). IsStill p.state) (sym (process-same n capacity events i a)) here)
+    | inr ne ↦ subst (λ (p : Process). IsStill p.state) (sym (process-other n capacity events i a j ne)) (all j)
+  ]
+
+  still_two : (a b : Action) → IsStill (act i n capacity (act i n capacity (process n capacity events i) a) b).state → (j : ℕ) → IsStill (state_after n capacity (events ++ (i, a) ∷ (i, b) ∷ []) j)
+  still_two a b here j = elim (cases_eq i j) [
+    | inl e ↦ subst (λ k. IsStill (state_after n capacity (events ++ (i, a) ∷ (i, b) ∷ []) k)) e (subst (λ (p : Process). IsStill p.state) (sym (process_two n capacity events i a b)) here)
+    | inr ne ↦ subst (λ (p : Process). IsStill p.state) (sym (process_two-other n capacity events i a b j ne)) (all j)
+  ]
 
 pub durable_crashed : (i : ℕ) (w : RingView) → IsAllDurable w → IsAllDurable (crashed i w)
-unfolding crashed restarted
-durable_crashed i w all = durable_happens w _ i (restarted (durable_in (node_at w i)) (node_at w i)) all refl
+unfolding crashed act IsAllDurable
+durable_crashed i w all = still_one w.size w.capacity w.events i all (Crash false) refl
 
 pub durable_stopped : (keeps_flying : Bool) (i : ℕ) (w : RingView) → IsAllDurable w → IsAllDurable (stopped keeps_flying i w)
-unfolding stopped restarted
-durable_stopped keeps_flying i w all = durable_happens w _ i (restarted (left keeps_flying (node_at w i)) (node_at w i)) all refl
+unfolding stopped act IsAllDurable
+durable_stopped keeps_flying i w all = still_two w.size w.capacity w.events i all Launch (Crash keeps_flying) refl
 
 -- what was told changes no node
 pub durable_told : (w : RingView) → IsAllDurable w → IsAllDurable (record w { told = w.events })
 unfolding IsAllDurable
 durable_told w all = λ i. all i
 
--- ---- a new ring
+pub durable_new : (size : ℕ) (eager : Bool) (capacity : ℕ) → IsAllDurable (new_ring size eager capacity)
+unfolding IsAllDurable process part
+durable_new size eager capacity = λ i. refl
 
-none_waits : (size capacity count k : ℕ) (d : NodeView) → IsStill d → IsStill (get_or (new_nodes size capacity count) k d)
-unfolding new_nodes
-none_waits size capacity zero k d is = is
-none_waits size capacity (suc count) k d is =
-    each_after_push (new_nodes size capacity count) (new_node (count + 1) size capacity) d k IsStill is refl (none_waits size capacity count k d is)
+-- ---- an eager ring stays eager
 
-pub durable_new : (size capacity : ℕ) → IsAllDurable (new_ring size capacity)
-unfolding IsAllDurable
-durable_new size capacity = λ i. none_waits size capacity size (i - 1) (new_node i size capacity) refl
+eager_settled : (i : ℕ) (w : RingView) → (settled i w).eager ≡ w.eager
+unfolding settled
+eager_settled i w = refl
+
+eager_landed : (i : ℕ) (w : RingView) → (landed i w).eager ≡ w.eager
+unfolding landed
+eager_landed i w = refl
+
+eager_asked : (number : Option ℕ) (i : ℕ) (q : Request) (w : RingView) → (asked number i q (given i q w)).eager ≡ w.eager
+unfolding asked given
+eager_asked number i q w = refl
+
+eager_if : (b : Bool) (p r : Part) (e : Bool) → p.1.eager ≡ e → r.1.eager ≡ e → (cond b p r).1.eager ≡ e
+eager_if true p r e h k = h
+eager_if false p r e h k = k
+
+eager_rounds : (most i : ℕ) (w : RingView) → (rounds most i w).1.eager ≡ w.eager
+unfolding rounds
+eager_rounds zero i w = refl
+eager_rounds (suc most) i w =
+    eager_if (waits w i) (and_then (round i w) (rounds most i)) ([], w) w.eager (eager_rounds most i (settled i (landed i w)) ∙ (eager_settled i (landed i w) ∙ eager_landed i w)) refl
+
+eager_brought : (number : Option ℕ) (i : ℕ) (q : Request) (w : RingView) → (brought number i q w).1.eager ≡ w.eager
+unfolding brought
+eager_brought number i q w =
+    let t = asked number i q (given i q w) in
+    let same : (settled i t).eager ≡ w.eager = eager_settled i t ∙ eager_asked number i q w in
+    eager_if w.eager (and_then (released i t) (drained i)) (released i t) w.eager (eager_rounds (length (node_at (settled i t) i).inputs) i (settled i t) ∙ same) same
 
 -- ---- deliveries
 
-durable_on : (others : RingView → ℕ × RingView) (one : Bool × RingView) → ((w : RingView) → IsAllDurable w → IsAllDurable (others w).1) → IsAllDurable one.1 → IsAllDurable (swept_on others one).1
-durable_on others (true, w) more all = more w all
-durable_on others (false, w) more all = all
+durable_on : (others : RingView → ℕ × RingView) (one : Bool × RingView) → ((w : RingView) → w.eager ≡ true → IsAllDurable w → IsAllDurable (others w).1) → one.1.eager ≡ true → IsAllDurable one.1 → IsAllDurable (swept_on others one).1
+durable_on others (true, w) more eager all = more w eager all
+durable_on others (false, w) more eager all = all
 
-durable_one : (i : ℕ) (q : Request) (w : RingView) → IsAllDurable w → IsAllDurable (swept_one true i q w).1
+durable_with : (others : RingView → ℕ × RingView) (w : RingView) (delivery : Option (ℕ × Request)) → ((w : RingView) → w.eager ≡ true → IsAllDurable w → IsAllDurable (others w).1) → w.eager ≡ true → IsAllDurable w → IsAllDurable (swept_with others w delivery).1
 unfolding swept_one
-durable_one i q w all = durable_settled i (brought true None i q w) (durable_brought None i q w all)
+durable_with others w None more eager all = all
+durable_with others w (Some delivery) more eager all =
+    durable_on others (swept_one delivery.0 delivery.1 w) more (eager_brought None delivery.0 delivery.1 w ∙ eager) (durable_brought None delivery.0 delivery.1 w eager all)
 
-durable_with : (others : RingView → ℕ × RingView) (w : RingView) (delivery : Option (ℕ × Request)) → ((w : RingView) → IsAllDurable w → IsAllDurable (others w).1) → IsAllDurable w → IsAllDurable (swept_with true others w delivery).1
-durable_with others w None more all = all
-durable_with others w (Some delivery) more all = durable_on others (swept_one true delivery.0 delivery.1 w) more (durable_one delivery.0 delivery.1 w all)
-
-pub durable_swept : (count : ℕ) (w : RingView) → IsAllDurable w → IsAllDurable (swept true count w).1
+pub durable_swept : (count : ℕ) (w : RingView) → w.eager ≡ true → IsAllDurable w → IsAllDurable (swept count w).1
 unfolding swept
-durable_swept zero w all = all
-durable_swept (suc count) w all = durable_with (swept true count) w (ready w 1 w.size) (λ v more. durable_swept count v more) all
-
--- ---- of an eager world
-
-pub rest_brought : (eager : Bool) (number : Option ℕ) (i : ℕ) (q : Request) (w : RingView) → eager ≡ true → IsAllDurable w → IsAllDurable (brought eager number i q w)
-rest_brought eager number i q w e all = subst (λ b. IsAllDurable (brought b number i q w)) (sym e) (durable_brought number i q w all)
-
-pub rest_swept : (eager : Bool) (count : ℕ) (w : RingView) → eager ≡ true → IsAllDurable w → IsAllDurable (swept eager count w).1
-rest_swept eager count w e all = subst (λ b. IsAllDurable (swept b count w).1) (sym e) (durable_swept count w all)
+durable_swept zero w eager all = all
+durable_swept (suc count) w eager all = durable_with (swept count) w (next_delivery w) (λ v kept more. durable_swept count v kept more) eager all

@@ -3,7 +3,8 @@ use Rattle.std.proofs.Common.{◌≡◌, Bool, true, false, not, cond, List, [],
 use Rattle.std.specs.List.{Contains, filter}
 use Rattle.std.proofs.lemmas.List.Elements.{All-contains, All-contains_itself, All-filter, filter_passes}
 use Rattle.ring_node.specs.Node.{NodeView}
-use Rattle.ring_world.specs.Ring.{due, without_due}
+use Rattle.ring_node.specs.Open.{due}
+use Rattle.ring_world.specs.Shows.{without_due}
 
 -- what passes no test is kept whole
 pub filter-none : {X : Type 0} (test : X → Bool) (xs : List X) → filter test xs ≡ [] → filter (λ x. not (test x)) xs ≡ xs
@@ -15,7 +16,7 @@ filter-none test (x ∷ xs) e = asks (test x) e (λ f. filter-none test xs f)
     asks false f rest = ap (λ ys. x ∷ ys) (rest f)
 
 -- with none due, none is left out
-pub without-none : (v : NodeView) → due v ≡ [] → without_due v ≡ v
+pub without-none : (v : NodeView) → due v.durable v.held ≡ [] → without_due v ≡ v
 without-none v e = λ i. record v { held = filter-none _ v.held e i }
 
 -- what a filter leaves was there, and passed

@@ -1,10 +1,13 @@
 -- The leaders that the replies of a ring named.
 use Rattle.std.specs.Prelude.{ℕ, List, Option, Some, None}
-use Rattle.std.specs.List.{filter_map}
+use Rattle.std.specs.List.{Contains, filter_map}
 use Rattle.ring_records.specs.declared.candidate.Candidate.{Candidate}
+use Rattle.ring_records.specs.declared.input.Input.TheVariants.{Stand}
 use Rattle.ring_records.specs.declared.key.Key.{Key}
+use Rattle.ring_world.specs.Committed.{committed}
 use Rattle.ring_world.specs.Events.{Replied, Sent, Shown, Action, Submit, Launch, Land, Release, Crash}
 use Rattle.ring_world.specs.Released.{named_by}
+use Rattle.ring_world.specs.Ring.{RingView}
 use Rattle.ring_world.specs.declared.announced.Announced.{Announced}
 
 abbrev pub announced_with : ℕ → Option (Key × Candidate) → Option Announced
@@ -24,3 +27,7 @@ announced_by (node, Crash keeps_flying) = None
 -- those of all events, in order
 abbrev pub announced : List (ℕ × Action) → List Announced
 announced events = filter_map announced_by events
+
+-- the candidate stands for the key in what became durable, as far as it was told
+abbrev pub Stands : RingView → Key → Candidate → Type 0
+Stands w key c = Contains (committed w.size w.capacity w.told) (c.node, Stand key c.bid)

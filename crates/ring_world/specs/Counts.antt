@@ -1,16 +1,16 @@
 -- How many of a ring's open tickets have a number.
-use Rattle.std.specs.Prelude.{ℕ, ◌≡◌, ◌≤◌, false, length}
+use Rattle.std.specs.Prelude.{ℕ, ◌≡◌, ◌≤◌, false, List, length}
 use Rattle.std.specs.List.{filter_map}
-use Rattle.ring_node.specs.Node.{NodeView, number_of}
-use Rattle.ring_world.specs.Ring.{RingView, node_at}
+use Rattle.ring_node.specs.Open.{Open, number_of}
+use Rattle.ring_world.specs.Ring.{RingView, held_at}
 
--- how many open tickets of the node have one
-abbrev pub numbered : NodeView → ℕ
-numbered v = length (filter_map number_of v.held)
+-- how many of the tickets have one
+abbrev pub numbered : List Open → ℕ
+numbered held = length (filter_map number_of held)
 
 -- at each node no more than so many
 unfoldable pub IsBounded : RingView → ℕ → Type 0
-IsBounded w tickets = (i : ℕ) → numbered (node_at w i) ≤ tickets
+IsBounded w tickets = (i : ℕ) → numbered (held_at w i) ≤ tickets
 
 -- while the ring works, no more than the numbers that are taken
 abbrev pub IsCounted : RingView → ℕ → Type 0

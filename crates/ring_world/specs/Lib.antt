@@ -7,6 +7,7 @@ pub mod Happened
 pub mod Released
 pub mod Rest
 pub mod Ring
+pub mod Shows
 pub mod State
 pub mod Step
 pub mod WorkedSchedule

@@ -1,5 +1,5 @@
 -- In an eager ring nothing waits between the steps of a world.
-use Rattle.std.specs.Prelude.{ℕ, ◌≡◌, Bool, true, false, length}
+use Rattle.std.specs.Prelude.{ℕ, ◌≡◌, true, false, length}
 use Rattle.ring_world.specs.Ring.{RingView, node_at}
 
 -- every input of each node is durable
@@ -7,5 +7,5 @@ unfoldable pub IsAllDurable : RingView → Type 0
 IsAllDurable w = (i : ℕ) → (node_at w i).durable ≡ length (node_at w i).inputs
 
 -- so it is in an eager ring, while that works
-abbrev pub IsAtRest : Bool → RingView → Type 0
-IsAtRest eager w = eager ≡ true → w.failed ≡ false → IsAllDurable w
+abbrev pub IsAtRest : RingView → Type 0
+IsAtRest w = w.eager ≡ true → w.failed ≡ false → IsAllDurable w

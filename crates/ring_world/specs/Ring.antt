@@ -1,125 +1,58 @@
--- A ring of nodes and what happened to it: how it is seen, and the parts that its events are made of.
-use Rattle.std.specs.Prelude.{ℕ, zero, suc, ◌≡◌, ◌+◌, ◌-◌, ◌<◌, ◌≤◌, Bool, true, false, ◌&&◌, not, nat_lt, nat_le, if◌then◌else◌, List, [], ◌∷◌, ◌++◌, length, map, set, slice_get, slice_index_or, Option, Some, None}
-use Rattle.std.specs.List.{Contains, filter, filter_map}
+-- A ring of nodes: what happened to it, and the parts that its events are made of.
+use Rattle.std.specs.Prelude.{ℕ, zero, suc, ◌≡◌, ◌+◌, ◌-◌, ◌^◌, Bool, true, false, ◌&&◌, nat_lt, nat_le, if◌then◌else◌, List, [], ◌∷◌, ◌++◌, length, map, replicate, set, slice_get, slice_index_or, Option, Some, None}
+use Rattle.std.specs.List.{filter_map, range_with_len}
 use Rattle.ring_records.specs.declared.msg.Msg.{Msg}
 use Rattle.ring_records.specs.declared.packet.Packet.TheVariants.{Carry, Credit}
 use Rattle.ring_records.specs.declared.reply.Reply.{Reply}
 use Rattle.ring_records.specs.declared.request.Request.{Request}
 use Rattle.ring_records.specs.declared.request.Request.TheVariants as ask
+use Rattle.ring_records.specs.Admission.{fresh}
+use Rattle.ring_records.specs.Answer.{Answered, NodeState, answered, durable_in}
 use Rattle.ring_records.specs.Emission.{sent}
 use Rattle.ring_records.specs.History.{taken}
-use Rattle.ring_records.specs.Lists.{or_else}
+use Rattle.ring_records.specs.Lists.{first}
 use Rattle.ring_records.specs.Order.{is_msg}
 use Rattle.ring_records.specs.Place.{after, before}
-use Rattle.ring_node.specs.Node.{Open, NodeView, new_node, state_of, durable_in, asked_with, accepts, flushed, is_due, restarted, left, number_of}
-use Rattle.ring_world.specs.Events.{Replied, Sent, Action, Submit, Launch, Land, Release, Crash, process, state_after, IsSchedule}
+use Rattle.ring_node.specs.Open.{Open, number_of, due, sealed}
+use Rattle.ring_world.specs.Events.{Replied, Sent, Action, Submit, Launch, Land, Release, Crash, state_after}
 
--- how many nodes it has, numbered from 1, and their capacity; whether a growth was refused, after which it is of no
--- use; what happened, and as much of that as was told; and node i at place i - 1
+-- how many nodes it has, numbered from 1, and their capacity; whether each input is made durable as it is accepted;
+-- whether a growth was refused, after which it is of no use; what happened, and as much of that as was told; and the
+-- open tickets of each node, those of node i at place i - 1, the oldest first
 pub record RingView : Type 0 where
   pub size : ℕ
   pub capacity : ℕ
+  pub eager : Bool
   pub failed : Bool
   pub events : List (ℕ × Action)
   pub told : List (ℕ × Action)
-  pub nodes : List NodeView
+  pub held : List (List Open)
 
--- ---- a new ring
+-- one in which nothing happened
+abbrev pub new_ring : ℕ → Bool → ℕ → RingView
+new_ring size eager capacity = record { size = size; capacity = capacity; eager = eager; failed = false; events = []; told = []; held = replicate size [] }
 
--- nodes 1 to k of a ring
-unfoldable pub new_nodes : ℕ → ℕ → ℕ → List NodeView
-new_nodes size capacity zero = []
-new_nodes size capacity (suc k) = new_nodes size capacity k ++ new_node (k + 1) size capacity ∷ []
-
-abbrev pub new_ring : ℕ → ℕ → RingView
-new_ring size capacity = record { size = size; capacity = capacity; failed = false; events = []; told = []; nodes = new_nodes size capacity size }
-
--- ---- what a ring keeps to
-
--- the node is the one that the events reach
-pub record ShowsNode (size capacity : ℕ) (events : List (ℕ × Action)) (i : ℕ) (v : NodeView) : Type 0 where
-  pub me : v.me ≡ i
-  pub ring : v.n ≡ size
-  pub room : v.capacity ≡ capacity
-  pub state : state_of v ≡ state_after size capacity events i
-  -- the node keeps the answers of its open tickets
-  pub kept : (t : Open) → Contains v.held t → Contains (process size capacity events i).kept t.kept
-  -- it gave at most a ticket an event
-  pub few : v.issued ≤ length events
-
--- the events may happen, and the nodes are those that they reach
-pub record Shows (size capacity : ℕ) (events : List (ℕ × Action)) (nodes : List NodeView) : Type 0 where
-  pub schedule : IsSchedule size capacity events
-  pub count : length nodes ≡ size
-  pub node : (at : ℕ) (other : NodeView) → at < size → ShowsNode size capacity events (at + 1) (slice_index_or nodes at other)
-
--- What every ring keeps to: it has 2 to 16 nodes, and what was told is a schedule; while it works, all that happened is
--- one, and its nodes are those that it reaches.
-pub record IsSound (size capacity : ℕ) (failed : Bool) (events told : List (ℕ × Action)) (nodes : List NodeView) : Type 0 where
-  pub least : 2 ≤ size
-  pub most : size ≤ 16
-  pub shows : failed ≡ false → Shows size capacity events nodes
-  pub lawful : IsSchedule size capacity told
+-- the same nodes, as eager, with as much told
+abbrev pub IsSameRing : RingView → RingView → Type 0
+IsSameRing w v = (v.size ≡ w.size) × (v.capacity ≡ w.capacity) × (v.eager ≡ w.eager) × (v.told ≡ w.told)
 
 -- ---- the parts of an event
 
-abbrev pub node_at : RingView → ℕ → NodeView
-node_at w i = slice_index_or w.nodes (i - 1) (new_node i w.size w.capacity)
+-- node i, as the events leave it
+abbrev pub node_at : RingView → ℕ → NodeState
+node_at w i = state_after w.size w.capacity w.events i
 
--- these happen, and node i is this one afterwards
-abbrev pub happens : List (ℕ × Action) → ℕ → NodeView → RingView → RingView
-happens events i v w = record w { events = w.events ++ events; nodes = set w.nodes (i - 1) v }
+-- its open tickets
+abbrev pub held_at : RingView → ℕ → List Open
+held_at w i = slice_index_or w.held (i - 1) []
 
--- node i is asked; its ticket is open, under this number, if any
-unfoldable pub asked : Option ℕ → ℕ → Request → RingView → RingView
-asked number i q w = happens ((i, Submit q) ∷ []) i (asked_with number q (node_at w i)) w
+-- these happen at node i, and these are its open tickets afterwards
+abbrev pub happens : List (ℕ × Action) → ℕ → List Open → RingView → RingView
+happens events i held w = record w { events = w.events ++ events; held = set w.held (i - 1) held }
 
--- inputs of node i are not durable yet
-abbrev pub waits : RingView → ℕ → Bool
-waits w i = nat_lt (node_at w i).durable (length (node_at w i).inputs)
-
--- a batch of node i is launched and lands, where something waits
-unfoldable pub landed : ℕ → RingView → RingView
-landed i w = if waits w i then happens ((i, Launch) ∷ (i, Land) ∷ []) i (flushed (node_at w i)) w else w
-
--- the tickets whose replies rest on durable inputs alone
-abbrev pub due : NodeView → List Open
-due v = filter (is_due v.durable) v.held
-
-abbrev pub without_due : NodeView → NodeView
-without_due v = record v { held = filter (λ t. not (is_due v.durable t)) v.held }
-
-abbrev pub release_of : ℕ → Open → ℕ × Action
-release_of i t = (i, Release (Replied t.kept))
-
--- the replies of those tickets are released
-unfoldable pub settled : ℕ → RingView → RingView
-settled i w = happens (map (release_of i) (due (node_at w i))) i (without_due (node_at w i)) w
-
-abbrev pub with_reply : Option ℕ → Reply → Option (ℕ × Reply)
-with_reply None reply = None
-with_reply (Some number) reply = Some (number, reply)
-
-abbrev pub reply_of : Open → Option (ℕ × Reply)
-reply_of t = with_reply t.number t.kept.answer.reply
-
--- those of tickets with a number, in order
-unfoldable pub replies : ℕ → RingView → List (ℕ × Reply)
-replies i w = filter_map reply_of (due (node_at w i))
-
--- node i is crashed, and opened again
-unfoldable pub crashed : ℕ → RingView → RingView
-crashed i w = happens ((i, Crash false) ∷ []) i (restarted (durable_in (node_at w i)) (node_at w i)) w
-
--- node i is stopped while a batch flies, and opened again, with the batch or without
-unfoldable pub stopped : Bool → ℕ → RingView → RingView
-stopped keeps_flying i w = happens ((i, Launch) ∷ (i, Crash keeps_flying) ∷ []) i (restarted (left keeps_flying (node_at w i)) (node_at w i)) w
-
--- the numbers of the tickets that are open at node i, in order
-unfoldable pub lost : ℕ → RingView → List ℕ
-lost i w = filter_map number_of (node_at w i).held
-
--- ---- packets
+-- the answer of node i to a request
+abbrev pub answered_by : RingView → ℕ → Request → Answered
+answered_by w i q = answered i w.size w.capacity fresh (node_at w i).inputs q
 
 -- the packet that a neighbour of node i releases to it, for what the request brings
 abbrev pub handed : ℕ → ℕ → Request → List (ℕ × Action)
@@ -132,12 +65,87 @@ handed size i (ask.Latest group) = []
 unfoldable pub given : ℕ → Request → RingView → RingView
 given i q w = record w { events = w.events ++ handed w.size i q }
 
--- Node i is asked, after its neighbour released what the request brings; in an eager ring what it accepts lands. One
--- round of Launch and Land is enough: between the steps of an eager world every input is durable (specs/Rest, which
--- World keeps as its invariant, and shows as clause `eager` of World::show), so what lands is the one input that the
--- request added.
-unfoldable pub brought : Bool → Option ℕ → ℕ → Request → RingView → RingView
-brought eager number i q w = let t = asked number i q (given i q w) in if eager then landed i t else t
+-- node i is asked; its ticket is open, under this number, if any
+unfoldable pub asked : Option ℕ → ℕ → Request → RingView → RingView
+asked number i q w = happens ((i, Submit q) ∷ []) i (held_at w i ++ record { number = number; kept = answered_by w i q } ∷ []) w
+
+-- inputs of node i are not durable yet
+abbrev pub waits : RingView → ℕ → Bool
+waits w i = nat_lt (node_at w i).durable (length (node_at w i).inputs)
+
+-- a batch of node i is launched and lands, where something waits
+unfoldable pub landed : ℕ → RingView → RingView
+landed i w = record w { events = w.events ++ (if waits w i then (i, Launch) ∷ (i, Land) ∷ [] else []) }
+
+abbrev pub release_of : ℕ → Open → ℕ × Action
+release_of i t = (i, Release (Replied t.kept))
+
+-- the tickets of node i whose replies rest on durable inputs alone
+abbrev pub due_at : RingView → ℕ → List Open
+due_at w i = due (node_at w i).durable (held_at w i)
+
+-- their replies are released
+unfoldable pub settled : ℕ → RingView → RingView
+settled i w = happens (map (release_of i) (due_at w i)) i (sealed (node_at w i).durable (held_at w i)) w
+
+abbrev pub with_reply : Option ℕ → Reply → Option (ℕ × Reply)
+with_reply None reply = None
+with_reply (Some number) reply = Some (number, reply)
+
+abbrev pub reply_of : Open → Option (ℕ × Reply)
+reply_of t = with_reply t.number t.kept.answer.reply
+
+-- those of tickets with a number, in order
+unfoldable pub replies : ℕ → RingView → List (ℕ × Reply)
+replies i w = filter_map reply_of (due_at w i)
+
+-- ---- what an event releases, and the ring after it
+
+abbrev pub Part : Type 0
+Part = List (ℕ × Reply) × RingView
+
+abbrev pub released : ℕ → RingView → Part
+released i w = (replies i w, settled i w)
+
+-- one part and then another
+abbrev pub and_then : Part → (RingView → Part) → Part
+and_then first next = (first.0 ++ (next first.1).0, (next first.1).1)
+
+-- Launch, Land and Release at node i
+abbrev pub round : ℕ → RingView → Part
+round i w = released i (landed i w)
+
+-- rounds until nothing waits, so many at most
+unfoldable pub rounds : ℕ → ℕ → RingView → Part
+rounds zero i w = ([], w)
+rounds (suc most) i w = if waits w i then and_then (round i w) (rounds most i) else ([], w)
+
+-- each makes an input durable, so there are no more rounds than inputs
+abbrev pub drained : ℕ → RingView → Part
+drained i w = rounds (length (node_at w i).inputs) i w
+
+-- Node i is asked, after its neighbour released what the request brings; what is due is released. In an eager ring
+-- rounds follow until nothing waits.
+unfoldable pub brought : Option ℕ → ℕ → Request → RingView → Part
+brought number i q w =
+    let first = released i (asked number i q (given i q w)) in
+    if w.eager then and_then first (drained i) else first
+
+-- ---- crashes
+
+-- node i is crashed, and opened again
+unfoldable pub crashed : ℕ → RingView → RingView
+crashed i w = happens ((i, Crash false) ∷ []) i [] w
+
+-- node i is stopped while a batch flies, and opened again, with the batch or without
+unfoldable pub stopped : Bool → ℕ → RingView → RingView
+stopped keeps_flying i w = happens ((i, Launch) ∷ (i, Crash keeps_flying) ∷ []) i [] w
+
+-- the numbers of the tickets that are open at node i, in order
+unfoldable pub lost : ℕ → RingView → List ℕ
+lost i w = filter_map number_of (held_at w i)
+
+-- ---- packets
 
 abbrev pub is_sent : Option Msg → Msg → Bool
 is_sent None msg = false
@@ -145,7 +153,7 @@ is_sent (Some m) msg = is_msg m msg
 
 -- message `place` that the durable inputs of node i sent
 abbrev pub message : RingView → ℕ → ℕ → Option Msg
-message w i place = slice_get (sent (node_at w i).me (durable_in (node_at w i))) place
+message w i place = slice_get (sent i (durable_in (node_at w i))) place
 
 -- the durable inputs of node i took so many messages, at least one: it may tell its predecessor so
 abbrev pub is_earned : RingView → ℕ → ℕ → Bool
@@ -161,6 +169,10 @@ is_released w i (ask.Latest group) = true
 
 -- ---- deliveries
 
+-- with 2^60 events no more are taken
+abbrev pub is_full : RingView → Bool
+is_full w = nat_le (2 ^ 60) (length w.events)
+
 -- the node and the request that a message is delivered by
 abbrev pub carried_to : RingView → ℕ → ℕ → Option Msg → Option (ℕ × Request)
 carried_to w from place None = None
@@ -174,14 +186,21 @@ carried w from place = carried_to w from place (message w from place)
 abbrev pub expected : RingView → ℕ → ℕ
 expected w from = length (taken (node_at w (after w.size from)).inputs)
 
--- the lowest of the `count` nodes from `from` on whose successor expects a message that may be released: its delivery
-unfoldable pub ready : RingView → ℕ → ℕ → Option (ℕ × Request)
-ready w from zero = None
-ready w from (suc count) = or_else (carried w from (expected w from)) (ready w (from + 1) count)
+-- its delivery, if it may be released
+abbrev pub next_of : RingView → ℕ → Option (ℕ × Request)
+next_of w from = carried w from (expected w from)
 
--- a delivery without a number: whether it is accepted, and the ring afterwards
-unfoldable pub swept_one : Bool → ℕ → Request → RingView → Bool × RingView
-swept_one eager i q w = (accepts (node_at w i) q, settled i (brought eager None i q w))
+-- that of the lowest node that has one
+abbrev pub ready : RingView → Option (ℕ × Request)
+ready w = first (filter_map (next_of w) (range_with_len 1 w.size))
+
+-- that is the next delivery, where an event may be added
+abbrev pub next_delivery : RingView → Option (ℕ × Request)
+next_delivery w = if is_full w then None else ready w
+
+-- a delivery without a number: whether the node accepts it, and the ring afterwards
+unfoldable pub swept_one : ℕ → Request → RingView → Bool × RingView
+swept_one i q w = let t = (brought None i q w).1 in (nat_lt (length (node_at w i).inputs) (length (node_at t i).inputs), t)
 
 abbrev pub counted : ℕ × RingView → ℕ × RingView
 counted swept = (swept.0 + 1, swept.1)
@@ -191,11 +210,11 @@ abbrev pub swept_on : (RingView → ℕ × RingView) → Bool × RingView → �
 swept_on others (true, w) = counted (others w)
 swept_on others (false, w) = (0, w)
 
-abbrev pub swept_with : Bool → (RingView → ℕ × RingView) → RingView → Option (ℕ × Request) → ℕ × RingView
-swept_with eager others w None = (0, w)
-swept_with eager others w (Some delivery) = swept_on others (swept_one eager delivery.0 delivery.1 w)
+abbrev pub swept_with : (RingView → ℕ × RingView) → RingView → Option (ℕ × Request) → ℕ × RingView
+swept_with others w None = (0, w)
+swept_with others w (Some delivery) = swept_on others (swept_one delivery.0 delivery.1 w)
 
 -- at most `count` deliveries: how many were accepted, and the ring after them
-unfoldable pub swept : Bool → ℕ → RingView → ℕ × RingView
-swept eager zero w = (0, w)
-swept eager (suc count) w = swept_with eager (swept eager count) w (ready w 1 w.size)
+unfoldable pub swept : ℕ → RingView → ℕ × RingView
+swept zero w = (0, w)
+swept (suc count) w = swept_with (swept count) w (next_delivery w)

@@ -2,16 +2,14 @@
 use Rattle.std.specs.Prelude.{ℕ, Bool, nat_le, ◌&&◌}
 use Rattle.ring_world.specs.Ring.{RingView, new_ring}
 
--- its ring and what happened to it; whether each input is made durable as it is accepted; and how many ticket numbers
--- are taken
+-- its ring and what happened to it, and how many ticket numbers are taken
 pub record State : Type 0 where
   pub ring : RingView
-  pub eager : Bool
   pub tickets : ℕ
 
 -- a ring in which nothing has happened
 abbrev pub opened : ℕ → Bool → ℕ → State
-opened size eager capacity = record { ring = new_ring size capacity; eager = eager; tickets = 0 }
+opened size eager capacity = record { ring = new_ring size eager capacity; tickets = 0 }
 
 -- a ring has 2 to 16 nodes, and a capacity from 4,096 to 1,048,576 bytes
 abbrev pub is_ring : ℕ → ℕ → Bool

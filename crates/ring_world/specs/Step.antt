@@ -1,5 +1,5 @@
 -- What an event tells, where it leads, and why it is refused.
-use Rattle.std.specs.Prelude.{ℕ, ◌≡◌, ◌+◌, ◌-◌, ◌^◌, Bool, false, ◌||◌, not, nat_eq, nat_lt, nat_le, if◌then◌else◌, List, [], length, Option, Some, None}
+use Rattle.std.specs.Prelude.{ℕ, ◌≡◌, ◌+◌, ◌-◌, ◌≤◌, ◌^◌, Bool, false, ◌||◌, not, nat_eq, nat_lt, nat_le, if◌then◌else◌, List, [], length, Option, Some, None, Result, IfOk}
 use Rattle.ring_records.specs.declared.refusal.Refusal.{Refusal}
 use Rattle.ring_records.specs.declared.refusal.Refusal.TheVariants as refused
 use Rattle.ring_records.specs.declared.reply.Reply.{Reply}
@@ -10,7 +10,7 @@ use Rattle.ring_records.specs.Lists.{or_else}
 use Rattle.ring_records.specs.Message.{is_outside}
 use Rattle.ring_records.specs.Place.{before}
 use Rattle.ring_world.specs.Ring as ring
-use Rattle.ring_world.specs.Ring.{RingView, node_at, waits, landed, settled, replies, lost, brought, carried, is_earned, is_released, swept}
+use Rattle.ring_world.specs.Ring.{RingView, IsSameRing, node_at, waits, lost, round, brought, carried, is_earned, is_released, is_full, swept}
 use Rattle.ring_world.specs.State.{State}
 use Rattle.ring_world.specs.declared.event.Event.{Event}
 use Rattle.ring_world.specs.declared.event.Event.TheVariants.{Submit, Flush, Deliver, DeliverAll, Credit, Crash, Stop}
@@ -33,19 +33,18 @@ nothing_told = record { ticket = None; flushed = None; delivered = None; replies
 
 -- ---- what an event tells, and the world afterwards
 
--- Node i is asked under the next ticket number. In an eager ring what it accepts is made durable. Then the replies that
--- rest on durable inputs alone are released.
+-- node i is asked under the next ticket number
 unfoldable pub submitted : ℕ → Request → State → Told × State
 submitted i q s =
     let ticket = s.tickets + 1 in
-    let w = brought s.eager (Some ticket) i q s.ring in
-    (record nothing_told { ticket = Some ticket; replies = replies i w }, record s { ring = settled i w; tickets = ticket })
+    let part = brought (Some ticket) i q s.ring in
+    (record nothing_told { ticket = Some ticket; replies = part.0 }, record s { ring = part.1; tickets = ticket })
 
 -- a batch of node i is made durable, and the replies that rested on it are released
 unfoldable pub flushed : ℕ → State → Told × State
 flushed i s =
-    let w = landed i s.ring in
-    (record nothing_told { flushed = Some ((node_at w i).durable - (node_at s.ring i).durable); replies = replies i w }, record s { ring = settled i w })
+    let part = round i s.ring in
+    (record nothing_told { flushed = Some ((node_at part.1 i).durable - (node_at s.ring i).durable); replies = part.0 }, record s { ring = part.1 })
 
 -- node i was opened again, in this ring: the tickets that it lost, and how many inputs it holds
 abbrev pub reopened : ℕ → RingView → State → Told × State
@@ -59,7 +58,7 @@ unfoldable pub stopped : Bool → ℕ → State → Told × State
 stopped keeps_flying i s = if waits s.ring i then reopened i (ring.stopped keeps_flying i s.ring) s else crashed i s
 
 unfoldable pub delivered_all : State → Told × State
-delivered_all s = let all = swept s.eager 10000 s.ring in (record nothing_told { delivered = Some all.0 }, record s { ring = all.1 })
+delivered_all s = let all = swept 10000 s.ring in (record nothing_told { delivered = Some all.0 }, record s { ring = all.1 })
 
 abbrev pub put : State → Option (ℕ × Request) → Told × State
 put s None = (nothing_told, s)
@@ -82,6 +81,11 @@ all_told step = (step.0, record step.1 { ring = record step.1.ring { told = step
 -- The relation of a step: the event may tell o and lead from s to t.
 unfoldable pub Steps : State → Event → Told → State → Type 0
 Steps s event o t = (keeps_flying : Bool) × ((o, t) ≡ all_told (stepped keeps_flying s event))
+
+-- What each part of a step keeps: its ring is the same one, with as much told, and it tells of no more tickets than
+-- numbers are taken.
+abbrev pub Keeps : {E : Type 0} → State → Result Outcome E → State → Type 0
+Keeps s result t = IsSameRing s.ring t.ring × IfOk result (λ o. length o.replies.items + length o.lost.items ≤ s.tickets + 1)
 
 -- ---- why an event is refused
 
@@ -111,14 +115,14 @@ objection_to s (Stop node call tear) = no_stop s node call
 
 -- the first cause to refuse the event, want of memory aside
 unfoldable pub refusal_of : State → Event → Option Refusal
-refusal_of s event = or_else (where_so s.ring.failed refused.Failed) (objection_to s event)
+refusal_of s event = or_else (where_so s.ring.failed refused.Failed) (or_else (objection_to s event) (where_so (is_full s.ring) refused.Limit))
 
 -- want of memory changes nothing
 unfoldable pub is_lasting : State → Event → Bool
-is_lasting s (Submit node q) = not s.eager
+is_lasting s (Submit node q) = not s.ring.eager
 is_lasting s (Flush node) = false
-is_lasting s (Deliver from place) = not s.eager
+is_lasting s (Deliver from place) = not s.ring.eager
 is_lasting s DeliverAll = false
-is_lasting s (Credit from upto) = not s.eager
+is_lasting s (Credit from upto) = not s.ring.eager
 is_lasting s (Crash node) = false
 is_lasting s (Stop node call tear) = false

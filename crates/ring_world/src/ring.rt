@@ -1,11 +1,11 @@
 // A ring of durable nodes in memory, and what happened to it.
-ghost use Rattle.std.specs.Prelude.{◌≡◌, ◌≤◌, ℕ, [], length, true, false, OnOk, IfOk, IfSome};
+ghost use Rattle.std.specs.Prelude.{◌≡◌, ◌≤◌, [], length, true, false, OnOk, IfOk, IfSome};
 ghost use Rattle.ring_records.specs.History.{credit as credit_of, taken as taken_in};
 ghost use Rattle.ring_records.specs.Emission.{sent as sent_by};
 ghost use Rattle.ring_records.specs.Message.{candidate_of};
 ghost use Rattle.ring_records.specs.Order.{is_msg};
 ghost use Rattle.ring_world.specs.Events.{IsSchedule};
-ghost use Rattle.ring_world.specs.Ring.{new_nodes};
+ghost use Rattle.ring_world.specs.Shows.{new_nodes};
 ghost use Rattle.ring_world.specs.State.{is_ring};
 
 use crate::happened::Happened;
@@ -20,6 +20,8 @@ pub struct Ring {
     alloc: Global,
     size: u8,
     capacity: u32,
+    // Whether each input is made durable as it is accepted.
+    eager: bool,
     failed: bool,
     nodes: Vec<RingNode>,
     events: Vec<Happened>,
@@ -28,23 +30,25 @@ pub struct Ring {
 }
 
 impl Model for Ring {
-    ghost use Rattle.std.specs.Prelude.{◌≤◌, length, take};
-    ghost use Rattle.ring_world.specs.Ring.{RingView, IsSound};
+    ghost use Rattle.std.specs.Prelude.{◌≤◌, length, map, take};
+    ghost use Rattle.ring_world.specs.Ring.{RingView};
+    ghost use Rattle.ring_world.specs.Shows.{IsSound, held_of};
 
     ghost Value = { RingView };
 
-    ghost view = { λ w. record { size = w.size; capacity = w.capacity; failed = w.failed; events = w.events.items; told = take w.told w.events.items; nodes = w.nodes.items } };
+    ghost view = { λ w. record { size = w.size; capacity = w.capacity; eager = w.eager; failed = w.failed; events = w.events.items; told = take w.told w.events.items; held = map held_of w.nodes.items } };
 
     ghost invariant = { λ w. (w.told ≤ length w.events.items) × IsSound w.size w.capacity w.failed w.events.items (take w.told w.events.items) w.nodes.items };
 }
 
 impl Ring {
-    ghost use Rattle.ring_world.specs.Ring.{RingView, new_ring, ShowsNode, node_at, waits, message, is_earned, is_released};
+    ghost use Rattle.ring_world.specs.Ring.{RingView, new_ring, node_at, waits, message, is_earned, is_released, is_full};
 
-    /// A ring of `size` nodes of this capacity in bytes, in which nothing has happened.
-    pub fn new(alloc: Global, size: u8, capacity: u32) -> Result<Ring, AllocError>
+    /// A ring of `size` nodes of this capacity in bytes, in which nothing has happened. In an eager one each input is
+    /// made durable as it is accepted.
+    pub fn new(alloc: Global, size: u8, eager: bool, capacity: u32) -> Result<Ring, AllocError>
         requires range { is_ring size capacity ≡ true }
-        ensures { IfOk result (λ ring. ring ≡ new_ring size capacity) }
+        ensures { IfOk result (λ ring. ring ≡ new_ring size eager capacity) }
     {
         let mut nodes = Vec::new(alloc);
         if let Err(error) = fill(alloc, &mut nodes, size, capacity) {
@@ -55,6 +59,7 @@ impl Ring {
             alloc,
             size,
             capacity,
+            eager,
             failed: false,
             nodes,
             events: Vec::new(alloc),
@@ -68,6 +73,7 @@ impl Ring {
             alloc: _,
             size: _,
             capacity: _,
+            eager: _,
             failed: _,
             nodes,
             events: _,
@@ -76,11 +82,10 @@ impl Ring {
         end_all(nodes);
     }
 
-    /// What happened may happen, and the nodes are those that it reaches.
-    pub fn shows_lawfully(&self)
+    /// What happened may happen.
+    pub fn is_lawful(&self)
         ensures told { IsSchedule self.now.size self.now.capacity self.now.told }
         ensures events { self.now.failed ≡ false → IsSchedule self.now.size self.now.capacity self.now.events }
-        ensures shows { self.now.failed ≡ false → (i : ℕ) → 1 ≤ i → i ≤ self.now.size → ShowsNode self.now.size self.now.capacity self.now.events i (node_at self.now i) }
     {
         let _ = &self.size;
     }
@@ -91,6 +96,13 @@ impl Ring {
         ensures range { (2 ≤ result) × (result ≤ 16) }
     {
         self.size
+    }
+
+    /// Whether 2^60 events happened to it, after which it takes no more.
+    pub fn is_full(&self) -> bool
+        ensures { result ≡ is_full self.now }
+    {
+        self.events.len() >= EVENTS
     }
 
     /// Whether a growth was refused, after which it is of no use.
@@ -125,8 +137,10 @@ impl Ring {
     fn at(&self, node: NodeNo) -> &RingNode
         requires works { self.now.failed ≡ false }
         requires inside { node ≤ self.now.size }
-        ensures value { result.now ≡ node_at self.now node }
+        ensures me { result.now.me ≡ node }
         ensures ring { result.now.n ≡ self.now.size }
+        ensures inputs { result.now.inputs ≡ (node_at self.now node).inputs }
+        ensures durable { result.now.durable ≡ (node_at self.now node).durable }
     {
         &self.nodes[node.number() as usize - 1]
     }
@@ -153,7 +167,7 @@ impl Ring {
     pub fn sent(&self, node: NodeNo) -> u64
         requires works { self.now.failed ≡ false }
         requires inside { node ≤ self.now.size }
-        ensures { result ≡ length (sent_by (node_at self.now node).me (node_at self.now node).inputs) }
+        ensures { result ≡ length (sent_by node (node_at self.now node).inputs) }
     {
         self.at(node).sent()
     }
@@ -227,6 +241,9 @@ impl Ring {
         }
     }
 }
+
+/// The most events. A node gives at most a ticket an event, so it has one for the next.
+const EVENTS: usize = 1 << 60;
 
 mod changes;
 mod crashes;

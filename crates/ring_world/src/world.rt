@@ -2,13 +2,11 @@
 ghost use Rattle.std.specs.Prelude.{◌≡◌, ◌≢◌, ◌+◌, ◌≤◌, ◌<◌, ◌⊎◌, Bool, false, true, IsTrue, IfOk, IfErr, OnOk, OnErr, MatchBool, None, Some, length};
 ghost use Rattle.std.specs.List.{Contains};
 ghost use Rattle.ring_records.specs.declared.candidate.Candidate.{Candidate as TheCandidate};
-ghost use Rattle.ring_records.specs.declared.input.Input.TheVariants.{Stand};
 ghost use Rattle.ring_records.specs.Emission.{sent};
 ghost use Rattle.ring_records.specs.History.{taken, credit};
 ghost use Rattle.ring_records.specs.Order.{is_less};
 ghost use Rattle.ring_world.specs.declared.announced.Announced.{Announced as TheAnnounced};
-ghost use Rattle.ring_world.specs.Announced.{announced};
-ghost use Rattle.ring_world.specs.Committed.{committed};
+ghost use Rattle.ring_world.specs.Announced.{announced, Stands};
 ghost use Rattle.ring_world.specs.Events.{IsSchedule, state_after};
 ghost use Rattle.ring_world.specs.Step.{told};
 
@@ -29,7 +27,6 @@ use std::marker::Model;
 pub struct World {
     alloc: Global,
     ring: Ring,
-    eager: bool,
     tickets: u64,
 }
 
@@ -40,14 +37,14 @@ impl Model for World {
 
     ghost Value = { State };
 
-    ghost view = { λ w. record { ring = w.ring; eager = w.eager; tickets = w.tickets } };
+    ghost view = { λ w. record { ring = w.ring; tickets = w.tickets } };
 
-    ghost invariant = { λ w. IsCounted w.ring w.tickets × IsAtRest w.eager w.ring };
+    ghost invariant = { λ w. IsCounted w.ring w.tickets × IsAtRest w.ring };
 }
 
 impl World {
     ghost use Rattle.ring_world.specs.State.{State, opened, is_ring};
-    ghost use Rattle.ring_world.specs.Step.{Steps, refusal_of, is_lasting, stepped};
+    ghost use Rattle.ring_world.specs.Step.{Keeps, Steps, refusal_of, is_lasting, stepped};
 
     /// A ring of n nodes in which nothing has happened. In an eager one each input is made durable as it is accepted;
     /// else it waits for a flush. Refused as 2 where n is not 2 to 16 or the capacity of each node not 4,096 to
@@ -60,11 +57,10 @@ impl World {
         if n < 2 || n > 16 || capacity < 4_096 || capacity > 1_048_576 {
             return Err(Refusal::BadNumber);
         }
-        match Ring::new(alloc, n, capacity) {
+        match Ring::new(alloc, n, eager, capacity) {
             Ok(ring) => Ok(World {
                 alloc,
                 ring,
-                eager,
                 tickets: 0,
             }),
             Err(_) => Err(Refusal::OutOfMemory),
@@ -76,7 +72,6 @@ impl World {
         let World {
             alloc: _,
             ring,
-            eager: _,
             tickets: _,
         } = self;
         ring.end();
@@ -92,8 +87,8 @@ impl World {
 
     /// Lets an event happen. Refused, in this order: 9 after a refused growth; 2 where there is no such node, a message
     /// is of none, or a device call is not 1 to 4; 21 where a packet that it brings was never released to the node; 6
-    /// where 2^60 ticket numbers are taken; 8. A refusal changes nothing, save that an 8 leaves a failed world; but not
-    /// where a node of a ring that is not eager was asked.
+    /// where 2^60 ticket numbers are taken or 2^60 events happened; 8. A refusal changes nothing, save that an 8 leaves
+    /// a failed world; but not where a node of a ring that is not eager was asked.
     #[tactic(auto, unfolding(crate::specs::Step::Steps))]
     pub fn step(&mut self, event: Event) -> Result<Outcome, Refusal>
         ensures steps { IfOk result (λ outcome. Steps self.old event (told outcome) self.new) }
@@ -125,11 +120,11 @@ impl World {
         ensures list { IfOk result (λ list. list.items ≡ announced self.now.ring.told) }
         ensures lawful { IsSchedule self.now.ring.size self.now.ring.capacity self.now.ring.told }
         ensures same { IfOk result (λ list. (a b : TheAnnounced) → Contains list.items a → Contains list.items b → a.key ≡ b.key → a.leader ≡ b.leader) }
-        ensures stands { IfOk result (λ list. (a : TheAnnounced) → Contains list.items a → Contains (committed self.now.ring.size self.now.ring.capacity self.now.ring.told) (a.leader.node, Stand a.key a.leader.bid)) }
-        ensures greatest { IfOk result (λ list. (a : TheAnnounced) (d : TheCandidate) → Contains list.items a → Contains (committed self.now.ring.size self.now.ring.capacity self.now.ring.told) (d.node, Stand a.key d.bid) → d ≢ a.leader → IsTrue (is_less d a.leader)) }
+        ensures stands { IfOk result (λ list. (a : TheAnnounced) → Contains list.items a → Stands self.now.ring a.key a.leader) }
+        ensures greatest { IfOk result (λ list. (a : TheAnnounced) (d : TheCandidate) → Contains list.items a → Stands self.now.ring a.key d → d ≢ a.leader → IsTrue (is_less d a.leader)) }
     {
         laws::headline();
-        self.ring.shows_lawfully();
+        self.ring.is_lawful();
         let list = announced_in(self.alloc, self.ring.told())?;
         Ok(list)
     }
@@ -138,7 +133,7 @@ impl World {
     pub fn show(&self, node: NodeNo) -> Result<Shown, Refusal>
         ensures inputs { IfOk result (λ shown. shown.inputs ≡ length (state_after self.now.ring.size self.now.ring.capacity self.now.ring.events node).inputs) }
         ensures durable { IfOk result (λ shown. shown.durable ≡ (state_after self.now.ring.size self.now.ring.capacity self.now.ring.events node).durable) }
-        ensures eager { IfOk result (λ shown. self.now.eager ≡ true → shown.durable ≡ shown.inputs) }
+        ensures eager { IfOk result (λ shown. self.now.ring.eager ≡ true → shown.durable ≡ shown.inputs) }
         ensures sent { IfOk result (λ shown. shown.sent ≡ length (sent node (state_after self.now.ring.size self.now.ring.capacity self.now.ring.events node).inputs)) }
         ensures taken { IfOk result (λ shown. shown.taken ≡ length (taken (state_after self.now.ring.size self.now.ring.capacity self.now.ring.events node).inputs)) }
         ensures credit { IfOk result (λ shown. shown.credit ≡ credit (state_after self.now.ring.size self.now.ring.capacity self.now.ring.events node).inputs) }
@@ -152,7 +147,6 @@ impl World {
         if node.number() > self.size() {
             return Err(Refusal::BadNumber);
         }
-        self.ring.shows_lawfully();
         Ok(Shown {
             inputs: self.ring.count(node),
             durable: self.ring.durable(node),
@@ -168,9 +162,7 @@ impl World {
         ensures step { IfOk result (λ outcome. (keeps_flying : Bool) × ((told outcome, self.new) ≡ stepped keeps_flying self.old event)) }
         ensures works { OnOk result (self.new.ring.failed ≡ false) }
         ensures err { OnErr result (MatchBool (is_lasting self.old event) (self.new ≡ self.old) (self.new.ring.failed ≡ true)) }
-        ensures untold { self.new.ring.told ≡ self.old.ring.told }
-        ensures size { (self.new.ring.size ≡ self.old.ring.size) × (self.new.ring.capacity ≡ self.old.ring.capacity) }
-        ensures few { IfOk result (λ outcome. length outcome.replies.items + length outcome.lost.items ≤ self.old.tickets + 1) }
+        ensures kept { Keeps self.old result self.new }
         ensures tickets { OnOk result (self.new.tickets ≤ self.old.tickets + 1) }
     {
         match event {

@@ -9,10 +9,9 @@ use Rattle.ring_records.specs.declared.refusal.Refusal.{Refusal}
 use Rattle.ring_records.specs.declared.refusal.Refusal.TheVariants.{BadNumber, Failed, Limit}
 use Rattle.ring_records.specs.declared.request.Request.{Request}
 use Rattle.ring_records.specs.Admission.{fresh, refusal}
-use Rattle.ring_records.specs.Answer.{NodeState, input_of, gained, if_free, if_input, asked}
-use Rattle.group_commit.specs.declared.desk.Desk.{Desk}
-use Rattle.group_commit.specs.Desk.{place_of, kept_at, issued_by, answered, IsHere}
-use Rattle.group_commit.specs.Ticket.{TicketView, ticket_with}
+use Rattle.group_commit.specs.Desk.{DeskView, kept_at, IsHere}
+use Rattle.group_commit.specs.Ticket.{TicketView}
+use Rattle.ring_records.specs.Answer.{Answered, NodeState, input_of, gained, if_free, if_input, asked}
 
 one_if_free : (o : Option Refusal) (x : Input) → length (if_free o x) ≤ 1
 one_if_free None x = omega arith
@@ -48,22 +47,15 @@ no_ticket false true outside issued why c f o e = cc
 no_ticket false false true issued why c f o e = cc
 no_ticket false false false issued why c f o e = let p = no_number (nat_le (2 ^ 60) issued) why e in (p.0, leb-true (2 ^ 60) issued p.1)
 
--- the answer is kept for the ticket that was given
-pub is_here : (old next : Desk) (q : Request) (ticket : TicketView) → ticket ≡ ticket_with (place_of old) (issued_by old) (answered old q) → place_of next ≡ place_of old
-    → kept_at next (issued_by old) ≡ Some (answered old q) → IsHere next ticket (answered old q)
-is_here old next q ticket e place kept = record {
-  node = ap (λ t. t.node) e ∙ sym (ap (λ p. p.me) place);
-  run = ap (λ t. t.run) e ∙ sym (ap (λ p. p.run) place);
-  own = ap (λ t. kept_at next t.own) e ∙ kept;
-  question = sym (ap (λ t. t.question) e);
-}
-
-same_number : (n : ℕ) → nat_eq n n ≡ true
-same_number n = search rules
-
-pub its_own : {A : Type 0} (n : ℕ) (x y : A) → (if nat_eq n n then x else y) ≡ x
-its_own n x y = ap (λ b. if b then x else y) (same_number n)
-
 pub none_of : {A : Type 0} (o : Option A) → is_some o ≡ false → o ≡ None
 none_of None e = refl
 none_of (Some x) e = cc
+
+-- a ticket that is open stays so where the tickets stay
+pub still_here : (old new : DeskView) (ticket : TicketView) (kept : Answered) → new ≡ record old { state = new.state; failed = new.failed } → IsHere old ticket kept → IsHere new ticket kept
+still_here old new ticket kept stays here = record {
+  node = here.node ∙ sym (ap (λ (d : DeskView). d.member.node) stays);
+  run = here.run ∙ sym (ap (λ (d : DeskView). d.run) stays);
+  own = ap (λ (d : DeskView). kept_at d ticket.own) stays ∙ here.own;
+  question = here.question;
+}

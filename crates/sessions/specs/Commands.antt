@@ -1,10 +1,9 @@
 -- What a line asks, or its first fault.
-use Rattle.std.specs.Prelude.{ℕ, Bool, true, false, List, [], ◌∷◌, if◌then◌else◌, Option, Some, None, Result, Ok, Err, codes}
-use Rattle.std.specs.Str.{bytes_eq}
+use Rattle.std.specs.Prelude.{ℕ, Bool, true, false, List, [], ◌∷◌, Option, Some, None, Result, Ok, Err, codes}
 use Rattle.std.specs.Str.Lines.{strip_carriage_return}
-use Rattle.line_words.specs.Faults.{◌>>=◌, judged, name_word, bid_word, key_words}
+use Rattle.line_words.specs.Forms.{Fixed, Name, Form, bid, term, line_says}
+use Rattle.ring_records.specs.declared.key.Key.{Key}
 use Rattle.ring_records.specs.declared.refusal.Refusal.{Refusal}
-use Rattle.ring_records.specs.declared.refusal.Refusal.TheVariants.{BadLine}
 use Rattle.ring_records.specs.declared.request.Request.{Request}
 use Rattle.ring_records.specs.declared.request.Request.TheVariants as ask
 use Rattle.sessions.specs.declared.command.Command.{Command}
@@ -12,54 +11,21 @@ use Rattle.sessions.specs.declared.command.Command.TheVariants.{Ask, Bye}
 use Rattle.sessions.specs.declared.command.Question.{Question}
 use Rattle.sessions.specs.declared.command.Question.TheVariants.{Stand, Who, Latest}
 
--- The words behind the first word of each command, from left to right.
+abbrev pub key : List ℕ → ℕ → Key
+key group term = record { group = group; term = term }
 
-abbrev pub stand_words : List ℕ → List ℕ → List ℕ → Result Command Refusal
-stand_words g t b = do
-  key ← key_words g t
-  bid ← bid_word b
-  Ok (Ask (Stand key bid))
-
-abbrev pub who_words : List ℕ → List ℕ → Result Command Refusal
-who_words g t = do
-  key ← key_words g t
-  Ok (Ask (Who key))
-
-abbrev pub latest_words : List ℕ → Result Command Refusal
-latest_words g = do
-  group ← name_word g
-  Ok (Ask (Latest group))
-
--- Before that, their count.
-
-unfoldable pub stand_of : List (List ℕ) → Result Command Refusal
-stand_of (g ∷ t ∷ b ∷ []) = stand_words g t b
-stand_of _ = Err BadLine
-
-unfoldable pub who_of : List (List ℕ) → Result Command Refusal
-who_of (g ∷ t ∷ []) = who_words g t
-who_of _ = Err BadLine
-
-unfoldable pub latest_of : List (List ℕ) → Result Command Refusal
-latest_of (g ∷ []) = latest_words g
-latest_of _ = Err BadLine
-
-unfoldable pub bye_of : List (List ℕ) → Result Command Refusal
-bye_of [] = Ok Bye
-bye_of _ = Err BadLine
-
--- the commands, by their first word
-unfoldable pub command_of : List (List ℕ) → Result Command Refusal
-command_of [] = Err BadLine
-command_of (verb ∷ words) =
-    if bytes_eq verb (codes "stand") then stand_of words
-    else (if bytes_eq verb (codes "who") then who_of words
-    else (if bytes_eq verb (codes "latest") then latest_of words
-    else (if bytes_eq verb (codes "bye") then bye_of words else Err BadLine)))
+-- the form of each command, and what it says
+unfoldable pub commands : List (Form Command)
+commands =
+    (Fixed (codes "stand") ∷ Name ∷ term ∷ bid ∷ [], λ g t b. Ask (Stand (key g t) b))
+    ∷ (Fixed (codes "who") ∷ Name ∷ term ∷ [], λ g t. Ask (Who (key g t)))
+    ∷ (Fixed (codes "latest") ∷ Name ∷ [], λ g. Ask (Latest g))
+    ∷ (Fixed (codes "bye") ∷ [], Bye)
+    ∷ []
 
 -- what a line says that was read up to its line feed
 unfoldable pub said : List ℕ → Result Command Refusal
-said line = judged command_of (strip_carriage_return line)
+said line = line_says commands (strip_carriage_return line)
 
 -- the request that a question is
 abbrev pub request_of : Question → Request

@@ -2,11 +2,10 @@
 use Rattle.std.specs.Prelude.{◌≡◌, ◌⊎◌, ◌≤◌, ◌^◌, ℕ, Bool, true, false, List, is_some, Ok, Err}
 use Rattle.disk_model.specs.declared.device.Device.{Ghosts}
 use Rattle.gated_journal.specs.Unread.{IsFault}
-use Rattle.node_store.specs.Node.{state_of, place_of, issued_by, device_of}
+use Rattle.group_commit.specs.Desk.{answered, submitted}
+use Rattle.node_store.specs.Node.{desk_of, state_of, device_of}
 use Rattle.node_store.specs.declared.node.Node.{Node}
-use Rattle.ring_records.specs.Admission.{fresh}
-use Rattle.ring_records.specs.Answer as answers
-use Rattle.ring_records.specs.Answer.{asked, opened}
+use Rattle.ring_records.specs.Answer.{opened}
 use Rattle.ring_records.specs.declared.input.Input.{Input}
 use Rattle.ring_records.specs.declared.refusal.Refusal.{Refusal}
 use Rattle.ring_records.specs.declared.refusal.Refusal.TheVariants as refused
@@ -29,26 +28,30 @@ module _ {D : Type 0} {g : Ghosts D} where
 
   -- what the node answers to the question after them
   abbrev pub reply_to : SoloService D g → Request → Reply
-  reply_to s q = answers.reply (place_of s.node).me (place_of s.node).n (place_of s.node).capacity fresh (history s) q
+  reply_to s q = (answered (desk_of s.node) q).answer.reply
 
   -- the inputs of its node with what the question asks it to accept, where that is admitted
   abbrev pub history_with : SoloService D g → Request → List Input
-  history_with s q = (asked (place_of s.node).me (place_of s.node).n (place_of s.node).capacity fresh (state_of s.node) q).inputs
+  history_with s q = (submitted q (desk_of s.node)).state.inputs
+
+  -- it is the same opening of the same node
+  pub record IsSame (s t : SoloService D g) : Type 0 where
+    pub member : (desk_of t.node).member ≡ (desk_of s.node).member
+    pub run : (desk_of t.node).run ≡ (desk_of s.node).run
 
   -- the node's reply, which rests on durable inputs alone
   pub record IsReplied (s : SoloService D g) (q : Request) (reply : Reply) (t : SoloService D g) : Type 0 where
     pub works : has_failed s ≡ false
     pub is : reply ≡ reply_to s q
     pub next : state_of t.node ≡ opened (history_with s q)
-    pub place : place_of t.node ≡ place_of s.node
+    pub same : IsSame s t
     pub goes_on : has_failed t ≡ false
 
   -- no ticket was given, and the node is as it was: all numbers of tickets were given, or a growth was refused
   pub record IsUnasked (s : SoloService D g) (why : Refusal) (t : SoloService D g) : Type 0 where
     pub works : has_failed s ≡ false
-    pub cause : ((why ≡ refused.Limit) × (2 ^ 60 ≤ issued_by s.node)) ⊎ (why ≡ refused.OutOfMemory)
-    pub state : state_of t.node ≡ state_of s.node
-    pub place : place_of t.node ≡ place_of s.node
+    pub cause : ((why ≡ refused.Limit) × (2 ^ 60 ≤ (desk_of s.node).issued)) ⊎ (why ≡ refused.OutOfMemory)
+    pub same : desk_of t.node ≡ desk_of s.node
     pub goes_on : has_failed t ≡ false
 
   -- the node accepted what is asked, and the flush was refused: the device failed, or a growth was refused
@@ -56,7 +59,7 @@ module _ {D : Type 0} {g : Ghosts D} where
     pub works : has_failed s ≡ false
     pub cause : IsFault (count (device_of s.node)) (count (device_of t.node)) why ⊎ (why ≡ refused.OutOfMemory)
     pub next : history t ≡ history_with s q
-    pub place : place_of t.node ≡ place_of s.node
+    pub same : IsSame s t
     pub failed : has_failed t ≡ true
 
   -- a flush was refused before

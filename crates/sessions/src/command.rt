@@ -1,9 +1,9 @@
 // A line to a command, or to its first fault.
-ghost use Rattle.std.specs.Prelude.{◌≡◌, map, IfOk};
-ghost use Rattle.line_words.specs.Faults.{judged};
-ghost use Rattle.sessions.specs.Commands.{bye_of, command_of, latest_of, latest_words, stand_of, stand_words, who_of, who_words};
+ghost use Rattle.std.specs.Prelude.{◌≡◌, ◌∷◌, [], map, IfOk};
+ghost use Rattle.line_words.specs.Forms.{form_says, line_says};
+ghost use Rattle.sessions.specs.Commands.{commands};
 
-use line_words::{read_bid, read_group, read_key, read_words};
+use line_words::{read_bid, read_group, read_term, read_words};
 use ring_records::{Bid, GroupName, Key, Refusal};
 use std::alloc::{AllocError, Global};
 
@@ -27,88 +27,75 @@ pub enum Command {
     Bye,
 }
 
-fn read_stand(group: &[u8], term: &[u8], bid: &[u8]) -> Result<Command, Refusal>
-    ensures { result ≡ stand_words group.now term.now bid.now }
+// The command of one word.
+#[tactic(auto, unfolding(line_words::specs::Forms::form_says, crate::specs::Commands::commands))]
+fn of_one(verb: &[u8]) -> Result<Command, Refusal>
+    ensures { result ≡ form_says commands (verb.now ∷ []) }
 {
-    let key = read_key(group, term)?;
-    let bid = read_bid(bid)?;
-    Ok(Command::Ask(Question::Stand(key, bid)))
-}
-
-#[tactic(auto, unfolding(crate::specs::Commands::stand_of))]
-fn stand(words: &[&[u8]]) -> Result<Command, Refusal>
-    ensures { result ≡ stand_of (map (λ x. x.now) words.now) }
-{
-    match words {
-        [group, term, bid] => read_stand(group, term, bid),
-        _ => Err(Refusal::BadLine),
+    if verb != b"bye".as_slice() {
+        return Err(Refusal::BadLine);
     }
+    Ok(Command::Bye)
 }
 
-fn read_who(group: &[u8], term: &[u8]) -> Result<Command, Refusal>
-    ensures { result ≡ who_words group.now term.now }
+// That of two.
+#[tactic(auto, unfolding(line_words::specs::Forms::form_says, crate::specs::Commands::commands))]
+fn of_two(verb: &[u8], g: &[u8]) -> Result<Command, Refusal>
+    ensures { result ≡ form_says commands (verb.now ∷ g.now ∷ []) }
 {
-    let key = read_key(group, term)?;
-    Ok(Command::Ask(Question::Who(key)))
-}
-
-#[tactic(auto, unfolding(crate::specs::Commands::who_of))]
-fn who(words: &[&[u8]]) -> Result<Command, Refusal>
-    ensures { result ≡ who_of (map (λ x. x.now) words.now) }
-{
-    match words {
-        [group, term] => read_who(group, term),
-        _ => Err(Refusal::BadLine),
+    if verb != b"latest".as_slice() {
+        return Err(Refusal::BadLine);
     }
-}
-
-fn read_latest(group: &[u8]) -> Result<Command, Refusal>
-    ensures { result ≡ latest_words group.now }
-{
-    let group = read_group(group)?;
+    let group = read_group(g)?;
     Ok(Command::Ask(Question::Latest(group)))
 }
 
-#[tactic(auto, unfolding(crate::specs::Commands::latest_of))]
-fn latest(words: &[&[u8]]) -> Result<Command, Refusal>
-    ensures { result ≡ latest_of (map (λ x. x.now) words.now) }
+// That of three.
+#[tactic(auto, unfolding(line_words::specs::Forms::form_says, crate::specs::Commands::commands))]
+fn of_three(verb: &[u8], g: &[u8], t: &[u8]) -> Result<Command, Refusal>
+    ensures { result ≡ form_says commands (verb.now ∷ g.now ∷ t.now ∷ []) }
 {
-    match words {
-        [group] => read_latest(group),
-        _ => Err(Refusal::BadLine),
+    if verb != b"who".as_slice() {
+        return Err(Refusal::BadLine);
     }
+    let group = read_group(g)?;
+    let term = read_term(t)?;
+    Ok(Command::Ask(Question::Who(Key { group, term })))
 }
 
-#[tactic(auto, unfolding(crate::specs::Commands::bye_of))]
-fn bye(words: &[&[u8]]) -> Result<Command, Refusal>
-    ensures { result ≡ bye_of (map (λ x. x.now) words.now) }
+// That of four.
+#[tactic(auto, unfolding(line_words::specs::Forms::form_says, crate::specs::Commands::commands))]
+fn of_four(verb: &[u8], g: &[u8], t: &[u8], b: &[u8]) -> Result<Command, Refusal>
+    ensures { result ≡ form_says commands (verb.now ∷ g.now ∷ t.now ∷ b.now ∷ []) }
 {
-    match words {
-        [] => Ok(Command::Bye),
-        _ => Err(Refusal::BadLine),
+    if verb != b"stand".as_slice() {
+        return Err(Refusal::BadLine);
     }
+    let group = read_group(g)?;
+    let term = read_term(t)?;
+    let bid = read_bid(b)?;
+    Ok(Command::Ask(Question::Stand(Key { group, term }, bid)))
 }
 
-#[tactic(auto, unfolding(crate::specs::Commands::command_of))]
-fn read_command(words: &[&[u8]]) -> Result<Command, Refusal>
-    ensures { result ≡ command_of (map (λ x. x.now) words.now) }
+fn command_of(words: &[&[u8]]) -> Result<Command, Refusal>
+    ensures { result ≡ form_says commands (map (λ x. x.now) words.now) }
 {
     match words {
-        [verb, words @ ..] if *verb == b"stand".as_slice() => stand(words),
-        [verb, words @ ..] if *verb == b"who".as_slice() => who(words),
-        [verb, words @ ..] if *verb == b"latest".as_slice() => latest(words),
-        [verb, words @ ..] if *verb == b"bye".as_slice() => bye(words),
+        [verb] => of_one(verb),
+        [verb, g] => of_two(verb, g),
+        [verb, g, t] => of_three(verb, g, t),
+        [verb, g, t, b] => of_four(verb, g, t, b),
         _ => Err(Refusal::BadLine),
     }
 }
 
 /// What a line says, which is given without its end. Refused as 25 where it is no command, and else as 1 or 2 by its
 /// first word that is no group or no number in its range.
-pub fn judge(alloc: Global, line: &[u8]) -> Result<Result<Command, Refusal>, AllocError>
-    ensures { IfOk result (λ r. r ≡ judged command_of line.now) }
+pub fn read_command(alloc: Global, line: &[u8]) -> Result<Result<Command, Refusal>, AllocError>
+    ensures { IfOk result (λ r. r ≡ line_says commands line.now) }
 {
     match read_words(alloc, line)? {
-        Ok(words) => Ok(read_command(&words)),
+        Ok(words) => Ok(command_of(&words)),
         Err(refusal) => Ok(Err(refusal)),
     }
 }

@@ -6,7 +6,7 @@ ghost use Rattle.sessions.specs.Commands.{is_bye, question_in, request_of, said}
 ghost use Rattle.sessions.specs.Session.{Answer, Replied, answer_text, is_last, question, response, told};
 
 use crate::Service;
-use crate::command::{Command, Question, judge};
+use crate::command::{Command, Question, read_command};
 use crate::line::LINE_BYTES;
 use crate::session::SessionFault;
 use line_words::{print_refusal, without_return, write_whole};
@@ -110,7 +110,7 @@ pub fn respond<W: Write, S: Service>(
     ensures read { IsErrOf result SessionFault.Read → ⊥ }
 {
     out.clear();
-    let judged = match judge(alloc, without_return(line)) {
+    let judged = match read_command(alloc, without_return(line)) {
         Ok(judged) => judged,
         Err(_) => return Err(SessionFault::Memory),
     };

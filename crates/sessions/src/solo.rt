@@ -1,8 +1,8 @@
 // A service over one node.
 ghost use Rattle.std.specs.Prelude.{◌≡◌, ◌⊎◌, ◌+◌, ◌≤◌, ◌<◌, ℕ, length, true, false, not, is_some, nat_lt, Some, None, IfOk, IfErr, OnOk, OnErr};
-ghost use Rattle.std.specs.Option.{ForNone};
+ghost use Rattle.std.specs.Option.{ForNone, ForSome};
 ghost use Rattle.gated_journal.specs.Unread.{IsFault};
-ghost use Rattle.group_commit.specs.Desk.{IsHere};
+ghost use Rattle.group_commit.specs.Desk.{ended, IsHere};
 ghost use Rattle.group_commit.specs.Ticket.{shown};
 ghost use Rattle.node_store.specs.Node as nodes;
 ghost use Rattle.ring_records.specs.Answer.{Answered, opened};
@@ -22,7 +22,8 @@ pub struct SoloService<D: Device> {
     node: Node<D>,
     unanswered: Option<Ticket>,
     ghost idle: { ForNone unanswered ((length (nodes.state_of node).inputs ≡ (nodes.state_of node).durable) × ((nodes.state_of node).flying ≡ (nodes.state_of node).durable)) },
-    ghost open: { ForNone unanswered ((nodes.is_closed node ≡ false) × (nodes.is_failed node ≡ false)) },
+    ghost open: { ForNone unanswered (((nodes.desk_of node).closed ≡ false) × ((nodes.desk_of node).failed ≡ false)) },
+    ghost held: { ForSome unanswered (λ ticket. ∥ ((kept : Answered) × IsHere (nodes.desk_of node) (shown ticket) kept) ∥₁) },
 }
 
 impl<D: Device> SoloService<D> {
@@ -31,7 +32,7 @@ impl<D: Device> SoloService<D> {
     /// A service over a node that takes requests and whose inputs are all durable, as one that was just created or
     /// recovered.
     pub fn new(node: Node<D>) -> SoloService<D>
-        requires open { (nodes.is_closed node ≡ false) × (nodes.is_failed node ≡ false) }
+        requires open { ((nodes.desk_of node).closed ≡ false) × ((nodes.desk_of node).failed ≡ false) }
         requires durable { nodes.state_of node ≡ opened (nodes.state_of node).inputs }
         ensures node { node_of result ≡ node }
         ensures works { has_failed result ≡ false }
@@ -40,10 +41,12 @@ impl<D: Device> SoloService<D> {
         SoloService { node, unanswered }
     }
 
-    /// Ends it, and gives the node and the ticket of the question whose flush was refused, if one was.
+    /// Ends it, and gives the node and the ticket of the question whose flush was refused, if one was. That is open
+    /// there, and so ends by the node's `forfeit`.
     pub fn into_parts(self) -> (Node<D>, Option<Ticket>)
         ensures node { result.0 ≡ node_of self }
         ensures ticket { is_some result.1 ≡ has_failed self }
+        ensures open { ForSome result.1 (λ ticket. ∥ ((kept : Answered) × IsHere (nodes.desk_of result.0) (shown ticket) kept) ∥₁) }
     {
         let SoloService { node, unanswered } = self;
         (node, unanswered)
@@ -102,13 +105,11 @@ fn settle<D: Device>(node: &mut Node<D>) -> Result<(), Refusal>
     requires one { length (nodes.state_of node.old).inputs ≤ (nodes.state_of node.old).durable + 1 }
     requires durable { (nodes.state_of node.old).durable ≤ length (nodes.state_of node.old).inputs }
     requires idle { (nodes.state_of node.old).flying ≡ (nodes.state_of node.old).durable }
-    requires works { nodes.is_failed node.old ≡ false }
-    ensures state { OnOk result (nodes.state_of node.new ≡ opened (nodes.state_of node.old).inputs) }
-    ensures ready { OnOk result ((nodes.is_failed node.new ≡ false) × (nodes.is_closed node.new ≡ nodes.is_closed node.old)) }
-    ensures kept { OnOk result ((own : ℕ) → nodes.kept_at node.new own ≡ nodes.kept_at node.old own) }
+    requires works { (nodes.desk_of node.old).failed ≡ false }
+    ensures next { OnOk result (nodes.desk_of node.new ≡ record (nodes.desk_of node.old) { state = opened (nodes.state_of node.old).inputs }) }
+    ensures stays { nodes.desk_of node.new ≡ record (nodes.desk_of node.old) { state = nodes.state_of node.new; failed = (nodes.desk_of node.new).failed } }
     ensures inputs { OnErr result ((nodes.state_of node.new).inputs ≡ (nodes.state_of node.old).inputs) }
     ensures cause { IfErr result (λ why. IsFault (D.count (nodes.device_of node.old)) (D.count (nodes.device_of node.new)) why ⊎ (why ≡ Refusal.OutOfMemory)) }
-    ensures place { nodes.place_of node.new ≡ nodes.place_of node.old }
 {
     if !waits(node) {
         return Ok(());
@@ -126,9 +127,7 @@ fn settle<D: Device>(node: &mut Node<D>) -> Result<(), Refusal>
 fn release<D: Device>(node: &mut Node<D>, ticket: Ticket) -> Reply
     requires here { (kept : Answered) × IsHere (nodes.desk_of node.old) (shown ticket) kept × (kept.answer.number ≤ (nodes.state_of node.old).durable) }
     ensures reply { (kept : Answered) → IsHere (nodes.desk_of node.old) (shown ticket) kept → result ≡ kept.answer.reply }
-    ensures place { nodes.place_of node.new ≡ nodes.place_of node.old }
-    ensures state { nodes.state_of node.new ≡ nodes.state_of node.old }
-    ensures ready { (nodes.is_closed node.new ≡ nodes.is_closed node.old) × (nodes.is_failed node.new ≡ nodes.is_failed node.old) }
+    ensures next { nodes.desk_of node.new ≡ ended (shown ticket).own (nodes.desk_of node.old) }
 {
     match node.redeem(ticket) {
         Ok((reply, _)) => reply,

@@ -1,238 +1,146 @@
 // What nodes are asked, make durable and release.
-ghost use Rattle.std.specs.Prelude.{◌≡◌, ◌≤◌, ◌<◌, ◌+◌, ◌-◌, ◌^◌, ◌++◌, length, map, true, false, Some, OnOk, OnErr, IfOk, vec_len, vec_capacity};
+ghost use Rattle.std.specs.Prelude.{◌≡◌, ◌≤◌, ◌<◌, ◌+◌, ◌-◌, ◌^◌, ◌++◌, length, map, true, false, OnOk, OnErr, IfOk, vec_len, vec_capacity};
 ghost use Rattle.std.specs.List.{filter_map};
 ghost use Rattle.ring_records.specs.Message.{is_outside};
-ghost use Rattle.ring_node.specs.Node.{accepts};
-ghost use Rattle.ring_world.specs.Events.{IsDelivered};
-ghost use Rattle.ring_world.specs.Ring.{node_at, asked, landed, settled, replies, reply_of, due, without_due, release_of, given, handed, brought, is_released};
+ghost use Rattle.ring_node.specs.Node.{flown, flushed};
+ghost use Rattle.ring_node.specs.Open.{due};
+ghost use Rattle.ring_world.specs.Ring.{IsSameRing, node_at, asked, landed, settled, replies, reply_of, release_of, given, handed, round, drained, brought, is_released};
+ghost use Rattle.ring_world.specs.Shows.{batch_of, without_due};
 
 use super::*;
 
 impl Ring {
-    /// Asks the node, after its neighbour released what the request brings; in an eager ring makes durable what it
-    /// accepts. Then releases the replies that rest on durable inputs alone: those of tickets with a number, in order.
-    /// Want of memory changes nothing in a ring that is not eager, and leaves an eager one failed.
+    /// Asks the node, under this number if any, after its neighbour released what the request brings, and releases the
+    /// replies that rest on durable inputs alone. In an eager ring rounds of Launch, Land and Release follow until
+    /// nothing waits. The replies to tickets with a number, in order. Want of memory changes nothing in a ring that is
+    /// not eager, and leaves an eager one failed.
+    #[tactic(auto, unfolding(crate::specs::Ring::brought))]
     pub fn submit(
         &mut self,
-        eager: bool,
-        number: u64,
-        node: NodeNo,
-        question: &Request,
-    ) -> Result<Vec<(u64, Reply)>, AllocError>
-        requires works { self.old.failed ≡ false }
-        requires inside { node ≤ self.old.size }
-        requires of_ring { is_outside self.old.size question.now ≡ false }
-        requires released { is_released self.old node question.now ≡ true }
-        ensures next { OnOk result (self.new ≡ settled node (brought eager (Some number) node question.now self.old)) }
-        ensures replies { IfOk result (λ list. list.items ≡ replies node (brought eager (Some number) node question.now self.old)) }
-        ensures works { OnOk result (self.new.failed ≡ false) }
-        ensures told { self.new.told ≡ self.old.told }
-        ensures size { (self.new.size ≡ self.old.size) × (self.new.capacity ≡ self.old.capacity) }
-        ensures err { OnErr result (eager ≡ true → self.new.failed ≡ true) }
-        ensures lasting { OnErr result (eager ≡ false → self.new ≡ self.old) }
-    {
-        if !eager {
-            return self.submit_lazily(number, node, question);
-        }
-        match self.submit_eagerly(number, node, question) {
-            Ok(replies) => Ok(replies),
-            Err(error) => {
-                self.failed = true;
-                Err(error)
-            }
-        }
-    }
-
-    // As `submit`, in a ring that is not eager.
-    fn submit_lazily(
-        &mut self,
-        number: u64,
-        node: NodeNo,
-        question: &Request,
-    ) -> Result<Vec<(u64, Reply)>, AllocError>
-        requires works { self.old.failed ≡ false }
-        requires inside { node ≤ self.old.size }
-        requires of_ring { is_outside self.old.size question.now ≡ false }
-        requires released { is_released self.old node question.now ≡ true }
-        ensures next { OnOk result (self.new ≡ settled node (brought false (Some number) node question.now self.old)) }
-        ensures replies { IfOk result (λ list. list.items ≡ replies node (brought false (Some number) node question.now self.old)) }
-        ensures rest { self.new ≡ record self.old { events = self.new.events; nodes = self.new.nodes } }
-        ensures err { OnErr result (self.new ≡ self.old) }
-    {
-        // All memory first: an `Err` changes nothing. The events are the packet, the request, and a release for each
-        // ticket, this one's too.
-        self.check_room()?;
-        let at = node.number() as usize - 1;
-        let open = self.nodes[at].open_tickets();
-        self.events.reserve(open.saturating_add(3))?;
-        let mut replies = Vec::with_capacity(self.alloc, open + 1)?;
-        self.nodes[at].ask(Some(number), *question)?;
-        push_handed(&mut self.events, self.size, node, question);
-        self.events.push_reserved(Happened::asked(node, question));
-        release_due(&mut self.nodes[at], &mut self.events, &mut replies, node);
-        Ok(replies)
-    }
-
-    // As `submit`, in an eager ring. Want of memory may leave some of it done.
-    fn submit_eagerly(
-        &mut self,
-        number: u64,
-        node: NodeNo,
-        question: &Request,
-    ) -> Result<Vec<(u64, Reply)>, AllocError>
-        requires works { self.old.failed ≡ false }
-        requires inside { node ≤ self.old.size }
-        requires of_ring { is_outside self.old.size question.now ≡ false }
-        requires released { is_released self.old node question.now ≡ true }
-        ensures next { OnOk result (self.new ≡ settled node (brought true (Some number) node question.now self.old)) }
-        ensures replies { IfOk result (λ list. list.items ≡ replies node (brought true (Some number) node question.now self.old)) }
-        ensures rest { self.new ≡ record self.old { events = self.new.events; nodes = self.new.nodes } }
-    {
-        self.bring(true, Some(number), node, question)?;
-        self.settle(node)
-    }
-
-    /// Makes the next batch of the node durable, and releases the replies that rested on it: how many inputs, and those
-    /// of tickets with a number, in order. Want of memory leaves a failed ring.
-    pub fn flush(&mut self, node: NodeNo) -> Result<(u32, Vec<(u64, Reply)>), AllocError>
-        requires works { self.old.failed ≡ false }
-        requires inside { node ≤ self.old.size }
-        ensures next { OnOk result (self.new ≡ settled node (landed node self.old)) }
-        ensures count { IfOk result (λ r. r.0 ≡ (node_at (landed node self.old) node).durable - (node_at self.old node).durable) }
-        ensures replies { IfOk result (λ r. r.1.items ≡ replies node (landed node self.old)) }
-        ensures works { OnOk result (self.new.failed ≡ false) }
-        ensures told { self.new.told ≡ self.old.told }
-        ensures size { (self.new.size ≡ self.old.size) × (self.new.capacity ≡ self.old.capacity) }
-        ensures err { OnErr result (self.new.failed ≡ true) }
-    {
-        match self.land(node) {
-            Ok(count) => match self.settle(node) {
-                Ok(replies) => Ok((count, replies)),
-                Err(error) => {
-                    self.failed = true;
-                    Err(error)
-                }
-            },
-            Err(error) => {
-                self.failed = true;
-                Err(error)
-            }
-        }
-    }
-
-    /// Asks the node, as `submit` does, and releases nothing: whether it accepts an input. Want of memory may leave
-    /// some of it done.
-    pub fn bring(
-        &mut self,
-        eager: bool,
         number: Option<u64>,
         node: NodeNo,
         question: &Request,
-    ) -> Result<bool, AllocError>
+    ) -> Result<Vec<(u64, Reply)>, AllocError>
         requires works { self.old.failed ≡ false }
         requires inside { node ≤ self.old.size }
         requires of_ring { is_outside self.old.size question.now ≡ false }
         requires released { is_released self.old node question.now ≡ true }
-        ensures next { OnOk result (self.new ≡ brought eager number node question.now self.old) }
-        ensures accepted { IfOk result (λ accepted. accepted ≡ accepts (node_at self.old node) question.now) }
-        ensures rest { self.new ≡ record self.old { events = self.new.events; nodes = self.new.nodes } }
+        requires room { length self.old.events < 2 ^ 60 }
+        ensures next { OnOk result (self.new ≡ (brought number node question.now self.old).1) }
+        ensures replies { IfOk result (λ list. list.items ≡ (brought number node question.now self.old).0) }
+        ensures works { OnOk result (self.new.failed ≡ false) }
+        ensures same { IsSameRing self.old self.new }
+        ensures err { OnErr result (self.old.eager ≡ true → self.new.failed ≡ true) }
+        ensures lasting { OnErr result (self.old.eager ≡ false → self.new ≡ self.old) }
     {
-        self.give(node, question)?;
-        let accepted = self.ask(number, node, question)?;
-        if eager {
-            self.land(node)?;
+        if !self.eager {
+            return self.ask(number, node, question);
         }
-        Ok(accepted)
+        match self.ask(number, node, question) {
+            Ok(replies) => self.drain(node, replies),
+            Err(error) => {
+                self.failed = true;
+                Err(error)
+            }
+        }
     }
 
-    // The neighbour releases to the node what the request brings.
-    fn give(&mut self, node: NodeNo, question: &Request) -> Result<(), AllocError>
+    /// Launches and lands the next batch of the node, and releases the replies that rested on it: how many inputs, and
+    /// the replies to tickets with a number, in order. Want of memory leaves a failed ring.
+    pub fn flush(&mut self, node: NodeNo) -> Result<(u32, Vec<(u64, Reply)>), AllocError>
         requires works { self.old.failed ≡ false }
         requires inside { node ≤ self.old.size }
-        requires released { is_released self.old node question.now ≡ true }
-        ensures next { OnOk result (self.new ≡ given node question.now self.old) }
-        ensures delivered { OnOk result (IsDelivered self.new.size self.new.events node question.now) }
-        ensures rest { self.new ≡ record self.old { events = self.new.events; nodes = self.new.nodes } }
-        ensures err { OnErr result (self.new ≡ self.old) }
+        ensures next { OnOk result (self.new ≡ (round node self.old).1) }
+        ensures replies { IfOk result (λ r. r.1.items ≡ (round node self.old).0) }
+        ensures count { IfOk result (λ r. r.0 ≡ (node_at self.new node).durable - (node_at self.old node).durable) }
+        ensures works { OnOk result (self.new.failed ≡ false) }
+        ensures same { IsSameRing self.old self.new }
+        ensures err { OnErr result (self.new.failed ≡ true) }
     {
-        self.events.reserve(1)?;
-        push_handed(&mut self.events, self.size, node, question);
-        Ok(())
+        let mut replies = Vec::new(self.alloc);
+        let count = self.round(node, &mut replies)?;
+        Ok((count, replies))
     }
 
-    // Asks the node under this number, if any: whether it accepts an input.
+    // Rounds of Launch, Land and Release until nothing waits at the node: these replies, and those that they release.
+    fn drain(
+        &mut self,
+        node: NodeNo,
+        first: Vec<(u64, Reply)>,
+    ) -> Result<Vec<(u64, Reply)>, AllocError>
+        requires works { self.old.failed ≡ false }
+        requires inside { node ≤ self.old.size }
+        ensures next { OnOk result (self.new ≡ (drained node self.old).1) }
+        ensures replies { IfOk result (λ list. list.items ≡ first.items ++ (drained node self.old).0) }
+        ensures works { OnOk result (self.new.failed ≡ false) }
+        ensures same { IsSameRing self.old self.new }
+        ensures err { OnErr result (self.new.failed ≡ true) }
+    {
+        let mut replies = first;
+        let most = self.count(node);
+        for _ in 0..most {
+            if !self.waits(node) {
+                return Ok(replies);
+            }
+            self.round(node, &mut replies)?;
+        }
+        Ok(replies)
+    }
+
+    // Asks the node, and releases what is due. Want of memory changes nothing.
     fn ask(
         &mut self,
         number: Option<u64>,
         node: NodeNo,
         question: &Request,
-    ) -> Result<bool, AllocError>
+    ) -> Result<Vec<(u64, Reply)>, AllocError>
         requires works { self.old.failed ≡ false }
         requires inside { node ≤ self.old.size }
         requires of_ring { is_outside self.old.size question.now ≡ false }
-        requires delivered { IsDelivered self.old.size self.old.events node question.now }
-        ensures next { OnOk result (self.new ≡ asked number node question.now self.old) }
-        ensures accepted { IfOk result (λ accepted. accepted ≡ accepts (node_at self.old node) question.now) }
-        ensures rest { self.new ≡ record self.old { events = self.new.events; nodes = self.new.nodes } }
+        requires released { is_released self.old node question.now ≡ true }
+        requires room { length self.old.events < 2 ^ 60 }
+        ensures next { OnOk result (self.new ≡ settled node (asked number node question.now (given node question.now self.old))) }
+        ensures replies { IfOk result (λ list. list.items ≡ replies node (asked number node question.now (given node question.now self.old))) }
+        ensures works { self.new.failed ≡ false }
+        ensures same { IsSameRing self.old self.new }
         ensures err { OnErr result (self.new ≡ self.old) }
     {
-        self.check_room()?;
-        self.events.reserve(1)?;
-        let accepted = self.nodes[node.number() as usize - 1].ask(number, *question)?;
-        self.events.push_reserved(Happened::asked(node, question));
-        Ok(accepted)
-    }
-
-    // Refuses a list of 2^60 events as want of memory, since no memory holds so many. A node gave at most a ticket an
-    // event, so it has one for the next.
-    fn check_room(&self) -> Result<(), AllocError>
-        ensures { OnOk result (length self.now.events < 2 ^ 60) }
-    {
-        if self.events.len() >= EVENTS {
-            return Err(AllocError);
-        }
-        Ok(())
-    }
-
-    // Launches and lands a batch of the node, where something waits: how many inputs.
-    fn land(&mut self, node: NodeNo) -> Result<u32, AllocError>
-        requires works { self.old.failed ≡ false }
-        requires inside { node ≤ self.old.size }
-        ensures next { OnOk result (self.new ≡ landed node self.old) }
-        ensures count { IfOk result (λ count. count ≡ (node_at (landed node self.old) node).durable - (node_at self.old node).durable) }
-        ensures rest { self.new ≡ record self.old { events = self.new.events; nodes = self.new.nodes } }
-        ensures err { OnErr result (self.new ≡ self.old) }
-    {
-        if !self.waits(node) {
-            return Ok(0);
-        }
-        self.events.reserve(2)?;
-        let count = self.nodes[node.number() as usize - 1].flush()?;
-        self.events.push_reserved(Happened::launched(node));
-        self.events.push_reserved(Happened::landed(node));
-        Ok(count)
-    }
-
-    /// Releases the replies of the node that rest on durable inputs alone: those of tickets with a number, in order.
-    pub fn settle(&mut self, node: NodeNo) -> Result<Vec<(u64, Reply)>, AllocError>
-        requires works { self.old.failed ≡ false }
-        requires inside { node ≤ self.old.size }
-        ensures next { OnOk result (self.new ≡ settled node self.old) }
-        ensures replies { IfOk result (λ list. list.items ≡ replies node self.old) }
-        ensures rest { self.new ≡ record self.old { events = self.new.events; nodes = self.new.nodes } }
-        ensures err { OnErr result (self.new ≡ self.old) }
-    {
+        // All memory first. The events are the packet, the request, and a release for each ticket, this one's too.
         let at = node.number() as usize - 1;
         let open = self.nodes[at].open_tickets();
-        self.events.reserve(open)?;
-        let mut replies = Vec::with_capacity(self.alloc, open)?;
+        self.events.reserve(open.saturating_add(3))?;
+        let mut replies = Vec::with_capacity(self.alloc, open + 1)?;
+        self.nodes[at].ask(number, *question)?;
+        push_handed(&mut self.events, self.size, node, question);
+        self.events.push_reserved(Happened::asked(node, question));
         release_due(&mut self.nodes[at], &mut self.events, &mut replies, node);
         Ok(replies)
     }
-}
 
-// More events than any memory holds.
-const EVENTS: usize = 1 << 60;
+    // Launches and lands a batch of the node, where something waits, and releases what is due: how many inputs. Adds
+    // the replies to tickets with a number. Want of memory leaves a failed ring.
+    fn round(&mut self, node: NodeNo, list: &mut Vec<(u64, Reply)>) -> Result<u32, AllocError>
+        requires works { self.old.failed ≡ false }
+        requires inside { node ≤ self.old.size }
+        ensures next { OnOk result (self.new ≡ settled node (landed node self.old)) }
+        ensures replies { OnOk result (list.new.items ≡ list.old.items ++ replies node (landed node self.old)) }
+        ensures count { IfOk result (λ count. count ≡ (node_at self.new node).durable - (node_at self.old node).durable) }
+        ensures works { OnOk result (self.new.failed ≡ false) }
+        ensures same { IsSameRing self.old self.new }
+        ensures err { OnErr result (self.new.failed ≡ true) }
+    {
+        // A return before the end leaves a failed ring.
+        self.failed = true;
+        let at = node.number() as usize - 1;
+        let open = self.nodes[at].open_tickets();
+        self.events.reserve(open.saturating_add(2))?;
+        list.reserve(open)?;
+        let count = land(&mut self.nodes[at], &mut self.events, node)?;
+        release_due(&mut self.nodes[at], &mut self.events, list, node);
+        self.failed = false;
+        Ok(count)
+    }
+}
 
 // Adds the packet that a neighbour of the node releases to it, for what the request brings; there is room.
 fn push_handed(events: &mut Vec<Happened>, size: u8, node: NodeNo, question: &Request)
@@ -260,6 +168,25 @@ fn push_handed(events: &mut Vec<Happened>, size: u8, node: NodeNo, question: &Re
     }
 }
 
+// Launches and lands a batch of the node, where something waits; there is room for the events. How many inputs.
+fn land(node: &mut RingNode, events: &mut Vec<Happened>, number: NodeNo) -> Result<u32, AllocError>
+    requires room { vec_len events.old + 2 ≤ vec_capacity events.old }
+    ensures node { OnOk result (node.new ≡ flushed node.old) }
+    ensures events { OnOk result (events.new.items ≡ events.old.items ++ batch_of number node.old) }
+    ensures len { vec_len events.new ≤ vec_len events.old + 2 }
+    ensures capacity { vec_capacity events.new ≡ vec_capacity events.old }
+    ensures count { IfOk result (λ count. count ≡ flown node.old - node.old.durable) }
+    ensures err { OnErr result (events.new.items ≡ events.old.items) }
+{
+    let waits = node.durable() < node.count();
+    let count = node.flush()?;
+    if waits {
+        events.push_reserved(Happened::launched(number));
+        events.push_reserved(Happened::landed(number));
+    }
+    Ok(count)
+}
+
 // Releases what is due at the node, for which there is room.
 fn release_due(
     node: &mut RingNode,
@@ -270,8 +197,8 @@ fn release_due(
     requires events { vec_len events.old + length node.old.held ≤ vec_capacity events.old }
     requires replies { vec_len replies.old + length node.old.held ≤ vec_capacity replies.old }
     ensures node { node.new ≡ without_due node.old }
-    ensures events { events.new.items ≡ events.old.items ++ map (release_of number) (due node.old) }
-    ensures replies { replies.new.items ≡ replies.old.items ++ filter_map reply_of (due node.old) }
+    ensures events { events.new.items ≡ events.old.items ++ map (release_of number) (due node.old.durable node.old.held) }
+    ensures replies { replies.new.items ≡ replies.old.items ++ filter_map reply_of (due node.old.durable node.old.held) }
 {
     while let Some(released) = node.release() {
         events.push_reserved(Happened::told(number, &released));

@@ -1,6 +1,6 @@
 // Nodes that lose their memory.
 ghost use Rattle.std.specs.Prelude.{◌≡◌, ◌≤◌, Bool, true, false, OnOk, OnErr, IfOk};
-ghost use Rattle.ring_world.specs.Ring.{waits, crashed, stopped, lost};
+ghost use Rattle.ring_world.specs.Ring.{IsSameRing, waits, crashed, stopped, lost};
 
 use super::*;
 
@@ -13,8 +13,7 @@ impl Ring {
         ensures next { OnOk result (self.new ≡ crashed node self.old) }
         ensures lost { IfOk result (λ list. list.items ≡ lost node self.old) }
         ensures works { OnOk result (self.new.failed ≡ false) }
-        ensures told { self.new.told ≡ self.old.told }
-        ensures size { (self.new.size ≡ self.old.size) × (self.new.capacity ≡ self.old.capacity) }
+        ensures same { IsSameRing self.old self.new }
         ensures err { OnErr result (self.new.failed ≡ true) }
     {
         // A return before the node is open again leaves a failed ring.
@@ -35,8 +34,7 @@ impl Ring {
         ensures next { OnOk result ((keeps_flying : Bool) × (self.new ≡ stopped keeps_flying node self.old)) }
         ensures lost { IfOk result (λ list. list.items ≡ lost node self.old) }
         ensures works { OnOk result (self.new.failed ≡ false) }
-        ensures told { self.new.told ≡ self.old.told }
-        ensures size { (self.new.size ≡ self.old.size) × (self.new.capacity ≡ self.old.capacity) }
+        ensures same { IsSameRing self.old self.new }
         ensures err { OnErr result (self.new.failed ≡ true) }
     {
         // A return before the node is open again leaves a failed ring.

@@ -1,7 +1,7 @@
 // What the links carry.
-ghost use Rattle.std.specs.Prelude.{◌≡◌, ◌≤◌, true, false, OnOk, IfOk, IfSome};
+ghost use Rattle.std.specs.Prelude.{◌≡◌, ◌≤◌, ◌<◌, ◌^◌, length, true, false, OnOk, IfOk, IfSome};
 ghost use Rattle.ring_records.specs.Message.{is_outside};
-ghost use Rattle.ring_world.specs.Ring.{is_released, carried, ready, swept_one, swept};
+ghost use Rattle.ring_world.specs.Ring.{IsSameRing, is_released, carried, ready, next_delivery, swept_one, swept};
 
 use super::*;
 
@@ -24,7 +24,7 @@ impl Ring {
     // The delivery of the next message of the lowest node whose successor waits for one that may be released.
     fn ready(&self) -> Option<(NodeNo, Request)>
         requires works { self.now.failed ≡ false }
-        ensures value { result ≡ ready self.now 1 self.now.size }
+        ensures value { result ≡ ready self.now }
         ensures within { IfSome result (λ delivery. delivery.0 ≤ self.now.size) }
         ensures of_ring { IfSome result (λ delivery. is_outside self.now.size delivery.1 ≡ false) }
         ensures released { IfSome result (λ delivery. is_released self.now delivery.0 delivery.1 ≡ true) }
@@ -41,21 +41,35 @@ impl Ring {
         None
     }
 
+    // That delivery, where an event may be added.
+    fn next_delivery(&self) -> Option<(NodeNo, Request)>
+        requires works { self.now.failed ≡ false }
+        ensures value { result ≡ next_delivery self.now }
+        ensures within { IfSome result (λ delivery. delivery.0 ≤ self.now.size) }
+        ensures of_ring { IfSome result (λ delivery. is_outside self.now.size delivery.1 ≡ false) }
+        ensures released { IfSome result (λ delivery. is_released self.now delivery.0 delivery.1 ≡ true) }
+        ensures room { IfSome result (λ delivery. length self.now.events < 2 ^ 60) }
+    {
+        if self.is_full() {
+            return None;
+        }
+        self.ready()
+    }
+
     /// Delivers what may be released, the lowest node's first, until nothing is ready or one is refused, and at most
     /// 10,000 times: how many were accepted. Want of memory may leave some of it done.
-    pub fn sweep(&mut self, eager: bool) -> Result<u32, AllocError>
+    pub fn sweep(&mut self) -> Result<u32, AllocError>
         requires works { self.old.failed ≡ false }
-        ensures swept { IfOk result (λ count. (count, self.new) ≡ swept eager 10000 self.old) }
+        ensures swept { IfOk result (λ count. (count, self.new) ≡ swept 10000 self.old) }
         ensures works { OnOk result (self.new.failed ≡ false) }
-        ensures told { self.new.told ≡ self.old.told }
-        ensures size { (self.new.size ≡ self.old.size) × (self.new.capacity ≡ self.old.capacity) }
+        ensures same { IsSameRing self.old self.new }
     {
         let mut count: u32 = 0;
         for _ in 0..10_000_u32 {
-            let Some(delivery) = self.ready() else {
+            let Some(delivery) = self.next_delivery() else {
                 return Ok(count);
             };
-            if !self.deliver(eager, delivery.0, &delivery.1)? {
+            if !self.deliver(delivery.0, &delivery.1)? {
                 return Ok(count);
             }
             count += 1;
@@ -64,18 +78,18 @@ impl Ring {
     }
 
     // A delivery without a number: whether it is accepted.
-    fn deliver(&mut self, eager: bool, node: NodeNo, question: &Request) -> Result<bool, AllocError>
+    fn deliver(&mut self, node: NodeNo, question: &Request) -> Result<bool, AllocError>
         requires works { self.old.failed ≡ false }
         requires inside { node ≤ self.old.size }
         requires of_ring { is_outside self.old.size question.now ≡ false }
         requires released { is_released self.old node question.now ≡ true }
-        ensures next { IfOk result (λ accepted. (accepted, self.new) ≡ swept_one eager node question.now self.old) }
+        requires room { length self.old.events < 2 ^ 60 }
+        ensures next { IfOk result (λ accepted. (accepted, self.new) ≡ swept_one node question.now self.old) }
         ensures works { OnOk result (self.new.failed ≡ false) }
-        ensures told { self.new.told ≡ self.old.told }
-        ensures size { (self.new.size ≡ self.old.size) × (self.new.capacity ≡ self.old.capacity) }
+        ensures same { IsSameRing self.old self.new }
     {
-        let accepted = self.bring(eager, None, node, question)?;
-        self.settle(node)?;
-        Ok(accepted)
+        let before = self.count(node);
+        let _replies = self.submit(None, node, question)?;
+        Ok(before < self.count(node))
     }
 }

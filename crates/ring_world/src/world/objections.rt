@@ -1,12 +1,14 @@
 // Why an event is refused.
 ghost use Rattle.std.specs.Prelude.{◌≡◌, false, IfSome};
+ghost use Rattle.ring_records.specs.Admission.{where_so};
 ghost use Rattle.ring_world.specs.declared.event.Event.TheVariants as event;
+ghost use Rattle.ring_world.specs.Ring.{is_full};
 ghost use Rattle.ring_world.specs.Step.{refusal_of, objection_to, no_node, no_stop, spent};
 
 use super::*;
 
 impl World {
-    #[tactic(auto, unfolding(crate::specs::Step::refusal_of, crate::specs::Step::objection_to))]
+    #[tactic(auto, unfolding(crate::specs::Step::refusal_of))]
     pub(super) fn refusal(&self, event: &Event) -> Option<Refusal>
         ensures value { result ≡ refusal_of self.now event.now }
         ensures memory { IfSome result (λ refusal. refusal ≡ Refusal.OutOfMemory → ⊥) }
@@ -14,6 +16,18 @@ impl World {
         if self.ring.is_failed() {
             return Some(Refusal::Failed);
         }
+        match self.objection(event) {
+            Some(refusal) => Some(refusal),
+            None => self.event_objection(),
+        }
+    }
+
+    #[tactic(auto, unfolding(crate::specs::Step::objection_to))]
+    fn objection(&self, event: &Event) -> Option<Refusal>
+        requires { self.now.ring.failed ≡ false }
+        ensures value { result ≡ objection_to self.now event.now }
+        ensures memory { IfSome result (λ refusal. refusal ≡ Refusal.OutOfMemory → ⊥) }
+    {
         match event {
             Event::Submit(node, request) => self.submit_objection(*node, request),
             Event::Flush(node) => self.node_objection(*node),
@@ -90,6 +104,16 @@ impl World {
     {
         if node.number() > self.ring.size() {
             return Some(Refusal::BadNumber);
+        }
+        None
+    }
+
+    fn event_objection(&self) -> Option<Refusal>
+        ensures value { result ≡ where_so (is_full self.now.ring) Refusal.Limit }
+        ensures memory { IfSome result (λ refusal. refusal ≡ Refusal.OutOfMemory → ⊥) }
+    {
+        if self.ring.is_full() {
+            return Some(Refusal::Limit);
         }
         None
     }

@@ -3,7 +3,7 @@ ghost use Rattle.std.specs.Prelude.{◌≡◌, ◌+◌, ◌≤◌, ◌<◌, ◌^
 ghost use Rattle.ring_records.specs.Message.{is_outside};
 ghost use Rattle.ring_records.specs.Place.{before};
 ghost use Rattle.ring_world.specs.Ring.{node_at, carried, is_earned, is_released};
-ghost use Rattle.ring_world.specs.Step.{told, nothing_told, unknown, submitted, flushed, crashed, stopped, delivered_all, put};
+ghost use Rattle.ring_world.specs.Step.{Keeps, told, nothing_told, unknown, submitted, flushed, crashed, stopped, delivered_all, put};
 
 use super::*;
 
@@ -15,16 +15,15 @@ impl World {
         requires of_ring { is_outside self.old.ring.size request.now ≡ false }
         requires released { is_released self.old.ring node request.now ≡ true }
         requires room { self.old.tickets < 2 ^ 60 }
+        requires events { length self.old.ring.events < 2 ^ 60 }
         ensures step { IfOk result (λ outcome. (told outcome, self.new) ≡ submitted node request.now self.old) }
         ensures works { OnOk result (self.new.ring.failed ≡ false) }
-        ensures err { OnErr result (MatchBool self.old.eager (self.new.ring.failed ≡ true) (self.new ≡ self.old)) }
-        ensures untold { self.new.ring.told ≡ self.old.ring.told }
-        ensures size { (self.new.ring.size ≡ self.old.ring.size) × (self.new.ring.capacity ≡ self.old.ring.capacity) }
-        ensures few { IfOk result (λ outcome. length outcome.replies.items + length outcome.lost.items ≤ self.old.tickets + 1) }
+        ensures err { OnErr result (MatchBool self.old.ring.eager (self.new.ring.failed ≡ true) (self.new ≡ self.old)) }
+        ensures kept { Keeps self.old result self.new }
         ensures tickets { OnOk result (self.new.tickets ≤ self.old.tickets + 1) }
     {
         let ticket = self.tickets + 1;
-        match self.ring.submit(self.eager, ticket, node, request) {
+        match self.ring.submit(Some(ticket), node, request) {
             Ok(replies) => {
                 self.tickets = ticket;
                 Ok(Outcome {
@@ -47,9 +46,7 @@ impl World {
         ensures step { IfOk result (λ outcome. (told outcome, self.new) ≡ flushed node self.old) }
         ensures works { OnOk result (self.new.ring.failed ≡ false) }
         ensures err { OnErr result (self.new.ring.failed ≡ true) }
-        ensures untold { self.new.ring.told ≡ self.old.ring.told }
-        ensures size { (self.new.ring.size ≡ self.old.ring.size) × (self.new.ring.capacity ≡ self.old.ring.capacity) }
-        ensures few { IfOk result (λ outcome. length outcome.replies.items + length outcome.lost.items ≤ self.old.tickets + 1) }
+        ensures kept { Keeps self.old result self.new }
         ensures tickets { self.new.tickets ≡ self.old.tickets }
     {
         let (count, replies) = self.ring.flush(node)?;
@@ -61,12 +58,11 @@ impl World {
         requires inside { from ≤ self.old.ring.size }
         requires there { unknown (carried self.old.ring from no) ≡ None }
         requires room { self.old.tickets < 2 ^ 60 }
+        requires events { length self.old.ring.events < 2 ^ 60 }
         ensures step { IfOk result (λ outcome. (told outcome, self.new) ≡ put self.old (carried self.old.ring from no)) }
         ensures works { OnOk result (self.new.ring.failed ≡ false) }
-        ensures err { OnErr result (MatchBool self.old.eager (self.new.ring.failed ≡ true) (self.new ≡ self.old)) }
-        ensures untold { self.new.ring.told ≡ self.old.ring.told }
-        ensures size { (self.new.ring.size ≡ self.old.ring.size) × (self.new.ring.capacity ≡ self.old.ring.capacity) }
-        ensures few { IfOk result (λ outcome. length outcome.replies.items + length outcome.lost.items ≤ self.old.tickets + 1) }
+        ensures err { OnErr result (MatchBool self.old.ring.eager (self.new.ring.failed ≡ true) (self.new ≡ self.old)) }
+        ensures kept { Keeps self.old result self.new }
         ensures tickets { OnOk result (self.new.tickets ≤ self.old.tickets + 1) }
     {
         match self.ring.delivery(from, no) {
@@ -80,12 +76,11 @@ impl World {
         requires inside { from ≤ self.old.ring.size }
         requires earned { is_earned self.old.ring from upto ≡ true }
         requires room { self.old.tickets < 2 ^ 60 }
+        requires events { length self.old.ring.events < 2 ^ 60 }
         ensures step { IfOk result (λ outcome. (told outcome, self.new) ≡ submitted (before self.old.ring.size from) (Request.Acked upto) self.old) }
         ensures works { OnOk result (self.new.ring.failed ≡ false) }
-        ensures err { OnErr result (MatchBool self.old.eager (self.new.ring.failed ≡ true) (self.new ≡ self.old)) }
-        ensures untold { self.new.ring.told ≡ self.old.ring.told }
-        ensures size { (self.new.ring.size ≡ self.old.ring.size) × (self.new.ring.capacity ≡ self.old.ring.capacity) }
-        ensures few { IfOk result (λ outcome. length outcome.replies.items + length outcome.lost.items ≤ self.old.tickets + 1) }
+        ensures err { OnErr result (MatchBool self.old.ring.eager (self.new.ring.failed ≡ true) (self.new ≡ self.old)) }
+        ensures kept { Keeps self.old result self.new }
         ensures tickets { OnOk result (self.new.tickets ≤ self.old.tickets + 1) }
     {
         let to = from.predecessor(self.ring.size());
@@ -98,12 +93,10 @@ impl World {
         ensures step { IfOk result (λ outcome. (told outcome, self.new) ≡ delivered_all self.old) }
         ensures works { OnOk result (self.new.ring.failed ≡ false) }
         ensures err { OnErr result (self.new.ring.failed ≡ true) }
-        ensures untold { self.new.ring.told ≡ self.old.ring.told }
-        ensures size { (self.new.ring.size ≡ self.old.ring.size) × (self.new.ring.capacity ≡ self.old.ring.capacity) }
-        ensures few { IfOk result (λ outcome. length outcome.replies.items + length outcome.lost.items ≤ self.old.tickets + 1) }
+        ensures kept { Keeps self.old result self.new }
         ensures tickets { self.new.tickets ≡ self.old.tickets }
     {
-        match self.ring.sweep(self.eager) {
+        match self.ring.sweep() {
             Ok(count) => Ok(all_delivered(self.alloc, count)),
             Err(error) => {
                 self.ring.fail();
@@ -119,9 +112,7 @@ impl World {
         ensures step { IfOk result (λ outcome. (told outcome, self.new) ≡ crashed node self.old) }
         ensures works { OnOk result (self.new.ring.failed ≡ false) }
         ensures err { OnErr result (self.new.ring.failed ≡ true) }
-        ensures untold { self.new.ring.told ≡ self.old.ring.told }
-        ensures size { (self.new.ring.size ≡ self.old.ring.size) × (self.new.ring.capacity ≡ self.old.ring.capacity) }
-        ensures few { IfOk result (λ outcome. length outcome.replies.items + length outcome.lost.items ≤ self.old.tickets + 1) }
+        ensures kept { Keeps self.old result self.new }
         ensures tickets { self.new.tickets ≡ self.old.tickets }
     {
         match self.ring.crash(node) {
@@ -142,9 +133,7 @@ impl World {
         ensures step { IfOk result (λ outcome. (keeps_flying : Bool) × ((told outcome, self.new) ≡ stopped keeps_flying node self.old)) }
         ensures works { OnOk result (self.new.ring.failed ≡ false) }
         ensures err { OnErr result (self.new.ring.failed ≡ true) }
-        ensures untold { self.new.ring.told ≡ self.old.ring.told }
-        ensures size { (self.new.ring.size ≡ self.old.ring.size) × (self.new.ring.capacity ≡ self.old.ring.capacity) }
-        ensures few { IfOk result (λ outcome. length outcome.replies.items + length outcome.lost.items ≤ self.old.tickets + 1) }
+        ensures kept { Keeps self.old result self.new }
         ensures tickets { self.new.tickets ≡ self.old.tickets }
     {
         if !self.ring.waits(node) {

@@ -8,4 +8,4 @@ returns-in_ok-print_shown-in-Ok-clause-prints c =
     let node = c.args.node in
     let told = c.in-Ok.ensures in
     let lines = show_line node c.in-Ok.shown ∷ [] in
-    (lines, subst (λ r. Shows w node r (Some w) lines (Some w)) (sym told.shown) (ap (λ v. show_line node v ∷ []) told.value, refl), c.in_ok-print_shown-in-Ok.ensures, refl)
+    (lines, subst (λ r. Shows w node r lines (Some w)) (sym told.shown) (ap (λ v. show_line node v ∷ []) told.value, refl), c.in_ok-print_shown-in-Ok.ensures, refl)

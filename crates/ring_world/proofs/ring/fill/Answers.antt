@@ -1,6 +1,6 @@
 use Rattle.std.proofs.Common.{◌+◌, List, ◌++◌, ◌∷◌, [], ap, sym, ◌∙◌, arith}
 use Rattle.ring_node.specs.Node.{NodeView, new_node}
-use Rattle.ring_world.specs.Ring.{new_nodes}
+use Rattle.ring_world.specs.Shows.{new_nodes}
 use Rattle.ring_world.proofs.Opened.{header_fits, ring_least, new_nodes_more, after_next}
 use Rattle.ring_world.proofs.ring.fill.Goals as goal
 

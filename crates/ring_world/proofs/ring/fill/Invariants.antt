@@ -1,5 +1,5 @@
 use Rattle.std.proofs.Common.{◌≡◌, ◌≤◌, ◌<◌, ◌+◌, ◌-◌, vec_len, vec_capacity}
-use Rattle.ring_world.specs.Ring.{new_nodes}
+use Rattle.ring_world.specs.Shows.{new_nodes}
 use Rattle.ring_world.proofs.ring.fill.Given as goal
 
 -- the first nodes are there, and room for the others

@@ -1,25 +1,26 @@
-use Rattle.std.proofs.Common.{sym, ap, ◌∙◌}
+use Rattle.std.proofs.Common.{ap, ◌∙◌}
 use Rattle.std.specs.List.{filter_map}
-use Rattle.ring_node.specs.Node.{NodeView, number_of}
-use Rattle.ring_world.specs.Ring.{RingView, lost}
-use Rattle.ring_world.proofs.Steps.{stops, is_node, pushed_two}
+use Rattle.ring_node.specs.Open.{number_of}
+use Rattle.ring_world.specs.Ring.{lost}
+use Rattle.ring_world.proofs.Steps.{stops, tied, pushed_two}
+use Rattle.ring_world.proofs.Ties.{held_is}
 use Rattle.ring_world.proofs.ring.Ring.stop.Goals as goal
 
 pub invariant_of-self-2 : goal.invariant_of-self-2
 invariant_of-self-2 c =
-    (stops _ _ _ c.self.inside.events.items c.self.inside.told _ _ c.self.view_is c.self.invariant c.requires.works c.args.node c.number.result c.number.ensures.value c.number.ensures.range.0 c.requires.inside
-    c.index_mut.result.now c.index_mut.ensures.value _ (sym c.requires.works ∙ sym (ap (λ (w : RingView). w.failed) c.self.view_is)) _ _ c.in_ok-keeps_flying.keeps_flying
+    (stops _ _ _ _ c.self.inside.events.items c.self.inside.told c.self.inside.nodes.items _ c.self.view_is c.self.invariant c.requires.works c.args.node c.number.result c.number.ensures.value c.number.ensures.range.0 c.requires.inside
+    c.index_mut.result.now c.index_mut.ensures.value _ _ c.in_ok-keeps_flying.keeps_flying
     (pushed_two c.in_ok-reserve.ensures.items c.launched.ensures c.push_reserved.ensures.items c.crashed.ensures c.push_reserved-2.ensures.items) c.in_ok-keeps_flying.ensures.next).1
 
 pub returns-clause-next : goal.returns-clause-next
 returns-clause-next c = (
   c.in_ok-keeps_flying.keeps_flying,
-  (stops _ _ _ c.self.inside.events.items c.self.inside.told _ _ c.self.view_is c.self.invariant c.requires.works c.args.node c.number.result c.number.ensures.value c.number.ensures.range.0 c.requires.inside
-      c.index_mut.result.now c.index_mut.ensures.value _ (sym c.requires.works ∙ sym (ap (λ (w : RingView). w.failed) c.self.view_is)) _ _ c.in_ok-keeps_flying.keeps_flying
+  (stops _ _ _ _ c.self.inside.events.items c.self.inside.told c.self.inside.nodes.items _ c.self.view_is c.self.invariant c.requires.works c.args.node c.number.result c.number.ensures.value c.number.ensures.range.0 c.requires.inside
+      c.index_mut.result.now c.index_mut.ensures.value _ _ c.in_ok-keeps_flying.keeps_flying
       (pushed_two c.in_ok-reserve.ensures.items c.launched.ensures c.push_reserved.ensures.items c.crashed.ensures c.push_reserved-2.ensures.items) c.in_ok-keeps_flying.ensures.next).0,
 )
 
 pub returns-clause-lost : goal.returns-clause-lost
 unfolding lost
-returns-clause-lost c = c.in_ok-keeps_flying.ensures.lost ∙ ap (λ (v : NodeView). filter_map number_of v.held) (is_node _ _ _ c.self.inside.events.items c.self.inside.told _ _ c.self.view_is c.self.invariant c.requires.works c.args.node c.number.result c.number.ensures.value c.number.ensures.range.0 c.requires.inside
+returns-clause-lost c = c.in_ok-keeps_flying.ensures.lost ∙ ap (filter_map number_of) (held_is c.args.self.now c.self.inside.events.items c.self.inside.nodes.items (tied _ _ _ _ c.self.inside.events.items c.self.inside.told c.self.inside.nodes.items _ c.self.view_is c.self.invariant c.requires.works) c.args.node c.number.result c.number.ensures.value c.number.ensures.range.0 c.requires.inside
     c.index_mut.result.now c.index_mut.ensures.value)

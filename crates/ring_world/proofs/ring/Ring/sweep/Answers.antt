@@ -7,42 +7,36 @@ pub returns-in_default-clause-swept : goal.returns-in_default-clause-swept
 returns-in_default-clause-swept c =
     let i = c.loop.invariant in
     let test = c.loop-test.true in
-    let eager = c.args.eager in
-    ends (swept eager 10000 c.args.self.now) (swept eager (10000 - c.loop.counter) c.loop.self) c.loop.count c.loop.self i.count i.state
-    (swept_none eager c.loop.self (10000 - c.loop.counter) (10000 - (c.loop.counter + 1)) (omega arith) (sym c.ready.ensures.value ∙ c.in_default.is))
+    ends (swept 10000 c.args.self.now) (swept (10000 - c.loop.counter) c.loop.self) c.loop.count c.loop.self i.count i.state
+    (swept_none c.loop.self (10000 - c.loop.counter) (10000 - (c.loop.counter + 1)) (omega arith) (sym c.next_delivery.ensures.value ∙ c.in_default.is))
 
 pub returns-then-not-branch-clause-swept : goal.returns-then-not-branch-clause-swept
 returns-then-not-branch-clause-swept c =
     let i = c.loop.invariant in
     let test = c.loop-test.true in
-    let eager = c.args.eager in
-    let one = subst (λ (b : Bool). ◌≡◌ {A = Bool × RingView} (b, c.deliver.new.self) (swept_one eager c.in-Some.delivery.0 c.in-Some.delivery.1 c.loop.self)) c.if-not-branch.true c.in_ok-deliver.ensures.next in
-    ends (swept eager 10000 c.args.self.now) (swept eager (10000 - c.loop.counter) c.loop.self) c.loop.count c.deliver.new.self i.count i.state
-    (swept_stop eager c.loop.self c.deliver.new.self (10000 - c.loop.counter) (10000 - (c.loop.counter + 1)) c.in-Some.delivery (omega arith) (sym c.ready.ensures.value ∙ c.in-Some.is) one)
+    let one = subst (λ (b : Bool). ◌≡◌ {A = Bool × RingView} (b, c.deliver.new.self) (swept_one c.in-Some.delivery.0 c.in-Some.delivery.1 c.loop.self)) c.if-not-branch.true c.in_ok-deliver.ensures.next in
+    ends (swept 10000 c.args.self.now) (swept (10000 - c.loop.counter) c.loop.self) c.loop.count c.deliver.new.self i.count i.state
+    (swept_stop c.loop.self c.deliver.new.self (10000 - c.loop.counter) (10000 - (c.loop.counter + 1)) c.in-Some.delivery (omega arith) (sym c.next_delivery.ensures.value ∙ c.in-Some.is) one)
 
 pub loop-preserved : goal.loop-preserved
 loop-preserved c =
     let i = c.loop.invariant in
     let test = c.loop-test.true in
-    let eager = c.args.eager in
     let few = i.few in
-    let one = subst (λ (b : Bool). ◌≡◌ {A = Bool × RingView} (b, c.deliver.new.self) (swept_one eager c.in-Some.delivery.0 c.in-Some.delivery.1 c.loop.self)) c.if-not-branch.false c.in_ok-deliver.ensures.next in
-    let moved = goes (swept eager 10000 c.args.self.now) (swept eager (10000 - c.loop.counter) c.loop.self) (swept eager (10000 - (c.loop.counter + 1)) c.deliver.new.self) c.loop.count i.count i.state
-    (swept_go eager c.loop.self c.deliver.new.self (10000 - c.loop.counter) (10000 - (c.loop.counter + 1)) c.in-Some.delivery (omega arith) (sym c.ready.ensures.value ∙ c.in-Some.is) one) in
+    let one = subst (λ (b : Bool). ◌≡◌ {A = Bool × RingView} (b, c.deliver.new.self) (swept_one c.in-Some.delivery.0 c.in-Some.delivery.1 c.loop.self)) c.if-not-branch.false c.in_ok-deliver.ensures.next in
+    let moved = goes (swept 10000 c.args.self.now) (swept (10000 - c.loop.counter) c.loop.self) (swept (10000 - (c.loop.counter + 1)) c.deliver.new.self) c.loop.count i.count i.state
+    (swept_go c.loop.self c.deliver.new.self (10000 - c.loop.counter) (10000 - (c.loop.counter + 1)) c.in-Some.delivery (omega arith) (sym c.next_delivery.ensures.value ∙ c.in-Some.is) one) in
     record {
       count = moved.0;
       state = moved.1;
       few = omega arith;
       works = c.in_ok-deliver.ensures.works;
-      told = c.deliver.ensures.told ∙ i.told;
-      size = c.deliver.ensures.size.0 ∙ i.size;
-      capacity = c.deliver.ensures.size.1 ∙ i.capacity;
+      same = (c.deliver.ensures.same.0 ∙ i.same.0, c.deliver.ensures.same.1 ∙ i.same.1, c.deliver.ensures.same.2 ∙ i.same.2, c.deliver.ensures.same.3 ∙ i.same.3);
     }
 
 pub returns-clause-swept : goal.returns-clause-swept
 returns-clause-swept c =
     let i = c.loop.invariant in
     let test = c.loop-test.false in
-    let eager = c.args.eager in
-    ends (swept eager 10000 c.args.self.now) (swept eager (10000 - c.loop.counter) c.loop.self) c.loop.count c.loop.self i.count i.state
-    (swept_end eager c.loop.self (10000 - c.loop.counter) (omega arith))
+    ends (swept 10000 c.args.self.now) (swept (10000 - c.loop.counter) c.loop.self) c.loop.count c.loop.self i.count i.state
+    (swept_end c.loop.self (10000 - c.loop.counter) (omega arith))

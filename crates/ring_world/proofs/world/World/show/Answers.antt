@@ -5,6 +5,6 @@ use Rattle.ring_world.proofs.world.World.show.Goals as goal
 
 pub returns-clause-eager : goal.returns-clause-eager
 returns-clause-eager c = λ eager.
-    let is_eager = ap (λ (s : State). s.eager) c.self.view_is ∙ eager in
+    let is_eager = ap (λ (s : State). s.ring.eager) c.self.view_is ∙ eager in
     let works = sym c.is_failed.ensures ∙ c.if-is_failed.false in
     c.durable.ensures ∙ (at_node c.self.inside.ring c.args.node (c.self.invariant.1 is_eager works) ∙ sym c.count.ensures)

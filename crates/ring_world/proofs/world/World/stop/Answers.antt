@@ -1,36 +1,31 @@
 use Rattle.std.proofs.Common.{length, sym, subst, ap, ◌∙◌, arith}
 use Rattle.ring_world.specs.Counts.{IsBounded}
 use Rattle.ring_world.specs.Rest.{IsAllDurable}
-use Rattle.ring_world.specs.Ring.{RingView}
+use Rattle.ring_world.specs.Ring.{RingView, IsSameRing}
 use Rattle.ring_world.specs.State.{State}
 use Rattle.ring_world.proofs.Counts.{bounded_stopped, few_lost}
 use Rattle.ring_world.proofs.Rest.{durable_stopped}
-use Rattle.ring_world.proofs.Working.{works_stopped, ring_works}
 use Rattle.ring_world.proofs.world.World.stop.Goals as goal
 
 pub invariant_of-self : goal.invariant_of-self
 invariant_of-self c =
-    let works = ring_works c.self.inside.ring _ _ c.args.self.now c.self.view_is c.requires.works in
+    let works = ap (λ (s : State). s.ring.failed) c.self.view_is ∙ c.requires.works in
     let next = c.in-Ok.ensures.next in (
       λ kept. subst (λ (w : RingView). IsBounded w c.self.inside.tickets) (sym next.1) (bounded_stopped next.0 c.args.node c.self.inside.ring c.self.inside.tickets (c.self.invariant.0 works)),
-      λ eager kept. subst IsAllDurable (sym next.1) (durable_stopped next.0 c.args.node c.self.inside.ring (c.self.invariant.1 eager works)),
+      λ eager kept. subst IsAllDurable (sym next.1) (durable_stopped next.0 c.args.node c.self.inside.ring (c.self.invariant.1 (sym c.stop.ensures.same.2 ∙ eager) works)),
     )
 
 pub reopened-requires-clause-works : goal.reopened-requires-clause-works
-reopened-requires-clause-works c =
-    let next = c.in-Ok.ensures.next in
-    ap (λ (w : RingView). w.failed) next.1 ∙ (works_stopped next.0 c.args.node c.self.inside.ring ∙ ring_works c.self.inside.ring _ _ c.args.self.now c.self.view_is c.requires.works)
+reopened-requires-clause-works c = c.in-Ok.ensures.works
 
 pub returns-in-Ok-clause-works : goal.returns-in-Ok-clause-works
-returns-in-Ok-clause-works c =
-    let next = c.in-Ok.ensures.next in
-    ap (λ (w : RingView). w.failed) next.1 ∙ (works_stopped next.0 c.args.node c.self.inside.ring ∙ ring_works c.self.inside.ring _ _ c.args.self.now c.self.view_is c.requires.works)
+returns-in-Ok-clause-works c = c.in-Ok.ensures.works
 
-pub returns-in-Ok-clause-few : goal.returns-in-Ok-clause-few
-returns-in-Ok-clause-few c =
-    let works = ring_works c.self.inside.ring _ _ c.args.self.now c.self.view_is c.requires.works in
+pub returns-in-Ok-clause-kept : goal.returns-in-Ok-clause-kept
+returns-in-Ok-clause-kept c =
+    let works = ap (λ (s : State). s.ring.failed) c.self.view_is ∙ c.requires.works in
     let bound = few_lost c.args.node c.self.inside.ring c.self.inside.tickets (c.self.invariant.0 works) in
     let none = c.reopened.ensures.few in
     let is = ap length c.in-Ok.ensures.lost in
     let tickets = ap (λ (s : State). s.tickets) c.self.view_is in
-    omega arith
+    (subst (λ (s : State). IsSameRing s.ring c.stop.new.self) c.self.view_is c.stop.ensures.same, omega arith)

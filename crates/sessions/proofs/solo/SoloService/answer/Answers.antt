@@ -1,9 +1,9 @@
-use Rattle.std.proofs.Common.{inl, inr, sym, ap, ◌∙◌, length, arith}
-use Rattle.group_commit.specs.Desk.{answered}
-use Rattle.group_commit.specs.Ticket.{shown}
-use Rattle.node_store.specs.Node.{desk_of, issued_by}
-use Rattle.ring_records.specs.Answer.{NodeState, opened}
-use Rattle.sessions.proofs.Asked.{one_waits, no_ticket, is_here, its_own, none_of}
+use Rattle.std.proofs.Common.{inl, inr, sym, ap, subst, ◌∙◌, length, arith}
+use Rattle.std.proofs.lemmas.Option.{same_Some}
+use Rattle.group_commit.specs.Desk.{DeskView, answered, submitted, IsHere}
+use Rattle.group_commit.specs.Ticket.{TicketView, shown}
+use Rattle.ring_records.specs.Answer.{opened}
+use Rattle.sessions.proofs.Asked.{one_waits, no_ticket, still_here, none_of}
 use Rattle.sessions.proofs.solo.SoloService.answer.Goals as goal
 
 pub returns-in-Err : goal.returns-in-Err
@@ -17,27 +17,24 @@ returns-in-Err g c =
         | inl why ↦ inl (no_ticket _ _ _ _ _ opens.0 opens.1 (c.requires _) why)
         | inr why ↦ inr why.1
       ];
-      state = told.same.0;
-      place = told.place;
+      same = told.same;
       goes_on = works;
     })
 
 pub settle-requires-clause-one : goal.settle-requires-clause-one
 settle-requires-clause-one g c =
     let works = sym c.is_some.ensures ∙ c.if-is_some.false in
-    one_waits _ _ _ _ _ c.args.question c.in-Ok.ensures.state (c.args.self.now.idle (none_of _ works)).0
+    one_waits _ _ _ _ _ c.args.question (ap (λ (d : DeskView). d.state) c.in-Ok.ensures.next) (c.args.self.now.idle (none_of _ works)).0
 
 pub release-requires : goal.release-requires
 release-requires g c =
     let told = c.in-Ok.ensures in
     let settled = c.in-Ok-settle.ensures in
-    let old = desk_of c.args.self.now.node in
-    let own = issued_by c.args.self.now.node in
     record {
       here = (
-        answered old c.args.question,
-        is_here old (desk_of c.settle.new.node) c.args.question (shown c.in-Ok.ticket) told.ticket (settled.place ∙ told.place) (settled.kept own ∙ told.kept own ∙ its_own own _ _),
-        omega (arith, ap (λ (s : NodeState). s.durable) settled.state, ap (λ (s : NodeState). length s.inputs) told.state),
+        answered c.args.self.now.node.desk c.args.question,
+        still_here _ _ _ _ settled.stays told.here,
+        omega (arith, ap (λ (d : DeskView). d.state.durable) settled.next, ap (λ (d : DeskView). length d.state.inputs) told.next),
       );
     }
 
@@ -46,13 +43,21 @@ returns-in-Ok-settle g c =
     let works = sym c.is_some.ensures ∙ c.if-is_some.false in
     let told = c.in-Ok.ensures in
     let settled = c.in-Ok-settle.ensures in
-    let old = desk_of c.args.self.now.node in
-    let own = issued_by c.args.self.now.node in
-    let here = is_here old (desk_of c.settle.new.node) c.args.question (shown c.in-Ok.ticket) told.ticket (settled.place ∙ told.place) (settled.kept own ∙ told.kept own ∙ its_own own _ _) in
+    let old = c.args.self.now.node.desk in
     record {
       works = works;
-      is = c.release.ensures.reply (answered old c.args.question) here;
-      next = c.release.ensures.state ∙ settled.state ∙ ap (λ (s : NodeState). opened s.inputs) told.state;
-      place = c.release.ensures.place ∙ settled.place ∙ told.place;
+      is = c.release.ensures.reply (answered old c.args.question) (still_here _ _ _ _ settled.stays told.here);
+      next = ap (λ (d : DeskView). d.state) c.release.ensures.next ∙ ap (λ (d : DeskView). d.state) settled.next ∙ ap (λ (d : DeskView). opened d.state.inputs) told.next;
+      same = record {
+        member = ap (λ (d : DeskView). d.member) c.release.ensures.next ∙ ap (λ (d : DeskView). d.member) settled.next ∙ ap (λ (d : DeskView). d.member) told.next;
+        run = ap (λ (d : DeskView). d.run) c.release.ensures.next ∙ ap (λ (d : DeskView). d.run) settled.next ∙ ap (λ (d : DeskView). d.run) told.next;
+      };
       goes_on = works;
     }
+
+pub invariant_of-self-in-Err-settle-clause-held : goal.invariant_of-self-in-Err-settle-clause-held
+invariant_of-self-in-Err-settle-clause-held g c ticket is =
+    let told = c.in-Ok.ensures in
+    let same = ap shown (same_Some ticket c.in-Ok.ticket (sym is ∙ c.replace.ensures.after)) in
+    let here = still_here _ _ _ _ c.in-Err-settle.ensures.stays told.here in
+    ∣ (answered c.args.self.now.node.desk c.args.question, subst (λ (t : TicketView). IsHere c.settle.new.node.desk t (answered c.args.self.now.node.desk c.args.question)) (sym same) here) ∣₁

@@ -1,0 +1,48 @@
+-- What a ring keeps to: its nodes are those that its events reach.
+use Rattle.std.specs.Prelude.{ℕ, zero, suc, ◌≡◌, ◌+◌, ◌<◌, ◌≤◌, Bool, false, nat_lt, if◌then◌else◌, List, [], ◌∷◌, ◌++◌, length, slice_index_or}
+use Rattle.std.specs.List.{Contains}
+use Rattle.ring_node.specs.Node.{NodeView, new_node, state_of}
+use Rattle.ring_node.specs.Open.{Open, sealed}
+use Rattle.ring_world.specs.Events.{Action, Launch, Land, process, state_after, IsSchedule}
+
+-- the open tickets of a node
+abbrev pub held_of : NodeView → List Open
+held_of v = v.held
+
+-- without those whose replies rest on durable inputs alone
+abbrev pub without_due : NodeView → NodeView
+without_due v = record v { held = sealed v.durable v.held }
+
+-- a batch of it is launched and lands, where something waits
+abbrev pub batch_of : ℕ → NodeView → List (ℕ × Action)
+batch_of i v = if nat_lt v.durable (length v.inputs) then (i, Launch) ∷ (i, Land) ∷ [] else []
+
+-- nodes 1 to k of a ring in which nothing happened
+unfoldable pub new_nodes : ℕ → ℕ → ℕ → List NodeView
+new_nodes size capacity zero = []
+new_nodes size capacity (suc k) = new_nodes size capacity k ++ new_node (k + 1) size capacity ∷ []
+
+-- the node is the one that the events reach
+pub record ShowsNode (size capacity : ℕ) (events : List (ℕ × Action)) (i : ℕ) (v : NodeView) : Type 0 where
+  pub me : v.me ≡ i
+  pub ring : v.n ≡ size
+  pub room : v.capacity ≡ capacity
+  pub state : state_of v ≡ state_after size capacity events i
+  -- the node keeps the answers of its open tickets
+  pub kept : (t : Open) → Contains v.held t → Contains (process size capacity events i).kept t.kept
+  -- it gave at most a ticket an event
+  pub few : v.issued ≤ length events
+
+-- the events may happen, and the nodes are those that they reach
+pub record Shows (size capacity : ℕ) (events : List (ℕ × Action)) (nodes : List NodeView) : Type 0 where
+  pub schedule : IsSchedule size capacity events
+  pub count : length nodes ≡ size
+  pub node : (at : ℕ) (other : NodeView) → at < size → ShowsNode size capacity events (at + 1) (slice_index_or nodes at other)
+
+-- What every ring keeps to: it has 2 to 16 nodes, and what was told is a schedule; while it works, all that happened is
+-- one, and its nodes are those that it reaches.
+pub record IsSound (size capacity : ℕ) (failed : Bool) (events told : List (ℕ × Action)) (nodes : List NodeView) : Type 0 where
+  pub least : 2 ≤ size
+  pub most : size ≤ 16
+  pub shows : failed ≡ false → Shows size capacity events nodes
+  pub lawful : IsSchedule size capacity told

@@ -1,0 +1,11 @@
+use Rattle.std.proofs.Common.{arith}
+use borrow.Author.Tests.{ltb-true, ltb-false}
+use Rattle.sessions.proofs.Counts.{few_words, many_words}
+use Rattle.sessions.proofs.command.command_of.Goals as goal
+use Rattle.sessions.proofs.command.command_of.Goals.{in_default-via-then-words-lt1, in_default-via-else-words-lt1+else-words-lt2+else-words-lt3+else-words-lt4+else-words-lt5}
+
+pub returns-in_default : goal.returns-in_default
+returns-in_default c = elim c.in_default.branch [
+  | in_default-via-then-words-lt1 w ↦ few_words c.args.words.now (omega (arith, ltb-true))
+  | in_default-via-else-words-lt1+else-words-lt2+else-words-lt3+else-words-lt4+else-words-lt5 w ↦ many_words c.args.words.now (omega (arith, ltb-false))
+]
