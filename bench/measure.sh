@@ -89,3 +89,35 @@ awk -v idle="$idle" -v half="$half" -v whole="$whole" -v memory="$memory" -v ful
     printf "twice the flushes of one node: %.2f times as long\n", (whole - idle) / (half - idle)
     printf "recovering a full node of 1 MiB: %.4f s\n", (recovered - full) / 10 / 1e9
     printf "100 flushes of a node on a file: %.4f s, %.2f times the same writes and syncs with no node\n", (file - empty) / 1e9, (file - empty) / (bare - empty) }'
+
+# Each time is less that of the same program with no reads. A publisher publishes as long as there are readers.
+echo "bench board, reads of the latest leader beside a publisher:"
+for readers in 1 2 4; do
+    for work_of in "shared 200000" "mutex 20000" "rwlock 20000"; do
+        read -r name reads <<< "$work_of"
+        idle=$(best /dev/null "$work/counts" "$bench" board "$name" "$readers" 0)
+        whole=$(best /dev/null "$work/counts" "$bench" board "$name" "$readers" "$reads")
+        eval "${name}_$readers=$((readers * reads * 1000000 / ((whole - idle) / 1000)))"
+    done
+    eval "shared=\$shared_$readers mutex=\$mutex_$readers rwlock=\$rwlock_$readers"
+    awk -v readers="$readers" -v shared="$shared" -v mutex="$mutex" -v rwlock="$rwlock" 'BEGIN {
+        printf "%d readers: %d reads a second, %.1f times those of a map behind a mutex (%d), %.1f times those behind an rwlock (%d)\n",
+            readers, shared, shared / mutex, mutex, shared / rwlock, rwlock }'
+done
+awk -v one="$shared_1" -v four="$shared_4" 'BEGIN { printf "4 readers: %.2f of 4 times the reads of one\n", four / one / 4 }'
+
+echo "bench board, decisions appended in publishes of 8:"
+idle=$(best /dev/null "$work/counts" "$bench" board append 0)
+half=$(best /dev/null "$work/counts" "$bench" board append 50000)
+whole=$(best /dev/null "$work/counts" "$bench" board append 100000)
+awk -v idle="$idle" -v half="$half" -v whole="$whole" \
+    'BEGIN { printf "100000 decisions: %.4f s, %.2f times as long as half of them\n", (whole - idle) / 1e9, (whole - idle) / (half - idle) }'
+
+# Each time is less that of the same program with sessions of no lines.
+echo "bench sessions, lines that stand and ask who leads:"
+idle=$(best /dev/null "$work/counts" "$bench" sessions 0 10)
+half=$(best /dev/null "$work/counts" "$bench" sessions 5000 10)
+whole=$(best /dev/null "$work/counts" "$bench" sessions 10000 10)
+awk -v idle="$idle" -v half="$half" -v whole="$whole" '{ counts = $0 }
+    END { printf "%s: %.4f s, %d lines a second; twice the lines: %.2f times as long\n",
+        counts, (whole - idle) / 1e9, 100000 * 1e9 / (whole - idle), (whole - idle) / (half - idle) }' "$work/counts"

@@ -4,9 +4,10 @@ ghost use Rattle.ring_records.specs.declared.input.Input.{Input};
 ghost use Rattle.node_core.specs.Core.{CoreStandsFor};
 
 use crate::fault::Fault;
+use crate::keys::key;
 use crate::words::next_amount;
 use node_core::NodeCore;
-use ring_records::{Bid, Candidate, GroupName, Input, Key, Msg, NodeNo, Refusal, Term};
+use ring_records::{Bid, Candidate, Input, Msg, NodeNo, Refusal};
 use std::alloc::Global;
 use std::env::Args;
 use std::io;
@@ -68,18 +69,6 @@ fn message(no: u64) -> Result<Msg, Refusal> {
         return Ok(Msg::Token { key, candidate });
     }
     Ok(Msg::Elected { key, candidate })
-}
-
-// A key of one of 676 groups.
-fn key(letter: u8, index: u32) -> Result<Key, Refusal> {
-    let name = [
-        letter,
-        b'a' + (index % 26) as u8,
-        b'a' + (index / 26 % 26) as u8,
-    ];
-    let group = GroupName::read(&name)?;
-    let term = Term::new(1 + index / 676)?;
-    Ok(Key { group, term })
 }
 
 // How many elections the input decided: 0 or 1.

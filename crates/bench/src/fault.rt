@@ -1,6 +1,8 @@
 // Why a run ends early.
 use disk_model::{DeviceFault, OpenFault};
 use ring_records::Refusal;
+use sessions::SessionFault;
+use std::alloc::AllocError;
 use std::io;
 use thiserror::Error;
 
@@ -22,6 +24,9 @@ pub enum Fault {
     /// A device of another size is asked for.
     #[error("a device has 17 to 1073741824 bytes here")]
     NoSize,
+    /// More readers are asked for than a board has places, or none.
+    #[error("there are 1 to 32 readers here")]
+    NoReaders,
     /// The system did not give the words, or not as text.
     #[error("words cannot be read")]
     Words,
@@ -37,6 +42,9 @@ pub enum Fault {
     /// A growth was refused.
     #[error("out of memory")]
     Memory,
+    /// A session did not come to its end.
+    #[error("session broke off")]
+    Session,
     /// A call of the service was refused.
     #[error("{0}")]
     Refused(Refusal),
@@ -52,6 +60,7 @@ impl Fault {
                 | Fault::NoWork(_)
                 | Fault::NoAmount(_)
                 | Fault::NoSize
+                | Fault::NoReaders
         )
     }
 }
@@ -74,6 +83,18 @@ impl From<OpenFault> for Fault {
             OpenFault::Device => Fault::File,
             OpenFault::Memory => Fault::Memory,
         }
+    }
+}
+
+impl From<SessionFault> for Fault {
+    fn from(_: SessionFault) -> Fault {
+        Fault::Session
+    }
+}
+
+impl From<AllocError> for Fault {
+    fn from(_: AllocError) -> Fault {
+        Fault::Memory
     }
 }
 

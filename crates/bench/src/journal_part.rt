@@ -44,8 +44,8 @@ fn stand() -> Result<Input, Refusal> {
     Ok(Input::Stand { key, bid })
 }
 
-/// Commits the inputs once, as the journal's next ones.
-fn commit<D: Device>(
+/// Commits the inputs, at most 64, as the journal's next ones.
+pub fn commit<D: Device>(
     alloc: Global,
     journal: &mut Journal<D>,
     inputs: &[Input],

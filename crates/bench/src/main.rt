@@ -3,22 +3,29 @@
 //! stand where it does is told on standard error, and the status is 2; what else ends a work is told so with status 1.
 #![tactic(auto)]
 
+mod board_part;
 mod core_part;
 mod device_part;
 mod devices;
 mod fault;
 mod journal_part;
+mod keys;
+mod locked;
 mod node_part;
 mod part;
+mod race;
+mod sessions_part;
 mod words;
 
 use fault::Fault;
 use part::{PARTS, Part};
 use std::env;
 use std::process::ExitCode;
+use std::sync::Wait;
+use std::thread::Threads;
 
 // Does the works of the command line, in turn. Each takes a word at least.
-fn bench(rt: &HostRuntime) -> Result<(), Fault> {
+fn bench<R: Threads + Wait + Sync>(rt: &HostRuntime, threads: &R) -> Result<(), Fault> {
     let mut words = env::args(rt).map_err(|_| Fault::Words)?;
     let _program = words.next();
     if words.len() == 0 {
@@ -26,7 +33,7 @@ fn bench(rt: &HostRuntime) -> Result<(), Fault> {
     }
     for _ in 0..words.len() {
         match words.next() {
-            Some(word) => Part::named(word)?.run(rt, &mut words)?,
+            Some(word) => Part::named(word)?.run(rt, threads, &mut words)?,
             None => return Ok(()),
         }
     }
@@ -42,7 +49,7 @@ fn tell_usage(rt: &HostRuntime) {
 }
 
 fn main(rt: HostRuntime) -> ExitCode {
-    match bench(&rt) {
+    match bench(&rt, &rt) {
         Ok(()) => ExitCode::SUCCESS,
         Err(fault) => {
             let _ = eprintln!(rt; "bench: {fault}");

@@ -1,8 +1,9 @@
 // Durable nodes that take 64 messages for each flush, whose tickets are redeemed behind it, and are recovered.
-ghost use Rattle.std.specs.Prelude.{◌≡◌, ◌<◌, ◌≤◌, ℕ, false, nat_eq};
+ghost use Rattle.std.specs.Prelude.{◌≡◌, ◌<◌, ℕ};
+ghost use Rattle.group_commit.specs.Desk.{ended, kept_at};
 ghost use Rattle.group_commit.specs.Ticket.{shown};
-ghost use Rattle.bench.specs.Tickets.{IsOpen};
-ghost use Rattle.node_store.specs.Node.{place_of, kept_at, issued_by};
+ghost use Rattle.bench.specs.Tickets.{IsOpen, IsLater};
+ghost use Rattle.node_store.specs.Node.{desk_of};
 
 use crate::devices::{CAPACITY, in_memory, write_bare};
 use crate::fault::Fault;
@@ -60,9 +61,7 @@ fn take(no: u32) -> Result<Request, Refusal> {
 /// Redeems a ticket that is open. Where its reply is not released, closes the node and forfeits the ticket.
 fn redeem<D: Device>(node: &mut Node<D>, ticket: Ticket) -> Result<(), Refusal>
     requires open { IsOpen node.old (shown ticket) }
-    ensures place { place_of node.new ≡ place_of node.old }
-    ensures issued { issued_by node.new ≡ issued_by node.old }
-    ensures others { (own : ℕ) → nat_eq own (shown ticket).own ≡ false → kept_at node.new own ≡ kept_at node.old own }
+    ensures { desk_of node.new ≡ record (ended (shown ticket).own (desk_of node.old)) { closed = (desk_of node.new).closed } }
 {
     match node.redeem(ticket) {
         Ok((_reply, _stub)) => Ok(()),
@@ -78,9 +77,8 @@ fn redeem<D: Device>(node: &mut Node<D>, ticket: Ticket) -> Result<(), Refusal>
 
 /// Takes so many messages from `no` on, flushes, and redeems their tickets. Tells how many packets landed.
 fn flush<D: Device>(node: &mut Node<D>, no: u32, count: u32) -> Result<u64, Refusal>
-    ensures place { place_of node.new ≡ place_of node.old }
-    ensures issued { issued_by node.old ≤ issued_by node.new }
-    ensures earlier { (own : ℕ) → own < issued_by node.old → kept_at node.new own ≡ kept_at node.old own }
+    ensures later { IsLater (desk_of node.old) (desk_of node.new) }
+    ensures earlier { (own : ℕ) → own < (desk_of node.old).issued → kept_at (desk_of node.new) own ≡ kept_at (desk_of node.old) own }
 {
     if count == 0 {
         return match node.flush() {

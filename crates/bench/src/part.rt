@@ -1,7 +1,9 @@
 // The parts of the service that do works, each in a file of its own.
 use crate::fault::Fault;
-use crate::{core_part, device_part, journal_part, node_part};
+use crate::{board_part, core_part, device_part, journal_part, node_part, sessions_part};
 use std::env::Args;
+use std::sync::Wait;
+use std::thread::Threads;
 
 /// A part of the service.
 #[derive(Clone, Copy)]
@@ -14,10 +16,14 @@ pub enum Part {
     Journal,
     /// Durable nodes that are asked, flushed and recovered.
     Node,
+    /// Boards that are read beside their publisher, and the same map behind a lock.
+    Board,
+    /// Sessions with a durable node.
+    Sessions,
 }
 
 /// Each part with its word, and what it is told to do.
-pub const PARTS: [(Part, &str, &str); 4] = [
+pub const PARTS: [(Part, &str, &str); 6] = [
     (Part::Core, "core", "INPUTS"),
     (Part::Device, "device", "BYTES WRITES"),
     (
@@ -30,6 +36,12 @@ pub const PARTS: [(Part, &str, &str); 4] = [
         "node",
         "memory FLUSHES | recover TIMES | file FLUSHES PATH | bare FLUSHES PATH",
     ),
+    (
+        Part::Board,
+        "board",
+        "shared READERS READS | mutex READERS READS | rwlock READERS READS | append KEYS",
+    ),
+    (Part::Sessions, "sessions", "LINES SESSIONS"),
 ];
 
 impl Part {
@@ -44,12 +56,19 @@ impl Part {
     }
 
     /// Does the work that the next words say, and prints what it counted.
-    pub fn run(self, rt: &HostRuntime, words: &mut Args) -> Result<(), Fault> {
+    pub fn run<R: Threads + Wait + Sync>(
+        self,
+        rt: &HostRuntime,
+        threads: &R,
+        words: &mut Args,
+    ) -> Result<(), Fault> {
         match self {
             Part::Core => core_part::run(rt, words),
             Part::Device => device_part::run(rt, words),
             Part::Journal => journal_part::run(rt, words),
             Part::Node => node_part::run(rt, words),
+            Part::Board => board_part::run(rt, threads, words),
+            Part::Sessions => sessions_part::run(rt, words),
         }
     }
 }

@@ -1,0 +1,168 @@
+// A board that readers ask beside its publisher, the same map behind a lock, and a board that takes many decisions.
+ghost use Rattle.std.specs.Prelude.{◌≡◌, ◌≤◌};
+
+use crate::fault::Fault;
+use crate::locked::{Leaders, Lock, Locked};
+use crate::race::{Latest, Publisher, Reader, decision, first_decisions, race};
+use crate::words::{next_amount, next_word};
+use decision_board::{Board, BoardReader, Naming, Opened, is_reader_count};
+use ring_records::{Decision, GroupName, Refusal};
+use std::alloc::Global;
+use std::env::Args;
+use std::marker::Brand;
+use std::sync::{Mutex, RwLock, Wait};
+use std::thread::Threads;
+
+/// How many decisions are appended for each publish.
+const PIECE: u32 = 8;
+
+/// `shared READERS READS`: has so many readers of a board, 1 to 32, read so often each, beside a publisher. `mutex` and
+/// `rwlock` do the same with one map behind such a lock. All print how many reads found a leader. `append KEYS`:
+/// appends so many decisions to a board, in publishes of 8, and prints how many publishes there were.
+pub fn run<R: Threads + Wait + Sync>(
+    rt: &HostRuntime,
+    threads: &R,
+    words: &mut Args,
+) -> Result<(), Fault> {
+    let work = next_word(words)?;
+    let alloc = rt.alloc();
+    match work.as_str() {
+        "shared" => {
+            let load = next_load(words)?;
+            let found = shared::<Brand, R>(threads, alloc, Opened::new(), load)?;
+            println!(rt; "found {found}")?;
+        }
+        "mutex" => {
+            let load = next_load(words)?;
+            let lock = Mutex::new(first_leaders(alloc)?);
+            println!(rt; "found {}", behind(threads, alloc, &lock, load)?)?;
+        }
+        "rwlock" => {
+            let load = next_load(words)?;
+            let lock = RwLock::new(first_leaders(alloc)?);
+            println!(rt; "found {}", behind(threads, alloc, &lock, load)?)?;
+        }
+        "append" => {
+            let keys = next_amount(words)?;
+            let publishes = append::<Brand, R>(threads, alloc, Opened::new(), keys)?;
+            println!(rt; "publishes {publishes}")?;
+        }
+        _ => return Err(Fault::NoWork(work)),
+    }
+    Ok(())
+}
+
+/// How many readers there are, and how often each reads.
+#[derive(Clone, Copy)]
+struct Load {
+    readers: usize,
+    reads: u32,
+    ghost places: { (1 ≤ readers) × (readers ≤ 32) },
+}
+
+fn next_load(words: &mut Args) -> Result<Load, Fault> {
+    let readers = next_amount(words)? as usize;
+    let reads = next_amount(words)?;
+    if !is_reader_count(readers) {
+        return Err(Fault::NoReaders);
+    }
+    Ok(Load { readers, reads })
+}
+
+/// The publisher's end of a board.
+#[derive(Drop)]
+struct Poster<'r, 'b, J: Naming, R: Wait> {
+    rt: &'r R,
+    board: &'b mut Board<J>,
+}
+
+impl<'r, 'b, J: Naming, R: Wait> Publisher for Poster<'r, 'b, J, R> {
+    fn publish(&mut self, decision: Decision) -> Result<(), Refusal> {
+        self.board.append(decision)?;
+        self.board.publish(self.rt)
+    }
+}
+
+impl<J: Naming> Reader for BoardReader<J> {
+    fn latest(&mut self, group: &GroupName) -> Latest {
+        BoardReader::latest(self, group)
+    }
+}
+
+/// How often the readers of a board find a leader.
+fn shared<J: Naming + Send + Sync, R: Threads + Wait + Sync>(
+    rt: &R,
+    alloc: Global,
+    opened: Opened,
+    load: Load,
+) -> Result<u64, Refusal>
+    requires { opened ≡ J.book }
+{
+    let decisions = first_decisions(alloc)?;
+    let mut board: Board<J> = Board::new(alloc, opened, &decisions, load.readers)?;
+    let found = read_board(rt, alloc, &mut board, load);
+    board.end(rt);
+    found
+}
+
+fn read_board<J: Naming + Send + Sync, R: Threads + Wait + Sync>(
+    rt: &R,
+    alloc: Global,
+    board: &mut Board<J>,
+    load: Load,
+) -> Result<u64, Refusal> {
+    let mut readers = Vec::new(alloc);
+    for _ in 0..load.readers {
+        let reader = board.reader()?;
+        if readers.push(reader).is_err() {
+            return Err(Refusal::OutOfMemory);
+        }
+    }
+    race(rt, alloc, &mut Poster { rt, board }, readers, load.reads)
+}
+
+/// The leaders that are there before anyone reads.
+fn first_leaders(alloc: Global) -> Result<Leaders, Refusal> {
+    Leaders::new(alloc, &first_decisions(alloc)?)
+}
+
+/// How often the readers of a map behind a lock find a leader.
+fn behind<L: Lock, R: Threads + Wait + Sync>(
+    rt: &R,
+    alloc: Global,
+    lock: &L,
+    load: Load,
+) -> Result<u64, Refusal> {
+    let mut publisher = Locked::new(rt, lock);
+    let Ok(readers) = vec![in alloc; publisher; load.readers] else {
+        return Err(Refusal::OutOfMemory);
+    };
+    race(rt, alloc, &mut publisher, readers, load.reads)
+}
+
+/// How many publishes a new board takes for so many decisions.
+fn append<J: Naming, R: Wait>(
+    rt: &R,
+    alloc: Global,
+    opened: Opened,
+    keys: u32,
+) -> Result<u32, Refusal>
+    requires { opened ≡ J.book }
+{
+    let mut board: Board<J> = Board::new(alloc, opened, &[], 1)?;
+    let publishes = append_all(rt, &mut board, keys);
+    board.end(rt);
+    publishes
+}
+
+fn append_all<J: Naming, R: Wait>(rt: &R, board: &mut Board<J>, keys: u32) -> Result<u32, Refusal> {
+    let mut publishes = 0u32;
+    for index in 0..keys {
+        board.append(decision(index)?)?;
+        if index % PIECE == PIECE - 1 {
+            board.publish(rt)?;
+            publishes = publishes.saturating_add(1);
+        }
+    }
+    Ok(publishes)
+}
