@@ -1,14 +1,14 @@
 // The desks of group_commit: what no clause says, which is that the calls succeed with ample memory, and that the
 // definitions say what is meant. All desks are of a ring of 3, of capacity 4,096.
 use crate::journal::{commits, journal_of};
-use crate::rows::{Leads, Sends, inputs, leads_are, node, reply, request, sends_are};
+use crate::rows::{Leads, inputs, leads_are, node, reply, request, sends_are};
 use disk_model::{FuseDevice, MemDevice};
 use gated_journal::{Batch, Journal, Receipt};
 use group_commit::{Desk, Landed, Ticket};
 use ring_records::Refusal;
 use std::alloc::AllocGlobal;
 use std::process::Abort;
-use test_rows::{Ask, Cause, Note, Op, Say};
+use test_rows::{Ask, Cause, Note, Op, Say, Sends};
 
 mod batches;
 mod decisions;

@@ -1,14 +1,14 @@
 // The nodes of node_store: what no clause says, which is that the calls succeed with ample memory, and what a stop leaves
 // of a node. All nodes are of a ring of 3, of capacity 4,096, but where a row says otherwise.
 use crate::journal::empty_device;
-use crate::rows::{Sends, leads_are, node, reply, request, sends_are};
+use crate::rows::{leads_are, node, reply, request, sends_are};
 use disk_model::{FuseDevice, MemDevice, Tear};
 use group_commit::{Landed, Ticket};
 use node_store::Node;
 use ring_records::Refusal;
 use std::alloc::AllocGlobal;
 use std::process::Abort;
-use test_rows::{Ask, Cause, Note, Say};
+use test_rows::{Ask, Cause, Note, Say, Sends};
 
 mod memory;
 mod refusals;

@@ -2,7 +2,7 @@
 use ring_records::{Decision, Input, NodeNo, Packet, Reply, Request};
 use std::alloc::Global;
 use std::process::Abort;
-use test_rows::{Ask, Note, Op, Say, candidate, key};
+use test_rows::{Ask, Op, Say, Sends, candidate, key};
 
 pub fn node(rt: &impl Abort, number: u8) -> NodeNo {
     NodeNo::new(number).expect(rt, "a node")
@@ -25,32 +25,11 @@ pub fn inputs(rt: &impl Abort, alloc: Global, ops: &[Op]) -> Vec<Input> {
     inputs
 }
 
-/// A packet in plain numbers.
-#[derive(Clone, Copy)]
-pub enum Sends {
-    /// The number of the message, and the message.
-    Carry(u64, Note),
-    /// How many messages are taken.
-    Credit(u64),
-}
-
-impl Sends {
-    fn packet(self, rt: &impl Abort) -> Packet {
-        match self {
-            Sends::Carry(no, note) => {
-                let msg = note.msg().expect(rt, "a message");
-                Packet::Carry { no, msg }
-            }
-            Sends::Credit(upto) => Packet::Credit { upto },
-        }
-    }
-}
-
 /// The packets are these, in this order.
 pub fn sends_are(rt: &impl Abort, packets: &[Packet], sends: &[Sends]) {
     assert_eq!(rt; packets.len(), sends.len());
     for (place, want) in sends.iter().enumerate() {
-        let packet = want.packet(rt);
+        let packet = want.packet().expect(rt, "a packet");
         assert_eq!(rt; packets.get(place).copied(), Some(packet), "{place}");
     }
 }

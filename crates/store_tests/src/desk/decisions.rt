@@ -1,6 +1,6 @@
 // What leaders the durable inputs made known.
 use super::*;
-use crate::rows::Sends::{Carry, Credit};
+use test_rows::Sends::{Carry, Credit};
 
 /// The desk has these decisions, in this order.
 fn decides(rt: &impl Abort, desk: &Desk, leads: &[Leads]) {

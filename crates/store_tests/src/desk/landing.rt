@@ -1,6 +1,6 @@
 // What a desk releases once a batch is durable, over the receipts of real journals.
 use super::*;
-use crate::rows::Sends::{Carry, Credit};
+use test_rows::Sends::{Carry, Credit};
 
 /// The request gets a ticket of this number, and what waits lands, with these packets and these leaders; then the reply
 /// is released.

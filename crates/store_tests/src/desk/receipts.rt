@@ -1,7 +1,7 @@
 // Which receipts a desk takes.
 use super::*;
 use crate::journal::commit;
-use crate::rows::Sends::{Carry, Credit};
+use test_rows::Sends::{Carry, Credit};
 
 /// A receipt of these inputs of this node, behind those before them.
 fn receipt_of<R: Abort + AllocGlobal>(rt: &R, number: u8, before: &[Op], ops: &[Op]) -> Receipt {

@@ -1,7 +1,7 @@
 // Batch after batch, node after node, and where memory is short.
 use super::*;
-use crate::rows::Sends::{Carry, Credit};
 use ring_records::{Packet, Request};
+use test_rows::Sends::{Carry, Credit};
 
 /// The desk gives a ticket to stand for each term from 1 to 64.
 fn stand_for_64<R: Abort + AllocGlobal>(rt: &R, desk: &mut Desk) -> Vec<Ticket> {

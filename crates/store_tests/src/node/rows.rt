@@ -1,6 +1,6 @@
 // The worked rows, by calls.
 use super::*;
-use crate::rows::Sends::{Carry, Credit};
+use test_rows::Sends::{Carry, Credit};
 
 /// The first message of node 1, and as it is sent on.
 const TOKEN: Note = Note::Token("red", 5, 10, 1);

@@ -1,6 +1,6 @@
 // What nodes tell at the end of the first election.
 use super::*;
-use crate::rows::Sends::Carry;
+use test_rows::Sends::Carry;
 
 /// The node accepts the request as its input of this number, and makes it durable.
 fn accepts(rt: &impl Abort, made: &mut Stored, ask: Ask, number: u64, say: Say) {
