@@ -92,9 +92,9 @@ awk -v idle="$idle" -v half="$half" -v whole="$whole" -v memory="$memory" -v ful
 
 # Each time is less that of the same program with no reads. A publisher publishes as long as there are readers.
 echo "bench board, reads of the latest leader beside a publisher:"
+reads=200000
 for readers in 1 2 4; do
-    for work_of in "shared 200000" "mutex 20000" "rwlock 20000"; do
-        read -r name reads <<< "$work_of"
+    for name in shared mutex rwlock; do
         idle=$(best /dev/null "$work/counts" "$bench" board "$name" "$readers" 0)
         whole=$(best /dev/null "$work/counts" "$bench" board "$name" "$readers" "$reads")
         eval "${name}_$readers=$((readers * reads * 1000000 / ((whole - idle) / 1000)))"
