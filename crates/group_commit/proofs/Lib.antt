@@ -1,4 +1,5 @@
 pub mod Numbers
+pub mod Replies
 pub mod Releases
 pub mod Settling
 pub mod Opening

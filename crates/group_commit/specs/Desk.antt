@@ -100,6 +100,12 @@ pub record IsHere (desk : DeskView) (ticket : TicketView) (kept : Answered) : Ty
   pub own : kept_at desk ticket.own ≡ Some kept
   pub question : kept.question ≡ ticket.question
 
+-- a node with some lawful history gives this answer to the request
+pub record IsAnswer (member : Member) (a : Answered) : Type 0 where
+  pub history : List Input
+  pub lawful : IsLawful member.node member.n member.capacity fresh history
+  pub gives : a ≡ answers.answered member.node member.n member.capacity fresh history a.question
+
 -- why its reply is not released: no such ticket is open here, or the reply rests on inputs that are not durable
 pub record IsSealed (desk : DeskView) (ticket : TicketView) (why : Refusal) : Type 0 where
   pub cause : ((why ≡ refused.Foreign) × ((kept : Answered) → IsHere desk ticket kept → ⊥))

@@ -2,7 +2,7 @@
 ghost use Rattle.std.specs.Prelude.{◌≡◌, ◌+◌, ◌-◌, ◌++◌, ◌∷◌, ◌≤◌, ◌⊎◌, ◌||◌, ℕ, List, [], not, true, false, Some, None, length, IfSome, IfNone, MatchOption, IfOk, IfErr, OnOk, OnErr};
 ghost use Rattle.std.specs.List.{cons_option};
 ghost use Rattle.ring_records.specs.Admission.{fresh, IsLawful};
-ghost use Rattle.ring_records.specs.Answer.{Answered, durable_in, flying_in};
+ghost use Rattle.ring_records.specs.Answer.{Answered, IsNodeState, durable_in, flying_in};
 ghost use Rattle.ring_records.specs.Emission.{sent};
 ghost use Rattle.ring_records.specs.History.{taken, credit};
 ghost use Rattle.ring_records.specs.Release.{packets, decisions, window};
@@ -56,7 +56,7 @@ impl Model for Desk {
 }
 
 impl Desk {
-    ghost use Rattle.group_commit.specs.Desk.{new_desk, answered, ticket_for, submitted, ended, launched, landed, objection, launch_objection, IsUnlawful, IsHere, IsSealed, IsFlying};
+    ghost use Rattle.group_commit.specs.Desk.{new_desk, answered, ticket_for, submitted, ended, launched, landed, objection, launch_objection, IsUnlawful, IsAnswer, IsHere, IsSealed, IsFlying};
     ghost use Rattle.gated_journal.specs.Batch.{shown as batch_shown, landed as receipted, lost, numbered};
     ghost use Rattle.group_commit.specs.Ticket.{shown, stub, answered_with};
 
@@ -143,6 +143,7 @@ impl Desk {
         ensures released { IfOk result (λ r. IsHere self.old (shown ticket) (stub r.1)) }
         ensures reply { IfOk result (λ r. r.0 ≡ (stub r.1).answer.reply) }
         ensures durable { IfOk result (λ r. (stub r.1).answer.number ≤ self.old.state.durable) }
+        ensures answer { IfOk result (λ r. IsAnswer self.old.member (stub r.1)) }
         ensures next { OnOk result (self.new ≡ ended (shown ticket).own self.old) }
         ensures refusal { IfErr result (λ e. IsSealed self.old (shown ticket) e.1) }
         ensures back { IfErr result (λ e. shown e.0 ≡ shown ticket) }
@@ -277,10 +278,18 @@ impl Desk {
         self.is_closed = true;
     }
 
+    /// The bytes of its journal that its inputs may take.
+    pub fn capacity(&self) -> u32
+        ensures { result ≡ self.now.member.capacity }
+    {
+        self.capacity
+    }
+
     /// The inputs that it accepted, oldest first.
     pub fn history(&self) -> &[Input]
         ensures inputs { result.now ≡ self.now.state.inputs }
         ensures lawful { IsLawful self.now.member.node self.now.member.n self.now.member.capacity fresh result.now }
+        ensures counts { IsNodeState self.now.state }
     {
         &self.inputs
     }
@@ -409,5 +418,6 @@ fn count_with(inputs: &[Input], input: &Option<Input>) -> u64
 }
 
 mod decisions;
+mod discard;
 mod parts;
 mod vouch;

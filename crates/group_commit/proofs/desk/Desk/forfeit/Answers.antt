@@ -1,11 +1,14 @@
 use Rattle.std.proofs.Common.{ℕ, List, sym, subst}
 use Rattle.ring_records.specs.Answer.{Answered}
-use Rattle.group_commit.specs.Kept.{AreBelow}
+use Rattle.gated_journal.specs.Reading.{member}
+use Rattle.group_commit.specs.Kept.{AreBelow, AreAnswers}
 use Rattle.group_commit.proofs.Numbers.{below_without}
+use Rattle.group_commit.proofs.Replies.{answers_without}
 use Rattle.group_commit.proofs.desk.Desk.forfeit.Goals as goal
 
 pub invariant_of-self : goal.invariant_of-self
 invariant_of-self c =
+    let d = c.self.inside in
     let i = c.self.invariant in
     record {
       stands = i.stands;
@@ -17,4 +20,5 @@ invariant_of-self c =
       lawful = i.lawful;
       holds = i.holds;
       given = subst (λ (ts : List (ℕ × Answered)). AreBelow c.self.inside.issued ts) (sym c.take_back.ensures) (below_without _ _ _ i.given);
+      answers = subst (λ (ts : List (ℕ × Answered)). AreAnswers (member d.node d.n d.capacity) ts) (sym c.take_back.ensures) (answers_without (member d.node d.n d.capacity) c.args.ticket.own d.tickets.entries i.answers);
     }

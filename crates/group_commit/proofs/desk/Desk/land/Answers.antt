@@ -30,6 +30,7 @@ invariant_of-self c =
       lawful = i.lawful;
       holds = subst (λ (l : List Input). Holds d.node c.settle-landed.new.self l d.flying d.flying) c.deref.ensures.value (c.settle-landed.ensures.holds d.node d.n d.capacity holds lawful);
       given = i.given;
+      answers = i.answers;
     }
 
 pub returns-clause-packets : goal.returns-clause-packets

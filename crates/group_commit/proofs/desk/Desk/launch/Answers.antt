@@ -21,6 +21,7 @@ invariant_of-self c =
       lawful = i.lawful;
       holds = subst (λ (l : List Input). Holds d.node c.prepare.new.outbox l d.durable c.min-end.result) c.deref.ensures.value (c.in-Ok.ensures.holds d.node still);
       given = i.given;
+      answers = i.answers;
     }
 
 pub returns-in-Ok-clause-batch : goal.returns-in-Ok-clause-batch

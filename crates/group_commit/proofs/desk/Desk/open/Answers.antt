@@ -2,6 +2,7 @@ use Rattle.std.proofs.Common.{rules, ℕ, [], List, sym, subst, arith}
 use Rattle.ring_records.specs.Answer.{Answered}
 use Rattle.group_commit.specs.Kept.{AreBelow}
 use Rattle.group_commit.proofs.Numbers.{below_none}
+use Rattle.group_commit.proofs.Replies.{answers_none}
 use Rattle.group_commit.proofs.desk.Desk.open.Goals as goal
 
 pub invariant_of-result : goal.invariant_of-result
@@ -15,4 +16,5 @@ invariant_of-result c = record {
   lawful = search rules;
   holds = search rules;
   given = search (rules, below_none);
+  answers = search (rules, answers_none);
 }

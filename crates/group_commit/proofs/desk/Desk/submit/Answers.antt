@@ -5,11 +5,12 @@ use Rattle.ring_records.specs.declared.input.Input.{Input}
 use Rattle.ring_records.specs.Admission.{fresh, IsLawful}
 use Rattle.ring_records.specs.Answer.{Answered, reply, gained}
 use Rattle.gated_journal.specs.Reading.{member}
-use Rattle.group_commit.specs.Desk.{DeskView, answered, submitted}
+use Rattle.group_commit.specs.Desk.{DeskView, IsAnswer, answered, submitted}
 use Rattle.group_commit.specs.declared.desk.Desk.TheInside.{Inside}
-use Rattle.group_commit.specs.Kept.{AreBelow}
+use Rattle.group_commit.specs.Kept.{AreBelow, AreAnswers}
 use Rattle.group_commit.specs.Ticket.{answered_with}
 use Rattle.group_commit.proofs.Numbers.{undone, found_last, below_next}
+use Rattle.group_commit.proofs.Replies.{answers_next}
 use Rattle.group_commit.proofs.Opening.{at_place, on_ok}
 use Rattle.group_commit.proofs.desk.Desk.submit.Goals as goal
 use Rattle.group_commit.proofs.desk.Desk.submit.Goals.{After-take_back, After-accept}
@@ -34,7 +35,8 @@ same_tickets c =
 pub invariant_of-self-then-is_err-2 : goal.invariant_of-self-then-is_err-2
 invariant_of-self-then-is_err-2 c =
     let i = c.self.invariant in
-    let items : c.accept.new.inputs.items ≡ c.self.inside.inputs.items = search rules in
+    let d = c.self.inside in
+    let items : c.accept.new.inputs.items ≡ d.inputs.items = search rules in
     record {
       stands = search rules;
       me = c.accept.ensures.place.0 ∙ i.me;
@@ -45,6 +47,7 @@ invariant_of-self-then-is_err-2 c =
       lawful = search rules;
       holds = search rules;
       given = subst (λ (ts : List (ℕ × Answered)). AreBelow c.self.inside.issued ts) (sym (same_tickets (goal.at.invariant_of-self-then-is_err-2 c).After-take_back)) i.given;
+      answers = subst (λ (ts : List (ℕ × Answered)). AreAnswers (member d.node d.n d.capacity) ts) (sym (same_tickets (goal.at.invariant_of-self-then-is_err-2 c).After-take_back)) i.answers;
     }
 
 pub returns-then-is_err-2-clause-same : goal.returns-then-is_err-2-clause-same
@@ -78,6 +81,7 @@ invariant_of-self-2 c =
     let accepted : is_ok c.accept.result ≡ true = search rules in
     let grown = on_ok c.accept.result accepted c.accept.ensures.lawful in
     let inputs = on_ok c.accept.result accepted c.accept.ensures.inputs in
+    let answers_now : IsAnswer (seen d).member (answered (seen d) c.args.question) = record { history = d.inputs.items; lawful = i.lawful; gives = refl } in
     record {
       stands = search rules;
       me = c.accept.ensures.place.0 ∙ i.me;
@@ -88,6 +92,7 @@ invariant_of-self-2 c =
       lawful = at_place (λ me n capacity. IsLawful me n capacity fresh c.accept.new.inputs.items) i.me i.ring i.bytes (grown (at_place (λ me n capacity. IsLawful me n capacity fresh d.inputs.items) (sym i.me) (sym i.ring) (sym i.bytes) i.lawful));
       holds = search rules;
       given = subst (λ (ts : List (ℕ × Answered)). AreBelow (d.issued + 1) ts) (sym (tickets_are (goal.at.invariant_of-self-2 c).After-accept)) (below_next d.issued _ d.tickets.entries i.given);
+      answers = subst (λ (ts : List (ℕ × Answered)). AreAnswers (seen d).member ts) (sym (tickets_are (goal.at.invariant_of-self-2 c).After-accept)) (answers_next (seen d).member d.issued _ d.tickets.entries i.answers answers_now);
     }
 
 pub returns-clause-here : goal.returns-clause-here
