@@ -1,10 +1,8 @@
 ghost use Rattle.std.specs.Prelude.{◌≡◌, ◌+◌, ◌-◌, ◌⊎◌, ◌||◌, ◌<◌, ◌≤◌, ℕ, Bool, [], length, not, true, false, None, Some, IfOk, IfErr, OnOk, OnErr};
 ghost use Rattle.disk_model.specs.Disk.{MayLeave, LeavesOnly, synced};
-ghost use Rattle.ring_records.specs.Admission.{fresh, IsLawful};
+ghost use Rattle.ring_records.specs.Admission.{fresh, used, IsLawful};
 ghost use Rattle.ring_records.specs.Answer.{Answered, NodeState, durable_in, flying_in, left_by};
-ghost use Rattle.ring_records.specs.Emission.{sent};
-ghost use Rattle.ring_records.specs.History.{taken, credit};
-ghost use Rattle.ring_records.specs.Release.{packets, decisions, window, AreLeaders};
+ghost use Rattle.ring_records.specs.Release.{packets, decisions};
 ghost use Rattle.gated_journal.specs.Batch.{landed as receipted, lost};
 ghost use Rattle.gated_journal.specs.Journal as journals;
 ghost use Rattle.gated_journal.specs.Reading.{member, is_header, ReadsAs, AllReadAs};
@@ -17,8 +15,8 @@ ghost use Rattle.node_store.specs.State.{Holds, IsLeft, until, Stands};
 use disk_model::{Device, FuseDevice};
 use gated_journal::{Journal, Receipt, Spoiled, is_header};
 use group_commit::{Desk, Landed, Stub, Ticket};
-use ring_records::{Decision, Input, NodeNo, Packet, Refusal, Reply, Request};
-use std::alloc::{AllocError, Global};
+use ring_records::{Input, NodeNo, Refusal, Reply, Request};
+use std::alloc::Global;
 
 /// A node whose inputs outlive it: a desk, and the journal that makes what it accepts durable.
 #[derive(Drop)]
@@ -182,6 +180,13 @@ impl<D: Device> Node<D> {
         self.desk.forfeit(ticket)
     }
 
+    /// Its desk, which tells what the node shows.
+    pub fn desk(&self) -> &Desk
+        ensures { result.now ≡ desk_of self.now }
+    {
+        &self.desk
+    }
+
     /// The inputs that it accepted, oldest first.
     pub fn history(&self) -> &[Input]
         ensures inputs { result.now ≡ (state_of self.now).inputs }
@@ -195,49 +200,6 @@ impl<D: Device> Node<D> {
         ensures { result ≡ (state_of self.now).durable }
     {
         self.desk.durable()
-    }
-
-    /// How many messages its inputs sent to the successor.
-    pub fn sent(&self) -> u64
-        ensures { result ≡ length (sent (desk_of self.now).member.node (state_of self.now).inputs) }
-    {
-        self.desk.sent()
-    }
-
-    /// How many messages of the predecessor its inputs took.
-    pub fn taken(&self) -> u64
-        ensures { result ≡ length (taken (state_of self.now).inputs) }
-    {
-        self.desk.taken()
-    }
-
-    /// The last credit of the successor, 0 before the first: so many messages the successor is known to have taken.
-    pub fn credit(&self) -> u64
-        ensures { result ≡ credit (state_of self.now).inputs }
-    {
-        self.desk.credit()
-    }
-
-    /// How many messages of the predecessor its durable inputs took: so many it may credit.
-    pub fn durable_taken(&self) -> u64
-        ensures { result ≡ length (taken (durable_in (state_of self.now))) }
-    {
-        self.desk.durable_taken()
-    }
-
-    /// The messages of its durable inputs that the successor is not known to have taken, as Carry packets in order:
-    /// those from the last durable credit on. They may be released again.
-    pub fn window(&self) -> Result<Vec<Packet>, AllocError>
-        ensures { IfOk result (λ packets. packets.items ≡ window (desk_of self.now).member.node (durable_in (state_of self.now))) }
-    {
-        self.desk.window()
-    }
-
-    /// A decision for each key whose leader its durable inputs tell, in order of key.
-    pub fn decisions(&self) -> Result<Vec<Decision>, AllocError>
-        ensures { IfOk result (λ decisions. AreLeaders (desk_of self.now).member.node (durable_in (state_of self.now)) decisions.items) }
-    {
-        self.desk.decisions()
     }
 
     /// Takes no more requests; all else goes on.
@@ -301,6 +263,28 @@ impl<D: Device> Node<D> {
                 }
             },
         }
+    }
+
+    /// The desk and the journal of a node that takes requests and has no open ticket, for threads of their own: the
+    /// journal holds the durable inputs, and nothing flies.
+    pub fn split(self) -> (Desk, Journal<D>)
+        requires open { ((desk_of self).closed || (desk_of self).failed) ≡ false }
+        requires spent { length (desk_of self).tickets ≡ 0 }
+        ensures desk { result.0 ≡ desk_of self }
+        ensures idle { result.0.state.flying ≡ result.0.state.durable }
+        ensures device { journals.device_of result.1 ≡ device_of self }
+        ensures member { journals.member_of result.1 ≡ result.0.member }
+        ensures ready { journals.is_spoiled result.1 ≡ false }
+        ensures len { journals.len_of result.1 ≡ result.0.state.durable }
+        ensures room { journals.room_of result.1 ≡ result.0.member.capacity - used fresh (durable_in result.0.state) }
+        ensures durable { AllReadAs result.0.member (D.disk (journals.device_of result.1)) (durable_in result.0.state) }
+    {
+        let Node {
+            alloc: _,
+            desk,
+            journal,
+        } = self;
+        (desk, journal)
     }
 
     /// Ends a node that is closed or has failed and has no open ticket, and gives its device.

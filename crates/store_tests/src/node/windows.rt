@@ -18,9 +18,9 @@ fn knows<R: Abort + AllocGlobal>(rt: &R, number: u8, bid: u32, taken: &[Note], s
         let no = place as u64;
         accepts(rt, &mut made, Ask::Take(no, *note), no + 2, Say::Taken);
     }
-    let window = made.window().expect(rt, "ample memory");
+    let window = made.desk().window().expect(rt, "ample memory");
     sends_are(rt, &window, sends);
-    let decisions = made.decisions().expect(rt, "ample memory");
+    let decisions = made.desk().decisions().expect(rt, "ample memory");
     leads_are(rt, &decisions, &[("red", 5, 30, 2)]);
 }
 
