@@ -1,3 +1,4 @@
+pub mod Again
 pub mod Queue
 pub mod Ring
 pub mod Sending

@@ -7,7 +7,7 @@ use Rattle.std.proofs.lemmas.Bool.Decides.{nat_tests}
 use Rattle.ring_records.specs.Answer.{Answered}
 use Rattle.group_commit.specs.Ticket.{TicketView, ticket_with}
 use Rattle.ring_node.specs.Open.{Open, is_due, number_of}
-use Rattle.ring_node.specs.Served.{HeldView, MatchFirst, AreHeld, shown_with}
+use Rattle.ring_node.specs.Held.{HeldView, MatchFirst, AreHeld, shown_with}
 
 -- ---- the queue
 
@@ -82,7 +82,7 @@ module _ (node run : ℕ) where
   held_from from less to (t ∷ ts) (h ∷ hs) le held = record { is = held.is; no_fewer = omega (arith, le, held.no_fewer); others = held.others }
 
   -- there are as many
-  pub as_many : (from to : ℕ) (ts : List (ℕ × Answered)) (hs : List HeldView) → AreHeld node run from to ts hs → length (shown_with ts hs) ≡ length hs
+  pub as_many : (from to : ℕ) (ts : List (ℕ × Answered)) (hs : List HeldView) → AreHeld node run from to ts hs → length ts ≡ length (shown_with ts hs)
   unfolding AreHeld shown_with
   as_many from to [] [] held = refl
   as_many from to [] (h ∷ hs) held = absurd held

@@ -24,7 +24,7 @@ use Rattle.ring_records.proofs.Growth.{sent-append, EachAfter-take}
 use Rattle.ring_records.proofs.Leader.{Contains-nil}
 use Rattle.ring_records.proofs.Lists.{along, none≢some, found_after-push, Contains-option_cases}
 use Rattle.ring_node.specs.Messages.{message_in, carried_by, carried_in}
-use Rattle.ring_node.specs.Served.{AreInside}
+use Rattle.ring_node.specs.Held.{AreInside}
 
 -- ---- packets
 

@@ -25,13 +25,10 @@ use Rattle.group_commit.specs.Ticket.{TicketView, ticket_with}
 use Rattle.node_store.proofs.Standing.{lawful_asked}
 use Rattle.ring_node.specs.Node.{NodeView, new_node, asked_with, flushed, restarted}
 use Rattle.ring_node.specs.Open.{Open, is_due}
-use Rattle.ring_node.specs.Served.{HeldView, MatchFirst, AreHeld, shown_with, view_with, IsServed}
+use Rattle.ring_node.specs.Held.{HeldView, MatchFirst, AreHeld, shown_with, view_with, IsServed}
 use Rattle.ring_node.proofs.Queue.{First, held_none, held_more, shown_more, first, held_from, none_due, ended_first, found_first}
 
--- what is at work by other names
-pub by_name : (desk : DeskView) (reach : ℕ) (queue : List HeldView) (desk' : DeskView) (reach' : ℕ) (queue' : List HeldView) → desk' ≡ desk → reach' ≡ reach → queue' ≡ queue → IsServed desk reach queue → IsServed desk' reach' queue'
-by_name desk reach queue desk' reach' queue' d r q here = subst (λ (a : DeskView × ℕ × List HeldView). IsServed a.0 a.1 a.2) (λ i. (sym d i, sym r i, sym q i)) here
-
+-- what is shown by other names
 pub same_view : (desk desk' : DeskView) (queue queue' : List HeldView) → desk' ≡ desk → queue' ≡ queue → view_with desk' queue' ≡ view_with desk queue
 same_view desk desk' queue queue' d q = λ i. view_with (d i) (q i)
 

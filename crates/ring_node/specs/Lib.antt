@@ -1,4 +1,4 @@
+pub mod Held
 pub mod Messages
 pub mod Node
 pub mod Open
-pub mod Served

@@ -1,9 +1,11 @@
 -- What a node of the ring shows, and what its calls make of it. Nothing flies between its calls.
-use Rattle.std.specs.Prelude.{ℕ, ◌+◌, Bool, nat_lt, List, [], ◌∷◌, ◌++◌, length, take, Option}
+use Rattle.std.specs.Prelude.{ℕ, ◌+◌, Bool, nat_le, List, [], ◌∷◌, ◌++◌, length, take, Option}
 use Rattle.ring_records.specs.declared.input.Input.{Input}
 use Rattle.ring_records.specs.declared.request.Request.{Request}
 use Rattle.ring_records.specs.Admission.{fresh}
 use Rattle.ring_records.specs.Answer.{Answered, NodeState, answered, gained, launched, left_by}
+use Rattle.ring_records.specs.Emission.{sent}
+use Rattle.ring_records.specs.History.{credit}
 use Rattle.ring_node.specs.Open.{Open}
 
 -- which node it is, of how large a ring, and its capacity; the inputs that it accepted, and how many of them are
@@ -41,10 +43,6 @@ ticket_of number v q = record { number = number; kept = answered_by v q }
 unfoldable pub asked_with : Option ℕ → Request → NodeView → NodeView
 asked_with number q v = record v { inputs = v.inputs ++ gained v.me v.n v.capacity fresh v.inputs q; held = v.held ++ ticket_of number v q ∷ []; issued = v.issued + 1 }
 
--- it accepts an input with the request
-abbrev pub accepts : NodeView → Request → Bool
-accepts v q = nat_lt (length v.inputs) (answered_by v q).answer.number
-
 -- ---- batches
 
 -- how many inputs are durable once a batch landed
@@ -56,6 +54,10 @@ abbrev pub flushed : NodeView → NodeView
 flushed v = record v { durable = flown v }
 
 -- ---- crashes
+
+-- no more messages are credited than its durable inputs sent
+abbrev pub is_credited : NodeView → Bool
+is_credited v = nat_le (credit v.inputs) (length (sent v.me (durable_in v)))
 
 -- after it was opened again with these inputs: no ticket is open
 unfoldable pub restarted : List Input → NodeView → NodeView

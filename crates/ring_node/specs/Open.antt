@@ -8,6 +8,9 @@ pub record Open : Type 0 where
   pub number : Option ℕ
   pub kept : Answered
 
+abbrev pub open_with : Option ℕ → Answered → Open
+open_with number kept = record { number = number; kept = kept }
+
 -- the ticket's number, if it has one
 abbrev pub number_of : Open → Option ℕ
 number_of t = t.number

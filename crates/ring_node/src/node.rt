@@ -2,21 +2,28 @@
 ghost use Rattle.std.specs.Prelude.{◌≡◌, ◌-◌, ◌≤◌, ◌<◌, ◌^◌, ◌∷◌, [], true, false, length, slice_get, IfSome, IfNone, IfOk, OnOk, OnErr};
 ghost use Rattle.std.specs.List.{filter};
 ghost use Rattle.ring_records.specs.Emission.{sent};
-ghost use Rattle.ring_records.specs.History.{taken, credit};
 ghost use Rattle.ring_records.specs.Message.{candidate_of, is_outside};
 ghost use Rattle.gated_journal.specs.Reading.{member, is_header};
-ghost use Rattle.ring_node.specs.Node.{new_node, durable_in, asked_with, accepts, flown, flushed};
-ghost use Rattle.ring_node.specs.Open.{is_due};
+ghost use Rattle.group_commit.specs.Ticket.{stub};
+ghost use Rattle.ring_node.specs.Node.{new_node, durable_in, asked_with, flown, flushed, is_credited};
+ghost use Rattle.ring_node.specs.Open.{is_due, open_with};
 
+use crate::held::{Held, closed, is_due};
 use crate::messages::add_carried;
-use crate::released::Released;
-use crate::served::Served;
-use ring_records::{Msg, NodeNo, Request};
+use disk_model::{FuseDevice, MemDevice};
+use gated_journal::device_size;
+use group_commit::{Desk, Stub};
+use node_store::Node;
+use ring_records::{Msg, NodeNo, Refusal, Request};
 use std::alloc::{AllocError, Global};
+use std::collections::VecDeque;
 use std::marker::Model;
 
-/// A node of a ring of 2 to 16 on a device in memory. Where it could not be opened again for want of memory, it is
-/// down: it holds nothing, and answers that memory is missing.
+/// A device in memory that may be stopped.
+pub(crate) type Disk = FuseDevice<MemDevice>;
+
+/// A node of a ring of 2 to 16 on a device in memory, with its open tickets, the oldest first. Nothing flies between
+/// its calls. It is not let go: `end` ends it.
 pub struct RingNode {
     pub(crate) alloc: Global,
     pub(crate) me: NodeNo,
@@ -24,21 +31,25 @@ pub struct RingNode {
     pub(crate) capacity: u32,
     // How often it was opened again.
     pub(crate) runs: u64,
-    // `None` where it is down.
-    pub(crate) served: Option<Served>,
+    pub(crate) node: Node<Disk>,
+    pub(crate) held: VecDeque<Held>,
     // All messages that its durable inputs sent, the oldest first.
     pub(crate) messages: Vec<Msg>,
 }
 
 impl Model for RingNode {
+    ghost use Rattle.disk_model.specs.FuseDevice.{reach_of};
+    ghost use Rattle.disk_model.specs.MemDevice.{limit_of};
+    ghost use Rattle.gated_journal.specs.Reading.{member};
+    ghost use Rattle.node_store.specs.Node as nodes;
+    ghost use Rattle.ring_node.specs.Held.{view_with, IsRingNode};
     ghost use Rattle.ring_node.specs.Node.{NodeView};
-    ghost use Rattle.ring_node.specs.Served.{shown_by, IsRingNode};
 
     ghost Value = { NodeView };
 
-    ghost view = { λ r. shown_by r.me r.n r.capacity r.served };
+    ghost view = { λ r. view_with (nodes.desk_of r.node) r.held.items };
 
-    ghost invariant = { λ r. IsRingNode r.me r.n r.capacity r.served r.messages.items };
+    ghost invariant = { λ r. IsRingNode (member r.me r.n r.capacity) (nodes.desk_of r.node) (reach_of limit_of (nodes.device_of r.node)) r.held.items r.messages.items };
 }
 
 impl RingNode {
@@ -47,31 +58,37 @@ impl RingNode {
         requires range { is_header (member me n capacity) ≡ true }
         ensures made { IfOk result (λ node. node ≡ new_node me n capacity) }
     {
-        let served = Served::create(alloc, me, n, capacity)?;
-        Ok(RingNode {
-            alloc,
-            me,
-            n,
-            capacity,
-            runs: 0,
-            served: Some(served),
-            messages: Vec::new(alloc),
-        })
+        let device = MemDevice::new(alloc, device_size(capacity) as usize)?;
+        match Node::create(alloc, FuseDevice::idle(device), me, n, capacity, 0) {
+            Ok(node) => Ok(RingNode {
+                alloc,
+                me,
+                n,
+                capacity,
+                runs: 0,
+                node,
+                held: VecDeque::new(alloc),
+                messages: Vec::new(alloc),
+            }),
+            Err((_device, refusal)) => Err(memory_alone(refusal)),
+        }
     }
 
     /// Asks the node. Its ticket, under the number that the ring gives it, stays open until the reply is released.
-    /// Whether it accepts an input with the request.
-    pub fn ask(&mut self, number: Option<u64>, question: Request) -> Result<bool, AllocError>
+    pub fn ask(&mut self, number: Option<u64>, question: Request) -> Result<(), AllocError>
         requires inside { is_outside self.old.n question ≡ false }
         requires numbers { self.old.issued < 2 ^ 60 }
         ensures next { OnOk result (self.new ≡ asked_with number question self.old) }
-        ensures accepted { IfOk result (λ accepted. accepted ≡ accepts self.old question) }
         ensures err { OnErr result (self.new ≡ self.old) }
     {
-        let Some(served) = &mut self.served else {
-            return Err(AllocError);
-        };
-        served.ask(number, question)
+        self.held.reserve(1)?;
+        match self.node.submit(question) {
+            Ok(ticket) => {
+                self.held.push_back_reserved(Held { number, ticket });
+                Ok(())
+            }
+            Err(refusal) => Err(memory_alone(refusal)),
+        }
     }
 
     /// Makes the first inputs that wait durable, at most 64: how many.
@@ -81,25 +98,32 @@ impl RingNode {
         ensures err { OnErr result (self.new ≡ self.old) }
     {
         self.messages.reserve(64)?;
-        match &mut self.served {
-            Some(served) => {
-                let landed = served.flush()?;
+        match self.node.flush() {
+            Ok(landed) => {
                 add_carried(&mut self.messages, &landed.packets);
                 Ok(landed.count)
             }
-            None => Err(AllocError),
+            Err(refusal) => Err(memory_alone(refusal)),
         }
     }
 
-    /// Releases the reply of the oldest open ticket, if that rests on durable inputs alone, and ends the ticket.
-    pub fn release(&mut self) -> Option<Released>
+    /// Releases the reply of the oldest open ticket, if that rests on durable inputs alone, and ends the ticket: the
+    /// number that the ring gave it, if any, and the stub of the reply.
+    pub fn release(&mut self) -> Option<(Option<u64>, Stub)>
         ensures none { IfNone result ((filter (is_due self.old.durable) self.old.held ≡ []) × (self.new ≡ self.old)) }
-        ensures some { IfSome result (λ r. (self.old.held ≡ r ∷ self.new.held) × (is_due self.old.durable r ≡ true)) }
+        ensures some { IfSome result (λ r. (self.old.held ≡ open_with r.0 (stub r.1) ∷ self.new.held) × (is_due self.old.durable (open_with r.0 (stub r.1)) ≡ true)) }
         ensures rest { self.new ≡ record self.old { held = self.new.held } }
     {
-        match &mut self.served {
-            Some(served) => served.release(),
-            None => None,
+        if !is_due(&self.held, self.node.durable()) {
+            return None;
+        }
+        let Some(first) = self.held.pop_front() else {
+            return None;
+        };
+        let Held { number, ticket } = first;
+        match self.node.redeem(ticket) {
+            Ok((_reply, stub)) => Some((number, stub)),
+            Err(_) => unreachable!(),
         }
     }
 
@@ -111,87 +135,29 @@ impl RingNode {
             n: _,
             capacity: _,
             runs: _,
-            served,
+            node,
+            held,
             messages: _,
         } = self;
-        if let Some(served) = served {
-            let _device = served.end();
-        }
+        let _device = closed(node, held);
     }
 
-    /// How many of its tickets are open.
-    pub fn open_tickets(&self) -> usize
-        ensures { result ≡ length self.now.held }
-    {
-        match &self.served {
-            Some(served) => served.open_tickets(),
-            None => 0,
-        }
-    }
-
-    /// How many inputs it accepted.
-    pub fn count(&self) -> u64
-        ensures { result ≡ length self.now.inputs }
-    {
-        match &self.served {
-            Some(served) => served.count(),
-            None => 0,
-        }
-    }
-
-    /// How many of its inputs are durable.
-    pub fn durable(&self) -> u64
-        ensures value { result ≡ self.now.durable }
+    /// Its desk, which tells what it accepted.
+    pub fn desk(&self) -> &Desk
+        ensures member { result.now.member ≡ member self.now.me self.now.n self.now.capacity }
+        ensures inputs { result.now.state.inputs ≡ self.now.inputs }
+        ensures durable { result.now.state.durable ≡ self.now.durable }
         ensures within { self.now.durable ≤ length self.now.inputs }
+        ensures tickets { length result.now.tickets ≡ length self.now.held }
     {
-        match &self.served {
-            Some(served) => served.durable(),
-            None => 0,
-        }
+        self.node.desk()
     }
 
-    /// How many messages its inputs sent to the successor.
-    #[tactic(auto, unfolding(ring_records::specs::Emission::sent, ring_records::specs::Lists::found_after))]
-    pub fn sent(&self) -> u64
-        ensures { result ≡ length (sent self.now.me self.now.inputs) }
+    /// Whether no more messages are credited than its durable inputs sent, so that it may be stopped.
+    pub fn is_credited(&self) -> bool
+        ensures { result ≡ is_credited self.now }
     {
-        match &self.served {
-            Some(served) => served.sent(),
-            None => 0,
-        }
-    }
-
-    /// How many messages of the predecessor its inputs took.
-    #[tactic(auto, unfolding(ring_records::specs::History::taken))]
-    pub fn taken(&self) -> u64
-        ensures { result ≡ length (taken self.now.inputs) }
-    {
-        match &self.served {
-            Some(served) => served.taken(),
-            None => 0,
-        }
-    }
-
-    /// The last credit of the successor, 0 before the first.
-    #[tactic(auto, unfolding(ring_records::specs::History::credit))]
-    pub fn credit(&self) -> u64
-        ensures { result ≡ credit self.now.inputs }
-    {
-        match &self.served {
-            Some(served) => served.credit(),
-            None => 0,
-        }
-    }
-
-    /// How many messages of the predecessor its durable inputs took.
-    #[tactic(auto, unfolding(ring_records::specs::History::taken))]
-    pub fn durable_taken(&self) -> u64
-        ensures { result ≡ length (taken (durable_in self.now)) }
-    {
-        match &self.served {
-            Some(served) => served.durable_taken(),
-            None => 0,
-        }
+        self.node.desk().credit() <= self.messages.len() as u64
     }
 
     /// Message `no` that its durable inputs sent, counted from 0; its candidate is a node of the ring.
@@ -200,5 +166,15 @@ impl RingNode {
         ensures inside { IfSome result (λ msg. (candidate_of msg).node ≤ self.now.n) }
     {
         self.messages.get(no as usize).copied()
+    }
+}
+
+/// What is answered to a refusal that only want of memory explains.
+pub(crate) fn memory_alone(refusal: Refusal) -> AllocError
+    requires { refusal ≡ Refusal.OutOfMemory }
+{
+    match refusal {
+        Refusal::OutOfMemory => AllocError,
+        _ => unreachable!(),
     }
 }

@@ -1,114 +1,187 @@
 // A node that loses its memory, and is opened again from its device.
-ghost use Rattle.std.specs.Prelude.{◌≡◌, ◌<◌, length, Bool, IfOk, OnOk, OnErr};
+ghost use Rattle.std.specs.Prelude.{◌≡◌, ◌⊎◌, ◌+◌, ◌≤◌, ◌<◌, ℕ, length, Bool, true, false, take, IfOk, OnOk};
 ghost use Rattle.std.specs.List.{filter_map};
-ghost use Rattle.disk_model.specs.MemDevice.{disk_of};
+ghost use Rattle.disk_model.specs.FuseDevice.{reach_of};
+ghost use Rattle.disk_model.specs.MemDevice.{disk_of, limit_of};
 ghost use Rattle.ring_records.specs.Admission.{fresh, IsLawful};
-ghost use Rattle.ring_records.specs.Answer.{NodeState, left_by};
+ghost use Rattle.ring_records.specs.Answer.{NodeState, launched, landed, left_by};
 ghost use Rattle.ring_records.specs.Emission.{sent};
+ghost use Rattle.ring_records.specs.History.{credit};
 ghost use Rattle.gated_journal.specs.Reading.{member};
+ghost use Rattle.group_commit.specs.Desk.{new_desk};
+ghost use Rattle.node_store.specs.Node as nodes;
 ghost use Rattle.node_store.specs.State.{Holds};
-ghost use Rattle.ring_node.specs.Node.{new_node, durable_in, restarted, left};
+ghost use Rattle.ring_node.specs.Held.{AreHeld};
+ghost use Rattle.ring_node.specs.Node.{durable_in, restarted, left, is_credited};
 ghost use Rattle.ring_node.specs.Open.{number_of};
 
-use crate::messages::messages_of;
-use crate::node::RingNode;
-use crate::served::Served;
-use disk_model::{MemDevice, Tear};
-use ring_records::{Msg, NodeNo};
+use crate::held::{Held, closed, numbers_in};
+use crate::messages::add_carried;
+use crate::node::{Disk, RingNode, memory_alone};
+use disk_model::{Device, FuseDevice, MemDevice, Tear};
+use gated_journal::device_size;
+use group_commit::Desk;
+use node_store::Node;
+use ring_records::{Msg, NodeNo, Refusal};
 use std::alloc::{AllocError, Global};
+use std::collections::VecDeque;
 
 impl RingNode {
-    /// It loses its memory and is opened again from its device. The numbers of the tickets that were open, in order.
-    /// After an `Err` it is down.
-    pub fn crash(&mut self) -> Result<Vec<u64>, AllocError>
-        ensures next { OnOk result (self.new ≡ restarted (durable_in self.old) self.old) }
-        ensures lost { IfOk result (λ lost. lost.items ≡ filter_map number_of self.old.held) }
-        ensures err { OnErr result (self.new ≡ new_node self.old.me self.old.n self.old.capacity) }
+    /// It loses its memory and is opened again from its device: the node, and the numbers of the tickets that were
+    /// open, in order.
+    pub fn crash(self) -> Result<(RingNode, Vec<u64>), AllocError>
+        ensures next { IfOk result (λ r. r.0 ≡ restarted (durable_in self) self) }
+        ensures lost { IfOk result (λ r. r.1.items ≡ filter_map number_of self.held) }
     {
-        let served = self.take_down()?;
-        let lost = served.numbers(self.alloc);
-        let device = served.end();
+        let RingNode {
+            alloc,
+            me,
+            n,
+            capacity,
+            runs,
+            node,
+            held,
+            messages,
+        } = self;
+        let lost = numbers_in(alloc, &held);
+        let device = closed(node, held);
         let lost = lost?;
-        self.open_again(device)?;
-        Ok(lost)
+        let runs = runs.wrapping_add(1);
+        let node = reopened(alloc, device, me, n, capacity, runs)?;
+        let held = VecDeque::new(alloc);
+        let again = RingNode {
+            alloc,
+            me,
+            n,
+            capacity,
+            runs,
+            node,
+            held,
+            messages,
+        };
+        Ok((again, lost))
     }
 
-    /// It is stopped at a device call of a flush, 1 to 4, with the device left by the tear, and is opened again:
-    /// whether it holds the batch then, and the numbers of the tickets that were open, in order. An input waits, so
-    /// that the flush calls the device: `durable` is below `count`. After an `Err` it is down.
-    pub fn stop(&mut self, call: u64, tear: Tear) -> Result<(bool, Vec<u64>), AllocError>
-        requires waits { self.old.durable < length self.old.inputs }
-        ensures next { IfOk result (λ r. self.new ≡ restarted (left r.0 self.old) self.old) }
-        ensures lost { IfOk result (λ r. r.1.items ≡ filter_map number_of self.old.held) }
-        ensures err { OnErr result (self.new ≡ new_node self.old.me self.old.n self.old.capacity) }
+    /// It is stopped at a device call of a flush, 1 to 4, with the device left by the tear, and is opened again: the
+    /// node, whether it holds the batch then, and the numbers of the tickets that were open, in order. An input waits,
+    /// so that the flush calls the device, and no more messages are credited than its durable inputs sent.
+    pub fn stop(self, call: u64, tear: Tear) -> Result<(RingNode, bool, Vec<u64>), AllocError>
+        requires credited { is_credited self ≡ true }
+        requires waits { self.durable < length self.inputs }
+        ensures next { IfOk result (λ r. r.0 ≡ restarted (left r.1 self) self) }
+        ensures lost { IfOk result (λ r. r.2.items ≡ filter_map number_of self.held) }
     {
-        let served = self.take_down()?;
-        let durable = served.durable();
-        let lost = served.numbers(self.alloc);
-        let device = served.stop(call, tear)?;
+        let RingNode {
+            alloc,
+            me,
+            n,
+            capacity,
+            runs,
+            node,
+            held,
+            messages,
+        } = self;
+        let durable = node.durable();
+        let lost = numbers_in(alloc, &held);
+        let device = stopped(node, held, call, tear)?;
         let lost = lost?;
-        self.open_again(device)?;
-        let keeps = durable < self.durable();
-        Ok((keeps, lost))
-    }
-
-    // The node at work, if it is not down. It is down afterwards.
-    fn take_down(&mut self) -> Result<Served, AllocError>
-        ensures taken { IfOk result (λ served. served ≡ self.old) }
-        ensures down { self.new ≡ new_node self.old.me self.old.n self.old.capacity }
-    {
-        self.messages.clear();
-        match self.served.take() {
-            Some(served) => Ok(served),
-            None => Err(AllocError),
+        let runs = runs.wrapping_add(1);
+        let node = reopened(alloc, device, me, n, capacity, runs)?;
+        let keeps = durable < node.durable();
+        let held = VecDeque::new(alloc);
+        match caught_up(messages, node.desk()) {
+            Ok(messages) => {
+                let again = RingNode {
+                    alloc,
+                    me,
+                    n,
+                    capacity,
+                    runs,
+                    node,
+                    held,
+                    messages,
+                };
+                Ok((again, keeps, lost))
+            }
+            Err(error) => {
+                let _device = closed(node, held);
+                Err(error)
+            }
         }
-    }
-
-    // Opens it again from its device.
-    fn open_again(&mut self, device: MemDevice) -> Result<(), AllocError>
-        requires holds { (s : NodeState) × IsLawful self.old.me self.old.n self.old.capacity fresh s.inputs × Holds (member self.old.me self.old.n self.old.capacity) (disk_of device) s }
-        ensures next { OnOk result ((s : NodeState) → IsLawful self.old.me self.old.n self.old.capacity fresh s.inputs → Holds (member self.old.me self.old.n self.old.capacity) (disk_of device) s
-            → (keep : Bool) × (self.new ≡ restarted (left_by keep s) self.old)) }
-        ensures err { OnErr result (self.new ≡ self.old) }
-    {
-        self.runs = self.runs.wrapping_add(1);
-        let (served, messages) = opened(
-            self.alloc,
-            device,
-            self.me,
-            self.n,
-            self.capacity,
-            self.runs,
-        )?;
-        self.messages = messages;
-        if let Some(before) = self.served.replace(served) {
-            let _device = before.end();
-        }
-        Ok(())
     }
 }
 
-// The node that the device holds, and the messages that its inputs sent.
-fn opened(
+// Stops the node at a device call of a flush, gives up its open tickets, and tears its device. Refused where no call was
+// made, for want of memory.
+fn stopped(
+    mut node: Node<Disk>,
+    held: VecDeque<Held>,
+    call: u64,
+    tear: Tear,
+) -> Result<MemDevice, AllocError>
+    requires works { (nodes.desk_of node).failed ≡ false }
+    requires held { AreHeld (nodes.desk_of node).member.node (nodes.desk_of node).run 0 (length (nodes.state_of node).inputs) (nodes.desk_of node).tickets held.items }
+    ensures lawful { OnOk result (IsLawful (nodes.desk_of node).member.node (nodes.desk_of node).member.n (nodes.desk_of node).member.capacity fresh (nodes.state_of node).inputs) }
+    ensures holds { IfOk result (λ device. Holds (nodes.desk_of node).member (disk_of device) (launched (nodes.state_of node))) }
+{
+    node.arm(call.saturating_sub(1), false);
+    let flown = flush_or_fail(&mut node);
+    let mut device = closed(node, held);
+    flown?;
+    device.crash(tear);
+    Ok(device)
+}
+
+// Flushes the node, whose device may fail. Refused where memory is missing, and then nothing is changed.
+fn flush_or_fail(node: &mut Node<Disk>) -> Result<(), AllocError>
+    requires works { (nodes.desk_of node.old).failed ≡ false }
+    ensures state { OnOk result ((nodes.state_of node.new ≡ launched (nodes.state_of node.old)) ⊎ (nodes.state_of node.new ≡ landed (launched (nodes.state_of node.old)))) }
+    ensures inputs { (nodes.state_of node.new).inputs ≡ (nodes.state_of node.old).inputs }
+    ensures stays { nodes.desk_of node.new ≡ record (nodes.desk_of node.old) { state = nodes.state_of node.new; failed = (nodes.desk_of node.new).failed } }
+{
+    match node.flush() {
+        Ok(_landed) => Ok(()),
+        Err(refusal) => match refusal {
+            Refusal::OutOfMemory => Err(AllocError),
+            _ => Ok(()),
+        },
+    }
+}
+
+// Opens the node that the device holds.
+fn reopened(
     alloc: Global,
-    device: MemDevice,
+    mut device: MemDevice,
     me: NodeNo,
     n: u8,
     capacity: u32,
     run: u64,
-) -> Result<(Served, Vec<Msg>), AllocError>
+) -> Result<Node<Disk>, AllocError>
     requires holds { (s : NodeState) × IsLawful me n capacity fresh s.inputs × Holds (member me n capacity) (disk_of device) s }
-    ensures served { IfOk result (λ r. (s : NodeState) → IsLawful me n capacity fresh s.inputs → Holds (member me n capacity) (disk_of device) s
-        → (keep : Bool) × (r.0 ≡ restarted (left_by keep s) (new_node me n capacity))) }
-    ensures messages { IfOk result (λ r. r.1.items ≡ sent me r.0.inputs) }
-    ensures lawful { IfOk result (λ r. IsLawful me n capacity fresh r.0.inputs) }
+    ensures desk { IfOk result (λ node. (s : NodeState) → IsLawful me n capacity fresh s.inputs → Holds (member me n capacity) (disk_of device) s
+        → (keep : Bool) × (nodes.desk_of node ≡ new_desk (member me n capacity) run (left_by keep s))) }
+    ensures reaches { IfOk result (λ node. 17 + capacity ≤ reach_of limit_of (nodes.device_of node)) }
 {
-    let served = Served::recover(alloc, device, me, n, capacity, run)?;
-    match messages_of(alloc, me, n, capacity, served.history()) {
-        Ok(messages) => Ok((served, messages)),
-        Err(error) => {
-            let _device = served.end();
-            Err(error)
-        }
+    // A device that was stopped does not tell that it still reaches so far, and an empty read does.
+    if device.read_at(device_size(capacity), &mut []).is_err() {
+        return Err(AllocError);
     }
+    match Node::recover(alloc, FuseDevice::idle(device), me, n, run) {
+        Ok(node) => Ok(node),
+        Err((_device, refusal)) => Err(memory_alone(refusal)),
+    }
+}
+
+// The messages that the first inputs of the desk sent, and those that the others sent. All its inputs are durable.
+fn caught_up(mut messages: Vec<Msg>, desk: &Desk) -> Result<Vec<Msg>, AllocError>
+    requires durable { desk.now.state.durable ≡ length desk.now.state.inputs }
+    requires sent { (k : ℕ) × (messages.items ≡ sent desk.now.member.node (take k desk.now.state.inputs)) }
+    requires credited { credit desk.now.state.inputs ≤ length messages.items }
+    ensures { IfOk result (λ all. all.items ≡ sent desk.now.member.node desk.now.state.inputs) }
+{
+    let window = desk.window()?;
+    messages.reserve(window.len())?;
+    let known = messages.len() as u64 - desk.credit();
+    add_carried(&mut messages, &window[known as usize..]);
+    Ok(messages)
 }

@@ -12,8 +12,9 @@ fn stood<R: Abort + AllocGlobal>(rt: &R) -> RingNode {
     let mut made = made.expect(rt, "ample memory");
     let key = key("red", 5).expect(rt, "a key");
     let bid = Bid::new(10).expect(rt, "a bid");
-    let accepts = made.ask(Some(7), Request::Stand(key, bid));
-    assert_eq!(rt; accepts.ok(), Some(true));
+    made.ask(Some(7), Request::Stand(key, bid))
+        .expect(rt, "ample memory");
+    assert_eq!(rt; made.desk().history().len(), 1);
     assert!(rt; made.release().is_none());
     made
 }
@@ -23,29 +24,35 @@ fn released_behind_a_flush(rt: HostRuntime) {
     let mut made = stood(&rt);
     assert_eq!(&rt; made.flush().ok(), Some(1));
     assert!(&rt; made.message(0).is_some());
-    let released = made.release().expect(&rt, "a reply that is due");
-    assert_eq!(&rt; released.number(), Some(7));
-    assert_eq!(&rt; released.reply(), Reply::Stood);
+    let Some((number, stub)) = made.release() else {
+        panic!(&rt; "no reply is due");
+    };
+    assert_eq!(&rt; number, Some(7));
+    assert_eq!(&rt; stub.reply(), Reply::Stood);
     made.end();
 }
 
 #[test]
 fn lost_in_a_crash(rt: HostRuntime) {
-    let mut made = stood(&rt);
-    let lost = made.crash().expect(&rt, "ample memory");
+    let (again, lost) = stood(&rt).crash().expect(&rt, "ample memory");
     assert_eq!(&rt; lost.as_slice(), [7].as_slice());
-    assert_eq!(&rt; made.count(), 0);
-    made.end();
+    assert_eq!(&rt; again.desk().history().len(), 0);
+    again.end();
 }
 
 /// Whether the batch outlives a stop at this call.
 fn outlives<R: Abort + AllocGlobal>(rt: &R, call: u64, expected: bool) {
-    let mut made = stood(rt);
-    assert!(rt; made.durable() < made.count());
-    let (keeps, lost) = made.stop(call, Tear::Fill(1)).expect(rt, "ample memory");
-    assert_eq!(rt; (keeps, made.durable()), (expected, u64::from(expected)));
+    let made = stood(rt);
+    assert!(rt; made.desk().durable() < made.desk().history().len() as u64);
+    assert!(rt; made.is_credited());
+    let stopped = made.stop(call, Tear::Fill(1));
+    let (again, keeps, lost) = stopped.expect(rt, "ample memory");
+    assert_eq!(rt;
+        (keeps, again.desk().durable()),
+        (expected, u64::from(expected))
+    );
     assert_eq!(rt; lost.as_slice(), [7].as_slice());
-    made.end();
+    again.end();
 }
 
 #[test]

@@ -1,5 +1,6 @@
 mod Chain
 mod Counts
+mod Credits
 mod Handed
 mod Moves
 mod Named

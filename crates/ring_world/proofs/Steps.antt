@@ -1,5 +1,6 @@
 -- What the code makes of a ring is what is said of it.
-use Rattle.std.proofs.Common.{ℕ, ◌≡◌, ◌≤◌, ◌-◌, Bool, true, false, List, [], ◌∷◌, ◌++◌, length, take, map, set, get_or, Option, sym, ap, ◌∙◌, subst, refl, arith, append_assoc}
+use Rattle.std.proofs.Common.{ℕ, zero, suc, ◌≡◌, ◌≤◌, ◌<◌, ◌-◌, Bool, true, false, List, [], ◌∷◌, ◌++◌, length, take, map, set, get_or, Option, sym, ap, ◌∙◌, subst, refl, arith, append_assoc}
+use Rattle.std.specs.List.{insert, remove}
 use Rattle.std.proofs.lemmas.List.{take-append-le, length-append}
 use Rattle.ring_records.specs.declared.request.Request.{Request}
 use Rattle.ring_node.specs.Node.{NodeView, durable_in, asked_with, flushed, restarted, left}
@@ -121,19 +122,28 @@ module _ (size capacity : ℕ) (eager failed : Bool) (events : List (ℕ × Acti
 
     -- A crash or a stop: the code makes of the node what is said, and pushes what happened.
     module _ (es : List (ℕ × Action)) (v' : NodeView) where
-      pub crashes : es ≡ events ++ (i, Crash false) ∷ [] → v' ≡ restarted (durable_in v) v → (seen false es (set nodes (number - 1) v') ≡ crashed i w) × Stands false es (set nodes (number - 1) v')
-      unfolding crashed
-      crashes logged moved =
-          becomes (crashed i w) false es _ (set nodes (number - 1) v') logged refl refl refl (sym works) refl (ties.crashes w events nodes tied i number place first last v was es v' logged moved)
+      -- with the node put back at its place
+      module _ (vs : List NodeView) (put : vs ≡ set nodes (number - 1) v') where
+        pub crashes : es ≡ events ++ (i, Crash false) ∷ [] → v' ≡ restarted (durable_in v) v → (seen false es vs ≡ crashed i w) × Stands false es vs
+        unfolding crashed
+        crashes logged moved =
+            subst (λ ns. (seen false es ns ≡ crashed i w) × Stands false es ns) (sym put)
+            (becomes (crashed i w) false es _ (set nodes (number - 1) v') logged refl refl refl (sym works) refl (ties.crashes w events nodes tied i number place first last v was es v' logged moved))
 
-      pub stops : (keeps_flying : Bool) → es ≡ events ++ (i, Launch) ∷ (i, Crash keeps_flying) ∷ [] → v' ≡ restarted (left keeps_flying v) v
-          → (seen false es (set nodes (number - 1) v') ≡ stopped keeps_flying i w) × Stands false es (set nodes (number - 1) v')
-      unfolding stopped
-      stops keeps_flying logged moved =
-          becomes (stopped keeps_flying i w) false es _ (set nodes (number - 1) v') logged refl refl refl (sym works) refl
-          (ties.stops w events nodes tied i number place first last v was es v' keeps_flying logged moved)
+        pub stops : (keeps_flying : Bool) → es ≡ events ++ (i, Launch) ∷ (i, Crash keeps_flying) ∷ [] → v' ≡ restarted (left keeps_flying v) v → (seen false es vs ≡ stopped keeps_flying i w) × Stands false es vs
+        unfolding stopped
+        stops keeps_flying logged moved =
+            subst (λ ns. (seen false es ns ≡ stopped keeps_flying i w) × Stands false es ns) (sym put)
+            (becomes (stopped keeps_flying i w) false es _ (set nodes (number - 1) v') logged refl refl refl (sym works) refl
+            (ties.stops w events nodes tied i number place first last v was es v' keeps_flying logged moved))
 
--- ---- what the code pushes
+-- ---- what the code changes
+
+-- a node is taken out, and another one is put at its place
+pub replaced : {A : Type 0} (xs : List A) (at : ℕ) (x : A) → at < length xs → insert (remove xs at) at x ≡ set xs at x
+replaced [] at x within = absurd (omega arith)
+replaced (y ∷ xs) zero x within = refl
+replaced (y ∷ xs) (suc at) x within = ap (λ l. y ∷ l) (replaced xs at x (omega arith))
 
 pub pushed : {A : Type 0} {old room all : List A} {x y : A} → room ≡ old → x ≡ y → all ≡ room ++ x ∷ [] → all ≡ old ++ y ∷ []
 pushed same is e = e ∙ (λ t. same t ++ is t ∷ [])

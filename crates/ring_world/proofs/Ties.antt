@@ -1,15 +1,19 @@
 -- The nodes of a ring are those that its events reach, and stay so with each part of an event.
-use Rattle.std.proofs.Common.{ℕ, zero, suc, ◌≡◌, ◌≤◌, ◌<◌, ◌+◌, ◌-◌, Bool, true, false, nat_lt, cond, List, [], ◌∷◌, ◌++◌, length, map, set, get_or, Option, refl, sym, ap, ◌∙◌, subst, arith, append-nil}
+use Rattle.std.proofs.Common.{ℕ, zero, suc, ◌≡◌, ◌≤◌, ◌<◌, ◌+◌, ◌-◌, Bool, true, false, nat_lt, cond, List, [], ◌∷◌, ◌++◌, length, take, map, set, get_or, Option, refl, sym, ap, ◌∙◌, subst, arith, append-nil}
 use Rattle.std.proofs.lemmas.Bool.{ltb-false}
+use Rattle.std.proofs.lemmas.Bool.Decides.{nat_tests}
 use Rattle.std.proofs.lemmas.List.{map-set, set-get_or, get_or-set_same, length-append}
 use Rattle.std.proofs.lemmas.Option.{slice_get_read, get_or_from_slice_get}
 use Rattle.ring_records.specs.declared.request.Request.{Request}
 use Rattle.ring_records.specs.Answer.{NodeState, launched}
-use Rattle.ring_node.specs.Node.{NodeView, new_node, durable_in, ticket_of, asked_with, flown, flushed, restarted, left}
+use Rattle.ring_records.specs.Emission.{sent}
+use Rattle.ring_records.specs.History.{credit}
+use Rattle.ring_node.specs.Node.{NodeView, new_node, durable_in, ticket_of, asked_with, flown, flushed, restarted, left, is_credited}
 use Rattle.ring_node.specs.Open.{Open, due, sealed}
 use Rattle.ring_world.specs.Events.{Action, Submit, Launch, Land, Crash, Process, act, IsDelivered}
 use Rattle.ring_world.specs.Ring.{RingView, node_at, held_at, waits, landed, asked, due_at, release_of, settled, crashed, stopped, given, handed, is_released}
 use Rattle.ring_world.specs.Shows.{ShowsNode, Shows, held_of, without_due, batch_of}
+use Rattle.ring_world.proofs.Credits.{credited}
 use Rattle.ring_world.proofs.Handed.{handed_stays}
 use Rattle.ring_world.proofs.Moves.{process_two}
 use Rattle.ring_world.proofs.Nodes.{resting, mine, answered_same, asked_shows, landed_shows, settled_shows, crashed_shows, stopped_shows}
@@ -48,8 +52,8 @@ module _ (w : RingView) (events : List (ℕ × Action)) (nodes : List NodeView) 
     low : 1 ≤ i
     low = omega arith
 
-    within : number - 1 < length nodes
-    within =
+    pub place_within : number - 1 < length nodes
+    place_within =
         let count : length nodes ≡ w.size = ties.shows.count in
         omega arith
 
@@ -58,12 +62,19 @@ module _ (w : RingView) (events : List (ℕ × Action)) (nodes : List NodeView) 
 
     is_node : v ≡ n
     is_node =
-        let inside = within in
+        let inside = place_within in
         sym (get_or_from_slice_get nodes (number - 1) v (new_node i w.size w.capacity) (slice_get_read nodes (length nodes) (number - 1) v refl inside was))
         ∙ ap (λ k. get_or nodes (k - 1) (new_node i w.size w.capacity)) place
 
     pub node_is : ShowsNode w.size w.capacity w.events i v
     node_is = subst (ShowsNode w.size w.capacity w.events i) (sym is_node) (mine w.size w.capacity w.events nodes ties.shows i low last)
+
+    pub may_stop : is_credited v ≡ true
+    may_stop =
+        let is = node_is in
+        let few = credited w.size w.capacity w.events ties.shows.schedule i low last in
+        let here = subst (λ (a : ℕ × NodeState). credit a.1.inputs ≤ length (sent a.0 (take a.1.durable a.1.inputs))) (λ t. (sym is.me t, sym is.state t)) few in
+        grind (arith, nat_tests)
 
     durable : v.durable ≡ (node_at w i).durable
     durable = ap (λ (s : NodeState). s.durable) node_is.state
@@ -88,15 +99,15 @@ module _ (w : RingView) (events : List (ℕ × Action)) (nodes : List NodeView) 
     pub one_more : (ticket : Option ℕ) (q : Request) (v1 x y : NodeView) → v1 ≡ asked_with ticket q v → x ≡ get_or (set nodes (number - 1) v1) (number - 1) x → y ≡ get_or nodes (number - 1) y → length x.held ≡ length y.held + 1
     unfolding asked_with
     one_more ticket q v1 x y made read before =
-        let same : y ≡ v = before ∙ get_or_from_slice_get nodes (number - 1) v y (slice_get_read nodes (length nodes) (number - 1) v refl within was) in
-        ap (λ (z : NodeView). length z.held) (read ∙ (get_or-set_same nodes (number - 1) v1 x within ∙ made))
+        let same : y ≡ v = before ∙ get_or_from_slice_get nodes (number - 1) v y (slice_get_read nodes (length nodes) (number - 1) v refl place_within was) in
+        ap (λ (z : NodeView). length z.held) (read ∙ (get_or-set_same nodes (number - 1) v1 x place_within ∙ made))
         ∙ (length-append v.held (ticket_of ticket v q ∷ []) ∙ ap (λ (z : NodeView). length z.held + 1) (sym same))
 
     -- a batch that lands ends no ticket
     pub same_held : (v1 x y : NodeView) → v1 ≡ flushed v → x ≡ get_or (set nodes (number - 1) v1) (number - 1) x → y ≡ get_or nodes (number - 1) y → length x.held ≡ length y.held
     same_held v1 x y made read before =
-        let same : y ≡ v = before ∙ get_or_from_slice_get nodes (number - 1) v y (slice_get_read nodes (length nodes) (number - 1) v refl within was) in
-        ap (λ (z : NodeView). length z.held) (read ∙ (get_or-set_same nodes (number - 1) v1 x within ∙ made)) ∙ ap (λ (z : NodeView). length z.held) (sym same)
+        let same : y ≡ v = before ∙ get_or_from_slice_get nodes (number - 1) v y (slice_get_read nodes (length nodes) (number - 1) v refl place_within was) in
+        ap (λ (z : NodeView). length z.held) (read ∙ (get_or-set_same nodes (number - 1) v1 x place_within ∙ made)) ∙ ap (λ (z : NodeView). length z.held) (sym same)
 
     -- how many inputs land
     pub landed_count : (count : ℕ) → count ≡ flown v - v.durable → count ≡ (node_at (landed i w) i).durable - (node_at w i).durable

@@ -1,4 +1,5 @@
 -- What a stored event says.
+use Rattle.group_commit.specs.Ticket.{stub}
 use Rattle.ring_world.specs.Events.{Replied, Sent, Action, Submit, Launch, Land, Release, Crash}
 use Rattle.ring_world.specs.declared.happened.Deed.{Deed}
 use Rattle.ring_world.specs.declared.happened.Deed.TheVariants as deed
@@ -7,6 +8,6 @@ unfoldable pub action_of : Deed → Action
 action_of (deed.Asked q) = Submit q
 action_of deed.Launched = Launch
 action_of deed.Landed = Land
-action_of (deed.Told question reply number) = Release (Replied (record { question = question; answer = record { reply = reply; number = number } }))
+action_of (deed.Told reply) = Release (Replied (stub reply))
 action_of (deed.Handed packet) = Release (Sent packet)
 action_of (deed.Crashed keeps_flying) = Crash keeps_flying

@@ -1,11 +1,12 @@
 // What happened to a ring.
 ghost use Rattle.std.specs.Prelude.{◌≡◌};
+ghost use Rattle.group_commit.specs.Ticket.{stub};
 ghost use Rattle.ring_world.specs.Announced.{announced_by};
 ghost use Rattle.ring_world.specs.Events.{Replied, Sent, Submit, Launch, Land, Release, Crash};
 ghost use Rattle.ring_world.specs.Released.{named_by};
 
 use crate::announced::Announced;
-use ring_node::Released;
+use group_commit::Stub;
 use ring_records::{Candidate, Key, NodeNo, Packet, Reply, Request};
 use std::marker::Model;
 
@@ -15,15 +16,9 @@ enum Deed {
     Asked(Request),
     Launched,
     Landed,
-    Told {
-        question: Request,
-        reply: Reply,
-        number: u64,
-    },
+    Told(Stub),
     Handed(Packet),
-    Crashed {
-        keeps_flying: bool,
-    },
+    Crashed { keeps_flying: bool },
 }
 
 /// An event: a node, and what it did.
@@ -73,14 +68,10 @@ impl Happened {
 
     /// It released a reply.
     #[tactic(auto, unfolding(crate::specs::Happened::action_of))]
-    pub fn told(node: NodeNo, released: &Released) -> Happened
-        ensures { result ≡ (node, Release (Replied released.now.kept)) }
+    pub fn told(node: NodeNo, reply: Stub) -> Happened
+        ensures { result ≡ (node, Release (Replied (stub reply))) }
     {
-        let deed = Deed::Told {
-            question: released.question(),
-            reply: released.reply(),
-            number: released.rests_on(),
-        };
+        let deed = Deed::Told(reply);
         Happened { node, deed }
     }
 
@@ -108,11 +99,7 @@ impl Happened {
         ensures { result ≡ announced_by self.now }
     {
         match &self.deed {
-            Deed::Told {
-                question,
-                reply,
-                ..
-            } => match named_by(question, reply) {
+            Deed::Told(reply) => match named_by(&reply.question(), &reply.reply()) {
                 Some((key, leader)) => Some(Announced {
                     node: self.node,
                     key,

@@ -10,6 +10,7 @@ ghost use Rattle.ring_world.specs.State.{is_ring};
 
 use crate::happened::Happened;
 use disk_model::Tear;
+use group_commit::Desk;
 use ring_node::RingNode;
 use ring_records::{Msg, NodeNo, Packet, Reply, Request};
 use std::alloc::{AllocError, Global};
@@ -145,13 +146,23 @@ impl Ring {
         &self.nodes[node.number() as usize - 1]
     }
 
+    fn desk(&self, node: NodeNo) -> &Desk
+        requires works { self.now.failed ≡ false }
+        requires inside { node ≤ self.now.size }
+        ensures node { result.now.member.node ≡ node }
+        ensures inputs { result.now.state.inputs ≡ (node_at self.now node).inputs }
+        ensures durable { result.now.state.durable ≡ (node_at self.now node).durable }
+    {
+        self.at(node).desk()
+    }
+
     /// How many inputs the node accepted.
     pub fn count(&self, node: NodeNo) -> u64
         requires works { self.now.failed ≡ false }
         requires inside { node ≤ self.now.size }
         ensures { result ≡ length (node_at self.now node).inputs }
     {
-        self.at(node).count()
+        self.desk(node).history().len() as u64
     }
 
     /// How many of them are durable.
@@ -160,7 +171,7 @@ impl Ring {
         requires inside { node ≤ self.now.size }
         ensures { result ≡ (node_at self.now node).durable }
     {
-        self.at(node).durable()
+        self.desk(node).durable()
     }
 
     /// How many messages they sent.
@@ -169,7 +180,7 @@ impl Ring {
         requires inside { node ≤ self.now.size }
         ensures { result ≡ length (sent_by node (node_at self.now node).inputs) }
     {
-        self.at(node).sent()
+        self.desk(node).sent()
     }
 
     /// How many messages they took.
@@ -178,7 +189,7 @@ impl Ring {
         requires inside { node ≤ self.now.size }
         ensures { result ≡ length (taken_in (node_at self.now node).inputs) }
     {
-        self.at(node).taken()
+        self.desk(node).taken()
     }
 
     /// The last credit among them.
@@ -187,7 +198,7 @@ impl Ring {
         requires inside { node ≤ self.now.size }
         ensures { result ≡ credit_of (node_at self.now node).inputs }
     {
-        self.at(node).credit()
+        self.desk(node).credit()
     }
 
     /// Whether inputs of the node are not durable yet.
@@ -196,7 +207,7 @@ impl Ring {
         requires inside { node ≤ self.now.size }
         ensures { result ≡ waits self.now node }
     {
-        self.at(node).durable() < self.at(node).count()
+        self.durable(node) < self.count(node)
     }
 
     /// Message `no` that the durable inputs of the node sent.
@@ -215,7 +226,7 @@ impl Ring {
         requires inside { node ≤ self.now.size }
         ensures { result ≡ is_earned self.now node upto }
     {
-        1 <= upto && upto <= self.at(node).durable_taken()
+        1 <= upto && upto <= self.desk(node).durable_taken()
     }
 
     /// Whether a neighbour may release what the request brings the node, if it brings anything.

@@ -107,7 +107,7 @@ impl Ring {
     {
         // All memory first. The events are the packet, the request, and a release for each ticket, this one's too.
         let at = node.number() as usize - 1;
-        let open = self.nodes[at].open_tickets();
+        let open = self.nodes[at].desk().open_tickets();
         self.events.reserve(open.saturating_add(3))?;
         let mut replies = Vec::with_capacity(self.alloc, open + 1)?;
         self.nodes[at].ask(number, *question)?;
@@ -132,7 +132,7 @@ impl Ring {
         // A return before the end leaves a failed ring.
         self.failed = true;
         let at = node.number() as usize - 1;
-        let open = self.nodes[at].open_tickets();
+        let open = self.nodes[at].desk().open_tickets();
         self.events.reserve(open.saturating_add(2))?;
         list.reserve(open)?;
         let count = land(&mut self.nodes[at], &mut self.events, node)?;
@@ -178,7 +178,8 @@ fn land(node: &mut RingNode, events: &mut Vec<Happened>, number: NodeNo) -> Resu
     ensures count { IfOk result (λ count. count ≡ flown node.old - node.old.durable) }
     ensures err { OnErr result (events.new.items ≡ events.old.items) }
 {
-    let waits = node.durable() < node.count();
+    let desk = node.desk();
+    let waits = desk.durable() < desk.history().len() as u64;
     let count = node.flush()?;
     if waits {
         events.push_reserved(Happened::launched(number));
@@ -201,9 +202,10 @@ fn release_due(
     ensures replies { replies.new.items ≡ replies.old.items ++ filter_map reply_of (due node.old.durable node.old.held) }
 {
     while let Some(released) = node.release() {
-        events.push_reserved(Happened::told(number, &released));
-        if let Some(ticket) = released.number() {
-            replies.push_reserved((ticket, released.reply()));
+        let (ticket, stub) = released;
+        if let Some(ticket) = ticket {
+            replies.push_reserved((ticket, stub.reply()));
         }
+        events.push_reserved(Happened::told(number, stub));
     }
 }

@@ -1,5 +1,6 @@
 // Nodes that lose their memory.
-ghost use Rattle.std.specs.Prelude.{◌≡◌, ◌≤◌, Bool, true, false, OnOk, OnErr, IfOk};
+ghost use Rattle.std.specs.Prelude.{◌≡◌, ◌≤◌, ◌<◌, Bool, true, false, OnOk, OnErr, IfOk, vec_len, vec_capacity};
+ghost use Rattle.std.specs.List.{insert};
 ghost use Rattle.ring_world.specs.Ring.{IsSameRing, waits, crashed, stopped, lost};
 
 use super::*;
@@ -19,7 +20,9 @@ impl Ring {
         // A return before the node is open again leaves a failed ring.
         self.failed = true;
         self.events.reserve(1)?;
-        let lost = self.nodes[node.number() as usize - 1].crash()?;
+        let at = node.number() as usize - 1;
+        let (again, lost) = self.nodes.remove(at).crash()?;
+        put_back(&mut self.nodes, at, again);
         self.events.push_reserved(Happened::crashed(node, false));
         self.failed = false;
         Ok(lost)
@@ -40,11 +43,25 @@ impl Ring {
         // A return before the node is open again leaves a failed ring.
         self.failed = true;
         self.events.reserve(2)?;
-        let (keeps_flying, lost) = self.nodes[node.number() as usize - 1].stop(call, tear)?;
+        let at = node.number() as usize - 1;
+        let (again, keeps_flying, lost) = self.nodes.remove(at).stop(call, tear)?;
+        put_back(&mut self.nodes, at, again);
         self.events.push_reserved(Happened::launched(node));
         self.events
             .push_reserved(Happened::crashed(node, keeps_flying));
         self.failed = false;
         Ok(lost)
+    }
+}
+
+// Puts a node at its place, for which there is room.
+fn put_back(nodes: &mut Vec<RingNode>, at: usize, node: RingNode)
+    requires within { at ≤ vec_len nodes.old }
+    requires room { vec_len nodes.old < vec_capacity nodes.old }
+    ensures { nodes.new.items ≡ insert nodes.old.items at node }
+{
+    match nodes.insert(at, node) {
+        Ok(()) => {}
+        Err(_) => unreachable!(),
     }
 }

@@ -1,31 +1,31 @@
-use Rattle.std.proofs.Common.{subst}
+use Rattle.std.proofs.Common.{ℕ, List, IfOk, ap, subst, sym, ◌∙◌}
+use Rattle.std.specs.List.{filter_map}
 use Rattle.disk_model.specs.MemDevice.{disk_of}
-use Rattle.ring_records.specs.Admission.{fresh, IsLawful}
-use Rattle.gated_journal.specs.Reading.{member}
+use Rattle.ring_records.specs.Answer.{NodeState}
+use Rattle.gated_journal.specs.Reading.{Member, member}
 use Rattle.node_store.specs.State.{Holds}
-use Rattle.ring_node.specs.Node.{NodeView, state_of}
-use Rattle.ring_node.proofs.Ring.{crashed, held_down}
+use Rattle.ring_node.specs.Node.{NodeView, restarted, durable_in}
+use Rattle.ring_node.specs.Open.{number_of}
+use Rattle.ring_node.proofs.Again.{lawful_here, crashed_again, crashed_shown, lost_numbers}
 use Rattle.ring_node.proofs.node.RingNode.crash.Goals as goal
-use Rattle.ring_node.proofs.node.RingNode.crash.Goals.{After-end-device}
+use Rattle.ring_node.proofs.node.RingNode.crash.Goals.{After-closed-device}
 
--- what the node that was taken down left on its device
-left : (c : After-end-device) → IsLawful c.take_down.new.self.me c.take_down.new.self.n c.take_down.new.self.capacity fresh c.args.self.now.inputs
-    × Holds (member c.take_down.new.self.me c.take_down.new.self.n c.take_down.new.self.capacity) (disk_of c.end-device.result) (state_of c.args.self.now)
-left c =
-    let taken = c.in_ok-served.ensures.taken in
-    let disk = disk_of c.end-device.result in
-    held_down c.args.self.now c.take_down.new.self c.take_down.ensures.down disk (state_of c.args.self.now)
-    (subst (λ (v : NodeView). IsLawful v.me v.n v.capacity fresh v.inputs) taken c.end-device.ensures.lawful)
-    (subst (λ (v : NodeView). Holds (member v.me v.n v.capacity) disk (state_of v)) taken c.end-device.ensures.holds)
+-- what the node leaves on its device
+held : (c : After-closed-device) → Holds (member c.self.inside.me c.self.inside.n c.self.inside.capacity) (disk_of c.closed-device.result) c.self.inside.node.desk.state
+held c = subst (λ (k : Member). Holds k (disk_of c.closed-device.result) c.self.inside.node.desk.state) c.self.invariant.is c.closed-device.ensures.holds
 
-pub open_again-requires : goal.open_again-requires
-open_again-requires c =
-    let here = left (goal.at.open_again-requires c).After-end-device in
-    record { holds = (state_of c.args.self.now, here.0, here.1) }
+pub reopened-requires : goal.reopened-requires
+reopened-requires c = record { holds = (c.self.inside.node.desk.state, lawful_here _ _ _ _ _ c.self.invariant, held (goal.at.reopened-requires c).After-closed-device) }
+
+pub invariant_of-again : goal.invariant_of-again
+invariant_of-again c =
+    let found = c.in_ok-node.ensures.desk c.self.inside.node.desk.state (lawful_here _ _ _ _ _ c.self.invariant) (held (goal.at.invariant_of-again c).After-closed-device) in
+    crashed_again _ _ _ _ _ c.self.invariant _ found.0 _ _ found.1 c.new-held.ensures.items _ c.in_ok-node.ensures.reaches
 
 pub returns-clause-next : goal.returns-clause-next
 returns-clause-next c =
-    let v = c.args.self.now in
-    let here = left (goal.at.returns-clause-next c).After-end-device in
-    let is = c.in_ok-open_again.ensures.next (state_of v) here.0 here.1 in
-    crashed v c.take_down.new.self c.take_down.ensures.down c.open_again.new.self is.0 is.1
+    let found = c.in_ok-node.ensures.desk c.self.inside.node.desk.state (lawful_here _ _ _ _ _ c.self.invariant) (held (goal.at.returns-clause-next c).After-closed-device) in
+    crashed_shown _ _ _ _ _ c.self.invariant _ found.0 _ _ found.1 c.new-held.ensures.items ∙ ap (λ (v : NodeView). restarted (durable_in v) v) c.self.view_is
+
+pub returns-clause-lost : goal.returns-clause-lost
+returns-clause-lost c = c.in_ok-lost.ensures ∙ (lost_numbers _ _ _ c.self.invariant.served ∙ ap (λ (v : NodeView). filter_map number_of v.held) c.self.view_is)

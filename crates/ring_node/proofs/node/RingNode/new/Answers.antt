@@ -1,12 +1,23 @@
-use Rattle.std.proofs.Common.{[], ◌∙◌}
-use Rattle.ring_node.proofs.Ring.{opens, new_again}
+use Rattle.std.proofs.Common.{arith, ◌≡◌, ◌≤◌, ◌+◌, ◌∙◌, [], length}
+use Rattle.disk_model.specs.FuseDevice.{reach_of}
+use Rattle.disk_model.specs.MemDevice.{limit_of}
+use Rattle.gated_journal.specs.Reading.{member}
+use Rattle.node_store.specs.Node as nodes
+use Rattle.ring_node.proofs.Ring.{by_name, opens}
 use Rattle.ring_node.proofs.Sending.{sent-none}
-use Rattle.ring_node.proofs.Serving.{none_lawful}
+use Rattle.ring_node.proofs.Serving.{idle_reach, none_lawful, same_view, new_shown}
 use Rattle.ring_node.proofs.node.RingNode.new.Goals as goal
 
 pub invariant_of-result : goal.invariant_of-result
 invariant_of-result c =
-    let me = c.args.me in
-    let n = c.args.n in
-    let capacity = c.args.capacity in
-    opens me n capacity c.requires.range c.in_ok-served.served [] c.new.result.items (c.in_ok-served.ensures ∙ new_again me n capacity) (none_lawful me n capacity) (c.new.ensures.items ∙ sent-none me)
+    let m = member c.args.me c.args.n c.args.capacity in
+    let made = c.in-Ok.ensures in
+    let reach = idle_reach limit_of c.idle.result c.in_ok-device.device c.idle.ensures.idle c.idle.ensures.inner in
+    let limit = c.in_ok-device.ensures.limit in
+    let size = c.device_size.ensures in
+    let same : reach_of limit_of (nodes.device_of c.in-Ok.node) ≡ reach_of limit_of c.idle.result = made.reach in
+    let reaches : 17 + c.args.capacity ≤ reach_of limit_of c.idle.result = omega arith in
+    by_name m _ _ _ _ _ _ _ _ made.desk same c.new-in-Ok.ensures.items c.new-in-Ok-2.ensures.items (opens m 0 [] _ [] c.requires.range (none_lawful c.args.me c.args.n c.args.capacity) reaches (sent-none c.args.me))
+
+pub returns-in-Ok : goal.returns-in-Ok
+returns-in-Ok c = record { made = same_view _ _ _ _ c.in-Ok.ensures.desk c.new-in-Ok.ensures.items ∙ new_shown c.args.me c.args.n c.args.capacity }

@@ -1,0 +1,80 @@
+-- A node at work with its open tickets, and the messages that it sent.
+use Rattle.std.specs.Prelude.{ℕ, ◌≡◌, ◌+◌, ◌≤◌, true, false, List, [], ◌∷◌, length, Option}
+use Rattle.ring_records.specs.declared.msg.Msg.{Msg}
+use Rattle.ring_records.specs.Admission.{fresh, IsLawful}
+use Rattle.ring_records.specs.Answer.{Answered, durable_in}
+use Rattle.ring_records.specs.Emission.{sent}
+use Rattle.ring_records.specs.Message.{candidate_of}
+use Rattle.std.specs.List.{Contains}
+use Rattle.gated_journal.specs.Reading.{Member, is_header}
+use Rattle.group_commit.specs.Desk.{DeskView}
+use Rattle.group_commit.specs.Ticket.{TicketView, ticket_with}
+use Rattle.ring_node.specs.Node.{NodeView}
+use Rattle.ring_node.specs.Open.{Open}
+
+-- ---- open tickets
+
+-- a ticket, and the number that the ring gave it, if any
+pub record HeldView : Type 0 where
+  pub number : Option ℕ
+  pub ticket : TicketView
+
+-- this holds of the first, if there is one
+abbrev pub MatchFirst : (HeldView → Type 0) → List HeldView → Type 0
+MatchFirst P [] = Unit {0}
+MatchFirst P (h ∷ hs) = P h
+
+-- The queue has the tickets of this node and opening, in order, and no other. Their replies rest on no fewer inputs each
+-- than the one before, from so many inputs up to so many.
+unfoldable pub AreHeld : ℕ → ℕ → ℕ → ℕ → List (ℕ × Answered) → List HeldView → Type 0
+AreHeld node run from to [] [] = from ≤ to
+AreHeld node run from to [] (h ∷ queue) = ⊥
+AreHeld node run from to (t ∷ tickets) [] = ⊥
+AreHeld node run from to (t ∷ tickets) (h ∷ queue) = record {
+  is : h.ticket ≡ ticket_with node run t.0 t.1;
+  no_fewer : from ≤ t.1.answer.number;
+  others : AreHeld node run t.1.answer.number to tickets queue;
+}
+
+-- each ticket with its number in the ring, and what is kept for it
+unfoldable pub shown_with : List (ℕ × Answered) → List HeldView → List Open
+shown_with [] queue = []
+shown_with (t ∷ tickets) [] = []
+shown_with (t ∷ tickets) (h ∷ queue) = record { number = h.number; kept = t.1 } ∷ shown_with tickets queue
+
+-- ---- a node at work
+
+abbrev pub view_with : DeskView → List HeldView → NodeView
+view_with desk queue = record {
+  me = desk.member.node;
+  n = desk.member.n;
+  capacity = desk.member.capacity;
+  inputs = desk.state.inputs;
+  durable = desk.state.durable;
+  held = shown_with desk.tickets queue;
+  issued = desk.issued;
+}
+
+-- It takes requests, nothing flies, its open tickets are these, and its device reaches to the journal's end.
+pub record IsServed (desk : DeskView) (reach : ℕ) (queue : List HeldView) : Type 0 where
+  pub takes : desk.closed ≡ false
+  pub works : desk.failed ≡ false
+  pub idle : desk.state.flying ≡ desk.state.durable
+  pub within : desk.state.durable ≤ length desk.state.inputs
+  pub lawful : IsLawful desk.member.node desk.member.n desk.member.capacity fresh desk.state.inputs
+  pub held : AreHeld desk.member.node desk.run 0 (length desk.state.inputs) desk.tickets queue
+  pub reaches : 17 + desk.member.capacity ≤ reach
+
+-- ---- a node of the ring
+
+-- each message's candidate is a node of the ring
+abbrev pub AreInside : ℕ → List Msg → Type 0
+AreInside n messages = (msg : Msg) → Contains messages msg → (candidate_of msg).node ≤ n
+
+-- the node at work is this one, and the messages are those that its durable inputs sent
+pub record IsRingNode (m : Member) (desk : DeskView) (reach : ℕ) (queue : List HeldView) (messages : List Msg) : Type 0 where
+  pub range : is_header m ≡ true
+  pub is : desk.member ≡ m
+  pub served : IsServed desk reach queue
+  pub sends : messages ≡ sent m.node (durable_in desk.state)
+  pub inside : AreInside m.n messages
