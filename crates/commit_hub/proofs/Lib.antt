@@ -1,0 +1,4 @@
+pub mod Costs
+pub mod Sums
+pub mod Batches
+pub mod Requests

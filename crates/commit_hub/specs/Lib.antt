@@ -1,0 +1,4 @@
+pub mod Holders
+pub mod Pages
+pub mod Props
+pub mod Told

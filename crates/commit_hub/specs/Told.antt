@@ -1,0 +1,38 @@
+-- What a hub's calls tell without the state under its lock.
+use Rattle.std.specs.Prelude.{ℕ, ◌≡◌, ◌⊎◌, true, false, List, ◌++◌, length}
+use Rattle.ring_records.specs.declared.input.Input.{Input}
+use Rattle.ring_records.specs.declared.packet.Packet.{Packet}
+use Rattle.ring_records.specs.declared.refusal.Refusal.{Refusal}
+use Rattle.ring_records.specs.declared.refusal.Refusal.TheVariants as refused
+use Rattle.ring_records.specs.declared.request.Request.{Request}
+use Rattle.ring_records.specs.Admission.{fresh, IsLawful}
+use Rattle.ring_records.specs.Message.{is_outside}
+use Rattle.ring_records.specs.Release.{packets, decisions, window}
+use Rattle.gated_journal.specs.Reading.{Member}
+use Rattle.group_commit.specs.declared.landed.Landed.{Landed}
+
+-- a lawful history of the node
+abbrev pub IsHistory : Member → List Input → Type 0
+IsHistory member h = IsLawful member.node member.n member.capacity fresh h
+
+-- Why a node of a ring of n gives no ticket for the request: it is closed or has failed; the message is of no node of
+-- the ring; or else all numbers of tickets were given, or a growth was refused.
+abbrev pub IsUnasked : ℕ → Request → Refusal → Type 0
+IsUnasked n q why = (why ≡ refused.Failed)
+    ⊎ (((is_outside n q ≡ true) × (why ≡ refused.BadNumber))
+    ⊎ ((is_outside n q ≡ false) × ((why ≡ refused.Limit) ⊎ (why ≡ refused.OutOfMemory))))
+
+-- Some lawful history of the node goes on, behind its first inputs, so many of them, with these. They became durable,
+-- and this is what they let the node release.
+pub record IsBrought (member : Member) (first : ℕ) (inputs : List Input) (landed : Landed) : Type 0 where
+  pub before : List Input
+  pub count : length before ≡ first
+  pub lawful : IsHistory member (before ++ inputs)
+  pub packets : landed.packets.items ≡ packets member.node before inputs
+  pub decisions : landed.decisions.items ≡ decisions member.node before inputs
+
+-- the packets are those that the node may release again, with some lawful history of durable inputs
+pub record IsWindow (member : Member) (list : List Packet) : Type 0 where
+  pub history : List Input
+  pub lawful : IsHistory member history
+  pub packets : list ≡ window member.node history

@@ -1,0 +1,240 @@
+//! One lock round a desk, for many appenders and one flusher.
+ghost use Rattle.std.specs.Prelude.{◌≡◌, ◌+◌, ◌≤◌, ◌⊎◌, length, map, false, IfOk, IfErr, IfSome, IsOk, OnOk, OnErr};
+ghost use Rattle.std.specs.List.{sum_by};
+ghost use Rattle.ring_records.specs.Admission.{fresh, used};
+ghost use Rattle.ring_records.specs.Answer.{durable_in};
+ghost use Rattle.ring_records.specs.Message.{is_outside};
+ghost use Rattle.gated_journal.specs.Batch.{shown as batch_shown, landed as receipted, lost};
+ghost use Rattle.group_commit.specs.Desk.{IsAnswer};
+ghost use Rattle.group_commit.specs.Ticket.{shown, stub};
+ghost use Rattle.commit_hub.specs.Holders.{count_of, durable_of, costs_of};
+ghost use Rattle.commit_hub.specs.Pages.{ForAccepted, ForDurable, ForCosts, IsWhole};
+ghost use Rattle.commit_hub.specs.Told.{IsHistory, IsUnasked, IsBrought, IsWindow};
+
+use crate::blanks::Blanks;
+use crate::ledgers::{Node, Whole};
+use crate::locked::Locked;
+use crate::share::{Share, Tie};
+use crate::waking::{Bells, Guarded};
+use gated_journal::{Batch, Receipt, Spoiled};
+use group_commit::{Desk, Landed, Stub, Ticket};
+use ring_records::{Packet, Refusal, Reply, Request};
+use std::alloc::AllocError;
+use std::sync::{Mutex, Wait};
+
+/// One lock round a desk. Many appenders submit to it, each with a share, and wait for their replies; one flusher, who
+/// has the tie, launches batches and lands them. No call holds the lock for longer than one call of the desk takes.
+#[derive(Drop)]
+pub struct Hub<A: Node, D: Whole, C: Whole> {
+    guarded: Mutex<Guarded<A, D, C>>,
+    bells: Bells,
+}
+
+impl<A: Node, D: Whole, C: Whole> Hub<A, D, C> {
+    /// A hub round this desk, and its one tie, which counts the desk's durable inputs and their costs.
+    pub fn new(desk: Desk, blanks: Blanks) -> (Hub<A, D, C>, Tie<A, D, C>)
+        requires member { desk.member ≡ A.member }
+        requires opened { length desk.state.inputs ≡ A.opened }
+        requires accepted { ForAccepted blanks A.name A.parts }
+        requires durable { ForDurable blanks D.name D.parts × IsWhole D.all D.parts }
+        requires costs { ForCosts blanks C.name C.parts × IsWhole C.all C.parts }
+        ensures durable { durable_of result.1 ≡ desk.state.durable }
+        ensures costs { costs_of result.1 ≡ used fresh (durable_in desk.state) }
+    {
+        let (locked, tie) = Locked::new(desk, blanks);
+        let hub = Hub {
+            guarded: Mutex::new(Guarded::new(locked)),
+            bells: Bells::new(),
+        };
+        (hub, tie)
+    }
+
+    /// A share that counts nothing yet. Refused as 6 where no place is left.
+    pub fn enter<R: Wait>(&self, rt: &R) -> Result<Share<A>, Refusal>
+        ensures count { IfOk result (λ share. count_of share ≡ 0) }
+        ensures refusal { IfErr result (λ refusal. refusal ≡ Refusal.Limit) }
+    {
+        self.guarded.lock(rt).locked.enter()
+    }
+
+    /// Has the desk answer a request, and gives a ticket for the reply; the share counts an input that is accepted.
+    /// Refused as 9 where the hub is closed or has failed, as 2 where a Take's message is of no node of the ring, as 6
+    /// at 2^60 tickets, and as 8. Every other refusal is a reply.
+    pub fn submit<R: Wait>(
+        &self,
+        rt: &R,
+        share: &mut Share<A>,
+        question: Request,
+    ) -> Result<Ticket, Refusal>
+        ensures question { IfOk result (λ ticket. (shown ticket).question ≡ question) }
+        ensures inside { OnOk result (is_outside A.member.n question ≡ false) }
+        ensures refusal { IfErr result (λ refusal. IsUnasked A.member.n question refusal) }
+        ensures more { (count_of share.old ≤ count_of share.new) × (count_of share.new ≤ count_of share.old + 1) }
+        ensures same { OnErr result (count_of share.new ≡ count_of share.old) }
+    {
+        let mut guard = self.guarded.lock(rt);
+        match guard.locked.submit(share, question) {
+            Err(refusal) => Err(refusal),
+            Ok(ticket) => {
+                let wakes = guard.must_wake();
+                drop(guard);
+                if wakes {
+                    self.bells.tell_flusher();
+                }
+                Ok(ticket)
+            }
+        }
+    }
+
+    /// Waits until the inputs that the ticket's reply rests on are durable, ends the ticket and releases the reply,
+    /// with a stub of it. Refused as 10 where no such ticket is open here, and as 9 where an input that the reply rests
+    /// on will not become durable, since the hub has failed. Then the ticket comes back.
+    pub fn redeem_wait<R: Wait>(
+        &self,
+        rt: &R,
+        ticket: Ticket,
+    ) -> Result<(Reply, Stub), (Ticket, Refusal)>
+        ensures question { IfOk result (λ r. (stub r.1).question ≡ (shown ticket).question) }
+        ensures reply { IfOk result (λ r. r.0 ≡ (stub r.1).answer.reply) }
+        ensures answer { IfOk result (λ r. IsAnswer A.member (stub r.1)) }
+        ensures refusal { IfErr result (λ e. (e.1 ≡ Refusal.Foreign) ⊎ (e.1 ≡ Refusal.Failed)) }
+        ensures back { IfErr result (λ e. shown e.0 ≡ shown ticket) }
+    {
+        let mut guard = self.guarded.lock(rt);
+        let mut ticket = ticket;
+        for _ in rt.forever() {
+            match guard.locked.redeem(ticket) {
+                Ok(released) => return Ok(released),
+                Err((back, Refusal::Early)) => {
+                    let turn = guard.turn_of(back.number());
+                    guard = self.bells.waiters(turn).wait(rt, guard);
+                    ticket = back;
+                }
+                Err((back, refusal)) => return Err((back, refusal)),
+            }
+        }
+        Err((ticket, Refusal::Foreign))
+    }
+
+    /// Ends a ticket in every case, with no reply. Refused as 10 where no such ticket is open here, and while the hub
+    /// takes requests.
+    pub fn forfeit<R: Wait>(&self, rt: &R, ticket: Ticket) -> Result<(), Refusal>
+        ensures { IfErr result (λ refusal. refusal ≡ Refusal.Foreign) }
+    {
+        self.guarded.lock(rt).locked.forfeit(ticket)
+    }
+
+    /// Waits until an input waits, and launches the first that do, at most 64, as a batch to be made durable. `None`
+    /// once the hub is closed and none waits. The batch fits a journal of the node that has what the tie counts.
+    /// Refused as 9 where the hub has failed, as 12 where a batch is flying, and as 8.
+    pub fn launch<R: Wait>(&self, rt: &R, tie: &mut Tie<A, D, C>) -> Result<Option<Batch>, Refusal>
+        requires whole { IsWhole D.all D.parts × IsWhole C.all C.parts }
+        ensures node { IfOk result (λ some. IfSome some (λ batch. (batch_shown batch).node ≡ A.member.node)) }
+        ensures first { IfOk result (λ some. IfSome some (λ batch. (batch_shown batch).first ≡ durable_of tie.old)) }
+        ensures room { IfOk result (λ some. IfSome some (λ batch. costs_of tie.old + used fresh (batch_shown batch).inputs ≤ A.member.capacity)) }
+        ensures refusal { IfErr result (λ refusal. (refusal ≡ Refusal.Failed) ⊎ ((refusal ≡ Refusal.Busy) ⊎ (refusal ≡ Refusal.OutOfMemory))) }
+        ensures tie { (durable_of tie.new ≡ durable_of tie.old) × (costs_of tie.new ≡ costs_of tie.old) }
+    {
+        let mut guard = self.bells.wait_for_work(rt, self.guarded.lock(rt));
+        guard.locked.launch(tie)
+    }
+
+    /// The batch that flies is durable: what it lets the node release. The tie counts it, and those who wait for it are
+    /// woken. It takes no memory. Refused as 10 where this is not the receipt of that batch, or the hub has failed, and
+    /// it comes back.
+    pub fn land<R: Wait>(
+        &self,
+        rt: &R,
+        tie: &mut Tie<A, D, C>,
+        receipt: Receipt,
+    ) -> Result<Landed, (Receipt, Refusal)>
+        requires whole { IsWhole D.all D.parts × IsWhole C.all C.parts }
+        ensures count { IfOk result (λ landed. landed.count ≡ length (receipted receipt).inputs) }
+        ensures brought { IfOk result (λ landed. IsBrought A.member (durable_of tie.old) (receipted receipt).inputs landed) }
+        ensures durable { OnOk result (durable_of tie.new ≡ durable_of tie.old + length (receipted receipt).inputs) }
+        ensures costs { OnOk result (costs_of tie.new ≡ costs_of tie.old + used fresh (receipted receipt).inputs) }
+        ensures refusal { IfErr result (λ e. e.1 ≡ Refusal.Foreign) }
+        ensures back { IfErr result (λ e. receipted e.0 ≡ receipted receipt) }
+        ensures tie { OnErr result ((durable_of tie.new ≡ durable_of tie.old) × (costs_of tie.new ≡ costs_of tie.old)) }
+    {
+        let mut guard = self.guarded.lock(rt);
+        match guard.locked.land(tie, receipt) {
+            Err((receipt, refusal)) => Err((receipt, refusal)),
+            Ok(landed) => {
+                let turn = guard.pass_turn();
+                drop(guard);
+                self.bells.waiters(turn).notify_all();
+                Ok(landed)
+            }
+        }
+    }
+
+    /// The device failed with the batch that flies: nothing more is launched, nor becomes durable, and those who wait
+    /// are told so. Refused as 10 where this is not that batch, and it comes back.
+    pub fn fail<R: Wait>(
+        &self,
+        rt: &R,
+        _tie: &mut Tie<A, D, C>,
+        spoiled: Spoiled,
+    ) -> Result<(), (Spoiled, Refusal)>
+        ensures refusal { IfErr result (λ e. e.1 ≡ Refusal.Foreign) }
+        ensures back { IfErr result (λ e. lost e.0 ≡ lost spoiled) }
+        ensures tie { (durable_of _tie.new ≡ durable_of _tie.old) × (costs_of _tie.new ≡ costs_of _tie.old) }
+    {
+        let mut guard = self.guarded.lock(rt);
+        match guard.locked.fail(spoiled) {
+            Err((spoiled, refusal)) => Err((spoiled, refusal)),
+            Ok(()) => {
+                drop(guard);
+                self.bells.tell_waiters();
+                Ok(())
+            }
+        }
+    }
+
+    /// Takes no more requests; all else goes on. The flusher goes on until nothing waits.
+    pub fn close<R: Wait>(&self, rt: &R) {
+        let mut guard = self.guarded.lock(rt);
+        guard.locked.close();
+        let wakes = guard.must_wake();
+        drop(guard);
+        if wakes {
+            self.bells.tell_flusher();
+        }
+        self.bells.tell_waiters();
+    }
+
+    /// The messages that the successor is not known to have taken, as Carry packets in order, by the durable inputs of
+    /// some moment within the call.
+    pub fn window<R: Wait>(&self, rt: &R) -> Result<Vec<Packet>, AllocError>
+        ensures { IfOk result (λ packets. IsWindow A.member packets.items) }
+    {
+        self.guarded.lock(rt).locked.window()
+    }
+
+    /// Ends the hub and the shares, and gives its desk, where the shares count all inputs that were accepted through
+    /// the hub; they do where all shares that the hub could give are here. Refused as 22 elsewhere, and all comes back.
+    pub fn settle(
+        self,
+        shares: Vec<Share<A>>,
+    ) -> Result<Desk, (Hub<A, D, C>, Vec<Share<A>>, Refusal)>
+        ensures member { IfOk result (λ desk. desk.member ≡ A.member) }
+        ensures lawful { IfOk result (λ desk. IsHistory A.member desk.state.inputs) }
+        ensures count { IfOk result (λ desk. length desk.state.inputs ≡ A.opened + sum_by count_of shares.items) }
+        ensures whole { 1 + length shares.items ≡ A.parts → IsOk result }
+        ensures refusal { IfErr result (λ e. e.2 ≡ Refusal.Mismatch) }
+        ensures back { IfErr result (λ e. map count_of e.1.items ≡ map count_of shares.items) }
+    {
+        let Hub { guarded, bells } = self;
+        let mut guarded = guarded.into_inner();
+        let mut shares = shares;
+        if guarded.locked.adds_up(&mut shares) {
+            return Ok(guarded.into_desk());
+        }
+        let hub = Hub {
+            guarded: Mutex::new(guarded),
+            bells,
+        };
+        Err((hub, shares, Refusal::Mismatch))
+    }
+}

@@ -1,0 +1,16 @@
+//! Many appenders and one flusher round one desk, under one lock that no sync holds.
+#![tactic(auto)]
+
+mod blanks;
+mod hub;
+mod ledgers;
+mod locked;
+mod settling;
+mod share;
+mod used;
+mod waking;
+
+pub use blanks::Blanks;
+pub use hub::Hub;
+pub use ledgers::{Node, Whole};
+pub use share::{Share, Tie};

@@ -1,0 +1,139 @@
+//! Who sleeps beside a hub's lock, and who is woken. Which condvar a waiter sleeps on is no matter of safety: it asks
+//! again after each wake-up. docs/ARCHITECTURE.md says why no waiter is left asleep.
+ghost use Rattle.std.specs.Prelude.{◌≡◌};
+
+use crate::ledgers::{Node, Whole};
+use crate::locked::Locked;
+use group_commit::Desk;
+use std::sync::{Condvar, MutexGuard, Wait};
+
+/// The batches take turns, so that a batch that landed wakes its own waiters alone.
+#[derive(Clone, Copy)]
+pub(crate) enum Turn {
+    Even,
+    Odd,
+}
+
+impl Turn {
+    /// The turn of the batch behind this one.
+    pub(crate) fn next(self) -> Turn {
+        match self {
+            Turn::Even => Turn::Odd,
+            Turn::Odd => Turn::Even,
+        }
+    }
+}
+
+/// What the lock guards: the desk with its books, the turn of the batch that lands next, and whether the flusher
+/// sleeps.
+#[derive(Drop)]
+pub(crate) struct Guarded<A: Node, D: Whole, C: Whole> {
+    pub(crate) locked: Locked<A, D, C>,
+    turn: Turn,
+    is_asleep: bool,
+}
+
+impl<A: Node, D: Whole, C: Whole> Guarded<A, D, C> {
+    /// Before the first batch, with a flusher that does not sleep.
+    pub(crate) fn new(locked: Locked<A, D, C>) -> Guarded<A, D, C> {
+        Guarded {
+            locked,
+            turn: Turn::Even,
+            is_asleep: false,
+        }
+    }
+
+    /// The desk.
+    pub(crate) fn into_desk(self) -> Desk
+        ensures { result ≡ self.locked.desk }
+    {
+        let Guarded { locked, .. } = self;
+        locked.into_desk()
+    }
+
+    /// Whether the flusher is to sleep, which it does then: nothing waits, and more may come.
+    pub(crate) fn lets_sleep(&mut self) -> bool
+        ensures { self.new.locked ≡ self.old.locked }
+    {
+        self.is_asleep = self.locked.is_idle();
+        self.is_asleep
+    }
+
+    /// Whether the flusher is to be woken: it sleeps, and something waits or the desk takes nothing more. It is woken
+    /// by the one who was told so.
+    pub(crate) fn must_wake(&mut self) -> bool
+        ensures { self.new.locked ≡ self.old.locked }
+    {
+        if !self.is_asleep || self.locked.is_idle() {
+            return false;
+        }
+        self.is_asleep = false;
+        true
+    }
+
+    /// The turn of the batch that a reply waits for which rests on so many inputs: of the one that lands next, or of
+    /// one behind it.
+    pub(crate) fn turn_of(&self, number: u64) -> Turn {
+        if self.locked.lands_next(number) {
+            self.turn
+        } else {
+            self.turn.next()
+        }
+    }
+
+    /// The turn of the batch that landed. The next turn has come.
+    pub(crate) fn pass_turn(&mut self) -> Turn
+        ensures { self.new.locked ≡ self.old.locked }
+    {
+        let landed = self.turn;
+        self.turn = landed.next();
+        landed
+    }
+}
+
+/// The condvars beside the lock: one for the flusher, and two for those who wait for a reply.
+#[derive(Drop)]
+pub(crate) struct Bells {
+    work: Condvar,
+    even: Condvar,
+    odd: Condvar,
+}
+
+impl Bells {
+    pub(crate) fn new() -> Bells {
+        Bells {
+            work: Condvar::new(),
+            even: Condvar::new(),
+            odd: Condvar::new(),
+        }
+    }
+
+    /// The one of those who wait for a batch of this turn.
+    pub(crate) fn waiters(&self, turn: Turn) -> &Condvar {
+        match turn {
+            Turn::Even => &self.even,
+            Turn::Odd => &self.odd,
+        }
+    }
+
+    /// Waits until there is something to launch, or nothing more comes.
+    pub(crate) fn wait_for_work<'a, R: Wait, A: Node, D: Whole, C: Whole>(
+        &self,
+        rt: &R,
+        guard: MutexGuard<'a, Guarded<A, D, C>>,
+    ) -> MutexGuard<'a, Guarded<A, D, C>> {
+        self.work
+            .wait_while(rt, guard, |guarded| guarded.lets_sleep())
+    }
+
+    /// Wakes the flusher.
+    pub(crate) fn tell_flusher(&self) {
+        self.work.notify_one();
+    }
+
+    /// Wakes all who wait for a reply.
+    pub(crate) fn tell_waiters(&self) {
+        self.even.notify_all();
+        self.odd.notify_all();
+    }
+}
