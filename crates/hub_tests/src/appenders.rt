@@ -1,0 +1,200 @@
+// Two appenders beside a flusher, each in a thread of its own.
+ghost use Rattle.std.specs.Prelude.{◌≡◌, length};
+ghost use Rattle.commit_hub.specs.Pages.{places_of, ForAccepted, ForDurable, ForCosts, IsWhole};
+
+use crate::flusher::flush_all;
+use crate::rows::{empty_device, new_desk, node, reply, request};
+use crate::slow::{Flags, SlowDevice, await_flag};
+use commit_hub::{Blanks, Hub, Node, Share, Whole};
+use disk_model::Device;
+use gated_journal::Journal;
+use group_commit::{Desk, Stub};
+use ring_records::{Refusal, Request};
+use std::alloc::{AllocGlobal, Global};
+use std::marker::Brand;
+use std::process::Abort;
+use std::sync::Wait;
+use std::sync::atomic::Ordering;
+use std::test::*;
+use std::thread::{Threads, join};
+use std::time::Clock;
+use test_rows::{Ask, Note, Op, Say};
+
+/// Submits, and waits for the reply. A ticket that is refused is forfeited.
+fn append<A: Node, D: Whole, C: Whole, R: Wait>(
+    rt: &R,
+    hub: &Hub<A, D, C>,
+    share: &mut Share<A>,
+    question: &Request,
+    flags: &Flags,
+) -> Result<Stub, Refusal> {
+    let asked = *question;
+    match hub.submit(rt, share, asked) {
+        Err(refusal) => Err(refusal),
+        Ok(ticket) => {
+            if flags.syncing.load(Ordering::SeqCst) {
+                flags.accepted.store(true, Ordering::SeqCst);
+            }
+            match hub.redeem_wait(rt, ticket) {
+                Ok((_, stub)) => Ok(stub),
+                Err((ticket, refusal)) => {
+                    let _ = hub.forfeit(rt, ticket);
+                    Err(refusal)
+                }
+            }
+        }
+    }
+}
+
+/// What came of it: the settled desk, the journal, the stubs or refusals, and how many packets the window had.
+#[derive(Drop)]
+struct Outcome<V: Device> {
+    desk: Desk,
+    journal: Journal<V>,
+    first: Result<Stub, Refusal>,
+    second: Result<Stub, Refusal>,
+    window: usize,
+}
+
+/// The first appender submits at once, the second once a sync has begun; when both have their replies the hub is
+/// closed.
+fn play<
+    V: Device + Drop + Send,
+    A: Node + Send + Sync,
+    D: Whole + Send + Sync,
+    C: Whole + Send + Sync,
+    R: Threads + Wait + Clock + Abort + Sync,
+>(
+    rt: &R,
+    alloc: Global,
+    flags: &Flags,
+    desk: Desk,
+    journal: Journal<V>,
+    blanks: Blanks,
+    asks: &[Request; 2],
+) -> Outcome<V>
+    requires member { desk.member ≡ A.member }
+    requires opened { length desk.state.inputs ≡ A.opened }
+    requires accepted { ForAccepted blanks A.name A.parts }
+    requires durable { ForDurable blanks D.name D.parts × IsWhole D.all D.parts }
+    requires costs { ForCosts blanks C.name C.parts × IsWhole C.all C.parts }
+    requires places { places_of blanks ≡ 2 }
+{
+    let (hub, tie) = Hub::<A, D, C>::new(desk, blanks);
+    let mut one = hub.enter(rt).expect(rt, "the first place");
+    let mut two = hub.enter(rt).expect(rt, "the second place");
+    let shared = &hub;
+    let (journal, (first, second)) = join(
+        rt,
+        move || -> Journal<V>
+            requires { IsWhole D.all D.parts × IsWhole C.all C.parts }
+        { flush_all(rt, shared, tie, journal) },
+        || {
+            let both = join(
+                rt,
+                || append(rt, shared, &mut one, &asks[0], flags),
+                || {
+                    await_flag(rt, &flags.syncing);
+                    append(rt, shared, &mut two, &asks[1], flags)
+                },
+            );
+            shared.close(rt);
+            both
+        },
+    );
+    let window = hub.window(rt).expect(rt, "ample memory").len();
+    let mut shares = Vec::with_capacity(alloc, 2).expect(rt, "ample memory");
+    shares.push_reserved(one);
+    shares.push_reserved(two);
+    match hub.settle(shares) {
+        Ok(desk) => Outcome {
+            desk,
+            journal,
+            first,
+            second,
+            window,
+        },
+        Err(_) => unreachable!(),
+    }
+}
+
+/// The stub has this reply, and the desk vouches for it.
+fn vouches(rt: &impl Abort, desk: &Desk, stub: Result<Stub, Refusal>, say: Say) {
+    match stub {
+        Ok(stub) => {
+            assert_eq!(rt; stub.reply(), reply(rt, say));
+            assert!(rt; desk.vouch(&stub) == Ok(true));
+        }
+        Err(refusal) => panic!(rt; "{refusal}"),
+    }
+}
+
+/// The stub of a desk that holds another history, in which node 2 leads `red` 5.
+fn other_stub<R: Abort + AllocGlobal>(rt: &R) -> Stub {
+    let mut inputs = Vec::new(rt.alloc());
+    let taken = Op::Take(0, Note::Elected("red", 5, 30, 2));
+    let input = taken.input().expect(rt, "an input");
+    inputs.push(input).expect(rt, "ample memory");
+    let desk = Desk::open(rt.alloc(), node(rt, 1), 3, 4096, 1, inputs);
+    let mut desk = desk.expect(rt, "lawful inputs");
+    let question = request(rt, Ask::Latest("red"));
+    match desk.submit(question) {
+        Ok(ticket) => match desk.redeem(ticket) {
+            Ok((_, stub)) => stub,
+            Err((_ticket, refusal)) => panic!(rt; "{refusal}"),
+        },
+        Err(refusal) => panic!(rt; "{refusal}"),
+    }
+}
+
+/// The journal, opened again, holds the desk's inputs.
+fn holds<V: Device + Drop, R: Abort + AllocGlobal>(rt: &R, journal: Journal<V>, desk: &Desk) {
+    match Journal::reopen(rt.alloc(), journal.into_device(), node(rt, 1), 3) {
+        Ok((_, inputs)) => assert_eq!(rt; inputs.as_slice(), desk.history()),
+        Err((_device, refusal)) => panic!(rt; "{refusal}"),
+    }
+}
+
+#[test]
+fn two_appenders(rt: HostRuntime) -> Result<(), Fail> {
+    let flags = Flags::new();
+    let device = SlowDevice {
+        rt: &rt,
+        flags: &flags,
+        inner: empty_device(&rt),
+    };
+    let made = match node_store::Node::create(rt.alloc(), device, node(&rt, 1), 3, 4096, 0) {
+        Ok(made) => made,
+        Err((_device, refusal)) => panic!(rt; "{refusal}"),
+    };
+    let (desk, journal) = made.split();
+    flags.armed.store(true, Ordering::SeqCst);
+    let asks = [
+        request(&rt, Ask::Stand("red", 5, 10)),
+        request(&rt, Ask::Stand("blue", 1, 3)),
+    ];
+    let blanks = Blanks::new(2);
+    let seen = play::<_, Brand, Brand, Brand, _>(
+        &rt,
+        rt.alloc(),
+        &flags,
+        desk,
+        journal,
+        blanks,
+        &asks,
+    );
+    assert!(rt; !flags.late.load(Ordering::SeqCst));
+    assert_eq!(rt; seen.window, 2);
+    let Outcome {
+        desk,
+        journal,
+        first,
+        second,
+        ..
+    } = seen;
+    vouches(&rt, &desk, first, Say::Stood);
+    vouches(&rt, &desk, second, Say::Stood);
+    assert!(rt; desk.vouch(&other_stub(&rt)) == Ok(false));
+    holds(&rt, journal, &desk);
+    Ok(())
+}

@@ -1,0 +1,93 @@
+// A device one of whose syncs lasts until a test has done something else.
+ghost use Rattle.std.specs.Prelude.{◌≡◌};
+
+use disk_model::{Device, DeviceFault};
+use std::sync::atomic::{AtomicBool, Ordering};
+use std::time::{Clock, Duration};
+
+/// What a test and its device tell each other.
+#[derive(Drop)]
+pub struct Flags {
+    /// The next sync is to last.
+    pub armed: AtomicBool,
+    /// It has begun.
+    pub syncing: AtomicBool,
+    /// It may end.
+    pub accepted: AtomicBool,
+    /// It ended before it was told to.
+    pub late: AtomicBool,
+}
+
+impl Flags {
+    pub fn new() -> Flags {
+        Flags {
+            armed: AtomicBool::new(false),
+            syncing: AtomicBool::new(false),
+            accepted: AtomicBool::new(false),
+            late: AtomicBool::new(false),
+        }
+    }
+}
+
+/// Whether the flag is set within 10,000 turns of a millisecond.
+pub fn await_flag<R: Clock>(rt: &R, flag: &AtomicBool) -> bool {
+    for _ in 0..10_000 {
+        if flag.load(Ordering::SeqCst) {
+            return true;
+        }
+        rt.sleep(Duration::from_millis(1));
+    }
+    false
+}
+
+/// Passes all calls on. The first sync once it is armed lasts until it is told that an input was accepted.
+#[derive(Drop)]
+pub struct SlowDevice<'a, R: Clock, D: Device> {
+    pub rt: &'a R,
+    pub flags: &'a Flags,
+    pub inner: D,
+}
+
+impl<R: Clock, D: Device> Device for SlowDevice<'_, R, D> {
+    ghost disk = { λ device. D.Device.disk device.inner };
+
+    ghost clock = { λ device. D.Device.clock device.inner };
+
+    ghost left_since = { λ device. D.Device.left_since device.inner };
+
+    ghost count = { λ device. D.Device.count device.inner };
+
+    ghost reach = { λ device. D.Device.reach device.inner };
+
+    ghost may_stay = { λ device. D.Device.may_stay device.inner };
+
+    ghost counts_now = { λ device. D.Device.counts_now device.inner };
+
+    ghost only_now = { λ device. D.Device.only_now device.inner };
+
+    fn size(&self) -> u64 {
+        self.inner.size()
+    }
+
+    fn failures(&self) -> u64 {
+        self.inner.failures()
+    }
+
+    fn read_at(&mut self, off: u64, buf: &mut [u8]) -> Result<(), DeviceFault> {
+        self.inner.read_at(off, buf)
+    }
+
+    fn write_at(&mut self, off: u64, bytes: &[u8]) -> Result<(), DeviceFault> {
+        self.inner.write_at(off, bytes)
+    }
+
+    fn sync(&mut self) -> Result<(), DeviceFault> {
+        if self.flags.armed.swap(false, Ordering::SeqCst) {
+            self.flags.syncing.store(true, Ordering::SeqCst);
+            if !await_flag(self.rt, &self.flags.accepted) {
+                self.flags.late.store(true, Ordering::SeqCst);
+            }
+        }
+        self.inner.sync()
+    }
+}
