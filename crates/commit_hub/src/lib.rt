@@ -5,6 +5,7 @@ mod blanks;
 mod hub;
 mod ledgers;
 mod locked;
+mod places;
 mod settling;
 mod share;
 mod used;

@@ -13,6 +13,7 @@ ghost use Rattle.commit_hub.specs.Told.{IsHistory, IsBrought, IsWindow};
 
 use crate::blanks::Blanks;
 use crate::ledgers::{Node, Whole};
+use crate::places::Places;
 use crate::share::{Share, Tie};
 use crate::used::used_of;
 use gated_journal::{Batch, Receipt, Spoiled};
@@ -24,7 +25,8 @@ use std::sync::ledger;
 use std::sync::ledger::Book;
 
 /// A desk, the books that count its inputs, those of them that are durable, and what these cost; and the shares of the
-/// accepted inputs that nobody holds: of those that the desk had at first, and of the places that are left.
+/// accepted inputs that nobody holds: of those that the desk had at first, and of the places that are left, of all that there
+/// are.
 #[derive(Drop)]
 pub(crate) struct Locked<A: Node, D: Whole, C: Whole> {
     pub(crate) desk: Desk,
@@ -33,6 +35,7 @@ pub(crate) struct Locked<A: Node, D: Whole, C: Whole> {
     pub(crate) opened: u64,
     pub(crate) spare: ledger::Share<A>,
     pub(crate) left: u32,
+    pub(crate) places: Places<A>,
     pub(crate) durable: Book<D>,
     pub(crate) costs: Book<C>,
     ghost of: { desk.member ≡ A.member } by { member-prop desk.member A.member },
@@ -40,7 +43,7 @@ pub(crate) struct Locked<A: Node, D: Whole, C: Whole> {
     ghost counts: { IsNodeState desk.state } by { state-prop desk.state },
     ghost counted: { accepted.total ≡ length desk.state.inputs },
     ghost first_is: { (first.parts ≡ 1) × (first.amount ≡ opened) × (opened ≡ A.opened) },
-    ghost places: { (spare.parts ≡ left) × (spare.amount ≡ 0) },
+    ghost spare_is: { (spare.parts ≡ left) × (spare.amount ≡ 0) },
     ghost durable_is: { durable.total ≡ desk.state.durable },
     ghost costs_is: { costs.total ≡ used fresh (durable_in desk.state) },
 }
@@ -81,6 +84,7 @@ impl<A: Node, D: Whole, C: Whole> Locked<A, D, C> {
             opened,
             spare,
             left: places,
+            places: Places::new(places),
             durable,
             costs,
         };

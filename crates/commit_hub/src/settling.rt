@@ -1,5 +1,5 @@
 //! Whether the shares add up to what a hub's desk accepted.
-ghost use Rattle.std.specs.Prelude.{◌≡◌, ◌+◌, ◌-◌, ◌<◌, ◌≤◌, ◌^◌, ◌↔◌, IsTrue, length, map, min, vec_capacity};
+ghost use Rattle.std.specs.Prelude.{◌≡◌, ◌+◌, ◌-◌, ◌^◌, ◌↔◌, IsTrue, length, map, min};
 ghost use Rattle.std.specs.List.{sum_by};
 ghost use Rattle.commit_hub.specs.Holders.{count_of};
 
@@ -8,7 +8,6 @@ use crate::locked::Locked;
 use crate::share::Share;
 use group_commit::Desk;
 use std::sync::ledger;
-use std::sync::ledger::Book;
 
 impl<A: Node, D: Whole, C: Whole> Locked<A, D, C> {
     /// Whether the shares count all inputs that were accepted since the hub was made. They do where every place is
@@ -24,10 +23,19 @@ impl<A: Node, D: Whole, C: Whole> Locked<A, D, C> {
             accepted,
             first,
             opened,
+            places,
             ..
         } = self;
-        gather(accepted, shares, first);
-        desk.history().len() as u64 == opened.saturating_add(counted_by(shares))
+        if desk.history().len() as u64 == opened.saturating_add(counted_by(shares)) {
+            return true;
+        }
+        // With every place here the shares count all that was accepted, so this is never so.
+        if places.are_all(shares.len()) {
+            merge_all(first, shares);
+            accepted.audit(first);
+            unreachable!();
+        }
+        false
     }
 
     /// Ends the ledgers, and gives the desk.
@@ -50,25 +58,13 @@ pub(crate) fn counted_by<A: Node>(shares: &[Share<A>]) -> u64
     total
 }
 
-// Each share lends its token to `seen` until all are counted. With every part of the ledger there, nothing is missing.
-fn gather<A: Node>(book: &mut Book<A>, shares: &mut Vec<Share<A>>, seen: &mut ledger::Share<A>)
-    requires { 0 < seen.old.parts }
-    ensures whole { seen.old.parts + length shares.old.items ≡ A.parts → book.old.total ≡ seen.old.amount + sum_by count_of shares.old.items }
-    ensures bound { seen.old.amount + sum_by count_of shares.old.items ≤ book.old.total }
-    ensures book { book.new.total ≡ book.old.total }
-    ensures seen { (seen.new.parts ≡ seen.old.parts) × (seen.new.amount ≡ seen.old.amount) }
-    ensures shares { map count_of shares.new.items ≡ map count_of shares.old.items }
-    ensures capacity { vec_capacity shares.new ≡ vec_capacity shares.old }
+// Puts what all shares have into one.
+fn merge_all<A: Node>(whole: &mut ledger::Share<A>, shares: &mut Vec<Share<A>>)
+    ensures parts { whole.new.parts ≡ whole.old.parts + length shares.old.items }
+    ensures amount { whole.new.amount ≡ whole.old.amount + sum_by count_of shares.old.items }
 {
-    match shares.pop() {
-        None => book.audit(seen),
-        Some(share) => {
-            let Share { count, token } = share;
-            let mut token = token;
-            token.give(seen, 1, count);
-            gather(book, shares, seen);
-            seen.give(&mut token, 1, count);
-            shares.push_reserved(Share { count, token });
-        }
+    while let Some(share) = shares.pop() {
+        let Share { count: _, token } = share;
+        whole.merge(token);
     }
 }

@@ -37,7 +37,7 @@ invariant_of-self-in-Ok g c =
       counts = c.history.ensures.counts;
       counted = old.counted ∙ sym (ap (λ (d : DeskView). length d.state.inputs) next);
       first_is = old.first_is;
-      places = old.places;
+      spare_is = old.spare_is;
       durable_is = omega (arith, c.add.ensures.total, c.audit.ensures.total, old.durable_is, start, end, durable, old.counts.durable);
       costs_is = omega (arith, c.add-in-Ok.ensures.total, c.audit-2.ensures.total, old.costs_is, c.from.ensures, cost, flown, flown_costs s old.counts);
     }

@@ -19,7 +19,7 @@ invariant_of-self-in-Ok g c =
       counts = c.history.ensures.counts;
       counted = counted;
       first_is = old.first_is;
-      places = old.places;
+      spare_is = old.spare_is;
       durable_is = old.durable_is ∙ sym (ap (λ (d : DeskView). d.state.durable) next);
       costs_is = old.costs_is ∙ sym (ap (λ (d : DeskView). used fresh (durable_in d.state)) next ∙ ap (used fresh) (durable_stays old.desk.state more old.counts));
     }
