@@ -53,7 +53,7 @@ impl Model for RingNode {
 }
 
 impl RingNode {
-    /// Node `me` of a ring of `n`, of this capacity in bytes, which has accepted nothing.
+    /// Node `me` of a ring of `n`, of this capacity in bytes, which has accepted nothing. Refused for memory alone.
     pub fn new(alloc: Global, me: NodeNo, n: u8, capacity: u32) -> Result<RingNode, AllocError>
         requires range { is_header (member me n capacity) ≡ true }
         ensures made { IfOk result (λ node. node ≡ new_node me n capacity) }
@@ -75,6 +75,7 @@ impl RingNode {
     }
 
     /// Asks the node. Its ticket, under the number that the ring gives it, stays open until the reply is released.
+    /// Refused for memory, nothing has changed.
     pub fn ask(&mut self, number: Option<u64>, question: Request) -> Result<(), AllocError>
         requires inside { is_outside self.old.n question ≡ false }
         requires numbers { self.old.issued < 2 ^ 60 }
@@ -91,7 +92,7 @@ impl RingNode {
         }
     }
 
-    /// Makes the first inputs that wait durable, at most 64: how many.
+    /// Makes the first inputs that wait durable, at most 64: how many. Refused for memory, nothing has changed.
     pub fn flush(&mut self) -> Result<u32, AllocError>
         ensures next { OnOk result (self.new ≡ flushed self.old) }
         ensures count { IfOk result (λ count. count ≡ flown self.old - self.old.durable) }

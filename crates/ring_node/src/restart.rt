@@ -28,7 +28,7 @@ use std::collections::VecDeque;
 
 impl RingNode {
     /// It loses its memory and is opened again from its device: the node, and the numbers of the tickets that were
-    /// open, in order.
+    /// open, in order. Refused for memory, there is no node any more.
     pub fn crash(self) -> Result<(RingNode, Vec<u64>), AllocError>
         ensures next { IfOk result (λ r. r.0 ≡ restarted (durable_in self) self) }
         ensures lost { IfOk result (λ r. r.1.items ≡ filter_map number_of self.held) }
@@ -64,7 +64,8 @@ impl RingNode {
 
     /// It is stopped at a device call of a flush, 1 to 4, with the device left by the tear, and is opened again: the
     /// node, whether it holds the batch then, and the numbers of the tickets that were open, in order. An input waits,
-    /// so that the flush calls the device, and no more messages are credited than its durable inputs sent.
+    /// so that the flush calls the device, and no more messages are credited than its durable inputs sent. Refused for
+    /// memory, there is no node any more.
     pub fn stop(self, call: u64, tear: Tear) -> Result<(RingNode, bool, Vec<u64>), AllocError>
         requires credited { is_credited self ≡ true }
         requires waits { self.durable < length self.inputs }
