@@ -6,7 +6,7 @@ use crate::flusher::flush_all;
 use crate::rows::{empty_device, new_desk, node, reply, request};
 use crate::slow::{Flags, SlowDevice, await_flag};
 use commit_hub::{Blanks, Hub, Node, Share, Whole};
-use disk_model::Device;
+use disk_model::{Device, FuseDevice};
 use gated_journal::Journal;
 use group_commit::{Desk, Stub};
 use ring_records::{Refusal, Request};
@@ -155,6 +155,26 @@ fn holds<V: Device + Drop, R: Abort + AllocGlobal>(rt: &R, journal: Journal<V>, 
     }
 }
 
+/// Two appenders on the hub of a new node with this device, armed once it is made.
+fn play_on<V: Device + Drop + Send, R: Threads + Wait + Clock + Abort + AllocGlobal + Sync>(
+    rt: &R,
+    flags: &Flags,
+    device: V,
+) -> Outcome<V> {
+    let made = match node_store::Node::create(rt.alloc(), device, node(rt, 1), 3, 4096, 0) {
+        Ok(made) => made,
+        Err((_device, refusal)) => panic!(rt; "{refusal}"),
+    };
+    let (desk, journal) = made.split();
+    flags.armed.store(true, Ordering::SeqCst);
+    let asks = [
+        request(rt, Ask::Stand("red", 5, 10)),
+        request(rt, Ask::Stand("blue", 1, 3)),
+    ];
+    let blanks = Blanks::new(2);
+    play::<V, Brand, Brand, Brand, R>(rt, rt.alloc(), flags, desk, journal, blanks, &asks)
+}
+
 #[test]
 fn two_appenders(rt: HostRuntime) -> Result<(), Fail> {
     let flags = Flags::new();
@@ -163,38 +183,43 @@ fn two_appenders(rt: HostRuntime) -> Result<(), Fail> {
         flags: &flags,
         inner: empty_device(&rt),
     };
-    let made = match node_store::Node::create(rt.alloc(), device, node(&rt, 1), 3, 4096, 0) {
-        Ok(made) => made,
-        Err((_device, refusal)) => panic!(rt; "{refusal}"),
-    };
-    let (desk, journal) = made.split();
-    flags.armed.store(true, Ordering::SeqCst);
-    let asks = [
-        request(&rt, Ask::Stand("red", 5, 10)),
-        request(&rt, Ask::Stand("blue", 1, 3)),
-    ];
-    let blanks = Blanks::new(2);
-    let seen = play::<_, Brand, Brand, Brand, _>(
-        &rt,
-        rt.alloc(),
-        &flags,
-        desk,
-        journal,
-        blanks,
-        &asks,
-    );
-    assert!(rt; !flags.late.load(Ordering::SeqCst));
-    assert_eq!(rt; seen.window, 2);
     let Outcome {
         desk,
         journal,
         first,
         second,
-        ..
-    } = seen;
+        window,
+    } = play_on(&rt, &flags, device);
+    assert!(rt; !flags.late.load(Ordering::SeqCst));
+    assert_eq!(rt; window, 2);
     vouches(&rt, &desk, first, Say::Stood);
     vouches(&rt, &desk, second, Say::Stood);
     assert!(rt; desk.vouch(&other_stub(&rt)) == Ok(false));
     holds(&rt, journal, &desk);
+    Ok(())
+}
+
+/// The first sync of a batch fails once the second appender's input is accepted: both are told so.
+#[test]
+fn two_appenders_of_a_device_that_fails(rt: HostRuntime) -> Result<(), Fail> {
+    let flags = Flags::new();
+    let device = SlowDevice {
+        rt: &rt,
+        flags: &flags,
+        inner: FuseDevice::new(empty_device(&rt), 3, false),
+    };
+    let Outcome {
+        desk,
+        journal,
+        first,
+        second,
+        window,
+    } = play_on(&rt, &flags, device);
+    assert!(rt; !flags.late.load(Ordering::SeqCst));
+    assert_eq!(rt; window, 0);
+    assert!(rt; matches!(first, Err(Refusal::Failed)));
+    assert!(rt; matches!(second, Err(Refusal::Failed)));
+    assert!(rt; desk.history().len() == 2);
+    assert!(rt; journal.is_spoiled());
     Ok(())
 }

@@ -4,12 +4,12 @@ ghost use Rattle.std.specs.Prelude.{◌≡◌, ◌≤◌, length};
 ghost use Rattle.commit_hub.specs.Pages.{ForAccepted, ForDurable, ForCosts, IsWhole};
 
 use crate::flusher::commit;
-use crate::rows::{journal_of, new_desk, node, request};
+use crate::rows::{broken_journal, journal_of, new_desk, node, request};
 use commit_hub::{Blanks, Hub, Node, Share, Tie, Whole};
 use disk_model::MemDevice;
-use gated_journal::{Batch, Journal, Receipt};
+use gated_journal::{Batch, Journal, Receipt, Spoiled};
 use group_commit::{Desk, Ticket};
-use ring_records::Refusal;
+use ring_records::{Input, Refusal};
 use std::alloc::AllocGlobal;
 use std::marker::Brand;
 use std::process::Abort;
@@ -35,6 +35,8 @@ enum Case {
     LaunchesTwice,
     /// A receipt of another batch is handed in.
     LandsAnother,
+    /// The device fails with a batch.
+    Fails,
     /// A share is missing.
     SettlesFew,
     /// It is closed.
@@ -48,6 +50,18 @@ fn submits<A: Node, D: Whole, C: Whole, R: Wait + Abort>(
 ) -> Ticket {
     let question = request(rt, STAND);
     hub.submit(rt, share, question).expect(rt, "a ticket")
+}
+
+/// No request is taken any more.
+fn takes_nothing<A: Node, D: Whole, C: Whole, R: Wait + Abort>(
+    rt: &R,
+    hub: &Hub<A, D, C>,
+    share: &mut Share<A>,
+) {
+    match hub.submit(rt, share, request(rt, STAND)) {
+        Ok(_ticket) => panic!(rt; "a ticket"),
+        Err(refusal) => assert!(rt; refusal == Refusal::Failed),
+    }
 }
 
 fn redeems<A: Node, D: Whole, C: Whole, R: Wait + Abort>(
@@ -96,13 +110,23 @@ fn lands<A: Node, D: Whole, C: Whole, R: Wait + Abort>(
     }
 }
 
-/// So many places are taken, and there is no other.
-fn enters<A: Node, D: Whole, C: Whole, R: Wait + Abort>(rt: &R, hub: &Hub<A, D, C>, count: u32) {
+/// So many places are taken, and there is no other. All of their shares settle the hub.
+fn enters<A: Node, D: Whole, C: Whole, R: Wait + Abort + AllocGlobal>(
+    rt: &R,
+    hub: Hub<A, D, C>,
+    count: u32,
+) {
+    let mut shares = Vec::with_capacity(rt.alloc(), count as usize).expect(rt, "ample memory");
     for _ in 0..count {
         let share = hub.enter(rt).expect(rt, "a place");
         assert!(rt; share.count() == 0);
+        shares.push(share).expect(rt, "ample memory");
     }
     assert!(rt; matches!(hub.enter(rt), Err(Refusal::Limit)));
+    match hub.settle(shares) {
+        Ok(desk) => assert!(rt; desk.history().is_empty()),
+        Err(_) => panic!(rt; "not settled"),
+    }
 }
 
 /// A ticket of another hub is refused, and comes back.
@@ -151,6 +175,25 @@ fn launches_twice<A: Node, D: Whole, C: Whole, R: Wait + Abort + AllocGlobal>(
     redeems(rt, hub, ticket);
 }
 
+/// The input of another journal.
+fn other_input(rt: &impl Abort) -> Input {
+    Op::Stand("blue", 1, 3).input().expect(rt, "an input")
+}
+
+/// The batch of another journal.
+fn other_batch<R: Abort + AllocGlobal>(rt: &R) -> Batch {
+    let inputs = [other_input(rt)];
+    Batch::new(rt.alloc(), node(rt, 1), 0, &inputs).expect(rt, "one input")
+}
+
+/// What the other journal's device made of its batch: it failed.
+fn other_spoiled<R: Abort + AllocGlobal>(rt: &R) -> Spoiled {
+    match commit(rt, &mut broken_journal(rt), other_batch(rt)) {
+        Ok(_receipt) => panic!(rt; "committed"),
+        Err(spoiled) => spoiled,
+    }
+}
+
 /// The receipt of another batch is refused and comes back; that of the batch lands.
 fn lands_another<A: Node, D: Whole, C: Whole, R: Wait + Abort + AllocGlobal>(
     rt: &R,
@@ -164,20 +207,59 @@ fn lands_another<A: Node, D: Whole, C: Whole, R: Wait + Abort + AllocGlobal>(
     let mut share = hub.enter(rt).expect(rt, "a place");
     let ticket = submits(rt, hub, &mut share);
     let batch = launches(rt, hub, tie);
-    let inputs = [Op::Stand("blue", 1, 3).input().expect(rt, "an input")];
-    let more = Batch::new(rt.alloc(), node(rt, 1), 0, &inputs).expect(rt, "one input");
-    let foreign = commits(rt, &mut other, more);
+    let foreign = commits(rt, &mut other, other_batch(rt));
     match hub.land(rt, tie, foreign) {
         Ok(_landed) => panic!(rt; "landed"),
         Err((receipt, refusal)) => {
             assert!(rt; refusal == Refusal::Foreign);
-            assert!(rt; receipt.inputs() == inputs.as_slice());
+            assert!(rt; receipt.inputs() == [other_input(rt)].as_slice());
             receipt.into_parts();
         }
     }
     let receipt = commits(rt, &mut journal, batch);
     lands(rt, hub, tie, receipt);
     redeems(rt, hub, ticket);
+}
+
+/// The spoiled batch of another journal is refused and comes back. With its own the hub has failed: what waits is
+/// refused, and so are requests and launches.
+fn fails<A: Node, D: Whole, C: Whole, R: Wait + Abort + AllocGlobal>(
+    rt: &R,
+    hub: &Hub<A, D, C>,
+    tie: &mut Tie<A, D, C>,
+)
+    requires { IsWhole D.all D.parts × IsWhole C.all C.parts }
+{
+    let mut share = hub.enter(rt).expect(rt, "a place");
+    let ticket = submits(rt, hub, &mut share);
+    let batch = launches(rt, hub, tie);
+    match hub.fail(rt, tie, other_spoiled(rt)) {
+        Ok(()) => panic!(rt; "failed"),
+        Err((spoiled, refusal)) => {
+            assert!(rt; refusal == Refusal::Foreign);
+            assert!(rt; spoiled.inputs() == [other_input(rt)].as_slice());
+            spoiled.into_parts();
+        }
+    }
+    match commit(rt, &mut broken_journal(rt), batch) {
+        Ok(_receipt) => panic!(rt; "committed"),
+        Err(spoiled) => match hub.fail(rt, tie, spoiled) {
+            Ok(()) => {}
+            Err((_spoiled, refusal)) => panic!(rt; "{refusal}"),
+        },
+    }
+    takes_nothing(rt, hub, &mut share);
+    match hub.launch(rt, tie) {
+        Ok(_some) => panic!(rt; "a batch, or none"),
+        Err(refusal) => assert!(rt; refusal == Refusal::Failed),
+    }
+    match hub.redeem_wait(rt, ticket) {
+        Ok(_) => panic!(rt; "redeemed"),
+        Err((ticket, refusal)) => {
+            assert!(rt; refusal == Refusal::Failed);
+            assert!(rt; hub.forfeit(rt, ticket).is_ok());
+        }
+    }
 }
 
 /// With a share missing nothing is settled, and all comes back; with all of them it is.
@@ -213,10 +295,7 @@ fn closes<A: Node, D: Whole, C: Whole, R: Wait + Abort>(
 {
     let mut share = hub.enter(rt).expect(rt, "a place");
     hub.close(rt);
-    match hub.submit(rt, &mut share, request(rt, STAND)) {
-        Ok(_ticket) => panic!(rt; "a ticket"),
-        Err(refusal) => assert!(rt; refusal == Refusal::Failed),
-    }
+    takes_nothing(rt, hub, &mut share);
     match hub.launch(rt, tie) {
         Ok(None) => {}
         Ok(Some(_batch)) => panic!(rt; "a batch"),
@@ -239,7 +318,7 @@ fn on_hub<A: Node, D: Whole, C: Whole, R: Wait + Abort + AllocGlobal>(
 {
     let (hub, mut tie) = Hub::<A, D, C>::new(desk, blanks);
     match case {
-        Case::Enters(count) => enters(rt, &hub, count),
+        Case::Enters(count) => enters(rt, hub, count),
         Case::Gives => {
             let mut share = hub.enter(rt).expect(rt, "a place");
             return Some(submits(rt, &hub, &mut share));
@@ -252,6 +331,7 @@ fn on_hub<A: Node, D: Whole, C: Whole, R: Wait + Abort + AllocGlobal>(
         Case::ForfeitsOpen => forfeits_open(rt, &hub),
         Case::LaunchesTwice => launches_twice(rt, &hub, &mut tie),
         Case::LandsAnother => lands_another(rt, &hub, &mut tie),
+        Case::Fails => fails(rt, &hub, &mut tie),
         Case::SettlesFew => settles_few(rt, hub),
         Case::Closes => closes(rt, &hub, &mut tie),
     }
@@ -307,6 +387,12 @@ fn an_open_hub_takes_no_forfeit(rt: HostRuntime) -> Result<(), Fail> {
 fn one_batch_flies(rt: HostRuntime) -> Result<(), Fail> {
     ends(&rt, 1, Case::LaunchesTwice);
     ends(&rt, 1, Case::LandsAnother);
+    Ok(())
+}
+
+#[test]
+fn a_hub_fails_with_its_device(rt: HostRuntime) -> Result<(), Fail> {
+    ends(&rt, 1, Case::Fails);
     Ok(())
 }
 

@@ -1,5 +1,5 @@
 // What hubs are given and give. All numbers and names of rows are in their ranges.
-use disk_model::MemDevice;
+use disk_model::{FuseDevice, MemDevice};
 use gated_journal::Journal;
 use group_commit::Desk;
 use ring_records::{NodeNo, Reply, Request};
@@ -34,6 +34,18 @@ pub fn empty_device<R: Abort + AllocGlobal>(rt: &R) -> MemDevice {
 pub fn journal_of<R: Abort + AllocGlobal>(rt: &R) -> Journal<MemDevice> {
     match Journal::format(empty_device(rt), node(rt, 1), 3, 4096) {
         Ok(journal) => journal,
+        Err((_device, refusal)) => panic!(rt; "{refusal}"),
+    }
+}
+
+/// A new journal of node 1 of 3, capacity 4,096, whose device fails from now on.
+pub fn broken_journal<R: Abort + AllocGlobal>(rt: &R) -> Journal<FuseDevice<MemDevice>> {
+    match Journal::format(FuseDevice::idle(empty_device(rt)), node(rt, 1), 3, 4096) {
+        Ok(made) => {
+            let mut journal = made;
+            journal.arm(0, false);
+            journal
+        }
         Err((_device, refusal)) => panic!(rt; "{refusal}"),
     }
 }

@@ -1,5 +1,5 @@
 use Rattle.std.specs.Prelude.{length}
-use Rattle.hub_tests.proofs.appenders.two_appenders.Given as goal
+use Rattle.hub_tests.proofs.appenders.play_on.Given as goal
 
 -- the ledgers are named by the pages and the desk
 
