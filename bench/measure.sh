@@ -23,6 +23,19 @@ best() {
     echo "$least"
 }
 
+# processor IN OUT PROGRAM WORD..: the least processor time, user plus system, of five such runs, in nanoseconds.
+processor() {
+    local input=$1 output=$2 least=0 spent TIMEFORMAT='%U %S'
+    shift 2
+    for _ in 1 2 3 4 5; do
+        rm -f "$work"/*.bin
+        spent=$({ time "$@" < "$input" > "$output"; } 2>&1) || return
+        spent=$(awk '{ printf "%d", ($1 + $2) * 1e9 }' <<< "$spent")
+        if [ "$least" -eq 0 ] || [ "$spent" -lt "$least" ]; then least=$spent; fi
+    done
+    echo "$least"
+}
+
 echo "ringctl, a script:"
 for lines in 29000 58000; do
     awk -v lines="$lines" -f script.awk > "$work/$lines.ring"
@@ -121,3 +134,24 @@ whole=$(best /dev/null "$work/counts" "$bench" sessions 10000 10)
 awk -v idle="$idle" -v half="$half" -v whole="$whole" '{ counts = $0 }
     END { printf "%s: %.4f s, %d lines a second; twice the lines: %.2f times as long\n",
         counts, (whole - idle) / 1e9, 100000 * 1e9 / (whole - idle), (whole - idle) / (half - idle) }' "$work/counts"
+
+# Each time is less that of the same program with hubs on which nobody stands, and a bare append's less that of a new file.
+echo "bench hub, appenders that stand and wait for the reply, in threads beside a flusher:"
+empty=$(best /dev/null "$work/counts" "$bench" hub bare 0 "$work/bare.bin")
+bare=$(best /dev/null "$work/counts" "$bench" hub bare 5000 "$work/bare.bin")
+bare=$(((bare - empty) / 5000))
+awk -v ns="$bare" 'BEGIN { printf "a bare append with its sync: %.1f us\n", ns / 1e3 }'
+for load in "1 1024 2" "4 256 8" "16 64 16" "64 16 20"; do
+    read -r appenders stands hubs <<< "$load"
+    for kind in memory file; do
+        path=() per=
+        if [ "$kind" = file ]; then path=("$work/hub.bin") per=$bare; fi
+        idle=$(best /dev/null "$work/counts" "$bench" hub "$kind" "$appenders" 0 "$hubs" "${path[@]}")
+        whole=$(best /dev/null "$work/counts" "$bench" hub "$kind" "$appenders" "$stands" "$hubs" "${path[@]}")
+        spent=$(processor /dev/null "$work/counts" "$bench" hub "$kind" "$appenders" "$stands" "$hubs" "${path[@]}")
+        awk -v kind="$kind" -v appenders="$appenders" -v ns=$((whole - idle)) -v spent="$spent" -v bare="$per" -F '[ ,]+' '{
+            printf "%d appenders, %s: %d answers a second, %.1f inputs a batch, %.1f us of processor an answer", appenders, kind, $2 * 1e9 / ns, $2 / $4, spent / $2 / 1e3
+            if (bare) printf ", %.2f answers for one bare append", bare * $2 / ns
+            printf "\n" }' "$work/counts"
+    done
+done

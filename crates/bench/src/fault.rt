@@ -27,6 +27,9 @@ pub enum Fault {
     /// More readers are asked for than a board has places, or none.
     #[error("there are 1 to 32 readers here")]
     NoReaders,
+    /// More appenders are asked for than 64, or none.
+    #[error("there are 1 to 64 appenders here")]
+    NoAppenders,
     /// The system did not give the words, or not as text.
     #[error("words cannot be read")]
     Words,
@@ -61,6 +64,7 @@ impl Fault {
                 | Fault::NoAmount(_)
                 | Fault::NoSize
                 | Fault::NoReaders
+                | Fault::NoAppenders
         )
     }
 }

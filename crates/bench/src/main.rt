@@ -8,6 +8,8 @@ mod core_part;
 mod device_part;
 mod devices;
 mod fault;
+mod flusher;
+mod hub_part;
 mod journal_part;
 mod keys;
 mod locked;

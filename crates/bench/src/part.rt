@@ -1,6 +1,6 @@
 // The parts of the service that do works, each in a file of its own.
 use crate::fault::Fault;
-use crate::{board_part, core_part, device_part, journal_part, node_part, sessions_part};
+use crate::{board_part, core_part, device_part, hub_part, journal_part, node_part, sessions_part};
 use std::env::Args;
 use std::sync::Wait;
 use std::thread::Threads;
@@ -20,10 +20,12 @@ pub enum Part {
     Board,
     /// Sessions with a durable node.
     Sessions,
+    /// Hubs with appenders and a flusher in threads.
+    Hub,
 }
 
 /// Each part with its word, and what it is told to do.
-pub const PARTS: [(Part, &str, &str); 6] = [
+pub const PARTS: [(Part, &str, &str); 7] = [
     (Part::Core, "core", "INPUTS"),
     (Part::Device, "device", "BYTES WRITES"),
     (
@@ -42,6 +44,11 @@ pub const PARTS: [(Part, &str, &str); 6] = [
         "shared READERS READS | mutex READERS READS | rwlock READERS READS | append KEYS",
     ),
     (Part::Sessions, "sessions", "LINES SESSIONS"),
+    (
+        Part::Hub,
+        "hub",
+        "memory APPENDERS STANDS HUBS | file APPENDERS STANDS HUBS PATH | bare APPENDS PATH",
+    ),
 ];
 
 impl Part {
@@ -69,6 +76,7 @@ impl Part {
             Part::Node => node_part::run(rt, words),
             Part::Board => board_part::run(rt, threads, words),
             Part::Sessions => sessions_part::run(rt, words),
+            Part::Hub => hub_part::run(rt, threads, words),
         }
     }
 }

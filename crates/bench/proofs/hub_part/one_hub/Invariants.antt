@@ -1,0 +1,22 @@
+use Rattle.std.specs.Prelude.{length}
+use Rattle.bench.proofs.hub_part.one_hub.Given as goal
+
+-- the ledgers are named by the pages and the desk
+
+abbrev pub ghosts-on_hub-A-Ledger : goal.ghosts-on_hub-A-Ledger
+ghosts-on_hub-A-Ledger g a = record { name = a.blanks.accepted.name; parts = a.blanks.accepted.parts }
+
+abbrev pub ghosts-on_hub-A-Node : goal.ghosts-on_hub-A-Node
+ghosts-on_hub-A-Node g a = record { member = a.desk.member; opened = length a.desk.state.inputs }
+
+abbrev pub ghosts-on_hub-D-Ledger : goal.ghosts-on_hub-D-Ledger
+ghosts-on_hub-D-Ledger g a = record { name = a.blanks.durable.name; parts = a.blanks.durable.parts }
+
+abbrev pub ghosts-on_hub-D-Whole : goal.ghosts-on_hub-D-Whole
+ghosts-on_hub-D-Whole g a = record { all = a.blanks.durable.parts }
+
+abbrev pub ghosts-on_hub-C-Ledger : goal.ghosts-on_hub-C-Ledger
+ghosts-on_hub-C-Ledger g a = record { name = a.blanks.costs.name; parts = a.blanks.costs.parts }
+
+abbrev pub ghosts-on_hub-C-Whole : goal.ghosts-on_hub-C-Whole
+ghosts-on_hub-C-Whole g a = record { all = a.blanks.costs.parts }

@@ -1,0 +1,269 @@
+// Hubs over new nodes, whose appenders stand and wait for the reply, in threads of their own beside one flusher.
+ghost use Rattle.std.specs.Prelude.{◌≡◌, ◌-◌, ◌≤◌, false, length};
+ghost use Rattle.gated_journal.specs.Journal.{member_of, len_of, room_of, is_spoiled};
+ghost use Rattle.ring_records.specs.Admission.{fresh, used};
+ghost use Rattle.ring_records.specs.Answer.{durable_in};
+ghost use Rattle.commit_hub.specs.Pages.{places_of, ForAccepted, ForDurable, ForCosts, IsWhole};
+
+use crate::devices::{CAPACITY, in_memory};
+use crate::fault::Fault;
+use crate::flusher::Flusher;
+use crate::keys::key;
+use crate::words::{next_amount, next_word};
+use commit_hub::{Blanks, Hub, Node, Share, Whole};
+use disk_model::{Device, DeviceFault, FileDevice};
+use gated_journal::Journal;
+use group_commit::Desk;
+use node_store;
+use ring_records::{Bid, NodeNo, Refusal, Reply, Request};
+use std::alloc::{AllocGlobal, Global};
+use std::env::Args;
+use std::marker::Brand;
+use std::sync::Wait;
+use std::thread::{Threads, join, map_vec};
+
+/// The letter of the groups.
+const LETTER: u8 = b'h';
+
+/// The bytes of one append.
+const APPEND: [u8; 64] = [7; 64];
+
+/// How many appends a file takes before the next is written over the first.
+const APPENDS: u64 = 1024;
+
+/// `memory APPENDERS STANDS HUBS`: has so many appenders, 1 to 64, stand so often each, in turn, on so many hubs over
+/// nodes in memory, one hub after the other; a node takes 1,024 Stands in all. `file APPENDERS STANDS HUBS PATH`: over
+/// nodes on a new file. Both print how often a node stood, and how many batches there were. `bare APPENDS PATH`: appends
+/// 64 bytes to a new file and syncs, so often. Prints how many bytes the file has then.
+pub fn run<R: Threads + Wait + Sync>(
+    rt: &HostRuntime,
+    threads: &R,
+    words: &mut Args,
+) -> Result<(), Fault> {
+    let work = next_word(words)?;
+    let alloc = rt.alloc();
+    match work.as_str() {
+        "memory" => {
+            let load = next_load(words)?;
+            let counts = hubs(threads, alloc, in_memory(alloc)?, load)?;
+            println!(rt; "stood {}, batches {}", counts.stood, counts.batches)?;
+        }
+        "file" => {
+            let load = next_load(words)?;
+            let device = FileDevice::create(alloc, rt, &next_word(words)?)?;
+            let counts = hubs(threads, alloc, device, load)?;
+            println!(rt; "stood {}, batches {}", counts.stood, counts.batches)?;
+        }
+        "bare" => {
+            let appends = next_amount(words)?;
+            let mut device = FileDevice::create(alloc, rt, &next_word(words)?)?;
+            println!(rt; "bytes {}", append_bare(&mut device, appends)?)?;
+        }
+        _ => return Err(Fault::NoWork(work)),
+    }
+    Ok(())
+}
+
+/// How many appenders a hub has, how often each stands, and how many hubs there are.
+#[derive(Clone, Copy)]
+struct Load {
+    appenders: u32,
+    stands: u32,
+    hubs: u32,
+    ghost places: { appenders ≤ 64 },
+}
+
+fn next_load(words: &mut Args) -> Result<Load, Fault> {
+    let appenders = next_amount(words)?;
+    let stands = next_amount(words)?;
+    let hubs = next_amount(words)?;
+    if !(1..=64).contains(&appenders) {
+        return Err(Fault::NoAppenders);
+    }
+    Ok(Load {
+        appenders,
+        stands,
+        hubs,
+    })
+}
+
+/// What came of it.
+#[derive(Clone, Copy)]
+struct Counts {
+    stood: u32,
+    batches: u32,
+}
+
+/// So many hubs over nodes on the device, one after the other.
+fn hubs<V: Device + Drop + Send, R: Threads + Wait + Sync>(
+    rt: &R,
+    alloc: Global,
+    device: V,
+    load: Load,
+) -> Result<Counts, Refusal> {
+    let mut device = device;
+    let mut counts = Counts {
+        stood: 0,
+        batches: 0,
+    };
+    for _ in 0..load.hubs {
+        let (after, more) = one_hub(rt, alloc, device, load)?;
+        device = after;
+        counts.stood = counts.stood.saturating_add(more.stood);
+        counts.batches = counts.batches.saturating_add(more.batches);
+    }
+    Ok(counts)
+}
+
+/// A hub over a new node on the device.
+fn one_hub<V: Device + Drop + Send, R: Threads + Wait + Sync>(
+    rt: &R,
+    alloc: Global,
+    device: V,
+    load: Load,
+) -> Result<(V, Counts), Refusal> {
+    match node_store::Node::create(alloc, device, NodeNo::new(1)?, 3, CAPACITY, 0) {
+        Err((_device, refusal)) => Err(refusal),
+        Ok(node) => {
+            let (desk, journal) = node.split();
+            let blanks = Blanks::new(load.appenders);
+            on_hub::<V, Brand, Brand, Brand, R>(rt, alloc, desk, journal, blanks, load)
+        }
+    }
+}
+
+/// An appender with its share, and the number of its first key.
+#[derive(Drop)]
+struct Appender<A: Node> {
+    share: Share<A>,
+    first: u32,
+}
+
+/// The appenders of a hub, each with keys of its own.
+fn appenders<A: Node, D: Whole, C: Whole, R: Wait>(
+    rt: &R,
+    alloc: Global,
+    hub: &Hub<A, D, C>,
+    load: Load,
+) -> Result<Vec<Appender<A>>, Refusal> {
+    let mut appenders = Vec::new(alloc);
+    for no in 0..load.appenders {
+        let share = hub.enter(rt)?;
+        let first = no.wrapping_mul(load.stands);
+        if appenders.push(Appender { share, first }).is_err() {
+            return Err(Refusal::OutOfMemory);
+        }
+    }
+    Ok(appenders)
+}
+
+/// Stands for the key of this number, and waits for the reply. Whether the node stood.
+fn stand<A: Node, D: Whole, C: Whole, R: Wait>(
+    rt: &R,
+    hub: &Hub<A, D, C>,
+    share: &mut Share<A>,
+    index: u32,
+) -> Result<bool, Refusal> {
+    let (key, bid) = (key(LETTER, index)?, Bid::new(7)?);
+    let ticket = hub.submit(rt, share, Request::Stand(key, bid))?;
+    match hub.redeem_wait(rt, ticket) {
+        Ok((reply, _stub)) => Ok(matches!(reply, Reply::Stood)),
+        Err((ticket, refusal)) => {
+            let _ = hub.forfeit(rt, ticket);
+            Err(refusal)
+        }
+    }
+}
+
+/// Stands so often, in turn. Tells how often the node stood.
+fn append_all<A: Node, D: Whole, C: Whole, R: Wait>(
+    rt: &R,
+    hub: &Hub<A, D, C>,
+    appender: Appender<A>,
+    stands: u32,
+) -> Result<u32, Refusal> {
+    let Appender { mut share, first } = appender;
+    let mut stood = 0u32;
+    for no in 0..stands {
+        if stand(rt, hub, &mut share, first.wrapping_add(no))? {
+            stood = stood.saturating_add(1);
+        }
+    }
+    Ok(stood)
+}
+
+/// Has the appenders stand, each in a thread of its own, and closes the hub. Tells how often the node stood.
+fn append_in_threads<
+    A: Node + Send + Sync,
+    D: Whole + Send + Sync,
+    C: Whole + Send + Sync,
+    R: Threads + Wait + Sync,
+>(rt: &R, hub: &Hub<A, D, C>, appenders: Vec<Appender<A>>, stands: u32) -> Result<u32, Refusal> {
+    let each = map_vec(
+        rt,
+        appenders,
+        &|appender| { append_all(rt, hub, appender, stands) },
+    );
+    hub.close(rt);
+    let Ok(each) = each else {
+        return Err(Refusal::OutOfMemory);
+    };
+    let mut stood = 0u32;
+    for found in each {
+        stood = stood.saturating_add(found?);
+    }
+    Ok(stood)
+}
+
+/// A hub round the desk, with its appenders and a flusher.
+fn on_hub<
+    V: Device + Drop + Send,
+    A: Node + Send + Sync,
+    D: Whole + Send + Sync,
+    C: Whole + Send + Sync,
+    R: Threads + Wait + Sync,
+>(
+    rt: &R,
+    alloc: Global,
+    desk: Desk,
+    journal: Journal<V>,
+    blanks: Blanks,
+    load: Load,
+) -> Result<(V, Counts), Refusal>
+    requires desk { desk.member ≡ A.member }
+    requires opened { length desk.state.inputs ≡ A.opened }
+    requires accepted { ForAccepted blanks A.name A.parts }
+    requires durable { ForDurable blanks D.name D.parts × IsWhole D.all D.parts }
+    requires costs { ForCosts blanks C.name C.parts × IsWhole C.all C.parts }
+    requires ready { is_spoiled journal ≡ false }
+    requires member { member_of journal ≡ desk.member }
+    requires len { len_of journal ≡ desk.state.durable }
+    requires room { room_of journal ≡ desk.member.capacity - used fresh (durable_in desk.state) }
+{
+    let (hub, tie) = Hub::<A, D, C>::new(desk, blanks);
+    let appenders = appenders(rt, alloc, &hub, load)?;
+    let flusher = Flusher::new(journal, tie);
+    let shared = &hub;
+    let ((journal, batches), stood) = join(
+        rt,
+        move || -> (Journal<V>, u32)
+            requires { IsWhole D.all D.parts × IsWhole C.all C.parts }
+        { flusher.flush_all(rt, shared) },
+        || append_in_threads(rt, shared, appenders, load.stands),
+    );
+    let stood = stood?;
+    Ok((journal.into_device(), Counts { stood, batches }))
+}
+
+/// Appends 64 bytes and syncs, so often, in a part of the file that has its bytes before. Tells how many it has.
+fn append_bare<D: Device>(device: &mut D, appends: u32) -> Result<u64, DeviceFault> {
+    for no in 0..APPENDS {
+        device.write_at(64 * no, &APPEND)?;
+    }
+    device.sync()?;
+    for no in 0..u64::from(appends) {
+        device.write_at(64 * (no % APPENDS), &APPEND)?;
+        device.sync()?;
+    }
+    Ok(device.size())
+}
