@@ -3,10 +3,9 @@
 ghost use Rattle.std.specs.Prelude.{◌≡◌, ◌≤◌, length};
 ghost use Rattle.commit_hub.specs.Pages.{ForAccepted, ForDurable, ForCosts, IsWhole};
 
-use crate::flusher::commit;
 use crate::rows::{broken_journal, journal_of, new_desk, node, request};
 use commit_hub::{Blanks, Hub, Node, Share, Tie, Whole};
-use disk_model::MemDevice;
+use disk_model::{Device, MemDevice};
 use gated_journal::{Batch, Journal, Receipt, Spoiled};
 use group_commit::{Desk, Ticket};
 use ring_records::{Input, Refusal};
@@ -87,6 +86,19 @@ fn launches<A: Node, D: Whole, C: Whole, R: Wait + Abort>(
         Ok(None) => panic!(rt; "nothing waits"),
         Err(refusal) => panic!(rt; "{refusal}"),
     }
+}
+
+/// Commits the batch, which is the journal's next.
+fn commit<V: Device>(
+    rt: &impl Abort,
+    journal: &mut Journal<V>,
+    batch: Batch,
+) -> Result<Receipt, Spoiled> {
+    assert!(rt; !journal.is_spoiled());
+    assert!(rt; batch.node() == journal.node());
+    assert!(rt; batch.first() == journal.len());
+    assert!(rt; journal.room() >= batch.cost());
+    journal.commit(batch)
 }
 
 fn commits<R: Abort>(rt: &R, journal: &mut Journal<MemDevice>, batch: Batch) -> Receipt {

@@ -2,10 +2,10 @@
 use disk_model::{FuseDevice, MemDevice};
 use gated_journal::Journal;
 use group_commit::Desk;
-use ring_records::{NodeNo, Reply, Request};
+use ring_records::{NodeNo, Request};
 use std::alloc::AllocGlobal;
 use std::process::Abort;
-use test_rows::{Ask, Say};
+use test_rows::Ask;
 
 pub fn node(rt: &impl Abort, number: u8) -> NodeNo {
     NodeNo::new(number).expect(rt, "a node")
@@ -13,10 +13,6 @@ pub fn node(rt: &impl Abort, number: u8) -> NodeNo {
 
 pub fn request(rt: &impl Abort, ask: Ask) -> Request {
     ask.request().expect(rt, "a request")
-}
-
-pub fn reply(rt: &impl Abort, say: Say) -> Reply {
-    say.reply().expect(rt, "a reply")
 }
 
 /// The desk of this node of 3, capacity 4,096, at this opening, with no inputs.

@@ -1,5 +1,5 @@
 use Rattle.std.specs.Prelude.{length}
-use Rattle.hub_tests.proofs.appenders.play_on.Given as goal
+use Rattle.service_tests.proofs.held.a_reader_reads_while_a_round_is_held.Given as goal
 
 -- the ledgers are named by the pages and the desk
 
@@ -20,3 +20,8 @@ ghosts-play-C-Ledger g a = record { name = a.blanks.costs.name; parts = a.blanks
 
 abbrev pub ghosts-play-C-Whole : goal.ghosts-play-C-Whole
 ghosts-play-C-Whole g a = record { all = a.blanks.costs.parts }
+
+-- the history of the board is the one that was begun for it
+
+abbrev pub ghosts-play-J-Naming : goal.ghosts-play-J-Naming
+ghosts-play-J-Naming g a = record { book = a.opened }

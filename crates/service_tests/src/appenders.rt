@@ -1,15 +1,20 @@
 // Two appenders beside a flusher, each in a thread of its own.
-ghost use Rattle.std.specs.Prelude.{◌≡◌, length};
+ghost use Rattle.std.specs.Prelude.{◌≡◌, ◌-◌, false, length};
+ghost use Rattle.ring_records.specs.Admission.{fresh, used};
+ghost use Rattle.ring_records.specs.Answer.{durable_in};
+ghost use Rattle.gated_journal.specs.Journal.{member_of, len_of, room_of, is_spoiled};
 ghost use Rattle.commit_hub.specs.Pages.{places_of, ForAccepted, ForDurable, ForCosts, IsWhole};
 
-use crate::flusher::flush_all;
-use crate::rows::{empty_device, new_desk, node, reply, request};
+use crate::rounds::flush_all;
+use crate::rows::{empty_device, new_node, node, reply, request};
 use crate::slow::{Flags, SlowDevice, await_flag};
 use commit_hub::{Blanks, Hub, Node, Share, Whole};
+use decision_board::{Board, Naming, Opened};
 use disk_model::{Device, FuseDevice};
 use gated_journal::Journal;
 use group_commit::{Desk, Stub};
 use ring_records::{Refusal, Request};
+use ring_service::Flusher;
 use std::alloc::{AllocGlobal, Global};
 use std::marker::Brand;
 use std::process::Abort;
@@ -60,6 +65,7 @@ struct Outcome<V: Device> {
 /// closed.
 fn play<
     V: Device + Drop + Send,
+    J: Naming + Send + Sync,
     A: Node + Send + Sync,
     D: Whole + Send + Sync,
     C: Whole + Send + Sync,
@@ -70,25 +76,34 @@ fn play<
     flags: &Flags,
     desk: Desk,
     journal: Journal<V>,
+    opened: Opened,
     blanks: Blanks,
     asks: &[Request; 2],
 ) -> Outcome<V>
     requires member { desk.member ≡ A.member }
     requires opened { length desk.state.inputs ≡ A.opened }
+    requires history { opened ≡ J.book }
     requires accepted { ForAccepted blanks A.name A.parts }
     requires durable { ForDurable blanks D.name D.parts × IsWhole D.all D.parts }
     requires costs { ForCosts blanks C.name C.parts × IsWhole C.all C.parts }
     requires places { places_of blanks ≡ 2 }
+    requires ready { is_spoiled journal ≡ false }
+    requires header { member_of journal ≡ desk.member }
+    requires len { len_of journal ≡ desk.state.durable }
+    requires room { room_of journal ≡ desk.member.capacity - used fresh (durable_in desk.state) }
 {
+    let board = Board::<J>::new(alloc, opened, &[], 1).expect(rt, "ample memory");
     let (hub, tie) = Hub::<A, D, C>::new(desk, blanks);
+    let mut flusher = Flusher::new(alloc, journal, board, tie);
     let mut one = hub.enter(rt).expect(rt, "the first place");
     let mut two = hub.enter(rt).expect(rt, "the second place");
     let shared = &hub;
-    let (journal, (first, second)) = join(
+    let flushing = &mut flusher;
+    let ((), (first, second)) = join(
         rt,
-        move || -> Journal<V>
+        || -> ()
             requires { IsWhole D.all D.parts × IsWhole C.all C.parts }
-        { flush_all(rt, shared, tie, journal) },
+        { flush_all(rt, shared, flushing, &mut (), &flags.closing) },
         || {
             let both = join(
                 rt,
@@ -98,10 +113,13 @@ fn play<
                     append(rt, shared, &mut two, &asks[1], flags)
                 },
             );
+            flags.closing.store(true, Ordering::SeqCst);
             shared.close(rt);
             both
         },
     );
+    let (journal, board, _owed) = flusher.into_parts();
+    board.end(rt);
     let window = hub.window(rt).expect(rt, "ample memory").len();
     let mut shares = Vec::with_capacity(alloc, 2).expect(rt, "ample memory");
     shares.push_reserved(one);
@@ -161,18 +179,24 @@ fn play_on<V: Device + Drop + Send, R: Threads + Wait + Clock + Abort + AllocGlo
     flags: &Flags,
     device: V,
 ) -> Outcome<V> {
-    let made = match node_store::Node::create(rt.alloc(), device, node(rt, 1), 3, 4096, 0) {
-        Ok(made) => made,
-        Err((_device, refusal)) => panic!(rt; "{refusal}"),
-    };
-    let (desk, journal) = made.split();
+    let (desk, journal) = new_node(rt, device);
     flags.armed.store(true, Ordering::SeqCst);
     let asks = [
         request(rt, Ask::Stand("red", 5, 10)),
         request(rt, Ask::Stand("blue", 1, 3)),
     ];
     let blanks = Blanks::new(2);
-    play::<V, Brand, Brand, Brand, R>(rt, rt.alloc(), flags, desk, journal, blanks, &asks)
+    let opened = Opened::new();
+    play::<V, Brand, Brand, Brand, Brand, R>(
+        rt,
+        rt.alloc(),
+        flags,
+        desk,
+        journal,
+        opened,
+        blanks,
+        &asks,
+    )
 }
 
 #[test]

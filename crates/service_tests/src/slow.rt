@@ -16,6 +16,8 @@ pub struct Flags {
     pub accepted: AtomicBool,
     /// It ended before it was told to.
     pub late: AtomicBool,
+    /// The hub is being closed.
+    pub closing: AtomicBool,
 }
 
 impl Flags {
@@ -25,6 +27,7 @@ impl Flags {
             syncing: AtomicBool::new(false),
             accepted: AtomicBool::new(false),
             late: AtomicBool::new(false),
+            closing: AtomicBool::new(false),
         }
     }
 }

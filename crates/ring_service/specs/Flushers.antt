@@ -1,0 +1,30 @@
+-- What contracts see of a flusher.
+use Rattle.std.specs.Prelude.{Bool, List, ◌++◌}
+use Rattle.std.specs.declared.sync.ledger.Ledger as ledger
+use Rattle.disk_model.specs.declared.device.Device as device
+use Rattle.ring_records.specs.declared.decision.Decision.{Decision}
+use Rattle.gated_journal.specs.declared.journal.Journal.{Journal}
+use Rattle.decision_board.specs.Boards.{published, pending}
+use Rattle.commit_hub.specs.declared.ledgers.Node as node
+use Rattle.commit_hub.specs.declared.ledgers.Whole as whole
+use Rattle.ring_service.specs.declared.flusher.Flusher.{Flusher}
+
+module _ {V J A D C : Type 0} {v : device.Ghosts V} {a : node.Ghosts A} {la : ledger.Ghosts A} {d : whole.Ghosts D} {c : whole.Ghosts C} where
+  abbrev pub journal_of : Flusher V J A D C v a la d c → Journal V v
+  journal_of flusher = flusher.journal
+
+  -- the board: what is published, and what it took since
+  abbrev pub board_of : Flusher V J A D C v a la d c → List Decision × List Decision
+  board_of flusher = flusher.board
+
+  -- the decisions that the board could not take yet
+  abbrev pub owed_of : Flusher V J A D C v a la d c → List Decision
+  owed_of flusher = flusher.owed.items
+
+  -- all decisions that it was told of, in order: published, taken by the board, and owed
+  abbrev pub told_to : Flusher V J A D C v a la d c → List Decision
+  told_to flusher = published (board_of flusher) ++ (pending (board_of flusher) ++ owed_of flusher)
+
+  -- the device failed with one of its batches, or the hub refused one
+  abbrev pub has_ended : Flusher V J A D C v a la d c → Bool
+  has_ended flusher = flusher.has_ended

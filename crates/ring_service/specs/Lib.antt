@@ -1,0 +1,2 @@
+pub mod Flushers
+pub mod Rounds

@@ -1,0 +1,206 @@
+//! The flusher's end of a hub.
+ghost use Rattle.std.specs.Prelude.{◌≡◌, ◌+◌, ◌-◌, ◌<◌, ◌≤◌, ◌⊎◌, ◌++◌, [], List, true, false, is_err, length, IfOk, IfErr, IfSome, IfNone, IsErrOf, OnErr, OnOk};
+ghost use mathlib.Core.List.{IsPrefix};
+ghost use Rattle.ring_records.specs.declared.input.Input.{Input};
+ghost use Rattle.ring_records.specs.Admission.{fresh, used};
+ghost use Rattle.disk_model.specs.Disk.{LeavesOnly};
+ghost use Rattle.gated_journal.specs.Batch.{shown};
+ghost use Rattle.gated_journal.specs.Journal.{device_of, member_of, len_of, room_of, is_spoiled};
+ghost use Rattle.gated_journal.specs.Reading.{AllReadAs, ReadsAsOneOf};
+ghost use Rattle.gated_journal.specs.Unread.{IsFault};
+ghost use Rattle.decision_board.specs.Boards.{published, pending};
+ghost use Rattle.commit_hub.specs.Holders.{durable_of, costs_of};
+ghost use Rattle.commit_hub.specs.Pages.{IsWhole};
+ghost use Rattle.commit_hub.specs.Told.{IsBrought};
+ghost use Rattle.ring_service.specs.Rounds.{IsRound, IsStopped, IsIdle, IsSpent};
+
+use crate::gate::Gate;
+use crate::owed::publish;
+use commit_hub::{Hub, Node, Tie, Whole};
+use decision_board::{Board, Naming};
+use disk_model::Device;
+use gated_journal::{Batch, Journal};
+use group_commit::Landed;
+use ring_records::{Decision, Refusal};
+use std::alloc::Global;
+use std::collections::VecDeque;
+use std::sync::Wait;
+
+/// The journal and the tie of a hub's node, the board of its decisions, and those that the board could not take yet.
+pub struct Flusher<V: Device, J: Naming, A: Node, D: Whole, C: Whole> {
+    journal: Journal<V>,
+    tie: Tie<A, D, C>,
+    board: Board<J>,
+    owed: VecDeque<Decision>,
+    has_ended: bool,
+    ghost ready: { has_ended ≡ false → is_spoiled journal ≡ false },
+    ghost member: { has_ended ≡ false → member_of journal ≡ A.member },
+    ghost len: { has_ended ≡ false → len_of journal ≡ durable_of tie },
+    ghost room: { has_ended ≡ false → room_of journal ≡ A.member.capacity - costs_of tie },
+}
+
+impl<V: Device, J: Naming, A: Node, D: Whole, C: Whole> Flusher<V, J, A, D, C> {
+    ghost use Rattle.ring_service.specs.Flushers.{journal_of, board_of, owed_of, told_to, has_ended};
+
+    /// A flusher that owes nothing. The journal is that of the node of the tie's hub, is not spoiled, and has what the
+    /// tie counts.
+    pub fn new(
+        alloc: Global,
+        journal: Journal<V>,
+        board: Board<J>,
+        tie: Tie<A, D, C>,
+    ) -> Flusher<V, J, A, D, C>
+        requires ready { is_spoiled journal ≡ false }
+        requires member { member_of journal ≡ A.member }
+        requires len { len_of journal ≡ durable_of tie }
+        requires room { room_of journal ≡ A.member.capacity - costs_of tie }
+        ensures journal { journal_of result ≡ journal }
+        ensures board { board_of result ≡ board }
+        ensures owed { owed_of result ≡ [] }
+        ensures goes_on { has_ended result ≡ false }
+    {
+        Flusher {
+            journal,
+            tie,
+            board,
+            owed: VecDeque::new(alloc),
+            has_ended: false,
+        }
+    }
+
+    /// One round on the hub of its tie: waits for inputs, makes the first of them durable, at most 64, and publishes the
+    /// leaders that they make known. Tells what it made durable; `None` once the hub is closed and nothing waits.
+    ///
+    /// Refused as 8, 9 or 12, nothing was launched: a growth was refused; the flusher has ended or the hub has failed; a
+    /// batch flies. Refused as 15, the device failed, and as 10, the hub refused what came of the batch, which is ended.
+    /// After 15 and 10 the flusher has ended. Decisions that the board cannot take for memory stay owed, and go first in
+    /// the next round.
+    pub fn flush_round<R: Wait, G: Gate>(
+        &mut self,
+        rt: &R,
+        hub: &Hub<A, D, C>,
+        gate: &mut G,
+    ) -> Result<Option<Landed>, Refusal>
+        requires whole { IsWhole D.all D.parts × IsWhole C.all C.parts }
+        ensures round { IfOk result (λ some. IfSome some (λ landed. IsRound A.member (V.disk (device_of (journal_of self.old))) (V.disk (device_of (journal_of self.new))) (len_of (journal_of self.old)) landed)) }
+        ensures told { IfOk result (λ some. IfSome some (λ landed. told_to self.new ≡ told_to self.old ++ landed.decisions.items)) }
+        ensures published { IsPrefix (published (board_of self.old)) (published (board_of self.new)) }
+        ensures none { IfOk result (λ some. IfNone some (journal_of self.new ≡ journal_of self.old)) }
+        ensures kept { IfOk result (λ some. IfNone some (told_to self.new ≡ told_to self.old)) }
+
+        // Refused, no decision is lost.
+        ensures refusal { IfErr result (λ why. IsIdle why ⊎ (IsFault (V.count (device_of (journal_of self.old))) (V.count (device_of (journal_of self.new))) why ⊎ (why ≡ Refusal.Foreign))) }
+        ensures idle { IfErr result (λ why. IsIdle why → journal_of self.new ≡ journal_of self.old) }
+        ensures spoiled { IfErr result (λ why. IsFault (V.count (device_of (journal_of self.old))) (V.count (device_of (journal_of self.new))) why → is_spoiled (journal_of self.new) ≡ true) }
+        ensures foreign { IfErr result (λ why. why ≡ Refusal.Foreign → IsSpent (len_of (journal_of self.old)) (len_of (journal_of self.new)) (is_spoiled (journal_of self.new))) }
+        ensures same { OnErr result (told_to self.new ≡ told_to self.old) }
+        ensures in_reach { 0 < V.reach (device_of (journal_of self.old)) → 17 + A.member.capacity ≤ V.reach (device_of (journal_of self.old)) → IfErr result (λ why. IsIdle why ⊎ (why ≡ Refusal.Foreign)) }
+
+        // It ends where a batch did not land, and answers 9 then.
+        ensures ends { IfErr result (λ why. IsIdle why ⊎ (has_ended self.new ≡ true)) }
+        ensures goes_on { OnOk result (has_ended self.new ≡ false) }
+        ensures ended { has_ended self.old ≡ true → IsErrOf result Refusal.Failed }
+
+        // A stop at any moment leaves the journal's list, or also the inputs of the batch.
+        ensures any_moment { has_ended self.old ≡ false → (list : List Input) → AllReadAs A.member (V.disk (device_of (journal_of self.old))) list
+            → IsStopped V.clock V.left_since (device_of (journal_of self.old)) (device_of (journal_of self.new)) A.member list }
+    {
+        if self.has_ended {
+            return Err(Refusal::Failed);
+        }
+        let Flusher {
+            journal,
+            tie,
+            board,
+            owed,
+            has_ended,
+        } = self;
+        // A batch has at most 64 inputs, and each makes one leader known at most.
+        if owed.reserve(64).is_err() {
+            return Err(Refusal::OutOfMemory);
+        }
+        match hub.launch(rt, tie) {
+            Err(refusal) => Err(refusal),
+            Ok(None) => Ok(None),
+            Ok(Some(batch)) => {
+                gate.before_commit(batch.first(), batch.inputs().len());
+                match settle(rt, hub, journal, tie, batch) {
+                    Err(refusal) => {
+                        *has_ended = true;
+                        Err(refusal)
+                    }
+                    Ok(landed) => {
+                        publish(rt, board, owed, &landed.decisions);
+                        Ok(Some(landed))
+                    }
+                }
+            }
+        }
+    }
+
+    /// The journal, the board, and the decisions that the board could not take yet.
+    pub fn into_parts(self) -> (Journal<V>, Board<J>, VecDeque<Decision>)
+        ensures journal { result.0 ≡ journal_of self }
+        ensures board { result.1 ≡ board_of self }
+        ensures owed { result.2.items ≡ owed_of self }
+    {
+        let Flusher {
+            journal,
+            tie: _,
+            board,
+            owed,
+            has_ended: _,
+        } = self;
+        (journal, board, owed)
+    }
+}
+
+/// Makes the batch durable, and tells the hub what became of it. What the hub refuses is ended.
+fn settle<V: Device, A: Node, D: Whole, C: Whole, R: Wait>(
+    rt: &R,
+    hub: &Hub<A, D, C>,
+    journal: &mut Journal<V>,
+    tie: &mut Tie<A, D, C>,
+    batch: Batch,
+) -> Result<Landed, Refusal>
+    requires whole { IsWhole D.all D.parts × IsWhole C.all C.parts }
+    requires ready { is_spoiled journal.old ≡ false }
+    requires member { member_of journal.old ≡ A.member }
+    requires node { (shown batch).node ≡ A.member.node }
+    requires first { (shown batch).first ≡ len_of journal.old }
+    requires len { len_of journal.old ≡ durable_of tie.old }
+    requires used { costs_of tie.old + used fresh (shown batch).inputs ≤ A.member.capacity }
+    requires room { room_of journal.old ≡ A.member.capacity - costs_of tie.old }
+    ensures count { IfOk result (λ landed. landed.count ≡ length (shown batch).inputs) }
+    ensures brought { IfOk result (λ landed. IsBrought A.member (len_of journal.old) (shown batch).inputs landed) }
+    ensures few { IfOk result (λ landed. length landed.decisions.items ≤ 64) }
+    ensures durable { OnOk result ((list : List Input) → AllReadAs A.member (V.disk (device_of journal.old)) list
+        → AllReadAs A.member (V.disk (device_of journal.new)) (list ++ (shown batch).inputs)) }
+    ensures ready { OnOk result (is_spoiled journal.new ≡ false) }
+    ensures member { member_of journal.new ≡ A.member }
+    ensures len { OnOk result (len_of journal.new ≡ durable_of tie.new) }
+    ensures room { OnOk result (room_of journal.new ≡ A.member.capacity - costs_of tie.new) }
+    ensures refusal { IfErr result (λ why. IsFault (V.count (device_of journal.old)) (V.count (device_of journal.new)) why ⊎ (why ≡ Refusal.Foreign)) }
+    ensures spoiled { IfErr result (λ why. IsFault (V.count (device_of journal.old)) (V.count (device_of journal.new)) why → is_spoiled journal.new ≡ true) }
+    ensures foreign { IfErr result (λ why. why ≡ Refusal.Foreign → IsSpent (len_of journal.old) (len_of journal.new) (is_spoiled journal.new)) }
+    ensures in_reach { 0 < V.reach (device_of journal.old) → 17 + A.member.capacity ≤ V.reach (device_of journal.old) → IfErr result (λ why. why ≡ Refusal.Foreign) }
+    ensures any_moment { (list : List Input) → AllReadAs (member_of journal.old) (V.disk (device_of journal.old)) list
+        → LeavesOnly V.clock V.left_since (device_of journal.old) (device_of journal.new) (ReadsAsOneOf (member_of journal.old) list (list ++ (shown batch).inputs)) }
+{
+    match journal.commit(batch) {
+        Ok(receipt) => match hub.land(rt, tie, receipt) {
+            Ok(landed) => Ok(landed),
+            Err((receipt, refusal)) => {
+                receipt.into_parts();
+                Err(refusal)
+            }
+        },
+        Err(spoiled) => match hub.fail(rt, tie, spoiled) {
+            Ok(()) => Err(Refusal::Device(journal.failures())),
+            Err((spoiled, refusal)) => {
+                spoiled.into_parts();
+                Err(refusal)
+            }
+        },
+    }
+}

@@ -1,0 +1,27 @@
+use Rattle.std.specs.Prelude.{length}
+use Rattle.service_tests.proofs.rounds.plays.Given as goal
+
+-- the ledgers are named by the pages and the desk
+
+abbrev pub ghosts-on_flusher-A-Ledger : goal.ghosts-on_flusher-A-Ledger
+ghosts-on_flusher-A-Ledger g a = record { name = a.blanks.accepted.name; parts = a.blanks.accepted.parts }
+
+abbrev pub ghosts-on_flusher-A-Node : goal.ghosts-on_flusher-A-Node
+ghosts-on_flusher-A-Node g a = record { member = a.desk.member; opened = length a.desk.state.inputs }
+
+abbrev pub ghosts-on_flusher-D-Ledger : goal.ghosts-on_flusher-D-Ledger
+ghosts-on_flusher-D-Ledger g a = record { name = a.blanks.durable.name; parts = a.blanks.durable.parts }
+
+abbrev pub ghosts-on_flusher-D-Whole : goal.ghosts-on_flusher-D-Whole
+ghosts-on_flusher-D-Whole g a = record { all = a.blanks.durable.parts }
+
+abbrev pub ghosts-on_flusher-C-Ledger : goal.ghosts-on_flusher-C-Ledger
+ghosts-on_flusher-C-Ledger g a = record { name = a.blanks.costs.name; parts = a.blanks.costs.parts }
+
+abbrev pub ghosts-on_flusher-C-Whole : goal.ghosts-on_flusher-C-Whole
+ghosts-on_flusher-C-Whole g a = record { all = a.blanks.costs.parts }
+
+-- the history of the board is the one that was begun for it
+
+abbrev pub ghosts-on_flusher-J-Naming : goal.ghosts-on_flusher-J-Naming
+ghosts-on_flusher-J-Naming g a = record { book = a.opened }

@@ -1,0 +1,68 @@
+// What nodes are given and give. All numbers and names of rows are in their ranges.
+ghost use Rattle.std.specs.Prelude.{◌≡◌, ◌-◌, false};
+ghost use Rattle.ring_records.specs.Admission.{fresh, used};
+ghost use Rattle.ring_records.specs.Answer.{durable_in};
+ghost use Rattle.gated_journal.specs.Journal.{member_of, len_of, room_of, is_spoiled};
+
+use disk_model::{Device, MemDevice};
+use gated_journal::Journal;
+use group_commit::Desk;
+use node_store::Node;
+use ring_records::{Candidate, GroupName, Key, NodeNo, Refusal, Reply, Request, Term};
+use std::alloc::AllocGlobal;
+use std::process::Abort;
+use test_rows::{Ask, Say};
+
+pub fn node(rt: &impl Abort, number: u8) -> NodeNo {
+    NodeNo::new(number).expect(rt, "a node")
+}
+
+pub fn group(rt: &impl Abort, name: &str) -> GroupName {
+    GroupName::read(name.as_bytes()).expect(rt, "a group")
+}
+
+pub fn request(rt: &impl Abort, ask: Ask) -> Request {
+    ask.request().expect(rt, "a request")
+}
+
+pub fn reply(rt: &impl Abort, say: Say) -> Reply {
+    say.reply().expect(rt, "a reply")
+}
+
+pub fn key(rt: &impl Abort, group: &str, term: u32) -> Key {
+    test_rows::key(group, term).expect(rt, "a key")
+}
+
+/// What a read answers where this node leads with the bid.
+pub fn leader(rt: &impl Abort, bid: u32, node: u8) -> Result<Option<Candidate>, Refusal> {
+    let leader = test_rows::candidate(bid, node).expect(rt, "a candidate");
+    Ok(Some(leader))
+}
+
+/// What a read of the latest leader answers.
+pub type Latest = Result<Option<(Term, Candidate)>, Refusal>;
+
+/// What a read answers where this node leads the group with the bid in this term, its latest with a leader.
+pub fn latest(rt: &impl Abort, term: u32, bid: u32, node: u8) -> Latest {
+    let term = Term::new(term).expect(rt, "a term");
+    let leader = test_rows::candidate(bid, node).expect(rt, "a candidate");
+    Ok(Some((term, leader)))
+}
+
+/// A device that holds nothing, with room for a journal of capacity 4,096.
+pub fn empty_device<R: Abort + AllocGlobal>(rt: &R) -> MemDevice {
+    MemDevice::new(rt.alloc(), 17 + 4096).expect(rt, "ample memory")
+}
+
+/// The desk and the journal of node 1 of 3, capacity 4,096, with no inputs, on this device.
+pub fn new_node<V: Device + Drop, R: Abort + AllocGlobal>(rt: &R, device: V) -> (Desk, Journal<V>)
+    ensures ready { is_spoiled result.1 ≡ false }
+    ensures member { member_of result.1 ≡ result.0.member }
+    ensures len { len_of result.1 ≡ result.0.state.durable }
+    ensures room { room_of result.1 ≡ result.0.member.capacity - used fresh (durable_in result.0.state) }
+{
+    match Node::create(rt.alloc(), device, node(rt, 1), 3, 4096, 0) {
+        Ok(made) => made.split(),
+        Err((_device, refusal)) => panic!(rt; "{refusal}"),
+    }
+}
