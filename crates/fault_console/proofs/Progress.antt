@@ -1,18 +1,16 @@
 -- What the loop over the lines keeps, and what follows from it.
-use Rattle.std.proofs.Common.{◌≡◌, ℕ, ◌+◌, ◌*◌, ◌<◌, ◌≤◌, false, List, [], ◌∷◌, ◌++◌, length, take, drop, refl, sym, ap, ◌∙◌, arith, append_assoc, append-nil, subst, Ok, Err, None, Option, IfSome}
+use Rattle.std.proofs.Common.{◌≡◌, ℕ, ◌+◌, ◌*◌, ◌<◌, ◌≤◌, false, List, [], ◌∷◌, ◌++◌, length, take, drop, refl, sym, ap, ◌∙◌, arith, append_assoc, append-nil, subst, None, Option}
 use Rattle.std.proofs.lemmas.List.{take-append-drop, length-append, drop-drop}
 use Rattle.std.proofs.Math.Seq.{take-add}
 use Rattle.std.proofs.KnownBytes.{Appends-nil, Appends-trans}
 use Rattle.std.specs.Io.KnownBytes.{Appends}
-use Rattle.std.specs.Prelude.{Result, IfOk}
 use Rattle.ring_world.specs.State.{State}
 use Rattle.line_words.specs.Texts.{text_of, IsFront}
 use Rattle.line_words.specs.Words.{lines_of}
 use Rattle.line_words.proofs.Texts.{text_of-append}
 use Rattle.fault_console.proofs.Runs.{MayPrint-append, MayPrint-one, some_run, prints_a_line}
 use Rattle.fault_console.specs.Commands.{is_silent}
-use Rattle.fault_console.specs.Script.{LinePrints, MayPrint, tickets_of, IsWhole, IsCut, IsUpTo, Wrote, WroteOf}
-use Rattle.fault_console.specs.declared.run.RunFault.{RunFault}
+use Rattle.fault_console.specs.Script.{LinePrints, MayPrint, tickets_of, IsWhole, IsCut, IsUpTo, Wrote}
 
 -- the lines up to the next one, and those after it
 cut_more : {A : Type 0} (xs : List A) (n : ℕ) (x : A) (more : List A) → drop n xs ≡ x ∷ more → (take (n + 1) xs ≡ take n xs ++ (x ∷ [])) × (drop (n + 1) xs ≡ more)

@@ -7,7 +7,7 @@ use Rattle.disk_model.specs.Disk.{Disk, MayLeave}
 use Rattle.ring_records.specs.declared.input.Input.{Input}
 use Rattle.ring_records.specs.declared.refusal.Refusal.{Refusal}
 use Rattle.ring_records.specs.Admission.{fresh, used, cost, Fits, IsAdmitted, IsLawful}
-use Rattle.ring_records.specs.Answer.{NodeState, launched, landed, durable_in, flown_in, flying_in}
+use Rattle.ring_records.specs.Answer.{NodeState, launched, durable_in, flown_in, flying_in}
 use Rattle.ring_records.specs.History.{taken}
 use Rattle.ring_records.specs.Lists.{found_after}
 use Rattle.ring_records.proofs.Counts.{used-push}

@@ -1,5 +1,5 @@
 -- Tickets that are open, in the order in which they were given.
-use Rattle.std.proofs.Common.{arith, rules, ◌≡◌, ℕ, suc, ◌+◌, ◌<◌, ◌≤◌, true, false, List, [], ◌∷◌, ◌++◌, cond, nat_eq, length, Option, Some, refl, sym, ap, subst, ◌∙◌}
+use Rattle.std.proofs.Common.{arith, ◌≡◌, ℕ, suc, ◌<◌, ◌≤◌, false, List, [], ◌∷◌, ◌++◌, cond, nat_eq, length, Some, refl, ap, subst, ◌∙◌}
 use Rattle.std.specs.List.{cons_option, filter, filter_map}
 use Rattle.std.specs.Map.{lookup, remove_entry}
 use Rattle.std.proofs.lemmas.Bool.{eq-eqb}

@@ -1,7 +1,7 @@
 -- A node of the ring: it is at work, and its messages are those that its durable inputs sent.
-use Rattle.std.proofs.Common.{arith, ℕ, ◌≡◌, ◌≤◌, ◌<◌, ◌+◌, ◌-◌, Bool, true, false, nat_lt, List, [], ◌∷◌, ◌++◌, length, take, drop, refl, sym, ap, subst, ◌∙◌}
+use Rattle.std.proofs.Common.{arith, ℕ, ◌≡◌, ◌≤◌, ◌+◌, true, List, [], ◌∷◌, ◌++◌, length, refl, sym, ap, subst, ◌∙◌}
 use Rattle.std.proofs.lemmas.Bool.Decides.{nat_tests}
-use Rattle.std.proofs.lemmas.List.{take_all, length-take}
+use Rattle.std.proofs.lemmas.List.{take_all}
 use Rattle.ring_records.specs.declared.input.Input.{Input}
 use Rattle.ring_records.specs.declared.msg.Msg.{Msg}
 use Rattle.ring_records.specs.declared.packet.Packet.{Packet}
@@ -11,14 +11,12 @@ use Rattle.ring_records.specs.Answer.{NodeState, launched, left_by, flying_in}
 use Rattle.ring_records.specs.Answer as answers
 use Rattle.ring_records.specs.Emission.{sent}
 use Rattle.ring_records.specs.Release.{packets}
-use Rattle.ring_records.proofs.Leader.{Contains-nil}
-use Rattle.gated_journal.specs.Reading.{Member, member, is_header}
+use Rattle.gated_journal.specs.Reading.{Member, is_header}
 use Rattle.group_commit.specs.Desk as desks
 use Rattle.group_commit.specs.Desk.{DeskView, new_desk, ticket_for, submitted, ended}
 use Rattle.ring_node.specs.Messages.{carried_in}
-use Rattle.ring_node.specs.Node.{NodeView, state_of, durable_in, restarted, left}
 use Rattle.ring_node.specs.Held.{HeldView, AreInside, IsRingNode}
-use Rattle.ring_node.proofs.Sending.{sent-none, sent-batch, batch-few, inside, inside-front}
+use Rattle.ring_node.proofs.Sending.{sent-batch, batch-few, inside, inside-front}
 use Rattle.ring_node.proofs.Serving as serving
 
 me_within : (m : Member) → is_header m ≡ true → m.node ≤ m.n

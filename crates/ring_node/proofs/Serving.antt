@@ -21,10 +21,10 @@ use Rattle.ring_records.specs.declared.refusal.Refusal.{Refusal}
 use Rattle.ring_records.specs.declared.refusal.Refusal.TheVariants.{Device, Failed, OutOfMemory}
 use Rattle.group_commit.specs.Desk as desks
 use Rattle.group_commit.specs.Desk.{DeskView, new_desk, ticket_for, submitted, ended, objection, kept_at, IsHere, IsSealed}
-use Rattle.group_commit.specs.Ticket.{TicketView, ticket_with}
+use Rattle.group_commit.specs.Ticket.{TicketView}
 use Rattle.node_store.proofs.Standing.{lawful_asked}
-use Rattle.ring_node.specs.Node.{NodeView, new_node, asked_with, flushed, restarted}
-use Rattle.ring_node.specs.Open.{Open, is_due}
+use Rattle.ring_node.specs.Node.{new_node, asked_with, restarted}
+use Rattle.ring_node.specs.Open.{is_due}
 use Rattle.ring_node.specs.Held.{HeldView, MatchFirst, AreHeld, shown_with, view_with, IsServed}
 use Rattle.ring_node.proofs.Queue.{First, held_none, held_more, shown_more, first, held_from, none_due, ended_first, found_first}
 

@@ -20,7 +20,6 @@ use Rattle.ring_records.proofs.Leader.{Contains-here, Contains-later, Contains-f
 use Rattle.ring_records.proofs.Lists.{along, none≢some}
 use Rattle.ring_world.specs.Committed.{committed}
 use Rattle.ring_world.specs.Events.{Action, state_after, IsSchedule}
-use Rattle.ring_world.proofs.Handed.{after_low, after_high}
 use Rattle.ring_world.proofs.Schedules.{schedule_holds}
 
 -- ---- the last credit and the last message

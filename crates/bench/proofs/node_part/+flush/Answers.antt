@@ -1,4 +1,4 @@
-use Rattle.std.proofs.Common.{◌≡◌, ◌+◌, ap, sym, ◌∙◌, arith}
+use Rattle.std.proofs.Common.{◌≡◌, ◌+◌, ap, ◌∙◌, arith}
 use Rattle.group_commit.specs.Desk.{DeskView, kept_at}
 use Rattle.group_commit.specs.Ticket.{TicketView, shown}
 use Rattle.bench.proofs.Open.{still_here, kept_over}

@@ -1,5 +1,5 @@
-use Rattle.std.proofs.Common.{rules, [], ◌≡◌, ◌∙◌, true, ap, sym, subst}
-use Rattle.group_commit.specs.Desk.{DeskView, ended}
+use Rattle.std.proofs.Common.{rules, [], ◌≡◌, ◌∙◌, ap, sym, subst}
+use Rattle.group_commit.specs.Desk.{DeskView}
 use Rattle.ring_node.specs.Held.{AreHeld}
 use Rattle.ring_node.proofs.Queue.{none_open}
 use Rattle.ring_node.proofs.Serving.{oldest, is_here, others_held}

@@ -1,4 +1,4 @@
-use Rattle.std.proofs.Common.{◌≡◌, ◌∙◌, ◌-◌, List, take, drop, ap, sym, subst, arith}
+use Rattle.std.proofs.Common.{◌∙◌, ◌-◌, List, take, drop, ap, sym, subst, arith}
 use Rattle.ring_records.specs.declared.input.Input.{Input}
 use Rattle.ring_records.specs.Admission.{fresh, IsLawful}
 use Rattle.ring_records.specs.Answer.{durable_in, flying_in}

@@ -1,4 +1,4 @@
-use Rattle.std.proofs.Common.{rules, ◌∙◌, ◌-◌, List, take, drop, ap, sym, subst, arith}
+use Rattle.std.proofs.Common.{rules, ◌∙◌, ◌-◌, List, take, drop, ap, sym, subst}
 use Rattle.ring_records.specs.declared.input.Input.{Input}
 use Rattle.gated_journal.specs.Batch.{numbered}
 use Rattle.group_commit.specs.Desk.{DeskView}

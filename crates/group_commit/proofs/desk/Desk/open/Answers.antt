@@ -1,6 +1,4 @@
-use Rattle.std.proofs.Common.{rules, ℕ, [], List, sym, subst, arith}
-use Rattle.ring_records.specs.Answer.{Answered}
-use Rattle.group_commit.specs.Kept.{AreBelow}
+use Rattle.std.proofs.Common.{rules, arith}
 use Rattle.group_commit.proofs.Numbers.{below_none}
 use Rattle.group_commit.proofs.Replies.{answers_none}
 use Rattle.group_commit.proofs.desk.Desk.open.Goals as goal

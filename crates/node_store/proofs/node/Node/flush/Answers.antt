@@ -1,4 +1,4 @@
-use Rattle.std.proofs.Common.{◌≡◌, ◌∙◌, ◌-◌, true, sym, subst, ap, refl, ◌++◌}
+use Rattle.std.proofs.Common.{◌≡◌, ◌∙◌, ◌-◌, true, sym, subst, ap, ◌++◌}
 use Rattle.disk_model.proofs.Moments.{started, weaken, now}
 use Rattle.ring_records.specs.Answer.{NodeState, launched, durable_in, flying_in}
 use Rattle.ring_records.specs.Release.{packets, decisions}

@@ -3,7 +3,7 @@ use Rattle.disk_model.specs.Disk.{Disk}
 use Rattle.ring_records.specs.Admission.{fresh, used}
 use Rattle.ring_records.specs.Answer.{left_by}
 use Rattle.gated_journal.specs.Journal as journals
-use Rattle.gated_journal.specs.Reading.{Member, member, ReadsAs, AllReadAs}
+use Rattle.gated_journal.specs.Reading.{member, ReadsAs, AllReadAs}
 use Rattle.gated_journal.specs.Unread.{IsFault}
 use Rattle.group_commit.specs.Desk.{DeskView, new_desk}
 use Rattle.node_store.specs.State.{Holds, Stands}

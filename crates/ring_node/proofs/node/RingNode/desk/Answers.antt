@@ -1,4 +1,4 @@
-use Rattle.std.proofs.Common.{◌≡◌, ◌≤◌, ◌∙◌, length, ap, sym, subst}
+use Rattle.std.proofs.Common.{◌≤◌, ◌∙◌, length, ap, subst}
 use Rattle.gated_journal.specs.Reading.{member}
 use Rattle.group_commit.specs.Desk.{DeskView}
 use Rattle.ring_node.specs.Node.{NodeView}

@@ -1,4 +1,4 @@
-use Rattle.std.proofs.Common.{arith, rules, ◌≡◌, ◌≤◌, ◌++◌, List, length, ap, ◌∙◌, refl, ⊎_elim}
+use Rattle.std.proofs.Common.{arith, ◌≡◌, ◌≤◌, ◌++◌, List, length, ap, ◌∙◌, refl, ⊎_elim}
 use Rattle.disk_model.specs.FuseDevice.{reach_of}
 use Rattle.disk_model.specs.MemDevice.{limit_of}
 use Rattle.ring_records.specs.declared.msg.Msg.{Msg}

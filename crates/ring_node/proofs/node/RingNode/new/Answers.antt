@@ -1,4 +1,4 @@
-use Rattle.std.proofs.Common.{arith, ◌≡◌, ◌≤◌, ◌+◌, ◌∙◌, [], length}
+use Rattle.std.proofs.Common.{arith, ◌≡◌, ◌≤◌, ◌+◌, ◌∙◌, []}
 use Rattle.disk_model.specs.FuseDevice.{reach_of}
 use Rattle.disk_model.specs.MemDevice.{limit_of}
 use Rattle.gated_journal.specs.Reading.{member}

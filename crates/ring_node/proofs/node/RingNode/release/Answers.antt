@@ -9,7 +9,7 @@ use Rattle.ring_node.specs.Open.{Open, is_due}
 use Rattle.ring_node.specs.Held.{HeldView, MatchFirst, shown_with}
 use Rattle.ring_node.proofs.Queue.{none_shown}
 use Rattle.ring_node.proofs.Ring.{by_name, ends}
-use Rattle.ring_node.proofs.Serving.{same_view, sealed, oldest, is_here, early, first_shown, ends_due, not_sealed}
+use Rattle.ring_node.proofs.Serving.{sealed, oldest, is_here, early, first_shown, ends_due, not_sealed}
 use Rattle.ring_node.proofs.node.RingNode.release.Goals as goal
 use Rattle.ring_node.proofs.node.RingNode.release.Goals.{In-Ok}
 

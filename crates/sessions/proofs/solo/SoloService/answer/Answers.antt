@@ -1,6 +1,6 @@
 use Rattle.std.proofs.Common.{inl, inr, sym, ap, subst, ◌∙◌, length, arith}
 use Rattle.std.proofs.lemmas.Option.{same_Some}
-use Rattle.group_commit.specs.Desk.{DeskView, answered, submitted, IsHere}
+use Rattle.group_commit.specs.Desk.{DeskView, answered, IsHere}
 use Rattle.group_commit.specs.Ticket.{TicketView, shown}
 use Rattle.ring_records.specs.Answer.{opened}
 use Rattle.sessions.proofs.Asked.{one_waits, no_ticket, still_here, none_of}
