@@ -1,2 +1,3 @@
 pub mod Flushers
 pub mod Rounds
+pub mod Services

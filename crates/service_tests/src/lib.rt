@@ -10,4 +10,6 @@ mod rounds;
 #[cfg(test)]
 mod rows;
 #[cfg(test)]
+mod services;
+#[cfg(test)]
 mod slow;

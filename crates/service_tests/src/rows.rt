@@ -8,7 +8,7 @@ use disk_model::{Device, MemDevice};
 use gated_journal::Journal;
 use group_commit::Desk;
 use node_store::Node;
-use ring_records::{Candidate, GroupName, Key, NodeNo, Refusal, Reply, Request, Term};
+use ring_records::{Bid, Candidate, GroupName, Key, NodeNo, Refusal, Reply, Request, Term};
 use std::alloc::AllocGlobal;
 use std::process::Abort;
 use test_rows::{Ask, Say};
@@ -27,6 +27,10 @@ pub fn request(rt: &impl Abort, ask: Ask) -> Request {
 
 pub fn reply(rt: &impl Abort, say: Say) -> Reply {
     say.reply().expect(rt, "a reply")
+}
+
+pub fn bid(rt: &impl Abort, number: u32) -> Bid {
+    Bid::new(number).expect(rt, "a bid")
 }
 
 pub fn key(rt: &impl Abort, group: &str, term: u32) -> Key {

@@ -1,0 +1,87 @@
+-- What a service over a hub and a board answers.
+use Rattle.std.specs.Prelude.{ℕ, ◌≡◌, ◌≤◌, ◌+◌, ◌⊎◌, List, Option, Some, Ok, Err}
+use mathlib.Core.List.{IsPrefix}
+use Rattle.ring_records.specs.declared.candidate.Candidate.{Candidate}
+use Rattle.ring_records.specs.declared.decision.Decision.{Decision}
+use Rattle.ring_records.specs.declared.refusal.Refusal.{Refusal}
+use Rattle.ring_records.specs.declared.refusal.Refusal.TheVariants as refused
+use Rattle.ring_records.specs.declared.reply.Reply.{Reply}
+use Rattle.ring_records.specs.declared.reply.Reply.TheVariants as replied
+use Rattle.ring_records.specs.declared.request.Request.{Request}
+use Rattle.ring_records.specs.declared.request.Request.TheVariants.{Stand, Take, Acked, Who, Latest}
+use Rattle.ring_records.specs.Content.{leader_in, leads_in}
+use Rattle.ring_records.specs.Leader.{IsLatest}
+use Rattle.gated_journal.specs.Reading.{Member}
+use Rattle.group_commit.specs.Desk.{IsAnswer}
+use Rattle.group_commit.specs.Ticket.{stub}
+use Rattle.group_commit.specs.declared.ticket.Stub.{Stub}
+use Rattle.decision_board.specs.Boards.{seen, learned}
+use Rattle.commit_hub.specs.Holders.{count_of}
+use Rattle.commit_hub.specs.declared.ledgers.Node as node
+use Rattle.commit_hub.specs.declared.ledgers.Whole as whole
+use Rattle.commit_hub.specs.declared.share.Share.{Share}
+use Rattle.sessions.specs.Session.{Answer}
+use Rattle.ring_service.specs.declared.service.HubService.{HubService}
+
+-- the greatest term of the group with a leader in the list that is seen, and that leader
+pub record IsLatestReply (group : List ℕ) (reply : Reply) (list : List Decision) : Type 0 where
+  pub latest : Option (ℕ × Candidate)
+  pub is : reply ≡ replied.Latest latest
+  pub greatest : IsLatest (leads_in list group) latest
+
+module _ {R J A D C : Type 0} {a : node.Ghosts A} {d : whole.Ghosts D} {c : whole.Ghosts C} where
+  abbrev pub share_of : HubService R J A D C a d c → Share A a
+  share_of service = service.share
+
+  -- what the service's reader of the board saw last, and the longest list that it learned
+  abbrev pub reader_of : HubService R J A D C a d c → List Decision × List Decision
+  reader_of service = service.reader
+
+  -- the stub of its last reply to a Stand
+  abbrev pub last_of : HubService R J A D C a d c → Option Stub
+  last_of service = service.last
+
+  -- its share counts at most one input more
+  abbrev pub CountsOne : HubService R J A D C a d c → HubService R J A D C a d c → Type 0
+  CountsOne old new = (count_of (share_of old) ≤ count_of (share_of new)) × (count_of (share_of new) ≤ count_of (share_of old) + 1)
+
+  -- A question was answered by the hub: the reply is that of the last stub, which has this question. A node with some
+  -- lawful history answers so.
+  pub record IsReleased (member : Member) (old : HubService R J A D C a d c) (q : Request) (reply : Reply) (new : HubService R J A D C a d c) : Type 0 where
+    pub given : Stub
+    pub last : last_of new ≡ Some given
+    pub question : (stub given).question ≡ q
+    pub is : reply ≡ (stub given).answer.reply
+    pub answer : IsAnswer member (stub given)
+    pub board : reader_of new ≡ reader_of old
+    pub counts : CountsOne old new
+
+  -- It was not: the hub is closed or has failed, all numbers of tickets were given, a growth was refused, or the ticket
+  -- is not the hub's. The ticket, if there was one, is forfeited.
+  pub record IsUnreleased (old : HubService R J A D C a d c) (why : Refusal) (new : HubService R J A D C a d c) : Type 0 where
+    pub cause : (why ≡ refused.Failed) ⊎ ((why ≡ refused.Limit) ⊎ ((why ≡ refused.OutOfMemory) ⊎ (why ≡ refused.Foreign)))
+    pub last : last_of new ≡ last_of old
+    pub board : reader_of new ≡ reader_of old
+    pub counts : CountsOne old new
+
+  -- the board was read: what is seen begins with what was seen, and with what was learned
+  pub record IsRead (old new : HubService R J A D C a d c) : Type 0 where
+    pub begins : IsPrefix (seen (reader_of old)) (seen (reader_of new)) × IsPrefix (learned (reader_of old)) (seen (reader_of new))
+    pub learns : learned (reader_of new) ≡ learned (reader_of old)
+    pub last : last_of new ≡ last_of old
+    pub share : share_of new ≡ share_of old
+
+  -- the board has ended
+  abbrev pub IsOver : HubService R J A D C a d c → Refusal → HubService R J A D C a d c → Type 0
+  IsOver old why new = (why ≡ refused.NoPlace) × (new ≡ old)
+
+  -- A Stand is answered by the hub, a question for leaders by the board. Nothing else is asked.
+  abbrev pub HubAnswers : Member → HubService R J A D C a d c → Request → Answer → HubService R J A D C a d c → Type 0
+  HubAnswers member old (Stand key bid) (Ok reply) new = IsReleased member old (Stand key bid) reply new
+  HubAnswers member old (Stand key bid) (Err why) new = IsUnreleased old why new
+  HubAnswers member old (Who key) (Ok reply) new = (reply ≡ replied.Leader (leader_in (seen (reader_of new)) key)) × IsRead old new
+  HubAnswers member old (Who key) (Err why) new = IsOver old why new
+  HubAnswers member old (Latest group) (Ok reply) new = IsLatestReply group reply (seen (reader_of new)) × IsRead old new
+  HubAnswers member old (Latest group) (Err why) new = IsOver old why new
+  HubAnswers member old (Take number msg) answer new = ⊥
+  HubAnswers member old (Acked upto) answer new = ⊥

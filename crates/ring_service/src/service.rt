@@ -1,0 +1,108 @@
+//! A service over a hub and the board of its node.
+ghost use Rattle.std.specs.Prelude.{◌≡◌, Some, None, is_some, IfSome};
+
+use commit_hub::{Hub, Node, Share, Whole};
+use decision_board::{BoardReader, Naming};
+use group_commit::Stub;
+use ring_records::{Bid, GroupName, Key, Refusal, Reply, Request};
+use sessions::Service;
+use std::sync::Wait;
+
+/// A service over a node that other threads use too. It stands by the hub, with a share of its own, and waits until the
+/// reply is released; it reads leaders from the board and waits for nobody. A Stand is refused as 9 where the hub is
+/// closed or has failed, as 6 and as 8; a read as 20 after the board's end.
+#[derive(Drop)]
+pub struct HubService<'a, R, J: Naming, A: Node, D: Whole, C: Whole> {
+    rt: &'a R,
+    hub: &'a Hub<A, D, C>,
+    share: Share<A>,
+    reader: BoardReader<J>,
+    last: Option<Stub>,
+}
+
+impl<'a, R, J: Naming, A: Node, D: Whole, C: Whole> HubService<'a, R, J, A, D, C> {
+    ghost use Rattle.ring_service.specs.Services.{share_of, reader_of, last_of};
+
+    /// A service that has released nothing yet.
+    pub fn new(
+        rt: &'a R,
+        hub: &'a Hub<A, D, C>,
+        share: Share<A>,
+        reader: BoardReader<J>,
+    ) -> HubService<'a, R, J, A, D, C>
+        ensures share { share_of result ≡ share }
+        ensures reader { reader_of result ≡ reader }
+        ensures last { last_of result ≡ None }
+    {
+        HubService {
+            rt,
+            hub,
+            share,
+            reader,
+            last: None,
+        }
+    }
+
+    /// The stub of the last reply to a Stand, if there was one.
+    pub fn last(&self) -> Option<&Stub>
+        ensures some { is_some result ≡ is_some (last_of self.now) }
+        ensures stub { IfSome result (λ stub. last_of self.now ≡ Some stub.now) }
+    {
+        self.last.as_ref()
+    }
+
+    /// Ends it.
+    pub fn into_parts(self) -> (Share<A>, BoardReader<J>, Option<Stub>)
+        ensures share { result.0 ≡ share_of self.entry }
+        ensures reader { result.1 ≡ reader_of self.entry }
+        ensures last { result.2 ≡ last_of self.entry }
+    {
+        let HubService {
+            share,
+            reader,
+            last,
+            ..
+        } = self;
+        (share, reader, last)
+    }
+}
+
+impl<'a, R: Wait, J: Naming, A: Node, D: Whole, C: Whole> Service
+    for HubService<'a, R, J, A, D, C> {
+    ghost use Rattle.ring_service.specs.Services.{HubAnswers};
+
+    ghost answers = { HubAnswers A.member };
+
+    fn stand(&mut self, key: Key, bid: Bid) -> Result<Reply, Refusal> {
+        match self
+            .hub
+            .submit(self.rt, &mut self.share, Request::Stand(key, bid))
+        {
+            Err(refusal) => Err(refusal),
+            Ok(ticket) => match self.hub.redeem_wait(self.rt, ticket) {
+                Ok((reply, stub)) => {
+                    self.last = Some(stub);
+                    Ok(reply)
+                }
+                Err((ticket, refusal)) => {
+                    let _ = self.hub.forfeit(self.rt, ticket);
+                    Err(refusal)
+                }
+            },
+        }
+    }
+
+    fn who(&mut self, key: &Key) -> Result<Reply, Refusal> {
+        match self.reader.who(key) {
+            Ok(leader) => Ok(Reply::Leader(leader)),
+            Err(refusal) => Err(refusal),
+        }
+    }
+
+    fn latest(&mut self, group: &GroupName) -> Result<Reply, Refusal> {
+        match self.reader.latest(group) {
+            Ok(latest) => Ok(Reply::Latest(latest)),
+            Err(refusal) => Err(refusal),
+        }
+    }
+}
