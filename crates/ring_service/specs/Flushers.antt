@@ -3,6 +3,7 @@ use Rattle.std.specs.Prelude.{Bool, List, ◌++◌}
 use Rattle.std.specs.declared.sync.ledger.Ledger as ledger
 use Rattle.disk_model.specs.declared.device.Device as device
 use Rattle.ring_records.specs.declared.decision.Decision.{Decision}
+use Rattle.gated_journal.specs.Journal.{device_of}
 use Rattle.gated_journal.specs.declared.journal.Journal.{Journal}
 use Rattle.decision_board.specs.Boards.{published, pending}
 use Rattle.commit_hub.specs.declared.ledgers.Node as node
@@ -12,6 +13,9 @@ use Rattle.ring_service.specs.declared.flusher.Flusher.{Flusher}
 module _ {V J A D C : Type 0} {v : device.Ghosts V} {a : node.Ghosts A} {la : ledger.Ghosts A} {d : whole.Ghosts D} {c : whole.Ghosts C} where
   abbrev pub journal_of : Flusher V J A D C v a la d c → Journal V v
   journal_of flusher = flusher.journal
+
+  abbrev pub device_in : Flusher V J A D C v a la d c → V
+  device_in flusher = device_of (journal_of flusher)
 
   -- the board: what is published, and what it took since
   abbrev pub board_of : Flusher V J A D C v a la d c → List Decision × List Decision

@@ -1,3 +1,4 @@
 pub mod Flushers
+pub mod Restarts
 pub mod Rounds
 pub mod Services

@@ -40,7 +40,7 @@ pub struct Flusher<V: Device, J: Naming, A: Node, D: Whole, C: Whole> {
 }
 
 impl<V: Device, J: Naming, A: Node, D: Whole, C: Whole> Flusher<V, J, A, D, C> {
-    ghost use Rattle.ring_service.specs.Flushers.{journal_of, board_of, owed_of, told_to, has_ended};
+    ghost use Rattle.ring_service.specs.Flushers.{journal_of, device_in, board_of, owed_of, told_to, has_ended};
 
     /// A flusher that owes nothing. The journal is that of the node of the tie's hub, is not spoiled, and has what the
     /// tie counts.
@@ -82,19 +82,19 @@ impl<V: Device, J: Naming, A: Node, D: Whole, C: Whole> Flusher<V, J, A, D, C> {
         gate: &mut G,
     ) -> Result<Option<Landed>, Refusal>
         requires whole { IsWhole D.all D.parts × IsWhole C.all C.parts }
-        ensures round { IfOk result (λ some. IfSome some (λ landed. IsRound A.member (V.disk (device_of (journal_of self.old))) (V.disk (device_of (journal_of self.new))) (len_of (journal_of self.old)) landed)) }
+        ensures round { IfOk result (λ some. IfSome some (λ landed. IsRound A.member (V.disk (device_in self.old)) (V.disk (device_in self.new)) (len_of (journal_of self.old)) landed)) }
         ensures told { IfOk result (λ some. IfSome some (λ landed. told_to self.new ≡ told_to self.old ++ landed.decisions.items)) }
         ensures published { IsPrefix (published (board_of self.old)) (published (board_of self.new)) }
         ensures none { IfOk result (λ some. IfNone some (journal_of self.new ≡ journal_of self.old)) }
         ensures kept { IfOk result (λ some. IfNone some (told_to self.new ≡ told_to self.old)) }
 
         // Refused, no decision is lost.
-        ensures refusal { IfErr result (λ why. IsIdle why ⊎ (IsFault (V.count (device_of (journal_of self.old))) (V.count (device_of (journal_of self.new))) why ⊎ (why ≡ Refusal.Foreign))) }
+        ensures refusal { IfErr result (λ why. IsIdle why ⊎ (IsFault (V.count (device_in self.old)) (V.count (device_in self.new)) why ⊎ (why ≡ Refusal.Foreign))) }
         ensures idle { IfErr result (λ why. IsIdle why → journal_of self.new ≡ journal_of self.old) }
-        ensures spoiled { IfErr result (λ why. IsFault (V.count (device_of (journal_of self.old))) (V.count (device_of (journal_of self.new))) why → is_spoiled (journal_of self.new) ≡ true) }
+        ensures spoiled { IfErr result (λ why. IsFault (V.count (device_in self.old)) (V.count (device_in self.new)) why → is_spoiled (journal_of self.new) ≡ true) }
         ensures foreign { IfErr result (λ why. why ≡ Refusal.Foreign → IsSpent (len_of (journal_of self.old)) (len_of (journal_of self.new)) (is_spoiled (journal_of self.new))) }
         ensures same { OnErr result (told_to self.new ≡ told_to self.old) }
-        ensures in_reach { 0 < V.reach (device_of (journal_of self.old)) → 17 + A.member.capacity ≤ V.reach (device_of (journal_of self.old)) → IfErr result (λ why. IsIdle why ⊎ (why ≡ Refusal.Foreign)) }
+        ensures in_reach { 0 < V.reach (device_in self.old) → 17 + A.member.capacity ≤ V.reach (device_in self.old) → IfErr result (λ why. IsIdle why ⊎ (why ≡ Refusal.Foreign)) }
 
         // It ends where a batch did not land, and answers 9 then.
         ensures ends { IfErr result (λ why. IsIdle why ⊎ (has_ended self.new ≡ true)) }
@@ -102,8 +102,8 @@ impl<V: Device, J: Naming, A: Node, D: Whole, C: Whole> Flusher<V, J, A, D, C> {
         ensures ended { has_ended self.old ≡ true → IsErrOf result Refusal.Failed }
 
         // A stop at any moment leaves the journal's list, or also the inputs of the batch.
-        ensures any_moment { has_ended self.old ≡ false → (list : List Input) → AllReadAs A.member (V.disk (device_of (journal_of self.old))) list
-            → IsStopped V.clock V.left_since (device_of (journal_of self.old)) (device_of (journal_of self.new)) A.member list }
+        ensures any_moment { has_ended self.old ≡ false → (list : List Input) → AllReadAs A.member (V.disk (device_in self.old)) list
+            → IsStopped V.clock V.left_since (device_in self.old) (device_in self.new) A.member list }
     {
         if self.has_ended {
             return Err(Refusal::Failed);
