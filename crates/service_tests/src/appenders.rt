@@ -19,26 +19,26 @@ use std::alloc::{AllocGlobal, Global};
 use std::marker::Brand;
 use std::process::Abort;
 use std::sync::Wait;
-use std::sync::atomic::Ordering;
+use std::sync::atomic::{AtomicBool, Ordering};
 use std::test::*;
 use std::thread::{Threads, join};
 use std::time::Clock;
 use test_rows::{Ask, Note, Op, Say};
 
-/// Submits, and waits for the reply. A ticket that is refused is forfeited.
+/// Submits, tells so if it is to, and waits for the reply. A ticket that is refused is forfeited.
 fn append<A: Node, D: Whole, C: Whole, R: Wait>(
     rt: &R,
     hub: &Hub<A, D, C>,
     share: &mut Share<A>,
     question: &Request,
-    flags: &Flags,
+    accepted: Option<&AtomicBool>,
 ) -> Result<Stub, Refusal> {
     let asked = *question;
     match hub.submit(rt, share, asked) {
         Err(refusal) => Err(refusal),
         Ok(ticket) => {
-            if flags.syncing.load(Ordering::SeqCst) {
-                flags.accepted.store(true, Ordering::SeqCst);
+            if let Some(accepted) = accepted {
+                accepted.store(true, Ordering::SeqCst);
             }
             match hub.redeem_wait(rt, ticket) {
                 Ok((_, stub)) => Ok(stub),
@@ -107,10 +107,10 @@ fn play<
         || {
             let both = join(
                 rt,
-                || append(rt, shared, &mut one, &asks[0], flags),
+                || append(rt, shared, &mut one, &asks[0], None),
                 || {
                     await_flag(rt, &flags.syncing);
-                    append(rt, shared, &mut two, &asks[1], flags)
+                    append(rt, shared, &mut two, &asks[1], Some(&flags.accepted))
                 },
             );
             flags.closing.store(true, Ordering::SeqCst);
