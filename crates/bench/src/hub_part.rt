@@ -7,15 +7,16 @@ ghost use Rattle.commit_hub.specs.Pages.{places_of, ForAccepted, ForDurable, For
 
 use crate::devices::{CAPACITY, in_memory};
 use crate::fault::Fault;
-use crate::flusher::Flusher;
 use crate::keys::key;
 use crate::words::{next_amount, next_word};
 use commit_hub::{Blanks, Hub, Node, Share, Whole};
+use decision_board::{Board, Naming, Opened};
 use disk_model::{Device, DeviceFault, FileDevice};
 use gated_journal::Journal;
 use group_commit::Desk;
 use node_store;
 use ring_records::{Bid, NodeNo, Refusal, Reply, Request};
+use ring_service::Flusher;
 use std::alloc::{AllocGlobal, Global};
 use std::env::Args;
 use std::marker::Brand;
@@ -127,7 +128,10 @@ fn one_hub<V: Device + Drop + Send, R: Threads + Wait + Sync>(
         Ok(node) => {
             let (desk, journal) = node.split();
             let blanks = Blanks::new(load.appenders);
-            on_hub::<V, Brand, Brand, Brand, R>(rt, alloc, desk, journal, blanks, load)
+            let opened = Opened::new();
+            on_hub::<V, Brand, Brand, Brand, Brand, R>(
+                rt, alloc, desk, journal, opened, blanks, load,
+            )
         }
     }
 }
@@ -215,9 +219,30 @@ fn append_in_threads<
     Ok(stood)
 }
 
+/// Flushes until the hub is closed and nothing waits, or a round is refused. Where a growth is refused it goes on. Tells
+/// how many rounds there were.
+fn flush_all<V: Device, J: Naming, A: Node, D: Whole, C: Whole, R: Wait>(
+    rt: &R,
+    hub: &Hub<A, D, C>,
+    flusher: &mut Flusher<V, J, A, D, C>,
+) -> u32
+    requires { IsWhole D.all D.parts × IsWhole C.all C.parts }
+{
+    let mut rounds = 0u32;
+    for _ in rt.forever() {
+        match flusher.flush_round(rt, hub, &mut ()) {
+            Ok(Some(_)) => rounds = rounds.saturating_add(1),
+            Err(Refusal::OutOfMemory) => {}
+            Ok(None) | Err(_) => break,
+        }
+    }
+    rounds
+}
+
 /// A hub round the desk, with its appenders and a flusher.
 fn on_hub<
     V: Device + Drop + Send,
+    J: Naming + Send + Sync,
     A: Node + Send + Sync,
     D: Whole + Send + Sync,
     C: Whole + Send + Sync,
@@ -227,9 +252,11 @@ fn on_hub<
     alloc: Global,
     desk: Desk,
     journal: Journal<V>,
+    opened: Opened,
     blanks: Blanks,
     load: Load,
 ) -> Result<(V, Counts), Refusal>
+    requires history { opened ≡ J.book }
     requires desk { desk.member ≡ A.member }
     requires opened { length desk.state.inputs ≡ A.opened }
     requires accepted { ForAccepted blanks A.name A.parts }
@@ -242,15 +269,18 @@ fn on_hub<
 {
     let (hub, tie) = Hub::<A, D, C>::new(desk, blanks);
     let appenders = appenders(rt, alloc, &hub, load)?;
-    let flusher = Flusher::new(journal, tie);
-    let shared = &hub;
-    let ((journal, batches), stood) = join(
+    let board = Board::<J>::new(alloc, opened, &[], 1)?;
+    let mut flusher = Flusher::new(alloc, journal, board, tie);
+    let (shared, flushing) = (&hub, &mut flusher);
+    let (batches, stood) = join(
         rt,
-        move || -> (Journal<V>, u32)
+        || -> u32
             requires { IsWhole D.all D.parts × IsWhole C.all C.parts }
-        { flusher.flush_all(rt, shared) },
+        { flush_all(rt, shared, flushing) },
         || append_in_threads(rt, shared, appenders, load.stands),
     );
+    let (journal, board, _owed) = flusher.into_parts();
+    board.end(rt);
     let stood = stood?;
     Ok((journal.into_device(), Counts { stood, batches }))
 }

@@ -8,7 +8,6 @@ mod core_part;
 mod device_part;
 mod devices;
 mod fault;
-mod flusher;
 mod hub_part;
 mod journal_part;
 mod keys;

@@ -20,3 +20,8 @@ ghosts-on_hub-C-Ledger g a = record { name = a.blanks.costs.name; parts = a.blan
 
 abbrev pub ghosts-on_hub-C-Whole : goal.ghosts-on_hub-C-Whole
 ghosts-on_hub-C-Whole g a = record { all = a.blanks.costs.parts }
+
+-- the history of the board is the one that was begun for it
+
+abbrev pub ghosts-on_hub-J-Naming : goal.ghosts-on_hub-J-Naming
+ghosts-on_hub-J-Naming g a = record { book = a.opened }
