@@ -4,7 +4,8 @@
 // from there. Each clause below, and each of the trait, speaks of this memory and is proved with no premise. That the
 // file holds the same bytes, that a stop leaves of it what the trait says, and that nobody else writes it, no contract
 // can say: that is the premise under which what is proved of a device is true of the file. So that the premise is not
-// asked of a file that has told an error, each call after one is a fault until the file is opened again.
+// asked of a file that has told an error, each call after one is a fault until the file is opened again. An exclusive
+// lock keeps out whoever asks for one.
 ghost use Rattle.std.specs.Prelude.{◌≡◌, ◌↔◌, ◌+◌, ◌-◌, ◌^◌, ◌≤◌, min, [], false, IsTrue, IsOk, IsErr, IfOk, OnOk, OnErr, length};
 ghost use Rattle.disk_model.specs.Disk.{IsPart, Puts, Unsyncs, synced, Elapses, HasCause, IsInReach};
 ghost use Rattle.disk_model.specs.Buffer as buffer;
@@ -27,7 +28,7 @@ const PIECE: usize = 1 << 12;
 /// Why a file was not opened.
 #[derive(Clone, Copy, Debug, PartialEq, Eq)]
 pub enum OpenFault {
-    /// The system refused it, or it is longer than `FILE_LIMIT`.
+    /// The system refused it, it is in use, or it is longer than `FILE_LIMIT`.
     Device,
     /// Want of memory.
     Memory,
@@ -64,7 +65,7 @@ impl From<DeviceFault> for OpenFault {
 }
 
 /// A real file, of at most `FILE_LIMIT` bytes. A read or write that ends past that is a fault, and so is a read that
-/// ends past the file's end. After an error of the file each later call is a fault.
+/// ends past the file's end. After an error of the file each later call is a fault. It holds the file's exclusive lock.
 #[derive(Drop)]
 pub struct FileDevice {
     file: fs::File,
@@ -72,6 +73,14 @@ pub struct FileDevice {
     held: Buffer,
     has_failed: bool,
     faults: u64,
+}
+
+// Takes the file's exclusive lock, which ends as the file is closed.
+fn lock(file: &fs::File) -> Result<(), OpenFault> {
+    match file.try_lock() {
+        Ok(()) => Ok(()),
+        Err(_) => Err(OpenFault::Device),
+    }
 }
 
 // Makes the entry of a new file in its folder outlive a stop.
@@ -120,6 +129,7 @@ impl FileDevice {
             .write(true)
             .create_new(true)
             .open(files, path)?;
+        lock(&file)?;
         file.sync_all()?;
         sync_folder(files, path)?;
         Ok(FileDevice {
@@ -131,7 +141,7 @@ impl FileDevice {
     }
 
     /// A file that is there. What it holds is read now; nothing of it is known to be stable before the first sync.
-    /// Refused as `Device` where the system refuses it, or where it is too long.
+    /// Refused as `Device` where the system refuses it, where another open of it holds the lock, or where it is too long.
     pub fn open<R: Files<File = fs::File>>(
         alloc: Global,
         files: &R,
@@ -144,6 +154,7 @@ impl FileDevice {
     {
         let mut held = Buffer::new(alloc, FILE_LIMIT)?;
         let file = OpenOptions::new().read(true).write(true).open(files, path)?;
+        lock(&file)?;
         let len = file.metadata()?.len();
         if len > FILE_LIMIT as u64 {
             return Err(OpenFault::Device);

@@ -7,16 +7,16 @@ use Rattle.ring_records.specs.Admission.{where_so}
 use Rattle.ring_records.specs.Emission.{sent}
 use Rattle.ring_records.specs.History.{taken, credit}
 use Rattle.ring_records.specs.Lists.{or_else}
-use Rattle.ring_records.specs.Texts.{reply_text, refusal_text}
+use Rattle.ring_records.specs.Texts.{reply_text, refusal_text, shown_text}
 use Rattle.ring_records.specs.declared.refusal.Refusal.{Refusal}
 use Rattle.ring_records.specs.declared.refusal.Refusal.TheVariants.{Failed}
 use Rattle.ring_records.specs.declared.reply.Reply.{Reply}
+use Rattle.ring_records.specs.declared.shown.Shown.{Shown}
 use Rattle.ring_world.specs.Events.{state_after}
 use Rattle.ring_world.specs.State.{State, opened}
 use Rattle.ring_world.specs.Step.{Told, Steps, refusal_of, no_node}
 use Rattle.ring_world.specs.declared.event.Event.{Event}
 use Rattle.ring_world.specs.declared.event.Event.TheVariants.{Submit, Flush, Deliver, DeliverAll, Credit, Crash, Stop}
-use Rattle.ring_world.specs.declared.shown.Shown.{Shown}
 use Rattle.line_words.specs.Forms.{line_says}
 use Rattle.line_words.specs.Texts.{text_of, IsFront, AddsLines}
 use Rattle.line_words.specs.Words.{lines_of}
@@ -52,16 +52,8 @@ flushed_line count = codes "flushed " ++ decimal count
 abbrev pub delivered_line : ℕ → List ℕ
 delivered_line count = codes "delivered " ++ decimal count
 
--- a node, how many inputs it has, and how many of them are durable
-unfoldable pub held_text : ℕ → ℕ → ℕ → List ℕ
-held_text node inputs durable = codes "node " ++ decimal node ++ codes " inputs " ++ decimal inputs ++ codes " durable " ++ decimal durable
-
--- how far its links are
-unfoldable pub links_text : ℕ → ℕ → ℕ → List ℕ
-links_text sent taken credit = codes " sent " ++ decimal sent ++ codes " taken " ++ decimal taken ++ codes " credit " ++ decimal credit
-
 abbrev pub show_line : ℕ → Shown → List ℕ
-show_line node v = held_text node v.inputs v.durable ++ links_text v.sent v.taken v.credit
+show_line node v = codes "node " ++ decimal node ++ codes " " ++ shown_text v
 
 -- ---- the lines of an event
 

@@ -10,8 +10,8 @@ ghost use Rattle.fault_console.specs.Script.{Does, Happens, LinePrints, Obeys, O
 use crate::commands::{Command, RingShape, line_is_silent, read_command, read_shape};
 use crate::print::{count_lines, print_outcome, print_ring, print_shown};
 use line_words::print_refusal;
-use ring_records::{NodeNo, Refusal};
-use ring_world::{Event, Shown, World};
+use ring_records::{NodeNo, Refusal, Shown};
+use ring_world::{Event, World};
 use std::alloc::{AllocError, Global};
 use std::mem::replace;
 

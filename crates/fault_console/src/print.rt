@@ -2,10 +2,10 @@
 ghost use Rattle.std.specs.Prelude.{◌≡◌, ◌≤◌, ◌+◌, ◌<◌, ◌^◌, ◌∷◌, ◌++◌, [], OnOk, string_bytes, length, map};
 ghost use Rattle.line_words.specs.Texts.{AddsLine, AddsLines};
 ghost use Rattle.ring_world.specs.Step.{told};
-ghost use Rattle.fault_console.specs.Script.{ring_line, reply_line, sealed_line, lost_line, up_line, flushed_line, delivered_line, held_text, links_text, show_line, is_answered, sealed_of, sealed_lines, lines_told};
+ghost use Rattle.fault_console.specs.Script.{ring_line, reply_line, sealed_line, lost_line, up_line, flushed_line, delivered_line, show_line, is_answered, sealed_of, sealed_lines, lines_told};
 
-use ring_records::{NodeNo, Reply};
-use ring_world::{Event, Outcome, Shown};
+use ring_records::{NodeNo, Reply, Shown};
+use ring_world::{Event, Outcome};
 use std::alloc::AllocError;
 
 /// Adds the line of a ring that is made.
@@ -70,27 +70,12 @@ fn print_losses(out: &mut String, lost: &[u64]) -> Result<(), AllocError>
     Ok(())
 }
 
-#[tactic(auto, unfolding(crate::specs::Script::held_text))]
-fn print_held(out: &mut String, node: NodeNo, inputs: u64, durable: u64) -> Result<(), AllocError>
-    ensures { OnOk result (string_bytes out.new ≡ string_bytes out.old ++ held_text node inputs durable) }
-{
-    let node = node.number();
-    write!(out, "node {node} inputs {inputs} durable {durable}")
-}
-
-#[tactic(auto, unfolding(crate::specs::Script::links_text))]
-fn print_links(out: &mut String, sent: u64, taken: u64, credit: u64) -> Result<(), AllocError>
-    ensures { OnOk result (AddsLine (string_bytes out.old) (string_bytes out.new) (links_text sent taken credit)) }
-{
-    writeln!(out, " sent {sent} taken {taken} credit {credit}")
-}
-
 /// Adds the line of what a node shows.
 pub fn print_shown(out: &mut String, node: NodeNo, shown: Shown) -> Result<(), AllocError>
     ensures { OnOk result (AddsLine (string_bytes out.old) (string_bytes out.new) (show_line node shown)) }
 {
-    print_held(out, node, shown.inputs, shown.durable)?;
-    print_links(out, shown.sent, shown.taken, shown.credit)
+    let node = node.number();
+    writeln!(out, "node {node} {shown}")
 }
 
 fn is_answered(ticket: u64, replies: &[(u64, Reply)]) -> bool

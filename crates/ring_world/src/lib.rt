@@ -11,11 +11,9 @@ mod happened;
 pub mod laws;
 mod outcome;
 mod ring;
-mod shown;
 mod world;
 
 pub use announced::Announced;
 pub use event::Event;
 pub use outcome::Outcome;
-pub use shown::Shown;
 pub use world::World;

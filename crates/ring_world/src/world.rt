@@ -16,9 +16,8 @@ use crate::happened::Happened;
 use crate::laws;
 use crate::outcome::Outcome;
 use crate::ring::Ring;
-use crate::shown::Shown;
 use disk_model::Tear;
-use ring_records::{NodeNo, Refusal, Reply, Request};
+use ring_records::{NodeNo, Refusal, Reply, Request, Shown};
 use std::alloc::{AllocError, Global};
 use std::marker::Model;
 

@@ -113,6 +113,25 @@ fn what_cannot_be_a_device_is_refused(rt: HostRuntime) {
     remove(&rt, path);
 }
 
+#[test]
+fn a_file_in_use_is_refused(rt: HostRuntime) {
+    let path = "disk_model_in_use.bin";
+    let _ = fs::remove_file(&rt, path);
+    {
+        let mut device = create(&rt, path);
+        is_refused(&rt, FileDevice::open(rt.alloc(), &rt, path));
+        write(&rt, &mut device, 0, b"abc");
+        sync(&rt, &mut device);
+    }
+    {
+        let _device = open(&rt, path);
+        is_refused(&rt, FileDevice::open(rt.alloc(), &rt, path));
+    }
+    let mut device = open(&rt, path);
+    reads(&rt, &mut device, 0, b"abc");
+    remove(&rt, path);
+}
+
 /// Gives the file so many bytes.
 fn lengthen<R: Abort + Files<File = fs::File>>(rt: &R, path: &str, bytes: u64) {
     let file = fs::OpenOptions::new().write(true).open(rt, path);

@@ -71,8 +71,10 @@ fn file_device(rt: HostRuntime) -> Result<(), Fail> {
     };
     assert_eq!(rt; fs::read(&rt, path)?.as_slice(), FRESH.as_slice());
     assert!(rt; commits(&rt, &mut journal, &[stand()?])?);
-    let mut device = journal.into_device();
-    holds(&rt, &mut device, &COMMITTED)?;
+    {
+        let mut device = journal.into_device();
+        holds(&rt, &mut device, &COMMITTED)?;
+    }
     assert_eq!(rt; fs::read(&rt, path)?.as_slice(), COMMITTED.as_slice());
     let device = FileDevice::open(rt.alloc(), &rt, path)?;
     match Journal::reopen(rt.alloc(), device, NodeNo::new(1)?, 3) {
