@@ -20,7 +20,7 @@ use gated_journal::{Batch, Receipt, Spoiled};
 use group_commit::{Desk, Landed, Stub, Ticket};
 use ring_records::{Packet, Refusal, Reply, Request};
 use std::alloc::AllocError;
-use std::sync::{Mutex, Wait};
+use std::sync::{Mutex, MutexGuard, Wait};
 
 /// One lock round a desk. Many appenders submit to it, each with a share, and wait for their replies; one flusher, who
 /// has the tie, launches batches and lands them. No call holds the lock for longer than one call of the desk takes.
@@ -196,6 +196,19 @@ impl<A: Node, D: Whole, C: Whole> Hub<A, D, C> {
     pub fn close<R: Wait>(&self, rt: &R) {
         let mut guard = self.guarded.lock(rt);
         guard.locked.close();
+        self.tell_all(guard);
+    }
+
+    /// Nothing more becomes durable, as after a failure of the device: for a flusher that goes on no more. All who wait
+    /// are told.
+    pub fn abandon<R: Wait>(&self, rt: &R) {
+        let mut guard = self.guarded.lock(rt);
+        guard.locked.abandon();
+        self.tell_all(guard);
+    }
+
+    /// Wakes the flusher, where it is to be, and all who wait for a reply.
+    fn tell_all(&self, mut guard: MutexGuard<'_, Guarded<A, D, C>>) {
         let wakes = guard.must_wake();
         drop(guard);
         if wakes {

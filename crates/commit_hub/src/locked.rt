@@ -260,6 +260,13 @@ impl<A: Node, D: Whole, C: Whole> Locked<A, D, C> {
     }
 
     /// As on the desk.
+    pub(crate) fn abandon(&mut self)
+        ensures { self.new.desk ≡ record self.old.desk { failed = true } }
+    {
+        self.desk.abandon();
+    }
+
+    /// As on the desk.
     pub(crate) fn close(&mut self)
         ensures { self.new.desk ≡ record self.old.desk { closed = true } }
     {

@@ -271,6 +271,13 @@ impl Desk {
         Ok(())
     }
 
+    /// Nothing more becomes durable, as after a failure of the device.
+    pub fn abandon(&mut self)
+        ensures { self.new ≡ record self.old { failed = true } }
+    {
+        self.is_failed = true;
+    }
+
     /// Takes no more requests; all else goes on.
     pub fn close(&mut self)
         ensures { self.new ≡ record self.old { closed = true } }

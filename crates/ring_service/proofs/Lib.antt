@@ -1,3 +1,5 @@
+pub mod Commands
+pub mod Keys
 pub mod Known
 pub mod Restarted
 pub mod Stops

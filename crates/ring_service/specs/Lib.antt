@@ -2,3 +2,5 @@ pub mod Flushers
 pub mod Restarts
 pub mod Rounds
 pub mod Services
+pub mod Settings
+pub mod Words

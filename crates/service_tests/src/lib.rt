@@ -12,4 +12,6 @@ mod rows;
 #[cfg(test)]
 mod services;
 #[cfg(test)]
+mod settings;
+#[cfg(test)]
 mod slow;

@@ -1,0 +1,30 @@
+//! The board of a node that is opened.
+ghost use Rattle.std.specs.Prelude.{◌≡◌, ◌≤◌, [], IfOk, IfErr};
+ghost use Rattle.ring_records.specs.Answer.{durable_in};
+ghost use Rattle.ring_records.specs.Release.{AreLeaders};
+ghost use Rattle.decision_board.specs.Boards.{published, pending};
+
+use decision_board::{Board, Naming, Opened};
+use group_commit::Desk;
+use ring_records::Refusal;
+use std::alloc::Global;
+
+/// A board for so many readers, 1 to 32, that shows the leaders which the desk knows by its durable inputs, in order of
+/// key. Refused as 8. `laws::restarted_board` says why a board may begin so.
+pub fn opened_board<J: Naming>(
+    alloc: Global,
+    opened: Opened,
+    desk: &Desk,
+    readers: usize,
+) -> Result<Board<J>, Refusal>
+    requires history { opened ≡ J.book }
+    requires readers { (1 ≤ readers) × (readers ≤ 32) }
+    ensures leaders { IfOk result (λ board. AreLeaders desk.now.member.node (durable_in desk.now.state) (published board)) }
+    ensures pending { IfOk result (λ board. pending board ≡ []) }
+    ensures refusal { IfErr result (λ why. why ≡ Refusal.OutOfMemory) }
+{
+    match desk.decisions() {
+        Ok(decisions) => Board::new(alloc, opened, &decisions, readers),
+        Err(_) => Err(Refusal::OutOfMemory),
+    }
+}
