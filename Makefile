@@ -12,10 +12,11 @@ test:
 wrong_bodies:
 	@wrong_bodies/run.py $(CRATES)
 
-# rt finds out itself what has to be proved anew. It then runs the program, here on the words that the gate runs it on.
+# rt finds out itself what has to be proved anew. It then runs the program, here on the words and the input that the gate
+# runs it on.
 bin/%: always
 	@mkdir -p bin
-	cd crates/$* && rt run -- $$(cat args 2> /dev/null) < /dev/null > /dev/null
+	cd crates/$* && rt run -- $$(cat args 2> /dev/null) < $$(ls stdin 2> /dev/null || echo /dev/null) > /dev/null
 	cp crates/$*/out/$* $@
 
 bench: bin/ringctl bin/bench

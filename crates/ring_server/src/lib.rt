@@ -1,0 +1,24 @@
+//! A ring of durable nodes that serve clients over sockets: each node in three threads, with its journal in a file.
+//!
+//! `start` is the program `ringd` over readers and writers. docs/ARCHITECTURE.md tells who waits for whom.
+#![tactic(auto)]
+
+mod door;
+mod flush;
+mod folder;
+mod inbox;
+mod links;
+mod node;
+mod open_node;
+mod post;
+mod ring;
+mod ringd;
+mod run_fault;
+mod site;
+
+pub use folder::Folder;
+pub use open_node::OpenNode;
+pub use post::Post;
+pub use ring::serve_ring;
+pub use ringd::start;
+pub use site::Site;

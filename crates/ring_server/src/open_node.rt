@@ -1,0 +1,45 @@
+//! A node that is ready to be shared.
+ghost use Rattle.std.specs.Prelude.{◌≡◌, ◌≤◌, ◌-◌, ◌||◌, false, length};
+ghost use Rattle.ring_records.specs.Admission.{fresh, used};
+ghost use Rattle.ring_records.specs.Answer.{durable_in};
+ghost use Rattle.gated_journal.specs.Journal.{member_of, len_of, room_of, is_spoiled};
+ghost use Rattle.node_store.specs.Node.{desk_of};
+
+use disk_model::Device;
+use gated_journal::Journal;
+use group_commit::Desk;
+use node_store::Node;
+use ring_records::NodeNo;
+
+/// A node's place in the ring, its desk, and the journal that has the desk's durable inputs.
+#[derive(Drop)]
+pub struct OpenNode<V: Device> {
+    pub(crate) node: NodeNo,
+    pub(crate) nodes: u8,
+    pub(crate) desk: Desk,
+    pub(crate) journal: Journal<V>,
+    ghost inside: { (node ≤ nodes) × (nodes ≤ 16) },
+    ghost place: { (desk.member.node ≡ node) × (desk.member.n ≡ nodes) },
+    ghost ready: { is_spoiled journal ≡ false },
+    ghost member: { member_of journal ≡ desk.member },
+    ghost len: { len_of journal ≡ desk.state.durable },
+    ghost room: { room_of journal ≡ desk.member.capacity - used fresh (durable_in desk.state) },
+}
+
+impl<V: Device> OpenNode<V> {
+    /// The parts of this node of a ring of so many, which takes requests and has no open ticket.
+    pub fn new(number: NodeNo, nodes: u8, node: Node<V>) -> OpenNode<V>
+        requires inside { (number ≤ nodes) × (nodes ≤ 16) }
+        requires place { ((desk_of node).member.node ≡ number) × ((desk_of node).member.n ≡ nodes) }
+        requires open { ((desk_of node).closed || (desk_of node).failed) ≡ false }
+        requires spent { length (desk_of node).tickets ≡ 0 }
+    {
+        let (desk, journal) = node.split();
+        OpenNode {
+            node: number,
+            nodes,
+            desk,
+            journal,
+        }
+    }
+}

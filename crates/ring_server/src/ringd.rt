@@ -1,0 +1,216 @@
+//! The program `ringd`, over readers and writers.
+ghost use Rattle.std.specs.Prelude.{◌≡◌, ◌≤◌, IfOk};
+
+use crate::folder::Folder;
+use crate::open_node::OpenNode;
+use crate::post::Post;
+use crate::ring::serve_ring;
+use crate::run_fault::RunFault;
+use crate::site::Site;
+use disk_model::FileDevice;
+use ring_records::{NodeNo, Shown};
+use ring_service::{Settings, Words, read_settings, read_words};
+use std::alloc::{AllocError, Global};
+use std::fs::File;
+use std::io::{ErrorKind, Read, Write};
+use std::net::{Ipv4Addr, Net, TcpListener, TcpStream};
+use std::rt::Files;
+use std::sync::Wait;
+use std::thread::Threads;
+use std::time::Clock;
+use std::{io, str};
+
+/// Runs `ringd` on these words, of which the first is the program's name, and gives the status to end with. Settings
+/// are read from `settings` where the words name no file.
+pub fn start<R, I: Read, O: Write, E: Write>(
+    rt: &R,
+    alloc: Global,
+    words: &[&str],
+    settings: &mut I,
+    out: &mut O,
+    err: &mut E,
+) -> u8
+where
+    R: Threads
+        + Wait
+        + Sync
+        + Clock
+        + Files<File = File>
+        + Net<Listener = TcpListener, Stream = TcpStream>,
+{
+    let words = match read_words(alloc, words) {
+        Ok(words) => words,
+        Err(error) => {
+            let _ = if error.use_stderr() {
+                write!(err, "{error}")
+            } else {
+                write!(out, "{error}")
+            };
+            return (error.exit_code() % 256) as u8;
+        }
+    };
+    match run(rt, alloc, &words, settings, out, err) {
+        Ok(status) => status,
+        Err(fault) => {
+            let _ = writeln!(err, "ringd: {fault}");
+            fault.status()
+        }
+    }
+}
+
+fn run<R, I: Read, O: Write, E: Write>(
+    rt: &R,
+    alloc: Global,
+    words: &Words<'_>,
+    settings: &mut I,
+    out: &mut O,
+    err: &mut E,
+) -> Result<u8, RunFault>
+where
+    R: Threads
+        + Wait
+        + Sync
+        + Clock
+        + Files<File = File>
+        + Net<Listener = TcpListener, Stream = TcpStream>,
+{
+    let settings = take_settings(rt, alloc, words.settings, settings)?;
+    if print_settings(out, &settings).is_err() {
+        return Err(RunFault::Output);
+    }
+    let Some(sessions) = words.serve else {
+        return Ok(0);
+    };
+    let ends = serve(rt, alloc, &settings, sessions, out)?;
+    let mut status = 0;
+    let mut node = 0u8;
+    for end in &ends {
+        node = node.saturating_add(1);
+        match end {
+            Some(shown) => {
+                if writeln!(out, "node {node} {shown}").is_err() {
+                    return Err(RunFault::Output);
+                }
+            }
+            None => {
+                let _ = writeln!(err, "ringd: node {node} failed");
+                status = 1;
+            }
+        }
+    }
+    Ok(status)
+}
+
+/// The settings of a file, or of the input where the path is `-`.
+fn take_settings<R: Files<File = File>, I: Read>(
+    rt: &R,
+    alloc: Global,
+    path: &str,
+    input: &mut I,
+) -> Result<Settings, RunFault> {
+    let bytes = if path == "-" {
+        read_all(alloc, input)?
+    } else {
+        match File::open(rt, path) {
+            Ok(mut file) => read_all(alloc, &mut file)?,
+            Err(_) => return Err(RunFault::Settings),
+        }
+    };
+    match str::from_utf8(&bytes) {
+        Ok(text) => Ok(read_settings(alloc, text)?),
+        Err(_) => Err(RunFault::Settings),
+    }
+}
+
+fn read_all<I: Read>(alloc: Global, input: &mut I) -> Result<Vec<u8>, RunFault> {
+    let mut bytes = Vec::new(alloc);
+    match input.read_to_end(&mut bytes) {
+        Ok(_) => Ok(bytes),
+        Err(error) if error.kind() == ErrorKind::OutOfMemory => Err(RunFault::Memory(AllocError)),
+        Err(_) => Err(RunFault::Settings),
+    }
+}
+
+fn print_settings<O: Write>(out: &mut O, settings: &Settings) -> io::Result<()> {
+    let Settings {
+        nodes,
+        dir,
+        port,
+        capacity,
+    } = settings;
+    write!(
+        out,
+        "nodes {nodes}\ndir {dir}\nport {port}\ncapacity {capacity}\n"
+    )?;
+    out.flush()
+}
+
+/// Opens the nodes and then their doors, and serves.
+fn serve<R, O: Write>(
+    rt: &R,
+    alloc: Global,
+    settings: &Settings,
+    sessions: u16,
+    out: &mut O,
+) -> Result<Vec<Option<Shown>>, RunFault>
+where
+    R: Threads
+        + Wait
+        + Sync
+        + Clock
+        + Files<File = File>
+        + Net<Listener = TcpListener, Stream = TcpStream>,
+{
+    // Its lock is held until the last node has ended.
+    let folder = match Folder::open(rt, settings.dir.as_str()) {
+        Ok(folder) => folder,
+        Err(why) => return Err(RunFault::Node(NodeNo::first(), why)),
+    };
+    let opened = open_nodes(rt, alloc, &folder, settings)?;
+    let listeners = listen(rt, alloc, settings)?;
+    let (post, inboxes) = Post::new(alloc, settings.nodes)?;
+    let mut sites = Vec::new(alloc);
+    for ((opened, inbox), listener) in opened.into_iter().zip(inboxes).zip(listeners) {
+        sites.push(Site::new(alloc, opened, inbox, listener, sessions))?;
+    }
+    if writeln!(out, "serving").is_err() || out.flush().is_err() {
+        return Err(RunFault::Output);
+    }
+    Ok(serve_ring(rt, alloc, sites, &post)?)
+}
+
+fn open_nodes<R: Files<File = File>>(
+    rt: &R,
+    alloc: Global,
+    folder: &Folder<'_>,
+    settings: &Settings,
+) -> Result<Vec<OpenNode<FileDevice>>, RunFault> {
+    let mut nodes = Vec::new(alloc);
+    for number in 1..=settings.nodes {
+        let Ok(node) = NodeNo::new(number) else {
+            break;
+        };
+        match folder.node(rt, alloc, node, settings.nodes, settings.capacity) {
+            Ok(opened) => nodes.push(opened)?,
+            Err(why) => return Err(RunFault::Node(node, why)),
+        }
+    }
+    Ok(nodes)
+}
+
+/// Each node listens at a port of its own, the first one at the port that is set.
+fn listen<R: Net<Listener = TcpListener, Stream = TcpStream>>(
+    rt: &R,
+    alloc: Global,
+    settings: &Settings,
+) -> Result<Vec<TcpListener>, RunFault> {
+    let mut listeners = Vec::new(alloc);
+    for place in 0..settings.nodes {
+        let port = settings.port + u16::from(place);
+        match TcpListener::bind(rt, (Ipv4Addr::LOCALHOST, port)) {
+            Ok(listener) => listeners.push(listener)?,
+            Err(_) => return Err(RunFault::Port(port)),
+        }
+    }
+    Ok(listeners)
+}

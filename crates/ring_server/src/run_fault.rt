@@ -1,0 +1,47 @@
+//! What ends a run of `ringd` before its end.
+use crate::folder::Unopened;
+use ring_records::{Cause, NodeNo};
+use ring_service::StartFault;
+use std::alloc::AllocError;
+use std::fmt;
+use thiserror::Error;
+
+/// Why a run ended early, displayed without the program's name.
+#[derive(Clone, Copy, Debug, Error)]
+pub enum RunFault {
+    /// The system did not give them, or not as UTF-8.
+    #[error("settings cannot be read")]
+    Settings,
+    /// They are refused.
+    #[error(transparent)]
+    Start(#[from] StartFault),
+    /// A node was not opened.
+    #[error("node {0}: {1}")]
+    Node(NodeNo, Unopened),
+    /// A node's port is in use, or not to be had.
+    #[error("port {0} cannot be used")]
+    Port(u16),
+    /// A line was not printed.
+    #[error("output cannot be written")]
+    Output,
+    /// A growth was refused.
+    #[error("out of memory")]
+    Memory(#[from(alloc)] AllocError),
+}
+
+impl fmt::Display for Unopened {
+    fn fmt<W: fmt::Write>(&self, f: &mut fmt::Formatter<W>) -> fmt::Result {
+        write!(f, "{}", Cause(self.0))
+    }
+}
+
+impl RunFault {
+    /// The status that the program ends with: 2 where the settings are at fault.
+    pub fn status(&self) -> u8 {
+        match self {
+            RunFault::Start(StartFault::Memory) => 1,
+            RunFault::Settings | RunFault::Start(_) => 2,
+            _ => 1,
+        }
+    }
+}

@@ -1,0 +1,56 @@
+//! `ringd` serves a ring of journalled nodes on 127.0.0.1.
+#![tactic(auto)]
+
+use ring_server::start;
+use std::alloc::{AllocError, Global};
+use std::io::ErrorKind;
+use std::process::ExitCode;
+use std::{env, io};
+
+// Why the words of the program are not there.
+#[derive(Clone, Copy)]
+enum NoWords {
+    Memory,
+    Text,
+}
+
+impl From<AllocError> for NoWords {
+    fn from(_: AllocError) -> NoWords {
+        NoWords::Memory
+    }
+}
+
+fn take_words(rt: &HostRuntime) -> Result<Vec<String>, NoWords> {
+    match env::args(rt) {
+        Ok(args) => Ok(args.collect(rt.alloc())?),
+        Err(error) if error.kind() == ErrorKind::OutOfMemory => Err(NoWords::Memory),
+        Err(_) => Err(NoWords::Text),
+    }
+}
+
+fn texts_of(alloc: Global, words: &[String]) -> Result<Vec<&str>, AllocError> {
+    words.iter().map(|word| word.as_str()).collect(alloc)
+}
+
+fn main(rt: HostRuntime) -> ExitCode {
+    let alloc = rt.alloc();
+    let words = match take_words(&rt) {
+        Ok(words) => words,
+        Err(NoWords::Text) => {
+            let _ = eprintln!(rt; "ringd: words are not text");
+            return ExitCode::from(2);
+        }
+        Err(NoWords::Memory) => {
+            let _ = eprintln!(rt; "ringd: out of memory");
+            return ExitCode::FAILURE;
+        }
+    };
+    let Ok(texts) = texts_of(alloc, &words) else {
+        let _ = eprintln!(rt; "ringd: out of memory");
+        return ExitCode::FAILURE;
+    };
+    let mut input = rt.reader();
+    let mut out = io::writer(&rt);
+    let mut err = rt.stderr();
+    ExitCode::from(start(&rt, alloc, texts.as_slice(), &mut input, &mut out, &mut err))
+}

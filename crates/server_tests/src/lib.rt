@@ -1,0 +1,9 @@
+//! The tests of `ringd` over readers and writers, with clients on 127.0.0.1 in threads of their own.
+#![tactic(auto)]
+
+#[cfg(test)]
+mod clients;
+#[cfg(test)]
+mod elections;
+#[cfg(test)]
+mod refusals;
