@@ -4,17 +4,23 @@ ghost use Rattle.std.specs.Prelude.{◌≤◌};
 use crate::open_node::OpenNode;
 use disk_model::{FileDevice, OpenFault};
 use node_store::Node;
-use ring_records::{NodeNo, Refusal};
+use ring_records::{Cause, NodeNo, Refusal};
 use std::alloc::{AllocError, Global};
 use std::fs::File;
 use std::io::ErrorKind;
 use std::rt::Files;
-use std::{fs, io};
+use std::{fmt, fs, io};
 
 /// Why a node was not opened: the refusal of its journal or its desk, 15 with one failure where the system refused its
 /// file, and 8.
 #[derive(Clone, Copy, Debug)]
 pub struct Unopened(pub Refusal);
+
+impl fmt::Display for Unopened {
+    fn fmt<W: fmt::Write>(&self, f: &mut fmt::Formatter<W>) -> fmt::Result {
+        write!(f, "{}", Cause(self.0))
+    }
+}
 
 impl From<io::Error> for Unopened {
     fn from(_: io::Error) -> Unopened {

@@ -16,9 +16,10 @@ mod ringd;
 mod run_fault;
 mod site;
 
-pub use folder::Folder;
+pub use folder::{Folder, Unopened};
 pub use open_node::OpenNode;
 pub use post::Post;
 pub use ring::serve_ring;
 pub use ringd::start;
-pub use site::Site;
+pub use run_fault::RunFault;
+pub use site::{Doors, Site};

@@ -1,17 +1,18 @@
-//! One node in three threads: its flusher, its inbox and its door.
+//! One node in its threads: its flusher, its inbox and its doors.
 ghost use Rattle.std.specs.Prelude.{◌≡◌, ◌+◌, ◌-◌, ◌≤◌, false, length};
+ghost use denote.Param.Send.{IsSend};
 ghost use Rattle.commit_hub.specs.Pages.{places_of, ForAccepted, ForDurable, ForCosts, IsWhole};
 
-use crate::door::serve_door;
+use crate::door::{Seat, serve_doors, take_seats};
 use crate::flush::flush_all;
 use crate::inbox::take_all;
 use crate::links::Links;
 use crate::open_node::OpenNode;
 use crate::post::Post;
-use crate::site::Site;
+use crate::site::{Doors, Site};
 use commit_hub::{Hub, Node, Share, Whole};
 use crossbeam_channel::Receiver;
-use decision_board::{BoardReader, Naming};
+use decision_board::Naming;
 use disk_model::Device;
 use group_commit::Desk;
 use ring_records::{Packet, Shown};
@@ -23,19 +24,18 @@ use std::sync::atomic::{AtomicBool, Ordering};
 use std::thread::{Threads, join, scope, scope_env};
 use std::time::{Clock, Duration};
 
-/// What the inbox and the door of a node take with them.
+/// What the inbox and the doors of a node take with them.
 #[derive(Drop)]
 struct Ends<J: Naming, A: Node> {
     inbox: Receiver<Packet>,
-    first: Share<A>,
+    share: Share<A>,
     listener: TcpListener,
-    second: Share<A>,
-    reader: BoardReader<J>,
-    sessions: u16,
+    seats: Vec<Seat<J, A>>,
+    doors: Doors,
 }
 
 /// Runs a node until the last door of the ring is done, and shows what it holds then. `None` where its device failed,
-/// a growth was refused or a thread was not to be had: the others go on. Its door is done once, however it ends.
+/// a growth was refused or a thread was not to be had: the others go on. Its doors are done once, however it ends.
 pub(crate) fn serve_node<
     J: Naming + Send + Sync,
     A: Node + Send + Sync,
@@ -56,7 +56,7 @@ pub(crate) fn serve_node<
         opened,
         inbox,
         listener,
-        sessions,
+        doors,
         blanks,
         history,
     } = site;
@@ -67,36 +67,26 @@ pub(crate) fn serve_node<
         journal,
     } = opened;
     let links = Links { post, node, nodes };
-    let (board, mut shares) = match (
-        opened_board::<J>(alloc, history, &desk, 1),
-        Vec::with_capacity(alloc, 2),
-    ) {
-        (Ok(board), Ok(shares)) => (board, shares),
-        (Ok(board), Err(_)) => {
-            links.leave(rt);
-            board.end(rt);
-            return None;
-        }
-        (Err(_), _) => {
-            links.leave(rt);
-            return None;
-        }
+    let Ok(board) = opened_board::<J>(alloc, history, &desk, doors.count as usize) else {
+        links.leave(rt);
+        return None;
     };
-    let reader = board.reader();
     let (hub, tie) = Hub::<A, D, C>::new(desk, blanks);
-    let (first, second) = (hub.enter(rt), hub.enter(rt));
+    let (share, seats) = (
+        hub.enter(rt),
+        take_seats(rt, alloc, &hub, &board, doors.count),
+    );
     let mut flusher = Flusher::new(alloc, journal, board, tie);
     let has_begun = AtomicBool::new(false);
     let (shared, flushing, links, begun) = (&hub, &mut flusher, &links, &has_begun);
-    let (works, back) = match (reader, first, second) {
-        (Ok(reader), Ok(first), Ok(second)) => {
+    let (works, back) = match (share, seats) {
+        (Ok(share), Some(seats)) => {
             let ends = Ends {
                 inbox,
-                first,
+                share,
                 listener,
-                second,
-                reader,
-                sessions,
+                seats,
+                doors,
             };
             join(
                 rt,
@@ -119,9 +109,11 @@ pub(crate) fn serve_node<
     if !works {
         return None;
     }
-    let (first, second) = back?;
-    shares.push_reserved(first);
-    shares.push_reserved(second);
+    let (share, mut shares) = back?;
+    shares.push(share).ok()?;
+    if shares.len() != doors.count as usize + 1 {
+        return None;
+    }
     match hub.settle(shares) {
         Ok(desk) => Some(shown(&desk)),
         Err(_) => unreachable!(),
@@ -140,7 +132,7 @@ fn awaits<R: Clock>(rt: &R, begun: &AtomicBool) -> bool {
     false
 }
 
-/// Runs the inbox in a thread and the door in this one, until the last door of the ring is done, and closes the hub.
+/// Runs the inbox in a thread and the doors in others, until the last door of the ring is done, and closes the hub.
 /// Gives the shares back where all went well.
 fn serve_ends<
     J: Naming + Send + Sync,
@@ -155,7 +147,7 @@ fn serve_ends<
     ends: Ends<J, A>,
     links: &Links<'_>,
     begun: &AtomicBool,
-) -> Option<(Share<A>, Share<A>)> {
+) -> Option<(Share<A>, Vec<Share<A>>)> {
     let shares = if awaits(rt, begun) {
         run_ends(rt, alloc, hub, ends, links)
     } else {
@@ -178,27 +170,28 @@ fn run_ends<
     hub: &Hub<A, D, C>,
     ends: Ends<J, A>,
     links: &Links<'_>,
-) -> Option<(Share<A>, Share<A>)> {
+) -> Option<(Share<A>, Vec<Share<A>>)> {
     let Ends {
         inbox,
-        first,
+        share,
         listener,
-        second,
-        reader,
-        sessions,
+        seats,
+        doors,
     } = ends;
-    scope(scope_env(), rt, |scope| {
+    scope(scope_env(), rt, |scope|
+        requires { IsSend J.row × IsSend A.row × IsSend D.row × IsSend C.row }
+    {
         let takes = scope
-            .spawn(move || take_all(rt, alloc, hub, first, &inbox, links))
+            .spawn(move || take_all(rt, alloc, hub, share, &inbox, links))
             .ok();
-        let second = if takes.is_some() {
-            Some(serve_door(rt, alloc, hub, second, reader, &listener, sessions, links))
+        let others = if takes.is_some() {
+            serve_doors(rt, alloc, hub, seats, &listener, &doors, links)
         } else {
             None
         };
         links.leave(rt);
-        match (takes.map(|takes| takes.join(rt)), second) {
-            (Some(first), Some(second)) => Some((first, second)),
+        match (takes.map(|takes| takes.join(rt)), others) {
+            (Some(share), Some(others)) => Some((share, others)),
             _ => None,
         }
     })

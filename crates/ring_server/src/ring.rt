@@ -1,10 +1,12 @@
 //! All nodes of a ring, each in threads of its own.
 use crate::node::serve_node;
 use crate::post::Post;
+use crate::run_fault::RunFault;
 use crate::site::Site;
 use disk_model::Device;
 use ring_records::Shown;
 use std::alloc::{AllocError, Global};
+use std::io::Write;
 use std::marker::Brand;
 use std::sync::Wait;
 use std::thread;
@@ -22,7 +24,7 @@ fn one_node<V: Device + Send + Drop, R: Threads + Wait + Clock + Sync>(
 
 /// Runs all nodes until the last door is done. Tells in their order what each holds then, `None` where it failed. All
 /// memory of its own is had before the first thread.
-pub fn serve_ring<V: Device + Send + Drop, R: Threads + Wait + Clock + Sync>(
+fn run_nodes<V: Device + Send + Drop, R: Threads + Wait + Clock + Sync>(
     rt: &R,
     alloc: Global,
     sites: Vec<Site<V>>,
@@ -52,4 +54,41 @@ pub fn serve_ring<V: Device + Send + Drop, R: Threads + Wait + Clock + Sync>(
         }
     });
     Ok(ends)
+}
+
+/// Serves with all nodes of a ring until the last door is done, and gives the status: 0, or 1 where a node failed.
+/// Prints `serving` first, and at the end for each node in order what it holds, to `out`, or that it failed, to `err`.
+/// Refused where memory is wanting, or `out` does not take a line; no thread goes on then.
+pub fn serve_ring<V: Device + Send + Drop, R: Threads + Wait + Clock + Sync, O: Write, E: Write>(
+    rt: &R,
+    alloc: Global,
+    sites: Vec<Site<V>>,
+    post: &Post,
+    out: &mut O,
+    err: &mut E,
+) -> Result<u8, RunFault> {
+    if writeln!(out, "serving").is_err() || out.flush().is_err() {
+        return Err(RunFault::Output);
+    }
+    let ends = run_nodes(rt, alloc, sites, post)?;
+    let mut status = 0;
+    let mut node = 0u8;
+    for end in &ends {
+        node = node.saturating_add(1);
+        match end {
+            Some(shown) => {
+                if writeln!(out, "node {node} {shown}").is_err() {
+                    return Err(RunFault::Output);
+                }
+            }
+            None => {
+                let _ = writeln!(err, "ringd: node {node} failed");
+                status = 1;
+            }
+        }
+    }
+    if out.flush().is_err() {
+        return Err(RunFault::Output);
+    }
+    Ok(status)
 }

@@ -1,14 +1,15 @@
 //! The program `ringd`, over readers and writers.
 ghost use Rattle.std.specs.Prelude.{◌≡◌, ◌≤◌, IfOk};
+ghost use Rattle.ring_service.specs.Words.{IsIn};
 
 use crate::folder::Folder;
 use crate::open_node::OpenNode;
 use crate::post::Post;
 use crate::ring::serve_ring;
 use crate::run_fault::RunFault;
-use crate::site::Site;
+use crate::site::{Doors, Site};
 use disk_model::FileDevice;
-use ring_records::{NodeNo, Shown};
+use ring_records::NodeNo;
 use ring_service::{Settings, Words, read_settings, read_words};
 use std::alloc::{AllocError, Global};
 use std::fs::File;
@@ -73,32 +74,19 @@ where
         + Clock
         + Files<File = File>
         + Net<Listener = TcpListener, Stream = TcpStream>,
+    requires { IsIn 1 32 words.now.doors }
 {
     let settings = take_settings(rt, alloc, words.settings, settings)?;
     if print_settings(out, &settings).is_err() {
         return Err(RunFault::Output);
     }
-    let Some(sessions) = words.serve else {
-        return Ok(0);
+    let sessions = match (words.always, words.serve) {
+        (true, _) => None,
+        (false, Some(sessions)) => Some(sessions),
+        (false, None) => return Ok(0),
     };
-    let ends = serve(rt, alloc, &settings, sessions, out)?;
-    let mut status = 0;
-    let mut node = 0u8;
-    for end in &ends {
-        node = node.saturating_add(1);
-        match end {
-            Some(shown) => {
-                if writeln!(out, "node {node} {shown}").is_err() {
-                    return Err(RunFault::Output);
-                }
-            }
-            None => {
-                let _ = writeln!(err, "ringd: node {node} failed");
-                status = 1;
-            }
-        }
-    }
-    Ok(status)
+    let doors = Doors::new(words.doors, sessions, words.idle);
+    serve(rt, alloc, &settings, doors, out, err)
 }
 
 /// The settings of a file, or of the input where the path is `-`.
@@ -146,13 +134,14 @@ fn print_settings<O: Write>(out: &mut O, settings: &Settings) -> io::Result<()> 
 }
 
 /// Opens the nodes and then their doors, and serves.
-fn serve<R, O: Write>(
+fn serve<R, O: Write, E: Write>(
     rt: &R,
     alloc: Global,
     settings: &Settings,
-    sessions: u16,
+    doors: Doors,
     out: &mut O,
-) -> Result<Vec<Option<Shown>>, RunFault>
+    err: &mut E,
+) -> Result<u8, RunFault>
 where
     R: Threads
         + Wait
@@ -171,12 +160,9 @@ where
     let (post, inboxes) = Post::new(alloc, settings.nodes)?;
     let mut sites = Vec::new(alloc);
     for ((opened, inbox), listener) in opened.into_iter().zip(inboxes).zip(listeners) {
-        sites.push(Site::new(alloc, opened, inbox, listener, sessions))?;
+        sites.push(Site::new(alloc, opened, inbox, listener, doors))?;
     }
-    if writeln!(out, "serving").is_err() || out.flush().is_err() {
-        return Err(RunFault::Output);
-    }
-    Ok(serve_ring(rt, alloc, sites, &post)?)
+    serve_ring(rt, alloc, sites, &post, out, err)
 }
 
 fn open_nodes<R: Files<File = File>>(

@@ -1,9 +1,8 @@
 //! What ends a run of `ringd` before its end.
 use crate::folder::Unopened;
-use ring_records::{Cause, NodeNo};
+use ring_records::NodeNo;
 use ring_service::StartFault;
 use std::alloc::AllocError;
-use std::fmt;
 use thiserror::Error;
 
 /// Why a run ended early, displayed without the program's name.
@@ -27,12 +26,6 @@ pub enum RunFault {
     /// A growth was refused.
     #[error("out of memory")]
     Memory(#[from(alloc)] AllocError),
-}
-
-impl fmt::Display for Unopened {
-    fn fmt<W: fmt::Write>(&self, f: &mut fmt::Formatter<W>) -> fmt::Result {
-        write!(f, "{}", Cause(self.0))
-    }
 }
 
 impl RunFault {

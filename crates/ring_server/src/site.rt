@@ -1,5 +1,5 @@
 //! What a node serves with.
-ghost use Rattle.std.specs.Prelude.{◌≡◌};
+ghost use Rattle.std.specs.Prelude.{◌≡◌, ◌+◌, ◌≤◌};
 ghost use Rattle.commit_hub.specs.Pages.{places_of};
 
 use crate::open_node::OpenNode;
@@ -10,18 +10,49 @@ use disk_model::Device;
 use ring_records::Packet;
 use std::alloc::Global;
 use std::net::TcpListener;
+use std::time::Duration;
 
-/// A node with its letterbox, its listener, how many sessions it is to serve, and what its ledgers begin with.
+/// How a node's doors serve.
+#[derive(Clone, Copy)]
+pub struct Doors {
+    pub(crate) count: u32,
+    pub(crate) sessions: u64,
+    pub(crate) idle: Option<Duration>,
+    ghost range: { (1 ≤ count) × (count ≤ 32) },
+}
+
+impl Doors {
+    /// So many doors, 1 to 32, which serve so many sessions together, or sessions without end. A session ends where its
+    /// client sends nothing for so many seconds, or takes no answer for as long; 0 is for ever.
+    pub fn new(count: u32, sessions: Option<u32>, idle: u32) -> Doors
+        requires { (1 ≤ count) × (count ≤ 32) }
+    {
+        Doors {
+            count,
+            sessions: match sessions {
+                Some(sessions) => u64::from(sessions),
+                // more than are served in any time
+                None => u64::MAX,
+            },
+            idle: match idle {
+                0 => None,
+                seconds => Some(Duration::from_secs(u64::from(seconds))),
+            },
+        }
+    }
+}
+
+/// A node with its letterbox, its listener, how its doors serve, and what its ledgers begin with.
 #[derive(Drop)]
 pub struct Site<V: Device> {
     pub(crate) alloc: Global,
     pub(crate) opened: OpenNode<V>,
     pub(crate) inbox: Receiver<Packet>,
     pub(crate) listener: TcpListener,
-    pub(crate) sessions: u16,
+    pub(crate) doors: Doors,
     pub(crate) blanks: Blanks,
     pub(crate) history: Opened,
-    ghost places: { places_of blanks ≡ 2 },
+    ghost places: { places_of blanks ≡ doors.count + 1 },
 }
 
 impl<V: Device> Site<V> {
@@ -31,15 +62,15 @@ impl<V: Device> Site<V> {
         opened: OpenNode<V>,
         inbox: Receiver<Packet>,
         listener: TcpListener,
-        sessions: u16,
+        doors: Doors,
     ) -> Site<V> {
         Site {
             alloc,
             opened,
             inbox,
             listener,
-            sessions,
-            blanks: Blanks::new(2),
+            doors,
+            blanks: Blanks::new(doors.count + 1),
             history: Opened::new(),
         }
     }

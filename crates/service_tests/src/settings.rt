@@ -100,18 +100,42 @@ fn texts(rt: HostRuntime) -> Result<(), Fail> {
 #[test]
 fn words(rt: HostRuntime) {
     match read_words(rt.alloc(), &["ringd"]) {
-        Ok(words) => assert!(rt; words.settings == "-" && words.serve == None),
+        Ok(words) => {
+            assert!(rt; words.settings == "-" && words.serve == None && !words.always);
+            assert_eq!(rt; (words.doors, words.idle), (1, 0));
+        }
         Err(_) => panic!(rt; "refused"),
     }
     match read_words(rt.alloc(), &["ringd", "--serve", "7", "--settings=x"]) {
         Ok(words) => assert!(rt; words.settings == "x" && words.serve == Some(7)),
         Err(_) => panic!(rt; "refused"),
     }
-    for bad in ["--serve=0", "--serve=1001", "--other", "x"] {
+    match read_words(rt.alloc(), &["ringd", "--always", "--doors=32", "--idle", "86400"]) {
+        Ok(words) => {
+            assert!(rt; words.always && words.serve == None);
+            assert_eq!(rt; (words.doors, words.idle), (32, 86_400));
+        }
+        Err(_) => panic!(rt; "refused"),
+    }
+    for bad in [
+        "--serve=0",
+        "--serve=1001",
+        "--doors=0",
+        "--doors=33",
+        "--idle=-1",
+        "--idle=86401",
+        "--always=1",
+        "--other",
+        "x",
+    ] {
         match read_words(rt.alloc(), &["ringd", bad]) {
             Ok(_) => panic!(rt; "taken"),
             Err(error) => assert!(rt; error.exit_code() == 2 && error.use_stderr()),
         }
+    }
+    match read_words(rt.alloc(), &["ringd", "--always", "--serve=1"]) {
+        Ok(_) => panic!(rt; "taken"),
+        Err(error) => assert!(rt; error.exit_code() == 2 && error.use_stderr()),
     }
     match read_words(rt.alloc(), &["ringd", "--help"]) {
         Ok(_) => panic!(rt; "taken"),
