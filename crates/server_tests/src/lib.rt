@@ -4,6 +4,14 @@
 #[cfg(test)]
 mod clients;
 #[cfg(test)]
+mod devices;
+#[cfg(test)]
+mod doors;
+#[cfg(test)]
 mod elections;
+#[cfg(test)]
+mod folders;
+#[cfg(test)]
+mod programs;
 #[cfg(test)]
 mod refusals;

@@ -1,7 +1,10 @@
 // Starts that are refused, with their texts and statuses.
+use crate::programs::{anew, ends, run};
 use ring_server::start;
+use std::alloc::AllocGlobal;
+use std::fs;
 use std::fs::File;
-use std::net::{Net, TcpListener, TcpStream};
+use std::net::{Ipv4Addr, Net, TcpListener, TcpStream};
 use std::process::Abort;
 use std::rt::Files;
 use std::sync::Wait;
@@ -9,70 +12,119 @@ use std::test::*;
 use std::thread::Threads;
 use std::time::Clock;
 
-/// On these words and settings the program ends so, with this text on standard error.
-fn ends<R>(rt: &R, words: &[&str], settings: &[u8], status: u8, text: &[u8])
-where
-    R: Threads
-        + Wait
-        + Sync
-        + Clock
-        + Abort
-        + std::alloc::AllocGlobal
-        + Files<File = File>
-        + Net<Listener = TcpListener, Stream = TcpStream>,
-{
-    let mut out = Vec::new(rt.alloc());
-    let mut err = Vec::new(rt.alloc());
-    let ended = start(rt, rt.alloc(), words, &mut &*settings, &mut out, &mut err);
-    assert_eq!(rt; ended, status);
-    assert!(rt; err.as_slice() == text);
-}
+const NONE: [&str; 1] = ["ringd"];
 
 #[test]
-fn refused_starts(rt: HostRuntime) {
-    let none = ["ringd"];
+fn settings_that_are_refused(rt: HostRuntime) {
     ends(
         &rt,
-        &none,
+        &NONE,
         b"nodes = ",
         2,
         b"ringd: settings are not TOML\n",
     );
-    ends(&rt, &none, b"\xff", 2, b"ringd: settings cannot be read\n");
-    ends(&rt, &none, b"", 2, b"ringd: setting nodes is missing\n");
+    ends(&rt, &NONE, b"\xff", 2, b"ringd: settings cannot be read\n");
+    let words = ["ringd", "--settings", "no-such-file"];
+    ends(&rt, &words, b"", 2, b"ringd: settings cannot be read\n");
+    ends(&rt, &NONE, b"", 2, b"ringd: setting nodes is missing\n");
     ends(
         &rt,
-        &none,
+        &NONE,
         b"nodes = 17",
         2,
         b"ringd: setting nodes is wrong\n",
     );
     ends(
         &rt,
-        &none,
+        &NONE,
         b"nodes = 3",
         2,
         b"ringd: setting dir is missing\n",
     );
     ends(
         &rt,
-        &none,
-        b"nodes = 3\ndir = \"a\"\nport = 1\nx = 1\n",
+        &NONE,
+        b"nodes = 3\ndir = 1",
         2,
-        b"ringd: a setting is unknown\n",
+        b"ringd: setting dir is wrong\n",
     );
-    ends(
-        &rt,
-        &["ringd", "--settings", "no-such-file"],
-        b"",
-        2,
-        b"ringd: settings cannot be read\n",
-    );
-    ends(
-        &rt,
-        &["ringd", "--serve", "1"],
-        b"nodes = 3\ndir = \"no-such-folder\"\nport = 7141\n",
-        1,
-        b"ringd: node 1: device 1\n",
-    );
+    let text = b"nodes = 3\ndir = \"a\"";
+    ends(&rt, &NONE, text, 2, b"ringd: setting port is missing\n");
+    let text = b"nodes = 3\ndir = \"a\"\nport = 65534\n";
+    ends(&rt, &NONE, text, 2, b"ringd: setting port is wrong\n");
+    let text = b"nodes = 3\ndir = \"a\"\nport = 1\ncapacity = 4095\nx = 1\n";
+    ends(&rt, &NONE, text, 2, b"ringd: setting capacity is wrong\n");
+    let text = b"nodes = 3\ndir = \"a\"\nport = 1\nx = 1\n";
+    ends(&rt, &NONE, text, 2, b"ringd: a setting is unknown\n");
+}
+
+#[test]
+fn settings_that_are_shown(rt: HostRuntime) {
+    let (status, out, err) = run(&rt, &NONE, b"port = 65533\nnodes = 3\ndir = \"a\"\n");
+    assert_eq!(rt; status, 0);
+    assert!(rt; err.is_empty());
+    assert!(rt; out.as_slice() == b"nodes 3\ndir a\nport 65533\ncapacity 65536\n".as_slice());
+}
+
+/// The words end the program with this status, and are told of on standard error, or else on standard output.
+fn told<R>(rt: &R, words: &[&str], status: u8)
+where
+    R: Threads
+        + Wait
+        + Sync
+        + Clock
+        + Abort
+        + AllocGlobal
+        + Files<File = File>
+        + Net<Listener = TcpListener, Stream = TcpStream>,
+{
+    let (ended, out, err) = run(rt, words, b"");
+    assert_eq!(rt; ended, status);
+    assert_eq!(rt; out.is_empty(), status != 0);
+    assert_eq!(rt; err.is_empty(), status == 0);
+}
+
+#[test]
+fn words(rt: HostRuntime) {
+    let help = ["ringd", "--help"];
+    told(&rt, &help, 0);
+    let none = ["ringd", "--serve", "0"];
+    told(&rt, &none, 2);
+    let many = ["ringd", "--serve", "1001"];
+    told(&rt, &many, 2);
+    let doors = ["ringd", "--doors", "33"];
+    told(&rt, &doors, 2);
+    let both = ["ringd", "--always", "--serve", "1"];
+    told(&rt, &both, 2);
+    let other = ["ringd", "red"];
+    told(&rt, &other, 2);
+}
+
+#[test]
+fn no_folder_and_a_port_in_use(rt: HostRuntime) -> Result<(), Fail> {
+    let serve = ["ringd", "--serve", "1"];
+    let text = b"nodes = 3\ndir = \"no-such-folder\"\nport = 7141\n";
+    ends(&rt, &serve, text, 1, b"ringd: node 1: device 1\n");
+    anew(&rt, "in-use");
+    let text = b"nodes = 2\ndir = \"in-use\"\nport = 7143\n".as_slice();
+    {
+        let listener = TcpListener::bind(&rt, (Ipv4Addr::LOCALHOST, 7144))?;
+        ends(&rt, &serve, text, 1, b"ringd: port 7144 cannot be used\n");
+        assert!(rt; listener.local_addr().is_ok());
+    }
+    fs::remove_dir_all(&rt, "in-use")?;
+    Ok(())
+}
+
+#[test]
+fn an_output_that_takes_nothing(rt: HostRuntime) -> Result<(), Fail> {
+    fs::write(&rt, "read-only", b"".as_slice())?;
+    let mut out = File::open(&rt, "read-only")?;
+    let mut err = Vec::new(rt.alloc());
+    let settings = b"nodes = 3\ndir = \"a\"\nport = 1\n".as_slice();
+    let status = start(&rt, rt.alloc(), &NONE, &mut &*settings, &mut out, &mut err);
+    assert_eq!(rt; status, 1);
+    assert!(rt; err.as_slice() == b"ringd: output cannot be written\n".as_slice());
+    fs::remove_file(&rt, "read-only")?;
+    Ok(())
 }

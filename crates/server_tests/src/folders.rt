@@ -1,0 +1,68 @@
+// Folders as a kill, a fault or an operator left them.
+use crate::programs::{anew, ends, serves};
+use std::fs;
+use std::fs::File;
+use std::test::*;
+
+const SERVE: [&str; 3] = ["ringd", "--serve", "1"];
+
+#[test]
+fn a_kill_at_each_step_of_the_first_start(rt: HostRuntime) -> Result<(), Fail> {
+    let settings = b"nodes = 2\ndir = \"killed\"\nport = 7151\n".as_slice();
+    // no file
+    anew(&rt, "killed");
+    serves(&rt, settings, 7151, b"stand red 5 10\n", b"stood");
+    // an empty file of the first name, and a formatted node whose file has its name
+    fs::rename(&rt, "killed/node-2.crj", "killed/whole")?;
+    fs::write(&rt, "killed/node-2.crj.new", b"".as_slice())?;
+    serves(&rt, settings, 7151, b"stand red 5 10\n", b"no 3 already 10");
+    // a formatted one of the first name
+    fs::remove_file(&rt, "killed/node-2.crj")?;
+    fs::rename(&rt, "killed/whole", "killed/node-2.crj.new")?;
+    serves(&rt, settings, 7151, b"stand red 5 10\n", b"no 3 already 10");
+    // a cut one, and none made
+    anew(&rt, "killed");
+    fs::write(&rt, "killed/node-1.crj.new", b"CRJRNL01".as_slice())?;
+    serves(&rt, settings, 7151, b"stand red 5 10\n", b"stood");
+    fs::remove_dir_all(&rt, "killed")?;
+    Ok(())
+}
+
+#[test]
+fn journals_that_are_refused(rt: HostRuntime) -> Result<(), Fail> {
+    let settings = b"nodes = 2\ndir = \"refused\"\nport = 7155\n".as_slice();
+    anew(&rt, "refused");
+    serves(&rt, settings, 7155, b"stand red 5 10\n", b"stood");
+    // a file in use, and the folder
+    {
+        let file = File::open(&rt, "refused/node-2.crj")?;
+        assert!(rt; file.try_lock().is_ok());
+        ends(&rt, &SERVE, settings, 1, b"ringd: node 2: device 1\n");
+    }
+    {
+        let folder = File::open(&rt, "refused")?;
+        assert!(rt; folder.try_lock().is_ok());
+        ends(&rt, &SERVE, settings, 1, b"ringd: node 1: device 1\n");
+    }
+    // another ring's, and another node's
+    let other = b"nodes = 3\ndir = \"refused\"\nport = 7155\n";
+    ends(&rt, &SERVE, other, 1, b"ringd: node 1: wrongnode\n");
+    fs::rename(&rt, "refused/node-2.crj", "refused/held")?;
+    fs::rename(&rt, "refused/node-1.crj", "refused/node-2.crj")?;
+    fs::rename(&rt, "refused/held", "refused/node-1.crj")?;
+    ends(&rt, &SERVE, settings, 1, b"ringd: node 1: wrongnode\n");
+    // a cut header, none, and another layout's
+    fs::write(&rt, "refused/node-1.crj", b"CRJRNL01".as_slice())?;
+    ends(&rt, &SERVE, settings, 1, b"ringd: node 1: unformatted\n");
+    fs::write(&rt, "refused/node-1.crj", b"".as_slice())?;
+    ends(&rt, &SERVE, settings, 1, b"ringd: node 1: unformatted\n");
+    // an open gate, at offset 16, with a frame of no input behind it
+    fs::write(
+        &rt,
+        "refused/node-1.crj",
+        b"CRJRNL01\x01\x02\x00\x01\x00\x00\x00\x00\x01\x00\x00".as_slice(),
+    )?;
+    ends(&rt, &SERVE, settings, 1, b"ringd: node 1: damaged 16\n");
+    fs::remove_dir_all(&rt, "refused")?;
+    Ok(())
+}
