@@ -1,4 +1,4 @@
-# run: an example, before any proof. test: the merge gate. wrong_bodies: the wrong bodies that the gate does not try, of CRATES or of all.
+# run: an example, before any proof. test: the names in the documents, and the merge gate. wrong_bodies: the wrong bodies that the gate does not try, of CRATES or of all.
 # bin/NAME: a proved program. bench: the times of ringctl and of the works of bench.
 .PHONY: run test wrong_bodies bench clean always
 
@@ -6,6 +6,7 @@ run:
 	@bench/try.sh examples/first_election.ring
 
 test:
+	@docs/check.py
 	@must_not_compile/run.py
 	@rt ci
 
