@@ -254,7 +254,8 @@ class Page:
 
     def is_named(self, name: str, crates: set[str]) -> bool:
         own = name.partition("<")[0]
-        return bool(self.code.find(own, set() if "::" in own else crates)) or bool(self.code.names.get(own, set()) & (crates or self.code.crates)) or own in LANGUAGE
+        is_defined = bool(self.code.names.get(own, set()) & (crates or self.code.crates))
+        return is_defined or own in LANGUAGE or bool(self.code.find(own, set() if "::" in own else crates))
 
     def edit(self, it: Found, crates: set[str]) -> None:
         """A name in a column of edits, which is of the row's or the section's crate, or of the one that stands behind it."""
@@ -329,7 +330,8 @@ def decisions(path: pathlib.Path) -> Iterator[tuple[bool, int, str]]:
             made[section, re.sub(r"\s+", " ", bold[1]).rstrip(".,")] = number
         number += paragraph.count("\n") + 2
     for it, line in {**index, **made}.items():
-        yield it in index and it in made, line, f"the decision \"{it[1]}\" of \"{it[0]}\" is not {'made' if it in index else 'in the index'}"
+        lacks = "made" if it in index else "in the index"
+        yield it in index and it in made, line, f"the decision \"{it[1]}\" of \"{it[0]}\" is not {lacks}"
 
 
 def main() -> int:
