@@ -1,6 +1,8 @@
 # run: an example, before any proof. test: the names in the documents, and the merge gate. wrong_bodies: the wrong bodies that the gate does not try, of CRATES or of all.
 # bin/NAME: a proved program. bench: the times of ringctl and of the works of bench.
+# ringd: bin/ringd. serve: runs ringd on examples/ring.toml, unproved where bin/ringd is not built.
 .PHONY: run test wrong_bodies bench clean always
+.PHONY: ringd serve
 
 run:
 	@bench/try.sh examples/first_election.ring
@@ -19,6 +21,11 @@ bin/%: always
 	@mkdir -p bin
 	cd crates/$* && rt run -- $$(cat args 2> /dev/null) < $$(ls stdin 2> /dev/null || echo /dev/null) > /dev/null
 	cp crates/$*/out/$* $@
+
+ringd: bin/ringd
+
+serve:
+	@bench/serve.sh
 
 bench: bin/ringctl bin/bench
 	@bench/measure.sh bin/ringctl bin/bench
