@@ -1,8 +1,9 @@
 # run: an example, before any proof. test: the names in the documents, and the merge gate. wrong_bodies: the wrong bodies that the gate does not try, of CRATES or of all.
 # bin/NAME: a proved program. bench: the times of ringctl and of the works of bench.
 # ringd: bin/ringd. serve: runs ringd on examples/ring.toml, unproved where bin/ringd is not built.
+# fencing: a leader that is paused and wakes late is turned away, over bin/ringd.
 .PHONY: run test wrong_bodies bench clean always
-.PHONY: ringd serve
+.PHONY: ringd serve fencing
 
 run:
 	@bench/try.sh examples/first_election.ring
@@ -26,6 +27,9 @@ ringd: bin/ringd
 
 serve:
 	@bench/serve.sh
+
+fencing:
+	@examples/fencing/run.py
 
 bench: bin/ringctl bin/bench
 	@bench/measure.sh bin/ringctl bin/bench

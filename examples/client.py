@@ -19,7 +19,8 @@ class Leader(NamedTuple):
 
 
 class Refused(Exception):
-    """A refusal of the node: its number, 1 to 25, and its text, as 5 and `stale 9`. docs/SESSIONS.md says what to do."""
+    """A refusal of the node: its number, 1 to 25, and its text, as 5 and `stale 9`. docs/SESSIONS.md says what each
+    one means, and what to do."""
 
     def __init__(self, number: int, text: str) -> None:
         super().__init__(f"no {number} {text}")
