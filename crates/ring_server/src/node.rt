@@ -178,23 +178,27 @@ fn run_ends<
         seats,
         doors,
     } = ends;
-    scope(scope_env(), rt, |scope|
-        requires { IsSend J.row × IsSend A.row × IsSend D.row × IsSend C.row }
-    {
-        let takes = scope
-            .spawn(move || take_all(rt, alloc, hub, share, &inbox, links))
-            .ok();
-        let others = if takes.is_some() {
-            serve_doors(rt, alloc, hub, seats, &listener, &doors, links)
-        } else {
-            None
-        };
-        links.leave(rt);
-        match (takes.map(|takes| takes.join(rt)), others) {
-            (Some(share), Some(others)) => Some((share, others)),
-            _ => None,
-        }
-    })
+    scope(
+        scope_env(),
+        rt,
+        |scope|
+            requires { IsSend J.row × IsSend A.row × IsSend D.row × IsSend C.row }
+        {
+            let takes = scope
+                .spawn(move || take_all(rt, alloc, hub, share, &inbox, links))
+                .ok();
+            let others = if takes.is_some() {
+                serve_doors(rt, alloc, hub, seats, &listener, &doors, links)
+            } else {
+                None
+            };
+            links.leave(rt);
+            match (takes.map(|takes| takes.join(rt)), others) {
+                (Some(share), Some(others)) => Some((share, others)),
+                _ => None,
+            }
+        },
+    )
 }
 
 /// What a settled desk holds.

@@ -93,7 +93,9 @@ fn idle_arg<'a>(alloc: Global) -> Arg<'a>
     Arg::new(alloc, "idle")
         .long("idle")
         .value_name("SECONDS")
-        .help("Ends a session whose client sends nothing for so long, 0 to 86400; 0, for never, where it is not said")
+        .help(
+            "Ends a session whose client sends nothing for so long, 0 to 86400; 0, for never, where it is not said",
+        )
         .value_parser(value_parser!(u32).range(0..=86_400))
 }
 

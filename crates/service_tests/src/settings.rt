@@ -110,7 +110,10 @@ fn words(rt: HostRuntime) {
         Ok(words) => assert!(rt; words.settings == "x" && words.serve == Some(7)),
         Err(_) => panic!(rt; "refused"),
     }
-    match read_words(rt.alloc(), &["ringd", "--always", "--doors=32", "--idle", "86400"]) {
+    match read_words(
+        rt.alloc(),
+        &["ringd", "--always", "--doors=32", "--idle", "86400"],
+    ) {
         Ok(words) => {
             assert!(rt; words.always && words.serve == None);
             assert_eq!(rt; (words.doors, words.idle), (32, 86_400));
