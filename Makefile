@@ -2,8 +2,9 @@
 # bin/NAME: a proved program. bench: the times of ringctl and of the works of bench.
 # ringd: bin/ringd. serve: runs ringd on examples/ring.toml, unproved where bin/ringd is not built.
 # fencing: a leader that is paused and wakes late is turned away, over bin/ringd.
+# kills: bin/ringd is killed 100 times at random moments, started again, and held to all that it told.
 .PHONY: run test wrong_bodies bench clean always
-.PHONY: ringd serve fencing
+.PHONY: ringd serve fencing kills
 
 run:
 	@bench/try.sh examples/first_election.ring
@@ -30,6 +31,9 @@ serve:
 
 fencing:
 	@examples/fencing/run.py
+
+kills:
+	@trials/kill.py --rounds 100
 
 bench: bin/ringctl bin/bench
 	@bench/measure.sh bin/ringctl bin/bench

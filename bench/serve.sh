@@ -1,10 +1,10 @@
 #!/usr/bin/env bash
-# serve.sh [RINGD [WORD..]]: serves the ring of examples/ring.toml. Its files lie in ring-state/ at the repository's root;
-# the folder is made where it is not there. RINGD is a built ringd, or bin/ringd where none is named; it is given the
-# WORDs, or those of `words` below where there are none. Where none is named and bin/ringd is not built, rt try builds
-# ringd and runs it unproved, for a day at most; what ringd prints is then shown only once it ends, and this script says
-# when it serves. ringd or rt try runs in this script's process, so a signal that ends the one ends the other. Ends with
-# their status; 2 where RINGD is no program, 1 where rt try would find the first port in use.
+# serve.sh [RINGD [WORD..]]: serves the ring of examples/ring.toml. Its files lie in ring-state/ at the repository's
+# root; the folder is made where it is not there. RINGD is a built ringd, or bin/ringd where none is named; it is given
+# the WORDs, or those of `words` below where there are none. Where none is named and bin/ringd is not built, rt try
+# builds ringd and runs it unproved, for a day at most; what ringd prints is then shown only once it ends, and this
+# script says when it serves. ringd or rt try runs in this script's process, so a signal that ends the one ends the
+# other. Ends with their status; 2 where RINGD is no program, 1 where rt try would find the first port in use.
 set -eu
 words=(--always --doors 4)
 

@@ -1,8 +1,8 @@
 #!/usr/bin/env bash
 # client.sh PORT LINE..: sends each LINE to the node at 127.0.0.1:PORT, in one session, and prints its answers, one a
 # line and in order, as client.sh 7101 'stand red 5 10' 'who red 5'. PORT is 1 to 65,535; docs/SESSIONS.md has the
-# language. The session is ended with a `bye` of its own. Waits for ten seconds at most for each answer. Needs nc. Status
-# 1 where a line got no answer: the node is not there, or the session broke off or was ended before; 2 for other
+# language. The session is ended with a `bye` of its own. Waits for ten seconds at most for each answer. Needs nc.
+# Status 1 where a line got no answer: the node is not there, or the session broke off or was ended before; 2 for other
 # arguments.
 set -eu
 if [ $# -lt 2 ]; then

@@ -1,0 +1,252 @@
+"""What a ring told its clients, and what each further answer has to keep of it.
+
+A key is a group and a term. What is told of a key stays true for ever, over kills too, and so is held against each
+answer, earlier or later:
+
+- A node that stands for a key (`stood`, or `no 3 already` with a bid that it was asked with) has that bid for ever, and
+  answers each later Stand for it with `no 3 already` and this bid.
+- A node that refuses a Stand for a key as 4, 5, 6 or 7 does not stand for it and never will.
+- All that name a leader of a key name one. It is a candidate that was asked to stand, it is not one that was refused,
+  and no candidate that stands for the key is greater: candidates are ordered by bid, then by node.
+- Once a leader was named nobody stands anew for its key: its token has passed every other node.
+- Once a node named a leader of a term, or refused a Stand as 5 for it, it takes no Stand of a lower term of the group.
+- A node that named a leader names it ever after, and the terms of its `latest` never go down. What it refused as 5 its
+  `latest` shows after the next start; before that it may lag. Where a node has several doors this is held against the
+  answers of one session, and of later starts.
+"""
+import random
+import threading
+from collections import Counter
+from typing import NamedTuple
+
+GROUPS = ["a", "red", "blue-2", "abcdefghijklmnop"]
+# Bids are below this, so that equal ones come often.
+BIDS = 12
+# How many Stands of a node use a folder up. A node takes 1,024.
+MANY = 700
+
+Key = tuple[str, int]
+
+
+class Question(NamedTuple):
+    """A line of a session: `stand` with a term and a bid, `who` with a term, `latest`."""
+    word: str
+    group: str
+    term: int = 0
+    bid: int = 0
+
+    def line(self) -> str:
+        words = {"stand": [self.term, self.bid], "who": [self.term], "latest": []}[self.word]
+        return " ".join([self.word, self.group, *map(str, words)])
+
+
+class Before(NamedTuple):
+    """What was known when a question was sent: whether the node stood for its key; whether a leader was named for it,
+    anywhere or such that this node has to name it; the greatest term of its group for which the node told of a leader,
+    and that which its `latest` has to reach."""
+    has_stood: bool
+    is_led: bool
+    is_told: bool
+    above: int
+    floor: int
+
+
+class Session:
+    """What one session was told: the keys with a leader, and the greatest such term of each group."""
+
+    def __init__(self) -> None:
+        self.told: set[Key] = set()
+        self.latest: dict[str, int] = {}
+
+
+class Known:
+    """What was told by a ring of so many nodes since its folder was made. `is_single`: each node has one door."""
+
+    def __init__(self, nodes: int, is_single: bool) -> None:
+        self.nodes, self.is_single = nodes, is_single
+        self.lock = threading.RLock()
+        self.starts = 1
+        self.answers = self.unanswered = 0
+        self.faults: list[str] = []
+        # By node and key: how often each bid was asked; the bid that stands; the refusal for which none does; whether
+        # it was answered `stood`. And the Stands that were not answered. What is kept as a text tells by which answer
+        # it came to be known.
+        self.asked: dict[tuple[int, Key], Counter[int]] = {}
+        self.stood: dict[tuple[int, Key], tuple[int, str]] = {}
+        self.never: dict[tuple[int, Key], str] = {}
+        self.acknowledged: set[tuple[int, Key]] = set()
+        self.open: set[tuple[int, Question]] = set()
+        # By key: the leader, as a bid and a node. By group: the greatest term with a leader.
+        self.leaders: dict[Key, tuple[int, int, str]] = {}
+        self.greatest: dict[str, int] = {}
+        # What each node told, in this start and before it. `stale` is of refusals as 5, in any start.
+        self.told: set[tuple[int, Key]] = set()
+        self.told_before: set[tuple[int, Key]] = set()
+        self.latest: dict[tuple[int, str], int] = {}
+        self.latest_before: dict[tuple[int, str], int] = {}
+        self.stale: dict[tuple[int, str], int] = {}
+
+    def fault(self, text: str) -> None:
+        with self.lock:
+            self.faults.append(text)
+
+    def process_ended(self) -> None:
+        """ringd was killed, and no question is open."""
+        self.starts += 1
+        self.told_before |= self.told
+        for latest in (self.latest, self.stale):
+            for place, term in latest.items():
+                self.latest_before[place] = max(term, self.latest_before.get(place, 0))
+
+    def is_used_up(self) -> bool:
+        """Whether a node made so many Stands that the folder is to be left."""
+        counts = Counter(node for node, _ in self.stood)
+        return any(count >= MANY for count in counts.values())
+
+    def questions(self, node: int, rng: random.Random) -> list[Question]:
+        """Asks the node again what is known of it: Stands that it has, with another bid; some that it refused; those
+        that it did not answer, with their own bid; all leaders; the latest ones."""
+        again = [Question("stand", *key, (bid + 1) % BIDS) for (at, key), (bid, _) in self.stood.items() if at == node]
+        never = [key for at, key in self.never if at == node]
+        again += [Question("stand", *key, rng.randrange(BIDS)) for key in rng.sample(never, min(40, len(never)))]
+        again += [question for at, question in self.open if at == node]
+        again += [Question("who", *key) for key in self.leaders]
+        again += [Question("latest", group) for group in GROUPS]
+        rng.shuffle(again)
+        return again
+
+    def sending(self, node: int, question: Question, session: Session) -> Before:
+        """Is called before a question is sent."""
+        key, place = (question.group, question.term), (node, question.group)
+        with self.lock:
+            if question.word == "stand":
+                self.asked.setdefault((node, key), Counter())[question.bid] += 1
+            floor = max(self.latest_before.get(place, 0), session.latest.get(question.group, 0))
+            is_told = (node, key) in self.told_before or key in session.told
+            if self.is_single:
+                floor = max(floor, self.latest.get(place, 0))
+                is_told = is_told or (node, key) in self.told
+            above = max(floor, self.latest.get(place, 0), self.stale.get(place, 0))
+            return Before((node, key) in self.stood, key in self.leaders, is_told, above, floor)
+
+    def no_answer(self, node: int, question: Question) -> None:
+        """Is called where the session broke off behind a question."""
+        with self.lock:
+            if question.word == "stand":
+                self.unanswered += 1
+                self.open.add((node, question))
+
+    def answered(self, node: int, question: Question, before: Before, session: Session, answer: str) -> None:
+        """Holds an answer against what is known, and keeps what it tells. An answer is one fault at most."""
+        with self.lock:
+            self.answers += 1
+            count = len(self.faults)
+            told = f"{answer!r} of node {node} to {question.line()!r} at start {self.starts}"
+            words = answer.split(" ")
+            try:
+                if question.word == "stand":
+                    self.on_stand(node, question, before, words, told)
+                elif question.word == "who":
+                    self.on_who(node, question, before, session, words, told)
+                else:
+                    self.on_latest(node, question, before, session, words, told)
+            except (ValueError, IndexError):
+                self.fault(f"{told} is no answer to it")
+            del self.faults[count + 1:]
+
+    def on_stand(self, node: int, question: Question, before: Before, words: list[str], told: str) -> None:
+        key = (question.group, question.term)
+        self.open = {entry for entry in self.open if entry[0] != node or entry[1][:3] != question[:3]}
+        if words == ["stood"]:
+            if before.is_led:
+                self.fault(f"{told}, and before it was asked its leader was known: {self.leaders[key][2]}")
+            if before.above > question.term:
+                self.fault(f"{told}, and before it was asked the node told of a leader for term {before.above}")
+            if before.has_stood or (node, key) in self.acknowledged:
+                self.fault(f"{told}, and the node stood for it: {self.stood[node, key][1]}")
+            self.acknowledged.add((node, key))
+            self.stands(node, key, question.bid, told)
+        elif words[:3] == ["no", "3", "already"] and len(words) == 4:
+            bid = int(words[3])
+            if self.asked[node, key][bid] <= (bid == question.bid):
+                self.fault(f"{told}, and no other question had that bid")
+            self.stands(node, key, bid, told)
+        elif words in (["no", "4", "late"], ["no", "6", "limit"], ["no", "7", "full"]) \
+                or words[:3] == ["no", "5", "stale"] and len(words) == 4:
+            self.refuses(node, question, before, words, told)
+        else:
+            self.fault(f"{told} is no answer that is looked for")
+
+    def refuses(self, node: int, question: Question, before: Before, words: list[str], told: str) -> None:
+        """The node does not stand, and never will."""
+        key = (question.group, question.term)
+        if (node, key) in self.stood:
+            self.fault(f"{told}, and the node stands: {self.stood[node, key][1]}")
+        if words[1] == "4" and not any((other, key) in self.asked for other in self.others(node)):
+            self.fault(f"{told}, and no other node was asked to stand")
+        if words[1] == "5":
+            term = int(words[3])
+            if term <= question.term or not self.was_asked((question.group, term)):
+                self.fault(f"{told}, and nobody was asked to stand for a greater term {term}")
+            place = (node, question.group)
+            self.stale[place] = max(term, self.stale.get(place, 0))
+        if words[1] in "67" and before.above > question.term:
+            self.fault(f"{told}, and before it was asked the node told of a leader for term {before.above}")
+        if words[1] == "6" and sum(at == node for at, _ in self.asked) < 1024:
+            self.fault(f"{told}, and it was not asked to stand for so many keys")
+        self.never.setdefault((node, key), told)
+
+    def stands(self, node: int, key: Key, bid: int, told: str) -> None:
+        """The node stands for the key with this bid."""
+        known, why = self.stood.setdefault((node, key), (bid, told))
+        if known != bid:
+            self.fault(f"{told}, and the node stands with bid {known}: {why}")
+        if (node, key) in self.never:
+            self.fault(f"{told}, and the node does not stand: {self.never[node, key]}")
+        if key in self.leaders and (bid, node) > self.leaders[key][:2]:
+            self.fault(f"{told} is greater than the leader: {self.leaders[key][2]}")
+
+    def on_who(self, node: int, question: Question, before: Before, session: Session, words: list[str],
+               told: str) -> None:
+        if words[0] == "leader" and len(words) == 3:
+            self.leads(node, (question.group, question.term), int(words[1]), int(words[2]), session, told)
+        elif words != ["none"]:
+            self.fault(f"{told} is no answer that is looked for")
+        elif before.is_told:
+            self.fault(f"{told}, and it named a leader: {self.leaders[question.group, question.term][2]}")
+
+    def on_latest(self, node: int, question: Question, before: Before, session: Session, words: list[str],
+                  told: str) -> None:
+        term = 0
+        if words[0] == "term" and words[2] == "leader" and len(words) == 5:
+            term = int(words[1])
+            self.leads(node, (question.group, term), int(words[3]), int(words[4]), session, told)
+        elif words != ["none"]:
+            self.fault(f"{told} is no answer that is looked for")
+        if term < before.floor:
+            self.fault(f"{told}, and it told of a leader for term {before.floor}")
+
+    def leads(self, node: int, key: Key, leader: int, bid: int, session: Session, told: str) -> None:
+        """The node names this leader of the key."""
+        known = self.leaders.setdefault(key, (bid, leader, told))
+        if known[:2] != (bid, leader):
+            self.fault(f"{told}, and another leader was named: {known[2]}")
+        if bid not in self.asked.get((leader, key), ()):
+            self.fault(f"{told}, and that candidate was not asked to stand")
+        self.stands(leader, key, bid, told)
+        for other in self.others(leader):
+            stood = self.stood.get((other, key))
+            if stood is not None and (stood[0], other) > (bid, leader):
+                self.fault(f"{told}, and a greater candidate stands: {stood[1]}")
+        group, term = key
+        self.greatest[group] = max(term, self.greatest.get(group, 0))
+        self.told.add((node, key))
+        session.told.add(key)
+        self.latest[node, group] = max(term, self.latest.get((node, group), 0))
+        session.latest[group] = max(term, session.latest.get(group, 0))
+
+    def others(self, node: int) -> list[int]:
+        return [other for other in range(1, self.nodes + 1) if other != node]
+
+    def was_asked(self, key: Key) -> bool:
+        return any((node, key) in self.asked for node in range(1, self.nodes + 1))
