@@ -71,6 +71,8 @@ class Scheduler:
             try:
                 self.storage.write(term, job)
             except Refused as refused:
+                # It never stands for a term again that was let through already, whatever the ring remembers.
+                self.tried = max(self.tried, refused.held)
                 self.tell(f"turned away: job {self.jobs} of term {term} is below {refused.held}")
                 return
             self.tell(f"wrote job {self.jobs} of term {term}")
