@@ -77,7 +77,7 @@ class Ring:
             ready, _, _ = select.select([process.stdout], [], [], max(0.0, until - time.monotonic()))
             byte = process.stdout.read(1) if ready else b""
             if not byte:
-                raise Ended(self.why(process, f"did not print {line!r}, but {text!r}"))
+                raise Ended(self.why(process, f"did not print {line.decode()!r}, but {text.decode()!r}"))
             text += byte
 
     def why(self, process: subprocess.Popen[bytes], what: str) -> str:

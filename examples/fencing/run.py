@@ -54,7 +54,7 @@ class Play:
         os.mkdir(os.path.join(self.folder, "ring"))
         settings = os.path.join(self.folder, "ring.toml")
         for _ in range(10):
-            port = random.randrange(20_000, 60_000)
+            port = random.randrange(20_000, 32_000)
             with open(settings, "w", encoding="ascii") as file:
                 file.write(f'nodes = 3\ndir = "{self.folder}/ring"\nport = {port}\n')
             process = self.start(self.ringd, "--settings", settings, "--serve", "1000")
