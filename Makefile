@@ -3,8 +3,9 @@
 # ringd: bin/ringd. serve: runs ringd on examples/ring.toml, unproved where bin/ringd is not built.
 # fencing: a leader that is paused and wakes late is turned away, over bin/ringd.
 # kills: bin/ringd is killed 100 times at random moments, started again, and held to all that it told.
+# load: bin/ringd under load; LOAD has further words of bench/load.py.
 .PHONY: run test wrong_bodies bench clean always
-.PHONY: ringd serve fencing kills
+.PHONY: ringd serve fencing kills load
 
 run:
 	@bench/try.sh examples/first_election.ring
@@ -37,6 +38,9 @@ kills:
 
 bench: bin/ringctl bin/bench
 	@bench/measure.sh bin/ringctl bin/bench
+
+load: bin/ringd
+	@bench/load.py --ringd bin/ringd $(LOAD)
 
 clean:
 	rm -rf bin crates/*/out

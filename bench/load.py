@@ -1,0 +1,430 @@
+#!/usr/bin/env python3
+"""load.py [--ringd PATH] [--folder PATH] [--runs N] [--against PROGRAM]: times `ringd` under load, over sockets, on files.
+
+It prints figures and asserts nothing of them. All of it stands in one run: the answers that clients get, an election, and the cost of
+a bare append with a sync in the same folder, to which the ratios are given.
+
+  --ringd PATH       the server, `bin/ringd` by default. More than one client at a node needs its word `--doors`; where its help
+                     names none, those rows are left out.
+  --folder PATH      where the files are made, the current folder by default. It should be on a real disk: in memory a sync costs
+                     nothing. A folder of its own is made there, and is removed at the end.
+  --runs N           how often each row is run, 1 to 100, 9 by default. Figures are medians of the runs.
+  --against PROGRAM  a program that shows what is to be had at best on this machine. It is run as `PROGRAM FOLDER`, before the rows and
+                     behind them, and prints on lines of their own
+                       bare append of 64 bytes with a sync: X us
+                     and for each count N of clients, once for each way in which it may be done,
+                       sockets, N: X us an answer
+                     Other lines, and what follows on these, are not looked at. Of each way the two times are averaged, and the least is
+                     the best for N clients. Where N has such a line the ratio to it is printed.
+
+A row is so many clients at node 1, or at each of three nodes. A client asks in a loop, and waits for each answer: `stand` in a group of
+its own for a greater term each time, or that and `who` in turn. Each run has a new folder, since a node takes 1,024 Stands at most, and
+all clients of a node together stand 1,024 times or a few less. Each Stand is an election of its own among the three nodes, so behind the
+answers there are six messages for each; they share the disk and the processors, and go on when the last answer is there. Printed is a
+table in Markdown, with
+
+  answers, and Stands among them, a second by the clock, until the last client has its last answer;
+  Stands an append: how many were answered in the time of a bare append, of 600 made just before and behind the run, least to most;
+  the 50th and 99th percentile of the time of a Stand's answer, and of a who's, in microseconds;
+  inputs a batch: the inputs that the three nodes hold in the end, by how often a journal was written twice;
+  processor: user plus system time of the server, less that of a run with the same sessions and no lines, for each answer;
+  done: how long it took from the first line until nothing more was written; then all those elections are over.
+
+Behind it stand the elections: `stand` at each of the three nodes, until `latest` is not `none` at all three. The last line says how much
+of the processors others took meanwhile, system threads among them: where that is more than a little the figures say little.
+
+The clients are bench/load.c, compiled by `cc` (or clang, or gcc). Python would hide the server: against a server of 30 lines of C that
+answers at once, 32 clients in Python's threads took 28 to 35 us an answer, and 29 to 49 us of processor; one loop over `epoll` in Python
+took 16 to 19 us; the same clients in C took 8 to 12 us. Here 32 clients are to be answered every 20 to 30 us, on the same processors.
+
+Status 0; 1 where a program did not do what is expected of it, which is told on standard error; 2 where a word is wrong or there is no
+compiler. Linux alone: it reads /proc."""
+
+import argparse
+import os
+import random
+import re
+import resource
+import select
+import shutil
+import socket
+import statistics
+import subprocess
+import sys
+import tempfile
+import time
+from dataclasses import dataclass, field
+
+HERE = os.path.dirname(os.path.abspath(__file__))
+RING = 3
+STANDS = 1024
+CAPACITY = 1 << 20
+COUNTS = (1, 4, 16, 32)
+APPENDS = 300
+ELECTIONS = 20
+SECONDS = 60
+
+
+class Failed(Exception):
+    """A program did not do what is expected of it."""
+
+
+def call(words: list[str], seconds: float = SECONDS) -> str:
+    """What a program prints."""
+    try:
+        done = subprocess.run(words, capture_output=True, text=True, timeout=seconds, check=False)
+    except (OSError, subprocess.TimeoutExpired) as error:
+        raise Failed(f"{words[0]}: {error}") from error
+    if done.returncode != 0:
+        raise Failed(f"{' '.join(words)}: status {done.returncode}: {done.stderr.strip()}")
+    return done.stdout
+
+
+def compiled(folder: str) -> str:
+    """The clients' program, made in this folder."""
+    for name in ("cc", "clang", "gcc"):
+        compiler = shutil.which(name)
+        if compiler:
+            program = os.path.join(folder, "load")
+            call([compiler, "-O2", "-pthread", os.path.join(HERE, "load.c"), "-o", program])
+            return program
+    print("load.py: no C compiler, neither cc, clang nor gcc", file=sys.stderr)
+    sys.exit(2)
+
+
+def free_ports() -> int:
+    """The first of so many ports in a row that nobody uses."""
+    for _ in range(100):
+        port = random.randrange(20000, 32000)
+        try:
+            for place in range(RING):
+                with socket.socket() as probe:
+                    probe.bind(("127.0.0.1", port + place))
+            return port
+        except OSError:
+            continue
+    raise Failed("no free ports")
+
+
+class Server:
+    """A ring of three new nodes in a folder, which serves so many sessions at each and then ends."""
+
+    def __init__(self, ringd: str, folder: str, sessions: int, doors: int) -> None:
+        self.port = free_ports()
+        self.path = tempfile.mkdtemp(prefix="ring-", dir=folder)
+        settings = os.path.join(folder, "settings.toml")
+        with open(settings, "w", encoding="utf-8") as file:
+            file.write(f'nodes = {RING}\ndir = "{self.path}"\nport = {self.port}\ncapacity = {CAPACITY}\n')
+        words = [ringd, "--settings", settings, "--serve", str(sessions)]
+        if doors > 1:
+            words += ["--doors", str(doors)]
+        self.process = subprocess.Popen(words, stdout=subprocess.PIPE)
+        self.text = b""
+        try:
+            self.read_until(b"serving\n")
+            self.written = self.writes()
+        except (Failed, OSError):
+            self.stop()
+            raise
+
+    def read_until(self, end: bytes) -> None:
+        """Reads what it prints, to these bytes, or to its end where there are none."""
+        until = time.monotonic() + SECONDS
+        while not end or end not in self.text:
+            left = until - time.monotonic()
+            if left <= 0 or not select.select([self.process.stdout], [], [], left)[0]:
+                raise Failed("ringd: no answer")
+            piece = os.read(self.process.stdout.fileno(), 4096)
+            if not piece:
+                if end:
+                    raise Failed(f"ringd: ended with {self.process.wait(SECONDS)}")
+                return
+            self.text += piece
+
+    def writes(self) -> int:
+        """How many writes it has made by now; what goes to a socket is sent, and does not count."""
+        with open(f"/proc/{self.process.pid}/io", encoding="ascii") as file:
+            return int(re.search(r"syscw: (\d+)", file.read()).group(1))
+
+    def rest(self) -> tuple[int, float]:
+        """Waits until nothing was written for 30 ms. How many writes there were since the start, and when the last one was seen."""
+        until = time.monotonic() + SECONDS
+        count, seen = self.writes(), time.monotonic()
+        while time.monotonic() - seen < 0.03:
+            time.sleep(0.002)
+            now = self.writes()
+            if now != count:
+                count, seen = now, time.monotonic()
+            if seen > until:
+                raise Failed("ringd: it goes on writing")
+        return count - self.written, seen
+
+    def end(self, sessions: list[int]) -> tuple[int, float]:
+        """Has each node serve so many sessions more. How many inputs the nodes hold in the end, and the server's processor seconds."""
+        for place, count in enumerate(sessions):
+            for _ in range(count):
+                with socket.create_connection(("127.0.0.1", self.port + place), SECONDS) as client:
+                    client.sendall(b"bye\n")
+                    if client.recv(16) != b"bye\n":
+                        raise Failed("ringd: a session did not end")
+        self.read_until(b"")
+        _, status, used = os.wait4(self.process.pid, 0)
+        self.process.returncode = os.waitstatus_to_exitcode(status)
+        nodes = re.findall(rb"^node \d+ inputs (\d+) ", self.text, re.M)
+        if status != 0 or len(nodes) != RING:
+            raise Failed(f"ringd: ended with {self.process.returncode}")
+        return sum(map(int, nodes)), used.ru_utime + used.ru_stime
+
+    def stop(self) -> None:
+        """Ends it, however it is, and removes its folder."""
+        if self.process.returncode is None:
+            self.process.kill()
+            self.process.wait(SECONDS)
+        self.process.stdout.close()
+        shutil.rmtree(self.path, ignore_errors=True)
+
+
+@dataclass
+class Row:
+    """So many clients at each of so many nodes, and what their runs gave."""
+
+    nodes: int
+    clients: int
+    asks: bool
+    idle: list[float] = field(default_factory=list)
+    figures: dict[str, list[float]] = field(default_factory=dict)
+
+    def add(self, name: str, value: float) -> None:
+        self.figures.setdefault(name, []).append(value)
+
+    def middle(self, name: str) -> float:
+        return statistics.median(self.figures[name])
+
+    @property
+    def place(self) -> str:
+        return "node 1" if self.nodes == 1 else f"each of {self.nodes} nodes"
+
+
+class Bench:
+    """What all rows are run with."""
+
+    def __init__(self, ringd: str, folder: str, runs: int) -> None:
+        self.ringd, self.folder, self.runs = ringd, folder, runs
+        self.load = compiled(folder)
+        self.has_doors = "--doors" in call([ringd, "--help"])
+        self.bases: list[float] = []
+
+    def bare(self, grows: bool) -> float:
+        """The microseconds of a bare append."""
+        words = [self.load, "bare", os.path.join(self.folder, "bare"), str(APPENDS), str(int(grows))]
+        return int(call(words).split()[1]) / APPENDS / 1e3
+
+    def between(self, work) -> tuple[float, object]:
+        """The microseconds of a bare append around some work, and what the work gives."""
+        before = self.bare(False)
+        given = work()
+        base = (before + self.bare(False)) / 2
+        self.bases.append(base)
+        return base, given
+
+    def serve(self, row: Row, rounds: int) -> dict[str, float]:
+        """One run of a row; with no rounds its sessions say nothing."""
+        # one session more at each node, so that the server goes on until it is at rest
+        server = Server(self.ringd, self.folder, row.clients + 1, row.clients)
+        given: dict[str, float] = {}
+        try:
+            here = 0
+            if rounds:
+                here = row.clients
+                numbers = (server.port, row.nodes, row.clients, rounds, int(row.asks))
+                begun = time.monotonic()
+                for line in call([self.load, "stands", *map(str, numbers)]).splitlines():
+                    name, *figures = line.split()
+                    given[name] = int(figures[0])
+                    for part, figure in zip(("50", "90", "99"), figures[1:]):
+                        given[name + part] = int(figure) / 1e3
+                given["writes"], seen = server.rest()
+                given["done"] = seen - begun
+            sessions = [row.clients + 1 - (here if place < row.nodes else 0) for place in range(RING)]
+            given["inputs"], given["processor"] = server.end(sessions)
+        finally:
+            server.stop()
+        return given
+
+    def run(self, row: Row) -> None:
+        """Runs a row once, and keeps its figures."""
+        rounds = STANDS // row.clients
+        row.idle.append(self.serve(row, 0)["processor"])
+        base, given = self.between(lambda: self.serve(row, rounds))
+        answers = given["stand"] + given.get("who", 0)
+        seconds = given["wall"] / 1e9
+        row.add("answers", answers / seconds)
+        row.add("stands", given["stand"] / seconds)
+        row.add("us", seconds * 1e6 / given["stand"])
+        row.add("per append", base * given["stand"] / seconds / 1e6)
+        row.add("batch", given["inputs"] / (given["writes"] / 2))
+        row.add("processor", (given["processor"] - statistics.median(row.idle)) * 1e6 / answers)
+        row.add("done", given["done"])
+        for name in ("stand50", "stand99", "who50", "who99"):
+            if name in given:
+                row.add(name, given[name])
+
+    def elect(self) -> tuple[float, list[float], list[int]]:
+        """One run of elections: a bare append, their microseconds, and how many Stands were late."""
+
+        def work() -> str:
+            server = Server(self.ringd, self.folder, 1, 1)
+            try:
+                text = call([self.load, "elections", str(server.port), str(RING), str(ELECTIONS)])
+                server.end([0] * RING)
+                return text
+            finally:
+                server.stop()
+
+        base, text = self.between(work)
+        lines = [line.split() for line in str(text).splitlines()]
+        return base, [int(line[1]) / 1e3 for line in lines], [int(line[2]) for line in lines]
+
+
+def best_times(program: str, folder: str) -> dict[int | str, list[float]]:
+    """The microseconds that a program prints: of a bare append, and of each way of each count of clients, in order."""
+    found: dict[int | str, list[float]] = {}
+    for line in call([program, folder], 4 * SECONDS).splitlines():
+        bare = re.match(r"bare append of 64 bytes with a sync:\s*([\d.]+) us", line)
+        clients = re.match(r"sockets,\s*(\d+):\s*([\d.]+) us an answer", line)
+        if bare:
+            found.setdefault("bare", []).append(float(bare.group(1)))
+        elif clients:
+            found.setdefault(int(clients.group(1)), []).append(float(clients.group(2)))
+    if "bare" not in found or len(found) == 1:
+        raise Failed(f"{program}: it prints no times")
+    return found
+
+
+HEADS = (
+    "clients",
+    "lines",
+    "answers a second",
+    "Stands a second",
+    "Stands an append",
+    "Stand 50th, 99th",
+    "who 50th, 99th",
+    "inputs a batch",
+    "processor, us",
+    "done, s",
+)
+
+
+def print_row(row: Row) -> None:
+    """The figures of a row."""
+    middle, per = row.middle, row.figures["per append"]
+    cells = (
+        f"{row.clients} at {row.place}",
+        "stand, who" if row.asks else "stand",
+        f"{middle('answers'):,.0f}",
+        f"{middle('stands'):,.0f}",
+        f"{middle('per append'):.2f} ({min(per):.2f} to {max(per):.2f})",
+        f"{middle('stand50'):,.0f}, {middle('stand99'):,.0f}",
+        f"{middle('who50'):,.0f}, {middle('who99'):,.0f}" if row.asks else "",
+        f"{middle('batch'):.1f}",
+        f"{middle('processor'):.0f}",
+        f"{middle('done'):.2f}",
+    )
+    print(f"| {' | '.join(cells)} |", flush=True)
+
+
+def print_elections(bench: Bench) -> None:
+    """Elections of three Stands, one after the other."""
+    ratios, times, late = [], [], 0
+    for _ in range(bench.runs):
+        base, some, tardy = bench.elect()
+        ratios.append(statistics.median(some) / base)
+        times += some
+        late += sum(tardy)
+    times.sort()
+    print(
+        f"elections, a Stand at each of {RING} nodes: 50th and 90th percentile {times[len(times) // 2]:.0f} and"
+        f" {times[len(times) * 9 // 10]:.0f} us, {statistics.median(ratios):.1f} bare appends ({min(ratios):.1f} to {max(ratios):.1f});"
+        f" {late} of {RING * len(times)} Stands came late",
+        flush=True,
+    )
+
+
+def print_against(rows: list[Row], before: dict[int | str, list[float]], behind: dict[int | str, list[float]]) -> None:
+    """The ratios to what is to be had at best."""
+    first, last = before["bare"][0], behind["bare"][0]
+    print(f"against the best: a bare append with a sync took {first:.1f} us before the rows and {last:.1f} us behind")
+    for row in rows:
+        if row.nodes != 1 or row.asks or row.clients not in before:
+            continue
+        best = min((one + other) / 2 for one, other in zip(before[row.clients], behind[row.clients]))
+        us = row.middle("us")
+        print(
+            f"{row.clients} at node 1, stand: {us:.1f} us an answer, at best {best:.1f} us; {us / best:.2f} times as long,"
+            f" {best / us:.2f} of its answers"
+        )
+
+
+def busy() -> tuple[float, float]:
+    """The seconds that all processors were busy by now, and those that this program and its children have taken of them."""
+    with open("/proc/stat", encoding="ascii") as file:
+        user, nice, system, _, _, irq, softirq = map(int, file.readline().split()[1:8])
+    mine = sum(sum(resource.getrusage(who)[:2]) for who in (resource.RUSAGE_SELF, resource.RUSAGE_CHILDREN))
+    return (user + nice + system + irq + softirq) / os.sysconf("SC_CLK_TCK"), mine
+
+
+def run(words: argparse.Namespace, folder: str) -> None:
+    begun, all_before, mine_before = time.monotonic(), *busy()
+    bench = Bench(os.path.abspath(words.ringd), folder, words.runs)
+    before = best_times(os.path.abspath(words.against), folder) if words.against else {}
+    grows = statistics.median(bench.bare(True) for _ in range(9))
+    holds = statistics.median(bench.bare(False) for _ in range(9))
+    print(
+        f"a bare append of 64 bytes with a sync: {holds:.1f} us in a file that has its length, {grows:.1f} us where the file grows;"
+        " ratios are to the first",
+        flush=True,
+    )
+    counts = COUNTS if bench.has_doors else COUNTS[:1]
+    print(f"\n| {' | '.join(HEADS)} |\n|{'---|' * len(HEADS)}", flush=True)
+    rows = [Row(nodes, clients, asks) for nodes in (1, RING) for clients in counts for asks in (False, True)]
+    for row in rows:
+        for _ in range(words.runs):
+            bench.run(row)
+        print_row(row)
+    print()
+    if not bench.has_doors:
+        print("no rows of more than one client at a node: this server has no --doors")
+    print_elections(bench)
+    bases = bench.bases
+    print(f"a bare append around these runs: {min(bases):.1f} to {max(bases):.1f} us, {statistics.median(bases):.1f} us in the middle")
+    if words.against:
+        print_against(rows, before, best_times(os.path.abspath(words.against), folder))
+    took, all_behind, mine_behind = time.monotonic() - begun, *busy()
+    others = (all_behind - all_before - (mine_behind - mine_before)) / took
+    print(f"{took:.0f} s; others took {others:.1f} of {os.cpu_count()} processors meanwhile")
+
+
+def main() -> int:
+    parser = argparse.ArgumentParser(description="Times ringd under load. The head of this file says what it prints.")
+    parser.add_argument("--ringd", default="bin/ringd")
+    parser.add_argument("--folder", default=".")
+    parser.add_argument("--runs", type=int, default=9, metavar="N")
+    parser.add_argument("--against", metavar="PROGRAM")
+    words = parser.parse_args()
+    if not 1 <= words.runs <= 100:
+        parser.error("--runs is 1 to 100")
+    folder = ""
+    try:
+        folder = tempfile.mkdtemp(prefix="load-", dir=os.path.abspath(words.folder))
+        run(words, folder)
+        return 0
+    except (Failed, OSError) as error:
+        print(f"load.py: {error}", file=sys.stderr)
+        return 1
+    finally:
+        if folder:
+            shutil.rmtree(folder, ignore_errors=True)
+
+
+if __name__ == "__main__":
+    sys.exit(main())
