@@ -1,8 +1,8 @@
 // Hubs over new nodes, whose appenders stand and wait for the reply, in threads of their own beside one flusher.
 ghost use Rattle.std.specs.Prelude.{◌≡◌, ◌-◌, ◌≤◌, false, length};
 ghost use Rattle.gated_journal.specs.Journal.{member_of, len_of, room_of, is_spoiled};
-ghost use Rattle.ring_records.specs.Admission.{fresh, used};
 ghost use Rattle.ring_records.specs.Answer.{durable_in};
+ghost use Rattle.ring_records.specs.Member.{used_by};
 ghost use Rattle.commit_hub.specs.Pages.{places_of, ForAccepted, ForDurable, ForCosts, IsWhole};
 
 use crate::devices::{CAPACITY, in_memory};
@@ -265,7 +265,7 @@ fn on_hub<
     requires ready { is_spoiled journal ≡ false }
     requires member { member_of journal ≡ desk.member }
     requires len { len_of journal ≡ desk.state.durable }
-    requires room { room_of journal ≡ desk.member.capacity - used fresh (durable_in desk.state) }
+    requires room { room_of journal ≡ desk.member.capacity - used_by (durable_in desk.state) }
 {
     let (hub, tie) = Hub::<A, D, C>::new(desk, blanks);
     let appenders = appenders(rt, alloc, &hub, load)?;

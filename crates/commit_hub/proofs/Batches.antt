@@ -2,31 +2,30 @@
 use Rattle.std.proofs.Common.{◌≡◌, ℕ, ◌+◌, ◌≤◌, List, ◌++◌, Result, Ok, Err, Option, Some, None, IfOk, IfSome, OnOk, sym, ap, ◌∙◌, subst, arith, length-take}
 use Rattle.ring_records.specs.declared.input.Input.{Input}
 use Rattle.ring_records.specs.declared.packet.Packet.{Packet}
-use Rattle.ring_records.specs.Admission.{fresh, used}
 use Rattle.ring_records.specs.Answer.{NodeState, IsNodeState, durable_in, flown_in, flying_in}
 use Rattle.ring_records.specs.Answer as answers
+use Rattle.ring_records.specs.Member.{Member, used_by, IsHistory}
 use Rattle.ring_records.specs.Release.{packets, decisions, window}
 use Rattle.gated_journal.specs.declared.batch.Batch.{Batch}
 use Rattle.gated_journal.specs.Batch.{Numbered, numbered, shown}
-use Rattle.gated_journal.specs.Reading.{Member}
 use Rattle.group_commit.specs.declared.landed.Landed.{Landed}
 use Rattle.group_commit.specs.Desk.{DeskView, launched}
 use Rattle.group_commit.proofs.Vouching.{lawful_take}
-use Rattle.commit_hub.specs.Told.{IsHistory, IsBrought, IsWindow}
+use Rattle.commit_hub.specs.Told.{IsBrought, IsWindow}
 use Rattle.commit_hub.proofs.Costs.{used_front, flown, flown_costs, launched_counts}
 
 -- what flies fits, with what is durable
-pub flying_fits : (m : Member) (s : NodeState) → IsHistory m s.inputs → IsNodeState s → used fresh (durable_in s) + used fresh (flying_in s) ≤ m.capacity
+pub flying_fits : (m : Member) (s : NodeState) → IsHistory m s.inputs → IsNodeState s → used_by (durable_in s) + used_by (flying_in s) ≤ m.capacity
 flying_fits m s lawful counts = omega (arith, flown_costs s counts, used_front s.flying m.node m.n m.capacity s.inputs lawful)
 
 -- so the batch that is launched fits behind the durable inputs
-pub room_left : {E : Type 0} (result : Result (Option Batch) E) (costs node first : ℕ) (old new : DeskView) → IsHistory old.member old.state.inputs → IsNodeState old.state → costs ≡ used fresh (durable_in old.state)
+pub room_left : {E : Type 0} (result : Result (Option Batch) E) (costs node first : ℕ) (old new : DeskView) → IsHistory old.member old.state.inputs → IsNodeState old.state → costs ≡ used_by (durable_in old.state)
     → OnOk result (new ≡ launched old) → IfOk result (λ some. IfSome some (λ batch. shown batch ≡ numbered node first (flying_in new.state)))
-    → IfOk result (λ some. IfSome some (λ batch. costs + used fresh (shown batch).inputs ≤ old.member.capacity))
+    → IfOk result (λ some. IfSome some (λ batch. costs + used_by (shown batch).inputs ≤ old.member.capacity))
 room_left (Err e) costs node first old new lawful counts spent next is = tt
 room_left (Ok None) costs node first old new lawful counts spent next is = tt
 room_left (Ok (Some batch)) costs node first old new lawful counts spent next is =
-    let same : used fresh (shown batch).inputs ≡ used fresh (flying_in (answers.launched old.state)) = ap (used fresh) (ap (λ (n : Numbered). n.inputs) is ∙ ap (λ (d : DeskView). flying_in d.state) next) in
+    let same : used_by (shown batch).inputs ≡ used_by (flying_in (answers.launched old.state)) = ap used_by (ap (λ (n : Numbered). n.inputs) is ∙ ap (λ (d : DeskView). flying_in d.state) next) in
     omega (arith, same, spent, flying_fits old.member (answers.launched old.state) lawful (launched_counts old.state counts))
 
 -- what flew and is durable now

@@ -5,21 +5,22 @@ use Rattle.std.proofs.lemmas.List.Sums.{sum_by-take-drop}
 use Rattle.ring_records.specs.declared.input.Input.{Input}
 use Rattle.ring_records.specs.Admission.{fresh, used, cost, Fits, IsAdmitted, IsLawful}
 use Rattle.ring_records.specs.Answer.{NodeState, IsNodeState, launched, durable_in, flown_in, flying_in}
+use Rattle.ring_records.specs.Member.{member, used_by, IsHistory}
 use Rattle.ring_records.proofs.Counts.{used-push}
 use Rattle.ring_records.proofs.Lists.{along}
 use Rattle.gated_journal.proofs.Rest.{used-joined}
 
-fits_next : (me n capacity : ℕ) (h : List Input) (x : Input) → IsAdmitted me n capacity fresh h x → used fresh h ≤ capacity → used fresh (h ++ x ∷ []) ≤ capacity
+fits_next : (me n capacity : ℕ) (h : List Input) (x : Input) → IsAdmitted me n capacity fresh h x → used_by h ≤ capacity → used_by (h ++ x ∷ []) ≤ capacity
 unfolding Fits
 fits_next me n capacity h x admitted fits = omega (arith, admitted.fits, used-push h x)
 
 -- a lawful history fits the capacity
-pub used_within : (me n capacity : ℕ) (h : List Input) → IsLawful me n capacity fresh h → used fresh h ≤ capacity
+pub used_within : (me n capacity : ℕ) (h : List Input) → IsHistory (member me n capacity) h → used_by h ≤ capacity
 unfolding IsLawful used
-used_within me n capacity h lawful = along (IsAdmitted me n capacity fresh) (λ l. used fresh l ≤ capacity) (fits_next me n capacity) [] h lawful (omega arith)
+used_within me n capacity h lawful = along (IsAdmitted me n capacity fresh) (λ l. used_by l ≤ capacity) (fits_next me n capacity) [] h lawful (omega arith)
 
 -- and so do its first inputs
-pub used_front : (k me n capacity : ℕ) (h : List Input) → IsLawful me n capacity fresh h → used fresh (take k h) ≤ capacity
+pub used_front : (k me n capacity : ℕ) (h : List Input) → IsHistory (member me n capacity) h → used_by (take k h) ≤ capacity
 unfolding used
 used_front k me n capacity h lawful = omega (arith, used_within me n capacity h lawful, sum_by-take-drop cost h k)
 
@@ -30,8 +31,8 @@ from_to d f h le = let sum : d + (f - d) ≡ f = omega (arith, le) in sym (take-
 pub flown : (s : NodeState) → IsNodeState s → durable_in s ++ flying_in s ≡ flown_in s
 flown s counts = from_to s.durable s.flying s.inputs counts.durable
 
-pub flown_costs : (s : NodeState) → IsNodeState s → used fresh (flown_in s) ≡ used fresh (durable_in s) + used fresh (flying_in s)
-flown_costs s counts = ap (used fresh) (sym (flown s counts)) ∙ used-joined (durable_in s) (flying_in s)
+pub flown_costs : (s : NodeState) → IsNodeState s → used_by (flown_in s) ≡ used_by (durable_in s) + used_by (flying_in s)
+flown_costs s counts = ap used_by (sym (flown s counts)) ∙ used-joined (durable_in s) (flying_in s)
 
 -- and is as long as it says
 pub flown_count : (s : NodeState) → IsNodeState s → s.flying ≡ s.durable + length (flying_in s)

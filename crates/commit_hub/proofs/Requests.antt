@@ -7,8 +7,9 @@ use Rattle.ring_records.specs.declared.input.Input.{Input}
 use Rattle.ring_records.specs.declared.refusal.Refusal.{Refusal}
 use Rattle.ring_records.specs.declared.refusal.Refusal.TheVariants as refused
 use Rattle.ring_records.specs.declared.request.Request.{Request}
-use Rattle.ring_records.specs.Admission.{fresh, refusal}
+use Rattle.ring_records.specs.Admission.{fresh}
 use Rattle.ring_records.specs.Answer.{NodeState, IsNodeState, input_of, if_free, if_input, gained, durable_in}
+use Rattle.ring_records.specs.Member.{member, refusal_by, gained_by}
 use Rattle.ring_records.specs.Message.{is_outside}
 use Rattle.ring_records.proofs.Lists.{none≢some}
 use Rattle.group_commit.specs.Desk.{DeskView, submitted, objection}
@@ -22,7 +23,7 @@ durable_stays s more counts = take-append-le s.durable s.inputs more (omega (ari
 pub grows : (q : Request) (old new : DeskView) → new ≡ submitted q old → length old.state.inputs ≤ length new.state.inputs
 grows q old new next =
     let m = old.member in
-    let more = gained m.node m.n m.capacity fresh old.state.inputs q in
+    let more = gained_by m old.state.inputs q in
     let long = ap (λ (d : DeskView). length d.state.inputs) next in
     omega (arith, long, length-append old.state.inputs more)
 
@@ -34,9 +35,9 @@ free_few (Some why) x = omega arith
 
 input_few : (me n capacity : ℕ) (h : List Input) (o : Option Input) → length (if_input me n capacity fresh h o) ≤ 1
 input_few me n capacity h None = omega arith
-input_few me n capacity h (Some x) = free_few (refusal me n capacity fresh h x) x
+input_few me n capacity h (Some x) = free_few (refusal_by (member me n capacity) h x) x
 
-gained_few : (me n capacity : ℕ) (h : List Input) (q : Request) → length (gained me n capacity fresh h q) ≤ 1
+gained_few : (me n capacity : ℕ) (h : List Input) (q : Request) → length (gained_by (member me n capacity) h q) ≤ 1
 unfolding gained
 gained_few me n capacity h q = input_few me n capacity h (input_of q)
 
@@ -44,7 +45,7 @@ gained_few me n capacity h q = input_few me n capacity h (input_of q)
 pub one_more : (q : Request) (old new : DeskView) (before after : ℕ) → new ≡ submitted q old → after + length old.state.inputs ≡ before + length new.state.inputs → (before ≤ after) × (after ≤ before + 1)
 one_more q old new before after next counted =
     let m = old.member in
-    let more = gained m.node m.n m.capacity fresh old.state.inputs q in
+    let more = gained_by m old.state.inputs q in
     let long : length new.state.inputs ≡ length old.state.inputs + length more = ap (λ (d : DeskView). length d.state.inputs) next ∙ length-append old.state.inputs more in
     let few = gained_few m.node m.n m.capacity old.state.inputs q in
     (omega (arith, counted, long), omega (arith, counted, long, few))

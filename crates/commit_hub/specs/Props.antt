@@ -3,20 +3,14 @@ use Rattle.std.specs.Prelude.{◌≡◌, List}
 use Rattle.std.proofs.Props.{props}
 use Rattle.std.specs.Coded.{le_prop}
 use Rattle.ring_records.specs.declared.input.Input.{Input}
-use Rattle.ring_records.specs.Admission.{fresh}
 use Rattle.ring_records.specs.Answer.{NodeState, IsNodeState}
-use Rattle.ring_records.specs.Props.{IsLawful-prop}
-use Rattle.gated_journal.specs.Reading.{Member}
-use Rattle.commit_hub.specs.Told.{IsHistory}
+use Rattle.ring_records.specs.Member.{Member}
 
 members : IsSet Member
 members = hlevel props
 
 pub member-prop : (a b : Member) → IsProp (a ≡ b)
 member-prop a b = members a b
-
-pub history-prop : (member : Member) (h : List Input) → IsProp (IsHistory member h)
-history-prop member h = IsLawful-prop member.node member.n member.capacity fresh h
 
 pub state-prop : (s : NodeState) → IsProp (IsNodeState s)
 state-prop s p q i = record { durable = le_prop p.durable q.durable i; flying = le_prop p.flying q.flying i }

@@ -5,15 +5,10 @@ use Rattle.ring_records.specs.declared.packet.Packet.{Packet}
 use Rattle.ring_records.specs.declared.refusal.Refusal.{Refusal}
 use Rattle.ring_records.specs.declared.refusal.Refusal.TheVariants as refused
 use Rattle.ring_records.specs.declared.request.Request.{Request}
-use Rattle.ring_records.specs.Admission.{fresh, IsLawful}
+use Rattle.ring_records.specs.Member.{Member, member, IsHistory}
 use Rattle.ring_records.specs.Message.{is_outside}
 use Rattle.ring_records.specs.Release.{packets, decisions, window}
-use Rattle.gated_journal.specs.Reading.{Member}
 use Rattle.group_commit.specs.declared.landed.Landed.{Landed}
-
--- a lawful history of the node
-abbrev pub IsHistory : Member → List Input → Type 0
-IsHistory member h = IsLawful member.node member.n member.capacity fresh h
 
 -- Why a node of a ring of n gives no ticket for the request: it is closed or has failed; the message is of no node of
 -- the ring; or else all numbers of tickets were given, or a growth was refused.

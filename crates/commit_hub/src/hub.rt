@@ -1,15 +1,15 @@
 //! One lock round a desk, for many appenders and one flusher.
 ghost use Rattle.std.specs.Prelude.{◌≡◌, ◌+◌, ◌≤◌, ◌⊎◌, length, map, false, IfOk, IfErr, IfSome, IsOk, OnOk, OnErr};
 ghost use Rattle.std.specs.List.{sum_by};
-ghost use Rattle.ring_records.specs.Admission.{fresh, used};
 ghost use Rattle.ring_records.specs.Answer.{durable_in};
+ghost use Rattle.ring_records.specs.Member.{used_by, IsHistory};
 ghost use Rattle.ring_records.specs.Message.{is_outside};
 ghost use Rattle.gated_journal.specs.Batch.{shown as batch_shown, landed as receipted, lost};
 ghost use Rattle.group_commit.specs.Desk.{IsAnswer};
 ghost use Rattle.group_commit.specs.Ticket.{shown, stub};
 ghost use Rattle.commit_hub.specs.Holders.{count_of, durable_of, costs_of};
 ghost use Rattle.commit_hub.specs.Pages.{ForAccepted, ForDurable, ForCosts, IsWhole};
-ghost use Rattle.commit_hub.specs.Told.{IsHistory, IsUnasked, IsBrought, IsWindow};
+ghost use Rattle.commit_hub.specs.Told.{IsUnasked, IsBrought, IsWindow};
 
 use crate::blanks::Blanks;
 use crate::ledgers::{Node, Whole};
@@ -39,7 +39,7 @@ impl<A: Node, D: Whole, C: Whole> Hub<A, D, C> {
         requires durable { ForDurable blanks D.name D.parts × IsWhole D.all D.parts }
         requires costs { ForCosts blanks C.name C.parts × IsWhole C.all C.parts }
         ensures durable { durable_of result.1 ≡ desk.state.durable }
-        ensures costs { costs_of result.1 ≡ used fresh (durable_in desk.state) }
+        ensures costs { costs_of result.1 ≡ used_by (durable_in desk.state) }
     {
         let (locked, tie) = Locked::new(desk, blanks);
         let hub = Hub {
@@ -131,7 +131,7 @@ impl<A: Node, D: Whole, C: Whole> Hub<A, D, C> {
         requires whole { IsWhole D.all D.parts × IsWhole C.all C.parts }
         ensures node { IfOk result (λ some. IfSome some (λ batch. (batch_shown batch).node ≡ A.member.node)) }
         ensures first { IfOk result (λ some. IfSome some (λ batch. (batch_shown batch).first ≡ durable_of tie.old)) }
-        ensures room { IfOk result (λ some. IfSome some (λ batch. costs_of tie.old + used fresh (batch_shown batch).inputs ≤ A.member.capacity)) }
+        ensures room { IfOk result (λ some. IfSome some (λ batch. costs_of tie.old + used_by (batch_shown batch).inputs ≤ A.member.capacity)) }
         ensures refusal { IfErr result (λ refusal. (refusal ≡ Refusal.Failed) ⊎ ((refusal ≡ Refusal.Busy) ⊎ (refusal ≡ Refusal.OutOfMemory))) }
         ensures tie { (durable_of tie.new ≡ durable_of tie.old) × (costs_of tie.new ≡ costs_of tie.old) }
     {
@@ -152,7 +152,7 @@ impl<A: Node, D: Whole, C: Whole> Hub<A, D, C> {
         ensures count { IfOk result (λ landed. landed.count ≡ length (receipted receipt).inputs) }
         ensures brought { IfOk result (λ landed. IsBrought A.member (durable_of tie.old) (receipted receipt).inputs landed) }
         ensures durable { OnOk result (durable_of tie.new ≡ durable_of tie.old + length (receipted receipt).inputs) }
-        ensures costs { OnOk result (costs_of tie.new ≡ costs_of tie.old + used fresh (receipted receipt).inputs) }
+        ensures costs { OnOk result (costs_of tie.new ≡ costs_of tie.old + used_by (receipted receipt).inputs) }
         ensures refusal { IfErr result (λ e. e.1 ≡ Refusal.Foreign) }
         ensures back { IfErr result (λ e. receipted e.0 ≡ receipted receipt) }
         ensures tie { OnErr result ((durable_of tie.new ≡ durable_of tie.old) × (costs_of tie.new ≡ costs_of tie.old)) }

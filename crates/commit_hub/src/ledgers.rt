@@ -1,6 +1,6 @@
 //! The ledgers of a hub: what each of them names.
 ghost use Rattle.std.specs.Prelude.{ℕ};
-ghost use Rattle.gated_journal.specs.Reading.{Member};
+ghost use Rattle.ring_records.specs.Member.{Member};
 
 use std::marker::Brand;
 use std::sync::ledger::Ledger;

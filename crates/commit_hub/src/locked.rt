@@ -1,15 +1,17 @@
 //! What lies under a hub's lock: its desk, and the books of its ledgers.
 ghost use Rattle.std.specs.Prelude.{◌≡◌, ◌≢◌, ◌+◌, ◌-◌, ◌≤◌, ◌<◌, ◌⊎◌, ◌||◌, ◌&&◌, not, nat_eq, nat_le, ℕ, true, false, length, Some, None, IfOk, IfErr, IfSome, IfNone, OnOk, OnErr};
-ghost use Rattle.ring_records.specs.Admission.{fresh, used};
+ghost use Rattle.ring_records.specs.Admission.{used};
 ghost use Rattle.ring_records.specs.Answer.{Answered, IsNodeState, durable_in, flying_in};
+ghost use Rattle.ring_records.specs.Member.{used_by, IsHistory};
+ghost use Rattle.ring_records.specs.Props.{IsHistory-prop};
 ghost use Rattle.ring_records.specs.Release.{packets, decisions, window};
 ghost use Rattle.gated_journal.specs.Batch.{shown as batch_shown, landed as receipted, lost, numbered};
 ghost use Rattle.group_commit.specs.Desk.{answered, ticket_for, submitted, ended, launched, landed, objection, launch_objection, IsAnswer, IsHere, IsSealed, IsFlying};
 ghost use Rattle.group_commit.specs.Ticket.{shown, stub};
 ghost use Rattle.commit_hub.specs.Holders.{count_of, durable_of, costs_of};
 ghost use Rattle.commit_hub.specs.Pages.{places_of, ForAccepted, ForDurable, ForCosts, IsWhole};
-ghost use Rattle.commit_hub.specs.Props.{member-prop, history-prop, state-prop};
-ghost use Rattle.commit_hub.specs.Told.{IsHistory, IsBrought, IsWindow};
+ghost use Rattle.commit_hub.specs.Props.{member-prop, state-prop};
+ghost use Rattle.commit_hub.specs.Told.{IsBrought, IsWindow};
 
 use crate::blanks::Blanks;
 use crate::ledgers::{Node, Whole};
@@ -39,13 +41,13 @@ pub(crate) struct Locked<A: Node, D: Whole, C: Whole> {
     pub(crate) durable: Book<D>,
     pub(crate) costs: Book<C>,
     ghost of: { desk.member ≡ A.member } by { member-prop desk.member A.member },
-    ghost lawful: { IsHistory desk.member desk.state.inputs } by { history-prop desk.member desk.state.inputs },
+    ghost lawful: { IsHistory desk.member desk.state.inputs } by { IsHistory-prop desk.member desk.state.inputs },
     ghost counts: { IsNodeState desk.state } by { state-prop desk.state },
     ghost counted: { accepted.total ≡ length desk.state.inputs },
     ghost first_is: { (first.parts ≡ 1) × (first.amount ≡ opened) × (opened ≡ A.opened) },
     ghost spare_is: { (spare.parts ≡ left) × (spare.amount ≡ 0) },
     ghost durable_is: { durable.total ≡ desk.state.durable },
-    ghost costs_is: { costs.total ≡ used fresh (durable_in desk.state) },
+    ghost costs_is: { costs.total ≡ used_by (durable_in desk.state) },
 }
 
 impl<A: Node, D: Whole, C: Whole> Locked<A, D, C> {
@@ -59,7 +61,7 @@ impl<A: Node, D: Whole, C: Whole> Locked<A, D, C> {
         ensures desk { result.0.desk ≡ desk }
         ensures places { result.0.left ≡ places_of blanks }
         ensures durable { durable_of result.1 ≡ desk.state.durable }
-        ensures costs { costs_of result.1 ≡ used fresh (durable_in desk.state) }
+        ensures costs { costs_of result.1 ≡ used_by (durable_in desk.state) }
     {
         let Blanks {
             places,
@@ -174,7 +176,7 @@ impl<A: Node, D: Whole, C: Whole> Locked<A, D, C> {
     pub(crate) fn launch(&mut self, tie: &mut Tie<A, D, C>) -> Result<Option<Batch>, Refusal>
         requires whole { IsWhole D.all D.parts × IsWhole C.all C.parts }
         ensures batch { IfOk result (λ some. IfSome some (λ batch. batch_shown batch ≡ numbered A.member.node (durable_of tie.old) (flying_in self.new.desk.state))) }
-        ensures room { IfOk result (λ some. IfSome some (λ batch. costs_of tie.old + used fresh (batch_shown batch).inputs ≤ A.member.capacity)) }
+        ensures room { IfOk result (λ some. IfSome some (λ batch. costs_of tie.old + used_by (batch_shown batch).inputs ≤ A.member.capacity)) }
         ensures none { IfOk result (λ some. IfNone some (self.old.desk.state.durable ≡ length self.old.desk.state.inputs)) }
         ensures next { OnOk result (self.new.desk ≡ launched self.old.desk) }
         ensures free { OnOk result (launch_objection self.old.desk ≡ None) }
@@ -213,7 +215,7 @@ impl<A: Node, D: Whole, C: Whole> Locked<A, D, C> {
         ensures decisions { IfOk result (λ landed. landed.decisions.items ≡ decisions A.member.node (durable_in self.old.desk.state) (receipted receipt).inputs) }
         ensures next { OnOk result (self.new.desk ≡ landed self.old.desk) }
         ensures durable { OnOk result (durable_of tie.new ≡ durable_of tie.old + length (receipted receipt).inputs) }
-        ensures costs { OnOk result (costs_of tie.new ≡ costs_of tie.old + used fresh (receipted receipt).inputs) }
+        ensures costs { OnOk result (costs_of tie.new ≡ costs_of tie.old + used_by (receipted receipt).inputs) }
         ensures foreign { IfErr result (λ e. (e.1 ≡ Refusal.Foreign) × (IsFlying self.old.desk (receipted receipt) → self.old.desk.failed ≡ false → ⊥)) }
         ensures back { IfErr result (λ e. receipted e.0 ≡ receipted receipt) }
         ensures same { OnErr result (self.new.desk ≡ self.old.desk) }

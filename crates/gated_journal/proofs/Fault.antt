@@ -3,7 +3,8 @@ use Rattle.std.proofs.Common.{◌≡◌, ◌⊎◌, inl, inr, ℕ, ◌≤◌, Li
 use Rattle.ring_records.specs.declared.input.Input.{Input}
 use Rattle.ring_records.specs.declared.refusal.Refusal.{Refusal}
 use Rattle.ring_records.specs.declared.refusal.Refusal.TheVariants.{Damaged}
-use Rattle.gated_journal.specs.Reading.{Member, ReadsAs}
+use Rattle.ring_records.specs.Member.{Member}
+use Rattle.gated_journal.specs.Reading.{ReadsAs}
 use Rattle.gated_journal.specs.Unread.{header_at, IsBroken, IsUnread}
 use Rattle.gated_journal.proofs.Behind.{inside}
 use Rattle.gated_journal.proofs.Head.{header_again}

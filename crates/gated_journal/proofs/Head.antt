@@ -6,7 +6,8 @@ use Rattle.std.proofs.lemmas.Slice.Eq.{bytes_eq-Decides}
 use Rattle.disk_model.specs.Disk.{IsPart}
 use Rattle.ring_records.specs.declared.refusal.Refusal.{Refusal}
 use Rattle.ring_records.specs.declared.refusal.Refusal.TheVariants.{NotFormatted, WrongNode, Damaged}
-use Rattle.gated_journal.specs.Reading.{number_at, mark, member, Member, HasHeader}
+use Rattle.ring_records.specs.Member.{Member, member}
+use Rattle.gated_journal.specs.Reading.{number_at, mark, HasHeader}
 use Rattle.gated_journal.proofs.Kept.{take_same}
 use Rattle.gated_journal.specs.Unread.{head_at, header_at}
 

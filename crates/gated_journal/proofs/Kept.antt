@@ -1,9 +1,10 @@
 -- What stays where an image changes in one range alone.
 use Rattle.std.proofs.Common.{◌≡◌, ◌⊎◌, inl, ⊎_elim, ℕ, zero, suc, ◌+◌, ◌*◌, ◌-◌, ◌<◌, ◌≤◌, List, ◌++◌, length, take, drop, get_or, refl, sym, ◌∙◌, ap, arith, length-take, length-drop, take-append-drop}
 use Rattle.std.proofs.lemmas.List.{drop-drop, ext_get_or, get_or-take, get_or-drop}
+use Rattle.ring_records.specs.Member.{Member}
 use Rattle.disk_model.specs.Disk.{Changes, Puts}
 use Rattle.disk_model.proofs.Changed.{byte_below, byte_above}
-use Rattle.gated_journal.specs.Reading.{number_at, Member, HasHeader}
+use Rattle.gated_journal.specs.Reading.{number_at, HasHeader}
 
 -- k bytes from start on are the same
 pub record SameBytes (start k : ℕ) (old new : List ℕ) : Type 0 where

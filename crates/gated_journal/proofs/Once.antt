@@ -4,9 +4,10 @@ use Rattle.std.proofs.Math.Path.{Σ_path, to_path_p}
 use Rattle.std.proofs.Props.{props}
 use Rattle.std.specs.Coded.{le_prop, Unit-prop, ×_prop}
 use Rattle.ring_records.specs.declared.input.Input.{Input}
+use Rattle.ring_records.specs.Member.{Member}
 use Rattle.gated_journal.specs.Frames.{frames, joined, AreBatches, ReadsTo}
 use Rattle.gated_journal.specs.Props.{IsBatch-prop}
-use Rattle.gated_journal.specs.Reading.{Member, HasHeader, ReadsAt, ReadsAs}
+use Rattle.gated_journal.specs.Reading.{HasHeader, ReadsAt, ReadsAs}
 use Rattle.gated_journal.proofs.Unique.{parts-unique, unique}
 
 Inputs-set : IsSet (List Input)

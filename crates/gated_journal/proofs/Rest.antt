@@ -8,27 +8,28 @@ use Rattle.std.proofs.Math.Nat.{ℕ_set}
 use Rattle.disk_model.specs.Disk.{Disk, MayLeave, IsSynced, Puts, Changes}
 use Rattle.disk_model.proofs.Ranges.{synced_only}
 use Rattle.ring_records.specs.declared.input.Input.{Input}
-use Rattle.ring_records.specs.Admission.{fresh, used, cost}
+use Rattle.ring_records.specs.Admission.{used, cost}
+use Rattle.ring_records.specs.Member.{Member, used_by}
 use Rattle.ring_records.specs.Record.{record_of}
 use Rattle.ring_records.proofs.LookBack.{IsItem, take-item}
 use Rattle.ring_records.proofs.Records.{cost-record, record-long}
 use Rattle.gated_journal.specs.Frames.{records, body, frames, joined, AreBatches, IsFrame, ReadsTo, Appends}
-use Rattle.gated_journal.specs.Reading.{Member, HasHeader, ReadsAt, IsAtRest, AllReadAs, ReadsAsOneOf, new_image, is_header}
+use Rattle.gated_journal.specs.Reading.{HasHeader, ReadsAt, IsAtRest, AllReadAs, ReadsAsOneOf, new_image, is_header}
 use Rattle.gated_journal.proofs.Behind.{inside}
 use Rattle.gated_journal.proofs.Kept.{header_kept}
 use Rattle.gated_journal.proofs.Unique.{unique}
 
 -- ---- sums of costs
 
-pub used-joined : (a b : List Input) → used fresh (a ++ b) ≡ used fresh a + used fresh b
+pub used-joined : (a b : List Input) → used_by (a ++ b) ≡ used_by a + used_by b
 unfolding used
 used-joined a b = sum_by-append cost a b
 
-used-one : (x : Input) → used fresh (x ∷ []) ≡ cost x
+used-one : (x : Input) → used_by (x ∷ []) ≡ cost x
 unfolding used
 used-one x = zero-add (cost x)
 
-pub used-parts : (inputs : List Input) → used fresh inputs ≡ length (records inputs) + 7 * length inputs
+pub used-parts : (inputs : List Input) → used_by inputs ≡ length (records inputs) + 7 * length inputs
 unfolding used
 used-parts [] = refl
 used-parts (x ∷ inputs) = omega (arith, used-joined (x ∷ []) inputs, used-one x, cost-record x, used-parts inputs, length-append (record_of x) (records inputs))
@@ -37,7 +38,7 @@ pub length-body : (inputs : List Input) → length (body inputs) ≡ 6 + length 
 length-body inputs = omega arith
 
 -- a frame takes no more bytes than its inputs by their costs
-pub frames-within : (batches : List (List Input)) → AreBatches batches → length (frames batches) ≤ used fresh (joined batches)
+pub frames-within : (batches : List (List Input)) → AreBatches batches → length (frames batches) ≤ used_by (joined batches)
 frames-within [] sized = omega arith
 frames-within (b ∷ batches) sized =
     let some : 1 ≤ length b = sized.0.some in
@@ -48,16 +49,16 @@ records-long : (inputs : List Input) → 7 * length inputs ≤ length (records i
 records-long [] = omega arith
 records-long (x ∷ inputs) = omega (arith, record-long x, records-long inputs, length-append (record_of x) (records inputs))
 
-pub used-bound : (batches : List (List Input)) → used fresh (joined batches) ≤ 2 * length (frames batches)
+pub used-bound : (batches : List (List Input)) → used_by (joined batches) ≤ 2 * length (frames batches)
 unfolding used
 used-bound [] = omega arith
 used-bound (b ∷ batches) = omega (arith, used-bound batches, used-joined b (joined batches), used-parts b, records-long b, length-append (body b) (frames batches), length-body b)
 
 -- the first inputs take no more than all of them
-pub used-item : (inputs : List Input) (i : ℕ) (x : Input) → IsItem inputs i x → (used fresh (take (i + 1) inputs) ≡ used fresh (take i inputs) + cost x) × (used fresh (take (i + 1) inputs) ≤ used fresh inputs)
+pub used-item : (inputs : List Input) (i : ℕ) (x : Input) → IsItem inputs i x → (used_by (take (i + 1) inputs) ≡ used_by (take i inputs) + cost x) × (used_by (take (i + 1) inputs) ≤ used_by inputs)
 used-item inputs i x here =
-    let more = ap (used fresh) (take-item inputs i x here) ∙ used-joined (take i inputs) (x ∷ []) in
-    let whole = ap (used fresh) (sym (take-append-drop (i + 1) inputs)) ∙ used-joined (take (i + 1) inputs) (drop (i + 1) inputs) in
+    let more = ap used_by (take-item inputs i x here) ∙ used-joined (take i inputs) (x ∷ []) in
+    let whole = ap used_by (sym (take-append-drop (i + 1) inputs)) ∙ used-joined (take (i + 1) inputs) (drop (i + 1) inputs) in
     (omega (arith, more, used-one x), omega (arith, whole))
 
 -- ---- a new journal
@@ -104,25 +105,25 @@ at_place header disk place count sum inputs rest stays all =
     subst (λ (end : ℕ). ReadsAt header disk.image inputs end) end_is read.at
 
 -- and the journal's counts are those of what is read
-pub counts : (header : Member) (disk : Disk) (place count sum : ℕ) (inputs : List Input) → IsAtRest header disk place count sum → MayLeave disk disk.image → AllReadAs header disk inputs → (count ≡ length inputs) × (sum ≡ used fresh inputs)
+pub counts : (header : Member) (disk : Disk) (place count sum : ℕ) (inputs : List Input) → IsAtRest header disk place count sum → MayLeave disk disk.image → AllReadAs header disk inputs → (count ≡ length inputs) × (sum ≡ used_by inputs)
 counts header disk place count sum inputs rest stays all =
     let read = all disk.image stays in
-    let same : (r : (more : List Input) × (ReadsAt header disk.image more place × ((length more ≡ count) × (used fresh more ≡ sum)))) → r.0 ≡ inputs =
+    let same : (r : (more : List Input) × (ReadsAt header disk.image more place × ((length more ≡ count) × (used_by more ≡ sum)))) → r.0 ≡ inputs =
     λ r. (unique 16 disk.image r.0 inputs place read.place r.1.0.frames read.at.frames).0 in (
       ∥∥₁_elim rest.reads (ℕ_set count (length inputs)) (λ r. sym r.1.1.0 ∙ ap length (same r)),
-      ∥∥₁_elim rest.reads (ℕ_set sum (used fresh inputs)) (λ r. sym r.1.1.1 ∙ ap (used fresh) (same r)),
+      ∥∥₁_elim rest.reads (ℕ_set sum (used_by inputs)) (λ r. sym r.1.1.1 ∙ ap used_by (same r)),
     )
 
 -- where nothing waits for a sync, a stop leaves what is read
 pub all_read : (header : Member) (disk : Disk) (inputs : List Input) (place : ℕ) → IsSynced disk → ReadsAt header disk.image inputs place → AllReadAs header disk inputs
 all_read header disk inputs place is read image left = record { place = place; at = subst (λ (l : List ℕ). ReadsAt header l inputs place) (sym (synced_only disk image is left)) read }
 
-pub rest_of : (header : Member) (disk : Disk) (inputs : List Input) (place : ℕ) → IsSynced disk → ReadsAt header disk.image inputs place → IsAtRest header disk place (length inputs) (used fresh inputs)
+pub rest_of : (header : Member) (disk : Disk) (inputs : List Input) (place : ℕ) → IsSynced disk → ReadsAt header disk.image inputs place → IsAtRest header disk place (length inputs) (used_by inputs)
 rest_of header disk inputs place is read = record { synced = is; reads = ∣ (inputs, (read, (refl, refl))) ∣₁ }
 
 -- one batch more
 pub rest_next : (header : Member) (disk new : Disk) (place end count sum : ℕ) (batch : List Input) → IsAtRest header disk place count sum → IsSynced new
-    → ((inputs : List Input) → ReadsAt header disk.image inputs place → ReadsAt header new.image (inputs ++ batch) end) → IsAtRest header new end (count + length batch) (sum + used fresh batch)
+    → ((inputs : List Input) → ReadsAt header disk.image inputs place → ReadsAt header new.image (inputs ++ batch) end) → IsAtRest header new end (count + length batch) (sum + used_by batch)
 rest_next header disk new place end count sum batch rest is step = record {
   synced = is;
   reads = ∥∥₁_elim rest.reads (hlevel) (λ r. ∣ (r.0 ++ batch, (step r.0 r.1.0, (omega (arith, length-append r.0 batch, r.1.1.0), omega (arith, used-joined r.0 batch, r.1.1.1)))) ∣₁);
@@ -140,9 +141,9 @@ moment header old now inputs batch place n read is =
 
 -- a frame takes no more bytes than its inputs by their costs, and these are at least as many as the inputs
 pub record Fits (batch : List Input) (bytes : List ℕ) : Type 0 where
-  pub within : length bytes ≤ used fresh batch
-  pub count : length batch ≤ used fresh batch
-  pub some : 1 ≤ used fresh batch
+  pub within : length bytes ≤ used_by batch
+  pub count : length batch ≤ used_by batch
+  pub some : 1 ≤ used_by batch
 
 pub fits : (batch : List Input) (bytes : List ℕ) → IsFrame batch bytes → Fits batch bytes
 fits batch bytes frame =
@@ -176,14 +177,14 @@ in_range header is =
 -- what its numbers keep to
 pub record Opens (inputs : List Input) (place : ℕ) : Type 0 where
   pub from : 16 ≤ place
-  pub within : place ≤ 16 + used fresh inputs
-  pub counted : length inputs ≤ used fresh inputs
-  pub bound : used fresh inputs + 32 ≤ 2 * place
+  pub within : place ≤ 16 + used_by inputs
+  pub counted : length inputs ≤ used_by inputs
+  pub bound : used_by inputs + 32 ≤ 2 * place
 
 pub opens : (header : Member) (image : List ℕ) (inputs : List Input) (place : ℕ) → ReadsAt header image inputs place → Opens inputs place
 opens header image inputs place read =
     let r = read.frames in
-    let same = ap (used fresh) r.same in
+    let same = ap used_by r.same in
     record {
       from = omega (arith, r.ends);
       within = omega (arith, r.ends, same, frames-within r.batches r.sized);

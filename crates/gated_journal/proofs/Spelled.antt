@@ -2,7 +2,8 @@
 use Rattle.std.proofs.Common.{◌≡◌, ℕ, ◌+◌, ◌*◌, ◌≤◌, List, [], ◌∷◌, ◌++◌, length, take, Ok, refl, sym, ◌∙◌, ap, subst, arith, append_assoc, length-append}
 use Rattle.std.proofs.lemmas.List.{append-nil}
 use Rattle.ring_records.specs.declared.input.Input.{Input}
-use Rattle.ring_records.specs.Admission.{fresh, used, cost}
+use Rattle.ring_records.specs.Admission.{used, cost}
+use Rattle.ring_records.specs.Member.{used_by}
 use Rattle.ring_records.specs.Record.{AreBytes, HasRecord, record_of, record_read}
 use Rattle.ring_records.proofs.Counts.{used-push}
 use Rattle.ring_records.proofs.LookBack.{IsItem, take-item}
@@ -19,7 +20,7 @@ have-push (y ∷ inputs) x have has = (have.0, have-push inputs x have.1 has)
 
 -- the sum of the costs of these inputs, by which they are longer than their records, and its bound
 pub record Sums (inputs : List Input) (sum count : ℕ) : Type 0 where
-  pub same : sum ≡ used fresh inputs
+  pub same : sum ≡ used_by inputs
   pub parts : sum ≡ length (records inputs) + 7 * count
   pub few : sum ≤ 42 * count
 

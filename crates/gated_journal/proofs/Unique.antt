@@ -2,10 +2,11 @@
 use Rattle.std.proofs.Common.{◌≡◌, ◌≢◌, ◌⊎◌, inl, inr, ℕ, ◌+◌, ◌%◌, ◌≤◌, List, [], ◌∷◌, ◌++◌, length, drop, refl, sym, ◌∙◌, ap, arith, append_assoc}
 use Rattle.std.proofs.lemmas.List.{append_cancel_left}
 use Rattle.ring_records.specs.declared.input.Input.{Input}
+use Rattle.ring_records.specs.Member.{Member}
 use Rattle.ring_records.specs.Record.{record_of}
 use Rattle.ring_records.proofs.Records.{records-apart}
 use Rattle.gated_journal.specs.Frames.{records, body, frames, joined, HaveRecords, IsBatch, AreBatches, ReadsTo}
-use Rattle.gated_journal.specs.Reading.{Member, HasHeader, ReadsAs}
+use Rattle.gated_journal.specs.Reading.{HasHeader, ReadsAs}
 use Rattle.gated_journal.specs.Unread.{NoFrame, IsDamagedAt}
 
 records-unique : (b c : List Input) (r s : List ℕ) → HaveRecords b → HaveRecords c → length b ≡ length c → records b ++ r ≡ records c ++ s → (b ≡ c) × (r ≡ s)

@@ -1,7 +1,7 @@
 -- What a journal shows.
 use Rattle.std.specs.Prelude.{ℕ, ◌-◌, Bool}
+use Rattle.ring_records.specs.Member.{Member, member}
 use Rattle.disk_model.specs.declared.device.Device.{Ghosts}
-use Rattle.gated_journal.specs.Reading.{Member, member}
 use Rattle.gated_journal.specs.declared.journal.Journal.{Journal}
 
 module _ {D : Type 0} {g : Ghosts D} where

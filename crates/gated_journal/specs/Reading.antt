@@ -3,7 +3,7 @@ use Rattle.std.specs.Prelude.{◌≡◌, ◌⊎◌, ◌+◌, ◌*◌, ◌≤◌,
 use Rattle.std.specs.Int.{w32, to_be_bytes}
 use Rattle.disk_model.specs.Disk.{Disk, MayLeave, IsSynced}
 use Rattle.ring_records.specs.declared.input.Input.{Input}
-use Rattle.ring_records.specs.Admission.{fresh, used}
+use Rattle.ring_records.specs.Member.{Member, used_by}
 use Rattle.gated_journal.specs.Frames.{ReadsTo}
 
 -- k bytes from this offset on as one number; bytes that are not there count as zero
@@ -11,16 +11,7 @@ abbrev pub number_at : ℕ → ℕ → List ℕ → ℕ
 number_at zero off image = 0
 number_at (suc k) off image = number_at k off image * 256 + slice_index image (off + k)
 
--- what a header names: the node, the ring's size and the capacity
-pub record Member : Type 0 where
-  pub node : ℕ
-  pub n : ℕ
-  pub capacity : ℕ
-
-abbrev pub member : ℕ → ℕ → ℕ → Member
-member node n capacity = record { node = node; n = n; capacity = capacity }
-
--- each of them is in its range
+-- what a header names, the node, the ring's size and the capacity, is in its range
 abbrev pub is_header : Member → Bool
 is_header header = nat_le 2 header.n && (nat_le header.n 16 && (nat_le header.node header.n && (nat_le 4096 header.capacity && nat_le header.capacity 1048576)))
 
@@ -55,7 +46,7 @@ pub record ReadsAs (header : Member) (image : List ℕ) (inputs : List Input) : 
 -- closed gate at this place.
 pub record IsAtRest (header : Member) (disk : Disk) (place count sum : ℕ) : Type 0 where
   pub synced : IsSynced disk
-  pub reads : ∥ ((inputs : List Input) × (ReadsAt header disk.image inputs place × ((length inputs ≡ count) × (used fresh inputs ≡ sum)))) ∥₁
+  pub reads : ∥ ((inputs : List Input) × (ReadsAt header disk.image inputs place × ((length inputs ≡ count) × (used_by inputs ≡ sum)))) ∥₁
 
 -- every image that a stop may leave reads as these inputs
 abbrev pub AllReadAs : Member → Disk → List Input → Type 0

@@ -1,6 +1,6 @@
 //! Inputs that become durable together.
 ghost use Rattle.std.specs.Prelude.{◌≡◌, ◌≤◌, ◌*◌, true, length, IfOk, IfErr, OnOk};
-ghost use Rattle.ring_records.specs.Admission.{fresh, used};
+ghost use Rattle.ring_records.specs.Member.{used_by};
 ghost use Rattle.gated_journal.specs.Frames.{IsFrame};
 ghost use Rattle.gated_journal.specs.Props.{IsFrame-prop};
 
@@ -16,7 +16,7 @@ pub struct Batch {
     pub(crate) cost: u32,
     pub(crate) bytes: Vec<u8>,
     ghost framed: { IsFrame inputs.items bytes.items } by { IsFrame-prop inputs.items bytes.items },
-    ghost counted: { cost ≡ used fresh inputs.items },
+    ghost counted: { cost ≡ used_by inputs.items },
     ghost small: { cost ≤ 42 * 64 },
 }
 
@@ -28,7 +28,7 @@ impl Batch {
     pub fn new(alloc: Global, node: NodeNo, first: u64, inputs: &[Input]) -> Result<Batch, Refusal>
         ensures value { IfOk result (λ batch. shown batch ≡ numbered node first inputs.now) }
         ensures size { OnOk result (is_size (length inputs.now) ≡ true) }
-        ensures bound { OnOk result (used fresh inputs.now ≤ 42 * 64) }
+        ensures bound { OnOk result (used_by inputs.now ≤ 42 * 64) }
         ensures refusal { IfErr result (λ refusal. refusal ≡ batch_refusal (length inputs.now)) }
     {
         if inputs.is_empty() || inputs.len() > 64 {
@@ -74,7 +74,7 @@ impl Batch {
 
     /// The bytes of the capacity that they take, at most 2,688.
     pub fn cost(&self) -> u32
-        ensures value { result ≡ used fresh (shown self.now).inputs }
+        ensures value { result ≡ used_by (shown self.now).inputs }
         ensures bound { result ≤ 42 * 64 }
     {
         self.cost

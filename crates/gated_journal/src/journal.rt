@@ -1,8 +1,9 @@
 ghost use Rattle.std.specs.Prelude.{◌≡◌, ◌+◌, ◌++◌, ◌-◌, ◌⊎◌, ◌<◌, ◌≤◌, ◌^◌, ℕ, List, [], true, false, length, min, is_err, IfOk, IfErr, OnOk, OnErr, IsOk};
 ghost use Rattle.disk_model.specs.Disk.{MayLeave, LeavesOnly, HasCause, synced};
 ghost use Rattle.ring_records.specs.declared.input.Input.{Input};
-ghost use Rattle.ring_records.specs.Admission.{fresh, used};
-ghost use Rattle.gated_journal.specs.Reading.{member, is_header, new_image, IsAtRest, ReadsAs, AllReadAs, ReadsAsOneOf};
+ghost use Rattle.ring_records.specs.Admission.{used};
+ghost use Rattle.ring_records.specs.Member.{member, used_by};
+ghost use Rattle.gated_journal.specs.Reading.{is_header, new_image, IsAtRest, ReadsAs, AllReadAs, ReadsAsOneOf};
 ghost use Rattle.gated_journal.specs.Unread.{IsFault, IsUnread, IsUnopened};
 
 use crate::commit::append;
@@ -103,7 +104,7 @@ impl<D: Device> Journal<D> {
         ensures header { IfOk result (λ r. ((member_of r.0).node ≡ node) × ((member_of r.0).n ≡ n)) }
         ensures ready { IfOk result (λ r. is_spoiled r.0 ≡ false) }
         ensures len { IfOk result (λ r. len_of r.0 ≡ length r.1.items) }
-        ensures room { IfOk result (λ r. room_of r.0 ≡ (member_of r.0).capacity - used fresh r.1.items) }
+        ensures room { IfOk result (λ r. room_of r.0 ≡ (member_of r.0).capacity - used_by r.1.items) }
 
         // A refusal has its cause. While the device works it is the image's, or want of memory.
         ensures refusal { IfErr result (λ e. IsUnopened node n (D.count device) (D.count e.0) (D.disk device).image e.1) }
@@ -176,7 +177,7 @@ impl<D: Device> Journal<D> {
     /// How many bytes of the capacity are left.
     pub fn room(&self) -> u32
         ensures value { result ≡ room_of self.now }
-        ensures list { is_spoiled self.now ≡ false → (inputs : List Input) → AllReadAs (member_of self.now) (D.disk (device_of self.now)) inputs → result ≡ (member_of self.now).capacity - used fresh inputs }
+        ensures list { is_spoiled self.now ≡ false → (inputs : List Input) → AllReadAs (member_of self.now) (D.disk (device_of self.now)) inputs → result ≡ (member_of self.now).capacity - used_by inputs }
     {
         u64::from(self.capacity).saturating_sub(self.used) as u32
     }
@@ -217,7 +218,7 @@ impl<D: Device> Journal<D> {
         requires ready { is_spoiled self.old ≡ false }
         requires node { (shown batch).node ≡ (member_of self.old).node }
         requires first { (shown batch).first ≡ len_of self.old }
-        requires room { used fresh (shown batch).inputs ≤ room_of self.old }
+        requires room { used_by (shown batch).inputs ≤ room_of self.old }
 
         // A stop at any moment of the call leaves the inputs from before it, with the whole batch or without.
         ensures any_moment { (inputs : List Input) → AllReadAs (member_of self.old) (D.disk (device_of self.old)) inputs
@@ -235,7 +236,7 @@ impl<D: Device> Journal<D> {
         ensures header { member_of self.new ≡ member_of self.old }
         ensures len { OnOk result (len_of self.new ≡ len_of self.old + length (shown batch).inputs) }
         ensures kept { OnErr result ((len_of self.new ≡ len_of self.old) × (room_of self.new ≡ room_of self.old)) }
-        ensures left { OnOk result (room_of self.new ≡ room_of self.old - used fresh (shown batch).inputs) }
+        ensures left { OnOk result (room_of self.new ≡ room_of self.old - used_by (shown batch).inputs) }
     {
         let Batch {
             node,

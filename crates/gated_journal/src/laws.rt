@@ -2,8 +2,9 @@
 ghost use Rattle.std.specs.Prelude.{◌≡◌, ℕ, List};
 ghost use Rattle.ring_records.specs.declared.input.Input.{Input};
 ghost use Rattle.ring_records.specs.declared.refusal.Refusal.{Refusal};
+ghost use Rattle.ring_records.specs.Member.{Member};
 ghost use Rattle.gated_journal.specs.Frames.{ReadsTo};
-ghost use Rattle.gated_journal.specs.Reading.{Member, ReadsAs};
+ghost use Rattle.gated_journal.specs.Reading.{ReadsAs};
 ghost use Rattle.gated_journal.specs.Unread.{IsUnread, IsDamagedAt};
 
 /// No image reads as two lists, nor under two headers, and no bytes behind an offset hold two lists of frames.

@@ -1,6 +1,7 @@
 //! Where a journal lies on its device.
 ghost use Rattle.std.specs.Prelude.{◌≡◌, ◌+◌};
-ghost use Rattle.gated_journal.specs.Reading.{member, is_header};
+ghost use Rattle.ring_records.specs.Member.{member};
+ghost use Rattle.gated_journal.specs.Reading.{is_header};
 
 use ring_records::NodeNo;
 

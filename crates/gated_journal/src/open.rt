@@ -2,8 +2,9 @@
 ghost use Rattle.std.specs.Prelude.{◌≡◌, ◌+◌, ◌≤◌, ◌<◌, ◌^◌, ◌⊎◌, ℕ, List, Ok, Err, length, IfOk, IfErr, OnOk, OnErr};
 ghost use Rattle.disk_model.specs.Disk.{MayLeave, IsSynced, IsPart, LeavesOnly, IsInReach, synced};
 ghost use Rattle.ring_records.specs.declared.refusal.Refusal.TheVariants.{OutOfMemory};
+ghost use Rattle.ring_records.specs.Member.{member};
 ghost use Rattle.gated_journal.specs.Frames.{ReadsTo};
-ghost use Rattle.gated_journal.specs.Reading.{member, ReadsAt};
+ghost use Rattle.gated_journal.specs.Reading.{ReadsAt};
 ghost use Rattle.gated_journal.specs.Unread.{head_at, header_at, IsFault, IsBroken, IsUnread, IsUnopened};
 
 use crate::layout::FRAMES;

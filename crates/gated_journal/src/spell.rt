@@ -1,6 +1,7 @@
 //! A frame's bytes.
 ghost use Rattle.std.specs.Prelude.{◌≡◌, ◌≤◌, ◌+◌, ◌*◌, ◌^◌, ◌<◌, ◌++◌, ◌∷◌, [], length, IfOk, OnOk};
-ghost use Rattle.ring_records.specs.Admission.{fresh, used};
+ghost use Rattle.ring_records.specs.Admission.{used};
+ghost use Rattle.ring_records.specs.Member.{used_by};
 ghost use Rattle.ring_records.specs.Record.{AreBytes, HasRecord, record_of};
 ghost use Rattle.gated_journal.specs.Frames.{IsFrame, records};
 
@@ -10,7 +11,7 @@ use std::alloc::{AllocError, Global};
 /// The bytes of the capacity that the inputs take together.
 pub(crate) fn cost_of(inputs: &[Input]) -> u32
     requires { length inputs.now ≤ 64 }
-    ensures value { result ≡ used fresh inputs.now }
+    ensures value { result ≡ used_by inputs.now }
     ensures records { result ≡ length (records inputs.now) + 7 * length inputs.now }
     ensures bound { result ≤ 42 * 64 }
 {
@@ -23,8 +24,8 @@ pub(crate) fn cost_of(inputs: &[Input]) -> u32
 
 /// The bytes of a capacity that a whole journal's inputs take.
 pub(crate) fn used_of(inputs: &[Input]) -> u64
-    requires { used fresh inputs.now < 2 ^ 64 }
-    ensures { result ≡ used fresh inputs.now }
+    requires { used_by inputs.now < 2 ^ 64 }
+    ensures { result ≡ used_by inputs.now }
 {
     let mut used = 0;
     for input in inputs {

@@ -8,11 +8,12 @@ use Rattle.ring_records.specs.Admission.{fresh, refusal, IsAdmitted, IsLawful}
 use Rattle.ring_records.specs.Emission.{carry}
 use Rattle.ring_records.specs.Leader.{decided}
 use Rattle.ring_records.specs.Lists.{EachAfter}
+use Rattle.ring_records.specs.Member.{member, IsHistory, refusal_by}
 use Rattle.ring_records.proofs.Admission.{admitted-free, refusal-admitted}
 use Rattle.ring_records.proofs.Growth.{EachAfter-at}
 use Rattle.ring_records.proofs.Lists.{EachAfter-push}
 use Rattle.ring_records.proofs.LookBack.{IsItem, cut-item, take-item}
-use Rattle.node_core.specs.Core.{CoreView, CoreStandsFor}
+use Rattle.node_core.specs.Core.{CoreView, CoreStandsFor, member_of}
 use Rattle.node_core.specs.declared.effects.Effects.{Effects}
 use Rattle.group_commit.specs.Outbox.{effects_of}
 
@@ -22,14 +23,14 @@ pub record Opens (core : CoreView) (me n capacity : ℕ) (inputs : List Input) (
   pub me_is : core.table.me ≡ me
   pub ring_is : core.size ≡ n
   pub capacity_is : core.capacity ≡ capacity
-  pub lawful : IsLawful me n capacity fresh (take count inputs)
+  pub lawful : IsHistory (member me n capacity) (take count inputs)
 
 pub opens_none : (core : CoreView) (me n capacity : ℕ) (inputs : List Input) → core.table.me ≡ me → core.size ≡ n → core.capacity ≡ capacity → CoreStandsFor core [] → Opens core me n capacity inputs 0
 unfolding IsLawful EachAfter
 opens_none core me n capacity inputs me_is ring_is capacity_is stands = record { stands = stands; me_is = me_is; ring_is = ring_is; capacity_is = capacity_is; lawful = tt }
 
 -- nothing is against the next input of a lawful history
-pub lawful_at : (me n capacity : ℕ) (inputs : List Input) (i : ℕ) (x : Input) → IsLawful me n capacity fresh inputs → IsItem inputs i x → refusal me n capacity fresh (take i inputs) x ≡ None
+pub lawful_at : (me n capacity : ℕ) (inputs : List Input) (i : ℕ) (x : Input) → IsHistory (member me n capacity) inputs → IsItem inputs i x → refusal_by (member me n capacity) (take i inputs) x ≡ None
 unfolding IsLawful
 lawful_at me n capacity inputs i x lawful here =
     let parts : inputs ≡ take i inputs ++ x ∷ drop (i + 1) inputs = cut-item inputs i x here ∙ append_assoc (take i inputs) (x ∷ []) (drop (i + 1) inputs) in
@@ -37,15 +38,15 @@ lawful_at me n capacity inputs i x lawful here =
     admitted-free me n capacity fresh (take i inputs) x (EachAfter-at (IsAdmitted me n capacity fresh) [] (take i inputs) x (drop (i + 1) inputs) each)
 
 -- so the core may take it
-pub opens_for : (core : CoreView) (me n capacity : ℕ) (inputs : List Input) (count : ℕ) (x : Input) → Opens core me n capacity inputs count → refusal me n capacity fresh (take count inputs) x ≡ None
-    → refusal core.table.me core.size core.capacity fresh (take count inputs) x ≡ None
-opens_for core me n capacity inputs count x opens free = (λ i. refusal (opens.me_is i) (opens.ring_is i) (opens.capacity_is i) fresh (take count inputs) x) ∙ free
+pub opens_for : (core : CoreView) (me n capacity : ℕ) (inputs : List Input) (count : ℕ) (x : Input) → Opens core me n capacity inputs count → refusal_by (member me n capacity) (take count inputs) x ≡ None
+    → refusal_by (member_of core) (take count inputs) x ≡ None
+opens_for core me n capacity inputs count x opens free = (λ i. refusal_by (member (opens.me_is i) (opens.ring_is i) (opens.capacity_is i)) (take count inputs) x) ∙ free
 
 -- what the core has against the next input
 pub judged : (core : CoreView) (me n capacity : ℕ) (inputs : List Input) (count : ℕ) (x : Input) (found : Option Refusal) → Opens core me n capacity inputs count
-    → ((h : List Input) → CoreStandsFor core h → found ≡ refusal core.table.me core.size core.capacity fresh h x) → found ≡ refusal me n capacity fresh (take count inputs) x
+    → ((h : List Input) → CoreStandsFor core h → found ≡ refusal_by (member_of core) h x) → found ≡ refusal_by (member me n capacity) (take count inputs) x
 judged core me n capacity inputs count x found opens says =
-    says (take count inputs) opens.stands ∙ (λ i. refusal (opens.me_is i) (opens.ring_is i) (opens.capacity_is i) fresh (take count inputs) x)
+    says (take count inputs) opens.stands ∙ (λ i. refusal_by (member (opens.me_is i) (opens.ring_is i) (opens.capacity_is i)) (take count inputs) x)
 
 -- what the next input brings
 pub brought : (core : CoreView) (me n capacity : ℕ) (inputs : List Input) (count : ℕ) (x : Input) (effects : Effects) → Opens core me n capacity inputs count
@@ -54,13 +55,13 @@ brought core me n capacity inputs count x effects opens sends decides =
     (λ i. record { carry = sends (take count inputs) opens.stands i; decided = decides (take count inputs) opens.stands i }) ∙ ap (λ k. effects_of k (take count inputs) x) opens.me_is
 
 -- one input more stays lawful
-pub lawful_next : (me n capacity : ℕ) (h : List Input) (x : Input) → IsLawful me n capacity fresh h → refusal me n capacity fresh h x ≡ None → IsLawful me n capacity fresh (h ++ x ∷ [])
+pub lawful_next : (me n capacity : ℕ) (h : List Input) (x : Input) → IsHistory (member me n capacity) h → refusal_by (member me n capacity) h x ≡ None → IsHistory (member me n capacity) (h ++ x ∷ [])
 unfolding IsLawful
 lawful_next me n capacity h x lawful free = EachAfter-push (IsAdmitted me n capacity fresh) [] h x lawful (refusal-admitted me n capacity fresh h x free)
 
 -- one input more
 pub opens_next : (core new : CoreView) (me n capacity : ℕ) (inputs : List Input) (count : ℕ) (x : Input) → Opens core me n capacity inputs count → IsItem inputs count x
-    → refusal me n capacity fresh (take count inputs) x ≡ None → ((h : List Input) → CoreStandsFor core h → CoreStandsFor new (h ++ x ∷ []))
+    → refusal_by (member me n capacity) (take count inputs) x ≡ None → ((h : List Input) → CoreStandsFor core h → CoreStandsFor new (h ++ x ∷ []))
     → new.table.me ≡ core.table.me → new.size ≡ core.size → new.capacity ≡ core.capacity → Opens new me n capacity inputs (count + 1)
 opens_next core new me n capacity inputs count x opens here free stands me_same ring_same capacity_same =
     let more = take-item inputs count x here in
@@ -69,7 +70,7 @@ opens_next core new me n capacity inputs count x opens here free stands me_same 
       me_is = me_same ∙ opens.me_is;
       ring_is = ring_same ∙ opens.ring_is;
       capacity_is = capacity_same ∙ opens.capacity_is;
-      lawful = subst (λ (l : List Input). IsLawful me n capacity fresh l) (sym more) (lawful_next me n capacity (take count inputs) x opens.lawful free);
+      lawful = subst (λ (l : List Input). IsHistory (member me n capacity) l) (sym more) (lawful_next me n capacity (take count inputs) x opens.lawful free);
     }
 
 -- a result that is refused names why

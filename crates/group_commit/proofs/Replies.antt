@@ -3,8 +3,8 @@ use Rattle.std.proofs.Common.{◌≡◌, ℕ, Bool, true, false, nat_eq, cond, L
 use Rattle.std.proofs.lemmas.Option.{same_Some}
 use Rattle.std.specs.Map.{lookup, remove_entry}
 use Rattle.ring_records.specs.Answer.{Answered}
+use Rattle.ring_records.specs.Member.{Member, member}
 use Rattle.ring_records.proofs.Lists.{none≢some}
-use Rattle.gated_journal.specs.Reading.{Member}
 use Rattle.group_commit.specs.Desk.{IsAnswer}
 use Rattle.group_commit.specs.Kept.{AreAnswers}
 

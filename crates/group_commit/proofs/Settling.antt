@@ -13,6 +13,7 @@ use Rattle.ring_records.specs.Emission.{carry}
 use Rattle.ring_records.specs.History.{taken}
 use Rattle.ring_records.specs.Leader.{decided}
 use Rattle.ring_records.specs.Lists.{found_after, EachAfter}
+use Rattle.ring_records.specs.Member.{member, IsHistory}
 use Rattle.ring_records.specs.Release.{carries, credit_where, credits, packets, decisions}
 use Rattle.ring_records.proofs.Growth.{taken-append, EachAfter-at}
 use Rattle.ring_records.proofs.Lists.{found_after-push}
@@ -169,7 +170,7 @@ unfolding head_or
 brings_first me waiting rest inputs i x effects waits here split = ap (head_or effects) (sym split ∙ first_waits me waiting inputs i x waits here)
 
 -- each input of a lawful history is allowed after those before it
-pub allowed_at : (me n capacity : ℕ) (inputs : List Input) (i : ℕ) (x : Input) → IsLawful me n capacity fresh inputs → IsItem inputs i x → IsAllowed me n (take i inputs) x
+pub allowed_at : (me n capacity : ℕ) (inputs : List Input) (i : ℕ) (x : Input) → IsHistory (member me n capacity) inputs → IsItem inputs i x → IsAllowed me n (take i inputs) x
 unfolding IsLawful
 allowed_at me n capacity inputs i x lawful here =
     let cut : inputs ≡ take i inputs ++ x ∷ drop (i + 1) inputs = cut-item inputs i x here ∙ append_assoc (take i inputs) (x ∷ []) (drop (i + 1) inputs) in

@@ -10,11 +10,11 @@ use Rattle.ring_records.specs.declared.reply.Reply.{Reply}
 use Rattle.ring_records.specs.declared.reply.Reply.TheVariants as say
 use Rattle.ring_records.specs.declared.request.Request.{Request}
 use Rattle.ring_records.specs.declared.request.Request.TheVariants as ask
-use Rattle.ring_records.specs.Admission.{fresh, refusal, IsAdmitted, IsLawful}
+use Rattle.ring_records.specs.Admission.{fresh, IsAdmitted, IsLawful}
 use Rattle.ring_records.specs.Answer.{Answer, Answered, NodeState, answer, input_of, if_free, unless, gained, reply}
+use Rattle.ring_records.specs.Member.{Member, member, IsHistory, refusal_by, answer_by}
 use Rattle.ring_records.proofs.Growth.{EachAfter-take}
 use Rattle.ring_records.proofs.Lists.{none≢some}
-use Rattle.gated_journal.specs.Reading.{Member}
 use Rattle.group_commit.specs.Vouch.{acceptance, Accepts, IsInput, IsVouched}
 
 -- where a reply accepts an input, the history of its number has the input
@@ -26,14 +26,14 @@ longer (Some why) good x h accepted same count = accepted why same
 says : (given : Reply) (x y : Input) → ◌≡◌ {A = Option Input} (Some y) (Some x) → given ≡ acceptance x → acceptance y ≡ given
 says given x y asked accepts = ap acceptance (same_Some y x asked) ∙ sym accepts
 
-pub grows : (me n capacity : ℕ) (h : List Input) (q : Request) (a : Answer) (x : Input) → Accepts q a.reply x → length h ≡ a.number → a ≡ answer me n capacity fresh h q → ⊥
+pub grows : (me n capacity : ℕ) (h : List Input) (q : Request) (a : Answer) (x : Input) → Accepts q a.reply x → length h ≡ a.number → a ≡ answer_by (member me n capacity) h q → ⊥
 unfolding reply gained input_of acceptance
 grows me n capacity h (ask.Stand key bid) a x accepts count e =
-    longer (refusal me n capacity fresh h (Stand key bid)) say.Stood (Stand key bid) h (λ why s. cc) (says a.reply x (Stand key bid) accepts.asked accepts.says ∙ ap (λ (b : Answer). b.reply) e) (count ∙ ap (λ (b : Answer). b.number) e)
+    longer (refusal_by (member me n capacity) h (Stand key bid)) say.Stood (Stand key bid) h (λ why s. cc) (says a.reply x (Stand key bid) accepts.asked accepts.says ∙ ap (λ (b : Answer). b.reply) e) (count ∙ ap (λ (b : Answer). b.number) e)
 grows me n capacity h (ask.Take place msg) a x accepts count e =
-    longer (refusal me n capacity fresh h (Take place msg)) say.Taken (Take place msg) h (λ why s. cc) (says a.reply x (Take place msg) accepts.asked accepts.says ∙ ap (λ (b : Answer). b.reply) e) (count ∙ ap (λ (b : Answer). b.number) e)
+    longer (refusal_by (member me n capacity) h (Take place msg)) say.Taken (Take place msg) h (λ why s. cc) (says a.reply x (Take place msg) accepts.asked accepts.says ∙ ap (λ (b : Answer). b.reply) e) (count ∙ ap (λ (b : Answer). b.number) e)
 grows me n capacity h (ask.Acked upto) a x accepts count e =
-    longer (refusal me n capacity fresh h (Acked upto)) say.Acked (Acked upto) h (λ why s. cc) (says a.reply x (Acked upto) accepts.asked accepts.says ∙ ap (λ (b : Answer). b.reply) e) (count ∙ ap (λ (b : Answer). b.number) e)
+    longer (refusal_by (member me n capacity) h (Acked upto)) say.Acked (Acked upto) h (λ why s. cc) (says a.reply x (Acked upto) accepts.asked accepts.says ∙ ap (λ (b : Answer). b.reply) e) (count ∙ ap (λ (b : Answer). b.number) e)
 grows me n capacity h (ask.Who key) a x accepts count e = none≢some x accepts.asked
 grows me n capacity h (ask.Latest group) a x accepts count e = none≢some x accepts.asked
 
@@ -46,7 +46,7 @@ answer_of h gains None found given says number finds gain count same none =
 answer_of h gains (Some x) found given says number finds gain count same none = absurd cc
 
 -- the first inputs of a lawful history are lawful
-pub lawful_take : (me n capacity k : ℕ) (h : List Input) → IsLawful me n capacity fresh h → IsLawful me n capacity fresh (take k h)
+pub lawful_take : (me n capacity k : ℕ) (h : List Input) → IsHistory (member me n capacity) h → IsHistory (member me n capacity) (take k h)
 unfolding IsLawful
 lawful_take me n capacity k h lawful = EachAfter-take (IsAdmitted me n capacity fresh) k h lawful
 

@@ -4,13 +4,13 @@ use Rattle.std.specs.Map.{lookup, remove_entry}
 use Rattle.ring_records.specs.declared.input.Input.{Input}
 use Rattle.ring_records.specs.declared.refusal.Refusal.{Refusal}
 use Rattle.ring_records.specs.declared.refusal.Refusal.TheVariants as refused
-use Rattle.ring_records.specs.Admission.{fresh, refusal, IsLawful}
+use Rattle.ring_records.specs.Admission.{refusal}
 use Rattle.ring_records.specs.declared.request.Request.{Request}
 use Rattle.ring_records.specs.Answer as answers
 use Rattle.ring_records.specs.Answer.{Answered, NodeState, asked, opened, flying_in}
+use Rattle.ring_records.specs.Member.{Member, member, IsHistory, refusal_by, answered_by, asked_by}
 use Rattle.ring_records.specs.Message.{is_outside}
 use Rattle.gated_journal.specs.Batch.{Numbered}
-use Rattle.gated_journal.specs.Reading.{Member}
 use Rattle.group_commit.specs.Ticket.{TicketView, ticket_with}
 
 -- Whose it is, and which opening of its node; what the node accepted, and how much of that is durable or flies; what is
@@ -31,7 +31,7 @@ new_desk member run inputs = record { member = member; run = run; state = opened
 
 -- what it answers to a request
 abbrev pub answered : DeskView → Request → Answered
-answered desk q = answers.answered desk.member.node desk.member.n desk.member.capacity fresh desk.state.inputs q
+answered desk q = answered_by desk.member desk.state.inputs q
 
 -- the ticket that it gives for a request
 abbrev pub ticket_for : Request → DeskView → TicketView
@@ -42,7 +42,7 @@ ticket_for q desk = ticket_with desk.member.node desk.run desk.issued (answered 
 -- it gave a ticket for the request
 abbrev pub submitted : Request → DeskView → DeskView
 submitted q desk = record desk {
-  state = asked desk.member.node desk.member.n desk.member.capacity fresh desk.state q;
+  state = asked_by desk.member desk.state q;
   tickets = desk.tickets ++ (desk.issued, answered desk q) ∷ [];
   issued = desk.issued + 1;
 }
@@ -74,11 +74,11 @@ objection desk q =
 pub record IsUnlawful (member : Member) (inputs : List Input) (why : Refusal) : Type 0 where
   pub place : ℕ
   pub is : why ≡ refused.Unlawful place
-  pub before : IsLawful member.node member.n member.capacity fresh (take place inputs)
+  pub before : IsHistory member (take place inputs)
   pub input : Input
   pub there : slice_get inputs place ≡ Some input
   pub refused_for : Refusal
-  pub because : refusal member.node member.n member.capacity fresh (take place inputs) input ≡ Some refused_for
+  pub because : refusal_by member (take place inputs) input ≡ Some refused_for
 
 -- why nothing is launched, before memory is asked for
 abbrev pub launch_objection : DeskView → Option Refusal
@@ -103,8 +103,8 @@ pub record IsHere (desk : DeskView) (ticket : TicketView) (kept : Answered) : Ty
 -- a node with some lawful history gives this answer to the request
 pub record IsAnswer (member : Member) (a : Answered) : Type 0 where
   pub history : List Input
-  pub lawful : IsLawful member.node member.n member.capacity fresh history
-  pub gives : a ≡ answers.answered member.node member.n member.capacity fresh history a.question
+  pub lawful : IsHistory member history
+  pub gives : a ≡ answered_by member history a.question
 
 -- why its reply is not released: no such ticket is open here, or the reply rests on inputs that are not durable
 pub record IsSealed (desk : DeskView) (ticket : TicketView) (why : Refusal) : Type 0 where

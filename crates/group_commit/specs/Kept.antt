@@ -1,8 +1,7 @@
 -- What a desk keeps to.
 use Rattle.std.specs.Prelude.{ℕ, ◌≡◌, ◌<◌, ◌≤◌, List, [], ◌∷◌, length}
-use Rattle.ring_records.specs.Admission.{fresh, IsLawful}
 use Rattle.ring_records.specs.Answer.{Answered, NodeState}
-use Rattle.gated_journal.specs.Reading.{Member}
+use Rattle.ring_records.specs.Member.{Member, member, IsHistory}
 use Rattle.node_core.specs.Core.{CoreView, CoreStandsFor}
 use Rattle.group_commit.specs.Desk.{IsAnswer}
 use Rattle.group_commit.specs.Outbox.{Holds}
@@ -27,7 +26,7 @@ pub record IsDesk (core : CoreView) (outbox : Outbox) (member : Member) (s : Nod
   pub bytes : core.capacity ≡ member.capacity
   pub in_order : s.durable ≤ s.flying
   pub accepted : s.flying ≤ length s.inputs
-  pub lawful : IsLawful member.node member.n member.capacity fresh s.inputs
+  pub lawful : IsHistory member s.inputs
   pub holds : Holds member.node outbox s.inputs s.durable s.flying
   pub given : AreBelow issued tickets
   pub answers : AreAnswers member tickets

@@ -5,9 +5,8 @@ use Rattle.ring_records.specs.declared.input.Input.TheVariants.{Stand, Take, Ack
 use Rattle.ring_records.specs.declared.reply.Reply.{Reply}
 use Rattle.ring_records.specs.declared.reply.Reply.TheVariants as say
 use Rattle.ring_records.specs.declared.request.Request.{Request}
-use Rattle.ring_records.specs.Admission.{fresh}
 use Rattle.ring_records.specs.Answer.{Answered, NodeState, answer, input_of}
-use Rattle.gated_journal.specs.Reading.{Member}
+use Rattle.ring_records.specs.Member.{Member, member, answer_by}
 
 -- the reply that says that the input is accepted
 unfoldable pub acceptance : Input → Reply
@@ -36,4 +35,4 @@ pub record IsAcceptance (inputs : List Input) (a : Answered) : Type 0 where
 -- last of them, or they give the answer.
 pub record IsVouched (member : Member) (s : NodeState) (a : Answered) : Type 0 where
   pub durable : a.answer.number ≤ s.durable
-  pub gives : IsAcceptance s.inputs a ⊎ (a.answer ≡ answer member.node member.n member.capacity fresh (take a.answer.number s.inputs) a.question)
+  pub gives : IsAcceptance s.inputs a ⊎ (a.answer ≡ answer_by member (take a.answer.number s.inputs) a.question)

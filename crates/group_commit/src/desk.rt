@@ -1,12 +1,11 @@
 //! A node's inputs: which of them are durable, which fly, and the replies that wait for them.
 ghost use Rattle.std.specs.Prelude.{◌≡◌, ◌+◌, ◌-◌, ◌++◌, ◌∷◌, ◌≤◌, ◌⊎◌, ◌||◌, ℕ, List, [], not, true, false, Some, None, length, IfSome, IfNone, MatchOption, IfOk, IfErr, OnOk, OnErr};
 ghost use Rattle.std.specs.List.{cons_option};
-ghost use Rattle.ring_records.specs.Admission.{fresh, IsLawful};
 ghost use Rattle.ring_records.specs.Answer.{Answered, IsNodeState, durable_in, flying_in};
 ghost use Rattle.ring_records.specs.Emission.{sent};
 ghost use Rattle.ring_records.specs.History.{taken, credit};
+ghost use Rattle.ring_records.specs.Member.{member, IsHistory};
 ghost use Rattle.ring_records.specs.Release.{packets, decisions, window};
-ghost use Rattle.gated_journal.specs.Reading.{member};
 
 use crate::desk::parts::{accept, prepare, replay};
 use crate::judge::judge;
@@ -47,7 +46,7 @@ impl Model for Desk {
 
     ghost Value = { DeskView };
 
-    ghost use Rattle.gated_journal.specs.Reading.{member};
+    ghost use Rattle.ring_records.specs.Member.{member};
     ghost use Rattle.group_commit.specs.Kept.{IsDesk};
 
     ghost view = { λ d. record { member = member d.node d.n d.capacity; run = d.run; state = record { inputs = d.inputs.items; durable = d.durable; flying = d.flying }; tickets = d.tickets.entries; issued = d.issued; closed = d.is_closed; failed = d.is_failed } };
@@ -71,7 +70,7 @@ impl Desk {
         inputs: Vec<Input>,
     ) -> Result<Desk, Refusal>
         ensures desk { IfOk result (λ desk. desk ≡ new_desk (member node n capacity) run inputs.items) }
-        ensures lawful { OnOk result (IsLawful node n capacity fresh inputs.items) }
+        ensures lawful { OnOk result (IsHistory (member node n capacity) inputs.items) }
         ensures refusal { IfErr result (λ refusal. (refusal ≡ Refusal.OutOfMemory) ⊎ IsUnlawful (member node n capacity) inputs.items refusal) }
     {
         let mut core = NodeCore::new(alloc, node, n, capacity);
@@ -295,7 +294,7 @@ impl Desk {
     /// The inputs that it accepted, oldest first.
     pub fn history(&self) -> &[Input]
         ensures inputs { result.now ≡ self.now.state.inputs }
-        ensures lawful { IsLawful self.now.member.node self.now.member.n self.now.member.capacity fresh result.now }
+        ensures lawful { IsHistory self.now.member result.now }
         ensures counts { IsNodeState self.now.state }
     {
         &self.inputs

@@ -2,9 +2,10 @@
 ghost use Rattle.std.specs.Prelude.{◌≡◌, List, [], None, IfSome};
 ghost use Rattle.std.specs.List.{cons_option};
 ghost use Rattle.ring_records.specs.declared.input.Input.{Input};
-ghost use Rattle.ring_records.specs.Admission.{fresh, refusal};
+ghost use Rattle.ring_records.specs.Admission.{refusal};
 ghost use Rattle.ring_records.specs.Answer.{reply, gained, unless, if_free};
-ghost use Rattle.node_core.specs.Core.{CoreStandsFor};
+ghost use Rattle.ring_records.specs.Member.{refusal_by, gained_by, reply_by};
+ghost use Rattle.node_core.specs.Core.{CoreStandsFor, member_of};
 
 use node_core::NodeCore;
 use ring_records::{Input, Reply, Request};
@@ -12,9 +13,9 @@ use ring_records::{Input, Reply, Request};
 /// What it answers to a request, and the input that it accepts.
 #[tactic(auto, unfolding(ring_records::specs::Answer::reply, ring_records::specs::Answer::gained, ring_records::specs::Answer::input_of))]
 pub(crate) fn judge(core: &NodeCore, question: &Request) -> (Reply, Option<Input>)
-    ensures reply { (h : List Input) → CoreStandsFor core.now h → result.0 ≡ reply core.now.table.me core.now.size core.now.capacity fresh h question.now }
-    ensures input { (h : List Input) → CoreStandsFor core.now h → cons_option result.1 [] ≡ gained core.now.table.me core.now.size core.now.capacity fresh h question.now }
-    ensures free { (h : List Input) → CoreStandsFor core.now h → IfSome result.1 (λ x. refusal core.now.table.me core.now.size core.now.capacity fresh h x ≡ None) }
+    ensures reply { (h : List Input) → CoreStandsFor core.now h → result.0 ≡ reply_by (member_of core.now) h question.now }
+    ensures input { (h : List Input) → CoreStandsFor core.now h → cons_option result.1 [] ≡ gained_by (member_of core.now) h question.now }
+    ensures free { (h : List Input) → CoreStandsFor core.now h → IfSome result.1 (λ x. refusal_by (member_of core.now) h x ≡ None) }
 {
     match *question {
         Request::Stand(key, bid) => weigh(core, Input::Stand { key, bid }, Reply::Stood),
@@ -27,9 +28,9 @@ pub(crate) fn judge(core: &NodeCore, question: &Request) -> (Reply, Option<Input
 
 // What it answers to an input, which it accepts where nothing is against it.
 fn weigh(core: &NodeCore, input: Input, accepted: Reply) -> (Reply, Option<Input>)
-    ensures reply { (h : List Input) → CoreStandsFor core.now h → result.0 ≡ unless (refusal core.now.table.me core.now.size core.now.capacity fresh h input) accepted }
-    ensures input { (h : List Input) → CoreStandsFor core.now h → cons_option result.1 [] ≡ if_free (refusal core.now.table.me core.now.size core.now.capacity fresh h input) input }
-    ensures free { (h : List Input) → CoreStandsFor core.now h → IfSome result.1 (λ x. refusal core.now.table.me core.now.size core.now.capacity fresh h x ≡ None) }
+    ensures reply { (h : List Input) → CoreStandsFor core.now h → result.0 ≡ unless (refusal_by (member_of core.now) h input) accepted }
+    ensures input { (h : List Input) → CoreStandsFor core.now h → cons_option result.1 [] ≡ if_free (refusal_by (member_of core.now) h input) input }
+    ensures free { (h : List Input) → CoreStandsFor core.now h → IfSome result.1 (λ x. refusal_by (member_of core.now) h x ≡ None) }
 {
     match core.admit(&input) {
         Ok(()) => (accepted, Some(input)),

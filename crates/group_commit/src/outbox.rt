@@ -2,8 +2,9 @@
 ghost use Rattle.std.specs.Prelude.{◌≡◌, ◌+◌, ◌-◌, ◌++◌, ◌∷◌, ◌≤◌, ◌<◌, ℕ, List, [], take, drop, length, None, OnOk, OnErr};
 ghost use Rattle.std.specs.VecDeque.{deque_len, deque_capacity};
 ghost use Rattle.ring_records.specs.declared.input.Input.{Input};
-ghost use Rattle.ring_records.specs.Admission.{fresh, refusal, IsLawful, IsAllowed};
-ghost use Rattle.node_core.specs.Core.{CoreStandsFor};
+ghost use Rattle.ring_records.specs.Admission.{IsAllowed};
+ghost use Rattle.ring_records.specs.Member.{member, IsHistory, refusal_by};
+ghost use Rattle.node_core.specs.Core.{CoreStandsFor, member_of};
 ghost use Rattle.ring_records.specs.Release.{packets, decisions};
 
 use crate::landed::Landed;
@@ -64,7 +65,7 @@ impl Outbox {
     /// Has the core accept an input that it admits, and keeps what that brings until it is durable. An `Err` changes
     /// nothing.
     pub(crate) fn accept(&mut self, core: &mut NodeCore, input: &Input) -> Result<(), AllocError>
-        requires admitted { (h : List Input) × CoreStandsFor core.old h × (refusal core.old.table.me core.old.size core.old.capacity fresh h input.now ≡ None) }
+        requires admitted { (h : List Input) × CoreStandsFor core.old h × (refusal_by (member_of core.old) h input.now ≡ None) }
         ensures holds { OnOk result ((durable flying : ℕ) (h : List Input) → durable ≤ length h → CoreStandsFor core.old h → Holds core.old.table.me self.old h durable flying → Holds core.old.table.me self.new (h ++ input.now ∷ []) durable flying) }
         ensures stands { OnOk result ((h : List Input) → CoreStandsFor core.old h → CoreStandsFor core.new (h ++ input.now ∷ [])) }
         ensures place { (core.new.table.me ≡ core.old.table.me) × (core.new.size ≡ core.old.size) × (core.new.capacity ≡ core.old.capacity) }
@@ -96,11 +97,11 @@ impl Outbox {
     pub(crate) fn settle(&mut self, inputs: &[Input], start: usize, end: usize) -> Landed
         requires some { start < end }
         requires within { end ≤ length inputs.now }
-        requires lawful { (me n capacity : ℕ) × Holds me self.old inputs.now start end × IsLawful me n capacity fresh inputs.now }
+        requires lawful { (me n capacity : ℕ) × Holds me self.old inputs.now start end × IsHistory (member me n capacity) inputs.now }
         ensures count { (me : ℕ) → Holds me self.old inputs.now start end → result.count ≡ end - start }
-        ensures packets { (me n capacity : ℕ) → Holds me self.old inputs.now start end → IsLawful me n capacity fresh inputs.now → result.packets.items ≡ packets me (take start inputs.now) (take (end - start) (drop start inputs.now)) }
-        ensures decisions { (me n capacity : ℕ) → Holds me self.old inputs.now start end → IsLawful me n capacity fresh inputs.now → result.decisions.items ≡ decisions me (take start inputs.now) (take (end - start) (drop start inputs.now)) }
-        ensures holds { (me n capacity : ℕ) → Holds me self.old inputs.now start end → IsLawful me n capacity fresh inputs.now → Holds me self.new inputs.now end end }
+        ensures packets { (me n capacity : ℕ) → Holds me self.old inputs.now start end → IsHistory (member me n capacity) inputs.now → result.packets.items ≡ packets me (take start inputs.now) (take (end - start) (drop start inputs.now)) }
+        ensures decisions { (me n capacity : ℕ) → Holds me self.old inputs.now start end → IsHistory (member me n capacity) inputs.now → result.decisions.items ≡ decisions me (take start inputs.now) (take (end - start) (drop start inputs.now)) }
+        ensures holds { (me n capacity : ℕ) → Holds me self.old inputs.now start end → IsHistory (member me n capacity) inputs.now → Holds me self.new inputs.now end end }
     {
         let mut landed = self.landing.hand_out();
         let taken = self.released.taken;

@@ -2,12 +2,13 @@
 ghost use Rattle.std.specs.Prelude.{◌≡◌, ℕ, List, [], ◌∷◌, ◌++◌, length, drop, None, IfOk, OnOk, OnErr};
 ghost use Rattle.std.specs.Result.{result_err};
 ghost use Rattle.ring_records.specs.declared.input.Input.{Input};
-ghost use Rattle.ring_records.specs.Admission.{fresh, used, objection, refusal};
+ghost use Rattle.ring_records.specs.Admission.{used, objection, refusal};
 ghost use Rattle.ring_records.specs.Emission.{sent, carry};
 ghost use Rattle.ring_records.specs.History.{taken, credit, stands};
 ghost use Rattle.ring_records.specs.Leader.{leader, latest, decided};
+ghost use Rattle.ring_records.specs.Member.{used_by, refusal_by};
 ghost use Rattle.groups_terms.specs.Table.{ballot_at};
-ghost use Rattle.node_core.specs.Core.{CoreStandsFor};
+ghost use Rattle.node_core.specs.Core.{CoreStandsFor, member_of};
 
 use crate::accept::accept;
 use crate::effects::Effects;
@@ -67,7 +68,7 @@ impl NodeCore {
     /// where it is not above the credit, 14 where it is above the count sent; each as 6 at 2^56 inputs, and as 7 where
     /// its cost does not fit the capacity.
     pub fn admit(&self, input: &Input) -> Result<(), Refusal>
-        ensures { (h : List Input) → CoreStandsFor self.now h → result_err result ≡ refusal self.now.table.me self.now.size self.now.capacity fresh h input.now }
+        ensures { (h : List Input) → CoreStandsFor self.now h → result_err result ≡ refusal_by (member_of self.now) h input.now }
     {
         if let Some(refusal) = self.objection(input) {
             return Err(refusal);
@@ -80,7 +81,7 @@ impl NodeCore {
 
     /// Accepts an input that `admit` answers Ok of: what it brings. An `Err` changes nothing.
     pub fn apply(&mut self, input: Input) -> Result<Effects, AllocError>
-        requires { (h : List Input) × CoreStandsFor self.old h × (refusal self.old.table.me self.old.size self.old.capacity fresh h input ≡ None) }
+        requires { (h : List Input) × CoreStandsFor self.old h × (refusal_by (member_of self.old) h input ≡ None) }
         ensures me { self.new.table.me ≡ self.old.table.me }
         ensures ring { self.new.size ≡ self.old.size }
         ensures capacity { self.new.capacity ≡ self.old.capacity }
@@ -138,7 +139,7 @@ impl NodeCore {
     /// The bytes of the capacity that they take.
     pub fn used(&self) -> u32
         ensures value { result ≡ self.now.used }
-        ensures known { (h : List Input) → CoreStandsFor self.now h → result ≡ used fresh h }
+        ensures known { (h : List Input) → CoreStandsFor self.now h → result ≡ used_by h }
     {
         self.used
     }

@@ -10,11 +10,12 @@ use Rattle.ring_records.specs.Admission.{fresh, used, cost, Fits, IsAdmitted, Is
 use Rattle.ring_records.specs.Answer.{NodeState, launched, durable_in, flown_in, flying_in}
 use Rattle.ring_records.specs.History.{taken}
 use Rattle.ring_records.specs.Lists.{found_after}
+use Rattle.ring_records.specs.Member.{Member, member, used_by, IsHistory}
 use Rattle.ring_records.proofs.Counts.{used-push}
 use Rattle.ring_records.proofs.Lists.{along}
 use Rattle.gated_journal.specs.declared.batch.Batch.{Batch}
 use Rattle.gated_journal.specs.Batch.{Numbered, numbered, shown}
-use Rattle.gated_journal.specs.Reading.{Member, ReadsAs, AllReadAs, ReadsAsOneOf}
+use Rattle.gated_journal.specs.Reading.{ReadsAs, AllReadAs, ReadsAsOneOf}
 use Rattle.gated_journal.proofs.Rest.{used-joined}
 use Rattle.gated_journal.proofs.Results.{of_some}
 use Rattle.group_commit.specs.Desk.{DeskView}
@@ -24,16 +25,16 @@ use Rattle.node_store.specs.State.{IsLeft, until, ReadsOnce, Stands}
 
 -- ---- costs
 
-fits_next : (me n capacity : ℕ) (h : List Input) (x : Input) → IsAdmitted me n capacity fresh h x → used fresh h ≤ capacity → used fresh (h ++ x ∷ []) ≤ capacity
+fits_next : (me n capacity : ℕ) (h : List Input) (x : Input) → IsAdmitted me n capacity fresh h x → used_by h ≤ capacity → used_by (h ++ x ∷ []) ≤ capacity
 unfolding Fits
 fits_next me n capacity h x admitted fits = omega (arith, admitted.fits, used-push h x)
 
 -- a lawful history fits the capacity
-used_within : (me n capacity : ℕ) (h : List Input) → IsLawful me n capacity fresh h → used fresh h ≤ capacity
+used_within : (me n capacity : ℕ) (h : List Input) → IsHistory (member me n capacity) h → used_by h ≤ capacity
 unfolding IsLawful used
-used_within me n capacity h lawful = along (IsAdmitted me n capacity fresh) (λ l. used fresh l ≤ capacity) (fits_next me n capacity) [] h lawful (omega arith)
+used_within me n capacity h lawful = along (IsAdmitted me n capacity fresh) (λ l. used_by l ≤ capacity) (fits_next me n capacity) [] h lawful (omega arith)
 
-used-front : (k : ℕ) (h : List Input) → used fresh (take k h) ≤ used fresh h
+used-front : (k : ℕ) (h : List Input) → used_by (take k h) ≤ used_by h
 unfolding used
 used-front k h = omega (arith, sum_by-take-drop cost h k)
 
@@ -90,8 +91,8 @@ module _ (desk : DeskView) (journal : Member) (disk : Disk) (spoiled : Bool) (le
   whole : durable_in s ++ batch ≡ flown_in (launched s)
   whole = ap (λ l. durable_in s ++ l) is ∙ from_to s.durable (launched s).flying s.inputs ahead
 
-  costs : used fresh (flown_in (launched s)) ≡ used fresh (durable_in s) + used fresh batch
-  costs = ap (used fresh) (sym whole) ∙ used-joined (durable_in s) batch
+  costs : used_by (flown_in (launched s)) ≡ used_by (durable_in s) + used_by batch
+  costs = ap used_by (sym whole) ∙ used-joined (durable_in s) batch
 
   count : s.durable + length batch ≡ (launched s).flying
   count =
@@ -99,12 +100,12 @@ module _ (desk : DeskView) (journal : Member) (disk : Disk) (spoiled : Bool) (le
       omega (arith, long, ahead, length-take ((launched s).flying - s.durable) (drop s.durable s.inputs), length-drop s.durable s.inputs)
 
   -- the batch fits
-  pub fits : used fresh batch ≤ room
+  pub fits : used_by batch ≤ room
   fits = omega (arith, costs, used-front (launched s).flying s.inputs, used_within desk.member.node desk.member.n desk.member.capacity s.inputs stands.lawful, (stands.ready works).left)
 
   -- it landed
   pub lands : (journal' : Member) (disk' : Disk) (spoiled' : Bool) (len' room' : ℕ) → journal' ≡ journal → AllReadAs journal disk' (durable_in s ++ batch) → spoiled' ≡ false
-      → len' ≡ len + length batch → room' ≡ room - used fresh batch → Stands (desks.landed (desks.launched desk)) journal' disk' spoiled' len' room'
+      → len' ≡ len + length batch → room' ≡ room - used_by batch → Stands (desks.landed (desks.launched desk)) journal' disk' spoiled' len' room'
   lands journal' disk' spoiled' len' room' same read unspoiled longer less =
       let ready = stands.ready works in
       record {

@@ -9,11 +9,12 @@ use Rattle.ring_records.specs.declared.refusal.Refusal.TheVariants.{OutOfMemory}
 use Rattle.ring_records.specs.Admission.{fresh, IsAdmitted, IsLawful}
 use Rattle.ring_records.specs.Answer.{NodeState, durable_in, flown_in, left_by}
 use Rattle.ring_records.specs.Lists.{EachAfter}
+use Rattle.ring_records.specs.Member.{Member, member, IsHistory}
 use Rattle.ring_records.proofs.Admission.{admitted-free}
 use Rattle.ring_records.proofs.Growth.{EachAfter-at, EachAfter-take}
 use Rattle.ring_records.proofs.Lists.{none≢some}
 use Rattle.ring_records.proofs.LookBack.{IsItem, cut-item}
-use Rattle.gated_journal.specs.Reading.{Member, member, ReadsAs, AllReadAs, ReadsAsOneOf}
+use Rattle.gated_journal.specs.Reading.{ReadsAs, AllReadAs, ReadsAsOneOf}
 use Rattle.gated_journal.specs.Unread.{IsFault, IsUnopened}
 use Rattle.gated_journal.proofs.Fault.{not_read}
 use Rattle.gated_journal.proofs.Unique.{unique_inputs, header_unique}
@@ -35,13 +36,13 @@ left_reads header s image true read = inr read
 -- ---- what is lawful
 
 -- what a stop leaves of a lawful history is lawful
-pub left_lawful : (me n capacity : ℕ) (s : NodeState) (keep : Bool) → IsLawful me n capacity fresh s.inputs → IsLawful me n capacity fresh (left_by keep s)
+pub left_lawful : (me n capacity : ℕ) (s : NodeState) (keep : Bool) → IsHistory (member me n capacity) s.inputs → IsHistory (member me n capacity) (left_by keep s)
 unfolding IsLawful
 left_lawful me n capacity s false lawful = EachAfter-take (IsAdmitted me n capacity fresh) s.durable s.inputs lawful
 left_lawful me n capacity s true lawful = EachAfter-take (IsAdmitted me n capacity fresh) s.flying s.inputs lawful
 
 -- no input of a lawful history is not admitted
-no_unlawful : (me n capacity : ℕ) (inputs : List Input) (why : Refusal) → IsLawful me n capacity fresh inputs → IsUnlawful (member me n capacity) inputs why → ⊥
+no_unlawful : (me n capacity : ℕ) (inputs : List Input) (why : Refusal) → IsHistory (member me n capacity) inputs → IsUnlawful (member me n capacity) inputs why → ⊥
 unfolding IsLawful
 no_unlawful me n capacity inputs why lawful un =
     let front = take un.place inputs in
@@ -51,7 +52,7 @@ no_unlawful me n capacity inputs why lawful un =
     none≢some un.refused_for (sym (admitted-free me n capacity fresh front un.input admitted) ∙ un.because)
 
 -- so where a desk is not opened with one, memory is short
-pub short_only : (me n capacity : ℕ) (inputs : List Input) (why : Refusal) (Fault : Type 0) → IsLawful me n capacity fresh inputs → (why ≡ OutOfMemory) ⊎ IsUnlawful (member me n capacity) inputs why → (why ≡ OutOfMemory) ⊎ Fault
+pub short_only : (me n capacity : ℕ) (inputs : List Input) (why : Refusal) (Fault : Type 0) → IsHistory (member me n capacity) inputs → (why ≡ OutOfMemory) ⊎ IsUnlawful (member me n capacity) inputs why → (why ≡ OutOfMemory) ⊎ Fault
 short_only me n capacity inputs why Fault lawful (inl short) = inl short
 short_only me n capacity inputs why Fault lawful (inr unlawful) = absurd (no_unlawful me n capacity inputs why lawful unlawful)
 
@@ -85,9 +86,9 @@ no_fault node n capacity s before now image why read un =
     (⊎_elim (λ short. inl short.2) (λ unread. absurd (not_read node n image why (member node n capacity) found.0 unread found.1 refl refl))) un.cause
 
 -- what a journal holds that a stop left is lawful
-pub lawful_again : (me n capacity found : ℕ) (s : NodeState) (keep : Bool) (inputs : List Input) → found ≡ capacity → inputs ≡ left_by keep s → IsLawful me n capacity fresh s.inputs → IsLawful me n found fresh inputs
+pub lawful_again : (me n capacity found : ℕ) (s : NodeState) (keep : Bool) (inputs : List Input) → found ≡ capacity → inputs ≡ left_by keep s → IsHistory (member me n capacity) s.inputs → IsHistory (member me n found) inputs
 lawful_again me n capacity found s keep inputs capacity_is is lawful =
-    subst (λ (k : ℕ). IsLawful me n k fresh inputs) (sym capacity_is) (subst (λ (l : List Input). IsLawful me n capacity fresh l) (sym is) (left_lawful me n capacity s keep lawful))
+    subst (λ (k : ℕ). IsHistory (member me n k) inputs) (sym capacity_is) (subst (λ (l : List Input). IsHistory (member me n capacity) l) (sym is) (left_lawful me n capacity s keep lawful))
 
 pub holds_again : (header other : Member) (s : NodeState) (disk : Disk) (keep : Bool) (inputs : List Input) → other ≡ header → inputs ≡ left_by keep s → AllReadAs other disk inputs → Holds header disk s
 holds_again header other s disk keep inputs same is all =
@@ -111,5 +112,5 @@ as_made P node n capacity run journal inputs desk node_is n_is capacity_is is ho
     subst (λ (d : DeskView). P d.member d.state.inputs) (sym is) (subst (λ (m : Member). P m inputs) (named_again node n capacity journal node_is n_is capacity_is) holds)
 
 pub lawful_made : (node n capacity run : ℕ) (inputs : List Input) (desk : DeskView) → desk ≡ new_desk (member node n capacity) run inputs
-    → IsLawful node n capacity fresh inputs → IsLawful node n desk.member.capacity fresh desk.state.inputs
-lawful_made node n capacity run inputs desk is lawful = subst (λ (d : DeskView). IsLawful node n d.member.capacity fresh d.state.inputs) (sym is) lawful
+    → IsHistory (member node n capacity) inputs → IsHistory (member node n desk.member.capacity) desk.state.inputs
+lawful_made node n capacity run inputs desk is lawful = subst (λ (d : DeskView). IsHistory (member node n d.member.capacity) d.state.inputs) (sym is) lawful

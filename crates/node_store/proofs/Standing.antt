@@ -5,28 +5,29 @@ use Rattle.disk_model.specs.Disk.{Disk, MayLeave}
 use Rattle.ring_records.specs.declared.input.Input.{Input}
 use Rattle.ring_records.specs.declared.refusal.Refusal.{Refusal}
 use Rattle.ring_records.specs.declared.request.Request.{Request}
-use Rattle.ring_records.specs.Admission.{fresh, used, refusal, IsAdmitted, IsLawful}
+use Rattle.ring_records.specs.Admission.{fresh, used, IsAdmitted, IsLawful}
 use Rattle.ring_records.specs.Answer.{gained, input_of, if_free, if_input, durable_in, flown_in}
 use Rattle.ring_records.proofs.Admission.{refusal-admitted}
 use Rattle.ring_records.specs.Lists.{EachAfter}
+use Rattle.ring_records.specs.Member.{Member, member, used_by, IsHistory, refusal_by, gained_by}
 use Rattle.ring_records.proofs.Lists.{EachAfter-push}
-use Rattle.gated_journal.specs.Reading.{Member, AllReadAs, ReadsAsOneOf}
+use Rattle.gated_journal.specs.Reading.{AllReadAs, ReadsAsOneOf}
 use Rattle.group_commit.specs.Desk.{DeskView, new_desk, submitted, ended, IsUnlawful}
 use Rattle.node_store.specs.State.{IsLeft, Stands}
 
 -- ---- the history
 
-lawful_more : (me n capacity : ℕ) (h : List Input) (x : Input) (against : Option Refusal) → refusal me n capacity fresh h x ≡ against → IsLawful me n capacity fresh h → IsLawful me n capacity fresh (h ++ if_free against x)
+lawful_more : (me n capacity : ℕ) (h : List Input) (x : Input) (against : Option Refusal) → refusal_by (member me n capacity) h x ≡ against → IsHistory (member me n capacity) h → IsHistory (member me n capacity) (h ++ if_free against x)
 unfolding IsLawful
 lawful_more me n capacity h x None free lawful = EachAfter-push (IsAdmitted me n capacity fresh) [] h x lawful (refusal-admitted me n capacity fresh h x free)
-lawful_more me n capacity h x (Some cause) refused lawful = subst (λ (l : List Input). IsLawful me n capacity fresh l) (sym (append-nil h)) lawful
+lawful_more me n capacity h x (Some cause) refused lawful = subst (λ (l : List Input). IsHistory (member me n capacity) l) (sym (append-nil h)) lawful
 
-lawful_by : (me n capacity : ℕ) (h : List Input) (x : Option Input) → IsLawful me n capacity fresh h → IsLawful me n capacity fresh (h ++ if_input me n capacity fresh h x)
-lawful_by me n capacity h None lawful = subst (λ (l : List Input). IsLawful me n capacity fresh l) (sym (append-nil h)) lawful
-lawful_by me n capacity h (Some x) lawful = lawful_more me n capacity h x (refusal me n capacity fresh h x) refl lawful
+lawful_by : (me n capacity : ℕ) (h : List Input) (x : Option Input) → IsHistory (member me n capacity) h → IsHistory (member me n capacity) (h ++ if_input me n capacity fresh h x)
+lawful_by me n capacity h None lawful = subst (λ (l : List Input). IsHistory (member me n capacity) l) (sym (append-nil h)) lawful
+lawful_by me n capacity h (Some x) lawful = lawful_more me n capacity h x (refusal_by (member me n capacity) h x) refl lawful
 
 -- a lawful history stays lawful
-pub lawful_asked : (me n capacity : ℕ) (h : List Input) (q : Request) → IsLawful me n capacity fresh h → IsLawful me n capacity fresh (h ++ gained me n capacity fresh h q)
+pub lawful_asked : (me n capacity : ℕ) (h : List Input) (q : Request) → IsHistory (member me n capacity) h → IsHistory (member me n capacity) (h ++ gained_by (member me n capacity) h q)
 unfolding gained
 lawful_asked me n capacity h q lawful = lawful_by me n capacity h (input_of q) lawful
 
@@ -46,7 +47,7 @@ module _ (desk : DeskView) (journal : Member) (disk : Disk) (spoiled : Bool) (le
   asks q stands =
       let m = desk.member in
       let s = desk.state in
-      let more = gained m.node m.n m.capacity fresh s.inputs q in
+      let more = gained_by m s.inputs q in
       let bound : s.durable ≤ length s.inputs = omega (arith, stands.counts.durable, stands.counts.flying) in
       let durable : take s.durable (s.inputs ++ more) ≡ take s.durable s.inputs = take-append-le s.durable s.inputs more bound in
       let flown : take s.flying (s.inputs ++ more) ≡ take s.flying s.inputs = take-append-le s.flying s.inputs more stands.counts.flying in
@@ -67,7 +68,7 @@ module _ (desk : DeskView) (journal : Member) (disk : Disk) (spoiled : Bool) (le
 
 -- a node that is opened
 pub opens : (member journal : Member) (run : ℕ) (inputs : List Input) (disk : Disk) (spoiled : Bool) (len room : ℕ) → journal ≡ member
-    → IsLawful member.node member.n member.capacity fresh inputs → AllReadAs journal disk inputs → spoiled ≡ false → len ≡ length inputs → room ≡ member.capacity - used fresh inputs
+    → IsHistory member inputs → AllReadAs journal disk inputs → spoiled ≡ false → len ≡ length inputs → room ≡ member.capacity - used_by inputs
     → Stands (new_desk member run inputs) journal disk spoiled len room
 opens member journal run inputs disk spoiled len room named lawful all works count left =
     let whole : take (length inputs) inputs ≡ inputs = take_all (length inputs) inputs (omega arith) in

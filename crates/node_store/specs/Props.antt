@@ -5,10 +5,9 @@ use Rattle.std.proofs.Props.{props}
 use Rattle.std.specs.Coded.{le_prop}
 use Rattle.disk_model.specs.Disk.{Disk}
 use Rattle.ring_records.specs.declared.input.Input.{Input}
-use Rattle.ring_records.specs.Admission.{fresh}
 use Rattle.ring_records.specs.Answer.{NodeState, durable_in, flown_in}
-use Rattle.ring_records.specs.Props.{IsLawful-prop}
-use Rattle.gated_journal.specs.Reading.{Member}
+use Rattle.ring_records.specs.Member.{Member}
+use Rattle.ring_records.specs.Props.{IsHistory-prop}
 use Rattle.gated_journal.proofs.Once.{ReadsAs-prop}
 use Rattle.gated_journal.proofs.Unique.{unique_inputs}
 use Rattle.group_commit.specs.Desk.{DeskView}
@@ -41,7 +40,7 @@ Stands-prop desk journal disk spoiled len room p q =
     let member_set : IsSet Member = hlevel props in
     λ i. record {
       counts = record { durable = le_prop p.counts.durable q.counts.durable i; flying = le_prop p.counts.flying q.counts.flying i };
-      lawful = IsLawful-prop desk.member.node desk.member.n desk.member.capacity fresh s.inputs p.lawful q.lawful i;
+      lawful = IsHistory-prop desk.member s.inputs p.lawful q.lawful i;
       named = member_set _ _ p.named q.named i;
       holds = λ image left. ReadsOnce-prop journal (durable_in s) (flown_in s) image (p.holds image left) (q.holds image left) i;
       ready = λ works. IsReady-prop desk.member.capacity s spoiled len room (p.ready works) (q.ready works) i;

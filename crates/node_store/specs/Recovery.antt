@@ -3,7 +3,8 @@ use Rattle.std.specs.Prelude.{◌≡◌, ◌⊎◌, ℕ, List}
 use Rattle.ring_records.specs.declared.input.Input.{Input}
 use Rattle.ring_records.specs.declared.refusal.Refusal.{Refusal}
 use Rattle.ring_records.specs.declared.refusal.Refusal.TheVariants.{OutOfMemory}
-use Rattle.gated_journal.specs.Reading.{member, ReadsAs}
+use Rattle.ring_records.specs.Member.{member}
+use Rattle.gated_journal.specs.Reading.{ReadsAs}
 use Rattle.gated_journal.specs.Unread.{IsUnopened}
 use Rattle.group_commit.specs.Desk.{IsUnlawful}
 

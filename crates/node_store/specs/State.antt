@@ -2,9 +2,9 @@
 use Rattle.std.specs.Prelude.{◌≡◌, ◌≢◌, ◌⊎◌, ◌-◌, ℕ, Bool, false, List}
 use Rattle.disk_model.specs.Disk.{Disk, MayLeave}
 use Rattle.ring_records.specs.declared.input.Input.{Input}
-use Rattle.ring_records.specs.Admission.{fresh, used, IsLawful}
 use Rattle.ring_records.specs.Answer.{NodeState, IsNodeState, durable_in, flown_in}
-use Rattle.gated_journal.specs.Reading.{Member, ReadsAs, ReadsAsOneOf}
+use Rattle.ring_records.specs.Member.{Member, member, used_by, IsHistory}
+use Rattle.gated_journal.specs.Reading.{ReadsAs, ReadsAsOneOf}
 use Rattle.group_commit.specs.Desk.{DeskView}
 
 -- every image that a stop may leave reads as the durable inputs, or as those that are durable or fly
@@ -14,7 +14,7 @@ Holds member disk s = (image : List ℕ) → MayLeave disk image → ReadsAsOneO
 -- A stop may have left this image of this node, in this state: its history is lawful, and the image reads as the durable
 -- inputs, or as those that are durable or fly.
 pub record IsLeft (member : Member) (s : NodeState) (image : List ℕ) : Type 0 where
-  pub lawful : IsLawful member.node member.n member.capacity fresh s.inputs
+  pub lawful : IsHistory member s.inputs
   pub reads : ReadsAsOneOf member (durable_in s) (flown_in s) image
 
 -- the old state, with what the new one has durable or flying in flight
@@ -32,12 +32,12 @@ pub record IsReady (capacity : ℕ) (s : NodeState) (spoiled : Bool) (len room :
   pub idle : s.flying ≡ s.durable
   pub works : spoiled ≡ false
   pub count : len ≡ s.durable
-  pub left : room ≡ capacity - used fresh (durable_in s)
+  pub left : room ≡ capacity - used_by (durable_in s)
 
 -- the desk's history is lawful, the journal is the desk's and holds it, and is ready while the desk has not failed
 pub record Stands (desk : DeskView) (journal : Member) (disk : Disk) (spoiled : Bool) (len room : ℕ) : Type 0 where
   pub counts : IsNodeState desk.state
-  pub lawful : IsLawful desk.member.node desk.member.n desk.member.capacity fresh desk.state.inputs
+  pub lawful : IsHistory desk.member desk.state.inputs
   pub named : journal ≡ desk.member
   pub holds : (image : List ℕ) → MayLeave disk image → ReadsOnce journal (durable_in desk.state) (flown_in desk.state) image
   pub ready : desk.failed ≡ false → IsReady desk.member.capacity desk.state spoiled len room

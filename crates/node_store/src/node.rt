@@ -1,11 +1,11 @@
 ghost use Rattle.std.specs.Prelude.{◌≡◌, ◌+◌, ◌-◌, ◌⊎◌, ◌||◌, ◌<◌, ◌≤◌, ℕ, Bool, [], length, not, true, false, None, Some, IfOk, IfErr, OnOk, OnErr};
 ghost use Rattle.disk_model.specs.Disk.{MayLeave, LeavesOnly, synced};
-ghost use Rattle.ring_records.specs.Admission.{fresh, used, IsLawful};
 ghost use Rattle.ring_records.specs.Answer.{Answered, NodeState, durable_in, flying_in, left_by};
+ghost use Rattle.ring_records.specs.Member.{member, used_by, IsHistory};
 ghost use Rattle.ring_records.specs.Release.{packets, decisions};
 ghost use Rattle.gated_journal.specs.Batch.{landed as receipted, lost};
 ghost use Rattle.gated_journal.specs.Journal as journals;
-ghost use Rattle.gated_journal.specs.Reading.{member, is_header, ReadsAs, AllReadAs};
+ghost use Rattle.gated_journal.specs.Reading.{is_header, ReadsAs, AllReadAs};
 ghost use Rattle.gated_journal.specs.Unread.{IsFault, IsUnread};
 ghost use Rattle.group_commit.specs.Desk.{new_desk, answered, ticket_for, submitted, ended, launched, landed, objection, IsHere, IsSealed, IsFlying};
 ghost use Rattle.node_store.specs.Props.{Stands-prop};
@@ -81,7 +81,7 @@ impl<D: Device> Node<D> {
         run: u64,
     ) -> Result<Node<D>, (D, Refusal)>
         ensures desk { IfOk result (λ made. desk_of made ≡ new_desk (member node n (desk_of made).member.capacity) run (state_of made).inputs) }
-        ensures lawful { IfOk result (λ made. IsLawful node n (desk_of made).member.capacity fresh (state_of made).inputs) }
+        ensures lawful { IfOk result (λ made. IsHistory (member node n (desk_of made).member.capacity) (state_of made).inputs) }
 
         // Its inputs stood on the device at the start, and stand in every image that a stop may leave afterwards.
         ensures reads { IfOk result (λ made. ReadsAs (desk_of made).member (D.disk device).image (state_of made).inputs) }
@@ -89,9 +89,9 @@ impl<D: Device> Node<D> {
 
         // A node that was stopped stands again for its durable inputs, or also for those that flew. It is refused only
         // where the device fails or memory is not found, and then the device holds what it held.
-        ensures recovery { (capacity : ℕ) (s : NodeState) → IsLawful node n capacity fresh s.inputs → Holds (member node n capacity) (D.disk device) s
+        ensures recovery { (capacity : ℕ) (s : NodeState) → IsHistory (member node n capacity) s.inputs → Holds (member node n capacity) (D.disk device) s
             → IfOk result (λ made. (keep : Bool) × (desk_of made ≡ new_desk (member node n capacity) run (left_by keep s))) }
-        ensures recovery_err { (capacity : ℕ) (s : NodeState) → IsLawful node n capacity fresh s.inputs → Holds (member node n capacity) (D.disk device) s
+        ensures recovery_err { (capacity : ℕ) (s : NodeState) → IsHistory (member node n capacity) s.inputs → Holds (member node n capacity) (D.disk device) s
             → IfErr result (λ e. ((e.1 ≡ Refusal.OutOfMemory) ⊎ IsFault (D.count device) (D.count e.0) e.1) × Holds (member node n capacity) (D.disk e.0) s) }
 
         // The same of what is read alone, whatever a stop may leave: of a file that was just opened no more is known.
@@ -190,7 +190,7 @@ impl<D: Device> Node<D> {
     /// The inputs that it accepted, oldest first.
     pub fn history(&self) -> &[Input]
         ensures inputs { result.now ≡ (state_of self.now).inputs }
-        ensures lawful { IsLawful (desk_of self.now).member.node (desk_of self.now).member.n (desk_of self.now).member.capacity fresh result.now }
+        ensures lawful { IsHistory (desk_of self.now).member result.now }
     {
         self.desk.history()
     }
@@ -276,7 +276,7 @@ impl<D: Device> Node<D> {
         ensures member { journals.member_of result.1 ≡ result.0.member }
         ensures ready { journals.is_spoiled result.1 ≡ false }
         ensures len { journals.len_of result.1 ≡ result.0.state.durable }
-        ensures room { journals.room_of result.1 ≡ result.0.member.capacity - used fresh (durable_in result.0.state) }
+        ensures room { journals.room_of result.1 ≡ result.0.member.capacity - used_by (durable_in result.0.state) }
         ensures durable { AllReadAs result.0.member (D.disk (journals.device_of result.1)) (durable_in result.0.state) }
     {
         let Node {
@@ -292,7 +292,7 @@ impl<D: Device> Node<D> {
         requires over { ((desk_of self).closed || (desk_of self).failed) ≡ true }
         requires spent { length (desk_of self).tickets ≡ 0 }
         ensures device { result ≡ device_of self }
-        ensures lawful { IsLawful (desk_of self).member.node (desk_of self).member.n (desk_of self).member.capacity fresh (state_of self).inputs }
+        ensures lawful { IsHistory (desk_of self).member (state_of self).inputs }
 
         // A stop leaves the inputs that were durable, or also those that flew.
         ensures holds { Holds (desk_of self).member (D.disk result) (state_of self) }

@@ -14,11 +14,11 @@ use Rattle.ring_records.specs.Answer as answers
 use Rattle.ring_records.specs.Emission.{sent, emit}
 use Rattle.ring_records.specs.History.{upto_of, credit}
 use Rattle.ring_records.specs.Lists.{found_after}
+use Rattle.ring_records.specs.Member.{Member, member, IsHistory}
 use Rattle.ring_records.specs.Release.{numbered, window}
 use Rattle.ring_records.proofs.Growth.{sent-append}
 use Rattle.ring_records.proofs.History.{credit-push}
 use Rattle.ring_records.proofs.Lists.{along}
-use Rattle.gated_journal.specs.Reading.{Member}
 use Rattle.group_commit.specs.Desk.{DeskView, new_desk}
 use Rattle.node_store.proofs.Recovered.{left_lawful}
 use Rattle.ring_node.specs.Messages.{message_in, carried_in}
@@ -125,7 +125,7 @@ credit_none zero = omega arith
 credit_none (suc k) = omega arith
 
 -- the first inputs of a lawful history credit no more than all of them
-pub credit_front : (me n capacity : ℕ) (h : List Input) → IsLawful me n capacity fresh h → (k : ℕ) → credit (take k h) ≤ credit h
+pub credit_front : (me n capacity : ℕ) (h : List Input) → IsHistory (member me n capacity) h → (k : ℕ) → credit (take k h) ≤ credit h
 unfolding IsLawful
 credit_front me n capacity h lawful = along (IsAdmitted me n capacity fresh) (λ l. (k : ℕ) → credit (take k l) ≤ credit l) (credit_next me n capacity) [] h lawful credit_none
 
@@ -135,8 +135,8 @@ module _ (m : Member) (desk : DeskView) (reach : ℕ) (queue : List HeldView) (m
   abbrev v : NodeView
   v = view_with desk queue
 
-  pub lawful_here : IsLawful m.node m.n m.capacity fresh desk.state.inputs
-  lawful_here = subst (λ (k : Member). IsLawful k.node k.n k.capacity fresh desk.state.inputs) here.is here.served.lawful
+  pub lawful_here : IsHistory m desk.state.inputs
+  lawful_here = subst (λ (k : Member). IsHistory k desk.state.inputs) here.is here.served.lawful
 
   -- what it is opened again with
   again : (inputs : List Input) → restarted inputs (new_node m.node m.n m.capacity) ≡ restarted inputs v
@@ -148,7 +148,7 @@ module _ (m : Member) (desk : DeskView) (reach : ℕ) (queue : List HeldView) (m
     shown_again : view_with desk' queue' ≡ restarted inputs v
     shown_again = same_view _ _ _ _ opened none ∙ (starts_shown m.node m.n m.capacity run inputs ∙ again inputs)
 
-    pub opens_again : (reach' : ℕ) (messages' : List Msg) → IsLawful m.node m.n m.capacity fresh inputs → 17 + m.capacity ≤ reach' → messages' ≡ sent m.node inputs → IsRingNode m desk' reach' queue' messages'
+    pub opens_again : (reach' : ℕ) (messages' : List Msg) → IsHistory m inputs → 17 + m.capacity ≤ reach' → messages' ≡ sent m.node inputs → IsRingNode m desk' reach' queue' messages'
     opens_again reach' messages' lawful reaches sends = by_name m _ _ _ _ _ _ _ _ opened refl none refl (opens m run inputs reach' messages' here.range lawful reaches sends)
 
   -- ---- a crash
@@ -180,7 +180,7 @@ module _ (m : Member) (desk : DeskView) (reach : ℕ) (queue : List HeldView) (m
   by_state true = refl
   by_state false = refl
 
-  lawful_left : (keep : Bool) → IsLawful m.node m.n m.capacity fresh (left_by keep (launched desk.state))
+  lawful_left : (keep : Bool) → IsHistory m (left_by keep (launched desk.state))
   lawful_left keep = left_lawful m.node m.n m.capacity (launched desk.state) keep lawful_here
 
   -- no more is credited by what is left

@@ -6,12 +6,12 @@ use Rattle.ring_records.specs.declared.input.Input.{Input}
 use Rattle.ring_records.specs.declared.msg.Msg.{Msg}
 use Rattle.ring_records.specs.declared.packet.Packet.{Packet}
 use Rattle.ring_records.specs.declared.request.Request.{Request}
-use Rattle.ring_records.specs.Admission.{fresh, IsLawful}
 use Rattle.ring_records.specs.Answer.{NodeState, launched, left_by, flying_in}
 use Rattle.ring_records.specs.Answer as answers
 use Rattle.ring_records.specs.Emission.{sent}
+use Rattle.ring_records.specs.Member.{Member, IsHistory, gained_by}
 use Rattle.ring_records.specs.Release.{packets}
-use Rattle.gated_journal.specs.Reading.{Member, is_header}
+use Rattle.gated_journal.specs.Reading.{is_header}
 use Rattle.group_commit.specs.Desk as desks
 use Rattle.group_commit.specs.Desk.{DeskView, new_desk, ticket_for, submitted, ended}
 use Rattle.ring_node.specs.Messages.{carried_in}
@@ -29,7 +29,7 @@ by_name m desk reach queue messages desk' reach' queue' messages' d r q ms here 
     subst (λ (a : DeskView × ℕ × List HeldView × List Msg). IsRingNode m a.0 a.1 a.2 a.3) (λ i. (sym d i, sym r i, sym q i, sym ms i)) here
 
 -- a node that is opened with these inputs, all of them durable, and the messages that they sent
-pub opens : (m : Member) (run : ℕ) (inputs : List Input) (reach : ℕ) (messages : List Msg) → is_header m ≡ true → IsLawful m.node m.n m.capacity fresh inputs → 17 + m.capacity ≤ reach → messages ≡ sent m.node inputs
+pub opens : (m : Member) (run : ℕ) (inputs : List Input) (reach : ℕ) (messages : List Msg) → is_header m ≡ true → IsHistory m inputs → 17 + m.capacity ≤ reach → messages ≡ sent m.node inputs
     → IsRingNode m (new_desk m run inputs) reach [] messages
 opens m run inputs reach messages range lawful reaches sends = record {
   range = range;
@@ -46,7 +46,7 @@ module _ (m : Member) (desk : DeskView) (reach : ℕ) (queue : List HeldView) (m
     range = here.range;
     is = here.is;
     served = serving.gives desk reach queue here.served q h is;
-    sends = here.sends ∙ ap (sent m.node) (sym (serving.durable_more desk reach queue here.served (answers.gained desk.member.node desk.member.n desk.member.capacity fresh desk.state.inputs q)));
+    sends = here.sends ∙ ap (sent m.node) (sym (serving.durable_more desk reach queue here.served (gained_by desk.member desk.state.inputs q)));
     inside = here.inside;
   }
 
@@ -71,8 +71,8 @@ module _ (m : Member) (desk : DeskView) (reach : ℕ) (queue : List HeldView) (m
     after : messages ++ carried_in found ≡ sent m.node (answers.durable_in (desks.landed (desks.launched desk)).state)
     after = (λ i. here.sends i ++ carried i) ∙ sent-batch m.node desk.state here.served.within
 
-    lawful_here : IsLawful m.node m.n m.capacity fresh desk.state.inputs
-    lawful_here = subst (λ (k : Member). IsLawful k.node k.n k.capacity fresh desk.state.inputs) here.is here.served.lawful
+    lawful_here : IsHistory m desk.state.inputs
+    lawful_here = subst (λ (k : Member). IsHistory k desk.state.inputs) here.is here.served.lawful
 
     pub lands : IsRingNode m (desks.landed (desks.launched desk)) reach queue (messages ++ carried_in found)
     lands = record {

@@ -19,6 +19,7 @@ use Rattle.ring_records.specs.Message.{candidate_of}
 use Rattle.ring_records.specs.Release.{carries, credits, credit_where, packets}
 use Rattle.ring_records.proofs.Emission.{emit-candidate}
 use Rattle.std.proofs.lemmas.List.{take_all, take-append-drop}
+use Rattle.ring_records.specs.Member.{member, IsHistory}
 use Rattle.ring_records.proofs.LookBack.{IsItem, take-item}
 use Rattle.ring_records.proofs.Growth.{sent-append, EachAfter-take}
 use Rattle.ring_records.proofs.Leader.{Contains-nil}
@@ -145,10 +146,10 @@ unfolding sent found_after
 inside_none me n msg there = Contains-nil msg there
 
 -- each message that a lawful history sent names a node of the ring
-pub inside : (me n capacity : ℕ) → me ≤ n → (h : List Input) → IsLawful me n capacity fresh h → AreInside n (sent me h)
+pub inside : (me n capacity : ℕ) → me ≤ n → (h : List Input) → IsHistory (member me n capacity) h → AreInside n (sent me h)
 unfolding IsLawful
 inside me n capacity le h lawful = along (IsAdmitted me n capacity fresh) (λ l. AreInside n (sent me l)) (inside-next me n capacity le) [] h lawful (inside_none me n)
 
-pub inside-front : (me n capacity : ℕ) (k : ℕ) → me ≤ n → (h : List Input) → IsLawful me n capacity fresh h → AreInside n (sent me (take k h))
+pub inside-front : (me n capacity : ℕ) (k : ℕ) → me ≤ n → (h : List Input) → IsHistory (member me n capacity) h → AreInside n (sent me (take k h))
 unfolding IsLawful
 inside-front me n capacity k le h lawful = inside me n capacity le (take k h) (EachAfter-take (IsAdmitted me n capacity fresh) k h lawful)

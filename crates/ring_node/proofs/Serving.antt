@@ -5,20 +5,21 @@ use Rattle.std.proofs.lemmas.List.{take-append-le, length-take}
 use Rattle.std.specs.List.{filter}
 use Rattle.ring_records.specs.declared.input.Input.{Input}
 use Rattle.ring_records.specs.declared.request.Request.{Request}
-use Rattle.ring_records.specs.Admission.{fresh, IsLawful}
+use Rattle.ring_records.specs.Admission.{IsLawful}
 use Rattle.disk_model.specs.FuseDevice.{inner_of, is_idle_device, reach_of}
 use Rattle.disk_model.specs.MemDevice.{disk_of, limit_of}
 use Rattle.disk_model.specs.declared.fuse.FuseDevice.{FuseDevice}
 use Rattle.disk_model.specs.declared.memory.MemDevice.{MemDevice}
-use Rattle.gated_journal.specs.Reading.{Member, member, ReadsAsOneOf}
+use Rattle.gated_journal.specs.Reading.{ReadsAsOneOf}
 use Rattle.gated_journal.specs.Unread.{header_at, IsFault, IsUnread}
 use Rattle.node_store.specs.Recovery.{IsNotLawful}
 use Rattle.ring_records.specs.Answer as answers
 use Rattle.ring_records.specs.Lists.{EachAfter}
-use Rattle.ring_records.specs.Answer.{Answered, NodeState, gained, launched, landed}
+use Rattle.ring_records.specs.Answer.{Answered, NodeState, launched, landed}
 use Rattle.ring_records.specs.Message.{is_outside}
 use Rattle.ring_records.specs.declared.refusal.Refusal.{Refusal}
 use Rattle.ring_records.specs.declared.refusal.Refusal.TheVariants.{Device, Failed, OutOfMemory}
+use Rattle.ring_records.specs.Member.{Member, member, IsHistory, gained_by}
 use Rattle.group_commit.specs.Desk as desks
 use Rattle.group_commit.specs.Desk.{DeskView, new_desk, ticket_for, submitted, ended, objection, kept_at, IsHere, IsSealed}
 use Rattle.group_commit.specs.Ticket.{TicketView}
@@ -45,7 +46,7 @@ image_within device idle =
     let long = length-take (inner_of device).held.size (inner_of device).held.bytes.items in
     omega arith
 
-pub starts : (node n capacity run : ℕ) (inputs : List Input) (reach : ℕ) → IsLawful node n capacity fresh inputs → 17 + capacity ≤ reach → IsServed (new_desk (member node n capacity) run inputs) reach []
+pub starts : (node n capacity run : ℕ) (inputs : List Input) (reach : ℕ) → IsHistory (member node n capacity) inputs → 17 + capacity ≤ reach → IsServed (new_desk (member node n capacity) run inputs) reach []
 starts node n capacity run inputs reach lawful reaches = record {
   takes = refl;
   works = refl;
@@ -64,7 +65,7 @@ pub starts_shown : (node n capacity run : ℕ) (inputs : List Input) → view_wi
 unfolding restarted shown_with
 starts_shown node n capacity run inputs = refl
 
-pub none_lawful : (me n capacity : ℕ) → IsLawful me n capacity fresh []
+pub none_lawful : (me n capacity : ℕ) → IsHistory (member me n capacity) []
 unfolding IsLawful EachAfter
 none_lawful me n capacity = tt
 
@@ -127,7 +128,7 @@ module _ (desk : DeskView) (reach : ℕ) (queue : List HeldView) (here : IsServe
     gives =
         let m = desk.member in
         let s = desk.state in
-        let more = gained m.node m.n m.capacity fresh s.inputs q in
+        let more = gained_by m s.inputs q in
         let a = desks.answered desk q in
         let long = length-append s.inputs more in
         let within = here.within in

@@ -1,12 +1,12 @@
 -- A node at work with its open tickets, and the messages that it sent.
 use Rattle.std.specs.Prelude.{ℕ, ◌≡◌, ◌+◌, ◌≤◌, true, false, List, [], ◌∷◌, length, Option}
 use Rattle.ring_records.specs.declared.msg.Msg.{Msg}
-use Rattle.ring_records.specs.Admission.{fresh, IsLawful}
 use Rattle.ring_records.specs.Answer.{Answered, durable_in}
 use Rattle.ring_records.specs.Emission.{sent}
 use Rattle.ring_records.specs.Message.{candidate_of}
 use Rattle.std.specs.List.{Contains}
-use Rattle.gated_journal.specs.Reading.{Member, is_header}
+use Rattle.ring_records.specs.Member.{Member, IsHistory}
+use Rattle.gated_journal.specs.Reading.{is_header}
 use Rattle.group_commit.specs.Desk.{DeskView}
 use Rattle.group_commit.specs.Ticket.{TicketView, ticket_with}
 use Rattle.ring_node.specs.Node.{NodeView}
@@ -61,7 +61,7 @@ pub record IsServed (desk : DeskView) (reach : ℕ) (queue : List HeldView) : Ty
   pub works : desk.failed ≡ false
   pub idle : desk.state.flying ≡ desk.state.durable
   pub within : desk.state.durable ≤ length desk.state.inputs
-  pub lawful : IsLawful desk.member.node desk.member.n desk.member.capacity fresh desk.state.inputs
+  pub lawful : IsHistory desk.member desk.state.inputs
   pub held : AreHeld desk.member.node desk.run 0 (length desk.state.inputs) desk.tickets queue
   pub reaches : 17 + desk.member.capacity ≤ reach
 

@@ -2,8 +2,8 @@
 ghost use Rattle.std.specs.Prelude.{◌≡◌, ◌≤◌, ◌<◌, ℕ, [], length, true, false, IfOk};
 ghost use Rattle.std.specs.List.{filter_map};
 ghost use Rattle.disk_model.specs.MemDevice.{disk_of};
-ghost use Rattle.ring_records.specs.Admission.{fresh, IsLawful};
 ghost use Rattle.ring_records.specs.Answer.{Answered};
+ghost use Rattle.ring_records.specs.Member.{IsHistory};
 ghost use Rattle.group_commit.specs.Desk.{ended, IsHere};
 ghost use Rattle.node_store.specs.Node as nodes;
 ghost use Rattle.node_store.specs.State.{Holds};
@@ -53,7 +53,7 @@ pub(crate) fn is_due(held: &VecDeque<Held>, durable: u64) -> bool
 /// Closes the node and gives up its open tickets. Its device.
 pub(crate) fn closed(mut node: Node<Disk>, held: VecDeque<Held>) -> MemDevice
     requires held { AreHeld (nodes.desk_of node).member.node (nodes.desk_of node).run 0 (length (nodes.state_of node).inputs) (nodes.desk_of node).tickets held.items }
-    ensures lawful { IsLawful (nodes.desk_of node).member.node (nodes.desk_of node).member.n (nodes.desk_of node).member.capacity fresh (nodes.state_of node).inputs }
+    ensures lawful { IsHistory (nodes.desk_of node).member (nodes.state_of node).inputs }
     ensures holds { Holds (nodes.desk_of node).member (disk_of result) (nodes.state_of node) }
 {
     node.close();

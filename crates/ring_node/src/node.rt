@@ -2,8 +2,9 @@
 ghost use Rattle.std.specs.Prelude.{◌≡◌, ◌-◌, ◌≤◌, ◌<◌, ◌^◌, ◌∷◌, [], true, false, length, slice_get, IfSome, IfNone, IfOk, OnOk, OnErr};
 ghost use Rattle.std.specs.List.{filter};
 ghost use Rattle.ring_records.specs.Emission.{sent};
+ghost use Rattle.ring_records.specs.Member.{member};
 ghost use Rattle.ring_records.specs.Message.{candidate_of, is_outside};
-ghost use Rattle.gated_journal.specs.Reading.{member, is_header};
+ghost use Rattle.gated_journal.specs.Reading.{is_header};
 ghost use Rattle.group_commit.specs.Ticket.{stub};
 ghost use Rattle.ring_node.specs.Node.{new_node, durable_in, asked_with, flown, flushed, is_credited};
 ghost use Rattle.ring_node.specs.Open.{is_due, open_with};
@@ -40,7 +41,7 @@ pub struct RingNode {
 impl Model for RingNode {
     ghost use Rattle.disk_model.specs.FuseDevice.{reach_of};
     ghost use Rattle.disk_model.specs.MemDevice.{limit_of};
-    ghost use Rattle.gated_journal.specs.Reading.{member};
+    ghost use Rattle.ring_records.specs.Member.{member};
     ghost use Rattle.node_store.specs.Node as nodes;
     ghost use Rattle.ring_node.specs.Held.{view_with, IsRingNode};
     ghost use Rattle.ring_node.specs.Node.{NodeView};

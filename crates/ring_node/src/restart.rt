@@ -3,11 +3,10 @@ ghost use Rattle.std.specs.Prelude.{◌≡◌, ◌⊎◌, ◌+◌, ◌≤◌, �
 ghost use Rattle.std.specs.List.{filter_map};
 ghost use Rattle.disk_model.specs.FuseDevice.{reach_of};
 ghost use Rattle.disk_model.specs.MemDevice.{disk_of, limit_of};
-ghost use Rattle.ring_records.specs.Admission.{fresh, IsLawful};
 ghost use Rattle.ring_records.specs.Answer.{NodeState, launched, landed, left_by};
 ghost use Rattle.ring_records.specs.Emission.{sent};
 ghost use Rattle.ring_records.specs.History.{credit};
-ghost use Rattle.gated_journal.specs.Reading.{member};
+ghost use Rattle.ring_records.specs.Member.{member, IsHistory};
 ghost use Rattle.group_commit.specs.Desk.{new_desk};
 ghost use Rattle.node_store.specs.Node as nodes;
 ghost use Rattle.node_store.specs.State.{Holds};
@@ -122,7 +121,7 @@ fn stopped(
 ) -> Result<MemDevice, AllocError>
     requires works { (nodes.desk_of node).failed ≡ false }
     requires held { AreHeld (nodes.desk_of node).member.node (nodes.desk_of node).run 0 (length (nodes.state_of node).inputs) (nodes.desk_of node).tickets held.items }
-    ensures lawful { OnOk result (IsLawful (nodes.desk_of node).member.node (nodes.desk_of node).member.n (nodes.desk_of node).member.capacity fresh (nodes.state_of node).inputs) }
+    ensures lawful { OnOk result (IsHistory (nodes.desk_of node).member (nodes.state_of node).inputs) }
     ensures holds { IfOk result (λ device. Holds (nodes.desk_of node).member (disk_of device) (launched (nodes.state_of node))) }
 {
     node.arm(call.saturating_sub(1), false);
@@ -158,8 +157,8 @@ fn reopened(
     capacity: u32,
     run: u64,
 ) -> Result<Node<Disk>, AllocError>
-    requires holds { (s : NodeState) × IsLawful me n capacity fresh s.inputs × Holds (member me n capacity) (disk_of device) s }
-    ensures desk { IfOk result (λ node. (s : NodeState) → IsLawful me n capacity fresh s.inputs → Holds (member me n capacity) (disk_of device) s
+    requires holds { (s : NodeState) × IsHistory (member me n capacity) s.inputs × Holds (member me n capacity) (disk_of device) s }
+    ensures desk { IfOk result (λ node. (s : NodeState) → IsHistory (member me n capacity) s.inputs → Holds (member me n capacity) (disk_of device) s
         → (keep : Bool) × (nodes.desk_of node ≡ new_desk (member me n capacity) run (left_by keep s))) }
     ensures reaches { IfOk result (λ node. 17 + capacity ≤ reach_of limit_of (nodes.device_of node)) }
 {

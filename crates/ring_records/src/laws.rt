@@ -6,7 +6,7 @@ ghost use Rattle.ring_records.specs.declared.decision.Decision.{Decision};
 ghost use Rattle.ring_records.specs.declared.input.Input.{Input};
 ghost use Rattle.ring_records.specs.declared.key.Key.{Key};
 ghost use Rattle.ring_records.specs.declared.msg.Msg.{Msg};
-ghost use Rattle.ring_records.specs.Admission.{Base, fresh, cost, used, IsAllowed, IsAdmitted, objection, refusal};
+ghost use Rattle.ring_records.specs.Admission.{Base, cost, used, IsAllowed, IsAdmitted, objection, refusal};
 ghost use Rattle.ring_records.specs.declared.packet.Packet.{Packet};
 ghost use Rattle.ring_records.specs.declared.request.Request.{Request};
 ghost use Rattle.ring_records.specs.Answer.{Answer, Answers, PacketRests};
@@ -15,6 +15,7 @@ ghost use Rattle.ring_records.specs.Emission.{emit, sent};
 ghost use Rattle.ring_records.specs.History.{names, touched, bid_for, stood, message_of, taken, upto_of, credit, is_stand, stands};
 ghost use Rattle.ring_records.specs.Leader.{makes_leader, leader, latest, IsLatest};
 ghost use Rattle.ring_records.specs.Lists.{or_else};
+ghost use Rattle.ring_records.specs.Member.{used_by};
 ghost use Rattle.ring_records.specs.Record.{AreBytes, HasRecord, BeginsWith, record_of, record_read};
 ghost use Rattle.ring_records.specs.Release.{packets, decisions, window, AreLeaders};
 ghost use Rattle.ring_records.specs.Ring.{IsLegal, part};
@@ -30,7 +31,7 @@ pub fn one_more_input()
     ensures stands { (h : List Input) (x : Input) → stands (h ++ x ∷ []) ≡ stands h + (if is_stand x then 1 else 0) }
     ensures leader { (me : ℕ) (h : List Input) (x : Input) (key : Key) → leader me (h ++ x ∷ []) key ≡ or_else (leader me h key) (makes_leader me key h x) }
     ensures sent { (me : ℕ) (h : List Input) (x : Input) → sent me (h ++ x ∷ []) ≡ sent me h ++ cons_option (emit me h x) [] }
-    ensures used { (h : List Input) (x : Input) → used fresh (h ++ x ∷ []) ≡ used fresh h + cost x }
+    ensures used { (h : List Input) (x : Input) → used_by (h ++ x ∷ []) ≡ used_by h + cost x }
 {}
 
 /// What never changes as a history grows: the bid of a Stand, a leader, and each message that was sent or taken.

@@ -1,7 +1,7 @@
 //! A node that is ready to be shared.
 ghost use Rattle.std.specs.Prelude.{◌≡◌, ◌≤◌, ◌-◌, ◌||◌, false, length};
-ghost use Rattle.ring_records.specs.Admission.{fresh, used};
 ghost use Rattle.ring_records.specs.Answer.{durable_in};
+ghost use Rattle.ring_records.specs.Member.{used_by};
 ghost use Rattle.gated_journal.specs.Journal.{member_of, len_of, room_of, is_spoiled};
 ghost use Rattle.node_store.specs.Node.{desk_of};
 
@@ -23,7 +23,7 @@ pub struct OpenNode<V: Device> {
     ghost ready: { is_spoiled journal ≡ false },
     ghost member: { member_of journal ≡ desk.member },
     ghost len: { len_of journal ≡ desk.state.durable },
-    ghost room: { room_of journal ≡ desk.member.capacity - used fresh (durable_in desk.state) },
+    ghost room: { room_of journal ≡ desk.member.capacity - used_by (durable_in desk.state) },
 }
 
 impl<V: Device> OpenNode<V> {

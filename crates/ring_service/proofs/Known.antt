@@ -3,8 +3,8 @@ use Rattle.std.proofs.Common.{◌≤◌, ◌+◌, ℕ, List, [], ◌∷◌, ◌+
 use Rattle.std.specs.List.{cons_option}
 use Rattle.ring_records.specs.declared.input.Input.{Input}
 use Rattle.ring_records.specs.Lists.{found_after}
+use Rattle.ring_records.specs.Member.{Member, member}
 use Rattle.ring_records.specs.Release.{decisions}
-use Rattle.gated_journal.specs.Reading.{Member}
 use Rattle.group_commit.specs.declared.landed.Landed.{Landed}
 use Rattle.commit_hub.specs.Told.{IsBrought}
 

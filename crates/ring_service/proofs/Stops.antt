@@ -3,8 +3,9 @@ use Rattle.std.proofs.Common.{◌≡◌, ◌≤◌, inl, ℕ, true, List, [], �
 use Rattle.disk_model.specs.Disk.{Disk, MayLeave, LeavesOnly}
 use Rattle.disk_model.proofs.Moments.{started}
 use Rattle.ring_records.specs.declared.input.Input.{Input}
+use Rattle.ring_records.specs.Member.{Member, member}
 use Rattle.gated_journal.specs.Batch.{is_size}
-use Rattle.gated_journal.specs.Reading.{Member, AllReadAs, ReadsAsOneOf}
+use Rattle.gated_journal.specs.Reading.{AllReadAs, ReadsAsOneOf}
 use Rattle.ring_service.specs.Rounds.{IsStopped}
 
 module _ {V : Type 0} (clock : V → ℕ) (left_since : V → ℕ → List ℕ → Type 0) where

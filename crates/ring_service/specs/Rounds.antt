@@ -4,7 +4,8 @@ use Rattle.disk_model.specs.Disk.{Disk, LeavesOnly}
 use Rattle.ring_records.specs.declared.input.Input.{Input}
 use Rattle.ring_records.specs.declared.refusal.Refusal.{Refusal}
 use Rattle.ring_records.specs.declared.refusal.Refusal.TheVariants as refused
-use Rattle.gated_journal.specs.Reading.{Member, AllReadAs, ReadsAsOneOf}
+use Rattle.ring_records.specs.Member.{Member, member}
+use Rattle.gated_journal.specs.Reading.{AllReadAs, ReadsAsOneOf}
 use Rattle.group_commit.specs.declared.landed.Landed.{Landed}
 use Rattle.commit_hub.specs.Told.{IsBrought}
 

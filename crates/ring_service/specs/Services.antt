@@ -11,7 +11,7 @@ use Rattle.ring_records.specs.declared.request.Request.{Request}
 use Rattle.ring_records.specs.declared.request.Request.TheVariants.{Stand, Take, Acked, Who, Latest}
 use Rattle.ring_records.specs.Content.{leader_in, leads_in}
 use Rattle.ring_records.specs.Leader.{IsLatest}
-use Rattle.gated_journal.specs.Reading.{Member}
+use Rattle.ring_records.specs.Member.{Member, member}
 use Rattle.group_commit.specs.Desk.{IsAnswer}
 use Rattle.group_commit.specs.Ticket.{stub}
 use Rattle.group_commit.specs.declared.ticket.Stub.{Stub}

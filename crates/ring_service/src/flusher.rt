@@ -2,7 +2,8 @@
 ghost use Rattle.std.specs.Prelude.{◌≡◌, ◌+◌, ◌-◌, ◌<◌, ◌≤◌, ◌⊎◌, ◌++◌, [], List, true, false, is_err, length, IfOk, IfErr, IfSome, IfNone, IsErrOf, OnErr, OnOk};
 ghost use mathlib.Core.List.{IsPrefix};
 ghost use Rattle.ring_records.specs.declared.input.Input.{Input};
-ghost use Rattle.ring_records.specs.Admission.{fresh, used};
+ghost use Rattle.ring_records.specs.Admission.{used};
+ghost use Rattle.ring_records.specs.Member.{used_by};
 ghost use Rattle.disk_model.specs.Disk.{LeavesOnly};
 ghost use Rattle.gated_journal.specs.Batch.{shown};
 ghost use Rattle.gated_journal.specs.Journal.{device_of, member_of, len_of, room_of, is_spoiled};
@@ -169,7 +170,7 @@ fn settle<V: Device, A: Node, D: Whole, C: Whole, R: Wait>(
     requires node { (shown batch).node ≡ A.member.node }
     requires first { (shown batch).first ≡ len_of journal.old }
     requires len { len_of journal.old ≡ durable_of tie.old }
-    requires used { costs_of tie.old + used fresh (shown batch).inputs ≤ A.member.capacity }
+    requires used { costs_of tie.old + used_by (shown batch).inputs ≤ A.member.capacity }
     requires room { room_of journal.old ≡ A.member.capacity - costs_of tie.old }
     ensures count { IfOk result (λ landed. landed.count ≡ length (shown batch).inputs) }
     ensures brought { IfOk result (λ landed. IsBrought A.member (len_of journal.old) (shown batch).inputs landed) }

@@ -12,6 +12,7 @@ use Rattle.ring_records.specs.Admission.{fresh, IsAdmitted, IsInTurn, IsLawful}
 use Rattle.ring_records.specs.Answer.{NodeState, durable_in}
 use Rattle.ring_records.specs.Emission.{sent}
 use Rattle.ring_records.specs.History.{upto_of, message_of, taken, credit}
+use Rattle.ring_records.specs.Member.{member, IsHistory}
 use Rattle.ring_records.specs.Place.{after, before}
 use Rattle.ring_records.specs.Ring.{part, IsCarried}
 use Rattle.ring_records.proofs.Growth.{EachAfter-take}
@@ -78,7 +79,7 @@ none_taken : Taken []
 unfolding taken
 none_taken = inl refl
 
-last_take : (me n capacity : ℕ) (h : List Input) → IsLawful me n capacity fresh h → Taken h
+last_take : (me n capacity : ℕ) (h : List Input) → IsHistory (member me n capacity) h → Taken h
 unfolding IsLawful
 last_take me n capacity h lawful = along (IsAdmitted me n capacity fresh) Taken (next me n capacity) [] h lawful none_taken
 
@@ -88,7 +89,7 @@ before_after : (n i : ℕ) → 1 ≤ i → i ≤ n → before n (after n i) ≡ 
 unfolding after before
 before_after n i low high = grind (arith, nat_tests)
 
-lawful_front : (me n capacity k : ℕ) (h : List Input) → IsLawful me n capacity fresh h → IsLawful me n capacity fresh (take k h)
+lawful_front : (me n capacity k : ℕ) (h : List Input) → IsHistory (member me n capacity) h → IsHistory (member me n capacity) (take k h)
 unfolding IsLawful
 lawful_front me n capacity k h lawful = EachAfter-take (IsAdmitted me n capacity fresh) k h lawful
 
@@ -118,7 +119,7 @@ module _ (n capacity : ℕ) (events : List (ℕ × Action)) (schedule : IsSchedu
       let b = after n i in
       let holds = schedule_holds n capacity events schedule in
       let lawful = lawful_front b n capacity (at b).durable (at b).inputs (holds.sound b).lawful in
-      elim (last_take b n capacity (part run b) (subst (IsLawful b n capacity fresh) (sym (durable_is b)) lawful)) [
+      elim (last_take b n capacity (part run b) (subst (IsHistory (member b n capacity)) (sym (durable_is b)) lawful)) [
         | inl e ↦ omega arith
         | inr t ↦ let there = front (at b).durable (at b).inputs (Take t.place t.msg) (subst (λ l. Contains l (Take t.place t.msg)) (durable_is b) t.there) in
             let low = carried_one t.place t.msg (holds.carried b (Take t.place t.msg) there) in

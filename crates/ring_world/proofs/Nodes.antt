@@ -5,8 +5,8 @@ use Rattle.std.proofs.lemmas.Bool.{cases_eq, leb-true, ltb-true}
 use Rattle.std.proofs.lemmas.List.{length-append, length-set, get_or-set_same, get_or-set_other}
 use Rattle.std.proofs.lemmas.List.Elements.{Contains-push, Contains-push_cases, Contains-append_left}
 use Rattle.ring_records.specs.declared.request.Request.{Request}
-use Rattle.ring_records.specs.Admission.{fresh}
-use Rattle.ring_records.specs.Answer.{answered, NodeState, asked, launched, landed, opened, left_by}
+use Rattle.ring_records.specs.Answer.{NodeState, asked, launched, landed, opened, left_by}
+use Rattle.ring_records.specs.Member.{member, asked_by}
 use Rattle.ring_records.proofs.Leader.{Contains-nil}
 use Rattle.ring_node.specs.Node.{NodeView, new_node, durable_in, answered_by, ticket_of, asked_with, flushed, restarted, left}
 use Rattle.ring_node.specs.Open.{Open, due, is_due}
@@ -66,8 +66,8 @@ module _ (n capacity : ℕ) (events : List (ℕ × Action)) (nodes : List NodeVi
     abbrev submission : Request → List (ℕ × Action)
     submission q = (i, Submit q) ∷ []
 
-    pub answered_same : (q : Request) → answered_by v q ≡ answered i n capacity fresh p.state.inputs q
-    answered_same q t = answered (mine.me t) (mine.ring t) (mine.room t) fresh (mine.state t).inputs q
+    pub answered_same : (q : Request) → answered_by v q ≡ answered_by (member i n capacity) p.state.inputs q
+    answered_same q t = answered_by (member (mine.me t) (mine.ring t) (mine.room t)) (mine.state t).inputs q
 
     asked_here : (number : Option ℕ) (q : Request) → ShowsNode n capacity (events ++ submission q) i (asked_with number q v)
     unfolding asked_with act
@@ -77,11 +77,11 @@ module _ (n capacity : ℕ) (events : List (ℕ × Action)) (nodes : List NodeVi
           me = mine.me;
           ring = mine.ring;
           room = mine.room;
-          state = (λ t. asked (mine.me t) (mine.ring t) (mine.room t) fresh (mine.state t) q) ∙ ap (λ (r : Process). r.state) (sym same);
+          state = (λ t. asked_by (member (mine.me t) (mine.ring t) (mine.room t)) (mine.state t) q) ∙ ap (λ (r : Process). r.state) (sym same);
           kept = λ t here. subst (λ (r : Process). Contains r.kept t.kept) (sym same) (elim (Contains-push_cases v.held (ticket_of number v q) t here) [
-            | inl old ↦ Contains-append_left p.kept (answered i n capacity fresh p.state.inputs q ∷ []) t.kept (mine.kept t old)
-            | inr new ↦ subst (λ (u : Open). Contains (p.kept ++ answered i n capacity fresh p.state.inputs q ∷ []) u.kept) new
-                (subst (Contains (p.kept ++ answered i n capacity fresh p.state.inputs q ∷ [])) (sym (answered_same q)) (Contains-push p.kept (answered i n capacity fresh p.state.inputs q)))
+            | inl old ↦ Contains-append_left p.kept (answered_by (member i n capacity) p.state.inputs q ∷ []) t.kept (mine.kept t old)
+            | inr new ↦ subst (λ (u : Open). Contains (p.kept ++ answered_by (member i n capacity) p.state.inputs q ∷ []) u.kept) new
+                (subst (Contains (p.kept ++ answered_by (member i n capacity) p.state.inputs q ∷ [])) (sym (answered_same q)) (Contains-push p.kept (answered_by (member i n capacity) p.state.inputs q)))
           ]);
           few = (let l = length-append events (submission q) in let f = mine.few in omega arith);
         }

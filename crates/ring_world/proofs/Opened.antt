@@ -5,10 +5,11 @@ use Rattle.std.proofs.lemmas.Bool.Decides.{nat_tests}
 use Rattle.std.proofs.lemmas.List.{get_or_append_left, length-append, map_push, replicate_more}
 use Rattle.std.proofs.Math.Seq.{get_or-append_seam}
 use Rattle.ring_records.specs.Lists.{EachAfter}
+use Rattle.ring_records.specs.Member.{member}
 use Rattle.ring_records.specs.Place.{after}
 use Rattle.ring_records.specs.Ring.{part}
 use Rattle.ring_records.proofs.Leader.{Contains-nil}
-use Rattle.gated_journal.specs.Reading.{member, is_header}
+use Rattle.gated_journal.specs.Reading.{is_header}
 use Rattle.ring_node.specs.Node.{NodeView, new_node}
 use Rattle.ring_world.specs.Events.{process, IsSchedule}
 use Rattle.ring_world.specs.Shows.{ShowsNode, Shows, IsSound, held_of, new_nodes}

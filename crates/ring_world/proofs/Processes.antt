@@ -7,9 +7,10 @@ use Rattle.std.proofs.lemmas.List.Elements.{Contains-push_cases, Contains-append
 use Rattle.ring_records.specs.declared.input.Input.{Input}
 use Rattle.ring_records.specs.declared.refusal.Refusal.{Refusal}
 use Rattle.ring_records.specs.declared.request.Request.{Request}
-use Rattle.ring_records.specs.Admission.{fresh, refusal, IsAdmitted, IsLawful}
-use Rattle.ring_records.specs.Answer.{input_of, if_free, if_input, gained, answer, Answered, answered, Answers, NodeState, flying_in}
+use Rattle.ring_records.specs.Admission.{fresh, IsAdmitted, IsLawful}
+use Rattle.ring_records.specs.Answer.{input_of, if_free, if_input, gained, Answered, Answers, NodeState, flying_in}
 use Rattle.ring_records.specs.Lists.{EachAfter}
+use Rattle.ring_records.specs.Member.{member, IsHistory, refusal_by, gained_by, answer_by, answered_by}
 use Rattle.ring_records.proofs.Admission.{refusal-admitted}
 use Rattle.ring_records.proofs.Growth.{EachAfter-take}
 use Rattle.ring_records.proofs.Leader.{Contains-nil, Contains-cons_cases}
@@ -20,23 +21,23 @@ use Rattle.ring_world.specs.Events.{Thing, Replied, Rests, RestsOn, Action, Subm
 -- ---- what a request adds
 
 abbrev grown : ℕ → ℕ → ℕ → List Input → Request → List Input
-grown me n capacity h q = h ++ gained me n capacity fresh h q
+grown me n capacity h q = h ++ gained_by (member me n capacity) h q
 
 -- an accepted input is admitted
-lawful-grown : (me n capacity : ℕ) (h : List Input) (q : Request) → IsLawful me n capacity fresh h → IsLawful me n capacity fresh (grown me n capacity h q)
+lawful-grown : (me n capacity : ℕ) (h : List Input) (q : Request) → IsHistory (member me n capacity) h → IsHistory (member me n capacity) (grown me n capacity h q)
 unfolding IsLawful gained
 lawful-grown me n capacity h q lawful = asks (input_of q)
   where
-    free : (x : Input) (o : Option Refusal) → refusal me n capacity fresh h x ≡ o → EachAfter (IsAdmitted me n capacity fresh) [] (h ++ if_free o x)
+    free : (x : Input) (o : Option Refusal) → refusal_by (member me n capacity) h x ≡ o → EachAfter (IsAdmitted me n capacity fresh) [] (h ++ if_free o x)
     free x None e = EachAfter-push (IsAdmitted me n capacity fresh) [] h x lawful (refusal-admitted me n capacity fresh h x e)
     free x (Some why) e = rw append-nil lawful
 
     asks : (o : Option Input) → EachAfter (IsAdmitted me n capacity fresh) [] (h ++ if_input me n capacity fresh h o)
     asks None = rw append-nil lawful
-    asks (Some x) = free x (refusal me n capacity fresh h x) refl
+    asks (Some x) = free x (refusal_by (member me n capacity) h x) refl
 
 -- an accepted input is the one that the request asks for
-gained-asked : (me n capacity : ℕ) (h : List Input) (q : Request) (x : Input) → Contains (gained me n capacity fresh h q) x → input_of q ≡ Some x
+gained-asked : (me n capacity : ℕ) (h : List Input) (q : Request) (x : Input) → Contains (gained_by (member me n capacity) h q) x → input_of q ≡ Some x
 unfolding gained
 gained-asked me n capacity h q x there = asks (input_of q) there
   where
@@ -46,7 +47,7 @@ gained-asked me n capacity h q x there = asks (input_of q) there
 
     asks : (o : Option Input) → Contains (if_input me n capacity fresh h o) x → o ≡ Some x
     asks None here = Contains-nil x here
-    asks (Some y) here = free y (refusal me n capacity fresh h y) here
+    asks (Some y) here = free y (refusal_by (member me n capacity) h y) here
 
 -- ---- what a reply rests on
 
@@ -56,21 +57,21 @@ rests-more me n capacity h rest k t r =
     let within = r.within in
     record { within = (let l = length-append h rest in omega arith); rests = subst (λ g. Rests me n capacity g t) (sym (take-append-le k h rest within)) r.rests }
 
-answers-new : (me n capacity : ℕ) (h : List Input) (q : Request) → Answers me n capacity fresh (grown me n capacity h q) q (answer me n capacity fresh h q)
+answers-new : (me n capacity : ℕ) (h : List Input) (q : Request) → Answers me n capacity fresh (grown me n capacity h q) q (answer_by (member me n capacity) h q)
 answers-new me n capacity h q =
-    let first : take (length h) (grown me n capacity h q) ≡ h = take-append-le (length h) h (gained me n capacity fresh h q) (omega arith) ∙ take_all (length h) h (omega arith) in
+    let first : take (length h) (grown me n capacity h q) ≡ h = take-append-le (length h) h (gained_by (member me n capacity) h q) (omega arith) ∙ take_all (length h) h (omega arith) in
     record {
       before = length h;
-      within = (let l = length-append h (gained me n capacity fresh h q) in omega arith);
-      same = ap (λ g. answer me n capacity fresh g q) (sym first);
+      within = (let l = length-append h (gained_by (member me n capacity) h q) in omega arith);
+      same = ap (λ g. answer_by (member me n capacity) g q) (sym first);
       front = ap (λ g. grown me n capacity g q) first ∙ sym (take_all (length (grown me n capacity h q)) (grown me n capacity h q) (omega arith));
     }
 
-rests-new : (me n capacity : ℕ) (h : List Input) (q : Request) → RestsOn me n capacity (grown me n capacity h q) (answer me n capacity fresh h q).number (Replied (answered me n capacity fresh h q))
+rests-new : (me n capacity : ℕ) (h : List Input) (q : Request) → RestsOn me n capacity (grown me n capacity h q) (answer_by (member me n capacity) h q).number (Replied (answered_by (member me n capacity) h q))
 unfolding Rests
 rests-new me n capacity h q = record {
   within = omega arith;
-  rests = subst (λ g. Rests me n capacity g (Replied (answered me n capacity fresh h q)))
+  rests = subst (λ g. Rests me n capacity g (Replied (answered_by (member me n capacity) h q)))
       (sym (take_all (length (grown me n capacity h q)) (grown me n capacity h q) (omega arith))) (refl, answers-new me n capacity h q);
 }
 
@@ -79,10 +80,10 @@ rests-new me n capacity h q = record {
 pub record Sound (me n capacity : ℕ) (p : Process) : Type 0 where
   pub low : p.state.durable ≤ p.state.flying
   pub high : p.state.flying ≤ length p.state.inputs
-  pub lawful : IsLawful me n capacity fresh p.state.inputs
+  pub lawful : IsHistory (member me n capacity) p.state.inputs
   pub kept : (a : Answered) → Contains p.kept a → RestsOn me n capacity p.state.inputs a.answer.number (Replied a)
 
-pub sound-started : (me n capacity : ℕ) (h : List Input) → IsLawful me n capacity fresh h → Sound me n capacity (started h)
+pub sound-started : (me n capacity : ℕ) (h : List Input) → IsHistory (member me n capacity) h → Sound me n capacity (started h)
 sound-started me n capacity h lawful = record { low = omega arith; high = omega arith; lawful = lawful; kept = λ a here. Contains-nil a here }
 
 module _ (me n capacity : ℕ) (p : Process) (sound : Sound me n capacity p) where
@@ -95,13 +96,13 @@ module _ (me n capacity : ℕ) (p : Process) (sound : Sound me n capacity p) whe
   high : s.flying ≤ length s.inputs
   high = sound.high
 
-  lawful-take : (k : ℕ) → IsLawful me n capacity fresh (take k s.inputs)
+  lawful-take : (k : ℕ) → IsHistory (member me n capacity) (take k s.inputs)
   unfolding IsLawful
   lawful-take k = EachAfter-take (IsAdmitted me n capacity fresh) k s.inputs sound.lawful
 
-  kept-asked : (q : Request) (a : Answered) → Contains (p.kept ++ answered me n capacity fresh s.inputs q ∷ []) a → RestsOn me n capacity (grown me n capacity s.inputs q) a.answer.number (Replied a)
-  kept-asked q a here = elim (Contains-push_cases p.kept (answered me n capacity fresh s.inputs q) a here) [
-    | inl old ↦ rests-more me n capacity s.inputs (gained me n capacity fresh s.inputs q) a.answer.number (Replied a) (sound.kept a old)
+  kept-asked : (q : Request) (a : Answered) → Contains (p.kept ++ answered_by (member me n capacity) s.inputs q ∷ []) a → RestsOn me n capacity (grown me n capacity s.inputs q) a.answer.number (Replied a)
+  kept-asked q a here = elim (Contains-push_cases p.kept (answered_by (member me n capacity) s.inputs q) a here) [
+    | inl old ↦ rests-more me n capacity s.inputs (gained_by (member me n capacity) s.inputs q) a.answer.number (Replied a) (sound.kept a old)
     | inr new ↦ subst (λ (b : Answered). RestsOn me n capacity (grown me n capacity s.inputs q) b.answer.number (Replied b)) new (rests-new me n capacity s.inputs q)
   ]
 
@@ -109,7 +110,7 @@ module _ (me n capacity : ℕ) (p : Process) (sound : Sound me n capacity p) whe
   unfolding act
   sound-next (Submit q) = record {
     low = low;
-    high = (let l = length-append s.inputs (gained me n capacity fresh s.inputs q) in let h = high in omega arith);
+    high = (let l = length-append s.inputs (gained_by (member me n capacity) s.inputs q) in let h = high in omega arith);
     lawful = lawful-grown me n capacity s.inputs q sound.lawful;
     kept = kept-asked q;
   }
@@ -139,7 +140,7 @@ module _ (me n capacity : ℕ) (p : Process) (sound : Sound me n capacity p) whe
   -- an input was there before, or the action asks for it
   pub inputs-next : (a : Action) (x : Input) → Contains (act me n capacity p a).state.inputs x → Contains s.inputs x ⊎ ((q : Request) × (a ≡ Submit q) × (input_of q ≡ Some x))
   unfolding act
-  inputs-next (Submit q) x here = elim (Contains-append_cases s.inputs (gained me n capacity fresh s.inputs q) x here) [
+  inputs-next (Submit q) x here = elim (Contains-append_cases s.inputs (gained_by (member me n capacity) s.inputs q) x here) [
     | inl old ↦ inl old
     | inr new ↦ inr (q, refl, gained-asked me n capacity s.inputs q x new)
   ]

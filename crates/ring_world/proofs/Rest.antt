@@ -5,8 +5,9 @@ use Rattle.std.proofs.lemmas.List.{length-append}
 use Rattle.ring_records.specs.declared.input.Input.{Input}
 use Rattle.ring_records.specs.declared.refusal.Refusal.{Refusal}
 use Rattle.ring_records.specs.declared.request.Request.{Request}
-use Rattle.ring_records.specs.Admission.{fresh, refusal}
+use Rattle.ring_records.specs.Admission.{fresh}
 use Rattle.ring_records.specs.Answer.{NodeState, input_of, gained, if_free, if_input}
+use Rattle.ring_records.specs.Member.{member, refusal_by, gained_by}
 use Rattle.ring_records.specs.Ring.{part}
 use Rattle.ring_world.specs.Events.{Action, Launch, Crash, Process, act, process, state_after}
 use Rattle.ring_world.specs.Rest.{IsAllDurable}
@@ -31,10 +32,10 @@ one_if_free (Some r) x = omega arith
 
 one_if_input : (me n capacity : ℕ) (h : List Input) (o : Option Input) → length (if_input me n capacity fresh h o) ≤ 1
 one_if_input me n capacity h None = omega arith
-one_if_input me n capacity h (Some x) = one_if_free (refusal me n capacity fresh h x) x
+one_if_input me n capacity h (Some x) = one_if_free (refusal_by (member me n capacity) h x) x
 
 -- a request adds at most one input
-one_gained : (me n capacity : ℕ) (h : List Input) (q : Request) → length (gained me n capacity fresh h q) ≤ 1
+one_gained : (me n capacity : ℕ) (h : List Input) (q : Request) → length (gained_by (member me n capacity) h q) ≤ 1
 unfolding gained
 one_gained me n capacity h q = one_if_input me n capacity h (input_of q)
 
@@ -98,7 +99,7 @@ asked_near : (number : Option ℕ) (i : ℕ) (q : Request) (w : RingView) → Is
 unfolding IsAllDurable
 asked_near number i q w all =
     let s = node_at w i in
-    let more = gained i w.size w.capacity fresh s.inputs q in
+    let more = gained_by (member i w.size w.capacity) s.inputs q in
     let is = all i in
     let l = length-append s.inputs more in
     let one = one_gained i w.size w.capacity s.inputs q in

@@ -14,6 +14,7 @@ use Rattle.ring_records.specs.declared.request.Request.TheVariants as ask
 use Rattle.ring_records.specs.Admission.{fresh, IsAdmitted, IsLawful}
 use Rattle.ring_records.specs.Answer.{input_of, PacketRests}
 use Rattle.ring_records.specs.Lists.{EachAfter, joined_after}
+use Rattle.ring_records.specs.Member.{member, IsHistory}
 use Rattle.ring_records.specs.Place.{before, after}
 use Rattle.ring_records.specs.Ring.{item_at, part, IsCarried, MayFollow, IsLegal}
 use Rattle.ring_records.proofs.Growth.{take-less, sent-kept, taken-kept, EachAfter-at, EachAfter-take}
@@ -49,7 +50,7 @@ carried-kept n run more i (Take place msg) c = rw part-append (sent-kept (before
 carried-kept n run more i (Acked upto) c = rw part-append (taken-kept (part run (after n i)) _ upto c)
 
 -- lawful inputs of one node, each of them carried, go on with a legal run
-legal-more : (n capacity j : ℕ) → 1 ≤ j → j ≤ n → (xs : List Input) (run : List (ℕ × Input)) → IsLegal n capacity run → IsLawful j n capacity fresh (part run j ++ xs) → ((x : Input) → Contains xs x → IsCarried n run j x)
+legal-more : (n capacity j : ℕ) → 1 ≤ j → j ≤ n → (xs : List Input) (run : List (ℕ × Input)) → IsLegal n capacity run → IsHistory (member j n capacity) (part run j ++ xs) → ((x : Input) → Contains xs x → IsCarried n run j x)
     → IsLegal n capacity (run ++ map (λ x. (j, x)) xs)
 unfolding IsLegal IsLawful
 legal-more n capacity j first last [] run legal lawful carried = rw append-nil legal
@@ -132,7 +133,7 @@ module _ (n capacity : ℕ) (events : List (ℕ × Action)) (j : ℕ) (a : Actio
     sound-here : Sound j n capacity (act j n capacity p a)
     sound-here = sound-next j n capacity p mine a
 
-    lawful-here : IsLawful j n capacity fresh (part run j ++ new_inputs)
+    lawful-here : IsHistory (member j n capacity) (part run j ++ new_inputs)
     unfolding IsLawful
     lawful-here = subst (λ h. EachAfter (IsAdmitted j n capacity fresh) [] h) (sym (ap (λ ys. ys ++ new_inputs) (w.parts j) ∙ durable-next j n capacity p mine a)) (EachAfter-take (IsAdmitted j n capacity fresh) _ _ sound-here.lawful)
 

@@ -10,9 +10,10 @@ use Rattle.ring_records.specs.declared.packet.Packet.TheVariants.{Carry, Credit}
 use Rattle.ring_records.specs.declared.request.Request.{Request}
 use Rattle.ring_records.specs.declared.request.Request.TheVariants as ask
 use Rattle.ring_records.specs.Admission.{fresh}
-use Rattle.ring_records.specs.Answer.{Answered, answered, Answers, PacketRests, NodeState, left_by, asked, launched, landed, opened}
+use Rattle.ring_records.specs.Answer.{Answered, Answers, PacketRests, NodeState, left_by, asked, launched, landed, opened}
 use Rattle.ring_records.specs.Leader.{leader}
 use Rattle.ring_records.specs.Lists.{EachAfter}
+use Rattle.ring_records.specs.Member.{member, answered_by, asked_by}
 use Rattle.ring_records.specs.Place.{before, after}
 use Rattle.ring_records.specs.Ring.{part}
 
@@ -61,7 +62,7 @@ started inputs = record { state = opened inputs; kept = [] }
 
 -- node me of a ring of n, with a capacity, after the action
 unfoldable pub act : ℕ → ℕ → ℕ → Process → Action → Process
-act me n capacity p (Submit q) = record { state = asked me n capacity fresh p.state q; kept = p.kept ++ answered me n capacity fresh p.state.inputs q ∷ [] }
+act me n capacity p (Submit q) = record { state = asked_by (member me n capacity) p.state q; kept = p.kept ++ answered_by (member me n capacity) p.state.inputs q ∷ [] }
 act me n capacity p Launch = record p { state = launched p.state }
 act me n capacity p Land = record p { state = landed p.state }
 act me n capacity p (Release thing) = p

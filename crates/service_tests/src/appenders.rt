@@ -1,7 +1,7 @@
 // Two appenders beside a flusher, each in a thread of its own.
 ghost use Rattle.std.specs.Prelude.{◌≡◌, ◌-◌, false, length};
-ghost use Rattle.ring_records.specs.Admission.{fresh, used};
 ghost use Rattle.ring_records.specs.Answer.{durable_in};
+ghost use Rattle.ring_records.specs.Member.{used_by};
 ghost use Rattle.gated_journal.specs.Journal.{member_of, len_of, room_of, is_spoiled};
 ghost use Rattle.commit_hub.specs.Pages.{places_of, ForAccepted, ForDurable, ForCosts, IsWhole};
 
@@ -90,7 +90,7 @@ fn play<
     requires ready { is_spoiled journal ≡ false }
     requires header { member_of journal ≡ desk.member }
     requires len { len_of journal ≡ desk.state.durable }
-    requires room { room_of journal ≡ desk.member.capacity - used fresh (durable_in desk.state) }
+    requires room { room_of journal ≡ desk.member.capacity - used_by (durable_in desk.state) }
 {
     let board = Board::<J>::new(alloc, opened, &[], 1).expect(rt, "ample memory");
     let (hub, tie) = Hub::<A, D, C>::new(desk, blanks);

@@ -1,7 +1,7 @@
 // A reader that reads while the publisher's round is held before its commit, each in a thread of its own.
 ghost use Rattle.std.specs.Prelude.{◌≡◌, ◌-◌, false, length};
-ghost use Rattle.ring_records.specs.Admission.{fresh, used};
 ghost use Rattle.ring_records.specs.Answer.{durable_in};
+ghost use Rattle.ring_records.specs.Member.{used_by};
 ghost use Rattle.gated_journal.specs.Journal.{member_of, len_of, room_of, is_spoiled};
 ghost use Rattle.commit_hub.specs.Pages.{ForAccepted, ForDurable, ForCosts, IsWhole};
 
@@ -120,7 +120,7 @@ fn play<
     requires ready { is_spoiled journal ≡ false }
     requires header { member_of journal ≡ desk.member }
     requires len { len_of journal ≡ desk.state.durable }
-    requires room { room_of journal ≡ desk.member.capacity - used fresh (durable_in desk.state) }
+    requires room { room_of journal ≡ desk.member.capacity - used_by (durable_in desk.state) }
 {
     let board = Board::<J>::new(alloc, opened, &[], 1).expect(rt, "ample memory");
     let mut reader = board.reader().expect(rt, "a place");

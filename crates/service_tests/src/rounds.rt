@@ -1,7 +1,7 @@
 // Rounds by calls: the one thread that the tests have is appender and flusher in turn.
 ghost use Rattle.std.specs.Prelude.{◌≡◌, ◌-◌, false, length};
-ghost use Rattle.ring_records.specs.Admission.{fresh, used};
 ghost use Rattle.ring_records.specs.Answer.{durable_in};
+ghost use Rattle.ring_records.specs.Member.{used_by};
 ghost use Rattle.gated_journal.specs.Journal.{member_of, len_of, room_of, is_spoiled};
 ghost use Rattle.commit_hub.specs.Pages.{ForAccepted, ForDurable, ForCosts, IsWhole};
 
@@ -249,7 +249,7 @@ fn on_flusher<
     requires ready { is_spoiled journal ≡ false }
     requires header { member_of journal ≡ desk.member }
     requires len { len_of journal ≡ desk.state.durable }
-    requires room { room_of journal ≡ desk.member.capacity - used fresh (durable_in desk.state) }
+    requires room { room_of journal ≡ desk.member.capacity - used_by (durable_in desk.state) }
 {
     let board = Board::<J>::new(rt.alloc(), opened, &[], 1)?;
     let mut reader = board.reader().expect(rt, "a place");

@@ -1,7 +1,7 @@
 // What nodes are given and give. All numbers and names of rows are in their ranges.
 ghost use Rattle.std.specs.Prelude.{◌≡◌, ◌-◌, false};
-ghost use Rattle.ring_records.specs.Admission.{fresh, used};
 ghost use Rattle.ring_records.specs.Answer.{durable_in};
+ghost use Rattle.ring_records.specs.Member.{used_by};
 ghost use Rattle.gated_journal.specs.Journal.{member_of, len_of, room_of, is_spoiled};
 
 use disk_model::{Device, MemDevice};
@@ -63,7 +63,7 @@ pub fn new_node<V: Device + Drop, R: Abort + AllocGlobal>(rt: &R, device: V) -> 
     ensures ready { is_spoiled result.1 ≡ false }
     ensures member { member_of result.1 ≡ result.0.member }
     ensures len { len_of result.1 ≡ result.0.state.durable }
-    ensures room { room_of result.1 ≡ result.0.member.capacity - used fresh (durable_in result.0.state) }
+    ensures room { room_of result.1 ≡ result.0.member.capacity - used_by (durable_in result.0.state) }
 {
     match Node::create(rt.alloc(), device, node(rt, 1), 3, 4096, 0) {
         Ok(made) => made.split(),

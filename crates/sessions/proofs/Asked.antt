@@ -8,10 +8,11 @@ use Rattle.ring_records.specs.declared.input.Input.{Input}
 use Rattle.ring_records.specs.declared.refusal.Refusal.{Refusal}
 use Rattle.ring_records.specs.declared.refusal.Refusal.TheVariants.{BadNumber, Failed, Limit}
 use Rattle.ring_records.specs.declared.request.Request.{Request}
-use Rattle.ring_records.specs.Admission.{fresh, refusal}
+use Rattle.ring_records.specs.Admission.{fresh}
 use Rattle.group_commit.specs.Desk.{DeskView, kept_at, IsHere}
 use Rattle.group_commit.specs.Ticket.{TicketView}
 use Rattle.ring_records.specs.Answer.{Answered, NodeState, input_of, gained, if_free, if_input, asked}
+use Rattle.ring_records.specs.Member.{member, refusal_by, gained_by, asked_by}
 
 one_if_free : (o : Option Refusal) (x : Input) → length (if_free o x) ≤ 1
 one_if_free None x = omega arith
@@ -19,19 +20,19 @@ one_if_free (Some r) x = omega arith
 
 one_if_input : (me n capacity : ℕ) (h : List Input) (o : Option Input) → length (if_input me n capacity fresh h o) ≤ 1
 one_if_input me n capacity h None = omega arith
-one_if_input me n capacity h (Some x) = one_if_free (refusal me n capacity fresh h x) x
+one_if_input me n capacity h (Some x) = one_if_free (refusal_by (member me n capacity) h x) x
 
-one_gained : (me n capacity : ℕ) (h : List Input) (q : Request) → length (gained me n capacity fresh h q) ≤ 1
+one_gained : (me n capacity : ℕ) (h : List Input) (q : Request) → length (gained_by (member me n capacity) h q) ≤ 1
 unfolding gained
 one_gained me n capacity h q = one_if_input me n capacity h (input_of q)
 
 -- where nothing waited, at most one input waits behind a request
-pub one_waits : (me n capacity : ℕ) (s t : NodeState) (q : Request) → t ≡ asked me n capacity fresh s q → length s.inputs ≡ s.durable → length t.inputs ≤ t.durable + 1
+pub one_waits : (me n capacity : ℕ) (s t : NodeState) (q : Request) → t ≡ asked_by (member me n capacity) s q → length s.inputs ≡ s.durable → length t.inputs ≤ t.durable + 1
 one_waits me n capacity s t q e durable =
     let one = one_gained me n capacity s.inputs q in
     let inputs = ap (λ v. length v.inputs) e in
     let same = ap (λ v. v.durable) e in
-    omega (arith, one, inputs, same, durable, length-append s.inputs (gained me n capacity fresh s.inputs q))
+    omega (arith, one, inputs, same, durable, length-append s.inputs (gained_by (member me n capacity) s.inputs q))
 
 -- no number of a ticket is left
 no_number : (b : Bool) (why : Refusal) → (if b then Some Limit else None) ≡ Some why → (why ≡ Limit) × (b ≡ true)

@@ -1,10 +1,10 @@
 // What a desk has its core and its outbox do.
 ghost use Rattle.std.specs.Prelude.{◌≡◌, ◌+◌, ◌-◌, ◌++◌, ◌∷◌, ◌≤◌, ◌<◌, ◌⊎◌, ℕ, List, [], None, length, take, drop, IfSome, IfOk, IfErr, OnOk, OnErr};
 ghost use Rattle.std.specs.List.{cons_option};
-ghost use Rattle.ring_records.specs.Admission.{fresh, refusal, IsLawful};
+ghost use Rattle.ring_records.specs.Admission.{fresh, refusal};
+ghost use Rattle.ring_records.specs.Member.{member, IsHistory, refusal_by};
 ghost use Rattle.gated_journal.specs.Batch.{shown as batch_shown, numbered};
-ghost use Rattle.gated_journal.specs.Reading.{member};
-ghost use Rattle.node_core.specs.Core.{CoreStandsFor};
+ghost use Rattle.node_core.specs.Core.{CoreStandsFor, member_of};
 ghost use Rattle.group_commit.specs.Desk.{IsUnlawful};
 ghost use Rattle.group_commit.specs.Outbox.{Holds};
 
@@ -24,7 +24,7 @@ pub(super) fn replay(
     requires empty { Holds core.old.table.me outbox.old [] 0 0 }
     ensures stands { OnOk result (CoreStandsFor core.new inputs.now) }
     ensures place { OnOk result ((core.new.table.me ≡ core.old.table.me) × (core.new.size ≡ core.old.size) × (core.new.capacity ≡ core.old.capacity)) }
-    ensures lawful { OnOk result (IsLawful core.old.table.me core.old.size core.old.capacity fresh inputs.now) }
+    ensures lawful { OnOk result (IsHistory (member_of core.old) inputs.now) }
     ensures holds { OnOk result (Holds core.old.table.me outbox.new inputs.now (length inputs.now) (length inputs.now)) }
     ensures refusal { IfErr result (λ refusal. (refusal ≡ Refusal.OutOfMemory) ⊎ IsUnlawful (member core.old.table.me core.old.size core.old.capacity) inputs.now refusal) }
 {
@@ -51,11 +51,11 @@ pub(super) fn accept(
     input: &Option<Input>,
 ) -> Result<(), AllocError>
     requires stands { CoreStandsFor core.old inputs.old.items }
-    requires free { IfSome input.now (λ x. refusal core.old.table.me core.old.size core.old.capacity fresh inputs.old.items x ≡ None) }
+    requires free { IfSome input.now (λ x. refusal_by (member_of core.old) inputs.old.items x ≡ None) }
     ensures inputs { OnOk result (inputs.new.items ≡ inputs.old.items ++ cons_option input.now []) }
     ensures stands { CoreStandsFor core.new inputs.new.items }
     ensures place { (core.new.table.me ≡ core.old.table.me) × (core.new.size ≡ core.old.size) × (core.new.capacity ≡ core.old.capacity) }
-    ensures lawful { OnOk result (IsLawful core.old.table.me core.old.size core.old.capacity fresh inputs.old.items → IsLawful core.old.table.me core.old.size core.old.capacity fresh inputs.new.items) }
+    ensures lawful { OnOk result (IsHistory (member_of core.old) inputs.old.items → IsHistory (member_of core.old) inputs.new.items) }
     ensures holds { (durable flying : ℕ) → durable ≤ length inputs.old.items → Holds core.old.table.me outbox.old inputs.old.items durable flying → Holds core.old.table.me outbox.new inputs.new.items durable flying }
     ensures err { OnErr result (inputs.new.items ≡ inputs.old.items) }
 {
@@ -72,7 +72,7 @@ fn accept_one(
     input: &Input,
 ) -> Result<(), AllocError>
     requires stands { CoreStandsFor core.old inputs.old.items }
-    requires free { refusal core.old.table.me core.old.size core.old.capacity fresh inputs.old.items input.now ≡ None }
+    requires free { refusal_by (member_of core.old) inputs.old.items input.now ≡ None }
     ensures inputs { OnOk result (inputs.new.items ≡ inputs.old.items ++ input.now ∷ []) }
     ensures stands { CoreStandsFor core.new inputs.new.items }
     ensures place { (core.new.table.me ≡ core.old.table.me) × (core.new.size ≡ core.old.size) × (core.new.capacity ≡ core.old.capacity) }

@@ -1,9 +1,8 @@
 //! Whether a desk's history gives a reply that was released.
 ghost use Rattle.std.specs.Prelude.{◌≡◌, ◌≤◌, List, length, true, false, MatchOption, IfOk, IfErr};
 ghost use Rattle.ring_records.specs.declared.input.Input.{Input};
-ghost use Rattle.ring_records.specs.Admission.{fresh, IsLawful};
-ghost use Rattle.ring_records.specs.Answer.{answer};
-ghost use Rattle.node_core.specs.Core.{CoreStandsFor};
+ghost use Rattle.ring_records.specs.Member.{member, IsHistory, answer_by};
+ghost use Rattle.node_core.specs.Core.{CoreStandsFor, member_of};
 ghost use Rattle.group_commit.specs.Ticket.{stub as released};
 ghost use Rattle.group_commit.specs.Vouch.{Accepts, IsInput};
 
@@ -41,8 +40,8 @@ impl Desk {
 
 // Whether a core that stands for as many inputs as the stub's number gives the stub's reply and accepts nothing.
 fn gives(core: &NodeCore, stub: &Stub) -> bool
-    ensures yes { (h : List Input) → CoreStandsFor core.now h → length h ≡ stub.now.number → result ≡ true → (released stub.now).answer ≡ answer core.now.table.me core.now.size core.now.capacity fresh h stub.now.question }
-    ensures no { (h : List Input) → CoreStandsFor core.now h → length h ≡ stub.now.number → result ≡ false → (released stub.now).answer ≡ answer core.now.table.me core.now.size core.now.capacity fresh h stub.now.question → ⊥ }
+    ensures yes { (h : List Input) → CoreStandsFor core.now h → length h ≡ stub.now.number → result ≡ true → (released stub.now).answer ≡ answer_by (member_of core.now) h stub.now.question }
+    ensures no { (h : List Input) → CoreStandsFor core.now h → length h ≡ stub.now.number → result ≡ false → (released stub.now).answer ≡ answer_by (member_of core.now) h stub.now.question → ⊥ }
 {
     let (reply, input) = judge(core, &stub.question);
     reply == stub.reply && input.is_none()
@@ -78,7 +77,7 @@ fn core_after(
     capacity: u32,
     inputs: &[Input],
 ) -> Result<NodeCore, AllocError>
-    requires { IsLawful node n capacity fresh inputs.now }
+    requires { IsHistory (member node n capacity) inputs.now }
     ensures stands { IfOk result (λ core. CoreStandsFor core inputs.now) }
     ensures me { IfOk result (λ core. core.table.me ≡ node) }
     ensures ring { IfOk result (λ core. core.size ≡ n) }

@@ -1,6 +1,7 @@
 // What is against an input: the history, and the bytes that it takes.
 ghost use Rattle.std.specs.Prelude.{◌≡◌, ◌<◌, ◌≤◌, ◌*◌, ◌^◌, length};
-ghost use Rattle.ring_records.specs.Admission.{fresh, too_many, objection, used};
+ghost use Rattle.ring_records.specs.Admission.{too_many, objection, used};
+ghost use Rattle.ring_records.specs.Member.{used_by};
 
 use super::{credit, latest, sent_count, stands, stood, takes, touched};
 use crate::{Input, Key, Msg, NodeNo, Refusal};
@@ -82,7 +83,7 @@ fn too_many(history: &[Input]) -> Option<Refusal>
 
 pub(super) fn used(history: &[Input]) -> u64
     requires { length history.now < 2 ^ 56 }
-    ensures value { result ≡ used fresh history.now }
+    ensures value { result ≡ used_by history.now }
     ensures bound { result ≤ 42 * length history.now }
 {
     let mut used = 0;

@@ -1,7 +1,7 @@
 use Rattle.std.proofs.Common.{◌≡◌, ◌∙◌, [], true, length, ap, sym, subst}
+use Rattle.ring_records.specs.Member.{IsHistory}
 use Rattle.disk_model.specs.MemDevice.{disk_of}
 use Rattle.disk_model.specs.declared.memory.MemDevice.{MemDevice}
-use Rattle.ring_records.specs.Admission.{fresh, IsLawful}
 use Rattle.group_commit.specs.Desk.{DeskView}
 use Rattle.node_store.specs.State.{Holds}
 use Rattle.ring_node.specs.Held.{AreHeld}
@@ -18,7 +18,7 @@ into_device-requires-clause-spent c = ap (λ (d : DeskView). length d.tickets) c
 pub returns-clause-lawful : goal.returns-clause-lawful
 returns-clause-lawful c =
     let last : c.forfeit_all.new.node.desk ≡ record c.args.node.desk { closed = true; tickets = [] } = c.forfeit_all.ensures.next ∙ ap (λ (d : DeskView). record d { tickets = [] }) c.close.ensures.next in
-    subst (λ (d : DeskView). IsLawful d.member.node d.member.n d.member.capacity fresh d.state.inputs) last c.into_device.ensures.lawful
+    subst (λ (d : DeskView). IsHistory d.member d.state.inputs) last c.into_device.ensures.lawful
 
 pub returns-clause-holds : goal.returns-clause-holds
 returns-clause-holds c =

@@ -3,7 +3,7 @@ use Rattle.disk_model.specs.Disk.{Disk}
 use Rattle.disk_model.specs.FuseDevice.{inner_of, reach_of}
 use Rattle.disk_model.specs.MemDevice.{disk_of, limit_of}
 use Rattle.ring_records.specs.Answer.{NodeState}
-use Rattle.gated_journal.specs.Reading.{member}
+use Rattle.ring_records.specs.Member.{member}
 use Rattle.node_store.specs.Node as nodes
 use Rattle.node_store.specs.State.{Holds}
 use Rattle.ring_node.proofs.Serving.{idle_reach, image_within, no_cause}

@@ -1,10 +1,10 @@
 use Rattle.std.proofs.Common.{◌≡◌, ◌⊎◌, ℕ, List, length, inl, inr, ap, sym, subst, ◌∙◌, ⊎_elim}
 use Rattle.disk_model.specs.Disk.{Disk, MayLeave}
 use Rattle.ring_records.specs.declared.input.Input.{Input}
-use Rattle.ring_records.specs.Admission.{fresh, IsLawful}
 use Rattle.ring_records.specs.Answer as answers
 use Rattle.ring_records.specs.Answer.{NodeState, launched, landed}
-use Rattle.gated_journal.specs.Reading.{Member, ReadsAsOneOf}
+use Rattle.ring_records.specs.Member.{Member, IsHistory}
+use Rattle.gated_journal.specs.Reading.{ReadsAsOneOf}
 use Rattle.group_commit.specs.Desk.{DeskView}
 use Rattle.ring_node.specs.Held.{AreHeld}
 use Rattle.ring_node.proofs.Serving.{stopped}
@@ -29,7 +29,7 @@ closed-device-requires c =
 pub returns-clause-lawful : goal.returns-clause-lawful
 returns-clause-lawful c =
     let here = (goal.at.returns-clause-lawful c).After-flush_or_fail-flown in
-    subst (λ (a : Member × List Input). IsLawful a.0.node a.0.n a.0.capacity fresh a.1) (λ i. (member_is here i, inputs_are here i)) c.closed-device.ensures.lawful
+    subst (λ (a : Member × List Input). IsHistory a.0 a.1) (λ i. (member_is here i, inputs_are here i)) c.closed-device.ensures.lawful
 
 pub returns-clause-holds : goal.returns-clause-holds
 returns-clause-holds c = λ image left.

@@ -1,5 +1,5 @@
 use Rattle.std.proofs.Common.{subst}
-use Rattle.gated_journal.specs.Reading.{Member}
+use Rattle.ring_records.specs.Member.{Member}
 use Rattle.commit_hub.specs.Told.{IsUnasked}
 use Rattle.commit_hub.proofs.Requests.{one_more, unasked}
 use Rattle.commit_hub.proofs.hub.Hub.submit.Goals as goal

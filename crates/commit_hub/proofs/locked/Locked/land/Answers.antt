@@ -1,10 +1,9 @@
 use Rattle.std.proofs.Common.{rules, ◌≡◌, ◌-◌, ◌≤◌, length, take, drop, sym, ap, ◌∙◌, subst, arith}
-use Rattle.ring_records.specs.Admission.{fresh, used}
 use Rattle.ring_records.specs.Answer.{durable_in, flying_in, flown_in}
-use Rattle.gated_journal.specs.Reading.{Member}
+use Rattle.ring_records.specs.Member.{Member, used_by, IsHistory}
 use Rattle.group_commit.specs.Desk.{DeskView, landed}
 use Rattle.commit_hub.specs.Holders.{durable_of}
-use Rattle.commit_hub.specs.Told.{IsHistory, IsBrought}
+use Rattle.commit_hub.specs.Told.{IsBrought}
 use Rattle.commit_hub.proofs.Batches.{flying_fits, brings}
 use Rattle.commit_hub.proofs.Costs.{flown_costs}
 use Rattle.commit_hub.proofs.locked.Locked.land.Goals as goal
@@ -17,7 +16,7 @@ used_of-cost-requires g c =
     let end : c.durable-end.result ≡ old.desk.state.flying = c.durable-end.ensures ∙ ap (λ (d : DeskView). d.state.durable) next in
     let inputs : c.history.result.now ≡ old.desk.state.inputs = c.history.ensures.inputs ∙ ap (λ (d : DeskView). d.state.inputs) next in
     let capacity : c.capacity.result ≡ old.desk.member.capacity = c.capacity.ensures ∙ ap (λ (d : DeskView). d.member.capacity) next in
-    let fits : used fresh (flying_in old.desk.state) ≤ old.desk.member.capacity = omega (arith, flying_fits old.desk.member old.desk.state old.lawful old.counts) in
+    let fits : used_by (flying_in old.desk.state) ≤ old.desk.member.capacity = omega (arith, flying_fits old.desk.member old.desk.state old.lawful old.counts) in
     rw (start, end, inputs, capacity) fits
 
 pub invariant_of-self-in-Ok : goal.invariant_of-self-in-Ok
@@ -28,8 +27,8 @@ invariant_of-self-in-Ok g c =
     let start : c.durable-start.result ≡ s.durable = c.durable-start.ensures in
     let end : c.durable-end.result ≡ s.flying = c.durable-end.ensures ∙ ap (λ (d : DeskView). d.state.durable) next in
     let inputs : c.history.result.now ≡ s.inputs = c.history.ensures.inputs ∙ ap (λ (d : DeskView). d.state.inputs) next in
-    let cost : c.used_of-cost.result ≡ used fresh (flying_in s) = c.used_of-cost.ensures ∙ (λ i. used fresh (take (end i - start i) (drop (start i) (inputs i)))) in
-    let flown : used fresh (durable_in c.land.new.self.state) ≡ used fresh (flown_in s) = ap (λ (d : DeskView). used fresh (durable_in d.state)) next in
+    let cost : c.used_of-cost.result ≡ used_by (flying_in s) = c.used_of-cost.ensures ∙ (λ i. used_by (take (end i - start i) (drop (start i) (inputs i)))) in
+    let flown : used_by (durable_in c.land.new.self.state) ≡ used_by (flown_in s) = ap (λ (d : DeskView). used_by (durable_in d.state)) next in
     let durable : c.land.new.self.state.durable ≡ s.flying = ap (λ (d : DeskView). d.state.durable) next in
     record {
       of = ap (λ (d : DeskView). d.member) next ∙ old.of;

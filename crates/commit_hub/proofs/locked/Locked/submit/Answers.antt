@@ -1,6 +1,6 @@
 use Rattle.std.proofs.Common.{rules, ◌≡◌, length, sym, ap, ◌∙◌}
-use Rattle.ring_records.specs.Admission.{fresh, used}
-use Rattle.ring_records.specs.Answer.{durable_in, gained}
+use Rattle.ring_records.specs.Answer.{durable_in}
+use Rattle.ring_records.specs.Member.{used_by, gained_by}
 use Rattle.group_commit.specs.Desk.{DeskView, submitted}
 use Rattle.commit_hub.proofs.Requests.{durable_stays, grows}
 use Rattle.commit_hub.proofs.locked.Locked.submit.Goals as goal
@@ -10,7 +10,7 @@ invariant_of-self-in-Ok g c =
     let old = c.args.self.now in
     let m = old.desk.member in
     let next : c.submit.new.self ≡ submitted c.args.question old.desk = c.in-Ok.ensures.next in
-    let more = gained m.node m.n m.capacity fresh old.desk.state.inputs c.args.question in
+    let more = gained_by m old.desk.state.inputs c.args.question in
     let grown = grows c.args.question old.desk c.submit.new.self next in
     let counted : c.add.new.self.total ≡ length c.submit.new.self.state.inputs = search (rules, grown) in
     record {
@@ -21,5 +21,5 @@ invariant_of-self-in-Ok g c =
       first_is = old.first_is;
       spare_is = old.spare_is;
       durable_is = old.durable_is ∙ sym (ap (λ (d : DeskView). d.state.durable) next);
-      costs_is = old.costs_is ∙ sym (ap (λ (d : DeskView). used fresh (durable_in d.state)) next ∙ ap (used fresh) (durable_stays old.desk.state more old.counts));
+      costs_is = old.costs_is ∙ sym (ap (λ (d : DeskView). used_by (durable_in d.state)) next ∙ ap used_by (durable_stays old.desk.state more old.counts));
     }

@@ -1,5 +1,5 @@
 use Rattle.std.proofs.Common.{IfOk, subst}
-use Rattle.gated_journal.specs.Reading.{Member}
+use Rattle.ring_records.specs.Member.{Member}
 use Rattle.commit_hub.specs.Told.{IsWindow}
 use Rattle.commit_hub.proofs.Batches.{is_window}
 use Rattle.commit_hub.proofs.locked.Locked.window.Goals as goal

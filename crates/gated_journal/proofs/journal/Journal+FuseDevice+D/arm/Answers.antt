@@ -1,5 +1,6 @@
 use Rattle.std.proofs.Common.{sym, subst}
-use Rattle.gated_journal.specs.Reading.{member, IsAtRest}
+use Rattle.ring_records.specs.Member.{member}
+use Rattle.gated_journal.specs.Reading.{IsAtRest}
 use Rattle.gated_journal.proofs.journal.Journal+FuseDevice+D.arm.Goals as goal
 
 pub invariant_of-self : goal.invariant_of-self

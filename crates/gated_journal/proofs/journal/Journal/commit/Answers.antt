@@ -1,8 +1,8 @@
 use Rattle.std.proofs.Common.{◌≡◌, ◌≤◌, ◌+◌, ◌-◌, ◌++◌, length, sym, ◌∙◌, subst, ap, arith, rules}
+use Rattle.ring_records.specs.Member.{member, used_by}
 use Rattle.disk_model.proofs.Moments.{weaken}
-use Rattle.ring_records.specs.Admission.{fresh, used}
 use Rattle.gated_journal.specs.Frames.{IsFrame}
-use Rattle.gated_journal.specs.Reading.{ReadsAsOneOf, IsAtRest, member}
+use Rattle.gated_journal.specs.Reading.{ReadsAsOneOf, IsAtRest}
 use Rattle.gated_journal.proofs.Rest.{at_place, all_read, rest_next, moment, after, fits}
 use Rattle.gated_journal.proofs.journal.Journal.commit.Goals as goal
 
@@ -11,7 +11,7 @@ append-requires g c =
     let j = c.args.self.now in
     let b = c.args.batch in
     let f = fits b.inputs.items b.bytes.items b.framed in
-    let room : used fresh b.inputs.items ≤ j.capacity - j.used = c.requires.room in
+    let room : used_by b.inputs.items ≤ j.capacity - j.used = c.requires.room in
     omega (arith, ap length c.deref.ensures.value, f.within, f.some, room, j.within, j.small)
 
 pub overflow_add-self : goal.overflow_add-self
@@ -19,7 +19,7 @@ overflow_add-self g c =
     let j = c.args.self.now in
     let b = c.args.batch in
     let f = fits b.inputs.items b.bytes.items b.framed in
-    let room : used fresh b.inputs.items ≤ j.capacity - j.used = c.requires.room in
+    let room : used_by b.inputs.items ≤ j.capacity - j.used = c.requires.room in
     omega (arith, c.len.ensures, f.within, f.some, room, j.within, j.small)
 
 pub overflow_add-self-in-Ok : goal.overflow_add-self-in-Ok
@@ -27,7 +27,7 @@ overflow_add-self-in-Ok g c =
     let j = c.args.self.now in
     let b = c.args.batch in
     let f = fits b.inputs.items b.bytes.items b.framed in
-    let room : used fresh b.inputs.items ≤ j.capacity - j.used = c.requires.room in
+    let room : used_by b.inputs.items ≤ j.capacity - j.used = c.requires.room in
     omega (arith, c.len-in-Ok.ensures, f.count, f.some, room, j.counted, j.small)
 
 pub invariant_of-self : goal.invariant_of-self
@@ -43,7 +43,7 @@ invariant_of-self g c =
     let frame = subst (λ l. IsFrame batch l) (sym c.deref.ensures.value) b.framed in
     let bytes_same : length c.deref.result.now ≡ c.len.result = omega (arith, ap length c.deref.ensures.value, c.len.ensures) in
     let count_same : length batch ≡ c.len-in-Ok.result = omega (arith, c.len-in-Ok.ensures) in
-    let sum_same : used fresh batch ≡ c.from.result = sym b.counted ∙ sym c.from.ensures in
+    let sum_same : used_by batch ≡ c.from.result = sym b.counted ∙ sym c.from.ensures in
     let next = rest_next header old new j.place (j.place + length c.deref.result.now) j.count j.used batch rest c.in-Ok.ensures.synced
     (λ inputs read. after header old.image new.image inputs batch j.place (length c.deref.result.now) read (c.in-Ok.ensures.done 16 inputs batch rest.synced read.frames frame)) in
     record {
@@ -102,6 +102,6 @@ returns-clause-works g c = λ positive fit.
     let j = c.args.self.now in
     let b = c.args.batch in
     let f = fits b.inputs.items b.bytes.items b.framed in
-    let room : used fresh b.inputs.items ≤ j.capacity - j.used = c.requires.room in
+    let room : used_by b.inputs.items ≤ j.capacity - j.used = c.requires.room in
     let ok = c.append.ensures.reach.works positive (omega (arith, ap length c.deref.ensures.value, f.within, f.some, room, j.within, fit)) in
     search (rules, ok)

@@ -1,7 +1,8 @@
 use Rattle.std.proofs.Common.{[], sym, ◌∙◌, subst, arith}
 use Rattle.disk_model.specs.Disk.{Puts}
 use Rattle.ring_records.specs.Admission.{used}
-use Rattle.gated_journal.specs.Reading.{member, ReadsAt}
+use Rattle.ring_records.specs.Member.{member}
+use Rattle.gated_journal.specs.Reading.{ReadsAt}
 use Rattle.gated_journal.proofs.Rest.{formatted, rest_of, all_read, in_range}
 use Rattle.gated_journal.proofs.journal.Journal.format.Goals as goal
 

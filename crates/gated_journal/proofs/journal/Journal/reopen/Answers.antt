@@ -1,13 +1,13 @@
 use Rattle.std.proofs.Common.{rules, ◌≡◌, ℕ, List, length, sym, ◌∙◌, ap, subst, arith}
-use Rattle.ring_records.specs.Admission.{fresh, used}
-use Rattle.gated_journal.specs.Reading.{member, ReadsAt, IsAtRest}
+use Rattle.ring_records.specs.Member.{member, used_by}
+use Rattle.gated_journal.specs.Reading.{ReadsAt, IsAtRest}
 use Rattle.gated_journal.proofs.Rest.{opens, all_read, rest_of}
 use Rattle.gated_journal.proofs.journal.Journal.reopen.Goals as goal
 
 pub used_of-requires : goal.used_of-requires
 used_of-requires g c =
     let o = opens _ _ c.in-Ok.field-0.inputs.items c.in-Ok.field-0.place c.in-Ok.ensures.reads in
-    omega (arith, ap (used fresh) c.deref.ensures.value, o.bound, c.in-Ok.field-0.small)
+    omega (arith, ap used_by c.deref.ensures.value, o.bound, c.in-Ok.field-0.small)
 
 pub invariant_of-journal : goal.invariant_of-journal
 invariant_of-journal g c =
@@ -18,7 +18,7 @@ invariant_of-journal g c =
     let read : ReadsAt header disk.image f.inputs.items f.place = subst (λ (l : List ℕ). ReadsAt header l f.inputs.items f.place) (sym c.open.ensures.image) c.in-Ok.ensures.reads in
     let rest = rest_of header disk f.inputs.items f.place c.in-Ok.ensures.synced read in
     let count : length f.inputs.items ≡ c.len.result = search rules in
-    let sum : used fresh f.inputs.items ≡ c.used_of.result = sym (c.used_of.ensures ∙ ap (used fresh) c.deref.ensures.value) in
+    let sum : used_by f.inputs.items ≡ c.used_of.result = sym (c.used_of.ensures ∙ ap used_by c.deref.ensures.value) in
     record {
       settled = λ ready. subst (λ (k : ℕ). IsAtRest header disk f.place k c.used_of.result) count (subst (λ (k : ℕ). IsAtRest header disk f.place (length f.inputs.items) k) sum rest);
       from = o.from;

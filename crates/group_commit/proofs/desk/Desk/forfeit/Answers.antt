@@ -1,6 +1,6 @@
 use Rattle.std.proofs.Common.{ℕ, List, sym, subst}
 use Rattle.ring_records.specs.Answer.{Answered}
-use Rattle.gated_journal.specs.Reading.{member}
+use Rattle.ring_records.specs.Member.{member}
 use Rattle.group_commit.specs.Kept.{AreBelow, AreAnswers}
 use Rattle.group_commit.proofs.Numbers.{below_without}
 use Rattle.group_commit.proofs.Replies.{answers_without}

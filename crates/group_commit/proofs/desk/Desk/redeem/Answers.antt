@@ -1,7 +1,7 @@
 use Rattle.std.proofs.Common.{ℕ, List, nat_eq, ap, ◌∙◌, sym, subst}
 use Rattle.std.specs.Map.{lookup}
 use Rattle.ring_records.specs.Answer.{Answered}
-use Rattle.gated_journal.specs.Reading.{member}
+use Rattle.ring_records.specs.Member.{member}
 use Rattle.group_commit.specs.Desk.{DeskView, IsAnswer}
 use Rattle.group_commit.specs.Kept.{AreBelow, AreAnswers}
 use Rattle.group_commit.specs.Ticket.{answered_with}

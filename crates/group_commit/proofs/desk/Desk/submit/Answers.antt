@@ -2,9 +2,8 @@ use Rattle.std.proofs.Common.{rules, ◌≡◌, ◌∙◌, ◌+◌, ◌∷◌, �
 use Rattle.std.specs.List.{cons_option}
 use Rattle.std.specs.Map.{lookup, remove_entry}
 use Rattle.ring_records.specs.declared.input.Input.{Input}
-use Rattle.ring_records.specs.Admission.{fresh, IsLawful}
-use Rattle.ring_records.specs.Answer.{Answered, reply, gained}
-use Rattle.gated_journal.specs.Reading.{member}
+use Rattle.ring_records.specs.Answer.{Answered}
+use Rattle.ring_records.specs.Member.{member, IsHistory, gained_by, reply_by}
 use Rattle.group_commit.specs.Desk.{DeskView, IsAnswer, answered, submitted}
 use Rattle.group_commit.specs.declared.desk.Desk.TheInside.{Inside}
 use Rattle.group_commit.specs.Kept.{AreBelow, AreAnswers}
@@ -61,8 +60,8 @@ kept_is : (c : After-accept) → answered_with c.args.question c.judge.result.0 
 kept_is c =
     let d = c.self.inside in
     let i = c.self.invariant in
-    let replies = c.judge.ensures.reply d.inputs.items i.stands ∙ (λ k. reply (i.me k) (i.ring k) (i.bytes k) fresh d.inputs.items c.args.question) in
-    let gains = c.judge.ensures.input d.inputs.items i.stands ∙ (λ k. gained (i.me k) (i.ring k) (i.bytes k) fresh d.inputs.items c.args.question) in
+    let replies = c.judge.ensures.reply d.inputs.items i.stands ∙ (λ k. reply_by (member (i.me k) (i.ring k) (i.bytes k)) d.inputs.items c.args.question) in
+    let gains = c.judge.ensures.input d.inputs.items i.stands ∙ (λ k. gained_by (member (i.me k) (i.ring k) (i.bytes k)) d.inputs.items c.args.question) in
     let same : c.deref.result.now ≡ d.inputs.items = search rules in
     let number = c.count_with-number.ensures ∙ ap (λ (l : List Input). length (l ++ cons_option c.judge.result.1 [])) same ∙ ap (λ (l : List Input). length (d.inputs.items ++ l)) gains in
     λ k. answered_with c.args.question (replies k) (number k)
@@ -89,7 +88,7 @@ invariant_of-self-2 c =
       bytes = c.accept.ensures.place.2 ∙ i.bytes;
       in_order = i.in_order;
       accepted = omega (arith, i.accepted, ap length inputs, length-append d.inputs.items (cons_option c.judge.result.1 []));
-      lawful = at_place (λ me n capacity. IsLawful me n capacity fresh c.accept.new.inputs.items) i.me i.ring i.bytes (grown (at_place (λ me n capacity. IsLawful me n capacity fresh d.inputs.items) (sym i.me) (sym i.ring) (sym i.bytes) i.lawful));
+      lawful = at_place (λ me n capacity. IsHistory (member me n capacity) c.accept.new.inputs.items) i.me i.ring i.bytes (grown (at_place (λ me n capacity. IsHistory (member me n capacity) d.inputs.items) (sym i.me) (sym i.ring) (sym i.bytes) i.lawful));
       holds = search rules;
       given = subst (λ (ts : List (ℕ × Answered)). AreBelow (d.issued + 1) ts) (sym (tickets_are (goal.at.invariant_of-self-2 c).After-accept)) (below_next d.issued _ d.tickets.entries i.given);
       answers = subst (λ (ts : List (ℕ × Answered)). AreAnswers (seen d).member ts) (sym (tickets_are (goal.at.invariant_of-self-2 c).After-accept)) (answers_next (seen d).member d.issued _ d.tickets.entries i.answers answers_now);
@@ -112,5 +111,5 @@ returns-clause-next c =
     let i = c.self.invariant in
     let a = (goal.at.returns-clause-next c).After-accept in
     let accepted : is_ok c.accept.result ≡ true = search rules in
-    let inputs = on_ok c.accept.result accepted c.accept.ensures.inputs ∙ ap (λ (l : List Input). d.inputs.items ++ l) (c.judge.ensures.input d.inputs.items i.stands ∙ (λ k. gained (i.me k) (i.ring k) (i.bytes k) fresh d.inputs.items c.args.question)) in
+    let inputs = on_ok c.accept.result accepted c.accept.ensures.inputs ∙ ap (λ (l : List Input). d.inputs.items ++ l) (c.judge.ensures.input d.inputs.items i.stands ∙ (λ k. gained_by (member (i.me k) (i.ring k) (i.bytes k)) d.inputs.items c.args.question)) in
     (λ k. next_by d (inputs k) (tickets_are a k)) ∙ ap (λ (v : DeskView). submitted c.args.question v) c.self.view_is

@@ -1,5 +1,5 @@
 use Rattle.std.proofs.Common.{rules, ◌≤◌, length, sym, subst}
-use Rattle.gated_journal.specs.Reading.{member}
+use Rattle.ring_records.specs.Member.{member}
 use Rattle.group_commit.specs.Desk.{DeskView}
 use Rattle.group_commit.specs.Ticket.{stub as released}
 use Rattle.group_commit.specs.Vouch.{IsVouched}

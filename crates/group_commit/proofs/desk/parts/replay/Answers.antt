@@ -3,9 +3,10 @@ use Rattle.std.proofs.lemmas.List.{take_all}
 use Rattle.std.proofs.lemmas.Option.{slice_get_read}
 use Rattle.ring_records.specs.declared.input.Input.{Input}
 use Rattle.ring_records.proofs.Admission.{refusal-admitted}
-use Rattle.ring_records.specs.Admission.{fresh, IsLawful}
+use Rattle.ring_records.specs.Admission.{fresh}
+use Rattle.ring_records.specs.Member.{IsHistory}
 use Rattle.ring_records.proofs.LookBack.{IsItem}
-use Rattle.node_core.specs.Core.{CoreStandsFor}
+use Rattle.node_core.specs.Core.{CoreStandsFor, member_of}
 use Rattle.group_commit.proofs.Opening.{opens_none, opens_next, brought, judged, on_ok, why, why_not}
 use Rattle.group_commit.specs.Outbox.{Holds}
 use Rattle.group_commit.proofs.Settling.{holds_grown}
@@ -66,7 +67,7 @@ returns c =
     record {
       stands = subst (λ (l : List Input). CoreStandsFor c.loop-i.core l) all opens.stands;
       place = (opens.me_is, opens.ring_is, opens.capacity_is);
-      lawful = subst (λ (l : List Input). IsLawful core.table.me core.size core.capacity fresh l) all opens.lawful;
+      lawful = subst (λ (l : List Input). IsHistory (member_of core) l) all opens.lawful;
       holds = subst (λ (l : List Input). Holds core.table.me c.loop-i.outbox l (length l) (length l)) all c.loop-i.invariant.1;
       refusal = tt;
     }

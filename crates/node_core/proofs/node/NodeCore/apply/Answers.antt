@@ -1,12 +1,12 @@
 use Rattle.std.proofs.Common.{◌≡◌, ◌+◌, List, None, refl, sym, ap, subst, arith}
 use Rattle.ring_records.specs.declared.input.Input.{Input}
-use Rattle.ring_records.specs.Admission.{fresh, refusal}
-use Rattle.node_core.specs.Core.{CoreView, CoreStandsFor}
+use Rattle.ring_records.specs.Member.{refusal_by}
+use Rattle.node_core.specs.Core.{CoreView, CoreStandsFor, member_of}
 use Rattle.node_core.proofs.Accepts.{admitted, has_room, kept, core_next}
 use Rattle.node_core.proofs.node.NodeCore.apply.Goals as goal
 
 abbrev Admits : Input → CoreView → Type 0
-Admits x core = (h : List Input) × CoreStandsFor core h × (refusal core.table.me core.size core.capacity fresh h x ≡ None)
+Admits x core = (h : List Input) × CoreStandsFor core h × (refusal_by (member_of core) h x ≡ None)
 
 pub accept-requires-clause-allowed : goal.accept-requires-clause-allowed
 accept-requires-clause-allowed c = admitted _ c.reserve.new.self.link c.args.input c.reserve.ensures.same (subst (Admits c.args.input) (sym c.self.view_is) c.requires)

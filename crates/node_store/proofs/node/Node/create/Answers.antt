@@ -1,6 +1,7 @@
 use Rattle.std.proofs.Common.{◌≡◌, ◌∙◌, sym, subst, ap, []}
+use Rattle.ring_records.specs.Member.{Member, member}
 use Rattle.gated_journal.specs.Journal as journals
-use Rattle.gated_journal.specs.Reading.{Member, member, AllReadAs}
+use Rattle.gated_journal.specs.Reading.{AllReadAs}
 use Rattle.group_commit.specs.Desk.{DeskView, new_desk}
 use Rattle.node_store.specs.State.{Stands}
 use Rattle.node_store.proofs.Standing.{opens_empty}

@@ -1,9 +1,9 @@
 use Rattle.std.proofs.Common.{◌≡◌, ◌-◌, ⊎_elim, inl, inr, sym, ap, ◌∙◌, subst, arith}
 use Rattle.disk_model.specs.Disk.{Disk}
-use Rattle.ring_records.specs.Admission.{fresh, used}
 use Rattle.ring_records.specs.Answer.{left_by}
+use Rattle.ring_records.specs.Member.{member, used_by}
 use Rattle.gated_journal.specs.Journal as journals
-use Rattle.gated_journal.specs.Reading.{member, ReadsAs, AllReadAs}
+use Rattle.gated_journal.specs.Reading.{ReadsAs, AllReadAs}
 use Rattle.gated_journal.specs.Unread.{IsFault}
 use Rattle.group_commit.specs.Desk.{DeskView, new_desk}
 use Rattle.node_store.specs.State.{Holds, Stands}
@@ -21,7 +21,7 @@ invariant_of-result g c =
     let made = c.in-Ok-open.ensures in
     let read = c.in-Ok.ensures in
     let named : journals.member_of journal ≡ here = named_again c.args.node c.args.n c.capacity.result (journals.member_of journal) read.header.0 read.header.1 c.capacity.ensures.value in
-    let left : journals.room_of journal ≡ c.capacity.result - used fresh inputs = omega (arith, read.room, c.capacity.ensures.value) in
+    let left : journals.room_of journal ≡ c.capacity.result - used_by inputs = omega (arith, read.room, c.capacity.ensures.value) in
     record {
       stands = subst (λ (d : DeskView). Stands d (journals.member_of journal) disk (journals.is_spoiled journal) (journals.len_of journal) (journals.room_of journal)) (sym made.desk)
           (opens here (journals.member_of journal) c.args.run inputs disk (journals.is_spoiled journal) (journals.len_of journal) (journals.room_of journal) named made.lawful read.durable read.ready read.len left);

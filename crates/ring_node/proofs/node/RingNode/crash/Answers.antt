@@ -1,7 +1,7 @@
 use Rattle.std.proofs.Common.{ap, subst, ◌∙◌}
 use Rattle.std.specs.List.{filter_map}
+use Rattle.ring_records.specs.Member.{Member, member}
 use Rattle.disk_model.specs.MemDevice.{disk_of}
-use Rattle.gated_journal.specs.Reading.{Member, member}
 use Rattle.node_store.specs.State.{Holds}
 use Rattle.ring_node.specs.Node.{NodeView, restarted, durable_in}
 use Rattle.ring_node.specs.Open.{number_of}

@@ -1,5 +1,5 @@
 use Rattle.std.proofs.Common.{◌≤◌, ◌∙◌, length, ap, subst}
-use Rattle.gated_journal.specs.Reading.{member}
+use Rattle.ring_records.specs.Member.{member}
 use Rattle.group_commit.specs.Desk.{DeskView}
 use Rattle.ring_node.specs.Node.{NodeView}
 use Rattle.ring_node.proofs.Queue.{as_many}

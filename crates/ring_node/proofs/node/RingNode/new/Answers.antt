@@ -1,7 +1,7 @@
 use Rattle.std.proofs.Common.{arith, ◌≡◌, ◌≤◌, ◌+◌, ◌∙◌, []}
+use Rattle.ring_records.specs.Member.{member}
 use Rattle.disk_model.specs.FuseDevice.{reach_of}
 use Rattle.disk_model.specs.MemDevice.{limit_of}
-use Rattle.gated_journal.specs.Reading.{member}
 use Rattle.node_store.specs.Node as nodes
 use Rattle.ring_node.proofs.Ring.{by_name, opens}
 use Rattle.ring_node.proofs.Sending.{sent-none}

@@ -4,7 +4,7 @@ use Rattle.disk_model.specs.MemDevice.{disk_of}
 use Rattle.ring_records.specs.Answer.{launched}
 use Rattle.ring_records.specs.Emission.{sent}
 use Rattle.ring_records.specs.History.{credit}
-use Rattle.gated_journal.specs.Reading.{Member, member}
+use Rattle.ring_records.specs.Member.{Member, member}
 use Rattle.group_commit.specs.Desk.{DeskView}
 use Rattle.node_store.specs.State.{Holds}
 use Rattle.ring_node.specs.Held.{HeldView, AreHeld}

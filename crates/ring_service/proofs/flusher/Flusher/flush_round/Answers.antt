@@ -1,7 +1,8 @@
 use Rattle.std.proofs.Common.{sym, subst}
+use Rattle.ring_records.specs.Member.{Member}
 use Rattle.gated_journal.specs.Batch.{shown}
 use Rattle.gated_journal.specs.Journal.{device_of, member_of}
-use Rattle.gated_journal.specs.Reading.{Member, AllReadAs}
+use Rattle.gated_journal.specs.Reading.{AllReadAs}
 use Rattle.ring_service.specs.Flushers.{journal_of}
 use Rattle.ring_service.proofs.Stops.{idle, committed, few}
 use Rattle.ring_service.proofs.flusher.Flusher.flush_round.Goals as goal
