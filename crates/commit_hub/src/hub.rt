@@ -6,7 +6,7 @@ ghost use Rattle.ring_records.specs.Member.{used_by, IsHistory};
 ghost use Rattle.ring_records.specs.Message.{is_outside};
 ghost use Rattle.gated_journal.specs.Batch.{shown as batch_shown, landed as receipted, lost};
 ghost use Rattle.group_commit.specs.Desk.{IsAnswer};
-ghost use Rattle.group_commit.specs.Ticket.{shown, stub};
+ghost use Rattle.group_commit.specs.Ticket.{shown};
 ghost use Rattle.commit_hub.specs.Holders.{count_of, durable_of, costs_of};
 ghost use Rattle.commit_hub.specs.Pages.{ForAccepted, ForDurable, ForCosts, IsWhole};
 ghost use Rattle.commit_hub.specs.Told.{IsUnasked, IsBrought, IsWindow};
@@ -94,9 +94,9 @@ impl<A: Node, D: Whole, C: Whole> Hub<A, D, C> {
         rt: &R,
         ticket: Ticket,
     ) -> Result<(Reply, Stub), (Ticket, Refusal)>
-        ensures question { IfOk result (λ r. (stub r.1).question ≡ (shown ticket).question) }
-        ensures reply { IfOk result (λ r. r.0 ≡ (stub r.1).answer.reply) }
-        ensures answer { IfOk result (λ r. IsAnswer A.member (stub r.1)) }
+        ensures question { IfOk result (λ r. r.1.question ≡ (shown ticket).question) }
+        ensures reply { IfOk result (λ r. r.0 ≡ r.1.answer.reply) }
+        ensures answer { IfOk result (λ r. IsAnswer A.member r.1) }
         ensures refusal { IfErr result (λ e. (e.1 ≡ Refusal.Foreign) ⊎ (e.1 ≡ Refusal.Failed)) }
         ensures back { IfErr result (λ e. shown e.0 ≡ shown ticket) }
     {

@@ -7,7 +7,7 @@ ghost use Rattle.ring_records.specs.Props.{IsHistory-prop};
 ghost use Rattle.ring_records.specs.Release.{packets, decisions, window};
 ghost use Rattle.gated_journal.specs.Batch.{shown as batch_shown, landed as receipted, lost, numbered};
 ghost use Rattle.group_commit.specs.Desk.{answered, ticket_for, submitted, ended, launched, landed, objection, launch_objection, IsAnswer, IsHere, IsSealed, IsFlying};
-ghost use Rattle.group_commit.specs.Ticket.{shown, stub};
+ghost use Rattle.group_commit.specs.Ticket.{shown};
 ghost use Rattle.commit_hub.specs.Holders.{count_of, durable_of, costs_of};
 ghost use Rattle.commit_hub.specs.Pages.{places_of, ForAccepted, ForDurable, ForCosts, IsWhole};
 ghost use Rattle.commit_hub.specs.Props.{member-prop, state-prop};
@@ -148,10 +148,10 @@ impl<A: Node, D: Whole, C: Whole> Locked<A, D, C> {
 
     /// As on the desk.
     pub(crate) fn redeem(&mut self, ticket: Ticket) -> Result<(Reply, Stub), (Ticket, Refusal)>
-        ensures released { IfOk result (λ r. IsHere self.old.desk (shown ticket) (stub r.1)) }
-        ensures reply { IfOk result (λ r. r.0 ≡ (stub r.1).answer.reply) }
-        ensures durable { IfOk result (λ r. (stub r.1).answer.number ≤ self.old.desk.state.durable) }
-        ensures answer { IfOk result (λ r. IsAnswer A.member (stub r.1)) }
+        ensures released { IfOk result (λ r. IsHere self.old.desk (shown ticket) r.1) }
+        ensures reply { IfOk result (λ r. r.0 ≡ r.1.answer.reply) }
+        ensures durable { IfOk result (λ r. r.1.answer.number ≤ self.old.desk.state.durable) }
+        ensures answer { IfOk result (λ r. IsAnswer A.member r.1) }
         ensures next { OnOk result (self.new.desk ≡ ended (shown ticket).own self.old.desk) }
         ensures refusal { IfErr result (λ e. IsSealed self.old.desk (shown ticket) e.1) }
         ensures back { IfErr result (λ e. shown e.0 ≡ shown ticket) }

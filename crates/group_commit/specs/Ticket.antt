@@ -1,9 +1,8 @@
--- What a ticket, a kept reply and a stub show.
+-- What a ticket and a stub show.
 use Rattle.std.specs.Prelude.{ℕ}
 use Rattle.ring_records.specs.declared.reply.Reply.{Reply}
 use Rattle.ring_records.specs.declared.request.Request.{Request}
 use Rattle.ring_records.specs.Answer.{Answered}
-use Rattle.group_commit.specs.declared.ticket.Stub.{Stub}
 use Rattle.group_commit.specs.declared.ticket.Ticket.{Ticket}
 
 -- the node and the opening of it that the ticket is of, its own number there, its request, and how many inputs the reply
@@ -24,5 +23,3 @@ shown ticket = record { node = ticket.node; run = ticket.run; own = ticket.own; 
 abbrev pub answered_with : Request → Reply → ℕ → Answered
 answered_with q reply number = record { question = q; answer = record { reply = reply; number = number } }
 
-abbrev pub stub : Stub → Answered
-stub s = answered_with s.question s.reply s.number

@@ -9,7 +9,7 @@ ghost use Rattle.ring_records.specs.Release.{packets, decisions, window};
 
 use crate::desk::parts::{accept, prepare, replay};
 use crate::judge::judge;
-use crate::kept::{Kept, keep, kept_for, take_back};
+use crate::kept::{keep, kept_for, take_back};
 use crate::landed::Landed;
 use crate::outbox::Outbox;
 use crate::ticket::{Stub, Ticket};
@@ -35,7 +35,7 @@ pub struct Desk {
     durable: u64,
     flying: u64,
     outbox: Outbox,
-    tickets: BTreeMap<u64, Kept>,
+    tickets: BTreeMap<u64, Stub>,
     issued: u64,
     is_closed: bool,
     is_failed: bool,
@@ -57,7 +57,7 @@ impl Model for Desk {
 impl Desk {
     ghost use Rattle.group_commit.specs.Desk.{new_desk, answered, ticket_for, submitted, ended, launched, landed, objection, launch_objection, IsUnlawful, IsAnswer, IsHere, IsSealed, IsFlying};
     ghost use Rattle.gated_journal.specs.Batch.{shown as batch_shown, landed as receipted, lost, numbered};
-    ghost use Rattle.group_commit.specs.Ticket.{shown, stub, answered_with};
+    ghost use Rattle.group_commit.specs.Ticket.{shown, answered_with};
 
     /// The desk of a node that holds these inputs, all of them durable. Refused as 24 with the number of the first
     /// input, counted from 0, that is not admitted after those before it, and as 8.
@@ -113,7 +113,7 @@ impl Desk {
         let (reply, input) = judge(&self.core, &question);
         let number = count_with(&self.inputs, &input);
         let own = self.issued;
-        let kept = Kept {
+        let kept = Stub {
             question,
             reply,
             number,
@@ -139,10 +139,10 @@ impl Desk {
     /// 10 where no such ticket is open here; where an input that the reply rests on is not durable yet, as 9 on a desk
     /// that has failed and else as 11. Then the ticket comes back.
     pub fn redeem(&mut self, ticket: Ticket) -> Result<(Reply, Stub), (Ticket, Refusal)>
-        ensures released { IfOk result (λ r. IsHere self.old (shown ticket) (stub r.1)) }
-        ensures reply { IfOk result (λ r. r.0 ≡ (stub r.1).answer.reply) }
-        ensures durable { IfOk result (λ r. (stub r.1).answer.number ≤ self.old.state.durable) }
-        ensures answer { IfOk result (λ r. IsAnswer self.old.member (stub r.1)) }
+        ensures released { IfOk result (λ r. IsHere self.old (shown ticket) r.1) }
+        ensures reply { IfOk result (λ r. r.0 ≡ r.1.answer.reply) }
+        ensures durable { IfOk result (λ r. r.1.answer.number ≤ self.old.state.durable) }
+        ensures answer { IfOk result (λ r. IsAnswer self.old.member r.1) }
         ensures next { OnOk result (self.new ≡ ended (shown ticket).own self.old) }
         ensures refusal { IfErr result (λ e. IsSealed self.old (shown ticket) e.1) }
         ensures back { IfErr result (λ e. shown e.0 ≡ shown ticket) }

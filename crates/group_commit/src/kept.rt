@@ -3,32 +3,15 @@ ghost use Rattle.std.specs.Prelude.{◌≡◌, ◌++◌, ◌∷◌, [], nat_eq, 
 ghost use Rattle.std.specs.Map.{lookup, remove_entry};
 ghost use Rattle.group_commit.specs.Kept.{AreBelow};
 
-use ring_records::{Reply, Request};
+use crate::ticket::Stub;
 use std::alloc::AllocError;
 use std::collections::BTreeMap;
-use std::marker::Model;
-
-/// A request and its answer, which a desk keeps for a ticket.
-#[derive(Drop)]
-pub(crate) struct Kept {
-    pub(crate) question: Request,
-    pub(crate) reply: Reply,
-    pub(crate) number: u64,
-}
-
-impl Model for Kept {
-    ghost use Rattle.ring_records.specs.Answer.{Answered};
-
-    ghost Value = { Answered };
-
-    ghost view = { λ k. record { question = k.question; answer = record { reply = k.reply; number = k.number } } };
-}
 
 /// Keeps the answer for a ticket whose number is above those of all others.
 pub(crate) fn keep(
-    tickets: &mut BTreeMap<u64, Kept>,
+    tickets: &mut BTreeMap<u64, Stub>,
     own: u64,
-    kept: Kept,
+    kept: Stub,
 ) -> Result<(), AllocError>
     requires last { AreBelow own tickets.old.entries }
     ensures kept { OnOk result (tickets.new.entries ≡ tickets.old.entries ++ (own, kept) ∷ []) }
@@ -39,14 +22,14 @@ pub(crate) fn keep(
 }
 
 /// What is kept for the ticket of this number, if anything is.
-pub(crate) fn kept_for(tickets: &BTreeMap<u64, Kept>, own: u64) -> Option<&Kept>
+pub(crate) fn kept_for(tickets: &BTreeMap<u64, Stub>, own: u64) -> Option<&Stub>
     ensures { option_copied result ≡ lookup (nat_eq own) tickets.now.entries }
 {
     tickets.get(&own)
 }
 
 /// Keeps nothing for the ticket of this number.
-pub(crate) fn take_back(tickets: &mut BTreeMap<u64, Kept>, own: u64)
+pub(crate) fn take_back(tickets: &mut BTreeMap<u64, Stub>, own: u64)
     ensures { tickets.new.entries ≡ remove_entry (nat_eq own) tickets.old.entries }
 {
     tickets.remove(&own);

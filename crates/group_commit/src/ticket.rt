@@ -2,6 +2,7 @@
 ghost use Rattle.std.specs.Prelude.{◌≡◌};
 
 use ring_records::{NodeNo, Reply, Request};
+use std::marker::Model;
 
 /// A request that a desk answered, and whose reply it keeps until the inputs that the reply rests on are durable. It
 /// must be spent: only `redeem` and `forfeit` end it.
@@ -31,7 +32,8 @@ impl Ticket {
     }
 }
 
-/// A reply that was released, with its request and the number of inputs that it rests on. `redeem` alone makes one.
+/// A reply, with its request and the number of inputs that it rests on. A desk keeps one for each open ticket; `redeem`
+/// alone hands one out.
 #[derive(Drop)]
 pub struct Stub {
     pub(crate) question: Request,
@@ -39,26 +41,33 @@ pub struct Stub {
     pub(crate) reply: Reply,
 }
 
-impl Stub {
-    ghost use Rattle.group_commit.specs.Ticket.{stub};
+impl Model for Stub {
+    ghost use Rattle.ring_records.specs.Answer.{Answered};
+    ghost use Rattle.group_commit.specs.Ticket.{answered_with};
 
+    ghost Value = { Answered };
+
+    ghost view = { λ s. answered_with s.question s.reply s.number };
+}
+
+impl Stub {
     /// The request.
     pub fn question(&self) -> Request
-        ensures { result ≡ (stub self.now).question }
+        ensures { result ≡ self.now.question }
     {
         self.question
     }
 
     /// How many inputs the reply rests on.
     pub fn number(&self) -> u64
-        ensures { result ≡ (stub self.now).answer.number }
+        ensures { result ≡ self.now.answer.number }
     {
         self.number
     }
 
     /// The reply.
     pub fn reply(&self) -> Reply
-        ensures { result ≡ (stub self.now).answer.reply }
+        ensures { result ≡ self.now.answer.reply }
     {
         self.reply
     }

@@ -28,7 +28,7 @@ pub struct Node<D: Device> {
 }
 
 impl<D: Device> Node<D> {
-    ghost use Rattle.group_commit.specs.Ticket.{shown, stub};
+    ghost use Rattle.group_commit.specs.Ticket.{shown};
     ghost use Rattle.node_store.specs.Node.{desk_of, state_of, device_of};
 
     /// A new node, which has accepted nothing, on a device that is formatted for it. Refused as 2 where `n` is not 2 to
@@ -154,9 +154,9 @@ impl<D: Device> Node<D> {
     /// 10 where no such ticket is open here; where an input that the reply rests on is not durable yet, as 9 on a node
     /// that has failed and else as 11. Then the ticket comes back.
     pub fn redeem(&mut self, ticket: Ticket) -> Result<(Reply, Stub), (Ticket, Refusal)>
-        ensures released { IfOk result (λ r. IsHere (desk_of self.old) (shown ticket) (stub r.1)) }
-        ensures reply { IfOk result (λ r. r.0 ≡ (stub r.1).answer.reply) }
-        ensures durable { IfOk result (λ r. (stub r.1).answer.number ≤ (state_of self.old).durable) }
+        ensures released { IfOk result (λ r. IsHere (desk_of self.old) (shown ticket) r.1) }
+        ensures reply { IfOk result (λ r. r.0 ≡ r.1.answer.reply) }
+        ensures durable { IfOk result (λ r. r.1.answer.number ≤ (state_of self.old).durable) }
         ensures next { OnOk result (desk_of self.new ≡ ended (shown ticket).own (desk_of self.old)) }
         ensures refusal { IfErr result (λ e. IsSealed (desk_of self.old) (shown ticket) e.1) }
         ensures back { IfErr result (λ e. shown e.0 ≡ shown ticket) }

@@ -2,10 +2,10 @@
 use Rattle.std.specs.Prelude.{ℕ, ◌+◌, Bool, nat_le, List, [], ◌∷◌, ◌++◌, length, take, Option}
 use Rattle.ring_records.specs.declared.input.Input.{Input}
 use Rattle.ring_records.specs.declared.request.Request.{Request}
-use Rattle.ring_records.specs.Answer.{Answered, NodeState, launched, left_by}
+use Rattle.ring_records.specs.Answer.{NodeState, launched, left_by}
 use Rattle.ring_records.specs.Emission.{sent}
 use Rattle.ring_records.specs.History.{credit}
-use Rattle.ring_records.specs.Member.{member, gained_by}
+use Rattle.ring_records.specs.Member.{member, gained_by, answered_by}
 use Rattle.ring_node.specs.Open.{Open}
 
 -- which node it is, of how large a ring, and its capacity; the inputs that it accepted, and how many of them are
@@ -32,12 +32,8 @@ durable_in v = take v.durable v.inputs
 
 -- ---- requests
 
--- its answer to a request
-abbrev pub answered_by : NodeView → Request → Answered
-answered_by v q = answered_by (member v.me v.n v.capacity) v.inputs q
-
 abbrev pub ticket_of : Option ℕ → NodeView → Request → Open
-ticket_of number v q = record { number = number; kept = answered_by v q }
+ticket_of number v q = record { number = number; kept = answered_by (member v.me v.n v.capacity) v.inputs q }
 
 -- after it is asked: its ticket is open
 unfoldable pub asked_with : Option ℕ → Request → NodeView → NodeView

@@ -5,7 +5,6 @@ ghost use Rattle.ring_records.specs.Emission.{sent};
 ghost use Rattle.ring_records.specs.Member.{member};
 ghost use Rattle.ring_records.specs.Message.{candidate_of, is_outside};
 ghost use Rattle.gated_journal.specs.Reading.{is_header};
-ghost use Rattle.group_commit.specs.Ticket.{stub};
 ghost use Rattle.ring_node.specs.Node.{new_node, durable_in, asked_with, flown, flushed, is_credited};
 ghost use Rattle.ring_node.specs.Open.{is_due, open_with};
 
@@ -113,7 +112,7 @@ impl RingNode {
     /// number that the ring gave it, if any, and the stub of the reply.
     pub fn release(&mut self) -> Option<(Option<u64>, Stub)>
         ensures none { IfNone result ((filter (is_due self.old.durable) self.old.held ≡ []) × (self.new ≡ self.old)) }
-        ensures some { IfSome result (λ r. (self.old.held ≡ open_with r.0 (stub r.1) ∷ self.new.held) × (is_due self.old.durable (open_with r.0 (stub r.1)) ≡ true)) }
+        ensures some { IfSome result (λ r. (self.old.held ≡ open_with r.0 r.1 ∷ self.new.held) × (is_due self.old.durable (open_with r.0 r.1) ≡ true)) }
         ensures rest { self.new ≡ record self.old { held = self.new.held } }
     {
         if !is_due(&self.held, self.node.durable()) {

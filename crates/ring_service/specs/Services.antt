@@ -13,8 +13,6 @@ use Rattle.ring_records.specs.Content.{leader_in, leads_in}
 use Rattle.ring_records.specs.Leader.{IsLatest}
 use Rattle.ring_records.specs.Member.{Member, member}
 use Rattle.group_commit.specs.Desk.{IsAnswer}
-use Rattle.group_commit.specs.Ticket.{stub}
-use Rattle.group_commit.specs.declared.ticket.Stub.{Stub}
 use Rattle.decision_board.specs.Boards.{seen, learned}
 use Rattle.commit_hub.specs.Holders.{count_of}
 use Rattle.commit_hub.specs.declared.ledgers.Node as node
@@ -38,7 +36,7 @@ module _ {R J A D C : Type 0} {a : node.Ghosts A} {d : whole.Ghosts D} {c : whol
   reader_of service = service.reader
 
   -- the stub of its last reply to a Stand
-  abbrev pub last_of : HubService R J A D C a d c → Option Stub
+  abbrev pub last_of : HubService R J A D C a d c → Option Answered
   last_of service = service.last
 
   -- its share counts at most one input more
@@ -48,11 +46,11 @@ module _ {R J A D C : Type 0} {a : node.Ghosts A} {d : whole.Ghosts D} {c : whol
   -- A question was answered by the hub: the reply is that of the last stub, which has this question. A node with some
   -- lawful history answers so.
   pub record IsReleased (member : Member) (old : HubService R J A D C a d c) (q : Request) (reply : Reply) (new : HubService R J A D C a d c) : Type 0 where
-    pub given : Stub
+    pub given : Answered
     pub last : last_of new ≡ Some given
-    pub question : (stub given).question ≡ q
-    pub is : reply ≡ (stub given).answer.reply
-    pub answer : IsAnswer member (stub given)
+    pub question : given.question ≡ q
+    pub is : reply ≡ given.answer.reply
+    pub answer : IsAnswer member given
     pub board : reader_of new ≡ reader_of old
     pub counts : CountsOne old new
 

@@ -7,7 +7,7 @@ use Rattle.ring_records.specs.declared.request.Request.{Request}
 use Rattle.ring_node.specs.Open.{Open, is_due, sealed, number_of}
 use Rattle.ring_world.specs.Counts.{numbered, IsBounded}
 use Rattle.ring_world.specs.Events.{Action}
-use Rattle.ring_world.specs.Ring.{RingView, held_at, node_at, happens, asked, answered_by, landed, waits, settled, due_at, reply_of, with_reply, replies, Part, released, and_then, round, rounds, drained, lost, crashed, stopped, given, brought, swept, swept_with, swept_on, swept_one, next_delivery, new_ring}
+use Rattle.ring_world.specs.Ring.{RingView, held_at, node_at, happens, asked, answered_at, landed, waits, settled, due_at, reply_of, with_reply, replies, Part, released, and_then, round, rounds, drained, lost, crashed, stopped, given, brought, swept, swept_with, swept_on, swept_one, next_delivery, new_ring}
 
 -- ---- lists of tickets
 
@@ -75,7 +75,7 @@ bounded_log w es t b = λ j. b j
 bounded_asked : (number : Option ℕ) (i : ℕ) (q : Request) (w : RingView) (t u : ℕ) → t + length (cons_option number []) ≤ u → IsBounded w t → IsBounded (asked number i q w) u
 unfolding asked
 bounded_asked number i q w t u le b =
-    let ticket : Open = record { number = number; kept = answered_by w i q } in
+    let ticket : Open = record { number = number; kept = answered_at w i q } in
     let more = ap length (filter_map-append number_of (held_at w i) (ticket ∷ [])) ∙ length-append (filter_map number_of (held_at w i)) (filter_map number_of (ticket ∷ [])) in
     bounded_happens w _ i (held_at w i ++ ticket ∷ []) u (bounded_more w t u (omega arith) b) (let h = at_node w t i b in omega arith)
 

@@ -8,7 +8,7 @@ use Rattle.ring_records.specs.declared.request.Request.{Request}
 use Rattle.ring_records.specs.Answer.{NodeState, asked, launched, landed, opened, left_by}
 use Rattle.ring_records.specs.Member.{member, asked_by}
 use Rattle.ring_records.proofs.Leader.{Contains-nil}
-use Rattle.ring_node.specs.Node.{NodeView, new_node, durable_in, answered_by, ticket_of, asked_with, flushed, restarted, left}
+use Rattle.ring_node.specs.Node.{NodeView, new_node, durable_in, ticket_of, asked_with, flushed, restarted, left}
 use Rattle.ring_node.specs.Open.{Open, due, is_due}
 use Rattle.ring_world.specs.Events.{Replied, Action, Submit, Launch, Land, Crash, Process, act, process, IsDelivered, IsReleasable, May, MayHappen}
 use Rattle.ring_world.specs.Ring.{release_of}
@@ -66,7 +66,7 @@ module _ (n capacity : ℕ) (events : List (ℕ × Action)) (nodes : List NodeVi
     abbrev submission : Request → List (ℕ × Action)
     submission q = (i, Submit q) ∷ []
 
-    pub answered_same : (q : Request) → answered_by v q ≡ answered_by (member i n capacity) p.state.inputs q
+    pub answered_same : (q : Request) → answered_by (member v.me v.n v.capacity) v.inputs q ≡ answered_by (member i n capacity) p.state.inputs q
     answered_same q t = answered_by (member (mine.me t) (mine.ring t) (mine.room t)) (mine.state t).inputs q
 
     asked_here : (number : Option ℕ) (q : Request) → ShowsNode n capacity (events ++ submission q) i (asked_with number q v)

@@ -10,7 +10,7 @@ use Rattle.ring_records.specs.Answer.{Answered, NodeState, durable_in}
 use Rattle.ring_records.specs.Emission.{sent}
 use Rattle.ring_records.specs.History.{taken}
 use Rattle.ring_records.specs.Lists.{first}
-use Rattle.ring_records.specs.Member.{member}
+use Rattle.ring_records.specs.Member.{member, answered_by}
 use Rattle.ring_records.specs.Order.{is_msg}
 use Rattle.ring_records.specs.Place.{after, before}
 use Rattle.ring_node.specs.Open.{Open, number_of, due, sealed}
@@ -51,8 +51,8 @@ abbrev pub happens : List (ℕ × Action) → ℕ → List Open → RingView →
 happens events i held w = record w { events = w.events ++ events; held = set w.held (i - 1) held }
 
 -- the answer of node i to a request
-abbrev pub answered_by : RingView → ℕ → Request → Answered
-answered_by w i q = answered_by (member i w.size w.capacity) (node_at w i).inputs q
+abbrev pub answered_at : RingView → ℕ → Request → Answered
+answered_at w i q = answered_by (member i w.size w.capacity) (node_at w i).inputs q
 
 -- the packet that a neighbour of node i releases to it, for what the request brings
 abbrev pub handed : ℕ → ℕ → Request → List (ℕ × Action)
@@ -67,7 +67,7 @@ given i q w = record w { events = w.events ++ handed w.size i q }
 
 -- node i is asked; its ticket is open, under this number, if any
 unfoldable pub asked : Option ℕ → ℕ → Request → RingView → RingView
-asked number i q w = happens ((i, Submit q) ∷ []) i (held_at w i ++ record { number = number; kept = answered_by w i q } ∷ []) w
+asked number i q w = happens ((i, Submit q) ∷ []) i (held_at w i ++ record { number = number; kept = answered_at w i q } ∷ []) w
 
 -- inputs of node i are not durable yet
 abbrev pub waits : RingView → ℕ → Bool

@@ -1,6 +1,5 @@
 // What happened to a ring.
 ghost use Rattle.std.specs.Prelude.{◌≡◌};
-ghost use Rattle.group_commit.specs.Ticket.{stub};
 ghost use Rattle.ring_world.specs.Announced.{announced_by};
 ghost use Rattle.ring_world.specs.Events.{Replied, Sent, Submit, Launch, Land, Release, Crash};
 ghost use Rattle.ring_world.specs.Released.{named_by};
@@ -69,7 +68,7 @@ impl Happened {
     /// It released a reply.
     #[tactic(auto, unfolding(crate::specs::Happened::action_of))]
     pub fn told(node: NodeNo, reply: Stub) -> Happened
-        ensures { result ≡ (node, Release (Replied (stub reply))) }
+        ensures { result ≡ (node, Release (Replied reply)) }
     {
         let deed = Deed::Told(reply);
         Happened { node, deed }

@@ -3,7 +3,6 @@ ghost use Rattle.std.specs.Prelude.{◌≡◌, ◌≤◌, List, length, true, fa
 ghost use Rattle.ring_records.specs.declared.input.Input.{Input};
 ghost use Rattle.ring_records.specs.Member.{member, IsHistory, answer_by};
 ghost use Rattle.node_core.specs.Core.{CoreStandsFor, member_of};
-ghost use Rattle.group_commit.specs.Ticket.{stub as released};
 ghost use Rattle.group_commit.specs.Vouch.{Accepts, IsInput};
 
 use crate::desk::Desk;
@@ -19,8 +18,8 @@ impl Desk {
     /// Whether its history gives the stub's reply to the stub's request at the stub's number k, and k inputs are
     /// durable. Refused as 8. No other call looks back: this one takes the first k inputs again, in k log k steps.
     pub fn vouch(&self, stub: &Stub) -> Result<bool, Refusal>
-        ensures yes { IfOk result (λ b. b ≡ true → IsVouched self.now.member self.now.state (released stub.now)) }
-        ensures no { IfOk result (λ b. b ≡ false → IsVouched self.now.member self.now.state (released stub.now) → ⊥) }
+        ensures yes { IfOk result (λ b. b ≡ true → IsVouched self.now.member self.now.state stub.now) }
+        ensures no { IfOk result (λ b. b ≡ false → IsVouched self.now.member self.now.state stub.now → ⊥) }
         ensures refusal { IfErr result (λ e. e ≡ Refusal.OutOfMemory) }
     {
         if stub.number > self.durable {
@@ -40,8 +39,8 @@ impl Desk {
 
 // Whether a core that stands for as many inputs as the stub's number gives the stub's reply and accepts nothing.
 fn gives(core: &NodeCore, stub: &Stub) -> bool
-    ensures yes { (h : List Input) → CoreStandsFor core.now h → length h ≡ stub.now.number → result ≡ true → (released stub.now).answer ≡ answer_by (member_of core.now) h stub.now.question }
-    ensures no { (h : List Input) → CoreStandsFor core.now h → length h ≡ stub.now.number → result ≡ false → (released stub.now).answer ≡ answer_by (member_of core.now) h stub.now.question → ⊥ }
+    ensures yes { (h : List Input) → CoreStandsFor core.now h → length h ≡ stub.now.answer.number → result ≡ true → stub.now.answer ≡ answer_by (member_of core.now) h stub.now.question }
+    ensures no { (h : List Input) → CoreStandsFor core.now h → length h ≡ stub.now.answer.number → result ≡ false → stub.now.answer ≡ answer_by (member_of core.now) h stub.now.question → ⊥ }
 {
     let (reply, input) = judge(core, &stub.question);
     reply == stub.reply && input.is_none()

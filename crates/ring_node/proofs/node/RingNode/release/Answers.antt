@@ -3,7 +3,7 @@ use Rattle.std.specs.List.{filter}
 use Rattle.disk_model.specs.FuseDevice.{reach_of}
 use Rattle.disk_model.specs.MemDevice.{limit_of}
 use Rattle.group_commit.specs.Desk.{DeskView, ended, IsHere}
-use Rattle.group_commit.specs.Ticket.{TicketView, shown, stub}
+use Rattle.group_commit.specs.Ticket.{TicketView, shown}
 use Rattle.ring_node.specs.Node.{NodeView}
 use Rattle.ring_node.specs.Open.{Open, is_due}
 use Rattle.ring_node.specs.Held.{HeldView, MatchFirst, shown_with}
@@ -51,7 +51,7 @@ returns-clause-some c =
     let queue = c.in-Some.ensures.items in
     let ticket : shown c.first.inside.ticket ≡ h.ticket = ap (λ (x : HeldView). x.ticket) c.first.view_is in
     let number : h.number ≡ c.first.inside.number = ap (λ (x : HeldView). x.number) (sym c.first.view_is) in
-    let answered = stub c.in-Ok.stub in
+    let answered = c.in-Ok.stub in
     let there = subst (λ (t : TicketView). IsHere desk t answered) ticket c.in-Ok.ensures.released in
     let due = subst (λ (d : ℕ). MatchFirst (λ x. x.ticket.number ≤ d) c.self.inside.held.items) c.durable.ensures (c.is_due.ensures.yes c.if-not-is_due.false) in
     let named : ◌≡◌ {A = Open} (record { number = h.number; kept = answered }) (record { number = c.first.inside.number; kept = answered }) = λ i. record { number = number i; kept = answered } in
