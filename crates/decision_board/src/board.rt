@@ -162,7 +162,8 @@ impl<J: Naming> Board<J> {
 // changed: nobody but the board adds to it, but no clause says so.
 fn entered(head: &Word<Decision, u64, Law>, all: &mut Front, decision: &Decision) -> Option<Entry>
     requires { head.now ≡ head_of all.old.seen.book }
-    ensures { MatchOption result (all.new ≡ all.old) (λ e. (e.decision ≡ decision.now) × (e.front ≡ all.new) × (all.new.seen.book ≡ all.old.seen.book) × (all.new.seen.log ≡ all.old.seen.log ++ decision.now ∷ [])) }
+    ensures { MatchOption result (all.new ≡ all.old)
+        (λ e. (e.decision ≡ decision.now) × (e.front ≡ all.new) × (all.new.seen.book ≡ all.old.seen.book) × (all.new.seen.log ≡ all.old.seen.log ++ decision.now ∷ [])) }
 {
     if !all.add(head, decision) {
         return None;
@@ -220,7 +221,8 @@ fn show<J: Naming, R: Wait>(writer: Publisher<J>, rt: &R) -> (Publisher<J>, Resu
     requires goes_on { GoOn J.book writer.desk.shown.value.front.seen.log (drop writer.behind writer.log.items) }
     ensures posted { IsPosted J.book result.0.desk.shown.value }
     ensures values { MatchResult result.1
-        (λ _. (result.0.desk.shown.value.front.seen.log ≡ writer.desk.shown.value.front.seen.log ++ decisions_of (drop writer.behind writer.log.items)) × (drop result.0.behind result.0.log.items ≡ []))
+        (λ _. (result.0.desk.shown.value.front.seen.log ≡ writer.desk.shown.value.front.seen.log ++ decisions_of (drop writer.behind writer.log.items))
+        × (drop result.0.behind result.0.log.items ≡ []))
         (λ _. (result.0.desk.shown.value ≡ writer.desk.shown.value) × (drop result.0.behind result.0.log.items ≡ drop writer.behind writer.log.items)) }
 {
     writer.publish_as::<Sees<J>, R>(rt)

@@ -114,7 +114,8 @@ impl<J: Naming> BoardReader<J> {
 
 // The leader for the key, and the list that names it.
 fn find<J: Naming>(place: Place<J>, key: Key) -> (Place<J>, Option<(Option<Candidate>, Front)>)
-    ensures { MatchOption result.1 (view result.0.place ≡ view place.place) (λ a. (a.0 ≡ leader_in a.1.seen.log key) × (a.1.seen.book ≡ J.book) × (view result.0.place ≡ a.1.seen.log) × IsPrefix (view place.place) a.1.seen.log) }
+    ensures { MatchOption result.1 (view result.0.place ≡ view place.place)
+        (λ a. (a.0 ≡ leader_in a.1.seen.log key) × (a.1.seen.book ≡ J.book) × (view result.0.place ≡ a.1.seen.log) × IsPrefix (view place.place) a.1.seen.log) }
 {
     match place.enter_as::<Sees<J>>() {
         Ok(reading) => {
@@ -131,7 +132,8 @@ fn find_latest<J: Naming>(
     place: Place<J>,
     group: GroupName,
 ) -> (Place<J>, Option<(Option<(Term, Candidate)>, Front)>)
-    ensures { MatchOption result.1 (view result.0.place ≡ view place.place) (λ a. IsLatest (leads_in a.1.seen.log group) a.0 × (a.1.seen.book ≡ J.book) × (view result.0.place ≡ a.1.seen.log) × IsPrefix (view place.place) a.1.seen.log) }
+    ensures { MatchOption result.1 (view result.0.place ≡ view place.place)
+        (λ a. IsLatest (leads_in a.1.seen.log group) a.0 × (a.1.seen.book ≡ J.book) × (view result.0.place ≡ a.1.seen.log) × IsPrefix (view place.place) a.1.seen.log) }
 {
     match place.enter_as::<Sees<J>>() {
         Ok(reading) => {

@@ -32,10 +32,14 @@ pub record HasHeader (header : Member) (image : List ℕ) : Type 0 where
   pub to : header.capacity ≤ 1048576
   pub blank : number_at 2 14 image ≡ 0
 
+-- where the frames begin: behind the header
+abbrev pub frames_at : ℕ
+frames_at = 16
+
 -- the image has this header, frames of these inputs behind it, and the closed gate at this place
 pub record ReadsAt (header : Member) (image : List ℕ) (inputs : List Input) (place : ℕ) : Type 0 where
   pub head : HasHeader header image
-  pub frames : ReadsTo 16 image inputs place
+  pub frames : ReadsTo frames_at image inputs place
 
 -- *Reading*: the image reads as these inputs
 pub record ReadsAs (header : Member) (image : List ℕ) (inputs : List Input) : Type 0 where

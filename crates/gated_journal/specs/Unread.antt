@@ -5,7 +5,7 @@ use Rattle.ring_records.specs.declared.input.Input.{Input}
 use Rattle.ring_records.specs.declared.refusal.Refusal.{Refusal}
 use Rattle.ring_records.specs.declared.refusal.Refusal.TheVariants.{NotFormatted, WrongNode, Damaged, OutOfMemory, Device}
 use Rattle.gated_journal.specs.Frames.{body, frames, joined, IsBatch, AreBatches}
-use Rattle.gated_journal.specs.Reading.{number_at, mark}
+use Rattle.gated_journal.specs.Reading.{number_at, mark, frames_at}
 
 -- ---- the header
 
@@ -51,7 +51,7 @@ pub record IsBroken (offset : ℕ) (image : List ℕ) (refusal : Refusal) : Type
 
 -- the header has this fault, or it has none and the frames have it
 pub record IsUnread (node n : ℕ) (image : List ℕ) (refusal : Refusal) : Type 0 where
-  pub cause : (header_at node n image ≡ Err refusal) ⊎ ((capacity : ℕ) × (header_at node n image ≡ Ok capacity) × IsBroken 16 image refusal)
+  pub cause : (header_at node n image ≡ Err refusal) ⊎ ((capacity : ℕ) × (header_at node n image ≡ Ok capacity) × IsBroken frames_at image refusal)
 
 -- the device failed: its count of failures rose to what the refusal says
 pub record IsFault (before now : ℕ) (refusal : Refusal) : Type 0 where

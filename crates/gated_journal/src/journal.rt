@@ -3,7 +3,7 @@ ghost use Rattle.disk_model.specs.Disk.{MayLeave, LeavesOnly, HasCause, synced};
 ghost use Rattle.ring_records.specs.declared.input.Input.{Input};
 ghost use Rattle.ring_records.specs.Admission.{used};
 ghost use Rattle.ring_records.specs.Member.{member, used_by};
-ghost use Rattle.gated_journal.specs.Reading.{is_header, new_image, IsAtRest, ReadsAs, AllReadAs, ReadsAsOneOf};
+ghost use Rattle.gated_journal.specs.Reading.{is_header, frames_at, new_image, IsAtRest, ReadsAs, AllReadAs, ReadsAsOneOf};
 ghost use Rattle.gated_journal.specs.Unread.{IsFault, IsUnread, IsUnopened};
 
 use crate::commit::append;
@@ -28,8 +28,8 @@ pub struct Journal<D: Device> {
     used: u64,
     is_spoiled: bool,
     ghost settled: { is_spoiled ≡ false → IsAtRest (member node n capacity) (D.disk device) place count used },
-    ghost from: { 16 ≤ place },
-    ghost within: { place ≤ 16 + used },
+    ghost from: { frames_at ≤ place },
+    ghost within: { place ≤ frames_at + used },
     ghost counted: { count ≤ used },
     ghost least: { 4096 ≤ capacity },
     ghost small: { capacity ≤ 1048576 },
@@ -177,7 +177,8 @@ impl<D: Device> Journal<D> {
     /// How many bytes of the capacity are left.
     pub fn room(&self) -> u32
         ensures value { result ≡ room_of self.now }
-        ensures list { is_spoiled self.now ≡ false → (inputs : List Input) → AllReadAs (member_of self.now) (D.disk (device_of self.now)) inputs → result ≡ (member_of self.now).capacity - used_by inputs }
+        ensures list { is_spoiled self.now ≡ false → (inputs : List Input) → AllReadAs (member_of self.now) (D.disk (device_of self.now)) inputs
+            → result ≡ (member_of self.now).capacity - used_by inputs }
     {
         u64::from(self.capacity).saturating_sub(self.used) as u32
     }

@@ -17,7 +17,8 @@ pub fn one_reading()
 /// No image has both a reading and a fault. One that is read for a node of a ring has no fault for it, an image has no
 /// two faults, and frames that are damaged at one place are neither read nor damaged at another.
 pub fn one_fault()
-    ensures read { (node n : ℕ) (image : List ℕ) (refusal : Refusal) (header : Member) (inputs : List Input) → IsUnread node n image refusal → ReadsAs header image inputs → header.node ≡ node → header.n ≡ n → ⊥ }
+    ensures read { (node n : ℕ) (image : List ℕ) (refusal : Refusal) (header : Member) (inputs : List Input)
+        → IsUnread node n image refusal → ReadsAs header image inputs → header.node ≡ node → header.n ≡ n → ⊥ }
     ensures fault { (node n : ℕ) (image : List ℕ) (refusal other : Refusal) → IsUnread node n image refusal → IsUnread node n image other → refusal ≡ other }
     ensures frames { (offset : ℕ) (image : List ℕ) (inputs : List Input) (place damaged : ℕ) → ReadsTo offset image inputs place → IsDamagedAt offset image damaged → ⊥ }
     ensures place { (offset : ℕ) (image : List ℕ) (place other : ℕ) → IsDamagedAt offset image place → IsDamagedAt offset image other → place ≡ other }

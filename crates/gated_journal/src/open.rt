@@ -124,7 +124,8 @@ fn read_frames<D: Device>(
     ensures later { D.count device.old ≤ D.count device.new }
     ensures same { OnOk result (D.count device.new ≡ D.count device.old) }
     ensures first { IfErr result (λ refusal. IsFault (D.count device.old) (D.count device.new) refusal ⊎ (D.count device.new ≡ D.count device.old)) }
-    ensures works { 0 < D.reach device.old → length (D.disk device.old).image ≤ D.reach device.old → IfErr result (λ refusal. (refusal ≡ OutOfMemory) ⊎ IsBroken from (D.disk device.old).image refusal) }
+    ensures works { 0 < D.reach device.old → length (D.disk device.old).image ≤ D.reach device.old
+        → IfErr result (λ refusal. (refusal ≡ OutOfMemory) ⊎ IsBroken from (D.disk device.old).image refusal) }
     ensures reach { D.reach device.new ≡ D.reach device.old }
 {
     let size = device.size() as usize;
@@ -158,7 +159,8 @@ pub(crate) fn open<D: Device>(
     ensures image { (D.disk device.new).image ≡ (D.disk device.old).image }
     ensures any_moment { LeavesOnly D.clock D.left_since device.old device.new (MayLeave (D.disk device.old)) }
     ensures refusal { IfErr result (λ refusal. IsUnopened node n (D.count device.old) (D.count device.new) (D.disk device.old).image refusal) }
-    ensures works { 0 < D.reach device.old → length (D.disk device.old).image ≤ D.reach device.old → IfErr result (λ refusal. (refusal ≡ OutOfMemory) ⊎ IsUnread node n (D.disk device.old).image refusal) }
+    ensures works { 0 < D.reach device.old → length (D.disk device.old).image ≤ D.reach device.old
+        → IfErr result (λ refusal. (refusal ≡ OutOfMemory) ⊎ IsUnread node n (D.disk device.old).image refusal) }
     ensures reach { D.reach device.new ≡ D.reach device.old }
 {
     match read_header(device, node, n) {

@@ -22,4 +22,3 @@ shown ticket = record { node = ticket.node; run = ticket.run; own = ticket.own; 
 
 abbrev pub answered_with : Request → Reply → ℕ → Answered
 answered_with q reply number = record { question = q; answer = record { reply = reply; number = number } }
-

@@ -55,7 +55,8 @@ impl Outbox {
     /// Adds what a durable input lets the node release, where none waits.
     pub(crate) fn add(&mut self, input: &Input, effects: &Effects) -> Result<(), AllocError>
         requires allowed { (me n : ℕ) × (h : List Input) × Holds me self.old h (length h) (length h) × IsAllowed me n h input.now × (effects.now ≡ effects_of me h input.now) }
-        ensures holds { OnOk result ((me n : ℕ) (h : List Input) → Holds me self.old h (length h) (length h) → IsAllowed me n h input.now → effects.now ≡ effects_of me h input.now → Holds me self.new (h ++ input.now ∷ []) (length h + 1) (length h + 1)) }
+        ensures holds { OnOk result ((me n : ℕ) (h : List Input) → Holds me self.old h (length h) (length h)
+            → IsAllowed me n h input.now → effects.now ≡ effects_of me h input.now → Holds me self.new (h ++ input.now ∷ []) (length h + 1) (length h + 1)) }
     {
         self.released.reserve(1)?;
         self.released.add(input, effects);
@@ -66,7 +67,8 @@ impl Outbox {
     /// nothing.
     pub(crate) fn accept(&mut self, core: &mut NodeCore, input: &Input) -> Result<(), AllocError>
         requires admitted { (h : List Input) × CoreStandsFor core.old h × (refusal_by (member_of core.old) h input.now ≡ None) }
-        ensures holds { OnOk result ((durable flying : ℕ) (h : List Input) → durable ≤ length h → CoreStandsFor core.old h → Holds core.old.table.me self.old h durable flying → Holds core.old.table.me self.new (h ++ input.now ∷ []) durable flying) }
+        ensures holds { OnOk result ((durable flying : ℕ) (h : List Input) → durable ≤ length h → CoreStandsFor core.old h → Holds core.old.table.me self.old h durable flying
+            → Holds core.old.table.me self.new (h ++ input.now ∷ []) durable flying) }
         ensures stands { OnOk result ((h : List Input) → CoreStandsFor core.old h → CoreStandsFor core.new (h ++ input.now ∷ [])) }
         ensures place { (core.new.table.me ≡ core.old.table.me) × (core.new.size ≡ core.old.size) × (core.new.capacity ≡ core.old.capacity) }
         ensures err { OnErr result (core.new ≡ core.old) }
@@ -99,8 +101,10 @@ impl Outbox {
         requires within { end ≤ length inputs.now }
         requires lawful { (me n capacity : ℕ) × Holds me self.old inputs.now start end × IsHistory (member me n capacity) inputs.now }
         ensures count { (me : ℕ) → Holds me self.old inputs.now start end → result.count ≡ end - start }
-        ensures packets { (me n capacity : ℕ) → Holds me self.old inputs.now start end → IsHistory (member me n capacity) inputs.now → result.packets.items ≡ packets me (take start inputs.now) (take (end - start) (drop start inputs.now)) }
-        ensures decisions { (me n capacity : ℕ) → Holds me self.old inputs.now start end → IsHistory (member me n capacity) inputs.now → result.decisions.items ≡ decisions me (take start inputs.now) (take (end - start) (drop start inputs.now)) }
+        ensures packets { (me n capacity : ℕ) → Holds me self.old inputs.now start end → IsHistory (member me n capacity) inputs.now
+            → result.packets.items ≡ packets me (take start inputs.now) (take (end - start) (drop start inputs.now)) }
+        ensures decisions { (me n capacity : ℕ) → Holds me self.old inputs.now start end → IsHistory (member me n capacity) inputs.now
+            → result.decisions.items ≡ decisions me (take start inputs.now) (take (end - start) (drop start inputs.now)) }
         ensures holds { (me n capacity : ℕ) → Holds me self.old inputs.now start end → IsHistory (member me n capacity) inputs.now → Holds me self.new inputs.now end end }
     {
         let mut landed = self.landing.hand_out();

@@ -82,7 +82,8 @@ impl Released {
 fn queue(link: &mut Outlink, carry: &Option<Packet>)
     requires few { sent_count link.old.link + 1 < 2 ^ 64 }
     requires room { 1 ≤ link.old.room }
-    ensures stands { (sent : List Msg) (credit : ℕ) (on : Option Msg) → OutlinkStandsFor link.old.link sent credit → carry.now ≡ option_map (Carry (length sent)) on → OutlinkStandsFor link.new.link (sent ++ cons_option on []) credit }
+    ensures stands { (sent : List Msg) (credit : ℕ) (on : Option Msg) → OutlinkStandsFor link.old.link sent credit
+        → carry.now ≡ option_map (Carry (length sent)) on → OutlinkStandsFor link.new.link (sent ++ cons_option on []) credit }
     ensures room { link.old.room ≤ link.new.room + 1 }
 {
     if let Some(Packet::Carry { msg, .. }) = carry {

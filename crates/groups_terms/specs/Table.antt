@@ -25,7 +25,8 @@ abbrev pub coded_ballot : Coded Ballot
 coded_ballot = code_by (Option ℕ × Option Candidate) (coded× (coded_option coded_ℕ) (coded_option coded_candidate)) (λ b. (b.stood, b.leader)) (λ p. record { stood = p.0; leader = p.1 }) (λ _. refl)
 
 abbrev pub coded_table : Coded TableView
-coded_table = code_by (ℕ × (map.FinMap key_cmp Ballot × ℕ)) (coded× coded_ℕ (coded× (map.code coded_key coded_ballot) coded_ℕ)) (λ t. (t.me, (t.ballots, t.stands))) (λ p. record { me = p.0; ballots = (p.1).0; stands = (p.1).1 }) (λ _. refl)
+coded_table = code_by (ℕ × (map.FinMap key_cmp Ballot × ℕ)) (coded× coded_ℕ (coded× (map.code coded_key coded_ballot) coded_ℕ))
+    (λ t. (t.me, (t.ballots, t.stands))) (λ p. record { me = p.0; ballots = (p.1).0; stands = (p.1).1 }) (λ _. refl)
 
 -- a ballot that is not kept is that of a key that no input named
 abbrev pub known : Option Ballot → Ballot

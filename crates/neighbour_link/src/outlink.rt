@@ -27,13 +27,13 @@ pub struct Outlink {
 
 impl Model for Outlink {
     ghost use Rattle.std.specs.Prelude.{◌+◌, ◌-◌, drop, length, vec_len, vec_capacity};
-    ghost use Rattle.neighbour_link.specs.Outlink.{OutlinkView, IsKept};
+    ghost use Rattle.neighbour_link.specs.Outlink.{OutlinkView, IsQueue};
 
     ghost Value = { OutlinkView };
 
     ghost view = { λ link. record { link = record { credited = link.first + link.dead; window = drop link.dead link.kept.items }; room = vec_capacity link.kept - vec_len link.kept } };
 
-    ghost invariant = { λ link. IsKept link.first link.dead (length link.kept.items) };
+    ghost invariant = { λ link. IsQueue link.first link.dead (length link.kept.items) };
 }
 
 impl Outlink {
@@ -94,7 +94,8 @@ impl Outlink {
         ensures works { 1 ≤ self.old.room → IsOk result }
         ensures room { self.old.room ≤ self.new.room + 1 }
         ensures err { OnErr result (self.new.link ≡ self.old.link) }
-        ensures stands { IfOk result (λ no. (sent : List Msg) (credit : ℕ) → OutlinkStandsFor self.old.link sent credit → (no ≡ length sent) × OutlinkStandsFor self.new.link (sent ++ msg ∷ []) credit) }
+        ensures stands { IfOk result (λ no. (sent : List Msg) (credit : ℕ) → OutlinkStandsFor self.old.link sent credit
+            → (no ≡ length sent) × OutlinkStandsFor self.new.link (sent ++ msg ∷ []) credit) }
     {
         let no = self.sent();
         self.kept.push(msg)?;
@@ -106,7 +107,8 @@ impl Outlink {
     #[tactic(auto, unfolding(ring_records::specs::Admission::objection))]
     pub fn judge(&self, upto: u64) -> Result<(), Refusal>
         ensures value { result_err result ≡ credit_objection self.now.link.credited (sent_count self.now.link) upto }
-        ensures admission { (me n : ℕ) (h : List Input) → OutlinkStandsFor self.now.link (emission.sent me h) (history.credit h) → objection me n h (Acked upto) ≡ or_else (result_err result) (too_many h) }
+        ensures admission { (me n : ℕ) (h : List Input) → OutlinkStandsFor self.now.link (emission.sent me h) (history.credit h)
+            → objection me n h (Acked upto) ≡ or_else (result_err result) (too_many h) }
     {
         if upto <= self.credited() {
             Err(Refusal::Old(self.credited()))

@@ -198,23 +198,25 @@ ready w = first (filter_map (next_of w) (range_with_len 1 w.size))
 abbrev pub next_delivery : RingView → Option (ℕ × Request)
 next_delivery w = if is_full w then None else ready w
 
--- a delivery without a number: whether the node accepts it, and the ring afterwards
+-- One delivery of a sweep, whose ticket has no number: whether the node accepts it, and the ring afterwards.
 unfoldable pub swept_one : ℕ → Request → RingView → Bool × RingView
 swept_one i q w = let t = (brought None i q w).1 in (nat_lt (length (node_at w i).inputs) (length (node_at t i).inputs), t)
 
+-- one delivery more
 abbrev pub counted : ℕ × RingView → ℕ × RingView
 counted swept = (swept.0 + 1, swept.1)
 
--- after a delivery: the others, unless it was refused
+-- After a delivery that was accepted come the others; one that was refused ends the sweep.
 abbrev pub swept_on : (RingView → ℕ × RingView) → Bool × RingView → ℕ × RingView
 swept_on others (true, w) = counted (others w)
 swept_on others (false, w) = (0, w)
 
+-- There is a next delivery, or nothing is ready and the sweep ends.
 abbrev pub swept_with : (RingView → ℕ × RingView) → RingView → Option (ℕ × Request) → ℕ × RingView
 swept_with others w None = (0, w)
 swept_with others w (Some delivery) = swept_on others (swept_one delivery.0 delivery.1 w)
 
--- at most `count` deliveries: how many were accepted, and the ring after them
+-- A sweep of at most so many deliveries: how many were accepted, and the ring after them.
 unfoldable pub swept : ℕ → RingView → ℕ × RingView
 swept zero w = (0, w)
 swept (suc count) w = swept_with (swept count) w (next_delivery w)

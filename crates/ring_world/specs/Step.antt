@@ -87,7 +87,7 @@ Steps s event o t = (keeps_flying : Bool) × ((o, t) ≡ all_told (stepped keeps
 abbrev pub Keeps : {E : Type 0} → State → Result Outcome E → State → Type 0
 Keeps s result t = IsSameRing s.ring t.ring × IfOk result (λ o. length o.replies.items + length o.lost.items ≤ s.tickets + 1)
 
--- ---- why an event is refused
+-- ---- why an event is refused: the first cause that there is, in this order
 
 abbrev pub no_node : State → ℕ → Option Refusal
 no_node s i = where_so (nat_lt s.ring.size i) refused.BadNumber
@@ -104,8 +104,13 @@ unknown (Some delivery) = None
 abbrev pub spent : State → Option Refusal
 spent s = where_so (nat_le (2 ^ 60) s.tickets) refused.Limit
 
+-- what the event itself meets: a number that is none of this ring, a packet that was not released, no ticket number left
 unfoldable pub objection_to : State → Event → Option Refusal
-objection_to s (Submit node q) = or_else (no_node s node) (or_else (where_so (is_outside s.ring.size q) refused.BadNumber) (or_else (where_so (not (is_released s.ring node q)) refused.Unknown) (spent s)))
+objection_to s (Submit node q) =
+    or_else (no_node s node)
+    (or_else (where_so (is_outside s.ring.size q) refused.BadNumber)
+    (or_else (where_so (not (is_released s.ring node q)) refused.Unknown)
+    (spent s)))
 objection_to s (Flush node) = no_node s node
 objection_to s (Deliver from place) = or_else (no_node s from) (or_else (unknown (carried s.ring from place)) (spent s))
 objection_to s DeliverAll = None
@@ -115,7 +120,10 @@ objection_to s (Stop node call tear) = no_stop s node call
 
 -- the first cause to refuse the event, want of memory aside
 unfoldable pub refusal_of : State → Event → Option Refusal
-refusal_of s event = or_else (where_so s.ring.failed refused.Failed) (or_else (objection_to s event) (where_so (is_full s.ring) refused.Limit))
+refusal_of s event =
+    or_else (where_so s.ring.failed refused.Failed)
+    (or_else (objection_to s event)
+    (where_so (is_full s.ring) refused.Limit))
 
 -- want of memory changes nothing
 unfoldable pub is_lasting : State → Event → Bool

@@ -21,28 +21,34 @@ ghost use Rattle.ring_world.specs.WorkedSchedule.{election_events, alone, crash_
 pub fn agreement()
     ensures same { (n capacity : ℕ) (run : List (ℕ × Input)) (key : Key) (c d : Candidate) → IsLegal n capacity run → IsKnown run key c → IsKnown run key d → c ≡ d }
     ensures stands { (n capacity : ℕ) (run : List (ℕ × Input)) (key : Key) (c : Candidate) → IsLegal n capacity run → IsKnown run key c → Contains run (c.node, Stand key c.bid) }
-    ensures greatest { (n capacity : ℕ) (run : List (ℕ × Input)) (key : Key) (c d : Candidate) → IsLegal n capacity run → IsKnown run key c → Contains run (d.node, Stand key d.bid) → d ≢ c → IsTrue (is_less d c) }
+    ensures greatest { (n capacity : ℕ) (run : List (ℕ × Input)) (key : Key) (c d : Candidate)
+        → IsLegal n capacity run → IsKnown run key c → Contains run (d.node, Stand key d.bid) → d ≢ c → IsTrue (is_less d c) }
 {}
 
 /// In every schedule, at every node, what is released rests on inputs that are durable at its release. They are durable
 /// and the same after all later events.
 pub fn prefix()
-    ensures kept { (n capacity : ℕ) (early later : List (ℕ × Action)) (i : ℕ) (thing : Thing) → IsSchedule n capacity (early ++ (i, Release thing) ∷ later) → IsKept i n capacity thing (state_after n capacity early i) (state_after n capacity (early ++ (i, Release thing) ∷ later) i) }
+    ensures kept { (n capacity : ℕ) (early later : List (ℕ × Action)) (i : ℕ) (thing : Thing)
+        → IsSchedule n capacity (early ++ (i, Release thing) ∷ later)
+        → IsKept i n capacity thing (state_after n capacity early i) (state_after n capacity (early ++ (i, Release thing) ∷ later) i) }
 {}
 
 /// In every schedule the inputs that became durable, in this order, are a legal run. Its part for a node is that node's
 /// first durable inputs.
 pub fn ring_legality()
     ensures legal { (n capacity : ℕ) (events : List (ℕ × Action)) → IsSchedule n capacity events → IsLegal n capacity (committed n capacity events) }
-    ensures parts { (n capacity : ℕ) (events : List (ℕ × Action)) (i : ℕ) → IsSchedule n capacity events → part (committed n capacity events) i ≡ take (state_after n capacity events i).durable (state_after n capacity events i).inputs }
+    ensures parts { (n capacity : ℕ) (events : List (ℕ × Action)) (i : ℕ)
+        → IsSchedule n capacity events → part (committed n capacity events) i ≡ take (state_after n capacity events i).durable (state_after n capacity events i).inputs }
 {}
 
 /// In every schedule all answers that were ever released for one key name one leader. It stands among the inputs that
 /// became durable, and every other candidate that stands there for the key, earlier or later than the answer, is less.
 pub fn headline()
     ensures same { (n capacity : ℕ) (events : List (ℕ × Action)) (key : Key) (c d : Candidate) → IsSchedule n capacity events → IsAnnounced events key c → IsAnnounced events key d → c ≡ d }
-    ensures stands { (n capacity : ℕ) (events : List (ℕ × Action)) (key : Key) (c : Candidate) → IsSchedule n capacity events → IsAnnounced events key c → Contains (committed n capacity events) (c.node, Stand key c.bid) }
-    ensures greatest { (n capacity : ℕ) (events : List (ℕ × Action)) (key : Key) (c d : Candidate) → IsSchedule n capacity events → IsAnnounced events key c → Contains (committed n capacity events) (d.node, Stand key d.bid) → d ≢ c → IsTrue (is_less d c) }
+    ensures stands { (n capacity : ℕ) (events : List (ℕ × Action)) (key : Key) (c : Candidate)
+        → IsSchedule n capacity events → IsAnnounced events key c → Contains (committed n capacity events) (c.node, Stand key c.bid) }
+    ensures greatest { (n capacity : ℕ) (events : List (ℕ × Action)) (key : Key) (c d : Candidate)
+        → IsSchedule n capacity events → IsAnnounced events key c → Contains (committed n capacity events) (d.node, Stand key d.bid) → d ≢ c → IsTrue (is_less d c) }
 {}
 
 /// There are schedules with a leader. In an election of three nodes the inputs become durable in the order of the

@@ -56,7 +56,8 @@ pub(super) fn accept(
     ensures stands { CoreStandsFor core.new inputs.new.items }
     ensures place { (core.new.table.me ≡ core.old.table.me) × (core.new.size ≡ core.old.size) × (core.new.capacity ≡ core.old.capacity) }
     ensures lawful { OnOk result (IsHistory (member_of core.old) inputs.old.items → IsHistory (member_of core.old) inputs.new.items) }
-    ensures holds { (durable flying : ℕ) → durable ≤ length inputs.old.items → Holds core.old.table.me outbox.old inputs.old.items durable flying → Holds core.old.table.me outbox.new inputs.new.items durable flying }
+    ensures holds { (durable flying : ℕ) → durable ≤ length inputs.old.items → Holds core.old.table.me outbox.old inputs.old.items durable flying
+        → Holds core.old.table.me outbox.new inputs.new.items durable flying }
     ensures err { OnErr result (inputs.new.items ≡ inputs.old.items) }
 {
     match input {
@@ -76,7 +77,8 @@ fn accept_one(
     ensures inputs { OnOk result (inputs.new.items ≡ inputs.old.items ++ input.now ∷ []) }
     ensures stands { CoreStandsFor core.new inputs.new.items }
     ensures place { (core.new.table.me ≡ core.old.table.me) × (core.new.size ≡ core.old.size) × (core.new.capacity ≡ core.old.capacity) }
-    ensures holds { (durable flying : ℕ) → durable ≤ length inputs.old.items → Holds core.old.table.me outbox.old inputs.old.items durable flying → Holds core.old.table.me outbox.new inputs.new.items durable flying }
+    ensures holds { (durable flying : ℕ) → durable ≤ length inputs.old.items → Holds core.old.table.me outbox.old inputs.old.items durable flying
+        → Holds core.old.table.me outbox.new inputs.new.items durable flying }
     ensures err { OnErr result (inputs.new.items ≡ inputs.old.items) }
 {
     inputs.reserve(1)?;
