@@ -220,7 +220,6 @@ impl Device for FileDevice {
         ensures cause { HasCause (count_of self.old) (count_of self.new) result }
         ensures reach { IsInReach (off + length buf.old) (reach_of self.old) (reach_of self.new) result }
         ensures within { OnOk result (off + length buf.old ≤ length (disk_of self.old).image) }
-        ensures limit { limit_of self.new ≡ limit_of self.old }
         ensures works { has_failed self.old ≡ false → off + length buf.old ≤ length (disk_of self.old).image → IsOk result }
         ensures broken { IsTrue (has_failed self.old) → IsErr result × IsTrue (has_failed self.new) }
     {
@@ -237,7 +236,6 @@ impl Device for FileDevice {
         ensures time { Elapses (past_count self.old) (past_count self.new) (left_since self.old) (left_since self.new) (disk_of self.new) }
         ensures cause { HasCause (count_of self.old) (count_of self.new) result }
         ensures reach { IsInReach (off + length bytes.now) (reach_of self.old) (reach_of self.new) result }
-        ensures limit { limit_of self.new ≡ limit_of self.old }
         ensures within { OnOk result (off + length bytes.now ≤ limit_of self.old) }
         ensures breaks { OnErr result (off + length bytes.now ≤ limit_of self.old → IsTrue (has_failed self.new)) }
         ensures broken { IsTrue (has_failed self.old) → IsErr result × IsTrue (has_failed self.new) }
@@ -259,7 +257,6 @@ impl Device for FileDevice {
         ensures time { Elapses (past_count self.old) (past_count self.new) (left_since self.old) (left_since self.new) (disk_of self.new) }
         ensures cause { HasCause (count_of self.old) (count_of self.new) result }
         ensures reach { IsInReach 0 (reach_of self.old) (reach_of self.new) result }
-        ensures limit { limit_of self.new ≡ limit_of self.old }
         ensures breaks { OnErr result (IsTrue (has_failed self.new)) }
         ensures broken { IsTrue (has_failed self.old) → IsErr result × IsTrue (has_failed self.new) }
     {
