@@ -1,6 +1,6 @@
 -- What a `Buffer` shows.
-use Rattle.std.specs.Prelude.{ℕ, List, length, take}
-use Rattle.disk_model.specs.Disk.{Disk}
+use Rattle.std.specs.Prelude.{ℕ, true, List, length, take}
+use Rattle.disk_model.specs.Disk.{Disk, Reach}
 use Rattle.disk_model.specs.Stretches.{Past, LeftSince}
 use Rattle.disk_model.specs.declared.buffer.Buffer.{Buffer}
 
@@ -9,6 +9,10 @@ disk_of buffer = record { image = take buffer.size buffer.bytes.items; stable = 
 
 abbrev pub limit_of : Buffer → ℕ
 limit_of buffer = length buffer.bytes.items
+
+-- a call fails past the limit alone
+abbrev pub reach_of : Buffer → Reach
+reach_of buffer = record { limit = limit_of buffer; reliable = true }
 
 abbrev pub count_of : Buffer → ℕ
 count_of buffer = buffer.faults

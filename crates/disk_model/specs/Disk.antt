@@ -1,6 +1,6 @@
 -- What a device has on its disk, what its calls do to it, and what a stop may leave of it. An image is the bytes from
 -- offset 0 to its end; the byte at an index past the end is 0.
-use Rattle.std.specs.Prelude.{◌≡◌, ◌⊎◌, ℕ, ◌+◌, ◌-◌, ◌^◌, ◌<◌, ◌≤◌, min, max, List, [], ◌∷◌, ◌++◌, length, slice_index, IsOk, IsErr, Result}
+use Rattle.std.specs.Prelude.{◌≡◌, ◌⊎◌, ℕ, ◌+◌, ◌-◌, ◌^◌, ◌<◌, ◌≤◌, min, max, Bool, List, [], ◌∷◌, ◌++◌, length, slice_index, IsTrue, IsOk, IsErr, Result}
 
 -- ---- the disk, and what a stop may leave
 
@@ -93,10 +93,20 @@ pub record HasCause {T E : Type 0} (before now : ℕ) (result : Result T E) : Ty
   pub same : IsOk result → now ≡ before
   pub rises : IsErr result → min (before + 1) (2 ^ 64 - 1) ≤ now
 
--- the reach stays, and while it is above 0 a call that ends at or below it succeeds
-pub record IsInReach {T E : Type 0} (end before now : ℕ) (result : Result T E) : Type 0 where
+-- how far a device goes, and whether it is reliable: then no sync fails, and no call that ends at or below the limit
+pub record Reach : Type 0 where
+  pub limit : ℕ
+  pub reliable : Bool
+
+-- the device is reliable, and goes as far as this size
+pub record Reaches (reach : Reach) (size : ℕ) : Type 0 where
+  pub reliable : IsTrue reach.reliable
+  pub within : size ≤ reach.limit
+
+-- the reach stays, and a call that ends within it succeeds
+pub record IsInReach {T E : Type 0} (end : ℕ) (before now : Reach) (result : Result T E) : Type 0 where
   pub same : now ≡ before
-  pub works : 0 < before → end ≤ before → IsOk result
+  pub works : Reaches before end → IsOk result
 
 -- ---- what users of a device say
 

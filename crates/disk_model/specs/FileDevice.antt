@@ -1,6 +1,6 @@
 -- What a `FileDevice` shows: what its file is to hold.
-use Rattle.std.specs.Prelude.{ℕ, Bool, List}
-use Rattle.disk_model.specs.Disk.{Disk}
+use Rattle.std.specs.Prelude.{ℕ, Bool, false, List}
+use Rattle.disk_model.specs.Disk.{Disk, Reach}
 use Rattle.disk_model.specs.Buffer as buffer
 use Rattle.disk_model.specs.declared.file.FileDevice.{FileDevice}
 
@@ -9,6 +9,10 @@ disk_of device = buffer.disk_of device.held
 
 abbrev pub limit_of : FileDevice → ℕ
 limit_of device = buffer.limit_of device.held
+
+-- any call may fail
+abbrev pub reach_of : FileDevice → Reach
+reach_of device = record { limit = limit_of device; reliable = false }
 
 abbrev pub count_of : FileDevice → ℕ
 count_of device = device.faults

@@ -1,5 +1,6 @@
 -- What a `FuseDevice` shows.
-use Rattle.std.specs.Prelude.{ℕ, ◌+◌, ◌-◌, ◌^◌, min, Bool, if◌then◌else◌}
+use Rattle.std.specs.Prelude.{ℕ, ◌+◌, ◌-◌, ◌^◌, ◌&&◌, min, Bool}
+use Rattle.disk_model.specs.Disk.{Reach}
 use Rattle.disk_model.specs.Fuse.{fails_at, is_idle}
 use Rattle.disk_model.specs.declared.fuse.FuseDevice.{FuseDevice}
 
@@ -23,6 +24,6 @@ own_faults device = device.faults
 abbrev pub count_of : {D : Type 0} → (D → ℕ) → FuseDevice D → ℕ
 count_of count device = min (count device.inner + device.faults) (2 ^ 64 - 1)
 
--- the reach of the device behind it, while no call may fail
-abbrev pub reach_of : {D : Type 0} → (D → ℕ) → FuseDevice D → ℕ
-reach_of reach device = if is_idle device.fuse then reach device.inner else 0
+-- that of the device behind it, which is reliable only while the fuse was never armed
+abbrev pub reach_of : {D : Type 0} → (D → Reach) → FuseDevice D → Reach
+reach_of reach device = record { limit = (reach device.inner).limit; reliable = (reach device.inner).reliable && is_idle device.fuse }

@@ -1,6 +1,6 @@
 -- What a `MemDevice` shows.
 use Rattle.std.specs.Prelude.{ℕ, List}
-use Rattle.disk_model.specs.Disk.{Disk}
+use Rattle.disk_model.specs.Disk.{Disk, Reach}
 use Rattle.disk_model.specs.Buffer as buffer
 use Rattle.disk_model.specs.declared.memory.MemDevice.{MemDevice}
 
@@ -9,6 +9,10 @@ disk_of device = buffer.disk_of device.held
 
 abbrev pub limit_of : MemDevice → ℕ
 limit_of device = buffer.limit_of device.held
+
+-- a call fails past the limit alone
+abbrev pub reach_of : MemDevice → Reach
+reach_of device = buffer.reach_of device.held
 
 abbrev pub count_of : MemDevice → ℕ
 count_of device = buffer.count_of device.held

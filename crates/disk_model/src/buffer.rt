@@ -129,7 +129,7 @@ impl Buffer {
 }
 
 impl Device for Buffer {
-    ghost use Rattle.disk_model.specs.Buffer.{disk_of, limit_of, count_of, past_count, left_since};
+    ghost use Rattle.disk_model.specs.Buffer.{disk_of, limit_of, reach_of, count_of, past_count, left_since};
     ghost use Rattle.disk_model.specs.Stretches.{same_now, still_now};
 
     ghost disk = { disk_of };
@@ -140,7 +140,7 @@ impl Device for Buffer {
 
     ghost count = { count_of };
 
-    ghost reach = { limit_of };
+    ghost reach = { reach_of };
 
     ghost may_stay = { λ buffer. buffer.torn };
 
@@ -161,7 +161,7 @@ impl Device for Buffer {
         ensures disk { disk_of self.new ≡ disk_of self.old }
         ensures time { Elapses (past_count self.old) (past_count self.new) (left_since self.old) (left_since self.new) (disk_of self.new) }
         ensures cause { HasCause (count_of self.old) (count_of self.new) result }
-        ensures reach { IsInReach (off + length buf.old) (limit_of self.old) (limit_of self.new) result }
+        ensures reach { IsInReach (off + length buf.old) (reach_of self.old) (reach_of self.new) result }
         ensures limit { IsOk result ↔ (off + length buf.old ≤ limit_of self.old) }
     {
         let at = place(self.bytes.len(), off, buf.len(), &mut self.faults)?;
@@ -174,7 +174,7 @@ impl Device for Buffer {
         ensures disk { Unsyncs off (length bytes.now) (disk_of self.old) (disk_of self.new) }
         ensures time { Elapses (past_count self.old) (past_count self.new) (left_since self.old) (left_since self.new) (disk_of self.new) }
         ensures cause { HasCause (count_of self.old) (count_of self.new) result }
-        ensures reach { IsInReach (off + length bytes.now) (limit_of self.old) (limit_of self.new) result }
+        ensures reach { IsInReach (off + length bytes.now) (reach_of self.old) (reach_of self.new) result }
         ensures limit { IsOk result ↔ (off + length bytes.now ≤ limit_of self.old) }
 
         ensures err { OnErr result ((disk_of self.new).image ≡ (disk_of self.old).image) }

@@ -1,6 +1,6 @@
 // What a device promises to those who write on it.
 ghost use Rattle.std.specs.Prelude.{◌≡◌, ◌+◌, ◌≤◌, ℕ, List, length, OnOk, OnErr};
-ghost use Rattle.disk_model.specs.Disk.{Disk, MayLeave, IsPart, Puts, Unsyncs, synced, Elapses, HasCause, IsInReach};
+ghost use Rattle.disk_model.specs.Disk.{Disk, MayLeave, IsPart, Puts, Unsyncs, synced, Elapses, HasCause, Reach, IsInReach};
 
 /// A device's call failed. The device's count of failures tells of it.
 #[derive(Clone, Copy, Debug, PartialEq, Eq)]
@@ -21,8 +21,8 @@ pub trait Device {
     /// How many calls have failed; 2^64 - 1 stands for more, too.
     ghost count: { Self → ℕ };
 
-    /// While this is above 0, no sync fails, and no read or write that ends at or below it.
-    ghost reach: { Self → ℕ };
+    /// How far it goes, and whether it is reliable: then no sync fails, and no read or write that ends at or below that.
+    ghost reach: { Self → Reach };
 
     /// How many bytes a read gives: the device's end.
     fn size(&self) -> u64

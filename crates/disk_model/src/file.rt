@@ -186,7 +186,7 @@ fn fault(faults: &mut u64) -> DeviceFault
 }
 
 impl Device for FileDevice {
-    ghost use Rattle.disk_model.specs.FileDevice.{disk_of, limit_of, count_of, past_count, left_since, has_failed};
+    ghost use Rattle.disk_model.specs.FileDevice.{disk_of, limit_of, reach_of, count_of, past_count, left_since, has_failed};
     ghost use Rattle.disk_model.specs.Stretches.{same_now, still_now};
 
     ghost disk = { disk_of };
@@ -197,7 +197,7 @@ impl Device for FileDevice {
 
     ghost count = { count_of };
 
-    ghost reach = { λ device. 0 };
+    ghost reach = { reach_of };
 
     ghost may_stay = { λ device. device.held.torn };
 
@@ -218,9 +218,8 @@ impl Device for FileDevice {
         ensures disk { disk_of self.new ≡ disk_of self.old }
         ensures time { Elapses (past_count self.old) (past_count self.new) (left_since self.old) (left_since self.new) (disk_of self.new) }
         ensures cause { HasCause (count_of self.old) (count_of self.new) result }
-        ensures reach { IsInReach (off + length buf.old) 0 0 result }
+        ensures reach { IsInReach (off + length buf.old) (reach_of self.old) (reach_of self.new) result }
         ensures within { OnOk result (off + length buf.old ≤ length (disk_of self.old).image) }
-        ensures limit { limit_of self.new ≡ limit_of self.old }
         ensures works { has_failed self.old ≡ false → off + length buf.old ≤ length (disk_of self.old).image → IsOk result }
         ensures broken { IsTrue (has_failed self.old) → IsErr result × IsTrue (has_failed self.new) }
     {
@@ -236,8 +235,7 @@ impl Device for FileDevice {
         ensures disk { Unsyncs off (length bytes.now) (disk_of self.old) (disk_of self.new) }
         ensures time { Elapses (past_count self.old) (past_count self.new) (left_since self.old) (left_since self.new) (disk_of self.new) }
         ensures cause { HasCause (count_of self.old) (count_of self.new) result }
-        ensures reach { IsInReach (off + length bytes.now) 0 0 result }
-        ensures limit { limit_of self.new ≡ limit_of self.old }
+        ensures reach { IsInReach (off + length bytes.now) (reach_of self.old) (reach_of self.new) result }
         ensures within { OnOk result (off + length bytes.now ≤ limit_of self.old) }
         ensures breaks { OnErr result (off + length bytes.now ≤ limit_of self.old → IsTrue (has_failed self.new)) }
         ensures broken { IsTrue (has_failed self.old) → IsErr result × IsTrue (has_failed self.new) }
@@ -258,8 +256,7 @@ impl Device for FileDevice {
         ensures failed { OnErr result (disk_of self.new ≡ disk_of self.old) }
         ensures time { Elapses (past_count self.old) (past_count self.new) (left_since self.old) (left_since self.new) (disk_of self.new) }
         ensures cause { HasCause (count_of self.old) (count_of self.new) result }
-        ensures reach { IsInReach 0 0 0 result }
-        ensures limit { limit_of self.new ≡ limit_of self.old }
+        ensures reach { IsInReach 0 (reach_of self.old) (reach_of self.new) result }
         ensures breaks { OnErr result (IsTrue (has_failed self.new)) }
         ensures broken { IsTrue (has_failed self.old) → IsErr result × IsTrue (has_failed self.new) }
     {

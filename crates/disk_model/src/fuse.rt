@@ -1,6 +1,6 @@
 // A device whose calls fail when a test wants it.
 ghost use Rattle.std.specs.Prelude.{◌≡◌, ◌+◌, ◌-◌, ◌^◌, ◌<◌, ◌≤◌, min, ℕ, false, if◌then◌else◌, IsTrue, IsErr, OnOk, OnErr, length};
-ghost use Rattle.disk_model.specs.Disk.{IsPart, Puts, Unsyncs, synced, Elapses, HasCause, IsInReach};
+ghost use Rattle.disk_model.specs.Disk.{IsPart, Puts, Unsyncs, synced, Elapses, HasCause, Reaches, IsInReach};
 ghost use Rattle.disk_model.specs.Fuse.{is_idle, fails_at, planned};
 
 use crate::{Device, DeviceFault};
@@ -162,8 +162,7 @@ impl<D: Device> Device for FuseDevice<D> {
         ensures fuse { (k : ℕ) → will_fail self.new k ≡ will_fail self.old (k + 1) }
         ensures passed { will_fail self.old 0 ≡ false → IsInReach (off + length bytes.now) (D.reach (inner_of self.old)) (D.reach (inner_of self.new)) result }
         ensures blown { IsTrue (will_fail self.old 0) → IsErr result }
-        ensures passed_on { 0 < D.reach (inner_of self.old) → off + length bytes.now ≤ D.reach (inner_of self.old)
-            → Puts off bytes.now (D.disk (inner_of self.old)).image (D.disk (inner_of self.new)).image }
+        ensures passed_on { Reaches (D.reach (inner_of self.old)) (off + length bytes.now) → Puts off bytes.now (D.disk (inner_of self.old)).image (D.disk (inner_of self.new)).image }
     {
         let fails = blows(&mut self.fuse, &mut self.faults);
         let answer = self.inner.write_at(off, bytes);

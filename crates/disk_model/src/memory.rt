@@ -68,7 +68,7 @@ impl MemDevice {
 }
 
 impl Device for MemDevice {
-    ghost use Rattle.disk_model.specs.MemDevice.{disk_of, limit_of, count_of, past_count, left_since};
+    ghost use Rattle.disk_model.specs.MemDevice.{disk_of, limit_of, reach_of, count_of, past_count, left_since};
     ghost use Rattle.disk_model.specs.Stretches.{same_now, still_now};
 
     ghost disk = { disk_of };
@@ -79,7 +79,7 @@ impl Device for MemDevice {
 
     ghost count = { count_of };
 
-    ghost reach = { limit_of };
+    ghost reach = { reach_of };
 
     ghost may_stay = { λ device. device.held.torn };
 
@@ -100,7 +100,7 @@ impl Device for MemDevice {
         ensures disk { disk_of self.new ≡ disk_of self.old }
         ensures time { Elapses (past_count self.old) (past_count self.new) (left_since self.old) (left_since self.new) (disk_of self.new) }
         ensures cause { HasCause (count_of self.old) (count_of self.new) result }
-        ensures reach { IsInReach (off + length buf.old) (limit_of self.old) (limit_of self.new) result }
+        ensures reach { IsInReach (off + length buf.old) (reach_of self.old) (reach_of self.new) result }
         ensures limit { IsOk result ↔ (off + length buf.old ≤ limit_of self.old) }
     {
         self.held.read_at(off, buf)
@@ -111,7 +111,7 @@ impl Device for MemDevice {
         ensures disk { Unsyncs off (length bytes.now) (disk_of self.old) (disk_of self.new) }
         ensures time { Elapses (past_count self.old) (past_count self.new) (left_since self.old) (left_since self.new) (disk_of self.new) }
         ensures cause { HasCause (count_of self.old) (count_of self.new) result }
-        ensures reach { IsInReach (off + length bytes.now) (limit_of self.old) (limit_of self.new) result }
+        ensures reach { IsInReach (off + length bytes.now) (reach_of self.old) (reach_of self.new) result }
         ensures limit { IsOk result ↔ (off + length bytes.now ≤ limit_of self.old) }
         ensures err { OnErr result ((disk_of self.new).image ≡ (disk_of self.old).image) }
     {

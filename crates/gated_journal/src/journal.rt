@@ -1,5 +1,5 @@
 ghost use Rattle.std.specs.Prelude.{◌≡◌, ◌+◌, ◌++◌, ◌-◌, ◌⊎◌, ◌<◌, ◌≤◌, ◌^◌, ℕ, List, [], true, false, length, min, is_err, IfOk, IfErr, OnOk, OnErr, IsOk};
-ghost use Rattle.disk_model.specs.Disk.{MayLeave, LeavesOnly, HasCause, synced};
+ghost use Rattle.disk_model.specs.Disk.{MayLeave, LeavesOnly, HasCause, Reaches, synced};
 ghost use Rattle.ring_records.specs.declared.input.Input.{Input};
 ghost use Rattle.ring_records.specs.Admission.{used};
 ghost use Rattle.ring_records.specs.Member.{member, used_by};
@@ -64,7 +64,7 @@ impl<D: Device> Journal<D> {
         // Refused as 2, the device is as it was; as 15, the device failed.
         ensures number { IfErr result (λ e. is_header (member node n capacity) ≡ false → (e.1 ≡ Refusal.BadNumber) × (e.0 ≡ device)) }
         ensures fault { IfErr result (λ e. is_header (member node n capacity) ≡ true → (e.1 ≡ Refusal.Device (D.count e.0)) × (min (D.count device + 1) (2 ^ 64 - 1) ≤ D.count e.0)) }
-        ensures works { is_header (member node n capacity) ≡ true → 0 < D.reach device → 17 ≤ D.reach device → IsOk result }
+        ensures works { is_header (member node n capacity) ≡ true → Reaches (D.reach device) 17 → IsOk result }
         ensures reach { IfOk result (λ journal. D.reach (device_of journal) ≡ D.reach device) }
     {
         if !is_header(node, n, capacity) {
@@ -108,7 +108,7 @@ impl<D: Device> Journal<D> {
 
         // A refusal has its cause. While the device works it is the image's, or want of memory.
         ensures refusal { IfErr result (λ e. IsUnopened node n (D.count device) (D.count e.0) (D.disk device).image e.1) }
-        ensures works { 0 < D.reach device → length (D.disk device).image ≤ D.reach device → IfErr result (λ e. (e.1 ≡ Refusal.OutOfMemory) ⊎ IsUnread node n (D.disk device).image e.1) }
+        ensures works { Reaches (D.reach device) (length (D.disk device).image) → IfErr result (λ e. (e.1 ≡ Refusal.OutOfMemory) ⊎ IsUnread node n (D.disk device).image e.1) }
 
         // No call failed where it is opened. A call that failed is told before all else.
         ensures same { IfOk result (λ r. D.count (device_of r.0) ≡ D.count device) }
@@ -230,7 +230,7 @@ impl<D: Device> Journal<D> {
             → AllReadAs (member_of self.old) (D.disk (device_of self.new)) (inputs ++ (shown batch).inputs)) }
         ensures spoils { is_spoiled self.new ≡ is_err result }
         ensures cause { HasCause (D.count (device_of self.old)) (D.count (device_of self.new)) result }
-        ensures works { 0 < D.reach (device_of self.old) → 17 + (member_of self.old).capacity ≤ D.reach (device_of self.old) → IsOk result }
+        ensures works { Reaches (D.reach (device_of self.old)) (17 + (member_of self.old).capacity) → IsOk result }
         ensures reach { D.reach (device_of self.new) ≡ D.reach (device_of self.old) }
         ensures receipt { IfOk result (λ receipt. landed receipt ≡ shown batch) }
         ensures spoiled { IfErr result (λ spoiled. lost spoiled ≡ shown batch) }

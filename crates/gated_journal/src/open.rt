@@ -1,6 +1,6 @@
 //! What a device holds, read from its start.
 ghost use Rattle.std.specs.Prelude.{◌≡◌, ◌+◌, ◌≤◌, ◌<◌, ◌^◌, ◌⊎◌, ℕ, List, Ok, Err, length, IfOk, IfErr, OnOk, OnErr};
-ghost use Rattle.disk_model.specs.Disk.{MayLeave, IsSynced, IsPart, LeavesOnly, IsInReach, synced};
+ghost use Rattle.disk_model.specs.Disk.{MayLeave, IsSynced, IsPart, LeavesOnly, Reaches, IsInReach, synced};
 ghost use Rattle.ring_records.specs.declared.refusal.Refusal.TheVariants.{OutOfMemory};
 ghost use Rattle.ring_records.specs.Member.{member};
 ghost use Rattle.gated_journal.specs.Frames.{ReadsTo};
@@ -92,7 +92,7 @@ fn read_header<D: Device>(device: &mut D, node: NodeNo, n: u8) -> Result<u32, Re
     ensures later { D.count device.old ≤ D.count device.new }
     ensures same { OnOk result (D.count device.new ≡ D.count device.old) }
     ensures first { IfErr result (λ refusal. IsFault (D.count device.old) (D.count device.new) refusal ⊎ (D.count device.new ≡ D.count device.old)) }
-    ensures works { 0 < D.reach device.old → length (D.disk device.old).image ≤ D.reach device.old → IfErr result (λ refusal. header_at node n (D.disk device.old).image ≡ Err refusal) }
+    ensures works { Reaches (D.reach device.old) (length (D.disk device.old).image) → IfErr result (λ refusal. header_at node n (D.disk device.old).image ≡ Err refusal) }
     ensures reach { D.reach device.new ≡ D.reach device.old }
 {
     if let Err(refusal) = settle(device) {
@@ -124,8 +124,7 @@ fn read_frames<D: Device>(
     ensures later { D.count device.old ≤ D.count device.new }
     ensures same { OnOk result (D.count device.new ≡ D.count device.old) }
     ensures first { IfErr result (λ refusal. IsFault (D.count device.old) (D.count device.new) refusal ⊎ (D.count device.new ≡ D.count device.old)) }
-    ensures works { 0 < D.reach device.old → length (D.disk device.old).image ≤ D.reach device.old
-        → IfErr result (λ refusal. (refusal ≡ OutOfMemory) ⊎ IsBroken from (D.disk device.old).image refusal) }
+    ensures works { Reaches (D.reach device.old) (length (D.disk device.old).image) → IfErr result (λ refusal. (refusal ≡ OutOfMemory) ⊎ IsBroken from (D.disk device.old).image refusal) }
     ensures reach { D.reach device.new ≡ D.reach device.old }
 {
     let size = device.size() as usize;
@@ -159,8 +158,7 @@ pub(crate) fn open<D: Device>(
     ensures image { (D.disk device.new).image ≡ (D.disk device.old).image }
     ensures any_moment { LeavesOnly D.clock D.left_since device.old device.new (MayLeave (D.disk device.old)) }
     ensures refusal { IfErr result (λ refusal. IsUnopened node n (D.count device.old) (D.count device.new) (D.disk device.old).image refusal) }
-    ensures works { 0 < D.reach device.old → length (D.disk device.old).image ≤ D.reach device.old
-        → IfErr result (λ refusal. (refusal ≡ OutOfMemory) ⊎ IsUnread node n (D.disk device.old).image refusal) }
+    ensures works { Reaches (D.reach device.old) (length (D.disk device.old).image) → IfErr result (λ refusal. (refusal ≡ OutOfMemory) ⊎ IsUnread node n (D.disk device.old).image refusal) }
     ensures reach { D.reach device.new ≡ D.reach device.old }
 {
     match read_header(device, node, n) {

@@ -1,5 +1,5 @@
 ghost use Rattle.std.specs.Prelude.{◌≡◌, ◌+◌, ◌-◌, ◌⊎◌, ◌||◌, ◌<◌, ◌≤◌, ℕ, Bool, [], length, not, true, false, None, Some, IfOk, IfErr, OnOk, OnErr};
-ghost use Rattle.disk_model.specs.Disk.{MayLeave, LeavesOnly, synced};
+ghost use Rattle.disk_model.specs.Disk.{MayLeave, LeavesOnly, Reaches, synced};
 ghost use Rattle.ring_records.specs.Answer.{Answered, NodeState, durable_in, flying_in, left_by};
 ghost use Rattle.ring_records.specs.Member.{member, used_by, IsHistory};
 ghost use Rattle.ring_records.specs.Release.{packets, decisions};
@@ -51,7 +51,7 @@ impl<D: Device> Node<D> {
         // Refused as 2 or 8, the device is as it was; as 15, the device failed.
         ensures number { IfErr result (λ e. is_header (member node n capacity) ≡ false → (e.1 ≡ Refusal.BadNumber) × (e.0 ≡ device)) }
         ensures fault { IfErr result (λ e. is_header (member node n capacity) ≡ true → IsFault (D.count device) (D.count e.0) e.1 ⊎ ((e.1 ≡ Refusal.OutOfMemory) × (e.0 ≡ device))) }
-        ensures works { 0 < D.reach device → 17 ≤ D.reach device → IfErr result (λ e. (e.1 ≡ Refusal.BadNumber) ⊎ (e.1 ≡ Refusal.OutOfMemory)) }
+        ensures works { Reaches (D.reach device) 17 → IfErr result (λ e. (e.1 ≡ Refusal.BadNumber) ⊎ (e.1 ≡ Refusal.OutOfMemory)) }
     {
         if !is_header(node, n, capacity) {
             return Err((device, Refusal::BadNumber));
@@ -102,7 +102,7 @@ impl<D: Device> Node<D> {
 
         // A refusal has its cause. While the device works it is the image's, or want of memory.
         ensures refusal { IfErr result (λ e. IsUnrecovered node n (D.count device) (D.count e.0) (D.disk device).image e.1) }
-        ensures works { 0 < D.reach device → length (D.disk device).image ≤ D.reach device
+        ensures works { Reaches (D.reach device) (length (D.disk device).image)
             → IfErr result (λ e. (e.1 ≡ Refusal.OutOfMemory) ⊎ (IsUnread node n (D.disk device).image e.1 ⊎ IsNotLawful node n (D.disk device).image e.1)) }
 
         // No call failed where it is opened. A call that failed is told before all else.
@@ -239,8 +239,8 @@ impl<D: Device> Node<D> {
         ensures cause { IfErr result (λ why. (desk_of self.old).failed ≡ false → IsFault (D.count (device_of self.old)) (D.count (device_of self.new)) why ⊎ (why ≡ Refusal.OutOfMemory)) }
         ensures fault { IfErr result (λ why. IsFault (D.count (device_of self.old)) (D.count (device_of self.new)) why → desk_of self.new ≡ record (launched (desk_of self.old)) { failed = true }) }
         ensures same { IfErr result (λ why. (why ≡ Refusal.Failed) ⊎ (why ≡ Refusal.OutOfMemory) → (desk_of self.new ≡ desk_of self.old) × (device_of self.new ≡ device_of self.old)) }
-        ensures in_reach { 0 < D.reach (device_of self.old)
-            → 17 + (desk_of self.old).member.capacity ≤ D.reach (device_of self.old) → IfErr result (λ why. (why ≡ Refusal.Failed) ⊎ (why ≡ Refusal.OutOfMemory)) }
+        ensures in_reach { Reaches (D.reach (device_of self.old)) (17 + (desk_of self.old).member.capacity)
+            → IfErr result (λ why. (why ≡ Refusal.Failed) ⊎ (why ≡ Refusal.OutOfMemory)) }
 
         // A stop at any moment leaves the inputs that were durable, or also those that flew then.
         ensures any_moment { LeavesOnly D.clock D.left_since (device_of self.old) (device_of self.new) (IsLeft (desk_of self.old).member (until (state_of self.old) (state_of self.new))) }

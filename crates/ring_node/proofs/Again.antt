@@ -5,6 +5,7 @@ use Rattle.std.proofs.lemmas.Bool.{ltb-true, ltb-false}
 use Rattle.std.proofs.lemmas.Bool.Decides.{nat_tests}
 use Rattle.std.proofs.lemmas.List.{length-append, length-take, length-drop, take_all, take-append-drop, take-append-le, take-take}
 use Rattle.std.proofs.Math.Seq.{drop-append_seam, drop-nil}
+use Rattle.disk_model.specs.Disk.{Reach, Reaches}
 use Rattle.ring_records.specs.declared.input.Input.{Input}
 use Rattle.ring_records.specs.declared.input.Input.TheVariants.{Stand, Take, Acked}
 use Rattle.ring_records.specs.declared.msg.Msg.{Msg}
@@ -131,12 +132,16 @@ credit_front me n capacity h lawful = along (IsAdmitted me n capacity fresh) (λ
 
 -- ---- the node
 
-module _ (m : Member) (desk : DeskView) (reach : ℕ) (queue : List HeldView) (messages : List Msg) (here : IsRingNode m desk reach queue messages) where
+module _ (m : Member) (desk : DeskView) (reach : Reach) (queue : List HeldView) (messages : List Msg) (here : IsRingNode m desk reach queue messages) where
   abbrev v : NodeView
   v = view_with desk queue
 
   pub lawful_here : IsHistory m desk.state.inputs
   lawful_here = subst (λ (k : Member). IsHistory k desk.state.inputs) here.is here.served.lawful
+
+  -- its device goes to the journal's end
+  pub long_here : 17 + m.capacity ≤ reach.limit
+  long_here = subst (λ (k : Member). 17 + k.capacity ≤ reach.limit) here.is here.served.reaches.within
 
   -- what it is opened again with
   again : (inputs : List Input) → restarted inputs (new_node m.node m.n m.capacity) ≡ restarted inputs v
@@ -148,7 +153,7 @@ module _ (m : Member) (desk : DeskView) (reach : ℕ) (queue : List HeldView) (m
     shown_again : view_with desk' queue' ≡ restarted inputs v
     shown_again = same_view _ _ _ _ opened none ∙ (starts_shown m.node m.n m.capacity run inputs ∙ again inputs)
 
-    pub opens_again : (reach' : ℕ) (messages' : List Msg) → IsHistory m inputs → 17 + m.capacity ≤ reach' → messages' ≡ sent m.node inputs → IsRingNode m desk' reach' queue' messages'
+    pub opens_again : (reach' : Reach) (messages' : List Msg) → IsHistory m inputs → Reaches reach' (17 + m.capacity) → messages' ≡ sent m.node inputs → IsRingNode m desk' reach' queue' messages'
     opens_again reach' messages' lawful reaches sends = by_name m _ _ _ _ _ _ _ _ opened refl none refl (opens m run inputs reach' messages' here.range lawful reaches sends)
 
   -- ---- a crash
@@ -159,7 +164,7 @@ module _ (m : Member) (desk : DeskView) (reach : ℕ) (queue : List HeldView) (m
 
   module _ (run : ℕ) (keep : Bool) (desk' : DeskView) (queue' : List HeldView) (opened : desk' ≡ new_desk m run (left_by keep desk.state)) (none : queue' ≡ []) where
     -- its durable inputs sent what they sent before
-    pub crashed_again : (reach' : ℕ) → 17 + m.capacity ≤ reach' → IsRingNode m desk' reach' queue' messages
+    pub crashed_again : (reach' : Reach) → Reaches reach' (17 + m.capacity) → IsRingNode m desk' reach' queue' messages
     crashed_again reach' reaches =
         opens_again run (left_by keep desk.state) desk' queue' opened none reach' messages (left_lawful m.node m.n m.capacity desk.state keep lawful_here) reaches (here.sends ∙ ap (sent m.node) (sym (either keep)))
 
@@ -214,7 +219,7 @@ module _ (m : Member) (desk : DeskView) (reach : ℕ) (queue : List HeldView) (m
     credits_few credited = let few = few_credits keep credited in let same = ap credit inputs_are in omega arith
 
     module _ (queue' : List HeldView) (none : queue' ≡ []) where
-      pub stopped_again : (reach' : ℕ) (messages' : List Msg) → 17 + m.capacity ≤ reach' → messages' ≡ sent desk'.member.node desk'.state.inputs → IsRingNode m desk' reach' queue' messages'
+      pub stopped_again : (reach' : Reach) (messages' : List Msg) → Reaches reach' (17 + m.capacity) → messages' ≡ sent desk'.member.node desk'.state.inputs → IsRingNode m desk' reach' queue' messages'
       stopped_again reach' messages' reaches sends = opens_again run inputs desk' queue' opened none reach' messages' (lawful_left keep) reaches (sends ∙ ap (λ (d : DeskView). sent d.member.node d.state.inputs) opened)
 
       pub stopped_shown : (found : Bool) → v.durable < length v.inputs → found ≡ nat_lt v.durable desk'.state.durable → view_with desk' queue' ≡ restarted (left found v) v
@@ -223,5 +228,5 @@ module _ (m : Member) (desk : DeskView) (reach : ℕ) (queue : List HeldView) (m
           shown_again run inputs desk' queue' opened none ∙ (ap (λ l. restarted l v) (by_state keep) ∙ ap (λ b. restarted (left b v) v) (sym same_one))
 
 -- the numbers of the open tickets
-pub lost_numbers : (desk : DeskView) (reach : ℕ) (queue : List HeldView) → IsServed desk reach queue → filter_map (λ (h : HeldView). h.number) queue ≡ filter_map number_of (view_with desk queue).held
+pub lost_numbers : (desk : DeskView) (reach : Reach) (queue : List HeldView) → IsServed desk reach queue → filter_map (λ (h : HeldView). h.number) queue ≡ filter_map number_of (view_with desk queue).held
 lost_numbers desk reach queue here = numbers_shown desk.member.node desk.run 0 _ desk.tickets queue here.held

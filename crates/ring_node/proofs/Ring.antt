@@ -2,6 +2,7 @@
 use Rattle.std.proofs.Common.{arith, ℕ, ◌≡◌, ◌≤◌, ◌+◌, true, List, [], ◌∷◌, ◌++◌, length, refl, sym, ap, subst, ◌∙◌}
 use Rattle.std.proofs.lemmas.Bool.Decides.{nat_tests}
 use Rattle.std.proofs.lemmas.List.{take_all}
+use Rattle.disk_model.specs.Disk.{Reach, Reaches}
 use Rattle.ring_records.specs.declared.input.Input.{Input}
 use Rattle.ring_records.specs.declared.msg.Msg.{Msg}
 use Rattle.ring_records.specs.declared.packet.Packet.{Packet}
@@ -23,13 +24,13 @@ me_within : (m : Member) → is_header m ≡ true → m.node ≤ m.n
 me_within m range = grind (arith, nat_tests)
 
 -- the node by other names
-pub by_name : (m : Member) (desk : DeskView) (reach : ℕ) (queue : List HeldView) (messages : List Msg) (desk' : DeskView) (reach' : ℕ) (queue' : List HeldView) (messages' : List Msg)
+pub by_name : (m : Member) (desk : DeskView) (reach : Reach) (queue : List HeldView) (messages : List Msg) (desk' : DeskView) (reach' : Reach) (queue' : List HeldView) (messages' : List Msg)
     → desk' ≡ desk → reach' ≡ reach → queue' ≡ queue → messages' ≡ messages → IsRingNode m desk reach queue messages → IsRingNode m desk' reach' queue' messages'
 by_name m desk reach queue messages desk' reach' queue' messages' d r q ms here =
-    subst (λ (a : DeskView × ℕ × List HeldView × List Msg). IsRingNode m a.0 a.1 a.2 a.3) (λ i. (sym d i, sym r i, sym q i, sym ms i)) here
+    subst (λ (a : DeskView × Reach × List HeldView × List Msg). IsRingNode m a.0 a.1 a.2 a.3) (λ i. (sym d i, sym r i, sym q i, sym ms i)) here
 
 -- a node that is opened with these inputs, all of them durable, and the messages that they sent
-pub opens : (m : Member) (run : ℕ) (inputs : List Input) (reach : ℕ) (messages : List Msg) → is_header m ≡ true → IsHistory m inputs → 17 + m.capacity ≤ reach → messages ≡ sent m.node inputs
+pub opens : (m : Member) (run : ℕ) (inputs : List Input) (reach : Reach) (messages : List Msg) → is_header m ≡ true → IsHistory m inputs → Reaches reach (17 + m.capacity) → messages ≡ sent m.node inputs
     → IsRingNode m (new_desk m run inputs) reach [] messages
 opens m run inputs reach messages range lawful reaches sends = record {
   range = range;
@@ -39,7 +40,7 @@ opens m run inputs reach messages range lawful reaches sends = record {
   inside = subst (AreInside m.n) (sym sends) (inside m.node m.n m.capacity (me_within m range) inputs lawful);
 }
 
-module _ (m : Member) (desk : DeskView) (reach : ℕ) (queue : List HeldView) (messages : List Msg) (here : IsRingNode m desk reach queue messages) where
+module _ (m : Member) (desk : DeskView) (reach : Reach) (queue : List HeldView) (messages : List Msg) (here : IsRingNode m desk reach queue messages) where
   -- it is asked
   pub asks : (q : Request) (h : HeldView) → h.ticket ≡ ticket_for q desk → IsRingNode m (submitted q desk) reach (queue ++ h ∷ []) messages
   asks q h is = record {

@@ -1,12 +1,13 @@
 -- A node at work, and what its calls make of it.
-use Rattle.std.proofs.Common.{arith, Err, ◌≡◌, ◌⊎◌, ⊎_elim, if◌then◌else◌, ℕ, ◌+◌, ◌<◌, ◌≤◌, ◌^◌, true, false, List, [], ◌∷◌, ◌++◌, length, take, Option, Some, None, inl, inr, refl, sym, ap, subst, ◌∙◌, length-append}
+use Rattle.std.proofs.Common.{arith, Err, ◌≡◌, ◌⊎◌, ⊎_elim, ℕ, ◌+◌, ◌<◌, ◌≤◌, ◌^◌, true, false, List, [], ◌∷◌, ◌++◌, length, take, Option, Some, None, inl, inr, refl, sym, ap, subst, ◌∙◌, length-append}
 use Rattle.std.proofs.lemmas.Bool.Decides.{nat_tests}
 use Rattle.std.proofs.lemmas.List.{take-append-le, length-take}
 use Rattle.std.specs.List.{filter}
 use Rattle.ring_records.specs.declared.input.Input.{Input}
 use Rattle.ring_records.specs.declared.request.Request.{Request}
 use Rattle.ring_records.specs.Admission.{IsLawful}
-use Rattle.disk_model.specs.FuseDevice.{inner_of, is_idle_device, reach_of}
+use Rattle.disk_model.specs.Disk.{Reach, Reaches}
+use Rattle.disk_model.specs.FuseDevice.{inner_of, is_idle_device}
 use Rattle.disk_model.specs.MemDevice.{disk_of, limit_of}
 use Rattle.disk_model.specs.declared.fuse.FuseDevice.{FuseDevice}
 use Rattle.disk_model.specs.declared.memory.MemDevice.{MemDevice}
@@ -26,7 +27,7 @@ use Rattle.group_commit.specs.Ticket.{TicketView}
 use Rattle.node_store.proofs.Standing.{lawful_asked}
 use Rattle.ring_node.specs.Node.{new_node, asked_with, restarted}
 use Rattle.ring_node.specs.Open.{is_due}
-use Rattle.ring_node.specs.Held.{HeldView, MatchFirst, AreHeld, shown_with, view_with, IsServed}
+use Rattle.ring_node.specs.Held.{HeldView, MatchFirst, AreHeld, shown_with, view_with, reach_of, IsServed}
 use Rattle.ring_node.proofs.Queue.{First, held_none, held_more, shown_more, first, held_from, none_due, ended_first, found_first}
 
 -- what is shown by other names
@@ -35,18 +36,17 @@ same_view desk desk' queue queue' d q = λ i. view_with (d i) (q i)
 
 -- ---- a node that is opened
 
--- an idle device reaches as far as the one behind it
-pub idle_reach : {D : Type 0} (reach : D → ℕ) (device : FuseDevice D) (inner : D) → is_idle_device device ≡ true → inner_of device ≡ inner → reach_of reach device ≡ reach inner
-idle_reach reach device inner idle behind = ap (λ b. if b then reach (inner_of device) else 0) idle ∙ ap reach behind
+-- an idle device is reliable as far as the one behind it goes
+pub idle_reaches : (device : FuseDevice MemDevice) (inner : MemDevice) (size : ℕ) → is_idle_device device ≡ true → inner_of device ≡ inner → size ≤ limit_of inner → Reaches (reach_of device) size
+idle_reaches device inner size idle behind within = let same = ap limit_of behind in record { reliable = idle; within = omega arith }
 
 -- what it holds is no longer
-pub image_within : (device : FuseDevice MemDevice) → is_idle_device device ≡ true → length (disk_of (inner_of device)).image ≤ reach_of limit_of device
+pub image_within : (device : FuseDevice MemDevice) → is_idle_device device ≡ true → Reaches (reach_of device) (length (disk_of (inner_of device)).image)
 image_within device idle =
-    let reach = idle_reach limit_of device (inner_of device) idle refl in
     let long = length-take (inner_of device).held.size (inner_of device).held.bytes.items in
-    omega arith
+    idle_reaches device (inner_of device) _ idle refl (omega arith)
 
-pub starts : (node n capacity run : ℕ) (inputs : List Input) (reach : ℕ) → IsHistory (member node n capacity) inputs → 17 + capacity ≤ reach → IsServed (new_desk (member node n capacity) run inputs) reach []
+pub starts : (node n capacity run : ℕ) (inputs : List Input) (reach : Reach) → IsHistory (member node n capacity) inputs → Reaches reach (17 + capacity) → IsServed (new_desk (member node n capacity) run inputs) reach []
 starts node n capacity run inputs reach lawful reaches = record {
   takes = refl;
   works = refl;
@@ -121,7 +121,7 @@ module _ (desk : DeskView) (from top : ℕ) (queue : List HeldView) (held : AreH
 
 -- ---- a node at work
 
-module _ (desk : DeskView) (reach : ℕ) (queue : List HeldView) (here : IsServed desk reach queue) where
+module _ (desk : DeskView) (reach : Reach) (queue : List HeldView) (here : IsServed desk reach queue) where
   -- it is asked
   module _ (q : Request) (h : HeldView) (is : h.ticket ≡ ticket_for q desk) where
     pub gives : IsServed (submitted q desk) reach (queue ++ h ∷ [])

@@ -1,5 +1,10 @@
 -- A node at work with its open tickets, and the messages that it sent.
 use Rattle.std.specs.Prelude.{ℕ, ◌≡◌, ◌+◌, ◌≤◌, true, false, List, [], ◌∷◌, length, Option}
+use Rattle.disk_model.specs.Disk.{Reach, Reaches}
+use Rattle.disk_model.specs.FuseDevice as fuse
+use Rattle.disk_model.specs.MemDevice as memory
+use Rattle.disk_model.specs.declared.fuse.FuseDevice.{FuseDevice}
+use Rattle.disk_model.specs.declared.memory.MemDevice.{MemDevice}
 use Rattle.ring_records.specs.declared.msg.Msg.{Msg}
 use Rattle.ring_records.specs.Answer.{Answered, durable_in}
 use Rattle.ring_records.specs.Emission.{sent}
@@ -55,15 +60,20 @@ view_with desk queue = record {
   issued = desk.issued;
 }
 
--- It takes requests, nothing flies, its open tickets are these, and its device reaches to the journal's end.
-pub record IsServed (desk : DeskView) (reach : ℕ) (queue : List HeldView) : Type 0 where
+-- the reach of a node's device
+abbrev pub reach_of : FuseDevice MemDevice → Reach
+reach_of device = fuse.reach_of memory.reach_of device
+
+-- It takes requests, nothing flies, its open tickets are these, and its device is reliable to the journal's end: no fuse
+-- was armed.
+pub record IsServed (desk : DeskView) (reach : Reach) (queue : List HeldView) : Type 0 where
   pub takes : desk.closed ≡ false
   pub works : desk.failed ≡ false
   pub idle : desk.state.flying ≡ desk.state.durable
   pub within : desk.state.durable ≤ length desk.state.inputs
   pub lawful : IsHistory desk.member desk.state.inputs
   pub held : AreHeld desk.member.node desk.run 0 (length desk.state.inputs) desk.tickets queue
-  pub reaches : 17 + desk.member.capacity ≤ reach
+  pub reaches : Reaches reach (17 + desk.member.capacity)
 
 -- ---- a node of the ring
 
@@ -72,7 +82,7 @@ abbrev pub AreInside : ℕ → List Msg → Type 0
 AreInside n messages = (msg : Msg) → Contains messages msg → (candidate_of msg).node ≤ n
 
 -- the node at work is this one, and the messages are those that its durable inputs sent
-pub record IsRingNode (m : Member) (desk : DeskView) (reach : ℕ) (queue : List HeldView) (messages : List Msg) : Type 0 where
+pub record IsRingNode (m : Member) (desk : DeskView) (reach : Reach) (queue : List HeldView) (messages : List Msg) : Type 0 where
   pub range : is_header m ≡ true
   pub is : desk.member ≡ m
   pub served : IsServed desk reach queue

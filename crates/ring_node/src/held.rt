@@ -1,6 +1,7 @@
 // The open tickets of a node, with the numbers that the ring gave them.
 ghost use Rattle.std.specs.Prelude.{◌≡◌, ◌≤◌, ◌<◌, ℕ, [], length, true, false, IfOk};
 ghost use Rattle.std.specs.List.{filter_map};
+ghost use Rattle.disk_model.specs.FuseDevice.{inner_of};
 ghost use Rattle.disk_model.specs.MemDevice.{disk_of};
 ghost use Rattle.ring_records.specs.Answer.{Answered};
 ghost use Rattle.ring_records.specs.Member.{IsHistory};
@@ -55,6 +56,7 @@ pub(crate) fn closed(mut node: Node<Disk>, held: VecDeque<Held>) -> MemDevice
     requires held { AreHeld (nodes.desk_of node).member.node (nodes.desk_of node).run 0 (length (nodes.state_of node).inputs) (nodes.desk_of node).tickets held.items }
     ensures lawful { IsHistory (nodes.desk_of node).member (nodes.state_of node).inputs }
     ensures holds { Holds (nodes.desk_of node).member (disk_of result) (nodes.state_of node) }
+    ensures device { result ≡ inner_of (nodes.device_of node) }
 {
     node.close();
     forfeit_all(&mut node, held);

@@ -22,8 +22,8 @@ use std::marker::Model;
 /// A device in memory that may be stopped.
 pub(crate) type Disk = FuseDevice<MemDevice>;
 
-/// A node of a ring of 2 to 16 on a device in memory, with its open tickets, the oldest first. Nothing flies between
-/// its calls. It is not let go: `end` ends it.
+/// A node of a ring of 2 to 16 on a device in memory, with its open tickets, the oldest first. Between its calls
+/// nothing flies and no fuse is armed. It is not let go: `end` ends it.
 pub struct RingNode {
     pub(crate) alloc: Global,
     pub(crate) me: NodeNo,
@@ -38,18 +38,16 @@ pub struct RingNode {
 }
 
 impl Model for RingNode {
-    ghost use Rattle.disk_model.specs.FuseDevice.{reach_of};
-    ghost use Rattle.disk_model.specs.MemDevice.{limit_of};
     ghost use Rattle.ring_records.specs.Member.{member};
     ghost use Rattle.node_store.specs.Node as nodes;
-    ghost use Rattle.ring_node.specs.Held.{view_with, IsRingNode};
+    ghost use Rattle.ring_node.specs.Held.{view_with, reach_of, IsRingNode};
     ghost use Rattle.ring_node.specs.Node.{NodeView};
 
     ghost Value = { NodeView };
 
     ghost view = { λ r. view_with (nodes.desk_of r.node) r.held.items };
 
-    ghost invariant = { λ r. IsRingNode (member r.me r.n r.capacity) (nodes.desk_of r.node) (reach_of limit_of (nodes.device_of r.node)) r.held.items r.messages.items };
+    ghost invariant = { λ r. IsRingNode (member r.me r.n r.capacity) (nodes.desk_of r.node) (reach_of (nodes.device_of r.node)) r.held.items r.messages.items };
 }
 
 impl RingNode {

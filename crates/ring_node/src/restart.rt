@@ -1,7 +1,8 @@
 // A node that loses its memory, and is opened again from its device.
 ghost use Rattle.std.specs.Prelude.{◌≡◌, ◌⊎◌, ◌+◌, ◌≤◌, ◌<◌, ℕ, length, Bool, true, false, take, IfOk, OnOk};
 ghost use Rattle.std.specs.List.{filter_map};
-ghost use Rattle.disk_model.specs.FuseDevice.{reach_of};
+ghost use Rattle.disk_model.specs.Disk.{Reaches};
+ghost use Rattle.disk_model.specs.FuseDevice.{inner_of};
 ghost use Rattle.disk_model.specs.MemDevice.{disk_of, limit_of};
 ghost use Rattle.ring_records.specs.Answer.{NodeState, launched, landed, left_by};
 ghost use Rattle.ring_records.specs.Emission.{sent};
@@ -10,15 +11,14 @@ ghost use Rattle.ring_records.specs.Member.{member, IsHistory};
 ghost use Rattle.group_commit.specs.Desk.{new_desk};
 ghost use Rattle.node_store.specs.Node as nodes;
 ghost use Rattle.node_store.specs.State.{Holds};
-ghost use Rattle.ring_node.specs.Held.{AreHeld};
+ghost use Rattle.ring_node.specs.Held.{reach_of, AreHeld};
 ghost use Rattle.ring_node.specs.Node.{durable_in, restarted, left, is_credited};
 ghost use Rattle.ring_node.specs.Open.{number_of};
 
 use crate::held::{Held, closed, numbers_in};
 use crate::messages::add_carried;
 use crate::node::{Disk, RingNode, memory_alone};
-use disk_model::{Device, FuseDevice, MemDevice, Tear};
-use gated_journal::device_size;
+use disk_model::{FuseDevice, MemDevice, Tear};
 use group_commit::Desk;
 use node_store::Node;
 use ring_records::{Msg, NodeNo, Refusal};
@@ -123,6 +123,7 @@ fn stopped(
     requires held { AreHeld (nodes.desk_of node).member.node (nodes.desk_of node).run 0 (length (nodes.state_of node).inputs) (nodes.desk_of node).tickets held.items }
     ensures lawful { OnOk result (IsHistory (nodes.desk_of node).member (nodes.state_of node).inputs) }
     ensures holds { IfOk result (λ device. Holds (nodes.desk_of node).member (disk_of device) (launched (nodes.state_of node))) }
+    ensures limit { IfOk result (λ device. limit_of device ≡ limit_of (inner_of (nodes.device_of node))) }
 {
     node.arm(call.saturating_sub(1), false);
     let flown = flush_or_fail(&mut node);
@@ -138,6 +139,7 @@ fn flush_or_fail(node: &mut Node<Disk>) -> Result<(), AllocError>
     ensures state { OnOk result ((nodes.state_of node.new ≡ launched (nodes.state_of node.old)) ⊎ (nodes.state_of node.new ≡ landed (launched (nodes.state_of node.old)))) }
     ensures inputs { (nodes.state_of node.new).inputs ≡ (nodes.state_of node.old).inputs }
     ensures stays { nodes.desk_of node.new ≡ record (nodes.desk_of node.old) { state = nodes.state_of node.new; failed = (nodes.desk_of node.new).failed } }
+    ensures reach { reach_of (nodes.device_of node.new) ≡ reach_of (nodes.device_of node.old) }
 {
     match node.flush() {
         Ok(_landed) => Ok(()),
@@ -151,21 +153,18 @@ fn flush_or_fail(node: &mut Node<Disk>) -> Result<(), AllocError>
 // Opens the node that the device holds.
 fn reopened(
     alloc: Global,
-    mut device: MemDevice,
+    device: MemDevice,
     me: NodeNo,
     n: u8,
     capacity: u32,
     run: u64,
 ) -> Result<Node<Disk>, AllocError>
+    requires long { 17 + capacity ≤ limit_of device }
     requires holds { (s : NodeState) × IsHistory (member me n capacity) s.inputs × Holds (member me n capacity) (disk_of device) s }
     ensures desk { IfOk result (λ node. (s : NodeState) → IsHistory (member me n capacity) s.inputs → Holds (member me n capacity) (disk_of device) s
         → (keep : Bool) × (nodes.desk_of node ≡ new_desk (member me n capacity) run (left_by keep s))) }
-    ensures reaches { IfOk result (λ node. 17 + capacity ≤ reach_of limit_of (nodes.device_of node)) }
+    ensures reaches { IfOk result (λ node. Reaches (reach_of (nodes.device_of node)) (17 + capacity)) }
 {
-    // A device that was stopped does not tell that it still reaches so far, and an empty read does.
-    if device.read_at(device_size(capacity), &mut []).is_err() {
-        return Err(AllocError);
-    }
     match Node::recover(alloc, FuseDevice::idle(device), me, n, run) {
         Ok(node) => Ok(node),
         Err((_device, refusal)) => Err(memory_alone(refusal)),

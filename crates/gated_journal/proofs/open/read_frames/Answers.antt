@@ -32,4 +32,4 @@ pub returns-in-Err-Damaged-clause-refusal : goal.returns-in-Err-Damaged-clause-r
 returns-in-Err-Damaged-clause-refusal g c = inr (inr (damaged g c))
 
 pub returns-in-Err-Damaged-clause-works : goal.returns-in-Err-Damaged-clause-works
-returns-in-Err-Damaged-clause-works g c = λ some within. inr (damaged g c)
+returns-in-Err-Damaged-clause-works g c = λ reach. inr (damaged g c)

@@ -25,4 +25,4 @@ pub returns-clause-refusal : goal.returns-clause-refusal
 returns-clause-refusal g c = on_err _ _ _ (λ e is. inr is) (if_err _ _ (found g c))
 
 pub returns-clause-works : goal.returns-clause-works
-returns-clause-works g c = λ some within. if_err _ _ (found g c)
+returns-clause-works g c = λ reach. if_err _ _ (found g c)

@@ -10,4 +10,5 @@ returns-in_default c =
       state = inl (ap (λ (d : DeskView). d.state) failed);
       inputs = ap (λ (d : DeskView). d.state.inputs) failed;
       stays = c.flush.ensures.stays;
+      reach = c.flush.ensures.reach;
     }

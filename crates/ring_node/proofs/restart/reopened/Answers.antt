@@ -1,44 +1,33 @@
-use Rattle.std.proofs.Common.{rules, ◌≡◌, ◌≤◌, ◌+◌, arith, IsOk, ap, sym, subst, ◌∙◌}
-use Rattle.disk_model.specs.Disk.{Disk}
-use Rattle.disk_model.specs.FuseDevice.{inner_of, reach_of}
-use Rattle.disk_model.specs.MemDevice.{disk_of, limit_of}
+use Rattle.std.proofs.Common.{◌≡◌, ◌+◌, ap, sym, subst}
+use Rattle.disk_model.specs.Disk.{Disk, Reach, Reaches}
+use Rattle.disk_model.specs.FuseDevice.{inner_of}
+use Rattle.disk_model.specs.MemDevice.{disk_of}
 use Rattle.ring_records.specs.Answer.{NodeState}
 use Rattle.ring_records.specs.Member.{member}
 use Rattle.node_store.specs.Node as nodes
 use Rattle.node_store.specs.State.{Holds}
-use Rattle.ring_node.proofs.Serving.{idle_reach, image_within, no_cause}
+use Rattle.ring_node.specs.Held.{reach_of}
+use Rattle.ring_node.proofs.Serving.{idle_reaches, image_within, no_cause}
 use Rattle.ring_node.proofs.restart.reopened.Goals as goal
 use Rattle.ring_node.proofs.restart.reopened.Goals.{After-recover}
 
 -- what is held at the start is held by the device that is opened
 again : (c : After-recover) → (s : NodeState) → Holds (member c.args.me c.args.n c.args.capacity) (disk_of c.args.device) s → Holds (member c.args.me c.args.n c.args.capacity) (disk_of (inner_of c.idle.result)) s
 again c s holds =
-    let same : disk_of (inner_of c.idle.result) ≡ disk_of c.args.device = ap disk_of c.idle.ensures.inner ∙ c.read_at.ensures.disk in
+    let same : disk_of (inner_of c.idle.result) ≡ disk_of c.args.device = ap disk_of c.idle.ensures.inner in
     subst (λ (d : Disk). Holds (member c.args.me c.args.n c.args.capacity) d s) (sym same) holds
-
--- the device that is opened reaches to the journal's end
-reached : (c : After-recover) → 17 + c.args.capacity ≤ reach_of limit_of c.idle.result
-reached c =
-    let read : IsOk c.read_at.result = search rules in
-    let off = c.device_size.ensures in
-    let far = c.read_at.ensures.limit.0 read in
-    let stays = c.read_at.ensures.reach.same in
-    let reach = idle_reach limit_of c.idle.result c.read_at.new.self c.idle.ensures.idle c.idle.ensures.inner in
-    omega arith
 
 pub returns-in-Ok-clause-desk : goal.returns-in-Ok-clause-desk
 returns-in-Ok-clause-desk c = λ s lawful holds. c.in-Ok.ensures.recovery c.args.capacity s lawful (again (goal.at.returns-in-Ok-clause-desk c).After-recover s holds)
 
 pub returns-in-Ok-clause-reaches : goal.returns-in-Ok-clause-reaches
 returns-in-Ok-clause-reaches c =
-    let reach = reached (goal.at.returns-in-Ok-clause-reaches c).After-recover in
-    let same : reach_of limit_of (nodes.device_of c.in-Ok.node) ≡ reach_of limit_of c.idle.result = c.in-Ok.ensures.reach in
-    omega arith
+    let same : reach_of (nodes.device_of c.in-Ok.node) ≡ reach_of c.idle.result = c.in-Ok.ensures.reach in
+    subst (λ (r : Reach). Reaches r (17 + c.args.capacity)) (sym same) (idle_reaches c.idle.result c.args.device (17 + c.args.capacity) c.idle.ensures.idle c.idle.ensures.inner c.requires.long)
 
--- The device reaches to the journal's end, and to that of what it holds, so it is memory that was missing.
+-- The device is reliable to the end of what it holds, so it is memory that was missing.
 pub memory_alone-requires : goal.memory_alone-requires
 memory_alone-requires c =
     let refused = c.in-Err.ensures in
     let held = refused.recovery_err c.args.capacity c.requires.holds.0 c.requires.holds.1 (again (goal.at.memory_alone-requires c).After-recover c.requires.holds.0 c.requires.holds.2) in
-    let reach = reached (goal.at.memory_alone-requires c).After-recover in
-    no_cause c.args.me c.args.n _ _ _ _ held.0 (refused.works (omega arith) (image_within c.idle.result c.idle.ensures.idle))
+    no_cause c.args.me c.args.n _ _ _ _ held.0 (refused.works (image_within c.idle.result c.idle.ensures.idle))

@@ -1,4 +1,5 @@
 use Rattle.std.proofs.Common.{◌≡◌, ◌≤◌, ◌+◌, ◌-◌, ℕ, min, List, length, ap, ◌∙◌, sym, refl, length-take, arith}
+use Rattle.disk_model.specs.Disk.{Reach}
 use Rattle.disk_model.specs.Buffer as buffer
 use Rattle.disk_model.specs.Shadow.{is_written}
 use Rattle.disk_model.proofs.Shadows.{clean_next, marked_next, before_next}
@@ -11,7 +12,7 @@ invariant_of-self c =
     let after = c.note.new.self in
     let held = c.write_at.new.self in
     let limit = buffer.limit_of device.held in
-    let same_limit : buffer.limit_of held ≡ limit = c.write_at.ensures.reach.same in
+    let same_limit : buffer.limit_of held ≡ limit = ap (λ (r : Reach). r.limit) c.write_at.ensures.reach.same in
     let n = length c.args.bytes.now in
     let was = buffer.disk_of device.held in
     let now = buffer.disk_of held in

@@ -98,10 +98,10 @@ returns-clause-any_moment g c = λ inputs all.
     (λ image is. moment header old.image image inputs batch j.place (length c.deref.result.now) read is) (c.append.ensures.any_moment 16 inputs batch rest.synced read.frames frame)
 
 pub returns-clause-works : goal.returns-clause-works
-returns-clause-works g c = λ positive fit.
+returns-clause-works g c = λ reach.
     let j = c.args.self.now in
     let b = c.args.batch in
     let f = fits b.inputs.items b.bytes.items b.framed in
     let room : used_by b.inputs.items ≤ j.capacity - j.used = c.requires.room in
-    let ok = c.append.ensures.reach.works positive (omega (arith, ap length c.deref.ensures.value, f.within, f.some, room, j.within, fit)) in
+    let ok = c.append.ensures.reach.works (record { reliable = reach.reliable; within = omega (arith, ap length c.deref.ensures.value, f.within, f.some, room, j.within, reach.within) }) in
     search (rules, ok)

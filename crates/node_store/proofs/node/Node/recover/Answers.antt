@@ -46,7 +46,7 @@ pub returns-in-Err-clause-refusal : goal.returns-in-Err-clause-refusal
 returns-in-Err-clause-refusal g c = record { cause = inl c.in-Err.ensures.refusal }
 
 pub returns-in-Err-clause-works : goal.returns-in-Err-clause-works
-returns-in-Err-clause-works g c = λ reach fits. ⊎_elim (λ short. inl short) (λ unread. inr (inl unread)) (c.in-Err.ensures.works reach fits)
+returns-in-Err-clause-works g c = λ reach. ⊎_elim (λ short. inl short) (λ unread. inr (inl unread)) (c.in-Err.ensures.works reach)
 
 pub returns-in-Ok-open-clause-desk : goal.returns-in-Ok-open-clause-desk
 returns-in-Ok-open-clause-desk g c =

@@ -1,10 +1,8 @@
 use Rattle.std.proofs.Common.{◌≡◌, ◌<◌, ◌^◌, false, ap, sym, subst, ◌∙◌, ◌++◌, ◌∷◌, [], refl}
-use Rattle.disk_model.specs.FuseDevice.{reach_of}
-use Rattle.disk_model.specs.MemDevice.{limit_of}
 use Rattle.ring_records.specs.Message.{is_outside}
 use Rattle.group_commit.specs.Ticket.{shown}
 use Rattle.ring_node.specs.Node.{NodeView, asked_with}
-use Rattle.ring_node.specs.Held.{HeldView}
+use Rattle.ring_node.specs.Held.{HeldView, reach_of}
 use Rattle.ring_node.proofs.Queue.{put_behind}
 use Rattle.ring_node.proofs.Ring.{by_name, asks}
 use Rattle.ring_node.proofs.Serving.{same_view, gives_shown, unobjected, no_objection}
@@ -15,7 +13,7 @@ invariant_of-self-in-Ok c =
     let made = c.in-Ok.ensures in
     let h : HeldView = record { number = c.args.number; ticket = shown c.in-Ok.ticket } in
     let queue : c.push_back_reserved.new.self.items ≡ c.self.inside.held.items ++ h ∷ [] = put_behind c.push_back_reserved.new.self.items c.reserve.new.self.items c.self.inside.held.items h c.push_back_reserved.ensures.items c.reserve.ensures.items in
-    by_name _ _ _ _ _ _ _ _ _ made.next (ap (reach_of limit_of) c.submit.ensures.device) queue refl (asks _ _ _ _ _ c.self.invariant c.args.question h made.ticket)
+    by_name _ _ _ _ _ _ _ _ _ made.next (ap reach_of c.submit.ensures.device) queue refl (asks _ _ _ _ _ c.self.invariant c.args.question h made.ticket)
 
 pub returns-in-Ok-clause-next : goal.returns-in-Ok-clause-next
 returns-in-Ok-clause-next c =
@@ -28,7 +26,7 @@ pub returns-in-Err-clause-err : goal.returns-in-Err-clause-err
 returns-in-Err-clause-err c = same_view _ _ _ _ c.in-Err.ensures.same c.reserve.ensures.items ∙ c.self.view_is
 
 pub invariant_of-self-in-Err : goal.invariant_of-self-in-Err
-invariant_of-self-in-Err c = by_name _ _ _ _ _ _ _ _ _ c.in-Err.ensures.same (ap (reach_of limit_of) c.submit.ensures.device) c.reserve.ensures.items refl c.self.invariant
+invariant_of-self-in-Err c = by_name _ _ _ _ _ _ _ _ _ c.in-Err.ensures.same (ap reach_of c.submit.ensures.device) c.reserve.ensures.items refl c.self.invariant
 
 pub memory_alone-requires : goal.memory_alone-requires
 memory_alone-requires c =

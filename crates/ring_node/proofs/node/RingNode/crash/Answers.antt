@@ -1,11 +1,11 @@
-use Rattle.std.proofs.Common.{ap, subst, ◌∙◌}
+use Rattle.std.proofs.Common.{ℕ, ◌+◌, ◌≤◌, ap, sym, subst, ◌∙◌}
 use Rattle.std.specs.List.{filter_map}
 use Rattle.ring_records.specs.Member.{Member, member}
-use Rattle.disk_model.specs.MemDevice.{disk_of}
+use Rattle.disk_model.specs.MemDevice.{disk_of, limit_of}
 use Rattle.node_store.specs.State.{Holds}
 use Rattle.ring_node.specs.Node.{NodeView, restarted, durable_in}
 use Rattle.ring_node.specs.Open.{number_of}
-use Rattle.ring_node.proofs.Again.{lawful_here, crashed_again, crashed_shown, lost_numbers}
+use Rattle.ring_node.proofs.Again.{lawful_here, long_here, crashed_again, crashed_shown, lost_numbers}
 use Rattle.ring_node.proofs.node.RingNode.crash.Goals as goal
 use Rattle.ring_node.proofs.node.RingNode.crash.Goals.{After-closed-device}
 
@@ -14,7 +14,12 @@ held : (c : After-closed-device) → Holds (member c.self.inside.me c.self.insid
 held c = subst (λ (k : Member). Holds k (disk_of c.closed-device.result) c.self.inside.node.desk.state) c.self.invariant.is c.closed-device.ensures.holds
 
 pub reopened-requires : goal.reopened-requires
-reopened-requires c = record { holds = (c.self.inside.node.desk.state, lawful_here _ _ _ _ _ c.self.invariant, held (goal.at.reopened-requires c).After-closed-device) }
+reopened-requires c =
+    let here = (goal.at.reopened-requires c).After-closed-device in
+    record {
+      long = subst (λ (k : ℕ). 17 + c.self.inside.capacity ≤ k) (sym (ap limit_of c.closed-device.ensures.device)) (long_here _ _ _ _ _ c.self.invariant);
+      holds = (c.self.inside.node.desk.state, lawful_here _ _ _ _ _ c.self.invariant, held here);
+    }
 
 pub invariant_of-again : goal.invariant_of-again
 invariant_of-again c =

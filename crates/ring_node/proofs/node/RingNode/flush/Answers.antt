@@ -1,7 +1,6 @@
 use Rattle.std.proofs.Common.{arith, ◌≡◌, ◌≤◌, ◌++◌, List, length, ap, ◌∙◌, refl, ⊎_elim}
-use Rattle.disk_model.specs.FuseDevice.{reach_of}
-use Rattle.disk_model.specs.MemDevice.{limit_of}
 use Rattle.ring_records.specs.declared.msg.Msg.{Msg}
+use Rattle.ring_node.specs.Held.{reach_of}
 use Rattle.ring_node.specs.Messages.{carried_in}
 use Rattle.ring_node.specs.Node.{NodeView, flushed}
 use Rattle.ring_node.proofs.Ring.{by_name, few, lands}
@@ -19,9 +18,8 @@ add_carried-requires c =
 pub memory_alone-requires : goal.memory_alone-requires
 memory_alone-requires c =
     let here = c.self.invariant.served in
-    let reaches = here.reaches in
     let refused = c.in-Err.ensures in
-    ⊎_elim (λ failed. no_fault (refused.cause here.works) failed) (λ short. short) (refused.in_reach (omega arith) reaches)
+    ⊎_elim (λ failed. no_fault (refused.cause here.works) failed) (λ short. short) (refused.in_reach here.reaches)
 
 pub invariant_of-self-in-Ok : goal.invariant_of-self-in-Ok
 invariant_of-self-in-Ok c =
@@ -32,15 +30,13 @@ invariant_of-self-in-Ok c =
 
 pub invariant_of-self-in-Err : goal.invariant_of-self-in-Err
 invariant_of-self-in-Err c =
-    let reaches = c.self.invariant.served.reaches in
-    let same = c.in-Err.ensures.same (c.in-Err.ensures.in_reach (omega arith) reaches) in
-    by_name _ _ _ _ _ _ _ _ _ same.0 (ap (reach_of limit_of) same.1) refl c.reserve.ensures.items c.self.invariant
+    let same = c.in-Err.ensures.same (c.in-Err.ensures.in_reach c.self.invariant.served.reaches) in
+    by_name _ _ _ _ _ _ _ _ _ same.0 (ap reach_of same.1) refl c.reserve.ensures.items c.self.invariant
 
 pub returns-in-Ok-clause-next : goal.returns-in-Ok-clause-next
 returns-in-Ok-clause-next c = same_view _ _ c.self.inside.held.items _ c.in-Ok.ensures.next refl ∙ ap (λ (v : NodeView). flushed v) c.self.view_is
 
 pub returns-in-Err-clause-err : goal.returns-in-Err-clause-err
 returns-in-Err-clause-err c =
-    let reaches = c.self.invariant.served.reaches in
-    let same = c.in-Err.ensures.same (c.in-Err.ensures.in_reach (omega arith) reaches) in
+    let same = c.in-Err.ensures.same (c.in-Err.ensures.in_reach c.self.invariant.served.reaches) in
     same_view _ _ c.self.inside.held.items _ same.0 refl ∙ c.self.view_is

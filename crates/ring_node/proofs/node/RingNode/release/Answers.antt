@@ -1,12 +1,10 @@
 use Rattle.std.proofs.Common.{rules, ◌≡◌, ◌≤◌, ◌<◌, ℕ, ◌∷◌, [], true, ap, subst, sym, ◌∙◌, refl}
 use Rattle.std.specs.List.{filter}
-use Rattle.disk_model.specs.FuseDevice.{reach_of}
-use Rattle.disk_model.specs.MemDevice.{limit_of}
 use Rattle.group_commit.specs.Desk.{DeskView, ended, IsHere}
 use Rattle.group_commit.specs.Ticket.{TicketView, shown}
 use Rattle.ring_node.specs.Node.{NodeView}
 use Rattle.ring_node.specs.Open.{Open, is_due}
-use Rattle.ring_node.specs.Held.{HeldView, MatchFirst, shown_with}
+use Rattle.ring_node.specs.Held.{HeldView, MatchFirst, shown_with, reach_of}
 use Rattle.ring_node.proofs.Queue.{none_shown}
 use Rattle.ring_node.proofs.Ring.{by_name, ends}
 use Rattle.ring_node.proofs.Serving.{sealed, oldest, is_here, early, first_shown, ends_due, not_sealed}
@@ -41,7 +39,7 @@ left c = c.in-Ok.ensures.next ∙ ap (λ (x : HeldView). ended x.ticket.own c.se
 
 pub invariant_of-self-2 : goal.invariant_of-self-2
 invariant_of-self-2 c =
-    by_name _ _ _ _ _ _ _ _ _ (left c) (ap (reach_of limit_of) c.redeem.ensures.device) refl refl (ends _ _ _ _ _ c.self.invariant c.in-Some.first c.pop_front.new.self.items c.in-Some.ensures.items)
+    by_name _ _ _ _ _ _ _ _ _ (left c) (ap reach_of c.redeem.ensures.device) refl refl (ends _ _ _ _ _ c.self.invariant c.in-Some.first c.pop_front.new.self.items c.in-Some.ensures.items)
 
 pub returns-clause-some : goal.returns-clause-some
 returns-clause-some c =

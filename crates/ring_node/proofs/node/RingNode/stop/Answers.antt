@@ -1,4 +1,4 @@
-use Rattle.std.proofs.Common.{◌≡◌, ◌≤◌, ◌<◌, true, List, length, take, nat_lt, ap, subst, sym, ◌∙◌}
+use Rattle.std.proofs.Common.{ℕ, ◌≡◌, ◌+◌, ◌≤◌, ◌<◌, true, List, length, take, nat_lt, ap, subst, sym, ◌∙◌}
 use Rattle.std.specs.List.{filter_map}
 use Rattle.disk_model.specs.MemDevice.{disk_of}
 use Rattle.ring_records.specs.Answer.{launched}
@@ -10,7 +10,7 @@ use Rattle.node_store.specs.State.{Holds}
 use Rattle.ring_node.specs.Held.{HeldView, AreHeld}
 use Rattle.ring_node.specs.Node.{NodeView, restarted, left, is_credited}
 use Rattle.ring_node.specs.Open.{number_of}
-use Rattle.ring_node.proofs.Again.{lawful_here, all_durable, sent_first, credits_few, stopped_again, stopped_shown, lost_numbers}
+use Rattle.ring_node.proofs.Again.{lawful_here, long_here, all_durable, sent_first, credits_few, stopped_again, stopped_shown, lost_numbers}
 use Rattle.ring_node.proofs.Queue.{held_none}
 use Rattle.ring_node.proofs.node.RingNode.stop.Goals as goal
 use Rattle.ring_node.proofs.node.RingNode.stop.Goals.{In_ok-device}
@@ -20,7 +20,12 @@ held : (c : In_ok-device) → Holds (member c.self.inside.me c.self.inside.n c.s
 held c = subst (λ (k : Member). Holds k (disk_of c.in_ok-device.device) (launched c.self.inside.node.desk.state)) c.self.invariant.is c.in_ok-device.ensures.holds
 
 pub reopened-requires : goal.reopened-requires
-reopened-requires c = record { holds = (launched c.self.inside.node.desk.state, lawful_here _ _ _ _ _ c.self.invariant, held (goal.at.reopened-requires c).In_ok-device) }
+reopened-requires c =
+    let here = (goal.at.reopened-requires c).In_ok-device in
+    record {
+      long = subst (λ (k : ℕ). 17 + c.self.inside.capacity ≤ k) (sym c.in_ok-device.ensures.limit) (long_here _ _ _ _ _ c.self.invariant);
+      holds = (launched c.self.inside.node.desk.state, lawful_here _ _ _ _ _ c.self.invariant, held here);
+    }
 
 pub caught_up-requires-clause-durable : goal.caught_up-requires-clause-durable
 caught_up-requires-clause-durable c =
