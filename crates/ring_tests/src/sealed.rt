@@ -8,11 +8,9 @@ use test_rows::Ask;
 #[test]
 fn a_request_asks_for_room_for_its_own_reply(rt: HostRuntime) {
     let mut world = ring(&rt, rt.alloc(), 3, false);
-    let mut ticket = 0;
-    for term in 1..101 {
+    for term in 1..101_u32 {
         let stood = asks(&rt, &mut world, 1, Ask::Stand("red", term, 10));
-        ticket += 1;
-        is_sealed(&rt, &stood, ticket);
+        is_sealed(&rt, &stood, u64::from(term));
         assert_eq!(rt; stood.replies.capacity(), 1, "{term}");
     }
     lands(&rt, &mut world, 64, 1);

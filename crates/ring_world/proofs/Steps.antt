@@ -77,7 +77,7 @@ module _ (size capacity : ℕ) (eager failed : Bool) (events : List (ℕ × Acti
     put_sealed u none = All-set IsSealed nodes (number - 1) u none none_due
 
     -- also where what was due is released of a node that stands there in between
-    released_sealed : (u x : NodeView) (v' : NodeView) → v' ≡ without_due x → All IsSealed (set (set nodes (number - 1) u) (number - 1) v')
+    released_sealed : (u x v' : NodeView) → v' ≡ without_due x → All IsSealed (set (set nodes (number - 1) u) (number - 1) v')
     released_sealed u x v' freed = subst (All IsSealed) (sym (set-set nodes (number - 1) u v')) (put_sealed v' (subst IsSealed (sym freed) (without-sealed x)))
 
     -- Node i is asked: the code pushes what is handed over, asks it, and releases what is due.

@@ -103,7 +103,7 @@ module _ (w : RingView) (events : List (ℕ × Action)) (nodes : List NodeView) 
         let same : x ≡ asked_with ticket q v = read ∙ (get_or-set_same nodes (number - 1) v1 x place_within ∙ made) in
         subst (λ (z : NodeView). length (due z.durable z.held) ≤ 1) (sym same) (one_due ticket q v (subst IsSealed (sym was) (none (number - 1) v place_within)))
 
-    -- a batch that lands gives no ticket
+    -- once a batch landed, no more are due than were open
     pub landed_few : (v1 x y : NodeView) → v1 ≡ flushed v → x ≡ get_or (set nodes (number - 1) v1) (number - 1) x → y ≡ get_or nodes (number - 1) y → length (due x.durable x.held) ≤ length y.held
     landed_few v1 x y made read before =
         let same : y ≡ v = before ∙ get_or_from_slice_get nodes (number - 1) v y (slice_get_read nodes (length nodes) (number - 1) v refl place_within was) in
