@@ -13,4 +13,6 @@ mod packets;
 #[cfg(test)]
 mod rings;
 #[cfg(test)]
+mod sealed;
+#[cfg(test)]
 mod worlds;

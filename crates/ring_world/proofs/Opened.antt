@@ -1,8 +1,10 @@
 -- A ring in which nothing has happened.
 use Rattle.std.proofs.Common.{ℕ, zero, suc, ◌≡◌, ◌≤◌, ◌<◌, ◌+◌, true, false, List, [], ◌∷◌, ◌++◌, length, map, replicate, get_or, refl, sym, ap, ◌∙◌, subst, inl, inr, add-one, arith}
+use Rattle.std.specs.List.{All}
 use Rattle.std.proofs.lemmas.Bool.{cases_lt}
 use Rattle.std.proofs.lemmas.Bool.Decides.{nat_tests}
 use Rattle.std.proofs.lemmas.List.{get_or_append_left, length-append, map_push, replicate_more}
+use Rattle.std.proofs.lemmas.List.Elements.{All-nil, All-push}
 use Rattle.std.proofs.Math.Seq.{get_or-append_seam}
 use Rattle.ring_records.specs.Lists.{EachAfter}
 use Rattle.ring_records.specs.Member.{member}
@@ -12,7 +14,7 @@ use Rattle.ring_records.proofs.Leader.{Contains-nil}
 use Rattle.gated_journal.specs.Reading.{is_header}
 use Rattle.ring_node.specs.Node.{NodeView, new_node}
 use Rattle.ring_world.specs.Events.{process, IsSchedule}
-use Rattle.ring_world.specs.Shows.{ShowsNode, Shows, IsSound, held_of, new_nodes}
+use Rattle.ring_world.specs.Shows.{ShowsNode, Shows, IsSound, IsSealed, held_of, new_nodes}
 use Rattle.ring_world.specs.State.{is_ring}
 
 pub header_fits : (k size capacity : ℕ) → is_ring size capacity ≡ true → k ≤ size → is_header (member k size capacity) ≡ true
@@ -73,6 +75,12 @@ fresh_shows size capacity = record {
   node = λ at other lt. subst (ShowsNode size capacity [] (at + 1)) (sym (new_node_at size capacity size at other lt)) (fresh_node size capacity at);
 }
 
+-- no ticket is due
+fresh_sealed : (size capacity k : ℕ) → All IsSealed (new_nodes size capacity k)
+unfolding new_nodes
+fresh_sealed size capacity zero = All-nil IsSealed
+fresh_sealed size capacity (suc k) = All-push IsSealed (new_nodes size capacity k) (new_node (k + 1) size capacity) (fresh_sealed size capacity k) refl
+
 -- no ticket is open
 pub none_held : (size capacity k : ℕ) → map held_of (new_nodes size capacity k) ≡ replicate k []
 unfolding new_nodes
@@ -87,5 +95,6 @@ fresh_sound size capacity nodes ring new = record {
   least = ring_least size capacity ring;
   most = ring_most size capacity ring;
   shows = λ e. subst (Shows size capacity []) (sym new) (fresh_shows size capacity);
+  sealed = λ e. subst (All IsSealed) (sym new) (fresh_sealed size capacity size);
   lawful = tt;
 }

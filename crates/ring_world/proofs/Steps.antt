@@ -1,14 +1,16 @@
 -- What the code makes of a ring is what is said of it.
 use Rattle.std.proofs.Common.{ℕ, zero, suc, ◌≡◌, ◌≤◌, ◌<◌, ◌-◌, Bool, true, false, List, [], ◌∷◌, ◌++◌, length, take, map, set, get_or, Option, sym, ap, ◌∙◌, subst, refl, arith, append_assoc}
-use Rattle.std.specs.List.{insert, remove}
-use Rattle.std.proofs.lemmas.List.{take-append-le, length-append}
+use Rattle.std.specs.List.{All, insert, remove}
+use Rattle.std.proofs.lemmas.List.{take-append-le, length-append, set-set}
+use Rattle.std.proofs.lemmas.List.Elements.{All-set}
 use Rattle.ring_records.specs.declared.request.Request.{Request}
 use Rattle.ring_node.specs.Node.{NodeView, durable_in, asked_with, flushed, restarted, left}
 use Rattle.ring_node.specs.Open.{due}
 use Rattle.ring_world.specs.Events.{Action, Submit, Launch, Crash, IsSchedule}
 use Rattle.ring_world.specs.Ring.{RingView, asked, landed, due_at, release_of, settled, crashed, stopped, given, handed, is_released}
-use Rattle.ring_world.specs.Shows.{Shows, IsSound, held_of, without_due, batch_of}
+use Rattle.ring_world.specs.Shows.{Shows, IsSound, IsSealed, held_of, without_due, batch_of}
 use Rattle.ring_world.proofs.Handed.{handed_delivers}
+use Rattle.ring_world.proofs.Tickets.{without-sealed}
 use Rattle.ring_world.proofs.Ties as ties
 use Rattle.ring_world.proofs.Ties.{Ties}
 
@@ -30,13 +32,16 @@ module _ (size capacity : ℕ) (eager failed : Bool) (events : List (ℕ × Acti
     held = sym (ap (λ (u : RingView). u.held) is);
   }
 
-  -- with more events, and with these nodes, it is seen as t, which has them
+  pub none_due : All IsSealed nodes
+  none_due = sound.1.sealed (ap (λ (u : RingView). u.failed) is ∙ works)
+
+  -- with more events, and with these nodes, of which no ticket is due, it is seen as t, which has them
   module _ (t : RingView) (broken : Bool) (es more : List (ℕ × Action)) (vs : List NodeView) (logged : es ≡ events ++ more) where
     told_same : take told es ≡ take told events
     told_same = ap (take told) logged ∙ take-append-le told events more sound.0
 
-    becomes : w.size ≡ t.size → w.capacity ≡ t.capacity → w.eager ≡ t.eager → broken ≡ t.failed → w.told ≡ t.told → Ties t es vs → (seen broken es vs ≡ t) × Stands broken es vs
-    becomes sizes capacities eagers fails tells tie =
+    becomes : w.size ≡ t.size → w.capacity ≡ t.capacity → w.eager ≡ t.eager → broken ≡ t.failed → w.told ≡ t.told → Ties t es vs → All IsSealed vs → (seen broken es vs ≡ t) × Stands broken es vs
+    becomes sizes capacities eagers fails tells tie none =
         let now : seen broken es vs ≡ t = (λ k. record {
           size = (ap (λ (u : RingView). u.size) is ∙ sizes) k;
           capacity = (ap (λ (u : RingView). u.capacity) is ∙ capacities) k;
@@ -56,6 +61,7 @@ module _ (size capacity : ℕ) (eager failed : Bool) (events : List (ℕ × Acti
               least = sound.1.least;
               most = sound.1.most;
               shows = λ e. subst (λ (u : RingView). Shows u.size u.capacity u.events vs) (sym now) tie.shows;
+              sealed = λ e. none;
               lawful = subst (IsSchedule size capacity) (sym told_same) sound.1.lawful;
             },
           ),
@@ -65,6 +71,14 @@ module _ (size capacity : ℕ) (eager failed : Bool) (events : List (ℕ × Acti
   module _ (i number : ℕ) (place : number ≡ i) (first : 1 ≤ number) (last : i ≤ w.size) (v : NodeView) (was : v ≡ get_or nodes (number - 1) v) where
     low : 1 ≤ i
     low = omega arith
+
+    -- with another node at its place no ticket is due, where none of that node is
+    put_sealed : (u : NodeView) → IsSealed u → All IsSealed (set nodes (number - 1) u)
+    put_sealed u none = All-set IsSealed nodes (number - 1) u none none_due
+
+    -- also where what was due is released of a node that stands there in between
+    released_sealed : (u x v' : NodeView) → v' ≡ without_due x → All IsSealed (set (set nodes (number - 1) u) (number - 1) v')
+    released_sealed u x v' freed = subst (All IsSealed) (sym (set-set nodes (number - 1) u v')) (put_sealed v' (subst IsSealed (sym freed) (without-sealed x)))
 
     -- Node i is asked: the code pushes what is handed over, asks it, and releases what is due.
     module _ (ticket : Option ℕ) (q : Request) (e : is_released w i q ≡ true) (es1 es2 : List (ℕ × Action)) (v1 x : NodeView)
@@ -98,6 +112,7 @@ module _ (size capacity : ℕ) (eager failed : Bool) (events : List (ℕ × Acti
           (last_log ∙ (ap (λ es. es ++ freed_events) (then_log ∙ ap (λ es. es ++ (i, Submit q) ∷ []) first_log)
           ∙ (append_assoc (events ++ handed size i q) ((i, Submit q) ∷ []) freed_events ∙ append_assoc events (handed size i q) ((i, Submit q) ∷ [] ++ freed_events))))
           refl refl refl (ap (λ (u : RingView). u.failed) is) refl (ties.settles asked_ring es2 (set nodes (number - 1) v1) tied_asked i number place first inside x read es3 v2 last_log freed)
+          (released_sealed v1 x v2 freed)
 
     -- A round: the code lands a batch where something waits, and releases what is due.
     module _ (es1 : List (ℕ × Action)) (v1 x : NodeView) (landed_log : es1 ≡ events ++ batch_of i v) (moved : v1 ≡ flushed v) (read : x ≡ get_or (set nodes (number - 1) v1) (number - 1) x) where
@@ -119,23 +134,30 @@ module _ (size capacity : ℕ) (eager failed : Bool) (events : List (ℕ × Acti
           becomes (settled i (landed i w)) false es2 (batch_of i v ++ freed_events) (set (set nodes (number - 1) v1) (number - 1) v2)
           (last_log ∙ (ap (λ es. es ++ freed_events) landed_log ∙ append_assoc events (batch_of i v) freed_events))
           refl refl refl (sym works) refl (ties.settles (landed i w) es1 (set nodes (number - 1) v1) tied_landed i number place first inside_landed x read es2 v2 last_log freed)
+          (released_sealed v1 x v2 freed)
 
     -- A crash or a stop: the code makes of the node what is said, and pushes what happened.
     module _ (es : List (ℕ × Action)) (v' : NodeView) where
+      restarted_sealed : (inputs : List _) → IsSealed (restarted inputs v)
+      unfolding restarted
+      restarted_sealed inputs = refl
+
       -- with the node put back at its place
       module _ (vs : List NodeView) (put : vs ≡ set nodes (number - 1) v') where
         pub crashes : es ≡ events ++ (i, Crash false) ∷ [] → v' ≡ restarted (durable_in v) v → (seen false es vs ≡ crashed i w) × Stands false es vs
         unfolding crashed
         crashes logged moved =
             subst (λ ns. (seen false es ns ≡ crashed i w) × Stands false es ns) (sym put)
-            (becomes (crashed i w) false es _ (set nodes (number - 1) v') logged refl refl refl (sym works) refl (ties.crashes w events nodes tied i number place first last v was es v' logged moved))
+            (becomes (crashed i w) false es _ (set nodes (number - 1) v') logged refl refl refl (sym works) refl (ties.crashes w events nodes tied i number place first last v was es v' logged moved)
+            (put_sealed v' (subst IsSealed (sym moved) (restarted_sealed (durable_in v)))))
 
         pub stops : (keeps_flying : Bool) → es ≡ events ++ (i, Launch) ∷ (i, Crash keeps_flying) ∷ [] → v' ≡ restarted (left keeps_flying v) v → (seen false es vs ≡ stopped keeps_flying i w) × Stands false es vs
         unfolding stopped
         stops keeps_flying logged moved =
             subst (λ ns. (seen false es ns ≡ stopped keeps_flying i w) × Stands false es ns) (sym put)
             (becomes (stopped keeps_flying i w) false es _ (set nodes (number - 1) v') logged refl refl refl (sym works) refl
-            (ties.stops w events nodes tied i number place first last v was es v' keeps_flying logged moved))
+            (ties.stops w events nodes tied i number place first last v was es v' keeps_flying logged moved)
+            (put_sealed v' (subst IsSealed (sym moved) (restarted_sealed (left keeps_flying v)))))
 
 -- ---- what the code changes
 

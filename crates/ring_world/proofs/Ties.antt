@@ -1,23 +1,25 @@
 -- The nodes of a ring are those that its events reach, and stay so with each part of an event.
-use Rattle.std.proofs.Common.{ℕ, zero, suc, ◌≡◌, ◌≤◌, ◌<◌, ◌+◌, ◌-◌, Bool, true, false, nat_lt, cond, List, [], ◌∷◌, ◌++◌, length, take, map, set, get_or, Option, refl, sym, ap, ◌∙◌, subst, arith, append-nil}
+use Rattle.std.proofs.Common.{ℕ, zero, suc, ◌≡◌, ◌≤◌, ◌<◌, ◌-◌, Bool, true, false, nat_lt, cond, List, [], ◌∷◌, ◌++◌, length, take, map, set, get_or, Option, refl, sym, ap, ◌∙◌, subst, arith, append-nil}
+use Rattle.std.specs.List.{All}
 use Rattle.std.proofs.lemmas.Bool.{ltb-false}
 use Rattle.std.proofs.lemmas.Bool.Decides.{nat_tests}
-use Rattle.std.proofs.lemmas.List.{map-set, set-get_or, get_or-set_same, length-append}
+use Rattle.std.proofs.lemmas.List.{map-set, set-get_or, get_or-set_same}
 use Rattle.std.proofs.lemmas.Option.{slice_get_read, get_or_from_slice_get}
 use Rattle.ring_records.specs.declared.request.Request.{Request}
 use Rattle.ring_records.specs.Answer.{NodeState, launched}
 use Rattle.ring_records.specs.Emission.{sent}
 use Rattle.ring_records.specs.History.{credit}
-use Rattle.ring_node.specs.Node.{NodeView, new_node, durable_in, ticket_of, asked_with, flown, flushed, restarted, left, is_credited}
+use Rattle.ring_node.specs.Node.{NodeView, new_node, durable_in, asked_with, flown, flushed, restarted, left, is_credited}
 use Rattle.ring_node.specs.Open.{Open, due, sealed}
 use Rattle.ring_world.specs.Events.{Action, Submit, Launch, Land, Crash, Process, act, IsDelivered}
 use Rattle.ring_world.specs.Ring.{RingView, node_at, held_at, waits, landed, asked, due_at, release_of, settled, crashed, stopped, given, handed, is_released}
-use Rattle.ring_world.specs.Shows.{ShowsNode, Shows, held_of, without_due, batch_of}
+use Rattle.ring_world.specs.Shows.{ShowsNode, Shows, IsSealed, held_of, without_due, batch_of}
 use Rattle.ring_world.proofs.Credits.{credited}
 use Rattle.ring_world.proofs.Handed.{handed_stays}
 use Rattle.ring_world.proofs.Moves.{process_two}
 use Rattle.ring_world.proofs.Nodes.{resting, mine, answered_same, asked_shows, landed_shows, settled_shows, crashed_shows, stopped_shows}
 use Rattle.ring_world.proofs.Schedules.{schedule_holds}
+use Rattle.ring_world.proofs.Tickets.{one_due, few_due}
 
 -- these are the ring's events, the nodes are those that they reach, and the ring has their open tickets
 pub record Ties (w : RingView) (events : List (ℕ × Action)) (nodes : List NodeView) : Type 0 where
@@ -95,19 +97,19 @@ module _ (w : RingView) (events : List (ℕ × Action)) (nodes : List NodeView) 
         let d = durable in
         omega (arith, low, high, inputs, d)
 
-    -- it has one open ticket more than before
-    pub one_more : (ticket : Option ℕ) (q : Request) (v1 x y : NodeView) → v1 ≡ asked_with ticket q v → x ≡ get_or (set nodes (number - 1) v1) (number - 1) x → y ≡ get_or nodes (number - 1) y → length x.held ≡ length y.held + 1
-    unfolding asked_with
-    one_more ticket q v1 x y made read before =
-        let same : y ≡ v = before ∙ get_or_from_slice_get nodes (number - 1) v y (slice_get_read nodes (length nodes) (number - 1) v refl place_within was) in
-        ap (λ (z : NodeView). length z.held) (read ∙ (get_or-set_same nodes (number - 1) v1 x place_within ∙ made))
-        ∙ (length-append v.held (ticket_of ticket v q ∷ []) ∙ ap (λ (z : NodeView). length z.held + 1) (sym same))
+    -- once it is asked, its new ticket alone may be due
+    pub asked_few : All IsSealed nodes → (ticket : Option ℕ) (q : Request) (v1 x : NodeView) → v1 ≡ asked_with ticket q v → x ≡ get_or (set nodes (number - 1) v1) (number - 1) x → length (due x.durable x.held) ≤ 1
+    asked_few none ticket q v1 x made read =
+        let same : x ≡ asked_with ticket q v = read ∙ (get_or-set_same nodes (number - 1) v1 x place_within ∙ made) in
+        subst (λ (z : NodeView). length (due z.durable z.held) ≤ 1) (sym same) (one_due ticket q v (subst IsSealed (sym was) (none (number - 1) v place_within)))
 
-    -- a batch that lands ends no ticket
-    pub same_held : (v1 x y : NodeView) → v1 ≡ flushed v → x ≡ get_or (set nodes (number - 1) v1) (number - 1) x → y ≡ get_or nodes (number - 1) y → length x.held ≡ length y.held
-    same_held v1 x y made read before =
+    -- once a batch landed, no more are due than were open
+    pub landed_few : (v1 x y : NodeView) → v1 ≡ flushed v → x ≡ get_or (set nodes (number - 1) v1) (number - 1) x → y ≡ get_or nodes (number - 1) y → length (due x.durable x.held) ≤ length y.held
+    landed_few v1 x y made read before =
         let same : y ≡ v = before ∙ get_or_from_slice_get nodes (number - 1) v y (slice_get_read nodes (length nodes) (number - 1) v refl place_within was) in
-        ap (λ (z : NodeView). length z.held) (read ∙ (get_or-set_same nodes (number - 1) v1 x place_within ∙ made)) ∙ ap (λ (z : NodeView). length z.held) (sym same)
+        let held = ap (λ (z : NodeView). length z.held) (read ∙ (get_or-set_same nodes (number - 1) v1 x place_within ∙ made)) ∙ ap (λ (z : NodeView). length z.held) (sym same) in
+        let few = few_due x.durable x.held in
+        omega (arith, held, few)
 
     -- how many inputs land
     pub landed_count : (count : ℕ) → count ≡ flown v - v.durable → count ≡ (node_at (landed i w) i).durable - (node_at w i).durable

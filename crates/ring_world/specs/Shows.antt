@@ -1,8 +1,8 @@
 -- What a ring keeps to: its nodes are those that its events reach.
 use Rattle.std.specs.Prelude.{ℕ, zero, suc, ◌≡◌, ◌+◌, ◌<◌, ◌≤◌, Bool, false, nat_lt, if◌then◌else◌, List, [], ◌∷◌, ◌++◌, length, slice_index_or}
-use Rattle.std.specs.List.{Contains}
+use Rattle.std.specs.List.{All, Contains}
 use Rattle.ring_node.specs.Node.{NodeView, new_node, state_of}
-use Rattle.ring_node.specs.Open.{Open, sealed}
+use Rattle.ring_node.specs.Open.{Open, due, sealed}
 use Rattle.ring_world.specs.Events.{Action, Launch, Land, process, state_after, IsSchedule}
 
 -- the open tickets of a node
@@ -12,6 +12,10 @@ held_of v = v.held
 -- without those whose replies rest on durable inputs alone
 abbrev pub without_due : NodeView → NodeView
 without_due v = record v { held = sealed v.durable v.held }
+
+-- its open tickets rest on more inputs than are durable
+abbrev pub IsSealed : NodeView → Type 0
+IsSealed v = due v.durable v.held ≡ []
 
 -- a batch of it is launched and lands, where something waits
 abbrev pub batch_of : ℕ → NodeView → List (ℕ × Action)
@@ -40,9 +44,10 @@ pub record Shows (size capacity : ℕ) (events : List (ℕ × Action)) (nodes : 
   pub node : (at : ℕ) (other : NodeView) → at < size → ShowsNode size capacity events (at + 1) (slice_index_or nodes at other)
 
 -- What every ring keeps to: it has 2 to 16 nodes, and what was told is a schedule; while it works, all that happened is
--- one, and its nodes are those that it reaches.
+-- one, its nodes are those that it reaches, and none of their open tickets is due.
 pub record IsSound (size capacity : ℕ) (failed : Bool) (events told : List (ℕ × Action)) (nodes : List NodeView) : Type 0 where
   pub least : 2 ≤ size
   pub most : size ≤ 16
   pub shows : failed ≡ false → Shows size capacity events nodes
+  pub sealed : failed ≡ false → All IsSealed nodes
   pub lawful : IsSchedule size capacity told

@@ -105,11 +105,10 @@ impl Ring {
         ensures same { IsSameRing self.old self.new }
         ensures err { OnErr result (self.new ≡ self.old) }
     {
-        // All memory first. The events are the packet, the request, and a release for each ticket, this one's too.
+        // All memory first. The events are the packet, the request and its release: no ticket that was open is due.
+        self.events.reserve(3)?;
+        let mut replies = Vec::with_capacity(self.alloc, 1)?;
         let at = node.number() as usize - 1;
-        let open = self.nodes[at].desk().open_tickets();
-        self.events.reserve(open.saturating_add(3))?;
-        let mut replies = Vec::with_capacity(self.alloc, open + 1)?;
         self.nodes[at].ask(number, *question)?;
         push_handed(&mut self.events, self.size, node, question);
         self.events.push_reserved(Happened::asked(node, question));
@@ -129,7 +128,7 @@ impl Ring {
         ensures same { IsSameRing self.old self.new }
         ensures err { OnErr result (self.new.failed ≡ true) }
     {
-        // A return before the end leaves a failed ring.
+        // A return before the end leaves a failed ring. Every open ticket may be due once the batch landed.
         self.failed = true;
         let at = node.number() as usize - 1;
         let open = self.nodes[at].desk().open_tickets();
@@ -195,8 +194,8 @@ fn release_due(
     replies: &mut Vec<(u64, Reply)>,
     number: NodeNo,
 )
-    requires events { vec_len events.old + length node.old.held ≤ vec_capacity events.old }
-    requires replies { vec_len replies.old + length node.old.held ≤ vec_capacity replies.old }
+    requires events { vec_len events.old + length (due node.old.durable node.old.held) ≤ vec_capacity events.old }
+    requires replies { vec_len replies.old + length (due node.old.durable node.old.held) ≤ vec_capacity replies.old }
     ensures node { node.new ≡ without_due node.old }
     ensures events { events.new.items ≡ events.old.items ++ map (release_of number) (due node.old.durable node.old.held) }
     ensures replies { replies.new.items ≡ replies.old.items ++ filter_map reply_of (due node.old.durable node.old.held) }

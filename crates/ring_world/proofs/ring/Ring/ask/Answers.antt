@@ -2,32 +2,33 @@ use Rattle.std.proofs.Common.{◌++◌, ◌∷◌, [], ap, ◌∙◌, arith}
 use Rattle.std.specs.List.{filter_map}
 use Rattle.ring_node.specs.Open.{due}
 use Rattle.ring_world.specs.Ring.{handed, replies, reply_of}
-use Rattle.ring_world.proofs.Steps.{tied, asked_due, asks}
-use Rattle.ring_world.proofs.Ties.{one_more}
+use Rattle.ring_world.proofs.Steps.{tied, none_due, asked_due, asks}
+use Rattle.ring_world.proofs.Ties.{asked_few}
 use Rattle.ring_world.proofs.ring.Ring.ask.Goals as goal
 
 pub release_due-requires-clause-events : goal.release_due-requires-clause-events
 release_due-requires-clause-events c =
-    let more = one_more c.args.self.now c.self.inside.events.items c.self.inside.nodes.items (tied _ _ _ _ c.self.inside.events.items c.self.inside.told c.self.inside.nodes.items _ c.self.view_is c.self.invariant c.requires.works)
-    c.args.node c.number.result c.number.ensures.value c.number.ensures.range.0 c.requires.inside c.index_mut.result.now c.index_mut.ensures.value c.args.number c.args.question.now c.ask.new.self c.index_mut-2.result.now c.index.result.now c.in_ok-ask.ensures.next c.index_mut-2.ensures.value c.index.ensures in
-    let tickets = c.open_tickets-open.ensures in
-    let added = c.saturating_add.ensures in
-    let room = c.in_ok-reserve.ensures.ok in
+    let few = asked_few c.args.self.now c.self.inside.events.items c.self.inside.nodes.items (tied _ _ _ _ c.self.inside.events.items c.self.inside.told c.self.inside.nodes.items _ c.self.view_is c.self.invariant c.requires.works)
+    c.args.node c.number.result c.number.ensures.value c.number.ensures.range.0 c.requires.inside c.index_mut.result.now c.index_mut.ensures.value
+    (none_due _ _ _ _ c.self.inside.events.items c.self.inside.told c.self.inside.nodes.items _ c.self.view_is c.self.invariant c.requires.works)
+    c.args.number c.args.question.now c.ask.new.self c.index_mut-2.result.now c.in_ok-ask.ensures.next c.index_mut-2.ensures.value in
     let len = c.in_ok-reserve.ensures.len in
+    let room = c.in_ok-reserve.ensures.ok in
     let handed = c.push_handed.ensures.len in
     let kept = c.push_handed.ensures.capacity in
     let pushed = c.push_reserved.ensures.len in
     let same = c.push_reserved.ensures.capacity in
-    grind (arith, more, tickets, added, room, len, handed, kept, pushed, same)
+    omega (arith, few, len, room, handed, kept, pushed, same)
 
 pub release_due-requires-clause-replies : goal.release_due-requires-clause-replies
 release_due-requires-clause-replies c =
-    let more = one_more c.args.self.now c.self.inside.events.items c.self.inside.nodes.items (tied _ _ _ _ c.self.inside.events.items c.self.inside.told c.self.inside.nodes.items _ c.self.view_is c.self.invariant c.requires.works)
-    c.args.node c.number.result c.number.ensures.value c.number.ensures.range.0 c.requires.inside c.index_mut.result.now c.index_mut.ensures.value c.args.number c.args.question.now c.ask.new.self c.index_mut-2.result.now c.index.result.now c.in_ok-ask.ensures.next c.index_mut-2.ensures.value c.index.ensures in
-    let tickets = c.open_tickets-open.ensures in
+    let few = asked_few c.args.self.now c.self.inside.events.items c.self.inside.nodes.items (tied _ _ _ _ c.self.inside.events.items c.self.inside.told c.self.inside.nodes.items _ c.self.view_is c.self.invariant c.requires.works)
+    c.args.node c.number.result c.number.ensures.value c.number.ensures.range.0 c.requires.inside c.index_mut.result.now c.index_mut.ensures.value
+    (none_due _ _ _ _ c.self.inside.events.items c.self.inside.told c.self.inside.nodes.items _ c.self.view_is c.self.invariant c.requires.works)
+    c.args.number c.args.question.now c.ask.new.self c.index_mut-2.result.now c.in_ok-ask.ensures.next c.index_mut-2.ensures.value in
     let len = c.in_ok-replies.ensures.len in
     let room = c.in_ok-replies.ensures.capacity in
-    omega (arith, more, tickets, len, room)
+    omega (arith, few, len, room)
 
 pub invariant_of-self-2 : goal.invariant_of-self-2
 invariant_of-self-2 c =

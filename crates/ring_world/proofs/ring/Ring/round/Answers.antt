@@ -6,12 +6,12 @@ use Rattle.ring_world.specs.Ring.{RingView, node_at, landed, replies, reply_of}
 use Rattle.ring_world.specs.Shows.{batch_of}
 use Rattle.ring_world.proofs.Reached.{node_settled}
 use Rattle.ring_world.proofs.Steps.{tied, landed_due, rounds}
-use Rattle.ring_world.proofs.Ties.{same_held, landed_count}
+use Rattle.ring_world.proofs.Ties.{landed_count, landed_few}
 use Rattle.ring_world.proofs.ring.Ring.round.Goals as goal
 
 pub release_due-requires-clause-events : goal.release_due-requires-clause-events
 release_due-requires-clause-events c =
-    let same = same_held c.args.self.now c.self.inside.events.items c.self.inside.nodes.items (tied _ _ _ _ c.self.inside.events.items c.self.inside.told c.self.inside.nodes.items _ c.self.view_is c.self.invariant c.requires.works)
+    let few = landed_few c.args.self.now c.self.inside.events.items c.self.inside.nodes.items (tied _ _ _ _ c.self.inside.events.items c.self.inside.told c.self.inside.nodes.items _ c.self.view_is c.self.invariant c.requires.works)
     c.args.node c.number.result c.number.ensures.value c.number.ensures.range.0 c.requires.inside c.index_mut.result.now c.index_mut.ensures.value c.land.new.node c.index_mut-2.result.now c.index.result.now c.in_ok-count.ensures.node c.index_mut-2.ensures.value c.index.ensures in
     let tickets = c.open_tickets-open.ensures in
     let added = c.saturating_add.ensures in
@@ -19,16 +19,16 @@ release_due-requires-clause-events c =
     let len = c.in_ok-reserve.ensures.len in
     let pushed = c.land.ensures.len in
     let kept = c.land.ensures.capacity in
-    grind (arith, same, tickets, added, room, len, pushed, kept)
+    grind (arith, few, tickets, added, room, len, pushed, kept)
 
 pub release_due-requires-clause-replies : goal.release_due-requires-clause-replies
 release_due-requires-clause-replies c =
-    let same = same_held c.args.self.now c.self.inside.events.items c.self.inside.nodes.items (tied _ _ _ _ c.self.inside.events.items c.self.inside.told c.self.inside.nodes.items _ c.self.view_is c.self.invariant c.requires.works)
+    let few = landed_few c.args.self.now c.self.inside.events.items c.self.inside.nodes.items (tied _ _ _ _ c.self.inside.events.items c.self.inside.told c.self.inside.nodes.items _ c.self.view_is c.self.invariant c.requires.works)
     c.args.node c.number.result c.number.ensures.value c.number.ensures.range.0 c.requires.inside c.index_mut.result.now c.index_mut.ensures.value c.land.new.node c.index_mut-2.result.now c.index.result.now c.in_ok-count.ensures.node c.index_mut-2.ensures.value c.index.ensures in
     let tickets = c.open_tickets-open.ensures in
     let len = c.in_ok-reserve-2.ensures.len in
     let room = c.in_ok-reserve-2.ensures.ok in
-    omega (arith, same, tickets, len, room)
+    omega (arith, few, tickets, len, room)
 
 pub invariant_of-self-2 : goal.invariant_of-self-2
 invariant_of-self-2 c =

@@ -12,8 +12,8 @@ invariant-loop-released l = record {
   kept : without_due l.node ≡ without_due l.fn.node;
   events : l.events.items ++ map (release_of l.number) (due l.node.durable l.node.held) ≡ l.fn.events.items ++ map (release_of l.number) (due l.fn.node.durable l.fn.node.held);
   replies : l.replies.items ++ filter_map reply_of (due l.node.durable l.node.held) ≡ l.fn.replies.items ++ filter_map reply_of (due l.fn.node.durable l.fn.node.held);
-  events_room : vec_len l.events + length l.node.held ≤ vec_capacity l.events;
-  replies_room : vec_len l.replies + length l.node.held ≤ vec_capacity l.replies;
+  events_room : vec_len l.events + length (due l.node.durable l.node.held) ≤ vec_capacity l.events;
+  replies_room : vec_len l.replies + length (due l.node.durable l.node.held) ≤ vec_capacity l.replies;
 }
 
 abbrev pub decreases-loop-released : goal.decreases-loop-released
