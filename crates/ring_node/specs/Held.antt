@@ -51,9 +51,7 @@ shown_with (t ∷ tickets) (h ∷ queue) = record { number = h.number; kept = t.
 
 abbrev pub view_with : DeskView → List HeldView → NodeView
 view_with desk queue = record {
-  me = desk.member.node;
-  n = desk.member.n;
-  capacity = desk.member.capacity;
+  member = desk.member;
   inputs = desk.state.inputs;
   durable = desk.state.durable;
   held = shown_with desk.tickets queue;

@@ -5,22 +5,20 @@ use Rattle.ring_records.specs.declared.request.Request.{Request}
 use Rattle.ring_records.specs.Answer.{NodeState, launched, left_by}
 use Rattle.ring_records.specs.Emission.{sent}
 use Rattle.ring_records.specs.History.{credit}
-use Rattle.ring_records.specs.Member.{member, gained_by, answered_by}
+use Rattle.ring_records.specs.Member.{Member, member, gained_by, answered_by}
 use Rattle.ring_node.specs.Open.{Open}
 
 -- which node it is, of how large a ring, and its capacity; the inputs that it accepted, and how many of them are
 -- durable; its open tickets, the oldest first; and how many tickets it gave since it was opened
 pub record NodeView : Type 0 where
-  pub me : ℕ
-  pub n : ℕ
-  pub capacity : ℕ
+  pub member : Member
   pub inputs : List Input
   pub durable : ℕ
   pub held : List Open
   pub issued : ℕ
 
 abbrev pub new_node : ℕ → ℕ → ℕ → NodeView
-new_node me n capacity = record { me = me; n = n; capacity = capacity; inputs = []; durable = 0; held = []; issued = 0 }
+new_node me n capacity = record { member = member me n capacity; inputs = []; durable = 0; held = []; issued = 0 }
 
 -- V, d and f
 abbrev pub state_of : NodeView → NodeState
@@ -33,11 +31,11 @@ durable_in v = take v.durable v.inputs
 -- ---- requests
 
 abbrev pub ticket_of : Option ℕ → NodeView → Request → Open
-ticket_of number v q = record { number = number; kept = answered_by (member v.me v.n v.capacity) v.inputs q }
+ticket_of number v q = record { number = number; kept = answered_by v.member v.inputs q }
 
 -- after it is asked: its ticket is open
 unfoldable pub asked_with : Option ℕ → Request → NodeView → NodeView
-asked_with number q v = record v { inputs = v.inputs ++ gained_by (member v.me v.n v.capacity) v.inputs q; held = v.held ++ ticket_of number v q ∷ []; issued = v.issued + 1 }
+asked_with number q v = record v { inputs = v.inputs ++ gained_by v.member v.inputs q; held = v.held ++ ticket_of number v q ∷ []; issued = v.issued + 1 }
 
 -- ---- batches
 
@@ -53,7 +51,7 @@ flushed v = record v { durable = flown v }
 
 -- no more messages are credited than its durable inputs sent
 abbrev pub is_credited : NodeView → Bool
-is_credited v = nat_le (credit v.inputs) (length (sent v.me (durable_in v)))
+is_credited v = nat_le (credit v.inputs) (length (sent v.member.node (durable_in v)))
 
 -- after it was opened again with these inputs: no ticket is open
 unfoldable pub restarted : List Input → NodeView → NodeView

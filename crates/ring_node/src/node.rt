@@ -75,7 +75,7 @@ impl RingNode {
     /// Asks the node. Its ticket, under the number that the ring gives it, stays open until the reply is released.
     /// Refused for memory, nothing has changed.
     pub fn ask(&mut self, number: Option<u64>, question: Request) -> Result<(), AllocError>
-        requires inside { is_outside self.old.n question ≡ false }
+        requires inside { is_outside self.old.member.n question ≡ false }
         requires numbers { self.old.issued < 2 ^ 60 }
         ensures next { OnOk result (self.new ≡ asked_with number question self.old) }
         ensures err { OnErr result (self.new ≡ self.old) }
@@ -143,7 +143,7 @@ impl RingNode {
 
     /// Its desk, which tells what it accepted.
     pub fn desk(&self) -> &Desk
-        ensures member { result.now.member ≡ member self.now.me self.now.n self.now.capacity }
+        ensures member { result.now.member ≡ self.now.member }
         ensures inputs { result.now.state.inputs ≡ self.now.inputs }
         ensures durable { result.now.state.durable ≡ self.now.durable }
         ensures within { self.now.durable ≤ length self.now.inputs }
@@ -161,8 +161,8 @@ impl RingNode {
 
     /// Message `no` that its durable inputs sent, counted from 0; its candidate is a node of the ring.
     pub fn message(&self, no: u64) -> Option<Msg>
-        ensures value { result ≡ slice_get (sent self.now.me (durable_in self.now)) no }
-        ensures inside { IfSome result (λ msg. (candidate_of msg).node ≤ self.now.n) }
+        ensures value { result ≡ slice_get (sent self.now.member.node (durable_in self.now)) no }
+        ensures inside { IfSome result (λ msg. (candidate_of msg).node ≤ self.now.member.n) }
     {
         self.messages.get(no as usize).copied()
     }

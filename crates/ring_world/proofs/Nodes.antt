@@ -20,9 +20,7 @@ use Rattle.ring_world.proofs.Tickets.{from_filter}
 -- a node that the events do not change
 pub still : (n capacity : ℕ) (events more : List (ℕ × Action)) (k : ℕ) (v : NodeView) → process n capacity (events ++ more) k ≡ process n capacity events k → ShowsNode n capacity events k v → ShowsNode n capacity (events ++ more) k v
 still n capacity events more k v same shows = record {
-  me = shows.me;
-  ring = shows.ring;
-  room = shows.room;
+  is = shows.is;
   state = shows.state ∙ ap (λ (p : Process). p.state) (sym same);
   kept = λ t here. subst (λ (p : Process). Contains p.kept t.kept) (sym same) (shows.kept t here);
   few = (let l = length-append events more in let f = shows.few in omega arith);
@@ -66,18 +64,16 @@ module _ (n capacity : ℕ) (events : List (ℕ × Action)) (nodes : List NodeVi
     abbrev submission : Request → List (ℕ × Action)
     submission q = (i, Submit q) ∷ []
 
-    pub answered_same : (q : Request) → answered_by (member v.me v.n v.capacity) v.inputs q ≡ answered_by (member i n capacity) p.state.inputs q
-    answered_same q t = answered_by (member (mine.me t) (mine.ring t) (mine.room t)) (mine.state t).inputs q
+    pub answered_same : (q : Request) → answered_by v.member v.inputs q ≡ answered_by (member i n capacity) p.state.inputs q
+    answered_same q t = answered_by (mine.is t) (mine.state t).inputs q
 
     asked_here : (number : Option ℕ) (q : Request) → ShowsNode n capacity (events ++ submission q) i (asked_with number q v)
     unfolding asked_with act
     asked_here number q =
         let same = process-same n capacity events i (Submit q) in
         record {
-          me = mine.me;
-          ring = mine.ring;
-          room = mine.room;
-          state = (λ t. asked_by (member (mine.me t) (mine.ring t) (mine.room t)) (mine.state t) q) ∙ ap (λ (r : Process). r.state) (sym same);
+          is = mine.is;
+          state = (λ t. asked_by (mine.is t) (mine.state t) q) ∙ ap (λ (r : Process). r.state) (sym same);
           kept = λ t here. subst (λ (r : Process). Contains r.kept t.kept) (sym same) (elim (Contains-push_cases v.held (ticket_of number v q) t here) [
             | inl old ↦ Contains-append_left p.kept (answered_by (member i n capacity) p.state.inputs q ∷ []) t.kept (mine.kept t old)
             | inr new ↦ subst (λ (u : Open). Contains (p.kept ++ answered_by (member i n capacity) p.state.inputs q ∷ []) u.kept) new
@@ -108,9 +104,7 @@ module _ (n capacity : ℕ) (events : List (ℕ × Action)) (nodes : List NodeVi
     landed_here =
         let same = process_two n capacity events i Launch Land in
         record {
-          me = mine.me;
-          ring = mine.ring;
-          room = mine.room;
+          is = mine.is;
           state = ap (λ (s : NodeState). landed (launched s)) mine.state ∙ ap (λ (r : Process). r.state) (sym same);
           kept = λ t here. subst (λ (r : Process). Contains r.kept t.kept) (sym same) (mine.kept t here);
           few = (let l = length-append events batch in let f = mine.few in omega arith);
@@ -140,9 +134,7 @@ module _ (n capacity : ℕ) (events : List (ℕ × Action)) (nodes : List NodeVi
     settled_here =
         let now = still n capacity events releases i v (releases_rest.same i) mine in
         record {
-          me = now.me;
-          ring = now.ring;
-          room = now.room;
+          is = now.is;
           state = now.state;
           kept = λ t here. now.kept t (from_filter _ v.held t here).0;
           few = now.few;
@@ -156,9 +148,7 @@ module _ (n capacity : ℕ) (events : List (ℕ × Action)) (nodes : List NodeVi
     reopened : (more : List (ℕ × Action)) (inputs : List _) → process n capacity (events ++ more) i ≡ record { state = opened inputs; kept = [] } → ShowsNode n capacity (events ++ more) i (restarted inputs v)
     unfolding restarted
     reopened more inputs same = record {
-      me = mine.me;
-      ring = mine.ring;
-      room = mine.room;
+      is = mine.is;
       state = ap (λ (r : Process). r.state) (sym same);
       kept = λ t here. Contains-nil t here;
       few = omega arith;

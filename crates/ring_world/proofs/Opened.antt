@@ -59,9 +59,7 @@ new_node_at size capacity (suc k) at other lt =
 fresh_node : (size capacity at : ℕ) → ShowsNode size capacity [] (at + 1) (new_node (at + 1) size capacity)
 unfolding process part
 fresh_node size capacity at = record {
-  me = refl;
-  ring = refl;
-  room = refl;
+  is = refl;
   state = refl;
   kept = λ t here. Contains-nil t here;
   few = omega arith;

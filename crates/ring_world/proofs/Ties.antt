@@ -9,6 +9,7 @@ use Rattle.ring_records.specs.declared.request.Request.{Request}
 use Rattle.ring_records.specs.Answer.{NodeState, launched}
 use Rattle.ring_records.specs.Emission.{sent}
 use Rattle.ring_records.specs.History.{credit}
+use Rattle.ring_records.specs.Member.{Member}
 use Rattle.ring_node.specs.Node.{NodeView, new_node, durable_in, asked_with, flown, flushed, restarted, left, is_credited}
 use Rattle.ring_node.specs.Open.{Open, due, sealed}
 use Rattle.ring_world.specs.Events.{Action, Submit, Launch, Land, Crash, Process, act, IsDelivered}
@@ -75,7 +76,7 @@ module _ (w : RingView) (events : List (ℕ × Action)) (nodes : List NodeView) 
     may_stop =
         let is = node_is in
         let few = credited w.size w.capacity w.events ties.shows.schedule i low last in
-        let here = subst (λ (a : ℕ × NodeState). credit a.1.inputs ≤ length (sent a.0 (take a.1.durable a.1.inputs))) (λ t. (sym is.me t, sym is.state t)) few in
+        let here = subst (λ (a : ℕ × NodeState). credit a.1.inputs ≤ length (sent a.0 (take a.1.durable a.1.inputs))) (λ t. (sym (ap (λ (m : Member). m.node) is.is) t, sym is.state t)) few in
         grind (arith, nat_tests)
 
     durable : v.durable ≡ (node_at w i).durable

@@ -1,6 +1,7 @@
 -- What a ring keeps to: its nodes are those that its events reach.
 use Rattle.std.specs.Prelude.{ℕ, zero, suc, ◌≡◌, ◌+◌, ◌<◌, ◌≤◌, Bool, false, nat_lt, if◌then◌else◌, List, [], ◌∷◌, ◌++◌, length, slice_index_or}
 use Rattle.std.specs.List.{All, Contains}
+use Rattle.ring_records.specs.Member.{member}
 use Rattle.ring_node.specs.Node.{NodeView, new_node, state_of}
 use Rattle.ring_node.specs.Open.{Open, due, sealed}
 use Rattle.ring_world.specs.Events.{Action, Launch, Land, process, state_after, IsSchedule}
@@ -28,9 +29,7 @@ new_nodes size capacity (suc k) = new_nodes size capacity k ++ new_node (k + 1) 
 
 -- the node is the one that the events reach
 pub record ShowsNode (size capacity : ℕ) (events : List (ℕ × Action)) (i : ℕ) (v : NodeView) : Type 0 where
-  pub me : v.me ≡ i
-  pub ring : v.n ≡ size
-  pub room : v.capacity ≡ capacity
+  pub is : v.member ≡ member i size capacity
   pub state : state_of v ≡ state_after size capacity events i
   -- the node keeps the answers of its open tickets
   pub kept : (t : Open) → Contains v.held t → Contains (process size capacity events i).kept t.kept

@@ -2,6 +2,7 @@
 ghost use Rattle.std.specs.Prelude.{◌≡◌, ◌≤◌, [], length, true, false, OnOk, IfOk, IfSome};
 ghost use Rattle.ring_records.specs.History.{credit as credit_of, taken as taken_in};
 ghost use Rattle.ring_records.specs.Emission.{sent as sent_by};
+ghost use Rattle.ring_records.specs.Member.{member};
 ghost use Rattle.ring_records.specs.Message.{candidate_of};
 ghost use Rattle.ring_records.specs.Order.{is_msg};
 ghost use Rattle.ring_world.specs.Events.{IsSchedule};
@@ -138,8 +139,7 @@ impl Ring {
     fn at(&self, node: NodeNo) -> &RingNode
         requires works { self.now.failed ≡ false }
         requires inside { node ≤ self.now.size }
-        ensures me { result.now.me ≡ node }
-        ensures ring { result.now.n ≡ self.now.size }
+        ensures member { result.now.member ≡ member node self.now.size self.now.capacity }
         ensures inputs { result.now.inputs ≡ (node_at self.now node).inputs }
         ensures durable { result.now.durable ≡ (node_at self.now node).durable }
     {

@@ -31,6 +31,6 @@ invariant_of-self-in-Err c = by_name _ _ _ _ _ _ _ _ _ c.in-Err.ensures.same (ap
 pub memory_alone-requires : goal.memory_alone-requires
 memory_alone-requires c =
     let here = c.self.invariant.served in
-    let inside = subst (λ (v : NodeView). is_outside v.n c.args.question ≡ false) (sym c.self.view_is) c.requires.inside in
+    let inside = subst (λ (v : NodeView). is_outside v.member.n c.args.question ≡ false) (sym c.self.view_is) c.requires.inside in
     let few = subst (λ (v : NodeView). v.issued < 2 ^ 60) (sym c.self.view_is) c.requires.numbers in
     no_objection c.in-Err.ensures.refusal (unobjected c.self.inside.node.desk c.args.question here.takes here.works inside few)

@@ -1,12 +1,11 @@
 use Rattle.std.proofs.Common.{◌≤◌, ◌∙◌, length, ap, subst}
-use Rattle.ring_records.specs.Member.{member}
 use Rattle.group_commit.specs.Desk.{DeskView}
 use Rattle.ring_node.specs.Node.{NodeView}
 use Rattle.ring_node.proofs.Queue.{as_many}
 use Rattle.ring_node.proofs.node.RingNode.desk.Goals as goal
 
 pub returns-clause-member : goal.returns-clause-member
-returns-clause-member c = ap (λ (d : DeskView). d.member) c.desk.ensures ∙ ap (λ (v : NodeView). member v.me v.n v.capacity) c.self.view_is
+returns-clause-member c = ap (λ (d : DeskView). d.member) c.desk.ensures ∙ ap (λ (v : NodeView). v.member) c.self.view_is
 
 pub returns-clause-inputs : goal.returns-clause-inputs
 returns-clause-inputs c = ap (λ (d : DeskView). d.state.inputs) c.desk.ensures ∙ ap (λ (v : NodeView). v.inputs) c.self.view_is

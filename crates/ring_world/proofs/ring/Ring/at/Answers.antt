@@ -4,15 +4,10 @@ use Rattle.ring_world.proofs.Steps.{tied}
 use Rattle.ring_world.proofs.Ties.{node_is}
 use Rattle.ring_world.proofs.ring.Ring.at.Goals as goal
 
-pub returns-clause-ring : goal.returns-clause-ring
-returns-clause-ring c =
+pub returns-clause-member : goal.returns-clause-member
+returns-clause-member c =
     (node_is c.args.self.now c.self.inside.events.items c.self.inside.nodes.items (tied _ _ _ _ c.self.inside.events.items c.self.inside.told c.self.inside.nodes.items _ c.self.view_is c.self.invariant c.requires.works) c.args.node c.number.result c.number.ensures.value c.number.ensures.range.0 c.requires.inside
-    c.index.result.now c.index.ensures).ring
-
-pub returns-clause-me : goal.returns-clause-me
-returns-clause-me c =
-    (node_is c.args.self.now c.self.inside.events.items c.self.inside.nodes.items (tied _ _ _ _ c.self.inside.events.items c.self.inside.told c.self.inside.nodes.items _ c.self.view_is c.self.invariant c.requires.works) c.args.node c.number.result c.number.ensures.value c.number.ensures.range.0 c.requires.inside
-    c.index.result.now c.index.ensures).me
+    c.index.result.now c.index.ensures).is
 
 pub returns-clause-inputs : goal.returns-clause-inputs
 returns-clause-inputs c =
