@@ -18,7 +18,7 @@ use Rattle.ring_world.specs.Step.{Told, Steps, refusal_of, no_node}
 use Rattle.ring_world.specs.declared.event.Event.{Event}
 use Rattle.ring_world.specs.declared.event.Event.TheVariants.{Submit, Flush, Deliver, DeliverAll, Credit, Crash, Stop}
 use Rattle.line_words.specs.Forms.{line_says}
-use Rattle.line_words.specs.Texts.{text_of, IsFront, AddsLines}
+use Rattle.line_words.specs.Texts.{text_of, IsFront}
 use Rattle.line_words.specs.Words.{lines_of}
 use Rattle.fault_console.specs.Commands.{is_silent, shapes, commands}
 use Rattle.fault_console.specs.declared.commands.Command.{Command}
@@ -186,14 +186,3 @@ Wrote old new P = (bytes : List ℕ) × Appends old new bytes × P bytes
 -- The same of the script and these bytes; the script is what the reader has, where it tells that.
 abbrev pub WroteOf : Option (List ℕ) → Option (List ℕ) → Option (List ℕ) → (List ℕ → List ℕ → Type 0) → Type 0
 WroteOf known old new P = (script : List ℕ) × IfSome known (λ all. script ≡ all) × Wrote old new (P script)
-
--- ---- what the printing functions add to a text
-
--- n lines are added, of which P holds
-abbrev pub Does : List ℕ → List ℕ → ℕ → (List (List ℕ) → Type 0) → Type 0
-Does old new n P = (lines : List (List ℕ)) × P lines × AddsLines old new lines × (n ≡ length lines)
-
--- the ticket numbers that are taken
-abbrev pub tickets_of : Option State → ℕ
-tickets_of None = 0
-tickets_of (Some w) = w.tickets

@@ -5,7 +5,8 @@ ghost use Rattle.ring_world.specs.State.{opened, is_ring};
 ghost use Rattle.ring_world.specs.Step.{refusal_of};
 ghost use Rattle.line_words.specs.Forms.{line_says};
 ghost use Rattle.fault_console.specs.Commands.{commands, is_silent};
-ghost use Rattle.fault_console.specs.Script.{Does, Happens, LinePrints, Obeys, Opens, Shows, ring_line, shown_at, tickets_of, unshown};
+ghost use Rattle.fault_console.specs.Progress.{Does, tickets_of};
+ghost use Rattle.fault_console.specs.Script.{Happens, LinePrints, Obeys, Opens, Shows, ring_line, shown_at, unshown};
 
 use crate::commands::{Command, RingShape, line_is_silent, read_command, read_shape};
 use crate::print::{count_lines, print_outcome, print_ring, print_shown};

@@ -8,12 +8,10 @@ ghost use Rattle.ring_records.specs.declared.input.Input.TheVariants.{Stand};
 ghost use Rattle.ring_records.specs.declared.key.Key.{Key};
 ghost use Rattle.ring_records.specs.Order.{is_less};
 ghost use Rattle.ring_records.specs.Ring.{IsLegal, part};
-ghost use Rattle.ring_records.specs.WorkedRun.{red_5, winner, first_election};
 ghost use Rattle.ring_world.specs.Agreement.{IsKnown};
 ghost use Rattle.ring_world.specs.Committed.{committed};
 ghost use Rattle.ring_world.specs.Events.{Thing, Action, Release, state_after, IsSchedule};
 ghost use Rattle.ring_world.specs.Released.{IsKept, IsAnnounced};
-ghost use Rattle.ring_world.specs.WorkedSchedule.{election_events, alone, crash_events, crash_run};
 
 /// In a legal run all leaders that are known for one key, at whatever node and after however many of its inputs, are
 /// one candidate. It stands in the run, and every other candidate that stands there for the key, earlier or later, is
@@ -51,14 +49,6 @@ pub fn headline()
         → IsSchedule n capacity events → IsAnnounced events key c → Contains (committed n capacity events) (d.node, Stand key d.bid) → d ≢ c → IsTrue (is_less d c) }
 {}
 
-/// There are schedules with a leader. In an election of three nodes the inputs become durable in the order of the
-/// worked run, and the one of the greatest bid is announced. Of two batches that fly at a crash one is lost and one is
-/// kept, and a leader is announced after it.
-pub fn worked_schedules()
-    ensures election { IsSchedule 3 65536 election_events }
-    ensures election_durable { committed 3 65536 election_events ≡ first_election }
-    ensures election_announced { IsAnnounced election_events red_5 winner }
-    ensures crashes { IsSchedule 2 4096 crash_events }
-    ensures crashes_durable { committed 2 4096 crash_events ≡ crash_run }
-    ensures crashes_announced { IsAnnounced crash_events red_5 alone }
-{}
+mod worked;
+
+pub use worked::worked_schedules;

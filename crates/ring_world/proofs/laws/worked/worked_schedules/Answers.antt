@@ -1,5 +1,5 @@
 use Rattle.ring_world.proofs.WorkedSchedule.{election_committed, election_schedule, election_announced, crash_committed, crash_schedule, crash_announced}
-use Rattle.ring_world.proofs.laws.worked_schedules.Goals as goal
+use Rattle.ring_world.proofs.laws.worked.worked_schedules.Goals as goal
 
 pub returns-clause-election : goal.returns-clause-election
 returns-clause-election c = election_schedule
