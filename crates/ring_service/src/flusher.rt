@@ -2,9 +2,8 @@
 ghost use Rattle.std.specs.Prelude.{◌≡◌, ◌+◌, ◌-◌, ◌<◌, ◌≤◌, ◌⊎◌, ◌++◌, [], List, true, false, is_err, length, IfOk, IfErr, IfSome, IfNone, IsErrOf, OnErr, OnOk};
 ghost use mathlib.Core.List.{IsPrefix};
 ghost use Rattle.ring_records.specs.declared.input.Input.{Input};
-ghost use Rattle.ring_records.specs.Admission.{used};
 ghost use Rattle.ring_records.specs.Member.{used_by};
-ghost use Rattle.disk_model.specs.Disk.{LeavesOnly};
+ghost use Rattle.disk_model.specs.Disk.{LeavesOnly, Reaches};
 ghost use Rattle.gated_journal.specs.Batch.{shown};
 ghost use Rattle.gated_journal.specs.Journal.{device_of, member_of, len_of, room_of, is_spoiled};
 ghost use Rattle.gated_journal.specs.Reading.{AllReadAs, ReadsAsOneOf};
@@ -95,7 +94,7 @@ impl<V: Device, J: Naming, A: Node, D: Whole, C: Whole> Flusher<V, J, A, D, C> {
         ensures spoiled { IfErr result (λ why. IsFault (V.count (device_in self.old)) (V.count (device_in self.new)) why → is_spoiled (journal_of self.new) ≡ true) }
         ensures foreign { IfErr result (λ why. why ≡ Refusal.Foreign → IsSpent (len_of (journal_of self.old)) (len_of (journal_of self.new)) (is_spoiled (journal_of self.new))) }
         ensures same { OnErr result (told_to self.new ≡ told_to self.old) }
-        ensures in_reach { 0 < V.reach (device_in self.old) → 17 + A.member.capacity ≤ V.reach (device_in self.old) → IfErr result (λ why. IsIdle why ⊎ (why ≡ Refusal.Foreign)) }
+        ensures in_reach { Reaches (V.reach (device_in self.old)) (17 + A.member.capacity) → IfErr result (λ why. IsIdle why ⊎ (why ≡ Refusal.Foreign)) }
 
         // It ends where a batch did not land, and answers 9 then.
         ensures ends { IfErr result (λ why. IsIdle why ⊎ (has_ended self.new ≡ true)) }
@@ -184,7 +183,7 @@ fn settle<V: Device, A: Node, D: Whole, C: Whole, R: Wait>(
     ensures refusal { IfErr result (λ why. IsFault (V.count (device_of journal.old)) (V.count (device_of journal.new)) why ⊎ (why ≡ Refusal.Foreign)) }
     ensures spoiled { IfErr result (λ why. IsFault (V.count (device_of journal.old)) (V.count (device_of journal.new)) why → is_spoiled journal.new ≡ true) }
     ensures foreign { IfErr result (λ why. why ≡ Refusal.Foreign → IsSpent (len_of journal.old) (len_of journal.new) (is_spoiled journal.new)) }
-    ensures in_reach { 0 < V.reach (device_of journal.old) → 17 + A.member.capacity ≤ V.reach (device_of journal.old) → IfErr result (λ why. why ≡ Refusal.Foreign) }
+    ensures in_reach { Reaches (V.reach (device_of journal.old)) (17 + A.member.capacity) → IfErr result (λ why. why ≡ Refusal.Foreign) }
     ensures any_moment { (list : List Input) → AllReadAs (member_of journal.old) (V.disk (device_of journal.old)) list
         → LeavesOnly V.clock V.left_since (device_of journal.old) (device_of journal.new) (ReadsAsOneOf (member_of journal.old) list (list ++ (shown batch).inputs)) }
 {
