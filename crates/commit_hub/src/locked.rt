@@ -1,6 +1,5 @@
 //! What lies under a hub's lock: its desk, and the books of its ledgers.
 ghost use Rattle.std.specs.Prelude.{◌≡◌, ◌≢◌, ◌+◌, ◌-◌, ◌≤◌, ◌<◌, ◌⊎◌, ◌||◌, ◌&&◌, not, nat_eq, nat_le, ℕ, true, false, length, Some, None, IfOk, IfErr, IfSome, IfNone, OnOk, OnErr};
-ghost use Rattle.ring_records.specs.Admission.{used};
 ghost use Rattle.ring_records.specs.Answer.{Answered, IsNodeState, durable_in, flying_in};
 ghost use Rattle.ring_records.specs.Member.{used_by, IsHistory};
 ghost use Rattle.ring_records.specs.Props.{IsHistory-prop};

@@ -11,7 +11,7 @@ use Rattle.ring_records.specs.declared.reply.Reply.TheVariants as say
 use Rattle.ring_records.specs.declared.request.Request.{Request}
 use Rattle.ring_records.specs.declared.request.Request.TheVariants as ask
 use Rattle.ring_records.specs.Admission.{fresh, IsAdmitted, IsLawful}
-use Rattle.ring_records.specs.Answer.{Answer, Answered, NodeState, answer, input_of, if_free, unless, gained, reply}
+use Rattle.ring_records.specs.Answer.{Answer, Answered, NodeState, input_of, if_free, unless, gained, reply}
 use Rattle.ring_records.specs.Member.{Member, member, IsHistory, refusal_by, answer_by}
 use Rattle.ring_records.proofs.Growth.{EachAfter-take}
 use Rattle.ring_records.proofs.Lists.{none≢some}

@@ -4,10 +4,9 @@ use Rattle.std.specs.Map.{lookup, remove_entry}
 use Rattle.ring_records.specs.declared.input.Input.{Input}
 use Rattle.ring_records.specs.declared.refusal.Refusal.{Refusal}
 use Rattle.ring_records.specs.declared.refusal.Refusal.TheVariants as refused
-use Rattle.ring_records.specs.Admission.{refusal}
 use Rattle.ring_records.specs.declared.request.Request.{Request}
 use Rattle.ring_records.specs.Answer as answers
-use Rattle.ring_records.specs.Answer.{Answered, NodeState, asked, opened, flying_in}
+use Rattle.ring_records.specs.Answer.{Answered, NodeState, opened, flying_in}
 use Rattle.ring_records.specs.Member.{Member, member, IsHistory, refusal_by, answered_by, asked_by}
 use Rattle.ring_records.specs.Message.{is_outside}
 use Rattle.gated_journal.specs.Batch.{Numbered}

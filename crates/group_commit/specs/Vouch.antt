@@ -5,7 +5,7 @@ use Rattle.ring_records.specs.declared.input.Input.TheVariants.{Stand, Take, Ack
 use Rattle.ring_records.specs.declared.reply.Reply.{Reply}
 use Rattle.ring_records.specs.declared.reply.Reply.TheVariants as say
 use Rattle.ring_records.specs.declared.request.Request.{Request}
-use Rattle.ring_records.specs.Answer.{Answered, NodeState, answer, input_of}
+use Rattle.ring_records.specs.Answer.{Answered, NodeState, input_of}
 use Rattle.ring_records.specs.Member.{Member, member, answer_by}
 
 -- the reply that says that the input is accepted

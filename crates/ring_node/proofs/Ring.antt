@@ -7,7 +7,7 @@ use Rattle.ring_records.specs.declared.input.Input.{Input}
 use Rattle.ring_records.specs.declared.msg.Msg.{Msg}
 use Rattle.ring_records.specs.declared.packet.Packet.{Packet}
 use Rattle.ring_records.specs.declared.request.Request.{Request}
-use Rattle.ring_records.specs.Answer.{NodeState, launched, left_by, flying_in}
+use Rattle.ring_records.specs.Answer.{launched, flying_in}
 use Rattle.ring_records.specs.Answer as answers
 use Rattle.ring_records.specs.Emission.{sent}
 use Rattle.ring_records.specs.Member.{Member, IsHistory, gained_by}

@@ -6,7 +6,7 @@ ghost use Rattle.ring_records.specs.declared.decision.Decision.{Decision};
 ghost use Rattle.ring_records.specs.declared.input.Input.{Input};
 ghost use Rattle.ring_records.specs.declared.key.Key.{Key};
 ghost use Rattle.ring_records.specs.declared.msg.Msg.{Msg};
-ghost use Rattle.ring_records.specs.Admission.{Base, cost, used, IsAllowed, IsAdmitted, objection, refusal};
+ghost use Rattle.ring_records.specs.Admission.{Base, cost, IsAllowed, IsAdmitted, objection, refusal};
 ghost use Rattle.ring_records.specs.declared.packet.Packet.{Packet};
 ghost use Rattle.ring_records.specs.declared.request.Request.{Request};
 ghost use Rattle.ring_records.specs.Answer.{Answer, Answers, PacketRests};

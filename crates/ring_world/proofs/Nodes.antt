@@ -5,7 +5,7 @@ use Rattle.std.proofs.lemmas.Bool.{cases_eq, leb-true, ltb-true}
 use Rattle.std.proofs.lemmas.List.{length-append, length-set, get_or-set_same, get_or-set_other}
 use Rattle.std.proofs.lemmas.List.Elements.{Contains-push, Contains-push_cases, Contains-append_left}
 use Rattle.ring_records.specs.declared.request.Request.{Request}
-use Rattle.ring_records.specs.Answer.{NodeState, asked, launched, landed, opened, left_by}
+use Rattle.ring_records.specs.Answer.{NodeState, launched, landed, opened, left_by}
 use Rattle.ring_records.specs.Member.{member, answered_by, asked_by}
 use Rattle.ring_records.proofs.Leader.{Contains-nil}
 use Rattle.ring_node.specs.Node.{NodeView, new_node, durable_in, ticket_of, asked_with, flushed, restarted, left}

@@ -10,7 +10,7 @@ use Rattle.ring_records.specs.declared.packet.Packet.TheVariants.{Carry, Credit}
 use Rattle.ring_records.specs.declared.request.Request.{Request}
 use Rattle.ring_records.specs.declared.request.Request.TheVariants as ask
 use Rattle.ring_records.specs.Admission.{fresh}
-use Rattle.ring_records.specs.Answer.{Answered, Answers, PacketRests, NodeState, left_by, asked, launched, landed, opened}
+use Rattle.ring_records.specs.Answer.{Answered, Answers, PacketRests, NodeState, left_by, launched, landed, opened}
 use Rattle.ring_records.specs.Leader.{leader}
 use Rattle.ring_records.specs.Lists.{EachAfter}
 use Rattle.ring_records.specs.Member.{member, answered_by, asked_by}

@@ -11,7 +11,7 @@ use Rattle.ring_records.specs.declared.request.Request.{Request}
 use Rattle.ring_records.specs.Admission.{fresh}
 use Rattle.group_commit.specs.Desk.{DeskView, kept_at, IsHere}
 use Rattle.group_commit.specs.Ticket.{TicketView}
-use Rattle.ring_records.specs.Answer.{Answered, NodeState, input_of, gained, if_free, if_input, asked}
+use Rattle.ring_records.specs.Answer.{Answered, NodeState, input_of, gained, if_free, if_input}
 use Rattle.ring_records.specs.Member.{member, refusal_by, gained_by, asked_by}
 
 one_if_free : (o : Option Refusal) (x : Input) → length (if_free o x) ≤ 1

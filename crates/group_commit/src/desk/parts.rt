@@ -1,7 +1,7 @@
 // What a desk has its core and its outbox do.
 ghost use Rattle.std.specs.Prelude.{◌≡◌, ◌+◌, ◌-◌, ◌++◌, ◌∷◌, ◌≤◌, ◌<◌, ◌⊎◌, ℕ, List, [], None, length, take, drop, IfSome, IfOk, IfErr, OnOk, OnErr};
 ghost use Rattle.std.specs.List.{cons_option};
-ghost use Rattle.ring_records.specs.Admission.{fresh, refusal};
+ghost use Rattle.ring_records.specs.Admission.{refusal};
 ghost use Rattle.ring_records.specs.Member.{member, IsHistory, refusal_by};
 ghost use Rattle.gated_journal.specs.Batch.{shown as batch_shown, numbered};
 ghost use Rattle.node_core.specs.Core.{CoreStandsFor, member_of};

@@ -2,7 +2,7 @@ use Rattle.std.proofs.Common.{◌≡◌, ◌⊎◌, ℕ, List, length, inl, inr,
 use Rattle.disk_model.specs.Disk.{Disk, MayLeave}
 use Rattle.ring_records.specs.declared.input.Input.{Input}
 use Rattle.ring_records.specs.Answer as answers
-use Rattle.ring_records.specs.Answer.{NodeState, launched, landed}
+use Rattle.ring_records.specs.Answer.{launched, landed}
 use Rattle.ring_records.specs.Member.{Member, IsHistory}
 use Rattle.gated_journal.specs.Reading.{ReadsAsOneOf}
 use Rattle.group_commit.specs.Desk.{DeskView}
