@@ -48,7 +48,7 @@ fn send_window<A: Node, D: Whole, C: Whole, R: Wait>(
         return;
     };
     for packet in &packets {
-        links.send(rt, *packet);
+        links.send_again(rt, *packet);
     }
 }
 

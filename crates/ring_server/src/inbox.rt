@@ -1,6 +1,7 @@
 //! The inbox's thread.
 ghost use Rattle.std.specs.Prelude.{◌≡◌, []};
 
+use crate::credits::Credits;
 use crate::links::Links;
 use commit_hub::{Hub, Node, Share, Whole};
 use crossbeam_channel::Receiver;
@@ -24,41 +25,98 @@ pub(crate) fn take_all<A: Node, D: Whole, C: Whole, R: Wait>(
 ) -> Share<A> {
     let mut share = share;
     let mut tickets = Vec::new(alloc);
+    let mut credits = Credits::new();
     for _ in rt.forever() {
         let Ok(packet) = inbox.recv(rt) else {
             break;
         };
-        take(rt, hub, &mut share, &mut tickets, packet);
+        take(
+            rt,
+            hub,
+            &mut share,
+            &mut tickets,
+            &mut credits,
+            packet,
+            links,
+        );
         for _ in 1..PACKETS {
             match inbox.try_recv(rt) {
-                Ok(packet) => take(rt, hub, &mut share, &mut tickets, packet),
+                Ok(packet) => take(
+                    rt,
+                    hub,
+                    &mut share,
+                    &mut tickets,
+                    &mut credits,
+                    packet,
+                    links,
+                ),
                 Err(_) => break,
             }
         }
+        if credits.are_due() {
+            tell(rt, hub, &mut share, &mut tickets, &mut credits);
+        }
         release_all(rt, hub, &mut tickets, links);
     }
+    tell(rt, hub, &mut share, &mut tickets, &mut credits);
     release_all(rt, hub, &mut tickets, links);
     tickets.destroy_empty();
     share
 }
 
-/// Has the node take a packet, and keeps the ticket.
+/// Has the node take a message, or holds a credit back.
 fn take<A: Node, D: Whole, C: Whole, R: Wait>(
     rt: &R,
     hub: &Hub<A, D, C>,
     share: &mut Share<A>,
     tickets: &mut Vec<Ticket>,
+    credits: &mut Credits,
     packet: Packet,
+    links: &Links<'_>,
 ) {
-    let request = match packet {
-        Packet::Carry { no, msg } => Request::Take(no, msg),
-        Packet::Credit { upto } => Request::Acked(upto),
-    };
-    if tickets.reserve(1).is_err() {
-        return;
+    match packet {
+        Packet::Carry { no, msg } => {
+            submit(rt, hub, share, tickets, Request::Take(no, msg));
+        }
+        Packet::Credit { upto } => {
+            links.hear(upto);
+            credits.hear(upto);
+        }
     }
-    if let Ok(ticket) = hub.submit(rt, share, request) {
-        tickets.push_reserved(ticket);
+}
+
+/// Tells the node of the credits that are held back, where there are some.
+fn tell<A: Node, D: Whole, C: Whole, R: Wait>(
+    rt: &R,
+    hub: &Hub<A, D, C>,
+    share: &mut Share<A>,
+    tickets: &mut Vec<Ticket>,
+    credits: &mut Credits,
+) {
+    if let Some(upto) = credits.held() {
+        if submit(rt, hub, share, tickets, Request::Acked(upto)) {
+            credits.tell(upto);
+        }
+    }
+}
+
+/// Asks the node, and keeps the ticket. Whether there is one.
+fn submit<A: Node, D: Whole, C: Whole, R: Wait>(
+    rt: &R,
+    hub: &Hub<A, D, C>,
+    share: &mut Share<A>,
+    tickets: &mut Vec<Ticket>,
+    request: Request,
+) -> bool {
+    if tickets.reserve(1).is_err() {
+        return false;
+    }
+    match hub.submit(rt, share, request) {
+        Ok(ticket) => {
+            tickets.push_reserved(ticket);
+            true
+        }
+        Err(_) => false,
     }
 }
 

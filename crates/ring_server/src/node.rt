@@ -20,7 +20,7 @@ use ring_service::{Flusher, opened_board};
 use std::alloc::Global;
 use std::net::TcpListener;
 use std::sync::Wait;
-use std::sync::atomic::{AtomicBool, Ordering};
+use std::sync::atomic::{AtomicBool, AtomicU64, Ordering};
 use std::thread::{Threads, join, scope, scope_env};
 use std::time::{Clock, Duration};
 
@@ -66,7 +66,13 @@ pub(crate) fn serve_node<
         desk,
         journal,
     } = opened;
-    let links = Links { post, node, nodes };
+    let heard = AtomicU64::new(0);
+    let links = Links {
+        post,
+        heard: &heard,
+        node,
+        nodes,
+    };
     let Ok(board) = opened_board::<J>(alloc, history, &desk, doors.count as usize) else {
         links.leave(rt);
         return None;
