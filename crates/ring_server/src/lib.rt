@@ -15,6 +15,7 @@ mod post;
 mod ring;
 mod ringd;
 mod run_fault;
+mod shared;
 mod site;
 
 pub use folder::{Folder, Unopened};
