@@ -2,7 +2,7 @@
 ghost use Rattle.std.specs.Prelude.{◌≤◌};
 
 use crate::open_node::OpenNode;
-use disk_model::{FileDevice, OpenFault};
+use disk_model::{Device, DeviceFault, FileDevice, OpenFault};
 use node_store::Node;
 use ring_records::{Cause, NodeNo, Refusal};
 use std::alloc::{AllocError, Global};
@@ -10,6 +10,25 @@ use std::fs::File;
 use std::io::ErrorKind;
 use std::rt::Files;
 use std::{fmt, fs, io};
+
+/// The bytes of a journal's header, and of the gate behind its last frame.
+const FRONT: u64 = 17;
+
+/// How much of a new file is written at once.
+const PIECE: u64 = 1 << 12;
+
+/// Writes zeros up to this length, which are stable after the next sync. What stands behind the closed gate has no
+/// meaning, and a file that has its length from the start is synced with no word on its length each time.
+fn lengthen<V: Device>(device: &mut V, length: u64) -> Result<(), DeviceFault> {
+    let zeros = [0; PIECE as usize];
+    let mut at = 0;
+    while at < length {
+        let count = PIECE.min(length - at);
+        device.write_at(at, &zeros[..count as usize])?;
+        at += count;
+    }
+    Ok(())
+}
 
 /// Why a node was not opened: the refusal of its journal or its desk, 15 with one failure where the system refused its
 /// file, and 8.
@@ -82,7 +101,7 @@ impl<'a> Folder<'a> {
         }
     }
 
-    /// A new node. Its file has its name only once it is formatted and synced, so that a stop at any moment leaves a
+    /// A new node, whose file has its full length. It has its name only once it is formatted and synced, so that a stop at any moment leaves a
     /// file that is recovered, or none of the name; what such a stop left is made anew.
     fn make<R: Files<File = File>>(
         &self,
@@ -101,7 +120,10 @@ impl<'a> Folder<'a> {
             Err(error) if error.kind() == ErrorKind::NotFound => {}
             Err(error) => return Err(Unopened::from(error)),
         }
-        let device = FileDevice::create(alloc, rt, new.as_str())?;
+        let mut device = FileDevice::create(alloc, rt, new.as_str())?;
+        if lengthen(&mut device, FRONT + u64::from(capacity)).is_err() {
+            return Err(Unopened(Refusal::Device(device.failures())));
+        }
         match Node::create(alloc, device, node, nodes, capacity, 0) {
             Err((_device, refusal)) => Err(Unopened(refusal)),
             Ok(made) => {
