@@ -72,18 +72,11 @@ impl<A: Node, D: Whole, C: Whole> Hub<A, D, C> {
         ensures more { (count_of share.old ≤ count_of share.new) × (count_of share.new ≤ count_of share.old + 1) }
         ensures same { OnErr result (count_of share.new ≡ count_of share.old) }
     {
-        let mut guard = self.guarded.lock(rt);
-        match guard.locked.submit(share, question) {
-            Err(refusal) => Err(refusal),
-            Ok(ticket) => {
-                let wakes = guard.must_wake();
-                drop(guard);
-                if wakes {
-                    self.bells.tell_flusher();
-                }
-                Ok(ticket)
-            }
+        let (ticket, wakes) = self.hand_in(rt, share, question)?;
+        if wakes {
+            self.bells.tell_flusher();
         }
+        Ok(ticket)
     }
 
     /// As `submit`, but wakes nobody: tells also whether the flusher sleeps though something waits. Who is told so stands
