@@ -4,6 +4,7 @@ ghost use Rattle.std.specs.Prelude.{◌≡◌, []};
 use crate::credits::Credits;
 use crate::flush::flush_once;
 use crate::links::Links;
+use crate::pace::Pace;
 use crate::shared::Shared;
 use commit_hub::{Hub, Node, Share, Whole};
 use crossbeam_channel::Receiver;
@@ -13,6 +14,7 @@ use group_commit::Ticket;
 use ring_records::{Packet, Refusal, Reply, Request};
 use std::alloc::Global;
 use std::sync::Wait;
+use std::time::Clock;
 
 /// How many packets are taken before they are flushed, so that they become durable together.
 const PACKETS: u32 = 64;
@@ -26,12 +28,13 @@ struct Intake<A: Node> {
     share: Share<A>,
     tickets: Vec<Ticket>,
     credits: Credits,
+    pace: Pace,
     stands_in: bool,
 }
 
 /// Takes packets until the letterbox is closed and empty. What is not taken, for want of memory or since the node has
 /// failed, is lost, and comes again with the sender's window. No ticket is left open.
-pub(crate) fn take_all<V: Device, J: Naming, A: Node, D: Whole, C: Whole, R: Wait>(
+pub(crate) fn take_all<V: Device, J: Naming, A: Node, D: Whole, C: Whole, R: Wait + Clock>(
     rt: &R,
     alloc: Global,
     shared: &Shared<'_, V, J, A, D, C>,
@@ -42,10 +45,11 @@ pub(crate) fn take_all<V: Device, J: Naming, A: Node, D: Whole, C: Whole, R: Wai
         share,
         tickets: Vec::new(alloc),
         credits: Credits::new(),
+        pace: Pace::new(),
         stands_in: false,
     };
     for _ in rt.forever() {
-        let Ok(packet) = inbox.recv(rt) else {
+        let Some(packet) = intake.pace.next(rt, inbox) else {
             break;
         };
         take(rt, shared.hub, &mut intake, packet, shared.links);
@@ -58,6 +62,7 @@ pub(crate) fn take_all<V: Device, J: Naming, A: Node, D: Whole, C: Whole, R: Wai
         share,
         tickets,
         credits: _,
+        pace: _,
         stands_in: _,
     } = intake;
     tickets.destroy_empty();
@@ -90,13 +95,14 @@ fn stand_in<V: Device, J: Naming, A: Node, D: Whole, C: Whole, R: Wait>(
     inbox: &Receiver<Packet>,
 ) {
     for _ in 0..ROUNDS {
-        if flush_once(rt, shared).is_err() {
+        if flush_once(rt, shared).is_err() || !intake.pace.is_prompt() {
             return;
         }
         take_waiting(rt, shared.hub, intake, inbox, shared.links);
         if !shared.hub.has_work(rt) {
             return;
         }
+        intake.pace.go_on();
     }
 }
 
@@ -108,12 +114,17 @@ fn take_waiting<A: Node, D: Whole, C: Whole, R: Wait>(
     inbox: &Receiver<Packet>,
     links: &Links<'_>,
 ) {
+    let mut leaves_some = true;
     for _ in 1..PACKETS {
         match inbox.try_recv(rt) {
             Ok(packet) => take(rt, hub, intake, packet, links),
-            Err(_) => break,
+            Err(_) => {
+                leaves_some = false;
+                break;
+            }
         }
     }
+    intake.pace.leave(leaves_some);
     if intake.credits.are_due() {
         tell(rt, hub, intake);
     }

@@ -11,6 +11,7 @@ mod inbox;
 mod links;
 mod node;
 mod open_node;
+mod pace;
 mod post;
 mod ring;
 mod ringd;

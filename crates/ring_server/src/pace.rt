@@ -1,0 +1,71 @@
+//! When an inbox takes what comes.
+use crossbeam_channel::Receiver;
+use ring_records::Packet;
+use std::sync::Wait;
+use std::time::{Clock, Duration};
+
+/// How many rounds in a row take a message as soon as it comes. An election is over within as many.
+const PROMPT: u32 = 8;
+
+/// For how many microseconds messages gather behind these.
+const GATHER: u64 = 1_000;
+
+/// Where none comes for so many microseconds, the count begins anew.
+const REST: u64 = 200;
+
+/// An inbox takes the first messages after a rest as they come. Where they go on coming they gather between two rounds, so
+/// that one batch makes many of them durable, and the disk is left to the Stands, for which clients wait.
+#[derive(Drop)]
+pub(crate) struct Pace {
+    rounds: u32,
+    may_gather: bool,
+}
+
+impl Pace {
+    /// At rest.
+    pub(crate) fn new() -> Pace {
+        Pace {
+            rounds: 0,
+            may_gather: true,
+        }
+    }
+
+    /// Whether messages are taken as they come.
+    pub(crate) fn is_prompt(&self) -> bool {
+        self.rounds < PROMPT
+    }
+
+    /// A round more begins, with no rest before it.
+    pub(crate) fn go_on(&mut self) {
+        self.rounds = self.rounds.saturating_add(1);
+    }
+
+    /// Where a round leaves messages behind, the next one does not let them gather.
+    pub(crate) fn leave(&mut self, leaves_some: bool) {
+        self.may_gather = !leaves_some;
+    }
+
+    /// The next packet, or `None` once the letterbox is closed and empty.
+    pub(crate) fn next<R: Wait + Clock>(
+        &mut self,
+        rt: &R,
+        inbox: &Receiver<Packet>,
+    ) -> Option<Packet> {
+        if self.may_gather && !self.is_prompt() {
+            rt.sleep(Duration::from_micros(GATHER));
+        }
+        match inbox.recv_timeout(rt, Duration::from_micros(REST)) {
+            Ok(packet) => {
+                self.go_on();
+                Some(packet)
+            }
+            Err(fault) => {
+                if !fault.is_timeout() {
+                    return None;
+                }
+                self.rounds = 0;
+                inbox.recv(rt).ok()
+            }
+        }
+    }
+}
