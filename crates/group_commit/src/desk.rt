@@ -49,7 +49,15 @@ impl Model for Desk {
     ghost use Rattle.ring_records.specs.Member.{member};
     ghost use Rattle.group_commit.specs.Kept.{IsDesk};
 
-    ghost view = { λ d. record { member = member d.node d.n d.capacity; run = d.run; state = record { inputs = d.inputs.items; durable = d.durable; flying = d.flying }; tickets = d.tickets.entries; issued = d.issued; closed = d.is_closed; failed = d.is_failed } };
+    ghost view = { λ d. record {
+      member = member d.node d.n d.capacity;
+      run = d.run;
+      state = record { inputs = d.inputs.items; durable = d.durable; flying = d.flying };
+      tickets = d.tickets.entries;
+      issued = d.issued;
+      closed = d.is_closed;
+      failed = d.is_failed;
+    } };
 
     ghost invariant = { λ d. IsDesk d.core d.outbox (member d.node d.n d.capacity) (record { inputs = d.inputs.items; durable = d.durable; flying = d.flying }) d.tickets.entries d.issued };
 }

@@ -38,7 +38,15 @@ impl Model for Ring {
 
     ghost Value = { RingView };
 
-    ghost view = { λ w. record { size = w.size; capacity = w.capacity; eager = w.eager; failed = w.failed; events = w.events.items; told = take w.told w.events.items; held = map held_of w.nodes.items } };
+    ghost view = { λ w. record {
+      size = w.size;
+      capacity = w.capacity;
+      eager = w.eager;
+      failed = w.failed;
+      events = w.events.items;
+      told = take w.told w.events.items;
+      held = map held_of w.nodes.items;
+    } };
 
     ghost invariant = { λ w. (w.told ≤ length w.events.items) × IsSound w.size w.capacity w.failed w.events.items (take w.told w.events.items) w.nodes.items };
 }
