@@ -9,6 +9,7 @@ use Rattle.ring_records.specs.declared.reply.Reply.{Reply}
 use Rattle.ring_records.specs.declared.reply.Reply.TheVariants as replied
 use Rattle.ring_records.specs.declared.request.Request.{Request}
 use Rattle.ring_records.specs.declared.request.Request.TheVariants.{Stand, Take, Acked, Who, Latest}
+use Rattle.ring_records.specs.Answer.{Answered}
 use Rattle.ring_records.specs.Content.{leader_in, leads_in}
 use Rattle.ring_records.specs.Leader.{IsLatest}
 use Rattle.ring_records.specs.Member.{Member, member}
