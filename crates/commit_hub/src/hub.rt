@@ -72,56 +72,18 @@ impl<A: Node, D: Whole, C: Whole> Hub<A, D, C> {
         ensures more { (count_of share.old ≤ count_of share.new) × (count_of share.new ≤ count_of share.old + 1) }
         ensures same { OnErr result (count_of share.new ≡ count_of share.old) }
     {
-        let (ticket, wakes) = self.hand_in(rt, share, question)?;
-        if wakes {
-            self.bells.tell_flusher();
-        }
-        Ok(ticket)
-    }
-
-    /// As `submit`, but wakes nobody: tells also whether the flusher sleeps though something waits. Who is told so stands
-    /// in for it, and has to call `hand_over` before he waits for anything: until then nobody else wakes it.
-    pub fn hand_in<R: Wait>(
-        &self,
-        rt: &R,
-        share: &mut Share<A>,
-        question: Request,
-    ) -> Result<(Ticket, bool), Refusal>
-        ensures question { IfOk result (λ r. (shown r.0).question ≡ question) }
-        ensures inside { OnOk result (is_outside A.member.n question ≡ false) }
-        ensures refusal { IfErr result (λ refusal. IsUnasked A.member.n question refusal) }
-        ensures more { (count_of share.old ≤ count_of share.new) × (count_of share.new ≤ count_of share.old + 1) }
-        ensures same { OnErr result (count_of share.new ≡ count_of share.old) }
-    {
         let mut guard = self.guarded.lock(rt);
         match guard.locked.submit(share, question) {
             Err(refusal) => Err(refusal),
             Ok(ticket) => {
-                let stands_in = guard.must_wake();
-                Ok((ticket, stands_in))
+                let wakes = guard.must_wake();
+                drop(guard);
+                if wakes {
+                    self.bells.tell_flusher();
+                }
+                Ok(ticket)
             }
         }
-    }
-
-    /// Ends standing in for the flusher: it sleeps on where nothing waits, and is woken else.
-    pub fn hand_over<R: Wait>(&self, rt: &R) {
-        let mut guard = self.guarded.lock(rt);
-        let sleeps_on = guard.lets_sleep();
-        drop(guard);
-        if !sleeps_on {
-            self.bells.tell_flusher();
-        }
-    }
-
-    /// Waits until something waits to be launched, or nothing more comes. The flusher alone calls it.
-    pub fn await_work<R: Wait>(&self, rt: &R) {
-        drop(self.bells.wait_for_work(rt, self.guarded.lock(rt)));
-    }
-
-    /// Whether something waits to be launched or flies, or nothing more comes. Where no batch flies, `launch` does not
-    /// wait then.
-    pub fn has_work<R: Wait>(&self, rt: &R) -> bool {
-        !self.guarded.lock(rt).locked.is_idle()
     }
 
     /// Waits until the inputs that the ticket's reply rests on are durable, ends the ticket and releases the reply,

@@ -16,10 +16,6 @@ use std::sync::Wait;
 use std::test::*;
 use test_rows::{Ask, Op};
 
-mod standing_in;
-
-use standing_in::stands_in;
-
 const STAND: Ask = Ask::Stand("red", 5, 10);
 
 /// What is done with a hub.
@@ -44,8 +40,6 @@ enum Case {
     SettlesFew,
     /// It is closed.
     Closes,
-    /// Inputs are handed in while the flusher sleeps.
-    HandsIn,
 }
 
 fn submits<A: Node, D: Whole, C: Whole, R: Wait + Abort>(
@@ -352,7 +346,6 @@ fn on_hub<A: Node, D: Whole, C: Whole, R: Wait + Abort + AllocGlobal>(
         Case::Fails => fails(rt, &hub, &mut tie),
         Case::SettlesFew => settles_few(rt, hub),
         Case::Closes => closes(rt, &hub, &mut tie),
-        Case::HandsIn => stands_in(rt, &hub, &mut tie),
     }
     None
 }
@@ -424,11 +417,5 @@ fn all_shares_settle_a_hub(rt: HostRuntime) -> Result<(), Fail> {
 #[test]
 fn a_closed_hub_takes_no_requests(rt: HostRuntime) -> Result<(), Fail> {
     ends(&rt, 1, Case::Closes);
-    Ok(())
-}
-
-#[test]
-fn one_stands_in_for_a_flusher_that_sleeps(rt: HostRuntime) -> Result<(), Fail> {
-    ends(&rt, 1, Case::HandsIn);
     Ok(())
 }

@@ -3,6 +3,7 @@ ghost use Rattle.std.specs.Prelude.{◌≤◌};
 
 use crate::open_node::OpenNode;
 use disk_model::{Device, DeviceFault, FileDevice, OpenFault};
+use gated_journal::device_size;
 use node_store::Node;
 use ring_records::{Cause, NodeNo, Refusal};
 use std::alloc::{AllocError, Global};
@@ -11,9 +12,6 @@ use std::io::ErrorKind;
 use std::rt::Files;
 use std::{fmt, fs, io};
 
-/// The bytes of a journal's header, and of the gate behind its last frame.
-const FRONT: u64 = 17;
-
 /// How much of a new file is written at once.
 const PIECE: u64 = 1 << 12;
 
@@ -21,13 +19,11 @@ const PIECE: u64 = 1 << 12;
 /// meaning, and a file that has its length from the start is synced with no word on its length each time.
 fn lengthen<V: Device>(device: &mut V, length: u64) -> Result<(), DeviceFault> {
     let zeros = [0; PIECE as usize];
-    let mut at = 0;
-    while at < length {
-        let count = PIECE.min(length - at);
-        device.write_at(at, &zeros[..count as usize])?;
-        at += count;
+    for piece in 0..length / PIECE {
+        device.write_at(piece * PIECE, &zeros)?;
     }
-    Ok(())
+    let rest = length % PIECE;
+    device.write_at(length - rest, &zeros[..rest as usize])
 }
 
 /// Why a node was not opened: the refusal of its journal or its desk, 15 with one failure where the system refused its
@@ -101,8 +97,8 @@ impl<'a> Folder<'a> {
         }
     }
 
-    /// A new node, whose file has its full length. It has its name only once it is formatted and synced, so that a stop at any moment leaves a
-    /// file that is recovered, or none of the name; what such a stop left is made anew.
+    /// A new node. Its file has its full length, and its name only once it is formatted and synced, so that a stop at
+    /// any moment leaves a file that is recovered, or none of the name; what such a stop left is made anew.
     fn make<R: Files<File = File>>(
         &self,
         rt: &R,
@@ -121,7 +117,7 @@ impl<'a> Folder<'a> {
             Err(error) => return Err(Unopened::from(error)),
         }
         let mut device = FileDevice::create(alloc, rt, new.as_str())?;
-        if lengthen(&mut device, FRONT + u64::from(capacity)).is_err() {
+        if lengthen(&mut device, device_size(capacity)).is_err() {
             return Err(Unopened(Refusal::Device(device.failures())));
         }
         match Node::create(alloc, device, node, nodes, capacity, 0) {

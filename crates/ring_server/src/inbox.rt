@@ -2,111 +2,64 @@
 ghost use Rattle.std.specs.Prelude.{◌≡◌, []};
 
 use crate::credits::Credits;
-use crate::flush::flush_once;
 use crate::links::Links;
 use crate::pace::Pace;
-use crate::shared::Shared;
 use commit_hub::{Hub, Node, Share, Whole};
 use crossbeam_channel::Receiver;
-use decision_board::Naming;
-use disk_model::Device;
 use group_commit::Ticket;
 use ring_records::{Packet, Refusal, Reply, Request};
 use std::alloc::Global;
 use std::sync::Wait;
 use std::time::Clock;
 
-/// How many packets are taken before they are flushed, so that they become durable together.
+/// How many packets are taken before it is waited for them, so that they become durable together.
 const PACKETS: u32 = 64;
 
-/// How many rounds the inbox flushes at most before it leaves the next ones to the flusher's thread.
-const ROUNDS: u32 = 16;
-
-/// What an inbox has at hand: its share, the tickets of what it asked, the credits that it holds back, and whether it
-/// stands in for the flusher.
+/// What an inbox has at hand: its share, the tickets of what it asked, the credits that it holds back, and its pace.
 struct Intake<A: Node> {
     share: Share<A>,
     tickets: Vec<Ticket>,
     credits: Credits,
     pace: Pace,
-    stands_in: bool,
 }
 
 /// Takes packets until the letterbox is closed and empty. What is not taken, for want of memory or since the node has
 /// failed, is lost, and comes again with the sender's window. No ticket is left open.
-pub(crate) fn take_all<V: Device, J: Naming, A: Node, D: Whole, C: Whole, R: Wait + Clock>(
+pub(crate) fn take_all<A: Node, D: Whole, C: Whole, R: Wait + Clock>(
     rt: &R,
     alloc: Global,
-    shared: &Shared<'_, V, J, A, D, C>,
+    hub: &Hub<A, D, C>,
     share: Share<A>,
     inbox: &Receiver<Packet>,
+    links: &Links<'_>,
 ) -> Share<A> {
     let mut intake = Intake {
         share,
         tickets: Vec::new(alloc),
         credits: Credits::new(),
         pace: Pace::new(),
-        stands_in: false,
     };
     for _ in rt.forever() {
         let Some(packet) = intake.pace.next(rt, inbox) else {
             break;
         };
-        take(rt, shared.hub, &mut intake, packet, shared.links);
-        take_waiting(rt, shared.hub, &mut intake, inbox, shared.links);
-        end_round(rt, shared, &mut intake, inbox);
+        take(rt, hub, &mut intake, packet, links);
+        take_waiting(rt, hub, &mut intake, inbox, links);
+        release_all(rt, hub, &mut intake.tickets, links);
     }
-    tell(rt, shared.hub, &mut intake);
-    end_round(rt, shared, &mut intake, inbox);
+    tell(rt, hub, &mut intake);
     let Intake {
         share,
-        tickets,
+        mut tickets,
         credits: _,
         pace: _,
-        stands_in: _,
     } = intake;
+    release_all(rt, hub, &mut tickets, links);
     tickets.destroy_empty();
     share
 }
 
-/// Flushes what was taken, where the flusher's thread sleeps, and waits for the replies.
-fn end_round<V: Device, J: Naming, A: Node, D: Whole, C: Whole, R: Wait>(
-    rt: &R,
-    shared: &Shared<'_, V, J, A, D, C>,
-    intake: &mut Intake<A>,
-    inbox: &Receiver<Packet>,
-)
-    ensures { intake.new.tickets.items ≡ [] }
-{
-    if intake.stands_in {
-        stand_in(rt, shared, intake, inbox);
-        shared.hub.hand_over(rt);
-        intake.stands_in = false;
-    }
-    release_all(rt, shared.hub, &mut intake.tickets, shared.links);
-}
-
-/// Flushes in place of the flusher's thread until nothing waits, and takes meanwhile what comes. What is refused here
-/// the flusher's thread meets too, once it is woken.
-fn stand_in<V: Device, J: Naming, A: Node, D: Whole, C: Whole, R: Wait>(
-    rt: &R,
-    shared: &Shared<'_, V, J, A, D, C>,
-    intake: &mut Intake<A>,
-    inbox: &Receiver<Packet>,
-) {
-    for _ in 0..ROUNDS {
-        if flush_once(rt, shared).is_err() || !intake.pace.is_prompt() {
-            return;
-        }
-        take_waiting(rt, shared.hub, intake, inbox, shared.links);
-        if !shared.hub.has_work(rt) {
-            return;
-        }
-        intake.pace.go_on();
-    }
-}
-
-/// Takes what waits in the letterbox, as much as fits a batch.
+/// Takes what waits in the letterbox, as much as fits a batch, and tells of the credits that are due.
 fn take_waiting<A: Node, D: Whole, C: Whole, R: Wait>(
     rt: &R,
     hub: &Hub<A, D, C>,
@@ -168,10 +121,9 @@ fn submit<A: Node, D: Whole, C: Whole, R: Wait>(
     if intake.tickets.reserve(1).is_err() {
         return false;
     }
-    match hub.hand_in(rt, &mut intake.share, request) {
-        Ok((ticket, stands_in)) => {
+    match hub.submit(rt, &mut intake.share, request) {
+        Ok(ticket) => {
             intake.tickets.push_reserved(ticket);
-            intake.stands_in = intake.stands_in || stands_in;
             true
         }
         Err(_) => false,

@@ -16,7 +16,6 @@ mod post;
 mod ring;
 mod ringd;
 mod run_fault;
-mod shared;
 mod site;
 
 pub use folder::{Folder, Unopened};

@@ -9,7 +9,6 @@ use crate::inbox::take_all;
 use crate::links::Links;
 use crate::open_node::OpenNode;
 use crate::post::Post;
-use crate::shared::Shared;
 use crate::site::{Doors, Site};
 use commit_hub::{Hub, Node, Share, Whole};
 use crossbeam_channel::Receiver;
@@ -20,8 +19,8 @@ use ring_records::{Packet, Shown};
 use ring_service::{Flusher, opened_board};
 use std::alloc::Global;
 use std::net::TcpListener;
+use std::sync::Wait;
 use std::sync::atomic::{AtomicBool, AtomicU64, Ordering};
-use std::sync::{Mutex, Wait};
 use std::thread::{Threads, join, scope, scope_env};
 use std::time::{Clock, Duration};
 
@@ -83,14 +82,9 @@ pub(crate) fn serve_node<
         hub.enter(rt),
         take_seats(rt, alloc, &hub, &board, doors.count),
     );
-    let flusher = Mutex::new(Flusher::new(alloc, journal, board, tie));
+    let mut flusher = Flusher::new(alloc, journal, board, tie);
     let has_begun = AtomicBool::new(false);
-    let shared = Shared {
-        hub: &hub,
-        flusher: &flusher,
-        links: &links,
-    };
-    let (shared, begun) = (&shared, &has_begun);
+    let (shared, flushing, links, begun) = (&hub, &mut flusher, &links, &has_begun);
     let (works, back) = match (share, seats) {
         (Ok(share), Some(seats)) => {
             let ends = Ends {
@@ -102,11 +96,13 @@ pub(crate) fn serve_node<
             };
             join(
                 rt,
-                || {
+                || -> bool
+                    requires { IsWhole D.all D.parts × IsWhole C.all C.parts }
+                {
                     begun.store(true, Ordering::SeqCst);
-                    flush_all(rt, shared)
+                    flush_all(rt, shared, flushing, links)
                 },
-                move || serve_ends(rt, alloc, shared, ends, begun),
+                move || serve_ends(rt, alloc, shared, ends, links, begun),
             )
         }
         _ => {
@@ -114,7 +110,7 @@ pub(crate) fn serve_node<
             (false, None)
         }
     };
-    let (_journal, board, _owed) = flusher.into_inner().into_parts();
+    let (_journal, board, _owed) = flusher.into_parts();
     board.end(rt);
     if !works {
         return None;
@@ -149,22 +145,22 @@ fn serve_ends<
     A: Node + Send + Sync,
     D: Whole + Send + Sync,
     C: Whole + Send + Sync,
-    V: Device + Send + Drop,
     R: Threads + Wait + Clock + Sync,
 >(
     rt: &R,
     alloc: Global,
-    shared: &Shared<'_, V, J, A, D, C>,
+    hub: &Hub<A, D, C>,
     ends: Ends<J, A>,
+    links: &Links<'_>,
     begun: &AtomicBool,
 ) -> Option<(Share<A>, Vec<Share<A>>)> {
     let shares = if awaits(rt, begun) {
-        run_ends(rt, alloc, shared, ends)
+        run_ends(rt, alloc, hub, ends, links)
     } else {
-        shared.links.leave(rt);
+        links.leave(rt);
         None
     };
-    shared.hub.close(rt);
+    hub.close(rt);
     shares
 }
 
@@ -173,13 +169,13 @@ fn run_ends<
     A: Node + Send + Sync,
     D: Whole + Send + Sync,
     C: Whole + Send + Sync,
-    V: Device + Send + Drop,
     R: Threads + Wait + Clock + Sync,
 >(
     rt: &R,
     alloc: Global,
-    shared: &Shared<'_, V, J, A, D, C>,
+    hub: &Hub<A, D, C>,
     ends: Ends<J, A>,
+    links: &Links<'_>,
 ) -> Option<(Share<A>, Vec<Share<A>>)> {
     let Ends {
         inbox,
@@ -192,25 +188,17 @@ fn run_ends<
         scope_env(),
         rt,
         |scope|
-            requires { IsSend V.row × IsSend J.row × IsSend A.row × IsSend D.row × IsSend C.row }
+            requires { IsSend J.row × IsSend A.row × IsSend D.row × IsSend C.row }
         {
             let takes = scope
-                .spawn(move || take_all(rt, alloc, shared, share, &inbox))
+                .spawn(move || take_all(rt, alloc, hub, share, &inbox, links))
                 .ok();
             let others = if takes.is_some() {
-                serve_doors(
-                    rt,
-                    alloc,
-                    shared.hub,
-                    seats,
-                    &listener,
-                    &doors,
-                    shared.links,
-                )
+                serve_doors(rt, alloc, hub, seats, &listener, &doors, links)
             } else {
                 None
             };
-            shared.links.leave(rt);
+            links.leave(rt);
             match (takes.map(|takes| takes.join(rt)), others) {
                 (Some(share), Some(others)) => Some((share, others)),
                 _ => None,

@@ -30,16 +30,6 @@ impl Pace {
         }
     }
 
-    /// Whether messages are taken as they come.
-    pub(crate) fn is_prompt(&self) -> bool {
-        self.rounds < PROMPT
-    }
-
-    /// A round more begins, with no rest before it.
-    pub(crate) fn go_on(&mut self) {
-        self.rounds = self.rounds.saturating_add(1);
-    }
-
     /// Where a round leaves messages behind, the next one does not let them gather.
     pub(crate) fn leave(&mut self, leaves_some: bool) {
         self.may_gather = !leaves_some;
@@ -51,12 +41,12 @@ impl Pace {
         rt: &R,
         inbox: &Receiver<Packet>,
     ) -> Option<Packet> {
-        if self.may_gather && !self.is_prompt() {
+        if self.may_gather && self.rounds >= PROMPT {
             rt.sleep(Duration::from_micros(GATHER));
         }
         match inbox.recv_timeout(rt, Duration::from_micros(REST)) {
             Ok(packet) => {
-                self.go_on();
+                self.rounds = self.rounds.saturating_add(1);
                 Some(packet)
             }
             Err(fault) => {
