@@ -54,8 +54,8 @@ impl Ballot {
     /// once; another's goes on unless the node stood with a greater candidate.
     #[tactic(auto, unfolding(ring_records::specs::Emission::emit, ring_records::specs::Emission::is_below, ring_records::specs::Leader::is_bid))]
     pub fn hear_token(&mut self, me: NodeNo, key: Key, candidate: Candidate) -> Option<Msg>
-        ensures sends { (h : List Input) (place : ℕ) → StandsFor self.old me h key → emit me h (Take place (Token key candidate)) ≡ result }
-        ensures next { (h : List Input) (place : ℕ) → StandsFor self.old me h key → StandsFor self.new me (h ++ Take place (Token key candidate) ∷ []) key }
+        ensures sends { (h : List Input) (msg_no : ℕ) → StandsFor self.old me h key → emit me h (Take msg_no (Token key candidate)) ≡ result }
+        ensures next { (h : List Input) (msg_no : ℕ) → StandsFor self.old me h key → StandsFor self.new me (h ++ Take msg_no (Token key candidate) ∷ []) key }
         ensures stood { self.new.stood ≡ self.old.stood }
         ensures leader { (c : Candidate) → self.old.leader ≡ Some c → self.new.leader ≡ Some c }
     {
@@ -77,8 +77,8 @@ impl Ballot {
     /// a leader is known already.
     #[tactic(auto, unfolding(ring_records::specs::Emission::emit))]
     pub fn hear_elected(&mut self, me: NodeNo, key: Key, candidate: Candidate) -> Option<Msg>
-        ensures sends { (h : List Input) (place : ℕ) → StandsFor self.old me h key → emit me h (Take place (Elected key candidate)) ≡ result }
-        ensures next { (h : List Input) (place : ℕ) → StandsFor self.old me h key → StandsFor self.new me (h ++ Take place (Elected key candidate) ∷ []) key }
+        ensures sends { (h : List Input) (msg_no : ℕ) → StandsFor self.old me h key → emit me h (Take msg_no (Elected key candidate)) ≡ result }
+        ensures next { (h : List Input) (msg_no : ℕ) → StandsFor self.old me h key → StandsFor self.new me (h ++ Take msg_no (Elected key candidate) ∷ []) key }
         ensures stood { self.new.stood ≡ self.old.stood }
         ensures leader { (c : Candidate) → self.old.leader ≡ Some c → self.new.leader ≡ Some c }
     {

@@ -13,13 +13,13 @@ use Rattle.gated_journal.proofs.Unique.{not_both, damaged_once}
 pub not_read : (node n : ℕ) (image : List ℕ) (refusal : Refusal) (header : Member) (inputs : List Input) → IsUnread node n image refusal → ReadsAs header image inputs → header.node ≡ node → header.n ≡ n → ⊥
 not_read node n image refusal header inputs unread read node_is n_is =
     let at = read.at in
-    let long : 17 ≤ length image = omega (arith, at.frames.ends, inside 16 image inputs read.place at.frames) in
+    let long : 17 ≤ length image = omega (arith, at.frames.ends, inside 16 image inputs read.gate_at at.frames) in
     let found : header_at node n image ≡ Ok header.capacity = (λ i. header_at (sym node_is i) (sym n_is i) image) ∙ header_again header image long at.head in
     apart unread.cause found
   where
     apart : (header_at node n image ≡ Err refusal) ⊎ ((capacity : ℕ) × (header_at node n image ≡ Ok capacity) × IsBroken 16 image refusal) → header_at node n image ≡ Ok header.capacity → ⊥
     apart (inl fault) found = let same = sym fault ∙ found in cc
-    apart (inr broken) found = not_both 16 image inputs read.place broken.2.place read.at.frames broken.2.damaged
+    apart (inr broken) found = not_both 16 image inputs read.gate_at broken.2.gate_at read.at.frames broken.2.damaged
 
 pub one_fault : (node n : ℕ) (image : List ℕ) (refusal other : Refusal) → IsUnread node n image refusal → IsUnread node n image other → refusal ≡ other
 one_fault node n image refusal other one two = both one.cause two.cause
@@ -29,4 +29,4 @@ one_fault node n image refusal other one two = both one.cause two.cause
     both (inl a) (inl b) = let same = sym a ∙ b in cc
     both (inl a) (inr b) = let same = sym a ∙ b.1 in absurd cc
     both (inr a) (inl b) = let same = sym a.1 ∙ b in absurd cc
-    both (inr a) (inr b) = a.2.is ∙ ap Damaged (damaged_once 16 image a.2.place b.2.place a.2.damaged b.2.damaged) ∙ sym b.2.is
+    both (inr a) (inr b) = a.2.is ∙ ap Damaged (damaged_once 16 image a.2.gate_at b.2.gate_at a.2.damaged b.2.damaged) ∙ sym b.2.is

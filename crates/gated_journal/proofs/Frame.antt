@@ -8,13 +8,13 @@ use Rattle.gated_journal.specs.Unread.{NoFrame, ReadsUpTo, IsDamagedAt}
 use Rattle.gated_journal.proofs.Behind.{frames-push, length-frames-push, joined-push, sized-push}
 
 -- one frame more
-pub one_more : (offset place size : ℕ) (image tail : List ℕ) (inputs new : List Input) → ReadsUpTo offset image inputs place → drop place image ≡ 1 ∷ tail → TakesFrame inputs new tail size → ReadsUpTo offset image new (place + (1 + size))
-one_more offset place size image tail inputs new up is_open taken =
+pub one_more : (offset gate_at size : ℕ) (image tail : List ℕ) (inputs new : List Input) → ReadsUpTo offset image inputs gate_at → drop gate_at image ≡ 1 ∷ tail → TakesFrame inputs new tail size → ReadsUpTo offset image new (gate_at + (1 + size))
+one_more offset gate_at size image tail inputs new up is_open taken =
     let batch = taken.batch in
     let all = up.batches ++ batch ∷ [] in
-    let here : drop place image ≡ 1 ∷ (body batch ++ taken.rest) = is_open ∙ ap (λ (l : List ℕ). 1 ∷ l) taken.framed in
-    let after : taken.rest ≡ drop (place + (1 + size)) image =
-    sym (drop_at (1 ∷ body batch) taken.rest (1 + size) (omega (arith, taken.size_is))) ∙ ap (λ (l : List ℕ). drop (1 + size) l) (sym here) ∙ drop-drop (1 + size) place image in
+    let here : drop gate_at image ≡ 1 ∷ (body batch ++ taken.rest) = is_open ∙ ap (λ (l : List ℕ). 1 ∷ l) taken.framed in
+    let after : taken.rest ≡ drop (gate_at + (1 + size)) image =
+    sym (drop_at (1 ∷ body batch) taken.rest (1 + size) (omega (arith, taken.size_is))) ∙ ap (λ (l : List ℕ). drop (1 + size) l) (sym here) ∙ drop-drop (1 + size) gate_at image in
     record {
       batches = all;
       whole = up.whole ∙ ap (λ (l : List ℕ). frames up.batches ++ l) here ∙ sym (frames-push up.batches batch taken.rest) ∙ ap (λ (l : List ℕ). frames all ++ l) after;
@@ -24,9 +24,9 @@ one_more offset place size image tail inputs new up is_open taken =
     }
 
 -- an open gate with no frame behind it
-pub broken : (offset place : ℕ) (image tail : List ℕ) (inputs : List Input) → ReadsUpTo offset image inputs place → place < length image → get_or image place 0 ≡ 1 → tail ≡ drop (place + 1) image → NoFrame tail → IsDamagedAt offset image place
-broken offset place image tail inputs up within is_open behind none = record {
+pub broken : (offset gate_at : ℕ) (image tail : List ℕ) (inputs : List Input) → ReadsUpTo offset image inputs gate_at → gate_at < length image → get_or image gate_at 0 ≡ 1 → tail ≡ drop (gate_at + 1) image → NoFrame tail → IsDamagedAt offset image gate_at
+broken offset gate_at image tail inputs up within is_open behind none = record {
   inputs = inputs;
   up_to = up;
-  broken = inr (tail, (drop_more image place 0 within ∙ (λ i. is_open i ∷ sym behind i), none));
+  broken = inr (tail, (drop_more image gate_at 0 within ∙ (λ i. is_open i ∷ sym behind i), none));
 }

@@ -25,19 +25,19 @@ with_fact {B = B} once u v same = Σ_path same (to_path_p (λ i. B (same i)) (on
 abbrev Parts : Type 0
 Parts = List (List Input) × (ℕ × List ℕ)
 
-module _ (offset : ℕ) (image : List ℕ) (inputs : List Input) (place : ℕ) where
+module _ (offset : ℕ) (image : List ℕ) (inputs : List Input) (gate_at : ℕ) where
   record Facts (parts : Parts) : Type 0 where
     whole : drop offset image ≡ frames parts.0 ++ parts.1.0 ∷ parts.1.1
     sized : AreBatches parts.0
     closed : parts.1.0 ≢ 1
     same : inputs ≡ joined parts.0
-    ends : place ≡ offset + length (frames parts.0)
+    ends : gate_at ≡ offset + length (frames parts.0)
 
   Facts-prop : (parts : Parts) → IsProp (Facts parts)
   Facts-prop parts p q =
       let closed_prop : IsProp (parts.1.0 ≢ 1) = hlevel props in
       let bytes_set : IsSet (List ℕ) = hlevel props in
-      let ends_prop : IsProp (place ≡ offset + length (frames parts.0)) = hlevel props in
+      let ends_prop : IsProp (gate_at ≡ offset + length (frames parts.0)) = hlevel props in
       λ i. record {
         whole = bytes_set _ _ p.whole q.whole i;
         sized = AreBatches-prop parts.0 p.sized q.sized i;
@@ -46,15 +46,15 @@ module _ (offset : ℕ) (image : List ℕ) (inputs : List Input) (place : ℕ) w
         ends = ends_prop p.ends q.ends i;
       }
 
-  abbrev parts_of : ReadsTo offset image inputs place → (parts : Parts) × Facts parts
+  abbrev parts_of : ReadsTo offset image inputs gate_at → (parts : Parts) × Facts parts
   parts_of r = ((r.batches, (r.gate, r.after)), record { whole = r.whole; sized = r.sized; closed = r.closed; same = r.same; ends = r.ends })
 
-  abbrev reads_by : ((parts : Parts) × Facts parts) → ReadsTo offset image inputs place
+  abbrev reads_by : ((parts : Parts) × Facts parts) → ReadsTo offset image inputs gate_at
   reads_by r = record { batches = r.0.0; gate = r.0.1.0; after = r.0.1.1; whole = r.1.whole; sized = r.1.sized; closed = r.1.closed; same = r.1.same; ends = r.1.ends }
 
-  pub ReadsTo-prop : IsProp (ReadsTo offset image inputs place)
+  pub ReadsTo-prop : IsProp (ReadsTo offset image inputs gate_at)
   ReadsTo-prop p q =
-      let same = parts-unique offset image inputs inputs place place p q in
+      let same = parts-unique offset image inputs inputs gate_at gate_at p q in
       let gate : p.gate ≡ q.gate = ap (λ (l : List ℕ). get_or l 0 0) same.1 in
       let after : p.after ≡ q.after = ap (drop 1) same.1 in
       let parts : ◌≡◌ {A = Parts} (p.batches, (p.gate, p.after)) (q.batches, (q.gate, q.after)) = λ i. (same.0 i, (gate i, after i)) in
@@ -74,11 +74,11 @@ HasHeader-prop header image p q =
       blank = number_set _ _ p.blank q.blank i;
     }
 
-ReadsAt-prop : (header : Member) (image : List ℕ) (inputs : List Input) (place : ℕ) → IsProp (ReadsAt header image inputs place)
-ReadsAt-prop header image inputs place p q i = record { head = HasHeader-prop header image p.head q.head i; frames = ReadsTo-prop 16 image inputs place p.frames q.frames i }
+ReadsAt-prop : (header : Member) (image : List ℕ) (inputs : List Input) (gate_at : ℕ) → IsProp (ReadsAt header image inputs gate_at)
+ReadsAt-prop header image inputs gate_at p q i = record { head = HasHeader-prop header image p.head q.head i; frames = ReadsTo-prop 16 image inputs gate_at p.frames q.frames i }
 
 pub ReadsAs-prop : (header : Member) (image : List ℕ) (inputs : List Input) → IsProp (ReadsAs header image inputs)
 ReadsAs-prop header image inputs p q =
-    let place : p.place ≡ q.place = (unique 16 image inputs inputs p.place q.place p.at.frames q.at.frames).1 in
-    ap (λ (r : (place : ℕ) × ReadsAt header image inputs place). record { place = r.0; at = r.1 })
-    (with_fact (ReadsAt-prop header image inputs) (p.place, p.at) (q.place, q.at) place)
+    let gate_at : p.gate_at ≡ q.gate_at = (unique 16 image inputs inputs p.gate_at q.gate_at p.at.frames q.at.frames).1 in
+    ap (λ (r : (gate_at : ℕ) × ReadsAt header image inputs gate_at). record { gate_at = r.0; at = r.1 })
+    (with_fact (ReadsAt-prop header image inputs) (p.gate_at, p.at) (q.gate_at, q.at) gate_at)

@@ -97,45 +97,45 @@ formatted header old new from to put =
 
 -- ---- at rest
 
--- what all images read as ends at the journal's place
-pub at_place : (header : Member) (disk : Disk) (place count sum : ℕ) (inputs : List Input) → IsAtRest header disk place count sum → MayLeave disk disk.image → AllReadAs header disk inputs → ReadsAt header disk.image inputs place
-at_place header disk place count sum inputs rest stays all =
+-- what all images read as ends at the journal's gate
+pub at_place : (header : Member) (disk : Disk) (gate_at count sum : ℕ) (inputs : List Input) → IsAtRest header disk gate_at count sum → MayLeave disk disk.image → AllReadAs header disk inputs → ReadsAt header disk.image inputs gate_at
+at_place header disk gate_at count sum inputs rest stays all =
     let read = all disk.image stays in
-    let end_is : read.place ≡ place = ∥∥₁_elim rest.reads (ℕ_set read.place place) (λ r. (unique 16 disk.image inputs r.0 read.place place read.at.frames r.1.0.frames).1) in
+    let end_is : read.gate_at ≡ gate_at = ∥∥₁_elim rest.reads (ℕ_set read.gate_at gate_at) (λ r. (unique 16 disk.image inputs r.0 read.gate_at gate_at read.at.frames r.1.0.frames).1) in
     subst (λ (end : ℕ). ReadsAt header disk.image inputs end) end_is read.at
 
 -- and the journal's counts are those of what is read
-pub counts : (header : Member) (disk : Disk) (place count sum : ℕ) (inputs : List Input) → IsAtRest header disk place count sum → MayLeave disk disk.image → AllReadAs header disk inputs → (count ≡ length inputs) × (sum ≡ used_by inputs)
-counts header disk place count sum inputs rest stays all =
+pub counts : (header : Member) (disk : Disk) (gate_at count sum : ℕ) (inputs : List Input) → IsAtRest header disk gate_at count sum → MayLeave disk disk.image → AllReadAs header disk inputs → (count ≡ length inputs) × (sum ≡ used_by inputs)
+counts header disk gate_at count sum inputs rest stays all =
     let read = all disk.image stays in
-    let same : (r : (more : List Input) × (ReadsAt header disk.image more place × ((length more ≡ count) × (used_by more ≡ sum)))) → r.0 ≡ inputs =
-    λ r. (unique 16 disk.image r.0 inputs place read.place r.1.0.frames read.at.frames).0 in (
+    let same : (r : (more : List Input) × (ReadsAt header disk.image more gate_at × ((length more ≡ count) × (used_by more ≡ sum)))) → r.0 ≡ inputs =
+    λ r. (unique 16 disk.image r.0 inputs gate_at read.gate_at r.1.0.frames read.at.frames).0 in (
       ∥∥₁_elim rest.reads (ℕ_set count (length inputs)) (λ r. sym r.1.1.0 ∙ ap length (same r)),
       ∥∥₁_elim rest.reads (ℕ_set sum (used_by inputs)) (λ r. sym r.1.1.1 ∙ ap used_by (same r)),
     )
 
 -- where nothing waits for a sync, a stop leaves what is read
-pub all_read : (header : Member) (disk : Disk) (inputs : List Input) (place : ℕ) → IsSynced disk → ReadsAt header disk.image inputs place → AllReadAs header disk inputs
-all_read header disk inputs place is read image left = record { place = place; at = subst (λ (l : List ℕ). ReadsAt header l inputs place) (sym (synced_only disk image is left)) read }
+pub all_read : (header : Member) (disk : Disk) (inputs : List Input) (gate_at : ℕ) → IsSynced disk → ReadsAt header disk.image inputs gate_at → AllReadAs header disk inputs
+all_read header disk inputs gate_at is read image left = record { gate_at = gate_at; at = subst (λ (l : List ℕ). ReadsAt header l inputs gate_at) (sym (synced_only disk image is left)) read }
 
-pub rest_of : (header : Member) (disk : Disk) (inputs : List Input) (place : ℕ) → IsSynced disk → ReadsAt header disk.image inputs place → IsAtRest header disk place (length inputs) (used_by inputs)
-rest_of header disk inputs place is read = record { synced = is; reads = ∣ (inputs, (read, (refl, refl))) ∣₁ }
+pub rest_of : (header : Member) (disk : Disk) (inputs : List Input) (gate_at : ℕ) → IsSynced disk → ReadsAt header disk.image inputs gate_at → IsAtRest header disk gate_at (length inputs) (used_by inputs)
+rest_of header disk inputs gate_at is read = record { synced = is; reads = ∣ (inputs, (read, (refl, refl))) ∣₁ }
 
 -- one batch more
-pub rest_next : (header : Member) (disk new : Disk) (place end count sum : ℕ) (batch : List Input) → IsAtRest header disk place count sum → IsSynced new
-    → ((inputs : List Input) → ReadsAt header disk.image inputs place → ReadsAt header new.image (inputs ++ batch) end) → IsAtRest header new end (count + length batch) (sum + used_by batch)
-rest_next header disk new place end count sum batch rest is step = record {
+pub rest_next : (header : Member) (disk new : Disk) (gate_at end count sum : ℕ) (batch : List Input) → IsAtRest header disk gate_at count sum → IsSynced new
+    → ((inputs : List Input) → ReadsAt header disk.image inputs gate_at → ReadsAt header new.image (inputs ++ batch) end) → IsAtRest header new end (count + length batch) (sum + used_by batch)
+rest_next header disk new gate_at end count sum batch rest is step = record {
   synced = is;
   reads = ∥∥₁_elim rest.reads (hlevel) (λ r. ∣ (r.0 ++ batch, (step r.0 r.1.0, (omega (arith, length-append r.0 batch, r.1.1.0), omega (arith, used-joined r.0 batch, r.1.1.1)))) ∣₁);
 }
 
 -- a moment of a commit of a whole journal
-pub moment : (header : Member) (old now : List ℕ) (inputs batch : List Input) (place n : ℕ) → ReadsAt header old inputs place → Appends 16 inputs batch place n old now → ReadsAsOneOf header inputs (inputs ++ batch) now
-moment header old now inputs batch place n read is =
-    let in_old = inside 16 old inputs place read.frames in
-    let low : 16 ≤ place = omega (arith, read.frames.ends) in
-    let head : HasHeader header now = header_kept header place (1 + n) old now low (omega (arith, in_old, low)) is.changes read.head in
-    ⊎_elim (λ before. inl (record { place = place; at = record { head = head; frames = before } })) (λ after. inr (record { place = place + n; at = record { head = head; frames = after } })) is.frames
+pub moment : (header : Member) (old now : List ℕ) (inputs batch : List Input) (gate_at n : ℕ) → ReadsAt header old inputs gate_at → Appends 16 inputs batch gate_at n old now → ReadsAsOneOf header inputs (inputs ++ batch) now
+moment header old now inputs batch gate_at n read is =
+    let in_old = inside 16 old inputs gate_at read.frames in
+    let low : 16 ≤ gate_at = omega (arith, read.frames.ends) in
+    let head : HasHeader header now = header_kept header gate_at (1 + n) old now low (omega (arith, in_old, low)) is.changes read.head in
+    ⊎_elim (λ before. inl (record { gate_at = gate_at; at = record { head = head; frames = before } })) (λ after. inr (record { gate_at = gate_at + n; at = record { head = head; frames = after } })) is.frames
 
 -- ---- that a batch fits
 
@@ -155,11 +155,11 @@ fits batch bytes frame =
     }
 
 -- the journal after a commit
-pub after : (header : Member) (old new : List ℕ) (inputs batch : List Input) (place n : ℕ) → ReadsAt header old inputs place → ReadsTo 16 new (inputs ++ batch) (place + n) × Changes place (1 + n) old new → ReadsAt header new (inputs ++ batch) (place + n)
-after header old new inputs batch place n read done =
-    let in_old = inside 16 old inputs place read.frames in
-    let low : 16 ≤ place = omega (arith, read.frames.ends) in
-    record { head = header_kept header place (1 + n) old new low (omega (arith, in_old, low)) done.1 read.head; frames = done.0 }
+pub after : (header : Member) (old new : List ℕ) (inputs batch : List Input) (gate_at n : ℕ) → ReadsAt header old inputs gate_at → ReadsTo 16 new (inputs ++ batch) (gate_at + n) × Changes gate_at (1 + n) old new → ReadsAt header new (inputs ++ batch) (gate_at + n)
+after header old new inputs batch gate_at n read done =
+    let in_old = inside 16 old inputs gate_at read.frames in
+    let low : 16 ≤ gate_at = omega (arith, read.frames.ends) in
+    record { head = header_kept header gate_at (1 + n) old new low (omega (arith, in_old, low)) done.1 read.head; frames = done.0 }
 
 -- the capacity of a header that may be written
 pub in_range : (header : Member) → is_header header ≡ true → (4096 ≤ header.capacity) × (header.capacity ≤ 1048576)
@@ -175,14 +175,14 @@ in_range header is =
 -- ---- a journal that is opened
 
 -- what its numbers keep to
-pub record Opens (inputs : List Input) (place : ℕ) : Type 0 where
-  pub from : 16 ≤ place
-  pub within : place ≤ 16 + used_by inputs
+pub record Opens (inputs : List Input) (gate_at : ℕ) : Type 0 where
+  pub from : 16 ≤ gate_at
+  pub within : gate_at ≤ 16 + used_by inputs
   pub counted : length inputs ≤ used_by inputs
-  pub bound : used_by inputs + 32 ≤ 2 * place
+  pub bound : used_by inputs + 32 ≤ 2 * gate_at
 
-pub opens : (header : Member) (image : List ℕ) (inputs : List Input) (place : ℕ) → ReadsAt header image inputs place → Opens inputs place
-opens header image inputs place read =
+pub opens : (header : Member) (image : List ℕ) (inputs : List Input) (gate_at : ℕ) → ReadsAt header image inputs gate_at → Opens inputs gate_at
+opens header image inputs gate_at read =
     let r = read.frames in
     let same = ap used_by r.same in
     record {

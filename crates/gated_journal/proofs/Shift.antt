@@ -12,8 +12,8 @@ pub behind : (offset : ℕ) (bytes image : List ℕ) → IsPart offset bytes ima
 behind offset bytes image part ends =
     part_within offset bytes image part (omega (arith, ends)) ∙ take_all (length bytes) (drop offset image) (omega (arith, ends, length-drop offset image))
 
-pub reads_behind : (offset : ℕ) (bytes image : List ℕ) (inputs : List Input) (place : ℕ) → bytes ≡ drop offset image → ReadsTo 0 bytes inputs place → ReadsTo offset image inputs (offset + place)
-reads_behind offset bytes image inputs place is r = record {
+pub reads_behind : (offset : ℕ) (bytes image : List ℕ) (inputs : List Input) (gate_at : ℕ) → bytes ≡ drop offset image → ReadsTo 0 bytes inputs gate_at → ReadsTo offset image inputs (offset + gate_at)
+reads_behind offset bytes image inputs gate_at is r = record {
   batches = r.batches;
   gate = r.gate;
   after = r.after;
@@ -24,10 +24,10 @@ reads_behind offset bytes image inputs place is r = record {
   ends = omega (arith, r.ends);
 }
 
-pub damaged_behind : (offset : ℕ) (bytes image : List ℕ) (place : ℕ) → bytes ≡ drop offset image → IsDamagedAt 0 bytes place → IsDamagedAt offset image (offset + place)
-damaged_behind offset bytes image place is d =
-    let swapped : place + offset ≡ offset + place = omega arith in
-    let tails : drop place bytes ≡ drop (offset + place) image = ap (λ (l : List ℕ). drop place l) is ∙ drop-drop place offset image in
+pub damaged_behind : (offset : ℕ) (bytes image : List ℕ) (gate_at : ℕ) → bytes ≡ drop offset image → IsDamagedAt 0 bytes gate_at → IsDamagedAt offset image (offset + gate_at)
+damaged_behind offset bytes image gate_at is d =
+    let swapped : gate_at + offset ≡ offset + gate_at = omega arith in
+    let tails : drop gate_at bytes ≡ drop (offset + gate_at) image = ap (λ (l : List ℕ). drop gate_at l) is ∙ drop-drop gate_at offset image in
     record {
       inputs = d.inputs;
       up_to = record {

@@ -54,21 +54,21 @@ damaged-stuck bytes (inl none) batch rest is e = let same = sym none ∙ e in cc
 damaged-stuck bytes (inr some) batch rest is e = some.1.1 batch rest is (let same = sym some.1.0 ∙ e in cc)
 
 -- nor in two ways
-pub parts-unique : (offset : ℕ) (image : List ℕ) (inputs more : List Input) (place end : ℕ) → (one : ReadsTo offset image inputs place) → (two : ReadsTo offset image more end)
+pub parts-unique : (offset : ℕ) (image : List ℕ) (inputs more : List Input) (gate_at end : ℕ) → (one : ReadsTo offset image inputs gate_at) → (two : ReadsTo offset image more end)
     → (one.batches ≡ two.batches) × (one.gate ∷ one.after ≡ two.gate ∷ two.after)
-parts-unique offset image inputs more place end one two =
+parts-unique offset image inputs more gate_at end one two =
     frames-unique one.batches two.batches (one.gate ∷ one.after) (two.gate ∷ two.after) one.sized two.sized (closed-stuck one.gate one.after one.closed) (closed-stuck two.gate two.after two.closed) (sym one.whole ∙ two.whole)
 
-pub unique : (offset : ℕ) (image : List ℕ) (inputs more : List Input) (place end : ℕ) → ReadsTo offset image inputs place → ReadsTo offset image more end → (inputs ≡ more) × (place ≡ end)
-unique offset image inputs more place end one two =
-    let same = (parts-unique offset image inputs more place end one two).0 in (
+pub unique : (offset : ℕ) (image : List ℕ) (inputs more : List Input) (gate_at end : ℕ) → ReadsTo offset image inputs gate_at → ReadsTo offset image more end → (inputs ≡ more) × (gate_at ≡ end)
+unique offset image inputs more gate_at end one two =
+    let same = (parts-unique offset image inputs more gate_at end one two).0 in (
       one.same ∙ ap joined same ∙ sym two.same,
       one.ends ∙ ap (λ (bs : List (List Input)). offset + length (frames bs)) same ∙ sym two.ends,
     )
 
 -- frames that are damaged do not read
-pub not_both : (offset : ℕ) (image : List ℕ) (inputs : List Input) (place at : ℕ) → ReadsTo offset image inputs place → IsDamagedAt offset image at → ⊥
-not_both offset image inputs place at r d =
+pub not_both : (offset : ℕ) (image : List ℕ) (inputs : List Input) (gate_at at : ℕ) → ReadsTo offset image inputs gate_at → IsDamagedAt offset image at → ⊥
+not_both offset image inputs gate_at at r d =
     let up = d.up_to in
     let rests : r.gate ∷ r.after ≡ drop at image =
     (frames-unique r.batches up.batches (r.gate ∷ r.after) (drop at image) r.sized up.sized (closed-stuck r.gate r.after r.closed) (damaged-stuck (drop at image) d.broken) (sym r.whole ∙ up.whole)).1 in
@@ -86,7 +86,7 @@ damaged_once offset image at other one two =
     one.up_to.ends ∙ ap (λ (bs : List (List Input)). offset + length (frames bs)) same ∙ sym two.up_to.ends
 
 pub unique_inputs : (header other : Member) (image : List ℕ) (inputs more : List Input) → ReadsAs header image inputs → ReadsAs other image more → inputs ≡ more
-unique_inputs header other image inputs more one two = (unique 16 image inputs more one.place two.place one.at.frames two.at.frames).0
+unique_inputs header other image inputs more one two = (unique 16 image inputs more one.gate_at two.gate_at one.at.frames two.at.frames).0
 
 pub header_unique : (header other : Member) (image : List ℕ) → HasHeader header image → HasHeader other image → header ≡ other
 header_unique header other image one two =

@@ -47,9 +47,9 @@ pub record IsFrame (batch : List Input) (bytes : List ℕ) : Type 0 where
 
 -- ---- how they are read
 
--- From this offset on there are frames of these inputs, and then at this place one byte that is not 1. Nothing is said
--- of the bytes before the offset, nor of those behind the place.
-pub record ReadsTo (offset : ℕ) (image : List ℕ) (inputs : List Input) (place : ℕ) : Type 0 where
+-- From this offset on there are frames of these inputs, and then at this gate one byte that is not 1. Nothing is said
+-- of the bytes before the offset, nor of those behind the gate.
+pub record ReadsTo (offset : ℕ) (image : List ℕ) (inputs : List Input) (gate_at : ℕ) : Type 0 where
   pub batches : List (List Input)
   pub gate : ℕ
   pub after : List ℕ
@@ -57,10 +57,10 @@ pub record ReadsTo (offset : ℕ) (image : List ℕ) (inputs : List Input) (plac
   pub sized : AreBatches batches
   pub closed : gate ≢ 1
   pub same : inputs ≡ joined batches
-  pub ends : place ≡ offset + length (frames batches)
+  pub ends : gate_at ≡ offset + length (frames batches)
 
--- A moment of a commit of n bytes behind the gate at this place: the frames have the batch or not, and no byte outside
+-- A moment of a commit of n bytes behind the gate at this offset: the frames have the batch or not, and no byte outside
 -- the gate and the n bytes behind it has changed.
-pub record Appends (offset : ℕ) (inputs batch : List Input) (place n : ℕ) (old new : List ℕ) : Type 0 where
-  pub frames : ReadsTo offset new inputs place ⊎ ReadsTo offset new (inputs ++ batch) (place + n)
-  pub changes : Changes place (1 + n) old new
+pub record Appends (offset : ℕ) (inputs batch : List Input) (gate_at n : ℕ) (old new : List ℕ) : Type 0 where
+  pub frames : ReadsTo offset new inputs gate_at ⊎ ReadsTo offset new (inputs ++ batch) (gate_at + n)
+  pub changes : Changes gate_at (1 + n) old new

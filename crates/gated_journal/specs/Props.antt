@@ -18,7 +18,7 @@ candidate_prop c p q i = record { bid = le_prop p.bid q.bid i; from = le_prop p.
 pub HasRecord-prop : (x : Input) → IsProp (HasRecord x)
 unfolding HasRecord
 HasRecord-prop (Stand key bid) p q i = (key_prop key p.0 q.0 i, le_prop p.1 q.1 i)
-HasRecord-prop (Take place msg) p q i = (le_prop p.0 q.0 i, key_prop (key_of msg) p.1 q.1 i, candidate_prop (candidate_of msg) p.2 q.2 i)
+HasRecord-prop (Take msg_no msg) p q i = (le_prop p.0 q.0 i, key_prop (key_of msg) p.1 q.1 i, candidate_prop (candidate_of msg) p.2 q.2 i)
 HasRecord-prop (Acked upto) p q i = le_prop p q i
 
 pub HaveRecords-prop : (inputs : List Input) → IsProp (HaveRecords inputs)

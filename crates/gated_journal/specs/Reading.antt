@@ -36,21 +36,21 @@ pub record HasHeader (header : Member) (image : List ℕ) : Type 0 where
 abbrev pub frames_at : ℕ
 frames_at = 16
 
--- the image has this header, frames of these inputs behind it, and the closed gate at this place
-pub record ReadsAt (header : Member) (image : List ℕ) (inputs : List Input) (place : ℕ) : Type 0 where
+-- the image has this header, frames of these inputs behind it, and the closed gate at this offset
+pub record ReadsAt (header : Member) (image : List ℕ) (inputs : List Input) (gate_at : ℕ) : Type 0 where
   pub head : HasHeader header image
-  pub frames : ReadsTo frames_at image inputs place
+  pub frames : ReadsTo frames_at image inputs gate_at
 
 -- *Reading*: the image reads as these inputs
 pub record ReadsAs (header : Member) (image : List ℕ) (inputs : List Input) : Type 0 where
-  pub place : ℕ
-  pub at : ReadsAt header image inputs place
+  pub gate_at : ℕ
+  pub at : ReadsAt header image inputs gate_at
 
 -- Nothing waits for a sync, and the image reads as so many inputs that take so many bytes of the capacity, with the
--- closed gate at this place.
-pub record IsAtRest (header : Member) (disk : Disk) (place count sum : ℕ) : Type 0 where
+-- closed gate at this offset.
+pub record IsAtRest (header : Member) (disk : Disk) (gate_at count sum : ℕ) : Type 0 where
   pub synced : IsSynced disk
-  pub reads : ∥ ((inputs : List Input) × (ReadsAt header disk.image inputs place × ((length inputs ≡ count) × (used_by inputs ≡ sum)))) ∥₁
+  pub reads : ∥ ((inputs : List Input) × (ReadsAt header disk.image inputs gate_at × ((length inputs ≡ count) × (used_by inputs ≡ sum)))) ∥₁
 
 -- every image that a stop may leave reads as these inputs
 abbrev pub AllReadAs : Member → Disk → List Input → Type 0

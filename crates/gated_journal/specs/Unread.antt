@@ -23,29 +23,29 @@ header_at node n image = if nat_lt (length image) 17 then Err NotFormatted else 
 
 -- ---- the frames
 
--- from this offset on there are frames of these inputs, up to this place
-pub record ReadsUpTo (offset : ℕ) (image : List ℕ) (inputs : List Input) (place : ℕ) : Type 0 where
+-- from this offset on there are frames of these inputs, up to this gate
+pub record ReadsUpTo (offset : ℕ) (image : List ℕ) (inputs : List Input) (gate_at : ℕ) : Type 0 where
   pub batches : List (List Input)
-  pub whole : drop offset image ≡ frames batches ++ drop place image
+  pub whole : drop offset image ≡ frames batches ++ drop gate_at image
   pub sized : AreBatches batches
   pub same : inputs ≡ joined batches
-  pub ends : place ≡ offset + length (frames batches)
+  pub ends : gate_at ≡ offset + length (frames batches)
 
 -- no frame stands at the head of these bytes
 abbrev pub NoFrame : List ℕ → Type 0
 NoFrame tail = (batch : List Input) (rest : List ℕ) → IsBatch batch → tail ≡ body batch ++ rest → ⊥
 
--- There are frames up to this place, and at it no byte, or an open gate with no frame behind it.
-pub record IsDamagedAt (offset : ℕ) (image : List ℕ) (place : ℕ) : Type 0 where
+-- There are frames up to this gate, and at it no byte, or an open gate with no frame behind it.
+pub record IsDamagedAt (offset : ℕ) (image : List ℕ) (gate_at : ℕ) : Type 0 where
   pub inputs : List Input
-  pub up_to : ReadsUpTo offset image inputs place
-  pub broken : (drop place image ≡ []) ⊎ ((tail : List ℕ) × ((drop place image ≡ 1 ∷ tail) × NoFrame tail))
+  pub up_to : ReadsUpTo offset image inputs gate_at
+  pub broken : (drop gate_at image ≡ []) ⊎ ((tail : List ℕ) × ((drop gate_at image ≡ 1 ∷ tail) × NoFrame tail))
 
 -- the refusal says where they are damaged
 pub record IsBroken (offset : ℕ) (image : List ℕ) (refusal : Refusal) : Type 0 where
-  pub place : ℕ
-  pub is : refusal ≡ Damaged place
-  pub damaged : IsDamagedAt offset image place
+  pub gate_at : ℕ
+  pub is : refusal ≡ Damaged gate_at
+  pub damaged : IsDamagedAt offset image gate_at
 
 -- ---- both
 

@@ -23,13 +23,13 @@ pub struct Journal<D: Device> {
     n: u8,
     capacity: u32,
     // where the closed gate is
-    place: u64,
+    gate_at: u64,
     count: u64,
     used: u64,
     is_spoiled: bool,
-    ghost settled: { is_spoiled ≡ false → IsAtRest (member node n capacity) (D.disk device) place count used },
-    ghost from: { frames_at ≤ place },
-    ghost within: { place ≤ frames_at + used },
+    ghost settled: { is_spoiled ≡ false → IsAtRest (member node n capacity) (D.disk device) gate_at count used },
+    ghost from: { frames_at ≤ gate_at },
+    ghost within: { gate_at ≤ frames_at + used },
     ghost counted: { count ≤ used },
     ghost least: { 4096 ≤ capacity },
     ghost small: { capacity ≤ 1048576 },
@@ -77,7 +77,7 @@ impl<D: Device> Journal<D> {
                 node,
                 n,
                 capacity,
-                place: FRAMES,
+                gate_at: FRAMES,
                 count: 0,
                 used: 0,
                 is_spoiled: false,
@@ -132,7 +132,7 @@ impl<D: Device> Journal<D> {
                 Opened {
                     capacity,
                     inputs,
-                    place,
+                    gate_at,
                 },
             ) => {
                 let journal = Journal {
@@ -140,7 +140,7 @@ impl<D: Device> Journal<D> {
                     node,
                     n,
                     capacity,
-                    place,
+                    gate_at,
                     count: inputs.len() as u64,
                     used: used_of(&inputs),
                     is_spoiled: false,
@@ -206,7 +206,7 @@ impl<D: Device> Journal<D> {
             node: _,
             n: _,
             capacity: _,
-            place: _,
+            gate_at: _,
             count: _,
             used: _,
             is_spoiled: _,
@@ -247,9 +247,9 @@ impl<D: Device> Journal<D> {
             bytes,
         } = batch;
         self.is_spoiled = true;
-        match append(&mut self.device, self.place, &bytes) {
+        match append(&mut self.device, self.gate_at, &bytes) {
             Ok(()) => {
-                self.place += bytes.len() as u64;
+                self.gate_at += bytes.len() as u64;
                 self.count += inputs.len() as u64;
                 self.used += u64::from(cost);
                 self.is_spoiled = false;

@@ -11,15 +11,16 @@ ghost use Rattle.gated_journal.specs.Unread.{IsUnread, IsDamagedAt};
 pub fn one_reading()
     ensures inputs { (header other : Member) (image : List ℕ) (inputs more : List Input) → ReadsAs header image inputs → ReadsAs other image more → inputs ≡ more }
     ensures header { (header other : Member) (image : List ℕ) (inputs more : List Input) → ReadsAs header image inputs → ReadsAs other image more → header ≡ other }
-    ensures frames { (offset : ℕ) (image : List ℕ) (inputs more : List Input) (place end : ℕ) → ReadsTo offset image inputs place → ReadsTo offset image more end → (inputs ≡ more) × (place ≡ end) }
+    ensures frames { (offset : ℕ) (image : List ℕ) (inputs more : List Input) (gate_at end : ℕ) → ReadsTo offset image inputs gate_at
+        → ReadsTo offset image more end → (inputs ≡ more) × (gate_at ≡ end) }
 {}
 
 /// No image has both a reading and a fault. One that is read for a node of a ring has no fault for it, an image has no
-/// two faults, and frames that are damaged at one place are neither read nor damaged at another.
+/// two faults, and frames that are damaged at one gate are neither read nor damaged at another.
 pub fn one_fault()
     ensures read { (node n : ℕ) (image : List ℕ) (refusal : Refusal) (header : Member) (inputs : List Input)
         → IsUnread node n image refusal → ReadsAs header image inputs → header.node ≡ node → header.n ≡ n → ⊥ }
     ensures fault { (node n : ℕ) (image : List ℕ) (refusal other : Refusal) → IsUnread node n image refusal → IsUnread node n image other → refusal ≡ other }
-    ensures frames { (offset : ℕ) (image : List ℕ) (inputs : List Input) (place damaged : ℕ) → ReadsTo offset image inputs place → IsDamagedAt offset image damaged → ⊥ }
-    ensures place { (offset : ℕ) (image : List ℕ) (place other : ℕ) → IsDamagedAt offset image place → IsDamagedAt offset image other → place ≡ other }
+    ensures frames { (offset : ℕ) (image : List ℕ) (inputs : List Input) (gate_at damaged : ℕ) → ReadsTo offset image inputs gate_at → IsDamagedAt offset image damaged → ⊥ }
+    ensures gate_at { (offset : ℕ) (image : List ℕ) (gate_at other : ℕ) → IsDamagedAt offset image gate_at → IsDamagedAt offset image other → gate_at ≡ other }
 {}

@@ -19,8 +19,8 @@ pub(crate) struct Opened {
     pub(crate) capacity: u32,
     pub(crate) inputs: Vec<Input>,
     // where the closed gate is
-    pub(crate) place: u64,
-    ghost small: { place < 2 ^ 63 + 16 },
+    pub(crate) gate_at: u64,
+    ghost small: { gate_at < 2 ^ 63 + 16 },
 }
 
 // Makes what a read gives stable.
@@ -108,7 +108,7 @@ fn read_header<D: Device>(device: &mut D, node: NodeNo, n: u8) -> Result<u32, Re
     capacity_of(&head, node, n)
 }
 
-// Reads the frames from `from` on: their inputs, and the place of the closed gate.
+// Reads the frames from `from` on: their inputs, and the offset of the closed gate.
 fn read_frames<D: Device>(
     alloc: Global,
     device: &mut D,
@@ -135,8 +135,8 @@ fn read_frames<D: Device>(
         return Err(refusal);
     }
     match scan(alloc, &bytes) {
-        Ok((inputs, place)) => Ok((inputs, from + place)),
-        Err(Unread::Damaged(place)) => Err(Refusal::Damaged(from + place)),
+        Ok((inputs, gate_at)) => Ok((inputs, from + gate_at)),
+        Err(Unread::Damaged(gate_at)) => Err(Refusal::Damaged(from + gate_at)),
         Err(Unread::Memory) => Err(Refusal::OutOfMemory),
     }
 }
@@ -148,7 +148,7 @@ pub(crate) fn open<D: Device>(
     node: NodeNo,
     n: u8,
 ) -> Result<Opened, Refusal>
-    ensures reads { IfOk result (λ opened. ReadsAt (member node n opened.capacity) (D.disk device.old).image opened.inputs.items opened.place) }
+    ensures reads { IfOk result (λ opened. ReadsAt (member node n opened.capacity) (D.disk device.old).image opened.inputs.items opened.gate_at) }
     ensures synced { OnOk result (IsSynced (D.disk device.new)) }
     ensures disk { OnOk result (D.disk device.new ≡ synced (D.disk device.old)) }
     ensures kept { (D.disk device.new ≡ D.disk device.old) ⊎ (D.disk device.new ≡ synced (D.disk device.old)) }
@@ -165,10 +165,10 @@ pub(crate) fn open<D: Device>(
         Err(refusal) => Err(refusal),
         Ok(capacity) => match read_frames(alloc, device, FRAMES) {
             Err(refusal) => Err(refusal),
-            Ok((inputs, place)) => Ok(Opened {
+            Ok((inputs, gate_at)) => Ok(Opened {
                 capacity,
                 inputs,
-                place,
+                gate_at,
             }),
         },
     }

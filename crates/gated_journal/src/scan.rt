@@ -66,20 +66,20 @@ fn take_frame(inputs: &mut Vec<Input>, tail: &[u8]) -> Result<Option<usize>, All
 pub(crate) fn scan(alloc: Global, bytes: &[u8]) -> Result<(Vec<Input>, u64), Unread>
     ensures reads { IfOk result (λ read. ReadsTo 0 bytes.now read.0.items read.1) }
     ensures inside { IfOk result (λ read. read.1 ≤ length bytes.now) }
-    ensures damaged_inside { IfErr result (λ unread. (place : ℕ) → unread ≡ Unread.Damaged place → place ≤ length bytes.now) }
-    ensures damaged { IfErr result (λ unread. (place : ℕ) → unread ≡ Unread.Damaged place → IsDamagedAt 0 bytes.now place) }
+    ensures damaged_inside { IfErr result (λ unread. (gate_at : ℕ) → unread ≡ Unread.Damaged gate_at → gate_at ≤ length bytes.now) }
+    ensures damaged { IfErr result (λ unread. (gate_at : ℕ) → unread ≡ Unread.Damaged gate_at → IsDamagedAt 0 bytes.now gate_at) }
 {
     let mut inputs = Vec::new(alloc);
-    let mut place = 0;
-    while place < bytes.len() {
-        if bytes[place] != 1 {
-            return Ok((inputs, place as u64));
+    let mut gate_at = 0;
+    while gate_at < bytes.len() {
+        if bytes[gate_at] != 1 {
+            return Ok((inputs, gate_at as u64));
         }
-        match take_frame(&mut inputs, &bytes[place + 1..]) {
-            Ok(Some(size)) => place += 1 + size,
-            Ok(None) => return Err(Unread::Damaged(place as u64)),
+        match take_frame(&mut inputs, &bytes[gate_at + 1..]) {
+            Ok(Some(size)) => gate_at += 1 + size,
+            Ok(None) => return Err(Unread::Damaged(gate_at as u64)),
             Err(_) => return Err(Unread::Memory),
         }
     }
-    Err(Unread::Damaged(place as u64))
+    Err(Unread::Damaged(gate_at as u64))
 }

@@ -91,10 +91,10 @@ next_stand me old new h x effects key bid keeps brings is more link takes =
     keeps_next me old new h x effects keeps brings more (subst (OutlinkStandsFor new.link.link (sent me (h ++ x ∷ []))) (same_credit h x (ap upto_of is)) link)
     (takes ∙ (keeps.taken ∙ same_taken h x (ap message_of is)))
 
-pub next_take : (me : ℕ) (old new : Released) (h : List Input) (x : Input) (effects : Effects) (place : ℕ) (msg : Msg) → Keeps me old h → effects ≡ effects_of me h x → x ≡ Take place msg
+pub next_take : (me : ℕ) (old new : Released) (h : List Input) (x : Input) (effects : Effects) (msg_no : ℕ) (msg : Msg) → Keeps me old h → effects ≡ effects_of me h x → x ≡ Take msg_no msg
     → new.decisions.items ≡ old.decisions.items ++ cons_option effects.decided [] → OutlinkStandsFor new.link.link (sent me (h ++ x ∷ [])) (credit h) → new.taken ≡ old.taken + 1 → Keeps me new (h ++ x ∷ [])
 unfolding upto_of message_of
-next_take me old new h x effects place msg keeps brings is more link takes =
+next_take me old new h x effects msg_no msg keeps brings is more link takes =
     keeps_next me old new h x effects keeps brings more (subst (OutlinkStandsFor new.link.link (sent me (h ++ x ∷ []))) (same_credit h x (ap upto_of is)) link)
     (takes ∙ (ap (λ n. n + 1) keeps.taken ∙ sym (ap length (taken-push h x ∙ ap (λ (o : Option Msg). taken h ++ cons_option o []) (ap message_of is)) ∙ length-append (taken h) (msg ∷ []))))
 
@@ -108,25 +108,25 @@ next_acked me old new h x effects upto keeps brings is more link takes =
 
 -- ---- the messages that may be released again
 
-numbered-push : (place : ℕ) (msgs : List Msg) (msg : Msg) → numbered place (msgs ++ msg ∷ []) ≡ numbered place msgs ++ Carry (place + length msgs) msg ∷ []
-numbered-push place [] msg = let none : place ≡ place + 0 = omega arith in ap (λ n. Carry n msg ∷ []) none
-numbered-push place (m ∷ msgs) msg =
-    ap (λ l. Carry place m ∷ l) (numbered-push (place + 1) msgs msg)
-    ∙ (let sum : place + 1 + length msgs ≡ place + length (m ∷ msgs) = omega arith in ap (λ n. Carry place m ∷ (numbered (place + 1) msgs ++ Carry n msg ∷ [])) sum)
+numbered-push : (msg_no : ℕ) (msgs : List Msg) (msg : Msg) → numbered msg_no (msgs ++ msg ∷ []) ≡ numbered msg_no msgs ++ Carry (msg_no + length msgs) msg ∷ []
+numbered-push msg_no [] msg = let none : msg_no ≡ msg_no + 0 = omega arith in ap (λ n. Carry n msg ∷ []) none
+numbered-push msg_no (m ∷ msgs) msg =
+    ap (λ l. Carry msg_no m ∷ l) (numbered-push (msg_no + 1) msgs msg)
+    ∙ (let sum : msg_no + 1 + length msgs ≡ msg_no + length (m ∷ msgs) = omega arith in ap (λ n. Carry msg_no m ∷ (numbered (msg_no + 1) msgs ++ Carry n msg ∷ [])) sum)
 
-pub numbered-item : (first : ℕ) (msgs : List Msg) (place : ℕ) (msg : Msg) (before after : List Packet) → IsItem msgs place msg → before ≡ numbered first (take place msgs) → after ≡ before ++ Carry (first + place) msg ∷ []
-    → after ≡ numbered first (take (place + 1) msgs)
-numbered-item first msgs place msg before after here is more =
+pub numbered-item : (first : ℕ) (msgs : List Msg) (index : ℕ) (msg : Msg) (before after : List Packet) → IsItem msgs index msg → before ≡ numbered first (take index msgs) → after ≡ before ++ Carry (first + index) msg ∷ []
+    → after ≡ numbered first (take (index + 1) msgs)
+numbered-item first msgs index msg before after here is more =
     let within = here.within in
-    let count : place ≡ length (take place msgs) = sym (length-take-le place msgs (omega (arith, within))) in
-    more ∙ ap (λ l. l ++ Carry (first + place) msg ∷ []) is
-    ∙ ap (λ n. numbered first (take place msgs) ++ Carry (first + n) msg ∷ []) count
-    ∙ sym (numbered-push first (take place msgs) msg) ∙ ap (numbered first) (sym (take-item msgs place msg here))
+    let count : index ≡ length (take index msgs) = sym (length-take-le index msgs (omega (arith, within))) in
+    more ∙ ap (λ l. l ++ Carry (first + index) msg ∷ []) is
+    ∙ ap (λ n. numbered first (take index msgs) ++ Carry (first + n) msg ∷ []) count
+    ∙ sym (numbered-push first (take index msgs) msg) ∙ ap (numbered first) (sym (take-item msgs index msg here))
 
-pub window_is : (me : ℕ) (released : Released) (h : List Input) (msgs : List Msg) (first place : ℕ) (packets : List Packet) → Keeps me released h → msgs ≡ released.link.link.window
-    → first + length msgs ≡ sent_count released.link.link → length msgs ≤ place → packets ≡ numbered first (take place msgs) → packets ≡ window me h
+pub window_is : (me : ℕ) (released : Released) (h : List Input) (msgs : List Msg) (first index : ℕ) (packets : List Packet) → Keeps me released h → msgs ≡ released.link.link.window
+    → first + length msgs ≡ sent_count released.link.link → length msgs ≤ index → packets ≡ numbered first (take index msgs) → packets ≡ window me h
 unfolding window
-window_is me released h msgs first place packets keeps window_same last all is =
+window_is me released h msgs first index packets keeps window_same last all is =
     let same : length msgs ≡ length released.link.link.window = ap length window_same in
     let from : first ≡ released.link.link.credited = omega (arith, same, last) in
-    is ∙ (λ i. numbered ((from ∙ keeps.link.credited) i) (take_all place msgs all i)) ∙ ap (numbered (credit h)) (window_same ∙ keeps.link.window)
+    is ∙ (λ i. numbered ((from ∙ keeps.link.credited) i) (take_all index msgs all i)) ∙ ap (numbered (credit h)) (window_same ∙ keeps.link.window)

@@ -30,8 +30,8 @@ pub grows : (me n capacity : ℕ) (h : List Input) (q : Request) (a : Answer) (x
 unfolding reply gained input_of acceptance
 grows me n capacity h (ask.Stand key bid) a x accepts count e =
     longer (refusal_by (member me n capacity) h (Stand key bid)) say.Stood (Stand key bid) h (λ why s. cc) (says a.reply x (Stand key bid) accepts.asked accepts.says ∙ ap (λ (b : Answer). b.reply) e) (count ∙ ap (λ (b : Answer). b.number) e)
-grows me n capacity h (ask.Take place msg) a x accepts count e =
-    longer (refusal_by (member me n capacity) h (Take place msg)) say.Taken (Take place msg) h (λ why s. cc) (says a.reply x (Take place msg) accepts.asked accepts.says ∙ ap (λ (b : Answer). b.reply) e) (count ∙ ap (λ (b : Answer). b.number) e)
+grows me n capacity h (ask.Take msg_no msg) a x accepts count e =
+    longer (refusal_by (member me n capacity) h (Take msg_no msg)) say.Taken (Take msg_no msg) h (λ why s. cc) (says a.reply x (Take msg_no msg) accepts.asked accepts.says ∙ ap (λ (b : Answer). b.reply) e) (count ∙ ap (λ (b : Answer). b.number) e)
 grows me n capacity h (ask.Acked upto) a x accepts count e =
     longer (refusal_by (member me n capacity) h (Acked upto)) say.Acked (Acked upto) h (λ why s. cc) (says a.reply x (Acked upto) accepts.asked accepts.says ∙ ap (λ (b : Answer). b.reply) e) (count ∙ ap (λ (b : Answer). b.number) e)
 grows me n capacity h (ask.Who key) a x accepts count e = none≢some x accepts.asked
@@ -54,19 +54,19 @@ lawful_take me n capacity k h lawful = EachAfter-take (IsAdmitted me n capacity 
 pub accepts_one : (q : Request) (reply : Reply) (x y : Input) → Accepts q reply x → Accepts q reply y → x ≡ y
 accepts_one q reply x y a b = same_Some x y (sym a.asked ∙ b.asked)
 
--- where the reply accepts this input, nothing but its place vouches for it
+-- where the reply accepts this input, nothing but its index vouches for it
 pub only_there : (member : Member) (s : NodeState) (a : Answered) (x : Input) → a.answer.number ≤ length s.inputs → Accepts a.question a.answer.reply x → IsVouched member s a → IsInput s.inputs a.answer.number x
 only_there member s a x within accepts vouched = elim vouched.gives [
   | inl accepted ↦ subst (IsInput s.inputs a.answer.number) (accepts_one a.question a.answer.reply accepted.input x accepted.accepts accepts) accepted.is_input
   | inr same ↦ absurd (grows member.node member.n member.capacity (take a.answer.number s.inputs) a.question a.answer x accepts (length-take-le a.answer.number s.inputs within) same)
 ]
 
--- the input at the place of this number, compared with another
+-- the input with this number, compared with another
 pub same_there : (inputs : List Input) (k : ℕ) (found x : Input) → 0 < k → k ≤ length inputs → found ≡ get_or inputs (k - 1) found → found ≡ x → IsInput inputs k x
 same_there inputs k found x some within is same = record { before = k - 1; number = omega arith; there = slice_get_read inputs (length inputs) (k - 1) found refl (omega arith) is ∙ ap Some same }
 
 pub there_same : (inputs : List Input) (k : ℕ) (found x : Input) → found ≡ get_or inputs (k - 1) found → IsInput inputs k x → found ≡ x
 there_same inputs k found x is there =
     let number = there.number in
-    let place : k - 1 ≡ there.before = omega arith in
-    is ∙ ap (λ i. get_or inputs i found) place ∙ get_or_from_slice_get inputs there.before x found there.there
+    let index : k - 1 ≡ there.before = omega arith in
+    is ∙ ap (λ i. get_or inputs i found) index ∙ get_or_from_slice_get inputs there.before x found there.there

@@ -71,13 +71,13 @@ objection desk q =
 
 -- the refusal names the first of these inputs that is not admitted after those before it
 pub record IsUnlawful (member : Member) (inputs : List Input) (why : Refusal) : Type 0 where
-  pub place : ℕ
-  pub is : why ≡ refused.Unlawful place
-  pub before : IsHistory member (take place inputs)
+  pub index : ℕ
+  pub is : why ≡ refused.Unlawful index
+  pub before : IsHistory member (take index inputs)
   pub input : Input
-  pub there : slice_get inputs place ≡ Some input
+  pub there : slice_get inputs index ≡ Some input
   pub refused_for : Refusal
-  pub because : refusal_by member (take place inputs) input ≡ Some refused_for
+  pub because : refusal_by member (take index inputs) input ≡ Some refused_for
 
 -- why nothing is launched, before memory is asked for
 abbrev pub launch_objection : DeskView → Option Refusal

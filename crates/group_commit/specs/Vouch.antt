@@ -11,7 +11,7 @@ use Rattle.ring_records.specs.Member.{Member, member, answer_by}
 -- the reply that says that the input is accepted
 unfoldable pub acceptance : Input → Reply
 acceptance (Stand key bid) = say.Stood
-acceptance (Take place msg) = say.Taken
+acceptance (Take msg_no msg) = say.Taken
 acceptance (Acked upto) = say.Acked
 
 -- the request asks the node to accept the input, and the reply says that it is accepted

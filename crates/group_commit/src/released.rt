@@ -54,8 +54,8 @@ impl Released {
         let messages = self.link.window();
         let first = self.link.sent() - messages.len() as u64;
         let mut packets = Vec::new(alloc);
-        for (place, msg) in messages.iter().enumerate() {
-            let no = first + place as u64;
+        for (index, msg) in messages.iter().enumerate() {
+            let no = first + index as u64;
             packets.push(Packet::Carry { no, msg: *msg })?;
         }
         Ok(packets)

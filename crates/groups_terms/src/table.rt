@@ -109,8 +109,8 @@ impl Table {
     /// Takes a message: what the node sends on. An `Err` changes nothing.
     pub fn hear(&mut self, msg: &Msg) -> Result<Option<Msg>, AllocError>
         ensures me { self.new.me ≡ self.old.me }
-        ensures sends { IfOk result (λ on. (h : List Input) (place : ℕ) → TableStandsFor self.old h → emit self.old.me h (Take place msg.now) ≡ on) }
-        ensures next { OnOk result ((h : List Input) (place : ℕ) → TableStandsFor self.old h → TableStandsFor self.new (h ++ Take place msg.now ∷ [])) }
+        ensures sends { IfOk result (λ on. (h : List Input) (msg_no : ℕ) → TableStandsFor self.old h → emit self.old.me h (Take msg_no msg.now) ≡ on) }
+        ensures next { OnOk result ((h : List Input) (msg_no : ℕ) → TableStandsFor self.old h → TableStandsFor self.new (h ++ Take msg_no msg.now ∷ [])) }
         ensures one_key { OnOk result (self.new.ballots ≡ map.insert self.old.ballots (key_of msg.now) (ballot_at self.new (key_of msg.now))) }
         ensures stands { self.new.stands ≡ self.old.stands }
         ensures err { OnErr result (self.new ≡ self.old) }
@@ -159,8 +159,8 @@ fn put(ballots: &mut BTreeMap<Key, Ballot>, key: &Key, ballot: &Ballot) -> Resul
 }
 
 fn hear(ballot: &mut Ballot, me: NodeNo, msg: &Msg) -> Option<Msg>
-    ensures sends { (h : List Input) (place : ℕ) → StandsFor ballot.old me h (key_of msg.now) → emit me h (Take place msg.now) ≡ result }
-    ensures next { (h : List Input) (place : ℕ) → StandsFor ballot.old me h (key_of msg.now) → StandsFor ballot.new me (h ++ Take place msg.now ∷ []) (key_of msg.now) }
+    ensures sends { (h : List Input) (msg_no : ℕ) → StandsFor ballot.old me h (key_of msg.now) → emit me h (Take msg_no msg.now) ≡ result }
+    ensures next { (h : List Input) (msg_no : ℕ) → StandsFor ballot.old me h (key_of msg.now) → StandsFor ballot.new me (h ++ Take msg_no msg.now ∷ []) (key_of msg.now) }
     ensures leader { (c : Candidate) → ballot.old.leader ≡ Some c → ballot.new.leader ≡ Some c }
 {
     match msg {

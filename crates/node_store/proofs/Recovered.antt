@@ -45,10 +45,10 @@ left_lawful me n capacity s true lawful = EachAfter-take (IsAdmitted me n capaci
 no_unlawful : (me n capacity : ℕ) (inputs : List Input) (why : Refusal) → IsHistory (member me n capacity) inputs → IsUnlawful (member me n capacity) inputs why → ⊥
 unfolding IsLawful
 no_unlawful me n capacity inputs why lawful un =
-    let front = take un.place inputs in
-    let here : IsItem inputs un.place un.input = record { within = slice_get_within inputs un.place un.input un.there; is = sym (get_or_from_slice_get inputs un.place un.input un.input un.there) } in
-    let cut : inputs ≡ front ++ un.input ∷ drop (un.place + 1) inputs = cut-item inputs un.place un.input here ∙ append_assoc front (un.input ∷ []) (drop (un.place + 1) inputs) in
-    let admitted = EachAfter-at (IsAdmitted me n capacity fresh) [] front un.input (drop (un.place + 1) inputs) (subst (λ (l : List Input). EachAfter (IsAdmitted me n capacity fresh) [] l) cut lawful) in
+    let front = take un.index inputs in
+    let here : IsItem inputs un.index un.input = record { within = slice_get_within inputs un.index un.input un.there; is = sym (get_or_from_slice_get inputs un.index un.input un.input un.there) } in
+    let cut : inputs ≡ front ++ un.input ∷ drop (un.index + 1) inputs = cut-item inputs un.index un.input here ∙ append_assoc front (un.input ∷ []) (drop (un.index + 1) inputs) in
+    let admitted = EachAfter-at (IsAdmitted me n capacity fresh) [] front un.input (drop (un.index + 1) inputs) (subst (λ (l : List Input). EachAfter (IsAdmitted me n capacity fresh) [] l) cut lawful) in
     none≢some un.refused_for (sym (admitted-free me n capacity fresh front un.input admitted) ∙ un.because)
 
 -- so where a desk is not opened with one, memory is short

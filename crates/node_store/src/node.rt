@@ -24,7 +24,9 @@ pub struct Node<D: Device> {
     alloc: Global,
     desk: Desk,
     journal: Journal<D>,
-    ghost stands: { Stands desk (journals.member_of journal) (D.disk (journals.device_of journal)) (journals.is_spoiled journal) (journals.len_of journal) (journals.room_of journal) } by { Stands-prop desk (journals.member_of journal) (D.disk (journals.device_of journal)) (journals.is_spoiled journal) (journals.len_of journal) (journals.room_of journal) },
+    ghost stands: { Stands desk (journals.member_of journal) (D.disk (journals.device_of journal)) (journals.is_spoiled journal)
+        (journals.len_of journal) (journals.room_of journal) } by { Stands-prop desk (journals.member_of journal) (D.disk (journals.device_of journal)) (journals.is_spoiled journal)
+            (journals.len_of journal) (journals.room_of journal) },
 }
 
 impl<D: Device> Node<D> {

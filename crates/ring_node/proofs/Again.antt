@@ -24,9 +24,9 @@ use Rattle.group_commit.specs.Desk.{DeskView, new_desk}
 use Rattle.node_store.proofs.Recovered.{left_lawful}
 use Rattle.ring_node.specs.Messages.{message_in, carried_in}
 use Rattle.ring_node.specs.Node.{NodeView, new_node, restarted, left, durable_in, is_credited}
-use Rattle.ring_node.specs.Open.{number_of}
+use Rattle.ring_node.specs.Open.{serial_of}
 use Rattle.ring_node.specs.Held.{HeldView, view_with, IsServed, IsRingNode}
-use Rattle.ring_node.proofs.Queue.{numbers_shown}
+use Rattle.ring_node.proofs.Queue.{serials_shown}
 use Rattle.ring_node.proofs.Ring.{by_name, opens}
 use Rattle.ring_node.proofs.Serving.{same_view, starts_shown}
 
@@ -37,16 +37,16 @@ drop-drop zero k l = let same : k ≡ k + 0 = omega arith in ap (λ n. drop n l)
 drop-drop (suc n) k [] = drop-nil k ∙ sym (drop-nil (k + suc n))
 drop-drop (suc n) k (x ∷ l) = let same : suc (k + n) ≡ k + suc n = omega arith in drop-drop n k l ∙ ap (λ m. drop m (x ∷ l)) same
 
-numbered-carried : (k place : ℕ) (msgs : List Msg) → carried_in (drop k (numbered place msgs)) ≡ drop k msgs
+numbered-carried : (k msg_no : ℕ) (msgs : List Msg) → carried_in (drop k (numbered msg_no msgs)) ≡ drop k msgs
 unfolding message_in
-numbered-carried zero place [] = refl
-numbered-carried zero place (msg ∷ msgs) = ap (λ l. msg ∷ l) (numbered-carried zero (place + 1) msgs)
-numbered-carried (suc k) place [] = refl
-numbered-carried (suc k) place (msg ∷ msgs) = numbered-carried k (place + 1) msgs
+numbered-carried zero msg_no [] = refl
+numbered-carried zero msg_no (msg ∷ msgs) = ap (λ l. msg ∷ l) (numbered-carried zero (msg_no + 1) msgs)
+numbered-carried (suc k) msg_no [] = refl
+numbered-carried (suc k) msg_no (msg ∷ msgs) = numbered-carried k (msg_no + 1) msgs
 
-numbered-length : (place : ℕ) (msgs : List Msg) → length (numbered place msgs) ≡ length msgs
-numbered-length place [] = refl
-numbered-length place (msg ∷ msgs) = ap suc (numbered-length (place + 1) msgs)
+numbered-length : (msg_no : ℕ) (msgs : List Msg) → length (numbered msg_no msgs) ≡ length msgs
+numbered-length msg_no [] = refl
+numbered-length msg_no (msg ∷ msgs) = ap suc (numbered-length (msg_no + 1) msgs)
 
 -- the window's messages behind the first k
 window-more : (me : ℕ) (h : List Input) (k : ℕ) → carried_in (drop k (window me h)) ≡ drop (k + credit h) (sent me h)
@@ -99,7 +99,7 @@ left_first s false flies = take-take s.durable s.durable s.inputs (omega arith)
 credit_more : (me n capacity : ℕ) (h : List Input) (x : Input) → IsAdmitted me n capacity fresh h x → credit h ≤ credit (h ++ x ∷ [])
 unfolding IsInTurn upto_of
 credit_more me n capacity h (Stand key bid) admitted = let more = credit-push h (Stand key bid) in omega arith
-credit_more me n capacity h (Take place msg) admitted = let more = credit-push h (Take place msg) in omega arith
+credit_more me n capacity h (Take msg_no msg) admitted = let more = credit-push h (Take msg_no msg) in omega arith
 credit_more me n capacity h (Acked upto) admitted =
     let more = credit-push h (Acked upto) in
     let above = admitted.allowed.in_turn.above in
@@ -228,5 +228,5 @@ module _ (m : Member) (desk : DeskView) (reach : Reach) (queue : List HeldView) 
           shown_again run inputs desk' queue' opened none ∙ (ap (λ l. restarted l v) (by_state keep) ∙ ap (λ b. restarted (left b v) v) (sym same_one))
 
 -- the numbers of the open tickets
-pub lost_numbers : (desk : DeskView) (reach : Reach) (queue : List HeldView) → IsServed desk reach queue → filter_map (λ (h : HeldView). h.number) queue ≡ filter_map number_of (view_with desk queue).held
-lost_numbers desk reach queue here = numbers_shown desk.member.node desk.run 0 _ desk.tickets queue here.held
+pub lost_serials : (desk : DeskView) (reach : Reach) (queue : List HeldView) → IsServed desk reach queue → filter_map (λ (h : HeldView). h.serial) queue ≡ filter_map serial_of (view_with desk queue).held
+lost_serials desk reach queue here = serials_shown desk.member.node desk.run 0 _ desk.tickets queue here.held

@@ -6,7 +6,7 @@ use Rattle.std.proofs.lemmas.Bool.{eq-eqb}
 use Rattle.std.proofs.lemmas.Bool.Decides.{nat_tests}
 use Rattle.ring_records.specs.Answer.{Answered}
 use Rattle.group_commit.specs.Ticket.{TicketView, ticket_with}
-use Rattle.ring_node.specs.Open.{Open, is_due, number_of}
+use Rattle.ring_node.specs.Open.{Open, is_due, serial_of}
 use Rattle.ring_node.specs.Held.{HeldView, MatchFirst, AreHeld, shown_with}
 
 -- ---- the queue
@@ -35,12 +35,12 @@ module _ (node run : ℕ) where
   }
 
   pub shown_more : (from to own : ℕ) (a : Answered) (h : HeldView) (ts : List (ℕ × Answered)) (hs : List HeldView) → AreHeld node run from to ts hs
-      → shown_with (ts ++ (own, a) ∷ []) (hs ++ h ∷ []) ≡ shown_with ts hs ++ record { number = h.number; kept = a } ∷ []
+      → shown_with (ts ++ (own, a) ∷ []) (hs ++ h ∷ []) ≡ shown_with ts hs ++ record { serial = h.serial; kept = a } ∷ []
   unfolding AreHeld shown_with
   shown_more from to own a h [] [] held = refl
   shown_more from to own a h [] (x ∷ hs) held = absurd held
   shown_more from to own a h (t ∷ ts) [] held = absurd held
-  shown_more from to own a h (t ∷ ts) (x ∷ hs) held = ap (λ (os : List Open). record { number = x.number; kept = t.1 } ∷ os) (shown_more t.1.answer.number to own a h ts hs held.others)
+  shown_more from to own a h (t ∷ ts) (x ∷ hs) held = ap (λ (os : List Open). record { serial = x.serial; kept = t.1 } ∷ os) (shown_more t.1.answer.number to own a h ts hs held.others)
 
   -- the first ticket, and those behind it
   pub record First (from to : ℕ) (tickets : List (ℕ × Answered)) (h : HeldView) (rest : List HeldView) : Type 0 where
@@ -90,12 +90,12 @@ module _ (node run : ℕ) where
   as_many from to (t ∷ ts) (h ∷ hs) held = ap (λ k. suc k) (as_many t.1.answer.number to ts hs held.others)
 
   -- the numbers that the ring gave
-  pub numbers_shown : (from to : ℕ) (ts : List (ℕ × Answered)) (hs : List HeldView) → AreHeld node run from to ts hs → filter_map (λ (h : HeldView). h.number) hs ≡ filter_map number_of (shown_with ts hs)
+  pub serials_shown : (from to : ℕ) (ts : List (ℕ × Answered)) (hs : List HeldView) → AreHeld node run from to ts hs → filter_map (λ (h : HeldView). h.serial) hs ≡ filter_map serial_of (shown_with ts hs)
   unfolding AreHeld shown_with
-  numbers_shown from to [] [] held = refl
-  numbers_shown from to [] (h ∷ hs) held = absurd held
-  numbers_shown from to (t ∷ ts) [] held = absurd held
-  numbers_shown from to (t ∷ ts) (h ∷ hs) held = ap (cons_option h.number) (numbers_shown t.1.answer.number to ts hs held.others)
+  serials_shown from to [] [] held = refl
+  serials_shown from to [] (h ∷ hs) held = absurd held
+  serials_shown from to (t ∷ ts) [] held = absurd held
+  serials_shown from to (t ∷ ts) (h ∷ hs) held = ap (cons_option h.serial) (serials_shown t.1.answer.number to ts hs held.others)
 
   -- ---- which are due
 
@@ -105,7 +105,7 @@ module _ (node run : ℕ) where
   all_sealed durable from to [] (h ∷ hs) lt held = absurd held
   all_sealed durable from to (t ∷ ts) [] lt held = absurd held
   all_sealed durable from to (t ∷ ts) (h ∷ hs) lt held =
-      let o : Open = record { number = h.number; kept = t.1 } in
+      let o : Open = record { serial = h.serial; kept = t.1 } in
       let more = held.no_fewer in
       let not_due : is_due durable o ≡ false = grind (arith, nat_tests) in
       ap (λ b. cond b (o ∷ filter (is_due durable) (shown_with ts hs)) (filter (is_due durable) (shown_with ts hs))) not_due

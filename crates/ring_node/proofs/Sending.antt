@@ -126,7 +126,7 @@ named : (me n : ℕ) (h : List Input) (x : Input) (msg : Msg) → me ≤ n → I
 unfolding IsInTurn message_of
 named me n h x msg le turn (inl own) = omega (arith, own, le)
 named me n h (Stand key bid) msg le turn (inr other) = none≢some other.0 other.1
-named me n h (Take place t) msg le turn (inr other) =
+named me n h (Take msg_no t) msg le turn (inr other) =
     let same : t ≡ other.0 = (let e = other.1 in cc) in
     let is = ap (λ (c : Candidate). c.node) (ap candidate_of same ∙ other.2) in
     let r = turn.in_ring in

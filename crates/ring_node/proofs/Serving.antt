@@ -115,9 +115,9 @@ module _ (desk : DeskView) (from top : ℕ) (queue : List HeldView) (held : AreH
     pub first_number : answered.answer.number ≡ h.ticket.number
     first_number = ap (λ (a : Answered). a.answer.number) (sym same) ∙ number_is
 
-    pub first_shown : shown_with desk.tickets queue ≡ record { number = h.number; kept = answered } ∷ shown_with (ended h.ticket.own desk).tickets rest
+    pub first_shown : shown_with desk.tickets queue ≡ record { serial = h.serial; kept = answered } ∷ shown_with (ended h.ticket.own desk).tickets rest
     unfolding shown_with
-    first_shown = (λ i. shown_with (oldest.are i) (is i)) ∙ (λ i. record { number = h.number; kept = same i } ∷ shown_with (sym others_are i) rest)
+    first_shown = (λ i. shown_with (oldest.are i) (is i)) ∙ (λ i. record { serial = h.serial; kept = same i } ∷ shown_with (sym others_are i) rest)
 
 -- ---- a node at work
 
@@ -142,7 +142,7 @@ module _ (desk : DeskView) (reach : Reach) (queue : List HeldView) (here : IsSer
           reaches = here.reaches;
         }
 
-    pub gives_shown : view_with (submitted q desk) (queue ++ h ∷ []) ≡ asked_with h.number q (view_with desk queue)
+    pub gives_shown : view_with (submitted q desk) (queue ++ h ∷ []) ≡ asked_with h.serial q (view_with desk queue)
     unfolding asked_with
     gives_shown =
         let shown = shown_more desk.member.node desk.run 0 (length desk.state.inputs) desk.issued (desks.answered desk q) h desk.tickets queue here.held in
@@ -187,7 +187,7 @@ module _ (desk : DeskView) (reach : Reach) (queue : List HeldView) (here : IsSer
     pub early : MatchFirst (λ (x : HeldView). x.ticket.number ≤ desk.state.durable) queue → (oldest desk 0 (length desk.state.inputs) queue here.held h rest is).kept.answer.number ≤ desk.state.durable
     early due = omega (arith, low due, number_is desk 0 (length desk.state.inputs) queue here.held h rest is)
 
-    pub ends_due : (answered : Answered) → IsHere desk h.ticket answered → MatchFirst (λ (x : HeldView). x.ticket.number ≤ desk.state.durable) queue → is_due desk.state.durable (record { number = h.number; kept = answered }) ≡ true
+    pub ends_due : (answered : Answered) → IsHere desk h.ticket answered → MatchFirst (λ (x : HeldView). x.ticket.number ≤ desk.state.durable) queue → is_due desk.state.durable (record { serial = h.serial; kept = answered }) ≡ true
     ends_due answered there due =
         let le = low due in
         let number = first_number desk 0 (length desk.state.inputs) queue here.held h rest is answered there in

@@ -21,7 +21,7 @@ use Rattle.ring_node.specs.Open.{Open}
 
 -- a ticket, and the number that the ring gave it, if any
 pub record HeldView : Type 0 where
-  pub number : Option ℕ
+  pub serial : Option ℕ
   pub ticket : TicketView
 
 -- this holds of the first, if there is one
@@ -45,7 +45,7 @@ AreHeld node run from to (t ∷ tickets) (h ∷ queue) = record {
 unfoldable pub shown_with : List (ℕ × Answered) → List HeldView → List Open
 shown_with [] queue = []
 shown_with (t ∷ tickets) [] = []
-shown_with (t ∷ tickets) (h ∷ queue) = record { number = h.number; kept = t.1 } ∷ shown_with tickets queue
+shown_with (t ∷ tickets) (h ∷ queue) = record { serial = h.serial; kept = t.1 } ∷ shown_with tickets queue
 
 -- ---- a node at work
 

@@ -7,7 +7,7 @@ use Rattle.ring_records.specs.declared.packet.Packet.TheVariants.{Carry, Credit}
 
 -- the message of a packet
 unfoldable pub message_in : Packet → Option Msg
-message_in (Carry place msg) = Some msg
+message_in (Carry msg_no msg) = Some msg
 message_in (Credit upto) = None
 
 -- that of a packet, if there is one

@@ -31,11 +31,11 @@ durable_in v = take v.durable v.inputs
 -- ---- requests
 
 abbrev pub ticket_of : Option ℕ → NodeView → Request → Open
-ticket_of number v q = record { number = number; kept = answered_by v.member v.inputs q }
+ticket_of serial v q = record { serial = serial; kept = answered_by v.member v.inputs q }
 
 -- after it is asked: its ticket is open
 unfoldable pub asked_with : Option ℕ → Request → NodeView → NodeView
-asked_with number q v = record v { inputs = v.inputs ++ gained_by v.member v.inputs q; held = v.held ++ ticket_of number v q ∷ []; issued = v.issued + 1 }
+asked_with serial q v = record v { inputs = v.inputs ++ gained_by v.member v.inputs q; held = v.held ++ ticket_of serial v q ∷ []; issued = v.issued + 1 }
 
 -- ---- batches
 

@@ -3,17 +3,17 @@ use Rattle.std.specs.Prelude.{ℕ, Bool, not, nat_le, List, Option}
 use Rattle.std.specs.List.{filter}
 use Rattle.ring_records.specs.Answer.{Answered}
 
--- an open ticket: the number that the ring gave it, if any, and what the node keeps for it
+-- an open ticket: the ticket number that the ring gave it, if any, and what the node keeps for it
 pub record Open : Type 0 where
-  pub number : Option ℕ
+  pub serial : Option ℕ
   pub kept : Answered
 
 abbrev pub open_with : Option ℕ → Answered → Open
-open_with number kept = record { number = number; kept = kept }
+open_with serial kept = record { serial = serial; kept = kept }
 
--- the ticket's number, if it has one
-abbrev pub number_of : Open → Option ℕ
-number_of t = t.number
+-- the number that the ring gave it, if any
+abbrev pub serial_of : Open → Option ℕ
+serial_of t = t.serial
 
 -- the ticket's reply rests on so many inputs at most
 abbrev pub is_due : ℕ → Open → Bool

@@ -20,7 +20,7 @@ use std::marker::Model;
 
 /// An open ticket, with the number that the ring gave it, if any.
 pub(crate) struct Held {
-    pub(crate) number: Option<u64>,
+    pub(crate) serial: Option<u64>,
     pub(crate) ticket: Ticket,
 }
 
@@ -30,14 +30,14 @@ impl Model for Held {
 
     ghost Value = { HeldView };
 
-    ghost view = { λ h. record { number = h.number; ticket = shown h.ticket } };
+    ghost view = { λ h. record { serial = h.serial; ticket = shown h.ticket } };
 }
 
 /// The numbers that the ring gave these tickets, in order.
-pub(crate) fn numbers_in(alloc: Global, held: &VecDeque<Held>) -> Result<Vec<u64>, AllocError>
-    ensures { IfOk result (λ numbers. numbers.items ≡ filter_map (λ h. h.number) held.now.items) }
+pub(crate) fn serials_in(alloc: Global, held: &VecDeque<Held>) -> Result<Vec<u64>, AllocError>
+    ensures { IfOk result (λ serials. serials.items ≡ filter_map (λ h. h.serial) held.now.items) }
 {
-    held.iter().filter_map(|h| h.number).collect(alloc)
+    held.iter().filter_map(|h| h.serial).collect(alloc)
 }
 
 /// Whether the oldest of these tickets rests on so many inputs at most.
@@ -83,7 +83,7 @@ fn forfeit(node: &mut Node<Disk>, held: Held)
     ensures next { nodes.desk_of node.new ≡ ended held.ticket.own (nodes.desk_of node.old) }
     ensures device { nodes.device_of node.new ≡ nodes.device_of node.old }
 {
-    let Held { number: _, ticket } = held;
+    let Held { serial: _, ticket } = held;
     match node.forfeit(ticket) {
         Ok(()) => {}
         Err(_) => unreachable!(),

@@ -74,16 +74,16 @@ impl RingNode {
 
     /// Asks the node. Its ticket, under the number that the ring gives it, stays open until the reply is released.
     /// Refused for memory, nothing has changed.
-    pub fn ask(&mut self, number: Option<u64>, question: Request) -> Result<(), AllocError>
+    pub fn ask(&mut self, serial: Option<u64>, question: Request) -> Result<(), AllocError>
         requires inside { is_outside self.old.member.n question ≡ false }
         requires numbers { self.old.issued < 2 ^ 60 }
-        ensures next { OnOk result (self.new ≡ asked_with number question self.old) }
+        ensures next { OnOk result (self.new ≡ asked_with serial question self.old) }
         ensures err { OnErr result (self.new ≡ self.old) }
     {
         self.held.reserve(1)?;
         match self.node.submit(question) {
             Ok(ticket) => {
-                self.held.push_back_reserved(Held { number, ticket });
+                self.held.push_back_reserved(Held { serial, ticket });
                 Ok(())
             }
             Err(refusal) => Err(memory_alone(refusal)),
@@ -119,9 +119,9 @@ impl RingNode {
         let Some(first) = self.held.pop_front() else {
             return None;
         };
-        let Held { number, ticket } = first;
+        let Held { serial, ticket } = first;
         match self.node.redeem(ticket) {
-            Ok((_reply, stub)) => Some((number, stub)),
+            Ok((_reply, stub)) => Some((serial, stub)),
             Err(_) => unreachable!(),
         }
     }

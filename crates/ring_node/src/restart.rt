@@ -13,9 +13,9 @@ ghost use Rattle.node_store.specs.Node as nodes;
 ghost use Rattle.node_store.specs.State.{Holds};
 ghost use Rattle.ring_node.specs.Held.{reach_of, AreHeld};
 ghost use Rattle.ring_node.specs.Node.{durable_in, restarted, left, is_credited};
-ghost use Rattle.ring_node.specs.Open.{number_of};
+ghost use Rattle.ring_node.specs.Open.{serial_of};
 
-use crate::held::{Held, closed, numbers_in};
+use crate::held::{Held, closed, serials_in};
 use crate::messages::add_carried;
 use crate::node::{Disk, RingNode, memory_alone};
 use disk_model::{FuseDevice, MemDevice, Tear};
@@ -30,7 +30,7 @@ impl RingNode {
     /// open, in order. Refused for memory, there is no node any more.
     pub fn crash(self) -> Result<(RingNode, Vec<u64>), AllocError>
         ensures next { IfOk result (λ r. r.0 ≡ restarted (durable_in self) self) }
-        ensures lost { IfOk result (λ r. r.1.items ≡ filter_map number_of self.held) }
+        ensures lost { IfOk result (λ r. r.1.items ≡ filter_map serial_of self.held) }
     {
         let RingNode {
             alloc,
@@ -42,7 +42,7 @@ impl RingNode {
             held,
             messages,
         } = self;
-        let lost = numbers_in(alloc, &held);
+        let lost = serials_in(alloc, &held);
         let device = closed(node, held);
         let lost = lost?;
         let runs = runs.wrapping_add(1);
@@ -69,7 +69,7 @@ impl RingNode {
         requires credited { is_credited self ≡ true }
         requires waits { self.durable < length self.inputs }
         ensures next { IfOk result (λ r. r.0 ≡ restarted (left r.1 self) self) }
-        ensures lost { IfOk result (λ r. r.2.items ≡ filter_map number_of self.held) }
+        ensures lost { IfOk result (λ r. r.2.items ≡ filter_map serial_of self.held) }
     {
         let RingNode {
             alloc,
@@ -82,7 +82,7 @@ impl RingNode {
             messages,
         } = self;
         let durable = node.durable();
-        let lost = numbers_in(alloc, &held);
+        let lost = serials_in(alloc, &held);
         let device = stopped(node, held, call, tear)?;
         let lost = lost?;
         let runs = runs.wrapping_add(1);

@@ -40,7 +40,7 @@ pub record Parts (n : ℕ) (run : List (ℕ × Input)) : Type 0 where
 carried-sent : (n : ℕ) (run : List (ℕ × Input)) (i : ℕ) (x : Input) (m : Msg) → IsCarried n run i x → message_of x ≡ Some m → Contains (sent (before n i) (part run (before n i))) m
 unfolding IsCarried message_of
 carried-sent n run i (Stand key b) m c e = none≢some m e
-carried-sent n run i (Take place t) m c e = subst (λ (u : Msg). Contains (sent (before n i) (part run (before n i))) u) (let p : t ≡ m = cc in p) (Contains-slice_get _ place t c)
+carried-sent n run i (Take msg_no t) m c e = subst (λ (u : Msg). Contains (sent (before n i) (part run (before n i))) u) (let p : t ≡ m = cc in p) (Contains-slice_get _ msg_no t c)
 carried-sent n run i (Acked upto) m c e = none≢some m e
 
 module _ (n : ℕ) (run : List (ℕ × Input)) (j : ℕ) (x : Input) where

@@ -19,7 +19,7 @@ part run i = filter_map (item_at i) run
 -- a message that is taken was sent by the node before, and the node after took as many as are credited
 unfoldable pub IsCarried : ℕ → List (ℕ × Input) → ℕ → Input → Type 0
 IsCarried n run i (Stand key bid) = Unit {0}
-IsCarried n run i (Take place msg) = slice_get (sent (before n i) (part run (before n i))) place ≡ Some msg
+IsCarried n run i (Take msg_no msg) = slice_get (sent (before n i) (part run (before n i))) msg_no ≡ Some msg
 IsCarried n run i (Acked upto) = upto ≤ length (taken (part run (after n i)))
 
 -- the step, an input at a node, may come after the run

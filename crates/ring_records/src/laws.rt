@@ -38,7 +38,7 @@ pub fn one_more_input()
 pub fn firsts_stay()
     ensures stood { (h rest : List Input) (key : Key) (bid : ℕ) → stood h key ≡ Some bid → stood (h ++ rest) key ≡ Some bid }
     ensures leader { (me : ℕ) (h rest : List Input) (key : Key) (c : Candidate) → leader me h key ≡ Some c → leader me (h ++ rest) key ≡ Some c }
-    ensures sent { (me : ℕ) (h rest : List Input) (place : ℕ) (m : Msg) → slice_get (sent me h) place ≡ Some m → slice_get (sent me (h ++ rest)) place ≡ Some m }
+    ensures sent { (me : ℕ) (h rest : List Input) (msg_no : ℕ) (m : Msg) → slice_get (sent me h) msg_no ≡ Some m → slice_get (sent me (h ++ rest)) msg_no ≡ Some m }
     ensures taken { (h rest : List Input) → taken (h ++ rest) ≡ taken h ++ taken rest }
 {}
 

@@ -4,7 +4,7 @@ use Rattle.std.specs.List.{filter, filter_map, cons_option}
 use Rattle.std.proofs.lemmas.List.{length-append}
 use Rattle.std.proofs.lemmas.List.Elements.{filter_map-append}
 use Rattle.ring_records.specs.declared.request.Request.{Request}
-use Rattle.ring_node.specs.Open.{Open, is_due, sealed, number_of}
+use Rattle.ring_node.specs.Open.{Open, is_due, sealed, serial_of}
 use Rattle.ring_world.specs.Counts.{numbered, IsBounded}
 use Rattle.ring_world.specs.Events.{Action}
 use Rattle.ring_world.specs.Ring.{RingView, held_at, node_at, happens, asked, answered_at, landed, waits, settled, due_at, reply_of, with_reply, replies, Part, released, and_then, round, rounds, drained, lost, crashed, stopped, given, brought, swept, swept_with, swept_on, swept_one, next_delivery, new_ring}
@@ -17,12 +17,12 @@ with_one (Some n) l = omega arith
 
 split_if : (t : Open) (ts passed others : List Open) (b : Bool) → numbered passed + numbered others ≡ numbered ts → numbered (cond b (t ∷ passed) passed) + numbered (cond (not b) (t ∷ others) others) ≡ numbered (t ∷ ts)
 split_if t ts passed others true e =
-    let one = with_one t.number (filter_map number_of passed) in
-    let all = with_one t.number (filter_map number_of ts) in
+    let one = with_one t.serial (filter_map serial_of passed) in
+    let all = with_one t.serial (filter_map serial_of ts) in
     omega arith
 split_if t ts passed others false e =
-    let one = with_one t.number (filter_map number_of others) in
-    let all = with_one t.number (filter_map number_of ts) in
+    let one = with_one t.serial (filter_map serial_of others) in
+    let all = with_one t.serial (filter_map serial_of ts) in
     omega arith
 
 -- what passes a test and what does not are all
@@ -30,14 +30,14 @@ split : (p : Open → Bool) (ts : List Open) → numbered (filter p ts) + number
 split p [] = refl
 split p (t ∷ ts) = split_if t ts (filter p ts) (filter (λ u. not (p u)) ts) (p t) (split p ts)
 
-many_with : (t : Open) (o : Option ℕ) (ts : List Open) → length (filter_map reply_of ts) ≡ length (filter_map number_of ts) → length (cons_option (with_reply o t.kept.answer.reply) (filter_map reply_of ts)) ≡ length (cons_option o (filter_map number_of ts))
+many_with : (t : Open) (o : Option ℕ) (ts : List Open) → length (filter_map reply_of ts) ≡ length (filter_map serial_of ts) → length (cons_option (with_reply o t.kept.answer.reply) (filter_map reply_of ts)) ≡ length (cons_option o (filter_map serial_of ts))
 many_with t None ts e = e
 many_with t (Some n) ts e = omega arith
 
 -- they have as many replies as numbers
-as_many : (ts : List Open) → length (filter_map reply_of ts) ≡ length (filter_map number_of ts)
+as_many : (ts : List Open) → length (filter_map reply_of ts) ≡ length (filter_map serial_of ts)
 as_many [] = refl
-as_many (t ∷ ts) = many_with t t.number ts (as_many ts)
+as_many (t ∷ ts) = many_with t t.serial ts (as_many ts)
 
 -- ---- nodes
 
@@ -72,11 +72,11 @@ bounded_log : (w : RingView) (es : List (ℕ × Action)) (t : ℕ) → IsBounded
 unfolding IsBounded
 bounded_log w es t b = λ j. b j
 
-bounded_asked : (number : Option ℕ) (i : ℕ) (q : Request) (w : RingView) (t u : ℕ) → t + length (cons_option number []) ≤ u → IsBounded w t → IsBounded (asked number i q w) u
+bounded_asked : (serial : Option ℕ) (i : ℕ) (q : Request) (w : RingView) (t u : ℕ) → t + length (cons_option serial []) ≤ u → IsBounded w t → IsBounded (asked serial i q w) u
 unfolding asked
-bounded_asked number i q w t u le b =
-    let ticket : Open = record { number = number; kept = answered_at w i q } in
-    let more = ap length (filter_map-append number_of (held_at w i) (ticket ∷ [])) ∙ length-append (filter_map number_of (held_at w i)) (filter_map number_of (ticket ∷ [])) in
+bounded_asked serial i q w t u le b =
+    let ticket : Open = record { serial = serial; kept = answered_at w i q } in
+    let more = ap length (filter_map-append serial_of (held_at w i) (ticket ∷ [])) ∙ length-append (filter_map serial_of (held_at w i)) (filter_map serial_of (ticket ∷ [])) in
     bounded_happens w _ i (held_at w i ++ ticket ∷ []) u (bounded_more w t u (omega arith) b) (let h = at_node w t i b in omega arith)
 
 bounded_given : (i : ℕ) (q : Request) (w : RingView) (t : ℕ) → IsBounded w t → IsBounded (given i q w) t
@@ -143,20 +143,20 @@ paid_rounds zero i w = paid_nothing i w
 paid_rounds (suc most) i w =
     paid_if i w (waits w i) (and_then (round i w) (rounds most i)) ([], w) (paid_then i w (round i w) (rounds most i) (paid_round i w) (paid_rounds most i (round i w).1)) (paid_nothing i w)
 
-paid_brought : (number : Option ℕ) (i : ℕ) (q : Request) (w : RingView) → IsPaid i (asked number i q (given i q w)) (brought number i q w)
+paid_brought : (serial : Option ℕ) (i : ℕ) (q : Request) (w : RingView) → IsPaid i (asked serial i q (given i q w)) (brought serial i q w)
 unfolding brought
-paid_brought number i q w =
-    let t = asked number i q (given i q w) in
+paid_brought serial i q w =
+    let t = asked serial i q (given i q w) in
     let first = paid_released i t in
     paid_if i t w.eager (and_then (released i t) (drained i)) (released i t)
     (paid_then i t (released i t) (drained i) first (paid_rounds (length (node_at (settled i t) i).inputs) i (settled i t))) first
 
 -- so few are told and left open
-pub bounded_brought : (number : Option ℕ) (i : ℕ) (q : Request) (w : RingView) (t u : ℕ) → t + length (cons_option number []) ≤ u → IsBounded w t → (length (brought number i q w).0 ≤ u) × IsBounded (brought number i q w).1 u
-bounded_brought number i q w t u le b =
-    let opens = bounded_asked number i q (given i q w) t u le (bounded_given i q w t b) in
-    let paid = paid_brought number i q w in
-    let h = at_node (asked number i q (given i q w)) u i opens in
+pub bounded_brought : (serial : Option ℕ) (i : ℕ) (q : Request) (w : RingView) (t u : ℕ) → t + length (cons_option serial []) ≤ u → IsBounded w t → (length (brought serial i q w).0 ≤ u) × IsBounded (brought serial i q w).1 u
+bounded_brought serial i q w t u le b =
+    let opens = bounded_asked serial i q (given i q w) t u le (bounded_given i q w t b) in
+    let paid = paid_brought serial i q w in
+    let h = at_node (asked serial i q (given i q w)) u i opens in
     let k = paid.here in
     (omega (arith, h, k), paid.all u opens)
 

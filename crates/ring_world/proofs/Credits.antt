@@ -35,7 +35,7 @@ last_of first (n ∷ ns) = elim (last_of n ns) [
 acked : (h : List Input) (x : Input) (upto : ℕ) → Contains h x → upto_of x ≡ Some upto → Contains h (Acked upto)
 unfolding upto_of
 acked h (Stand key bid) upto there e = none≢some upto e
-acked h (Take place msg) upto there e = none≢some upto e
+acked h (Take msg_no msg) upto there e = none≢some upto e
 acked h (Acked k) upto there e = subst (λ u. Contains h (Acked u)) (same_Some k upto e) there
 
 -- the credit is 0, or was accepted
@@ -48,10 +48,10 @@ credit_from h = elim (last_of 0 (filter_map upto_of h)) [
 
 -- the last message that was taken
 record LastTake (h : List Input) : Type 0 where
-  place : ℕ
+  msg_no : ℕ
   msg : Msg
-  count : length (taken h) ≡ place + 1
-  there : Contains h (Take place msg)
+  count : length (taken h) ≡ msg_no + 1
+  there : Contains h (Take msg_no msg)
 
 abbrev Taken : List Input → Type 0
 Taken h = (length (taken h) ≡ 0) ⊎ LastTake h
@@ -62,18 +62,18 @@ stays h x none earlier =
     let same : taken (h ++ x ∷ []) ≡ taken h = taken-push h x ∙ (ap (λ (o : Option Msg). taken h ++ cons_option o []) none ∙ append-nil (taken h)) in
     elim earlier [
       | inl e ↦ inl (ap length same ∙ e)
-      | inr last ↦ inr (record { place = last.place; msg = last.msg; count = ap length same ∙ last.count; there = Contains-append_left h (x ∷ []) (Take last.place last.msg) last.there })
+      | inr last ↦ inr (record { msg_no = last.msg_no; msg = last.msg; count = ap length same ∙ last.count; there = Contains-append_left h (x ∷ []) (Take last.msg_no last.msg) last.there })
     ]
 
 next : (me n capacity : ℕ) (h : List Input) (x : Input) → IsAdmitted me n capacity fresh h x → Taken h → Taken (h ++ x ∷ [])
 unfolding IsInTurn message_of
 next me n capacity h (Stand key bid) admitted earlier = stays h (Stand key bid) refl earlier
 next me n capacity h (Acked upto) admitted earlier = stays h (Acked upto) refl earlier
-next me n capacity h (Take place msg) admitted earlier =
-    let more = ap length (taken-push h (Take place msg)) in
+next me n capacity h (Take msg_no msg) admitted earlier =
+    let more = ap length (taken-push h (Take msg_no msg)) in
     let sum = length-append (taken h) (msg ∷ []) in
-    let at : place ≡ length (taken h) = admitted.allowed.in_turn.next in
-    inr (record { place = place; msg = msg; count = omega arith; there = Contains-push h (Take place msg) })
+    let at : msg_no ≡ length (taken h) = admitted.allowed.in_turn.next in
+    inr (record { msg_no = msg_no; msg = msg; count = omega arith; there = Contains-push h (Take msg_no msg) })
 
 none_taken : Taken []
 unfolding taken
@@ -107,11 +107,11 @@ module _ (n capacity : ℕ) (events : List (ℕ × Action)) (schedule : IsSchedu
   durable_is = (schedule_holds n capacity events schedule).parts
 
   -- what a message was carried by
-  carried_one : (place : ℕ) (msg : Msg) → IsCarried n run (after n i) (Take place msg) → place < length (sent i (part run i))
+  carried_one : (msg_no : ℕ) (msg : Msg) → IsCarried n run (after n i) (Take msg_no msg) → msg_no < length (sent i (part run i))
   unfolding IsCarried
-  carried_one place msg e =
+  carried_one msg_no msg e =
       let here : before n (after n i) ≡ i = before_after n i first last in
-      slice_get_within (sent i (part run i)) place msg (subst (λ k. slice_get (sent k (part run k)) place ≡ Some msg) here e)
+      slice_get_within (sent i (part run i)) msg_no msg (subst (λ k. slice_get (sent k (part run k)) msg_no ≡ Some msg) here e)
 
   -- node i sent all that its successor took
   taken_sent : length (taken (part run (after n i))) ≤ length (sent i (part run i))
@@ -121,8 +121,8 @@ module _ (n capacity : ℕ) (events : List (ℕ × Action)) (schedule : IsSchedu
       let lawful = lawful_front b n capacity (at b).durable (at b).inputs (holds.sound b).lawful in
       elim (last_take b n capacity (part run b) (subst (IsHistory (member b n capacity)) (sym (durable_is b)) lawful)) [
         | inl e ↦ omega arith
-        | inr t ↦ let there = front (at b).durable (at b).inputs (Take t.place t.msg) (subst (λ l. Contains l (Take t.place t.msg)) (durable_is b) t.there) in
-            let low = carried_one t.place t.msg (holds.carried b (Take t.place t.msg) there) in
+        | inr t ↦ let there = front (at b).durable (at b).inputs (Take t.msg_no t.msg) (subst (λ l. Contains l (Take t.msg_no t.msg)) (durable_is b) t.there) in
+            let low = carried_one t.msg_no t.msg (holds.carried b (Take t.msg_no t.msg) there) in
             let count = t.count in
             omega arith
       ]

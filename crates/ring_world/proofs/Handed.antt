@@ -72,8 +72,8 @@ module _ (w : RingView) (schedule : IsSchedule w.size w.capacity w.events) where
     pub packet_stays : (packet : Packet) → PacketRests b (take p.state.durable p.state.inputs) packet → Stays w.size w.capacity w.events ((b, Release (Sent packet)) ∷ [])
     packet_stays packet rests = release_one w.size w.capacity w.events b (Sent packet) schedule low high (packet_releasable packet rests)
 
-    pub carry_rests : (place : ℕ) (msg : Msg) → is_sent (message w b place) msg ≡ true → PacketRests b (take p.state.durable p.state.inputs) (Carry place msg)
-    carry_rests place msg e = is_sent-same (message w b place) msg e
+    pub carry_rests : (msg_no : ℕ) (msg : Msg) → is_sent (message w b msg_no) msg ≡ true → PacketRests b (take p.state.durable p.state.inputs) (Carry msg_no msg)
+    carry_rests msg_no msg e = is_sent-same (message w b msg_no) msg e
 
     pub credit_rests : (upto : ℕ) → is_earned w b upto ≡ true → PacketRests b (take p.state.durable p.state.inputs) (Credit upto)
     credit_rests upto e =
@@ -86,11 +86,11 @@ module _ (w : RingView) (schedule : IsSchedule w.size w.capacity w.events) where
     pub handed_stays : (q : Request) → is_released w i q ≡ true → Stays w.size w.capacity w.events (handed w.size i q)
     unfolding is_released
     handed_stays (ask.Stand key bid) e = release_none w.size w.capacity w.events schedule
-    handed_stays (ask.Take place msg) e =
+    handed_stays (ask.Take msg_no msg) e =
         let b = before w.size i in
         let low = before_low w.size i first last in
         let high = before_high w.size i first last in
-        packet_stays b low high (Carry place msg) (carry_rests b low high place msg e)
+        packet_stays b low high (Carry msg_no msg) (carry_rests b low high msg_no msg e)
     handed_stays (ask.Acked upto) e =
         let b = after w.size i in
         let low = after_low w.size i first last in
@@ -103,7 +103,7 @@ module _ (w : RingView) (schedule : IsSchedule w.size w.capacity w.events) where
 pub handed_delivers : (n i : ℕ) (events : List (ℕ × Action)) (q : Request) → IsDelivered n (events ++ handed n i q) i q
 unfolding IsDelivered
 handed_delivers n i events (ask.Stand key bid) = tt
-handed_delivers n i events (ask.Take place msg) = Contains-push events (before n i, Release (Sent (Carry place msg)))
+handed_delivers n i events (ask.Take msg_no msg) = Contains-push events (before n i, Release (Sent (Carry msg_no msg)))
 handed_delivers n i events (ask.Acked upto) = Contains-push events (after n i, Release (Sent (Credit upto)))
 handed_delivers n i events (ask.Who key) = tt
 handed_delivers n i events (ask.Latest group) = tt
@@ -119,7 +119,7 @@ unfolding is_msg
 is_msg-same (Token k c) = and_from (is_key k k) (is_candidate c c) (is_key-same k) (is_candidate-same c)
 is_msg-same (Elected k c) = and_from (is_key k k) (is_candidate c c) (is_key-same k) (is_candidate-same c)
 
-pub sent_released : (w : RingView) (from to place : ℕ) (msg : Msg) (size : ℕ) → size ≡ w.size → before size to ≡ from → message w from place ≡ Some msg → is_released w to (ask.Take place msg) ≡ true
+pub sent_released : (w : RingView) (from to msg_no : ℕ) (msg : Msg) (size : ℕ) → size ≡ w.size → before size to ≡ from → message w from msg_no ≡ Some msg → is_released w to (ask.Take msg_no msg) ≡ true
 unfolding is_released
-sent_released w from to place msg size same back sends =
-    ap (λ n. is_sent (message w (before n to) place) msg) (sym same) ∙ (ap (λ b. is_sent (message w b place) msg) back ∙ (ap (λ o. is_sent o msg) sends ∙ is_msg-same msg))
+sent_released w from to msg_no msg size same back sends =
+    ap (λ n. is_sent (message w (before n to) msg_no) msg) (sym same) ∙ (ap (λ b. is_sent (message w b msg_no) msg) back ∙ (ap (λ o. is_sent o msg) sends ∙ is_msg-same msg))

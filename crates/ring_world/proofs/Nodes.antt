@@ -67,14 +67,14 @@ module _ (n capacity : ℕ) (events : List (ℕ × Action)) (nodes : List NodeVi
     pub answered_same : (q : Request) → answered_by v.member v.inputs q ≡ answered_by (member i n capacity) p.state.inputs q
     answered_same q t = answered_by (mine.is t) (mine.state t).inputs q
 
-    asked_here : (number : Option ℕ) (q : Request) → ShowsNode n capacity (events ++ submission q) i (asked_with number q v)
+    asked_here : (serial : Option ℕ) (q : Request) → ShowsNode n capacity (events ++ submission q) i (asked_with serial q v)
     unfolding asked_with act
-    asked_here number q =
+    asked_here serial q =
         let same = process-same n capacity events i (Submit q) in
         record {
           is = mine.is;
           state = (λ t. asked_by (mine.is t) (mine.state t) q) ∙ ap (λ (r : Process). r.state) (sym same);
-          kept = λ t here. subst (λ (r : Process). Contains r.kept t.kept) (sym same) (elim (Contains-push_cases v.held (ticket_of number v q) t here) [
+          kept = λ t here. subst (λ (r : Process). Contains r.kept t.kept) (sym same) (elim (Contains-push_cases v.held (ticket_of serial v q) t here) [
             | inl old ↦ Contains-append_left p.kept (answered_by (member i n capacity) p.state.inputs q ∷ []) t.kept (mine.kept t old)
             | inr new ↦ subst (λ (u : Open). Contains (p.kept ++ answered_by (member i n capacity) p.state.inputs q ∷ []) u.kept) new
                 (subst (Contains (p.kept ++ answered_by (member i n capacity) p.state.inputs q ∷ [])) (sym (answered_same q)) (Contains-push p.kept (answered_by (member i n capacity) p.state.inputs q)))
@@ -82,10 +82,10 @@ module _ (n capacity : ℕ) (events : List (ℕ × Action)) (nodes : List NodeVi
           few = (let l = length-append events (submission q) in let f = mine.few in omega arith);
         }
 
-    pub asked_shows : (number : Option ℕ) (q : Request) → IsDelivered n events i q → Shows n capacity (events ++ submission q) (set nodes (i - 1) (asked_with number q v))
+    pub asked_shows : (serial : Option ℕ) (q : Request) → IsDelivered n events i q → Shows n capacity (events ++ submission q) (set nodes (i - 1) (asked_with serial q v))
     unfolding May
-    asked_shows number q delivered =
-        moved (submission q) (grows_one n capacity events i (Submit q) shows.schedule (record { first = first; last = last; may = delivered })) (asked_with number q v) (asked_here number q)
+    asked_shows serial q delivered =
+        moved (submission q) (grows_one n capacity events i (Submit q) shows.schedule (record { first = first; last = last; may = delivered })) (asked_with serial q v) (asked_here serial q)
 
     -- ---- a batch of node i lands
 

@@ -129,7 +129,7 @@ unfolding named_by reply
 reply-leads me n capacity base h (ask.Who asked) key c e = let r = who-leads asked (leader me h asked) key c e in ap (leader me h) (sym r.0) ∙ r.1
 reply-leads me n capacity base h (ask.Latest group) key c e = let r = latest-named group (latest me h group) key c e in latest-leads me h key.group key.term c (ap (latest me h) (sym r.0) ∙ r.1)
 reply-leads me n capacity base h (ask.Stand asked bid) key c e = none≢some (key, c) e
-reply-leads me n capacity base h (ask.Take place msg) key c e = none≢some (key, c) e
+reply-leads me n capacity base h (ask.Take msg_no msg) key c e = none≢some (key, c) e
 reply-leads me n capacity base h (ask.Acked upto) key c e = none≢some (key, c) e
 
 -- the inputs that a thing rests on show the leader that it names

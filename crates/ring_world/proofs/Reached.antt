@@ -14,7 +14,7 @@ module _ (w : RingView) (i : ℕ) where
   pub node_given : (q : Request) (j : ℕ) → node_at (given i q w) j ≡ node_at w j
   unfolding given
   node_given (ask.Stand key bid) j = ap (λ (p : Process). p.state) (process-releases w.size w.capacity i [] w.events j)
-  node_given (ask.Take place msg) j = ap (λ (p : Process). p.state) (process-release w.size w.capacity w.events _ _ j)
+  node_given (ask.Take msg_no msg) j = ap (λ (p : Process). p.state) (process-release w.size w.capacity w.events _ _ j)
   node_given (ask.Acked upto) j = ap (λ (p : Process). p.state) (process-release w.size w.capacity w.events _ _ j)
   node_given (ask.Who key) j = ap (λ (p : Process). p.state) (process-releases w.size w.capacity i [] w.events j)
   node_given (ask.Latest group) j = ap (λ (p : Process). p.state) (process-releases w.size w.capacity i [] w.events j)
@@ -24,13 +24,13 @@ module _ (w : RingView) (i : ℕ) where
   unfolding settled
   node_settled j = ap (λ (p : Process). p.state) (process-releases w.size w.capacity i (due_at w i) w.events j)
 
-  pub node_asked : (number : Option ℕ) (q : Request) → node_at (asked number i q w) i ≡ asked_state i w.size w.capacity fresh (node_at w i) q
+  pub node_asked : (serial : Option ℕ) (q : Request) → node_at (asked serial i q w) i ≡ asked_state i w.size w.capacity fresh (node_at w i) q
   unfolding asked act
-  node_asked number q = ap (λ (p : Process). p.state) (process-same w.size w.capacity w.events i (Submit q))
+  node_asked serial q = ap (λ (p : Process). p.state) (process-same w.size w.capacity w.events i (Submit q))
 
-  pub asked-other : (number : Option ℕ) (q : Request) (j : ℕ) → (i ≡ j → ⊥) → node_at (asked number i q w) j ≡ node_at w j
+  pub asked-other : (serial : Option ℕ) (q : Request) (j : ℕ) → (i ≡ j → ⊥) → node_at (asked serial i q w) j ≡ node_at w j
   unfolding asked
-  asked-other number q j ne = ap (λ (p : Process). p.state) (process-other w.size w.capacity w.events i (Submit q) j ne)
+  asked-other serial q j ne = ap (λ (p : Process). p.state) (process-other w.size w.capacity w.events i (Submit q) j ne)
 
   -- where something waits, a batch of node i lands
   pub node_landed : waits w i ≡ true → node_at (landed i w) i ≡ landed_state (launched (node_at w i))

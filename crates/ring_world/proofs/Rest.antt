@@ -95,19 +95,19 @@ near_rounds (suc most) i w near =
     rounds_if most i w (let few = near.few in record { least = near.least; few = omega arith; others = near.others }) (λ v closer. near_rounds most i v closer) (waits w i) refl
 
 -- what is asked waits alone
-asked_near : (number : Option ℕ) (i : ℕ) (q : Request) (w : RingView) → IsAllDurable w → IsNear 1 (asked number i q w) i
+asked_near : (serial : Option ℕ) (i : ℕ) (q : Request) (w : RingView) → IsAllDurable w → IsNear 1 (asked serial i q w) i
 unfolding IsAllDurable
-asked_near number i q w all =
+asked_near serial i q w all =
     let s = node_at w i in
     let more = gained_by (member i w.size w.capacity) s.inputs q in
     let is = all i in
     let l = length-append s.inputs more in
     let one = one_gained i w.size w.capacity s.inputs q in
-    let same = sym (node_asked w i number q) in
+    let same = sym (node_asked w i serial q) in
     record {
       least = subst (λ (r : NodeState). r.durable ≤ length r.inputs) same (let le : s.durable ≤ length (s.inputs ++ more) = omega arith in le);
       few = subst (λ (r : NodeState). length r.inputs ≤ r.durable + 1) same (let le : length (s.inputs ++ more) ≤ s.durable + 1 = omega arith in le);
-      others = λ j ne. subst IsStill (sym (asked-other w i number q j ne)) (all j);
+      others = λ j ne. subst IsStill (sym (asked-other w i serial q j ne)) (all j);
     }
 
 durable_given : (i : ℕ) (q : Request) (w : RingView) → IsAllDurable w → IsAllDurable (given i q w)
@@ -115,12 +115,12 @@ unfolding IsAllDurable
 durable_given i q w all = λ j. subst IsStill (sym (node_given w i q j)) (all j)
 
 -- in an eager ring where nothing waits, rounds make durable what a request adds
-pub durable_brought : (number : Option ℕ) (i : ℕ) (q : Request) (w : RingView) → w.eager ≡ true → IsAllDurable w → IsAllDurable (brought number i q w).1
+pub durable_brought : (serial : Option ℕ) (i : ℕ) (q : Request) (w : RingView) → w.eager ≡ true → IsAllDurable w → IsAllDurable (brought serial i q w).1
 unfolding brought
-durable_brought number i q w eager all =
-    let t = settled i (asked number i q (given i q w)) in
-    let near = settled_near 1 (asked number i q (given i q w)) i (asked_near number i q (given i q w) (durable_given i q w all)) in
-    let first : Part = released i (asked number i q (given i q w)) in
+durable_brought serial i q w eager all =
+    let t = settled i (asked serial i q (given i q w)) in
+    let near = settled_near 1 (asked serial i q (given i q w)) i (asked_near serial i q (given i q w) (durable_given i q w all)) in
+    let first : Part = released i (asked serial i q (given i q w)) in
     subst (λ b. IsAllDurable (cond b (and_then first (drained i)) first).1) (sym eager)
     (near_rounds (length (node_at t i).inputs) i t (let least = near.least in record { least = near.least; few = omega arith; others = near.others }))
 
@@ -177,9 +177,9 @@ eager_landed : (i : ℕ) (w : RingView) → (landed i w).eager ≡ w.eager
 unfolding landed
 eager_landed i w = refl
 
-eager_asked : (number : Option ℕ) (i : ℕ) (q : Request) (w : RingView) → (asked number i q (given i q w)).eager ≡ w.eager
+eager_asked : (serial : Option ℕ) (i : ℕ) (q : Request) (w : RingView) → (asked serial i q (given i q w)).eager ≡ w.eager
 unfolding asked given
-eager_asked number i q w = refl
+eager_asked serial i q w = refl
 
 eager_if : (b : Bool) (p r : Part) (e : Bool) → p.1.eager ≡ e → r.1.eager ≡ e → (cond b p r).1.eager ≡ e
 eager_if true p r e h k = h
@@ -191,11 +191,11 @@ eager_rounds zero i w = refl
 eager_rounds (suc most) i w =
     eager_if (waits w i) (and_then (round i w) (rounds most i)) ([], w) w.eager (eager_rounds most i (settled i (landed i w)) ∙ (eager_settled i (landed i w) ∙ eager_landed i w)) refl
 
-eager_brought : (number : Option ℕ) (i : ℕ) (q : Request) (w : RingView) → (brought number i q w).1.eager ≡ w.eager
+eager_brought : (serial : Option ℕ) (i : ℕ) (q : Request) (w : RingView) → (brought serial i q w).1.eager ≡ w.eager
 unfolding brought
-eager_brought number i q w =
-    let t = asked number i q (given i q w) in
-    let same : (settled i t).eager ≡ w.eager = eager_settled i t ∙ eager_asked number i q w in
+eager_brought serial i q w =
+    let t = asked serial i q (given i q w) in
+    let same : (settled i t).eager ≡ w.eager = eager_settled i t ∙ eager_asked serial i q w in
     eager_if w.eager (and_then (released i t) (drained i)) (released i t) w.eager (eager_rounds (length (node_at (settled i t) i).inputs) i (settled i t) ∙ same) same
 
 -- ---- deliveries

@@ -46,7 +46,7 @@ process-other n capacity events j a i ne =
 carried-kept : (n : ℕ) (run more : List (ℕ × Input)) (i : ℕ) (x : Input) → IsCarried n run i x → IsCarried n (run ++ more) i x
 unfolding IsCarried
 carried-kept n run more i (Stand key bid) c = tt
-carried-kept n run more i (Take place msg) c = rw part-append (sent-kept (before n i) (part run (before n i)) _ place msg c)
+carried-kept n run more i (Take msg_no msg) c = rw part-append (sent-kept (before n i) (part run (before n i)) _ msg_no msg c)
 carried-kept n run more i (Acked upto) c = rw part-append (taken-kept (part run (after n i)) _ upto c)
 
 -- lawful inputs of one node, each of them carried, go on with a legal run
@@ -77,7 +77,7 @@ module _ (n : ℕ) (events : List (ℕ × Action)) (run : List (ℕ × Input)) (
   delivered : (i : ℕ) (q : Request) (x : Input) → IsDelivered n events i q → input_of q ≡ Some x → IsCarried n run i x
   unfolding IsDelivered input_of IsCarried
   delivered i (ask.Stand key bid) x d e = subst (IsCarried n run i) (let p : Stand key bid ≡ x = cc in p) tt
-  delivered i (ask.Take place msg) x d e = subst (IsCarried n run i) (let p : Take place msg ≡ x = cc in p) (packets (before n i) (Carry place msg) d)
+  delivered i (ask.Take msg_no msg) x d e = subst (IsCarried n run i) (let p : Take msg_no msg ≡ x = cc in p) (packets (before n i) (Carry msg_no msg) d)
   delivered i (ask.Acked upto) x d e = subst (IsCarried n run i) (let p : Acked upto ≡ x = cc in p) (packets (after n i) (Credit upto) d).1
   delivered i (ask.Who key) x d e = none≢some x e
   delivered i (ask.Latest group) x d e = none≢some x e

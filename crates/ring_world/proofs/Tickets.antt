@@ -39,10 +39,10 @@ pub few_due : (durable : ℕ) (held : List Open) → length (due durable held) �
 few_due durable held = let both = length-filter_both (is_due durable) (λ t. not (is_due durable t)) (λ t. refl) held in omega (arith, both)
 
 -- where none was due, none but the last that it gave is
-pub one_due : (number : Option ℕ) (q : Request) (v : NodeView) → IsSealed v → length (due (asked_with number q v).durable (asked_with number q v).held) ≤ 1
+pub one_due : (serial : Option ℕ) (q : Request) (v : NodeView) → IsSealed v → length (due (asked_with serial q v).durable (asked_with serial q v).held) ≤ 1
 unfolding asked_with
-one_due number q v none =
-    let last = ticket_of number v q ∷ [] in
+one_due serial q v none =
+    let last = ticket_of serial v q ∷ [] in
     let all = ap length (filter-append (is_due v.durable) v.held last ∙ ap (λ ts. ts ++ due v.durable last) none) in
     let few = few_due v.durable last in
     omega (arith, all, few)

@@ -150,7 +150,7 @@ module _ (w : RingView) (events : List (ℕ × Action)) (nodes : List NodeView) 
         logged = log _ logged;
         shows = subst (Shows w.size w.capacity (w.events ++ (i, Submit q) ∷ [])) (placed (asked_with ticket q) moved) (asked_shows w.size w.capacity w.events nodes ties.shows i low last ticket q delivered);
         held = held_set _ (sym (ap held_of (moved ∙ ap (asked_with ticket q) is_node)
-            ∙ (λ t. (ap held_of (sym is_node) ∙ held_is) t ++ record { number = ticket; kept = answered_same w.size w.capacity w.events nodes ties.shows i low last q t } ∷ [])));
+            ∙ (λ t. (ap held_of (sym is_node) ∙ held_is) t ++ record { serial = ticket; kept = answered_same w.size w.capacity w.events nodes ties.shows i low last q t } ∷ [])));
       }
 
       pub lands : es ≡ events ++ batch_of i v → v' ≡ flushed v → Ties (landed i w) es (set nodes (number - 1) v')

@@ -1,12 +1,12 @@
 -- How many of a ring's open tickets have a number.
 use Rattle.std.specs.Prelude.{ℕ, ◌≡◌, ◌≤◌, false, List, length}
 use Rattle.std.specs.List.{filter_map}
-use Rattle.ring_node.specs.Open.{Open, number_of}
+use Rattle.ring_node.specs.Open.{Open, serial_of}
 use Rattle.ring_world.specs.Ring.{RingView, held_at}
 
 -- how many of the tickets have one
 abbrev pub numbered : List Open → ℕ
-numbered held = length (filter_map number_of held)
+numbered held = length (filter_map serial_of held)
 
 -- at each node no more than so many
 unfoldable pub IsBounded : RingView → ℕ → Type 0

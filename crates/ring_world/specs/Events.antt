@@ -85,7 +85,7 @@ state_after n capacity events i = (process n capacity events i).state
 -- packet may come again, and in any order.
 unfoldable pub IsDelivered : ℕ → List (ℕ × Action) → ℕ → Request → Type 0
 IsDelivered n events i (ask.Stand key bid) = Unit {0}
-IsDelivered n events i (ask.Take place msg) = Contains events (before n i, Release (Sent (Carry place msg)))
+IsDelivered n events i (ask.Take msg_no msg) = Contains events (before n i, Release (Sent (Carry msg_no msg)))
 IsDelivered n events i (ask.Acked upto) = Contains events (after n i, Release (Sent (Credit upto)))
 IsDelivered n events i (ask.Who key) = Unit {0}
 IsDelivered n events i (ask.Latest group) = Unit {0}

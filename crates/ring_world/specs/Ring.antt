@@ -13,7 +13,7 @@ use Rattle.ring_records.specs.Lists.{first}
 use Rattle.ring_records.specs.Member.{member, answered_by}
 use Rattle.ring_records.specs.Order.{is_msg}
 use Rattle.ring_records.specs.Place.{after, before}
-use Rattle.ring_node.specs.Open.{Open, number_of, due, sealed}
+use Rattle.ring_node.specs.Open.{Open, serial_of, due, sealed}
 use Rattle.ring_world.specs.Events.{Replied, Sent, Action, Submit, Launch, Land, Release, Crash, state_after}
 
 -- how many nodes it has, numbered from 1, and their capacity; whether each input is made durable as it is accepted;
@@ -57,7 +57,7 @@ answered_at w i q = answered_by (member i w.size w.capacity) (node_at w i).input
 -- the packet that a neighbour of node i releases to it, for what the request brings
 abbrev pub handed : ℕ → ℕ → Request → List (ℕ × Action)
 handed size i (ask.Stand key bid) = []
-handed size i (ask.Take place msg) = (before size i, Release (Sent (Carry place msg))) ∷ []
+handed size i (ask.Take msg_no msg) = (before size i, Release (Sent (Carry msg_no msg))) ∷ []
 handed size i (ask.Acked upto) = (after size i, Release (Sent (Credit upto))) ∷ []
 handed size i (ask.Who key) = []
 handed size i (ask.Latest group) = []
@@ -67,7 +67,7 @@ given i q w = record w { events = w.events ++ handed w.size i q }
 
 -- node i is asked; its ticket is open, under this number, if any
 unfoldable pub asked : Option ℕ → ℕ → Request → RingView → RingView
-asked number i q w = happens ((i, Submit q) ∷ []) i (held_at w i ++ record { number = number; kept = answered_at w i q } ∷ []) w
+asked serial i q w = happens ((i, Submit q) ∷ []) i (held_at w i ++ record { serial = serial; kept = answered_at w i q } ∷ []) w
 
 -- inputs of node i are not durable yet
 abbrev pub waits : RingView → ℕ → Bool
@@ -90,10 +90,10 @@ settled i w = happens (map (release_of i) (due_at w i)) i (sealed (node_at w i).
 
 abbrev pub with_reply : Option ℕ → Reply → Option (ℕ × Reply)
 with_reply None reply = None
-with_reply (Some number) reply = Some (number, reply)
+with_reply (Some serial) reply = Some (serial, reply)
 
 abbrev pub reply_of : Open → Option (ℕ × Reply)
-reply_of t = with_reply t.number t.kept.answer.reply
+reply_of t = with_reply t.serial t.kept.answer.reply
 
 -- those of tickets with a number, in order
 unfoldable pub replies : ℕ → RingView → List (ℕ × Reply)
@@ -127,8 +127,8 @@ drained i w = rounds (length (node_at w i).inputs) i w
 -- Node i is asked, after its neighbour released what the request brings; what is due is released. In an eager ring
 -- rounds follow until nothing waits.
 unfoldable pub brought : Option ℕ → ℕ → Request → RingView → Part
-brought number i q w =
-    let first = released i (asked number i q (given i q w)) in
+brought serial i q w =
+    let first = released i (asked serial i q (given i q w)) in
     if w.eager then and_then first (drained i) else first
 
 -- ---- crashes
@@ -143,7 +143,7 @@ stopped keeps_flying i w = happens ((i, Launch) ∷ (i, Crash keeps_flying) ∷ 
 
 -- the numbers of the tickets that are open at node i, in order
 unfoldable pub lost : ℕ → RingView → List ℕ
-lost i w = filter_map number_of (held_at w i)
+lost i w = filter_map serial_of (held_at w i)
 
 -- ---- packets
 
@@ -151,9 +151,9 @@ abbrev pub is_sent : Option Msg → Msg → Bool
 is_sent None msg = false
 is_sent (Some m) msg = is_msg m msg
 
--- message `place` that the durable inputs of node i sent
+-- message `msg_no` that the durable inputs of node i sent
 abbrev pub message : RingView → ℕ → ℕ → Option Msg
-message w i place = slice_get (sent i (durable_in (node_at w i))) place
+message w i msg_no = slice_get (sent i (durable_in (node_at w i))) msg_no
 
 -- the durable inputs of node i took so many messages, at least one: it may tell its predecessor so
 abbrev pub is_earned : RingView → ℕ → ℕ → Bool
@@ -162,7 +162,7 @@ is_earned w i upto = nat_le 1 upto && nat_le upto (length (taken (durable_in (no
 -- what the request brings node i, if anything, its neighbour may release
 unfoldable pub is_released : RingView → ℕ → Request → Bool
 is_released w i (ask.Stand key bid) = true
-is_released w i (ask.Take place msg) = is_sent (message w (before w.size i) place) msg
+is_released w i (ask.Take msg_no msg) = is_sent (message w (before w.size i) msg_no) msg
 is_released w i (ask.Acked upto) = is_earned w (after w.size i) upto
 is_released w i (ask.Who key) = true
 is_released w i (ask.Latest group) = true
@@ -175,12 +175,12 @@ is_full w = nat_le (2 ^ 60) (length w.events)
 
 -- the node and the request that a message is delivered by
 abbrev pub carried_to : RingView → ℕ → ℕ → Option Msg → Option (ℕ × Request)
-carried_to w from place None = None
-carried_to w from place (Some msg) = Some (after w.size from, ask.Take place msg)
+carried_to w from msg_no None = None
+carried_to w from msg_no (Some msg) = Some (after w.size from, ask.Take msg_no msg)
 
--- message `place` of the link from a node to its successor
+-- message `msg_no` of the link from a node to its successor
 abbrev pub carried : RingView → ℕ → ℕ → Option (ℕ × Request)
-carried w from place = carried_to w from place (message w from place)
+carried w from msg_no = carried_to w from msg_no (message w from msg_no)
 
 -- the number of the message that the successor of a node expects
 abbrev pub expected : RingView → ℕ → ℕ

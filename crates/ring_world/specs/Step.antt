@@ -68,7 +68,7 @@ put s (Some delivery) = submitted delivery.0 delivery.1 s
 unfoldable pub stepped : Bool → State → Event → Told × State
 stepped keeps_flying s (Submit node q) = submitted node q s
 stepped keeps_flying s (Flush node) = flushed node s
-stepped keeps_flying s (Deliver from place) = put s (carried s.ring from place)
+stepped keeps_flying s (Deliver from msg_no) = put s (carried s.ring from msg_no)
 stepped keeps_flying s DeliverAll = delivered_all s
 stepped keeps_flying s (Credit from upto) = submitted (before s.ring.size from) (ask.Acked upto) s
 stepped keeps_flying s (Crash node) = crashed node s
@@ -112,7 +112,7 @@ objection_to s (Submit node q) =
     (or_else (where_so (not (is_released s.ring node q)) refused.Unknown)
     (spent s)))
 objection_to s (Flush node) = no_node s node
-objection_to s (Deliver from place) = or_else (no_node s from) (or_else (unknown (carried s.ring from place)) (spent s))
+objection_to s (Deliver from msg_no) = or_else (no_node s from) (or_else (unknown (carried s.ring from msg_no)) (spent s))
 objection_to s DeliverAll = None
 objection_to s (Credit from upto) = or_else (no_node s from) (or_else (where_so (not (is_earned s.ring from upto)) refused.Unknown) (spent s))
 objection_to s (Crash node) = no_node s node
@@ -129,7 +129,7 @@ refusal_of s event =
 unfoldable pub is_lasting : State → Event → Bool
 is_lasting s (Submit node q) = not s.ring.eager
 is_lasting s (Flush node) = false
-is_lasting s (Deliver from place) = not s.ring.eager
+is_lasting s (Deliver from msg_no) = not s.ring.eager
 is_lasting s DeliverAll = false
 is_lasting s (Credit from upto) = not s.ring.eager
 is_lasting s (Crash node) = false

@@ -27,7 +27,7 @@ stood i bid = settled i (ask.Stand red_5 bid) say.Stood 1
 
 -- a message goes from one node to the next, which takes it as the last of so many inputs
 abbrev pub delivered : ℕ → ℕ → ℕ → Msg → ℕ → List (ℕ × Action)
-delivered from to place msg number = (from, Release (Sent (Carry place msg))) ∷ settled to (ask.Take place msg) say.Taken number
+delivered from to msg_no msg number = (from, Release (Sent (Carry msg_no msg))) ∷ settled to (ask.Take msg_no msg) say.Taken number
 
 -- node i is asked who leads for the key, and says so: c, as it knows by so many inputs
 abbrev pub told : ℕ → ℕ → Candidate → List (ℕ × Action)

@@ -17,7 +17,7 @@ impl Ring {
     #[tactic(auto, unfolding(crate::specs::Ring::brought))]
     pub fn submit(
         &mut self,
-        number: Option<u64>,
+        serial: Option<u64>,
         node: NodeNo,
         question: &Request,
     ) -> Result<Vec<(u64, Reply)>, AllocError>
@@ -26,17 +26,17 @@ impl Ring {
         requires of_ring { is_outside self.old.size question.now ≡ false }
         requires released { is_released self.old node question.now ≡ true }
         requires room { length self.old.events < 2 ^ 60 }
-        ensures next { OnOk result (self.new ≡ (brought number node question.now self.old).1) }
-        ensures replies { IfOk result (λ list. list.items ≡ (brought number node question.now self.old).0) }
+        ensures next { OnOk result (self.new ≡ (brought serial node question.now self.old).1) }
+        ensures replies { IfOk result (λ list. list.items ≡ (brought serial node question.now self.old).0) }
         ensures works { OnOk result (self.new.failed ≡ false) }
         ensures same { IsSameRing self.old self.new }
         ensures err { OnErr result (self.old.eager ≡ true → self.new.failed ≡ true) }
         ensures lasting { OnErr result (self.old.eager ≡ false → self.new ≡ self.old) }
     {
         if !self.eager {
-            return self.ask(number, node, question);
+            return self.ask(serial, node, question);
         }
-        match self.ask(number, node, question) {
+        match self.ask(serial, node, question) {
             Ok(replies) => self.drain(node, replies),
             Err(error) => {
                 self.failed = true;
@@ -90,7 +90,7 @@ impl Ring {
     // Asks the node, and releases what is due. Want of memory changes nothing.
     fn ask(
         &mut self,
-        number: Option<u64>,
+        serial: Option<u64>,
         node: NodeNo,
         question: &Request,
     ) -> Result<Vec<(u64, Reply)>, AllocError>
@@ -99,8 +99,8 @@ impl Ring {
         requires of_ring { is_outside self.old.size question.now ≡ false }
         requires released { is_released self.old node question.now ≡ true }
         requires room { length self.old.events < 2 ^ 60 }
-        ensures next { OnOk result (self.new ≡ settled node (asked number node question.now (given node question.now self.old))) }
-        ensures replies { IfOk result (λ list. list.items ≡ replies node (asked number node question.now (given node question.now self.old))) }
+        ensures next { OnOk result (self.new ≡ settled node (asked serial node question.now (given node question.now self.old))) }
+        ensures replies { IfOk result (λ list. list.items ≡ replies node (asked serial node question.now (given node question.now self.old))) }
         ensures works { self.new.failed ≡ false }
         ensures same { IsSameRing self.old self.new }
         ensures err { OnErr result (self.new ≡ self.old) }
@@ -109,7 +109,7 @@ impl Ring {
         self.events.reserve(3)?;
         let mut replies = Vec::with_capacity(self.alloc, 1)?;
         let at = node.number() as usize - 1;
-        self.nodes[at].ask(number, *question)?;
+        self.nodes[at].ask(serial, *question)?;
         push_handed(&mut self.events, self.size, node, question);
         self.events.push_reserved(Happened::asked(node, question));
         release_due(&mut self.nodes[at], &mut self.events, &mut replies, node);

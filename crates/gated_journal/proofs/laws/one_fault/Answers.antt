@@ -11,5 +11,5 @@ returns-clause-fault c = one_fault
 pub returns-clause-frames : goal.returns-clause-frames
 returns-clause-frames c = not_both
 
-pub returns-clause-place : goal.returns-clause-place
-returns-clause-place c = damaged_once
+pub returns-clause-gate_at : goal.returns-clause-gate_at
+returns-clause-gate_at c = damaged_once

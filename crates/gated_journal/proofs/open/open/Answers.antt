@@ -8,7 +8,7 @@ pub returns-in-Ok-read_frames-clause-reads : goal.returns-in-Ok-read_frames-clau
 returns-in-Ok-read_frames-clause-reads g c =
     let old = g.D.Device.disk c.args.device.now in
     let head = header_found c.args.node c.args.n c.in-Ok.capacity old.image c.in-Ok.ensures.header in
-    record { head = head.1; frames = subst (λ (l : List ℕ). ReadsTo 16 l c.in-Ok-read_frames.inputs.items c.in-Ok-read_frames.place) c.read_header.ensures.image c.in-Ok-read_frames.ensures.frames }
+    record { head = head.1; frames = subst (λ (l : List ℕ). ReadsTo 16 l c.in-Ok-read_frames.inputs.items c.in-Ok-read_frames.gate_at) c.read_header.ensures.image c.in-Ok-read_frames.ensures.frames }
 
 pub returns-in-Err-read_frames-clause-refusal : goal.returns-in-Err-read_frames-clause-refusal
 returns-in-Err-read_frames-clause-refusal g c =

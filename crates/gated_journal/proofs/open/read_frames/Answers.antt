@@ -14,19 +14,19 @@ returns-in-Ok-scan-clause-frames g c =
     let size : c.in-Ok.bytes.len ≡ length buf = search rules in
     let is = c.deref.ensures.value ∙ take_at buf _ c.in-Ok.bytes.len (sym size) in
     let long : c.args.from + length buf ≡ length image = omega (arith, size, c.in-Ok.ensures.len, c.size-size.ensures, c.requires.long) in
-    reads_behind c.args.from c.deref.result.now image c.in-Ok-scan.inputs.items c.in-Ok-scan.place (is ∙ behind c.args.from buf image part long) c.in-Ok-scan.ensures.reads
+    reads_behind c.args.from c.deref.result.now image c.in-Ok-scan.inputs.items c.in-Ok-scan.gate_at (is ∙ behind c.args.from buf image part long) c.in-Ok-scan.ensures.reads
 
-damaged : (g : _) (c : goal.After-drop-bytes-in-Err-Damaged g) → IsBroken c.args.from (g.D.Device.disk c.args.device.now).image (Damaged (c.args.from + c.in-Err-Damaged.place))
+damaged : (g : _) (c : goal.After-drop-bytes-in-Err-Damaged g) → IsBroken c.args.from (g.D.Device.disk c.args.device.now).image (Damaged (c.args.from + c.in-Err-Damaged.gate_at))
 damaged g c =
     let image = (g.D.Device.disk c.args.device.now).image in
     let buf = c.read_part.new.buf in
-    let place = c.in-Err-Damaged.place in
+    let gate_at = c.in-Err-Damaged.gate_at in
     let part : IsPart c.args.from buf image = c.in_default-read_part.ensures.part in
     let size : c.in-Ok.bytes.len ≡ length buf = search rules in
     let is = c.deref.ensures.value ∙ take_at buf _ c.in-Ok.bytes.len (sym size) in
     let long : c.args.from + length buf ≡ length image = omega (arith, size, c.in-Ok.ensures.len, c.size-size.ensures, c.requires.long) in
-    let there = damaged_behind c.args.from c.deref.result.now image place (is ∙ behind c.args.from buf image part long) (c.in-Err-Damaged.ensures.damaged place c.in-Err-Damaged.field-0-is) in
-    record { place = c.args.from + place; is = refl; damaged = there }
+    let there = damaged_behind c.args.from c.deref.result.now image gate_at (is ∙ behind c.args.from buf image part long) (c.in-Err-Damaged.ensures.damaged gate_at c.in-Err-Damaged.field-0-is) in
+    record { gate_at = c.args.from + gate_at; is = refl; damaged = there }
 
 pub returns-in-Err-Damaged-clause-refusal : goal.returns-in-Err-Damaged-clause-refusal
 returns-in-Err-Damaged-clause-refusal g c = inr (inr (damaged g c))

@@ -2,8 +2,8 @@ use Rattle.std.proofs.Common.{◌≤◌, ◌-◌, length}
 use Rattle.gated_journal.specs.Unread.{ReadsUpTo}
 use Rattle.gated_journal.proofs.scan.scan.Given as goal
 
-abbrev pub invariant-loop-place : goal.invariant-loop-place
-invariant-loop-place l = ReadsUpTo 0 l.bytes l.inputs.items l.place × (l.place ≤ length l.bytes)
+abbrev pub invariant-loop-gate_at : goal.invariant-loop-gate_at
+invariant-loop-gate_at l = ReadsUpTo 0 l.bytes l.inputs.items l.gate_at × (l.gate_at ≤ length l.bytes)
 
-abbrev pub decreases-loop-place : goal.decreases-loop-place
-decreases-loop-place l = length l.bytes - l.place
+abbrev pub decreases-loop-gate_at : goal.decreases-loop-gate_at
+decreases-loop-gate_at l = length l.bytes - l.gate_at

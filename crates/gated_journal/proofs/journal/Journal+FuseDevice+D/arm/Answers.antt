@@ -7,7 +7,7 @@ pub invariant_of-self : goal.invariant_of-self
 invariant_of-self g c =
     let j = c.args.self.now in
     record {
-      settled = λ ready. subst (λ device. IsAtRest (member j.node j.n j.capacity) (g.D.Device.disk device) j.place j.count j.used) (sym c.arm.ensures.inner) (j.settled ready);
+      settled = λ ready. subst (λ device. IsAtRest (member j.node j.n j.capacity) (g.D.Device.disk device) j.gate_at j.count j.used) (sym c.arm.ensures.inner) (j.settled ready);
       from = j.from;
       within = j.within;
       counted = j.counted;

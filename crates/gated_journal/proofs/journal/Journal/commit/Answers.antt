@@ -44,12 +44,12 @@ invariant_of-self g c =
     let bytes_same : length c.deref.result.now ≡ c.len.result = omega (arith, ap length c.deref.ensures.value, c.len.ensures) in
     let count_same : length batch ≡ c.len-in-Ok.result = omega (arith, c.len-in-Ok.ensures) in
     let sum_same : used_by batch ≡ c.from.result = sym b.counted ∙ sym c.from.ensures in
-    let next = rest_next header old new j.place (j.place + length c.deref.result.now) j.count j.used batch rest c.in-Ok.ensures.synced
-    (λ inputs read. after header old.image new.image inputs batch j.place (length c.deref.result.now) read (c.in-Ok.ensures.done 16 inputs batch rest.synced read.frames frame)) in
+    let next = rest_next header old new j.gate_at (j.gate_at + length c.deref.result.now) j.count j.used batch rest c.in-Ok.ensures.synced
+    (λ inputs read. after header old.image new.image inputs batch j.gate_at (length c.deref.result.now) read (c.in-Ok.ensures.done 16 inputs batch rest.synced read.frames frame)) in
     record {
-      settled = λ same. subst (λ n. IsAtRest header new (j.place + n) (j.count + c.len-in-Ok.result) (j.used + c.from.result)) bytes_same
-          (subst (λ n. IsAtRest header new (j.place + length c.deref.result.now) (j.count + n) (j.used + c.from.result)) count_same
-          (subst (λ n. IsAtRest header new (j.place + length c.deref.result.now) (j.count + length batch) (j.used + n)) sum_same next));
+      settled = λ same. subst (λ n. IsAtRest header new (j.gate_at + n) (j.count + c.len-in-Ok.result) (j.used + c.from.result)) bytes_same
+          (subst (λ n. IsAtRest header new (j.gate_at + length c.deref.result.now) (j.count + n) (j.used + c.from.result)) count_same
+          (subst (λ n. IsAtRest header new (j.gate_at + length c.deref.result.now) (j.count + length batch) (j.used + n)) sum_same next));
       from = omega (arith, j.from);
       within = omega (arith, j.within, bytes_same, ap length c.deref.ensures.value, f.within, sum_same);
       counted = omega (arith, j.counted, count_same, sum_same, f.count);
@@ -66,9 +66,9 @@ returns-in-Ok-clause-any_moment g c = λ inputs all.
     let old = g.D.Device.disk j.device in
     let rest = j.settled c.requires.ready in
     let frame = subst (λ l. IsFrame batch l) (sym c.deref.ensures.value) b.framed in
-    let read = at_place header old j.place j.count j.used inputs rest (g.met.D.Device.may_stay j.device) all in
+    let read = at_place header old j.gate_at j.count j.used inputs rest (g.met.D.Device.may_stay j.device) all in
     weaken g.D.Device.clock g.D.Device.left_since j.device c.append.new.device _ (ReadsAsOneOf header inputs (inputs ++ batch))
-    (λ image is. moment header old.image image inputs batch j.place (length c.deref.result.now) read is) (c.append.ensures.any_moment 16 inputs batch rest.synced read.frames frame)
+    (λ image is. moment header old.image image inputs batch j.gate_at (length c.deref.result.now) read is) (c.append.ensures.any_moment 16 inputs batch rest.synced read.frames frame)
 
 pub returns-in-Ok-clause-durable : goal.returns-in-Ok-clause-durable
 returns-in-Ok-clause-durable g c = λ inputs all.
@@ -80,9 +80,9 @@ returns-in-Ok-clause-durable g c = λ inputs all.
     let new = g.D.Device.disk c.append.new.device in
     let rest = j.settled c.requires.ready in
     let frame = subst (λ l. IsFrame batch l) (sym c.deref.ensures.value) b.framed in
-    let read = at_place header old j.place j.count j.used inputs rest (g.met.D.Device.may_stay j.device) all in
+    let read = at_place header old j.gate_at j.count j.used inputs rest (g.met.D.Device.may_stay j.device) all in
     all_read header new (inputs ++ batch) _ c.in-Ok.ensures.synced
-    (after header old.image new.image inputs batch j.place (length c.deref.result.now) read (c.in-Ok.ensures.done 16 inputs batch rest.synced read.frames frame))
+    (after header old.image new.image inputs batch j.gate_at (length c.deref.result.now) read (c.in-Ok.ensures.done 16 inputs batch rest.synced read.frames frame))
 
 pub returns-clause-any_moment : goal.returns-clause-any_moment
 returns-clause-any_moment g c = λ inputs all.
@@ -93,9 +93,9 @@ returns-clause-any_moment g c = λ inputs all.
     let old = g.D.Device.disk j.device in
     let rest = j.settled c.requires.ready in
     let frame = subst (λ l. IsFrame batch l) (sym c.deref.ensures.value) b.framed in
-    let read = at_place header old j.place j.count j.used inputs rest (g.met.D.Device.may_stay j.device) all in
+    let read = at_place header old j.gate_at j.count j.used inputs rest (g.met.D.Device.may_stay j.device) all in
     weaken g.D.Device.clock g.D.Device.left_since j.device c.append.new.device _ (ReadsAsOneOf header inputs (inputs ++ batch))
-    (λ image is. moment header old.image image inputs batch j.place (length c.deref.result.now) read is) (c.append.ensures.any_moment 16 inputs batch rest.synced read.frames frame)
+    (λ image is. moment header old.image image inputs batch j.gate_at (length c.deref.result.now) read is) (c.append.ensures.any_moment 16 inputs batch rest.synced read.frames frame)
 
 pub returns-clause-works : goal.returns-clause-works
 returns-clause-works g c = λ reach.

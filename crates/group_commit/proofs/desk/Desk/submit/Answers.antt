@@ -38,9 +38,9 @@ invariant_of-self-then-is_err-2 c =
     let items : c.accept.new.inputs.items ≡ d.inputs.items = search rules in
     record {
       stands = search rules;
-      me = c.accept.ensures.place.0 ∙ i.me;
-      ring = c.accept.ensures.place.1 ∙ i.ring;
-      bytes = c.accept.ensures.place.2 ∙ i.bytes;
+      me = c.accept.ensures.member.0 ∙ i.me;
+      ring = c.accept.ensures.member.1 ∙ i.ring;
+      bytes = c.accept.ensures.member.2 ∙ i.bytes;
       in_order = i.in_order;
       accepted = search rules;
       lawful = search rules;
@@ -83,9 +83,9 @@ invariant_of-self-2 c =
     let answers_now : IsAnswer (seen d).member (answered (seen d) c.args.question) = record { history = d.inputs.items; lawful = i.lawful; gives = refl } in
     record {
       stands = search rules;
-      me = c.accept.ensures.place.0 ∙ i.me;
-      ring = c.accept.ensures.place.1 ∙ i.ring;
-      bytes = c.accept.ensures.place.2 ∙ i.bytes;
+      me = c.accept.ensures.member.0 ∙ i.me;
+      ring = c.accept.ensures.member.1 ∙ i.ring;
+      bytes = c.accept.ensures.member.2 ∙ i.bytes;
       in_order = i.in_order;
       accepted = omega (arith, i.accepted, ap length inputs, length-append d.inputs.items (cons_option c.judge.result.1 []));
       lawful = at_place (λ me n capacity. IsHistory (member me n capacity) c.accept.new.inputs.items) i.me i.ring i.bytes (grown (at_place (λ me n capacity. IsHistory (member me n capacity) d.inputs.items) (sym i.me) (sym i.ring) (sym i.bytes) i.lawful));

@@ -26,7 +26,7 @@ returns-then-is_err-clause-refusal c =
     let because = why c.admit.result refused in
     let here : IsItem c.args.inputs.now c.loop-i.i x = record { within = c.loop-i-test.true; is = c.index-inputs-i.is } in
     let there = slice_get_read c.args.inputs.now (length c.args.inputs.now) c.loop-i.i x refl here.within here.is in
-    inr (record { place = c.loop-i.i; is = refl; before = c.loop-i.invariant.0.lawful; input = x; there = there; refused_for = because.0; because = sym says ∙ because.1 })
+    inr (record { index = c.loop-i.i; is = refl; before = c.loop-i.invariant.0.lawful; input = x; there = there; refused_for = because.0; because = sym says ∙ because.1 })
 
 pub add-requires : goal.add-requires
 add-requires c =
@@ -66,7 +66,7 @@ returns c =
     let all = take_all c.loop-i.i c.args.inputs.now within in
     record {
       stands = subst (λ (l : List Input). CoreStandsFor c.loop-i.core l) all opens.stands;
-      place = (opens.me_is, opens.ring_is, opens.capacity_is);
+      member = (opens.me_is, opens.ring_is, opens.capacity_is);
       lawful = subst (λ (l : List Input). IsHistory (member_of core) l) all opens.lawful;
       holds = subst (λ (l : List Input). Holds core.table.me c.loop-i.outbox l (length l) (length l)) all c.loop-i.invariant.1;
       refusal = tt;

@@ -9,7 +9,7 @@ use Rattle.group_commit.proofs.desk.vouch.is_input.Goals as goal
 same : (a b : Input) → Decides ((derived.TheImpl.eq-value).it a b) (a ≡ b)
 same a b = search rules
 
--- whether the input at this place is the one that is asked for
+-- whether the input with this number is the one that is asked for
 told : (c : goal.After-eq) → Decides c.eq.result (c.index-inputs-number.result ≡ c.args.input.now)
 told c = Decides-at c.eq.result _ c.eq.ensures (same c.index-inputs-number.result c.args.input.now)
 

@@ -2,5 +2,5 @@ use Rattle.std.proofs.Common.{◌≡◌, take}
 use Rattle.ring_records.specs.Release.{numbered}
 use Rattle.group_commit.proofs.released.Released.window.Given as goal
 
-abbrev pub invariant-loop-place : goal.invariant-loop-place
-invariant-loop-place l = l.packets.items ≡ numbered l.first (take l.place l.messages)
+abbrev pub invariant-loop-index : goal.invariant-loop-index
+invariant-loop-index l = l.packets.items ≡ numbered l.first (take l.index l.messages)

@@ -13,12 +13,12 @@ invariant_of-self-2 c =
     c.known-ballot.ensures c.make_room.ensures.same c.in_ok-put.ensures.ok c.hear-on.ensures.leader c.note.ensures
 
 pub returns-clause-next : goal.returns-clause-next
-returns-clause-next c = λ h place stands.
+returns-clause-next c = λ h msg_no stands.
     let me = ap (λ (t : TableView). t.me) c.self.view_is in
-    hear_next c.args.self.now _ h place c.args.msg.now c.key-key.result c.hear-on.new.ballot stands c.key-key.ensures me
+    hear_next c.args.self.now _ h msg_no c.args.msg.now c.key-key.result c.hear-on.new.ballot stands c.key-key.ensures me
     (put_seen c.args.self.now _ _ c.key-key.result c.hear-on.new.ballot (ap (λ (t : TableView). t.ballots) c.self.view_is) c.in_ok-put.ensures.ok)
     (ap (λ (t : TableView). t.stands) c.self.view_is)
-    (moved c.known-ballot.result (ballot_at c.args.self.now c.key-key.result) c.hear-on.new.ballot _ _ h (h ++ Take place c.args.msg.now ∷ []) (key_of c.args.msg.now) me c.known-ballot.ensures (c.hear-on.ensures.next h place))
+    (moved c.known-ballot.result (ballot_at c.args.self.now c.key-key.result) c.hear-on.new.ballot _ _ h (h ++ Take msg_no c.args.msg.now ∷ []) (key_of c.args.msg.now) me c.known-ballot.ensures (c.hear-on.ensures.next h msg_no))
 
 pub returns-clause-one_key : goal.returns-clause-one_key
 returns-clause-one_key c =

@@ -11,16 +11,16 @@ use Rattle.ring_node.proofs.node.RingNode.ask.Goals as goal
 pub invariant_of-self-in-Ok : goal.invariant_of-self-in-Ok
 invariant_of-self-in-Ok c =
     let made = c.in-Ok.ensures in
-    let h : HeldView = record { number = c.args.number; ticket = shown c.in-Ok.ticket } in
+    let h : HeldView = record { serial = c.args.serial; ticket = shown c.in-Ok.ticket } in
     let queue : c.push_back_reserved.new.self.items ≡ c.self.inside.held.items ++ h ∷ [] = put_behind c.push_back_reserved.new.self.items c.reserve.new.self.items c.self.inside.held.items h c.push_back_reserved.ensures.items c.reserve.ensures.items in
     by_name _ _ _ _ _ _ _ _ _ made.next (ap reach_of c.submit.ensures.device) queue refl (asks _ _ _ _ _ c.self.invariant c.args.question h made.ticket)
 
 pub returns-in-Ok-clause-next : goal.returns-in-Ok-clause-next
 returns-in-Ok-clause-next c =
     let made = c.in-Ok.ensures in
-    let h : HeldView = record { number = c.args.number; ticket = shown c.in-Ok.ticket } in
+    let h : HeldView = record { serial = c.args.serial; ticket = shown c.in-Ok.ticket } in
     let queue : c.push_back_reserved.new.self.items ≡ c.self.inside.held.items ++ h ∷ [] = put_behind c.push_back_reserved.new.self.items c.reserve.new.self.items c.self.inside.held.items h c.push_back_reserved.ensures.items c.reserve.ensures.items in
-    same_view _ _ _ _ made.next queue ∙ gives_shown _ _ _ c.self.invariant.served c.args.question h made.ticket ∙ ap (λ (v : NodeView). asked_with c.args.number c.args.question v) c.self.view_is
+    same_view _ _ _ _ made.next queue ∙ gives_shown _ _ _ c.self.invariant.served c.args.question h made.ticket ∙ ap (λ (v : NodeView). asked_with c.args.serial c.args.question v) c.self.view_is
 
 pub returns-in-Err-clause-err : goal.returns-in-Err-clause-err
 returns-in-Err-clause-err c = same_view _ _ _ _ c.in-Err.ensures.same c.reserve.ensures.items ∙ c.self.view_is

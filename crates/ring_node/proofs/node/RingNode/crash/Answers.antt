@@ -4,8 +4,8 @@ use Rattle.ring_records.specs.Member.{Member, member}
 use Rattle.disk_model.specs.MemDevice.{disk_of, limit_of}
 use Rattle.node_store.specs.State.{Holds}
 use Rattle.ring_node.specs.Node.{NodeView, restarted, durable_in}
-use Rattle.ring_node.specs.Open.{number_of}
-use Rattle.ring_node.proofs.Again.{lawful_here, long_here, crashed_again, crashed_shown, lost_numbers}
+use Rattle.ring_node.specs.Open.{serial_of}
+use Rattle.ring_node.proofs.Again.{lawful_here, long_here, crashed_again, crashed_shown, lost_serials}
 use Rattle.ring_node.proofs.node.RingNode.crash.Goals as goal
 use Rattle.ring_node.proofs.node.RingNode.crash.Goals.{After-closed-device}
 
@@ -32,4 +32,4 @@ returns-clause-next c =
     crashed_shown _ _ _ _ _ c.self.invariant _ found.0 _ _ found.1 c.new-held.ensures.items ∙ ap (λ (v : NodeView). restarted (durable_in v) v) c.self.view_is
 
 pub returns-clause-lost : goal.returns-clause-lost
-returns-clause-lost c = c.in_ok-lost.ensures ∙ (lost_numbers _ _ _ c.self.invariant.served ∙ ap (λ (v : NodeView). filter_map number_of v.held) c.self.view_is)
+returns-clause-lost c = c.in_ok-lost.ensures ∙ (lost_serials _ _ _ c.self.invariant.served ∙ ap (λ (v : NodeView). filter_map serial_of v.held) c.self.view_is)

@@ -48,14 +48,14 @@ returns-clause-some c =
     let rest = c.pop_front.new.self.items in
     let queue = c.in-Some.ensures.items in
     let ticket : shown c.first.inside.ticket ≡ h.ticket = ap (λ (x : HeldView). x.ticket) c.first.view_is in
-    let number : h.number ≡ c.first.inside.number = ap (λ (x : HeldView). x.number) (sym c.first.view_is) in
+    let serial : h.serial ≡ c.first.inside.serial = ap (λ (x : HeldView). x.serial) (sym c.first.view_is) in
     let answered = c.in-Ok.stub in
     let there = subst (λ (t : TicketView). IsHere desk t answered) ticket c.in-Ok.ensures.released in
     let due = subst (λ (d : ℕ). MatchFirst (λ x. x.ticket.number ≤ d) c.self.inside.held.items) c.durable.ensures (c.is_due.ensures.yes c.if-not-is_due.false) in
-    let named : ◌≡◌ {A = Open} (record { number = h.number; kept = answered }) (record { number = c.first.inside.number; kept = answered }) = λ i. record { number = number i; kept = answered } in
+    let named : ◌≡◌ {A = Open} (record { serial = h.serial; kept = answered }) (record { serial = c.first.inside.serial; kept = answered }) = λ i. record { serial = serial i; kept = answered } in
     let after : shown_with (ended h.ticket.own desk).tickets rest ≡ shown_with c.redeem.new.self.desk.tickets rest = ap (λ (d : DeskView). shown_with d.tickets rest) (sym (left (goal.at.returns-clause-some c).In-Ok)) in
     let shows = first_shown _ _ _ _ c.self.invariant.served.held h rest queue answered there in
     let is = ends_due _ _ _ c.self.invariant.served h rest queue answered there due in (
       ap (λ (v : NodeView). v.held) (sym c.self.view_is) ∙ shows ∙ (λ i. named i ∷ after i),
-      subst (λ (o : Open). is_due c.args.self.now.durable o ≡ true) named (subst (λ (v : NodeView). is_due v.durable (record { number = h.number; kept = answered }) ≡ true) c.self.view_is is),
+      subst (λ (o : Open). is_due c.args.self.now.durable o ≡ true) named (subst (λ (v : NodeView). is_due v.durable (record { serial = h.serial; kept = answered }) ≡ true) c.self.view_is is),
     )

@@ -9,8 +9,8 @@ use Rattle.group_commit.specs.Desk.{DeskView}
 use Rattle.node_store.specs.State.{Holds}
 use Rattle.ring_node.specs.Held.{HeldView, AreHeld}
 use Rattle.ring_node.specs.Node.{NodeView, restarted, left, is_credited}
-use Rattle.ring_node.specs.Open.{number_of}
-use Rattle.ring_node.proofs.Again.{lawful_here, long_here, all_durable, sent_first, credits_few, stopped_again, stopped_shown, lost_numbers}
+use Rattle.ring_node.specs.Open.{serial_of}
+use Rattle.ring_node.proofs.Again.{lawful_here, long_here, all_durable, sent_first, credits_few, stopped_again, stopped_shown, lost_serials}
 use Rattle.ring_node.proofs.Queue.{held_none}
 use Rattle.ring_node.proofs.node.RingNode.stop.Goals as goal
 use Rattle.ring_node.proofs.node.RingNode.stop.Goals.{In_ok-device}
@@ -65,4 +65,4 @@ returns-in-Ok-clause-next c =
     stopped_shown _ _ _ _ _ c.self.invariant _ found.0 c.in_ok-node.node.desk found.1 _ c.new-held.ensures.items keeps waits tells ∙ ap (λ (v : NodeView). restarted (left keeps v) v) c.self.view_is
 
 pub returns-in-Ok-clause-lost : goal.returns-in-Ok-clause-lost
-returns-in-Ok-clause-lost c = c.in_ok-lost.ensures ∙ (lost_numbers _ _ _ c.self.invariant.served ∙ ap (λ (v : NodeView). filter_map number_of v.held) c.self.view_is)
+returns-in-Ok-clause-lost c = c.in_ok-lost.ensures ∙ (lost_serials _ _ _ c.self.invariant.served ∙ ap (λ (v : NodeView). filter_map serial_of v.held) c.self.view_is)

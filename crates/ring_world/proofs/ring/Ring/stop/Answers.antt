@@ -1,6 +1,6 @@
 use Rattle.std.proofs.Common.{◌≡◌, ◌-◌, set, ap, ◌∙◌}
 use Rattle.std.specs.List.{filter_map, insert}
-use Rattle.ring_node.specs.Open.{number_of}
+use Rattle.ring_node.specs.Open.{serial_of}
 use Rattle.ring_world.specs.Ring.{lost}
 use Rattle.ring_world.proofs.Steps.{stops, tied, replaced, pushed_two}
 use Rattle.ring_world.proofs.Ties.{held_is, may_stop, place_within}
@@ -27,7 +27,7 @@ returns-clause-next c = (
 
 pub returns-clause-lost : goal.returns-clause-lost
 unfolding lost
-returns-clause-lost c = c.in_ok-again.ensures.lost ∙ ap (filter_map number_of) (held_is c.args.self.now c.self.inside.events.items c.self.inside.nodes.items (tied _ _ _ _ c.self.inside.events.items c.self.inside.told c.self.inside.nodes.items _ c.self.view_is c.self.invariant c.requires.works) c.args.node c.number.result c.number.ensures.value c.number.ensures.range.0 c.requires.inside
+returns-clause-lost c = c.in_ok-again.ensures.lost ∙ ap (filter_map serial_of) (held_is c.args.self.now c.self.inside.events.items c.self.inside.nodes.items (tied _ _ _ _ c.self.inside.events.items c.self.inside.told c.self.inside.nodes.items _ c.self.view_is c.self.invariant c.requires.works) c.args.node c.number.result c.number.ensures.value c.number.ensures.range.0 c.requires.inside
     c.remove.result c.remove.ensures.value)
 
 pub stop-requires-clause-credited : goal.stop-requires-clause-credited
