@@ -47,8 +47,8 @@ pub record IsFrame (batch : List Input) (bytes : List ℕ) : Type 0 where
 
 -- ---- how they are read
 
--- From this offset on there are frames of these inputs, and then at this gate one byte that is not 1. Nothing is said
--- of the bytes before the offset, nor of those behind the gate.
+-- From this offset on there are frames of these inputs, and then, at `gate_at`, one byte that is not 1: a closed gate.
+-- Nothing is said of the bytes before the offset, nor of those behind the gate.
 pub record ReadsTo (offset : ℕ) (image : List ℕ) (inputs : List Input) (gate_at : ℕ) : Type 0 where
   pub batches : List (List Input)
   pub gate : ℕ

@@ -23,7 +23,7 @@ header_at node n image = if nat_lt (length image) 17 then Err NotFormatted else 
 
 -- ---- the frames
 
--- from this offset on there are frames of these inputs, up to this gate
+-- from this offset on there are frames of these inputs, up to `gate_at`
 pub record ReadsUpTo (offset : ℕ) (image : List ℕ) (inputs : List Input) (gate_at : ℕ) : Type 0 where
   pub batches : List (List Input)
   pub whole : drop offset image ≡ frames batches ++ drop gate_at image
@@ -35,7 +35,7 @@ pub record ReadsUpTo (offset : ℕ) (image : List ℕ) (inputs : List Input) (ga
 abbrev pub NoFrame : List ℕ → Type 0
 NoFrame tail = (batch : List Input) (rest : List ℕ) → IsBatch batch → tail ≡ body batch ++ rest → ⊥
 
--- There are frames up to this gate, and at it no byte, or an open gate with no frame behind it.
+-- There are frames up to `gate_at`, and there no byte, or an open gate with no frame behind it.
 pub record IsDamagedAt (offset : ℕ) (image : List ℕ) (gate_at : ℕ) : Type 0 where
   pub inputs : List Input
   pub up_to : ReadsUpTo offset image inputs gate_at

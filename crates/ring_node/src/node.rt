@@ -72,7 +72,7 @@ impl RingNode {
         }
     }
 
-    /// Asks the node. Its ticket, under the number that the ring gives it, stays open until the reply is released.
+    /// Asks the node. The ticket stays open until its reply is released; `serial` is its number in the ring, if any.
     /// Refused for memory, nothing has changed.
     pub fn ask(&mut self, serial: Option<u64>, question: Request) -> Result<(), AllocError>
         requires inside { is_outside self.old.member.n question ≡ false }
