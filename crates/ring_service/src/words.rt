@@ -1,9 +1,10 @@
 //! The words of `ringd`.
 ghost use Rattle.std.specs.Prelude.{◌≡◌, ◌≤◌, false, Option, Some, None, IfOk, IfSome, map, codes, unwrap_or};
 ghost use Rattle.clap.specs.Words.{app_of, first_value, found_of, one_text, rule_of, with_rule};
-ghost use Rattle.ring_service.specs.Words.{AreTold, Flag, IsIn, IsMatched, IsRingd, IsSaid};
-ghost use Rattle.ring_service.specs.Words.{always_rule, number_rule, settings_rule};
+ghost use Rattle.ring_service.specs.Words.{AreTold, Flag, IsIn, IsMatched, IsSaid};
+ghost use Rattle.ring_service.specs.Words.{always_rule, flag_rule, number_rule, ringd_app, settings_rule};
 
+use clap::error::ErrorKind;
 use clap::{Arg, ArgAction, ArgMatches, Command, Error, value_parser};
 use std::alloc::{AllocError, Global};
 
@@ -16,23 +17,29 @@ pub struct Words<'a> {
     pub serve: Option<u32>,
     /// Whether sessions are served without end. No words say this and `serve`.
     pub always: bool,
+    /// Whether each node has to be there: none is made.
+    pub existing: bool,
+    /// Whether the program ends where a node fails.
+    pub fail_stop: bool,
     /// How many sessions a node serves side by side, 1 to 32.
     pub doors: u32,
-    /// How many seconds a client may send nothing before its session ends, up to 86,400; 0 is for ever.
+    /// How many seconds a session may go without a whole line or a whole answer, up to 86,400; 0 is for ever.
     pub idle: u32,
 }
 
-/// Reads words, of which the first is the program's name:
-/// `[--settings PATH] [--serve K | --always] [--doors S] [--idle SECONDS]`. Refused with what is to be printed, and the
-/// status.
+/// Reads words, of which the first is the program's name: `[--settings PATH] [--serve K | --always] [--existing]
+/// [--fail-stop] [--doors S] [--idle SECONDS]`. Refused with what is to be printed, and the status.
 pub fn read_words<'a>(alloc: Global, words: &'a [&'a str]) -> Result<Words<'a>, Error>
-    ensures told { IfOk result (λ w. AreTold (map (λ word. word.now) words.now) w.settings.now w.serve w.always w.doors w.idle) }
+    ensures told { IfOk result (λ w. AreTold (map (λ word. word.now) words.now) w) }
     ensures range { IfOk result (λ w. IfSome w.serve (IsIn 1 1000)) }
     ensures doors { IfOk result (λ w. IsIn 1 32 w.doors) }
 {
-    let command = command(alloc)?;
-    let matches = command.try_get_matches_from(words)?;
-    Ok(words_of(&matches))
+    let mut command = command(alloc)?;
+    let matches = command.try_get_matches_from_mut(words)?;
+    match words_of(&matches) {
+        Ok(told) => Ok(told),
+        Err(kind) => Err(command.error(kind, "a number is out of its range")?),
+    }
 }
 
 /// `--settings PATH`
@@ -49,14 +56,15 @@ fn settings_arg<'a>(alloc: Global) -> Arg<'a>
 
 /// `--serve K`
 fn serve_arg<'a>(alloc: Global) -> Arg<'a>
-    ensures rule { rule_of result ≡ number_rule (codes "serve") result.value_parser }
+    ensures rule { rule_of result ≡ number_rule (codes "serve") 1 1000 }
     ensures local { result.global ≡ false }
 {
     Arg::new(alloc, "serve")
         .long("serve")
         .value_name("K")
         .help(
-            "Serves K sessions at each node, 1 to 1000, and ends; without it the settings are shown",
+            "Serves K sessions at each node, at all its doors together, 1 to 1000, and ends; the settings alone are \
+             shown without this and --always",
         )
         .value_parser(value_parser!(u32).range(1..=1000))
 }
@@ -73,9 +81,31 @@ fn always_arg<'a>(alloc: Global) -> Result<Arg<'a>, AllocError>
         .conflicts_with("serve")
 }
 
+/// `--existing`
+fn existing_arg<'a>(alloc: Global) -> Arg<'a>
+    ensures rule { rule_of result ≡ flag_rule (codes "existing") }
+    ensures local { result.global ≡ false }
+{
+    Arg::new(alloc, "existing")
+        .long("existing")
+        .help("Makes no node: each has to be there")
+        .action(ArgAction::SetTrue)
+}
+
+/// `--fail-stop`
+fn fail_stop_arg<'a>(alloc: Global) -> Arg<'a>
+    ensures rule { rule_of result ≡ flag_rule (codes "fail-stop") }
+    ensures local { result.global ≡ false }
+{
+    Arg::new(alloc, "fail-stop")
+        .long("fail-stop")
+        .help("Ends with status 1 where a node fails; a start goes on")
+        .action(ArgAction::SetTrue)
+}
+
 /// `--doors S`
 fn doors_arg<'a>(alloc: Global) -> Arg<'a>
-    ensures rule { rule_of result ≡ number_rule (codes "doors") result.value_parser }
+    ensures rule { rule_of result ≡ number_rule (codes "doors") 1 32 }
     ensures local { result.global ≡ false }
 {
     Arg::new(alloc, "doors")
@@ -87,14 +117,15 @@ fn doors_arg<'a>(alloc: Global) -> Arg<'a>
 
 /// `--idle SECONDS`
 fn idle_arg<'a>(alloc: Global) -> Arg<'a>
-    ensures rule { rule_of result ≡ number_rule (codes "idle") result.value_parser }
+    ensures rule { rule_of result ≡ number_rule (codes "idle") 0 86400 }
     ensures local { result.global ≡ false }
 {
     Arg::new(alloc, "idle")
         .long("idle")
         .value_name("SECONDS")
         .help(
-            "Ends a session whose client sends nothing for so long, 0 to 86400; 0, for never, where it is not said",
+            "Ends a session that has sent no whole line, or taken no whole answer, for so long, 0 to 86400; 0, for \
+             never, where it is not said",
         )
         .value_parser(value_parser!(u32).range(0..=86_400))
 }
@@ -109,7 +140,7 @@ fn with_arg<'a>(command: Command<'a>, arg: Arg<'a>) -> Result<Command<'a>, Alloc
 
 /// The command that the words are of.
 fn command<'a>(alloc: Global) -> Result<Command<'a>, AllocError>
-    ensures { IfOk result (λ command. IsRingd (app_of command)) }
+    ensures { IfOk result (λ command. app_of command ≡ ringd_app) }
 {
     let named = Command::new(alloc, "ringd").about(
         "A ring of durable nodes on 127.0.0.1 that elect a leader for each group and term",
@@ -117,39 +148,55 @@ fn command<'a>(alloc: Global) -> Result<Command<'a>, AllocError>
     let command = with_arg(named, settings_arg(alloc))?;
     let command = with_arg(command, serve_arg(alloc))?;
     let command = with_arg(command, always_arg(alloc)?)?;
+    let command = with_arg(command, existing_arg(alloc))?;
+    let command = with_arg(command, fail_stop_arg(alloc))?;
     let command = with_arg(command, doors_arg(alloc))?;
     with_arg(command, idle_arg(alloc))
 }
 
-/// The number in this range that is matched to a word.
-fn number(matches: &ArgMatches<'_>, word: &str, low: u32, high: u32) -> Option<u32>
-    ensures matched { IsMatched low high (one_text (found_of matches.now) word.now) result }
-    ensures range { IfSome result (IsIn low high) }
+/// The number that is matched to a word. Refused where what is matched is no number in this range, which the word's
+/// parser lets nobody say.
+fn number(
+    matches: &ArgMatches<'_>,
+    word: &str,
+    low: u32,
+    high: u32,
+) -> Result<Option<u32>, ErrorKind>
+    ensures { IfOk result (IsMatched low high (one_text (found_of matches.now) word.now)) }
 {
-    matches
-        .get_one::<u32>(word)
-        .filter(|number| low <= *number && *number <= high)
+    match matches.try_get_one::<u32>(word) {
+        Ok(None) => Ok(None),
+        Ok(Some(number)) if low <= number && number <= high => Ok(Some(number)),
+        _ => Err(ErrorKind::ValueValidation),
+    }
 }
 
 /// What is matched.
-fn words_of<'a>(matches: &ArgMatches<'a>) -> Words<'a>
-    ensures settings { result.settings.now ≡ unwrap_or (first_value (found_of matches.now) (codes "settings")) (codes "-") }
-    ensures serve { IsMatched 1 1000 (one_text (found_of matches.now) (codes "serve")) result.serve }
-    ensures always { Flag (one_text (found_of matches.now) (codes "always")) result.always }
-    ensures doors { IsSaid 1 32 1 (one_text (found_of matches.now) (codes "doors")) result.doors }
-    ensures idle { IsSaid 0 86400 0 (one_text (found_of matches.now) (codes "idle")) result.idle }
-    ensures range { IfSome result.serve (IsIn 1 1000) }
-    ensures side_by_side { IsIn 1 32 result.doors }
+fn words_of<'a>(matches: &ArgMatches<'a>) -> Result<Words<'a>, ErrorKind>
+    ensures settings { IfOk result (λ w. w.settings.now ≡ unwrap_or (first_value (found_of matches.now) (codes "settings")) (codes "-")) }
+    ensures serve { IfOk result (λ w. IsMatched 1 1000 (one_text (found_of matches.now) (codes "serve")) w.serve) }
+    ensures always { IfOk result (λ w. Flag (one_text (found_of matches.now) (codes "always")) w.always) }
+    ensures existing { IfOk result (λ w. Flag (one_text (found_of matches.now) (codes "existing")) w.existing) }
+    ensures fail_stop { IfOk result (λ w. Flag (one_text (found_of matches.now) (codes "fail-stop")) w.fail_stop) }
+    ensures doors { IfOk result (λ w. IsSaid 1 32 1 (one_text (found_of matches.now) (codes "doors")) w.doors) }
+    ensures idle { IfOk result (λ w. IsSaid 0 86400 0 (one_text (found_of matches.now) (codes "idle")) w.idle) }
+    ensures range { IfOk result (λ w. IfSome w.serve (IsIn 1 1000)) }
+    ensures side_by_side { IfOk result (λ w. IsIn 1 32 w.doors) }
 {
     let settings = match matches.get_str("settings") {
         Some(path) => path,
         None => "-",
     };
-    Words {
+    let serve = number(matches, "serve", 1, 1000)?;
+    let doors = number(matches, "doors", 1, 32)?;
+    let idle = number(matches, "idle", 0, 86_400)?;
+    Ok(Words {
         settings,
-        serve: number(matches, "serve", 1, 1000),
+        serve,
         always: matches.get_flag("always"),
-        doors: number(matches, "doors", 1, 32).unwrap_or(1),
-        idle: number(matches, "idle", 0, 86_400).unwrap_or(0),
-    }
+        existing: matches.get_flag("existing"),
+        fail_stop: matches.get_flag("fail-stop"),
+        doors: doors.unwrap_or(1),
+        idle: idle.unwrap_or(0),
+    })
 }

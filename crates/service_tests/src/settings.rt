@@ -102,6 +102,7 @@ fn words(rt: HostRuntime) {
     match read_words(rt.alloc(), &["ringd"]) {
         Ok(words) => {
             assert!(rt; words.settings == "-" && words.serve == None && !words.always);
+            assert!(rt; !words.existing && !words.fail_stop);
             assert_eq!(rt; (words.doors, words.idle), (1, 0));
         }
         Err(_) => panic!(rt; "refused"),
@@ -112,17 +113,33 @@ fn words(rt: HostRuntime) {
     }
     match read_words(
         rt.alloc(),
-        &["ringd", "--always", "--doors=32", "--idle", "86400"],
+        &[
+            "ringd",
+            "--always",
+            "--existing",
+            "--doors=32",
+            "--idle",
+            "86400",
+        ],
     ) {
         Ok(words) => {
-            assert!(rt; words.always && words.serve == None);
+            assert!(rt; words.always && words.serve == None && words.existing && !words.fail_stop);
             assert_eq!(rt; (words.doors, words.idle), (32, 86_400));
+        }
+        Err(_) => panic!(rt; "refused"),
+    }
+    match read_words(rt.alloc(), &["ringd", "--fail-stop", "--serve=1000"]) {
+        Ok(words) => {
+            assert!(rt; words.fail_stop && !words.existing && words.serve == Some(1000));
         }
         Err(_) => panic!(rt; "refused"),
     }
     for bad in [
         "--serve=0",
         "--serve=1001",
+        "--serve=5000",
+        "--existing=1",
+        "--fail-stop=no",
         "--doors=0",
         "--doors=33",
         "--idle=-1",

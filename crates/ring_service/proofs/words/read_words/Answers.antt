@@ -1,14 +1,17 @@
+use Rattle.clap.specs.Words.{app_of}
+use Rattle.ring_service.specs.Words.{ringd_app}
+use Rattle.ring_service.proofs.Commands.{matches_same}
 use Rattle.ring_service.proofs.words.read_words.Goals as goal
 
-pub returns-clause-told : goal.returns-clause-told
-returns-clause-told c = record {
-  app = _;
-  ringd = c.in_ok-command.ensures;
+pub returns-in-Ok-clause-told : goal.returns-in-Ok-clause-told
+returns-in-Ok-clause-told c = record {
   matches = c.in_ok-matches.matches;
-  matched = c.in_ok-matches.ensures.matches;
-  path = c.words_of.ensures.settings;
-  sessions = c.words_of.ensures.serve;
-  endless = c.words_of.ensures.always;
-  side_by_side = c.words_of.ensures.doors;
-  silence = c.words_of.ensures.idle;
+  matched = matches_same (app_of c.in_ok-command.command) ringd_app _ c.in_ok-matches.matches c.in_ok-command.ensures c.in_ok-matches.ensures.ok.2;
+  path = rw c.in-Ok.is at c.words_of.ensures.settings;
+  sessions = rw c.in-Ok.is at c.words_of.ensures.serve;
+  endless = rw c.in-Ok.is at c.words_of.ensures.always;
+  existing = rw c.in-Ok.is at c.words_of.ensures.existing;
+  fail_stop = rw c.in-Ok.is at c.words_of.ensures.fail_stop;
+  side_by_side = rw c.in-Ok.is at c.words_of.ensures.doors;
+  silence = rw c.in-Ok.is at c.words_of.ensures.idle;
 }
