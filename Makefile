@@ -2,10 +2,11 @@
 # bin/NAME: a proved program. bench: the times of ringctl and of the works of bench.
 # ringd: bin/ringd. serve: runs ringd on examples/ring.toml, unproved where bin/ringd is not built.
 # fencing: a leader that is paused and wakes late is turned away, over bin/ringd.
+# clients: the tests of the clients.
 # kills: bin/ringd is killed 100 times at random moments, started again, and held to all that it told.
 # load: bin/ringd under load; LOAD has further words of bench/load.py.
 .PHONY: run test wrong_bodies bench clean always
-.PHONY: ringd serve fencing kills load
+.PHONY: ringd serve fencing clients kills load
 
 run:
 	@bench/try.sh examples/first_election.ring
@@ -32,6 +33,9 @@ serve:
 
 fencing:
 	@examples/fencing/run.py
+
+clients:
+	@python3 -m unittest discover -s examples
 
 kills:
 	@trials/kill.py --rounds 100
