@@ -2,7 +2,7 @@
 # bin/NAME: a proved program. bench: the times of ringctl and of the works of bench.
 # ringd: bin/ringd. serve: runs ringd on examples/ring.toml, unproved where bin/ringd is not built.
 # fencing: a leader that is paused and wakes late is turned away, over bin/ringd.
-# clients: the tests of the clients.
+# clients: the tests of the clients, over bin/ringd.
 # kills: bin/ringd is killed 100 times at random moments, started again, and held to all that it told.
 # load: bin/ringd under load; LOAD has further words of bench/load.py.
 .PHONY: run test wrong_bodies bench clean always
@@ -36,6 +36,7 @@ fencing:
 
 clients:
 	@python3 -m unittest discover -s examples
+	@python3 -m unittest discover -s clients/python/tests -t clients/python
 
 kills:
 	@trials/kill.py --rounds 100

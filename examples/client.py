@@ -143,7 +143,6 @@ class Client:
             try:
                 answer = self.ask_once(line)
             except OSError:
-                self.close()
                 continue
             if answer.startswith("no "):
                 _, number, text = answer.split(" ", 2)
@@ -163,7 +162,9 @@ class Client:
                 if not part or len(answer) > LONGEST:
                     raise ConnectionError("the session broke off")
                 answer += part
-        except OSError:
+        except BaseException:
+            # A late answer would be read as that of the next line.
+            self.close()
             if line.startswith("stand ") and len(self.unanswered) < STANDS:
                 self.unanswered.add(line)
             raise

@@ -3,7 +3,6 @@
 import contextlib
 import io
 import os
-import socketserver
 import sys
 import threading
 import time
@@ -11,64 +10,11 @@ import unittest
 from collections.abc import Callable
 from unittest import mock
 
-sys.path.insert(0, os.path.dirname(os.path.abspath(__file__)))
+HERE = os.path.dirname(os.path.abspath(__file__))
+sys.path[:0] = [HERE, os.path.join(HERE, "..", "clients", "python")]
 import client
 from client import Client, Election, Leader, NoAnswer, NoLeader, Refused
-
-
-class Node(socketserver.ThreadingTCPServer):
-    """A node whose every answer is given: by a function of the line, `None` of which ends the session unanswered."""
-    daemon_threads = True
-    allow_reuse_address = True
-
-    def __init__(self, answer: Callable[[str], str | None]) -> None:
-        self.answer = answer
-        self.lines: list[str] = []
-        self.sessions = 0
-        super().__init__(("127.0.0.1", 0), Session)
-        threading.Thread(target=self.serve_forever, args=(0.01,), daemon=True).start()
-
-    def stands(self) -> list[str]:
-        return [line for line in self.lines if line.startswith("stand ")]
-
-    def handle_error(self, _request: object, _address: object) -> None:
-        """A client may leave in the middle of an answer."""
-
-
-class Session(socketserver.StreamRequestHandler):
-    def handle(self) -> None:
-        self.server.sessions += 1
-        while line := self.rfile.readline(300).decode().rstrip("\n"):
-            self.server.lines.append(line)
-            answer = self.server.answer(line)
-            if answer is None:
-                return
-            self.wfile.write(answer.encode() + b"\n")
-
-
-class Votes:
-    """What one node of a ring would answer. Who stands for a term leads in it, where `elects`."""
-
-    def __init__(self, elects: bool = True) -> None:
-        self.elects = elects
-        self.stood: dict[int, int] = {}
-        self.leaders: dict[int, tuple[int, int]] = {}
-
-    def __call__(self, line: str) -> str:
-        words = line.split()
-        if words[0] == "stand":
-            term, bid = int(words[2]), int(words[3])
-            if term in self.stood:
-                return f"no 3 already {self.stood[term]}"
-            self.stood[term] = bid
-            if self.elects:
-                self.leaders[term] = (1, bid)
-            return "stood"
-        term = int(words[2]) if words[0] == "who" else max(self.leaders, default=0)
-        if term not in self.leaders:
-            return "none"
-        told = "leader {} {}".format(*self.leaders[term])
-        return told if words[0] == "who" else f"term {term} {told}"
+from tests.lines import Node, Votes, first
 
 
 class Clock:
@@ -95,19 +41,13 @@ class ClientTest(unittest.TestCase):
 
     def serve(self, answer: Callable[[str], str | None]) -> Node:
         node = Node(answer)
-        self.addCleanup(node.server_close)
-        self.addCleanup(node.shutdown)
+        self.addCleanup(node.end)
         return node
 
     def ask(self, node: Node) -> Client:
         asks = Client(node.server_address[1], node=1)
         self.addCleanup(asks.close)
         return asks
-
-    def first(self, *answers: str | None) -> Callable[[str], str | None]:
-        """Gives these answers, one after the other."""
-        left = list(answers)
-        return lambda _line: left.pop(0)
 
 
 class StandTest(ClientTest):
@@ -124,12 +64,12 @@ class StandTest(ClientTest):
         self.assertEqual((caught.exception.number, caught.exception.text), (3, "already 10"))
 
     def test_already_counts_after_a_try_without_an_answer(self) -> None:
-        node = self.serve(self.first(None, "no 3 already 10"))
+        node = self.serve(first(None, "no 3 already 10"))
         self.ask(node).stand("red", 5, 10)
         self.assertEqual(node.lines, ["stand red 5 10"] * 2)
 
     def test_already_counts_in_a_later_call_too(self) -> None:
-        node = self.serve(self.first(*[None] * 10, "no 3 already 10"))
+        node = self.serve(first(*[None] * 10, "no 3 already 10"))
         asks = self.ask(node)
         with self.assertRaises(NoAnswer):
             asks.stand("red", 5, 10)
@@ -137,10 +77,10 @@ class StandTest(ClientTest):
 
     def test_already_with_another_bid_is_refused(self) -> None:
         with self.assertRaises(Refused):
-            self.ask(self.serve(self.first(None, "no 3 already 11"))).stand("red", 5, 10)
+            self.ask(self.serve(first(None, "no 3 already 11"))).stand("red", 5, 10)
 
     def test_another_stand_without_an_answer_is_another_one(self) -> None:
-        asks = self.ask(self.serve(self.first(None, "stood", "no 3 already 10")))
+        asks = self.ask(self.serve(first(None, "stood", "no 3 already 10")))
         asks.stand("red", 4, 10)
         with self.assertRaises(Refused):
             asks.stand("red", 5, 10)
@@ -160,6 +100,18 @@ class StandTest(ClientTest):
         with self.assertRaises(NoAnswer):
             self.ask(node).latest("red")
         self.assertEqual((len(node.lines), self.clock.pauses), (10, [0.3] * 9))
+
+    def test_a_question_that_was_left_is_not_answered_by_the_next_answer(self) -> None:
+        node = self.serve(lambda line: "term 5 leader 1 10" if line == "latest red" else "none")
+        asks = self.ask(node)
+        asks.latest("blue")
+        with mock.patch.object(asks, "connection", wraps=asks.connection) as connection:
+            connection.recv.side_effect = KeyboardInterrupt
+            with self.assertRaises(KeyboardInterrupt):
+                asks.latest("red")
+            self.assertIsNone(asks.connection)
+        asks.close()
+        self.assertIsNone(asks.latest("blue"))
 
     def test_an_answer_without_end_is_none(self) -> None:
         node = self.serve(lambda _line: "x" * 1_000_000)
@@ -220,13 +172,13 @@ class CampaignTest(ClientTest):
 
     def test_follows_where_it_may_not_stand(self) -> None:
         for refusal in ("no 3 already 30", "no 4 late", "no 5 stale 1"):
-            node = self.serve(self.first("none", refusal, "none", "none", "term 1 leader 2 30"))
+            node = self.serve(first("none", refusal, "none", "none", "term 1 leader 2 30"))
             self.assertEqual(self.ask(node).campaign("red"), Election(1, Leader(2, 30), False))
             self.assertEqual(len(node.stands()), 1)
 
     def test_stops_where_the_node_takes_no_stand(self) -> None:
         for refusal in ("no 6 limit", "no 7 full", "no 8 memory", "no 9 failed", "no 15 device 1", "no 1 name"):
-            node = self.serve(self.first("none", refusal))
+            node = self.serve(first("none", refusal))
             with self.assertRaises(Refused) as caught:
                 self.ask(node).campaign("red")
             self.assertEqual((str(caught.exception), len(node.stands())), (refusal, 1))

@@ -1,0 +1,99 @@
+"""Who leads, and how to come to lead."""
+import secrets
+from collections.abc import Iterator
+from typing import TYPE_CHECKING, NamedTuple
+
+from .errors import AlreadyStands, Late, LimitReached, NoLeader, Stale, WrongRing
+from .pause import Pause
+
+if TYPE_CHECKING:
+    from .ring import Ring
+
+
+class Leader(NamedTuple):
+    """Who leads: a node, 1 to 16, and its bid, 0 to 999,999,999."""
+    node: int
+    bid: int
+
+
+class Led(NamedTuple):
+    """A term and its leader."""
+    term: int
+    leader: Leader
+
+
+class Election(NamedTuple):
+    """A term, its leader, and whether that is who campaigned."""
+    term: int
+    leader: Leader
+    is_mine: bool
+
+
+def random_bid(rank: int) -> int:
+    """A bid that no other campaign has, with the rank in its upper digits."""
+    if not 0 <= rank <= 999:
+        raise ValueError("a rank is 0 to 999")
+    return rank * 1_000_000 + secrets.randbelow(1_000_000)
+
+
+class Campaign:
+    """Stands for one term after the other, each with one bid, until one above `gone` has a leader."""
+
+    def __init__(self, ring: "Ring", group: str, gone: int, bid: int, node: int | None) -> None:
+        self.ring, self.group, self.gone, self.bid = ring, group, gone, bid
+        first = secrets.randbelow(ring.nodes) + 1 if node is None else node
+        # The nodes at which it may stand, the first of them first.
+        self.places = [(first - 1 + step) % ring.nodes + 1 for step in range(ring.nodes if node is None else 1)]
+        self.stood: set[tuple[int, Leader]] = set()
+
+    def run(self, terms: int, seconds: float) -> Election:
+        """Stands for so many terms at most, and waits so long in each."""
+        known = self.known()
+        for term in range(self.gone + 1, self.gone + 1 + terms):
+            if known is None:
+                self.stand(term)
+                known = self.wait(seconds)
+        if known is None:
+            raise NoLeader(f"{self.group}: no leader in {terms} terms above {self.gone}")
+        is_mine = known in self.stood
+        if not is_mine and known.leader.bid == self.bid and any(term == known.term for term, _ in self.stood):
+            raise WrongRing(f"who stood at node {self.places[0]} leads at node {known.leader.node}: give all ports")
+        return Election(known.term, known.leader, is_mine)
+
+    def stand(self, term: int) -> None:
+        """Stands for the term where it may. Not where somebody else does, who comes to be known then. A node that stood
+        as often as it may is passed by, where another one may be taken."""
+        for number, place in enumerate(self.places, 1):
+            try:
+                self.ring.stand(self.group, term, self.bid, place)
+                self.stood.add((term, Leader(place, self.bid)))
+                return
+            except (AlreadyStands, Late, Stale):
+                return
+            except LimitReached:
+                if number == len(self.places):
+                    raise
+
+    def wait(self, seconds: float) -> Led | None:
+        pause = Pause(self.ring, seconds)
+        while (known := self.known()) is None and pause.take():
+            pass
+        return known
+
+    def known(self) -> Led | None:
+        """The latest leader, where its term is above the one that is gone."""
+        known = self.ring.latest(self.group)
+        return known if known is not None and known.term > self.gone else None
+
+
+def watch(ring: "Ring", group: str, after: int) -> Iterator[Led]:
+    """Each new latest leader of the group, with rising terms above `after`."""
+    pause = Pause(ring)
+    while True:
+        known = ring.latest(group)
+        if known is not None and known.term > after:
+            after = known.term
+            yield known
+            pause = Pause(ring)
+        else:
+            pause.take()

@@ -1,0 +1,150 @@
+"""A ring, and what may be asked of it."""
+import os
+import re
+import threading
+import time
+from collections.abc import Iterator
+from typing import NoReturn
+
+from . import election
+from .election import Campaign, Election, Leader, Led
+from .errors import AlreadyStands, NoAnswer, WrongRing, refusal
+from .session import Session
+
+# A node takes so many Stands. No more of them that got no answer are remembered.
+STANDS = 1_024
+# An answer is waited for so long, in seconds, before another node is asked.
+PATIENCE = 3.0
+WHO = re.compile(r"leader (\d+) (\d+)")
+LATEST = re.compile(r"term (\d+) leader (\d+) (\d+)")
+
+
+class Ring:
+    """A ring of 127.0.0.1: node 1 listens at the port `first`, the last one at `last`. Questions are asked of any node,
+    over one session at a time; where one breaks off, of the next node, until `timeout` seconds are over: `NoAnswer`.
+    A Stand stays with its node. Threads may share it; one waits for the other."""
+
+    def __init__(self, first: int, last: int, timeout: float = 10.0) -> None:
+        if not 1 <= first < last <= 65_535 or last - first > 15:
+            raise WrongRing(f"{first}-{last}: the ports of 2 to 16 nodes are 1 to 65,535")
+        self.first, self.nodes, self.timeout = first, last - first + 1, timeout
+        self.place = 1
+        self.session: Session | None = None
+        self.lock = threading.RLock()
+        # Stands that this process sent, and that got no answer, the oldest first: each may have been accepted.
+        self.unanswered: dict[tuple[int, int, str], None] = {}
+
+    @classmethod
+    def parse(cls, text: str, timeout: float = 10.0) -> "Ring":
+        """The ring of a text as `7101-7103`."""
+        ports = re.fullmatch(r"(\d{1,5})-(\d{1,5})", text, re.ASCII)
+        if ports is None:
+            raise WrongRing(f"{text}: ports are told as 7101-7103")
+        return cls(int(ports[1]), int(ports[2]), timeout)
+
+    def stand(self, group: str, term: int, bid: int, node: int = 1) -> None:
+        """The node stands for the group and term with this bid, for who asked. Else `Refused`: `AlreadyStands`, with
+        the same bid too, is of another process, unless this Ring asked before and got no answer."""
+        line = f"stand {group} {term} {bid}"
+        try:
+            answer = self.ask(line, node)
+        except AlreadyStands as fault:
+            if fault.text != f"already {bid}" or (os.getpid(), node, line) not in self.unanswered:
+                raise
+            return
+        if answer != "stood":
+            self.wrong(answer)
+
+    def who(self, group: str, term: int, node: int | None = None) -> Leader | None:
+        """Who leads for the group and term, as far as a node knows."""
+        answer = self.ask(f"who {group} {term}", node)
+        words = WHO.fullmatch(answer)
+        if words is None:
+            return None if answer == "none" else self.wrong(answer)
+        return Leader(int(words[1]), int(words[2]))
+
+    def latest(self, group: str, node: int | None = None) -> Led | None:
+        """The greatest term of the group that has a leader, as far as a node knows, and that leader."""
+        answer = self.ask(f"latest {group}", node)
+        words = LATEST.fullmatch(answer)
+        if words is None:
+            return None if answer == "none" else self.wrong(answer)
+        return Led(int(words[1]), Leader(int(words[2]), int(words[3])))
+
+    def campaign(self, group: str, gone: int = 0, rank: int = 0, node: int | None = None, terms: int = 3,
+                 seconds: float = 5.0) -> Election:
+        """The leader of the first term above `gone` that comes to have one, for which who calls stands where he may:
+        at this node, or at any. `gone` is the term of the leader that is taken for gone; a later one is never put
+        aside. The bid is of this call alone; its upper digits are `rank`, 0 to 999. Stands for so many `terms` at most
+        and waits so many `seconds` in each: then `NoLeader`. `Refused` where no Stand is taken any more."""
+        return self.campaign_with(election.random_bid(rank), group, gone, node, terms, seconds)
+
+    def campaign_with(self, bid: int, group: str, gone: int = 0, node: int | None = None, terms: int = 3,
+                      seconds: float = 5.0) -> Election:
+        """`campaign` with this bid, which no other process may have."""
+        try:
+            return Campaign(self, group, gone, bid, node).run(terms, seconds)
+        finally:
+            self.close()
+
+    def watch(self, group: str, after: int = 0) -> Iterator[Led]:
+        """Each new leader of the group, with rising terms above `after`, for ever. It looks again and again, at most a
+        second apart; of the terms between two looks it tells the last. `NoAnswer` where no node answers any more."""
+        return election.watch(self, group, after)
+
+    def ask(self, line: str, node: int | None = None) -> str:
+        """The answer to a line. `Refused` where it is a refusal, `NoAnswer` where none came in time."""
+        if "\n" in line or line.strip(" \r") == "bye" or node is not None and not 1 <= node <= self.nodes:
+            raise ValueError("a question is one line, and no `bye`, to a node of the ring")
+        with self.lock:
+            until, pause = time.monotonic() + self.timeout, 0.05
+            while True:
+                place = node or self.place
+                try:
+                    answer = self.ask_once(line, place, min(PATIENCE, self.timeout))
+                    break
+                except OSError as fault:
+                    self.close()
+                    if node is None:
+                        self.place = place % self.nodes + 1
+                    if time.monotonic() + pause > until:
+                        raise NoAnswer(f"127.0.0.1:{self.first + place - 1}: {fault or type(fault).__name__}") from None
+                time.sleep(pause)
+                pause = min(2 * pause, 1.0)
+        refused = refusal(answer)
+        if refused is not None:
+            raise refused
+        return answer
+
+    def ask_once(self, line: str, place: int, seconds: float) -> str:
+        """The answer of this node, over the session that is open with it, or over a new one."""
+        port = self.first + place - 1
+        if self.session is not None and (self.session.port != port or not self.session.is_usable()):
+            self.close()
+        if self.session is None:
+            self.session = Session(port, seconds)
+        try:
+            return self.session.ask(line, seconds)
+        except BaseException:
+            if line.startswith("stand "):
+                self.unanswered[os.getpid(), place, line] = None
+                if len(self.unanswered) > STANDS:
+                    del self.unanswered[next(iter(self.unanswered))]
+            raise
+
+    def wrong(self, answer: str) -> NoReturn:
+        self.close()
+        raise WrongRing(f"{answer!r} is no answer of a node")
+
+    def close(self) -> None:
+        """Ends the session, if one is open. The next question opens another one."""
+        with self.lock:
+            if self.session is not None:
+                self.session.close()
+                self.session = None
+
+    def __enter__(self) -> "Ring":
+        return self
+
+    def __exit__(self, *_fault: object) -> None:
+        self.close()

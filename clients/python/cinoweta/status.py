@@ -1,0 +1,81 @@
+"""What `ringd --status PORT` tells of a ring, over HTTP."""
+import http.client
+import json
+import time
+from typing import Any
+
+from .errors import NoAnswer, WrongRing
+
+# More is read of no answer, in bytes.
+LONGEST = 1 << 20
+# What is told first of a node.
+FIRST = ["node", "port", "state"]
+
+
+def ask(port: int, path: str, seconds: float) -> tuple[int, str]:
+    """The status and the text of an answer."""
+    connection = http.client.HTTPConnection("127.0.0.1", port, timeout=seconds)
+    try:
+        connection.request("GET", path, headers={"Connection": "close"})
+        answer = connection.getresponse()
+        return answer.status, answer.read(LONGEST).decode("utf-8", "replace")
+    except (OSError, http.client.HTTPException) as fault:
+        raise NoAnswer(f"127.0.0.1:{port}{path}: {fault or type(fault).__name__}") from None
+    finally:
+        connection.close()
+
+
+def health(port: int, seconds: float = 5.0) -> list[str]:
+    """A line for each node that is not well, as `node 3 full`; none where all are."""
+    status, text = ask(port, "/health", seconds)
+    if status not in (200, 503):
+        raise WrongRing(f"127.0.0.1:{port}/health answers {status}: is it that of ringd --status?")
+    return text.splitlines() if status == 503 else []
+
+
+def status(port: int, seconds: float = 5.0) -> dict[str, Any]:
+    """What is told of the ring and of each node."""
+    code, text = ask(port, "/status", seconds)
+    try:
+        told = json.loads(text)
+    except ValueError:
+        told = None
+    nodes = told.get("nodes", []) if isinstance(told, dict) else None
+    if code != 200 or not isinstance(nodes, list) or not all(isinstance(node, dict) for node in nodes):
+        raise WrongRing(f"127.0.0.1:{port}/status answers {code}: is it that of ringd --status?")
+    return told
+
+
+def table(told: dict[str, Any]) -> str:
+    """The same for people: what is told of the ring, then a row for each value, with a column for each node. Refusals
+    that never came are left out."""
+    lines = [f"{name} {shown(name, value)}" for name, value in told.items() if not isinstance(value, (list, dict))]
+    nodes = [flatten(node) for node in told.get("nodes", [])]
+    names = list(dict.fromkeys(name for node in nodes for name in node))
+    rows = [(name, [node.get(name, "-") for node in nodes]) for name in sorted(names, key=place)]
+    rows = [(name, cells) for name, cells in rows if "." not in name or set(cells) - {"0", "-"}]
+    wide = max([len(name) for name, _ in rows], default=0)
+    widths = [max(map(len, column)) for column in zip(*(cells for _, cells in rows))]
+    lines += [f"{name:<{wide}}  {'  '.join(map(str.rjust, cells, widths))}" for name, cells in rows]
+    return "\n".join(lines)
+
+
+def place(name: str) -> tuple[int, str, int]:
+    """Which node it is stands first, and refusals stand last, by their numbers."""
+    head, _, number = name.partition(".")
+    first = FIRST.index(name) if name in FIRST else len(FIRST)
+    return (first + bool(number), head, int(number) if number.isdecimal() else 0)
+
+
+def shown(name: str, value: Any) -> str:
+    """A value, or the time that it is."""
+    is_time = name == "started" and isinstance(value, int)
+    return time.strftime("%Y-%m-%dT%H:%M:%SZ", time.gmtime(value)) if is_time else str(value)
+
+
+def flatten(node: dict[str, Any], before: str = "") -> dict[str, str]:
+    """The values of a node, and those of the objects in it, as `refusals.7`."""
+    flat: dict[str, str] = {}
+    for name, value in node.items():
+        flat |= flatten(value, f"{before}{name}.") if isinstance(value, dict) else {before + name: str(value)}
+    return flat

@@ -1,0 +1,205 @@
+"""The package and the command beside a real ringd."""
+import json
+import os
+import signal
+import subprocess
+import threading
+import time
+import unittest
+
+from cinoweta import AlreadyStands, Election, Full, Late, Ring, Stale
+
+from .served import HERE, Served, require
+
+setUpModule = require
+
+
+class ServedTest(unittest.TestCase):
+    def setUp(self) -> None:
+        self.served = Served()
+        self.addCleanup(self.served.end)
+
+    def ring(self) -> Ring:
+        ring = Ring.parse(self.served.ports)
+        self.addCleanup(ring.close)
+        return ring
+
+    def until(self, is_so: object, what: str) -> None:
+        """Waits until it is so."""
+        until = time.monotonic() + 30.0
+        while not is_so():
+            self.assertLess(time.monotonic(), until, what)
+            time.sleep(0.05)
+
+
+class RingTest(ServedTest):
+    def test_questions(self) -> None:
+        ring = self.ring()
+        ring.stand("red", 5, 10)
+        for node in (1, 2, 3):
+            self.until(lambda: ring.who("red", 5, node) == (1, 10), "no leader")
+            self.assertEqual(ring.latest("red", node), (5, (1, 10)))
+        for number, (kind, term) in enumerate([(AlreadyStands, 5), (Late, 5), (Stale, 4)], 1):
+            with self.assertRaises(kind):
+                ring.stand("red", term, 10, node=number)
+
+    def test_of_many_that_campaign_at_once_one_leads(self) -> None:
+        for gone in range(5):
+            seen: list[Election] = []
+            threads = [threading.Thread(target=lambda: seen.append(self.ring().campaign("red", gone))) for _ in range(6)]
+            for thread in threads:
+                thread.start()
+            for thread in threads:
+                thread.join()
+            self.assertEqual({election[:2] for election in seen}, {seen[0][:2]})
+            self.assertEqual((len(seen), sum(election.is_mine for election in seen)), (6, 1))
+
+    def test_a_kill_is_outlived(self) -> None:
+        ring = self.ring()
+        election = ring.campaign("red")
+        ring.latest("red")
+        self.served.kill()
+        threading.Timer(0.5, self.served.start).start()
+        # Another node may answer first, and hear of it only now.
+        ring.latest("red")
+        self.until(lambda: ring.latest("red", 1) == election[:2], "the leader is forgotten")
+        self.assertEqual(ring.campaign("red"), Election(*election[:2], False))
+
+    def test_watch(self) -> None:
+        ring, seen = self.ring(), self.ring().watch("red")
+        for gone in range(3):
+            election = ring.campaign("red", gone)
+            self.assertEqual(next(seen), election[:2])
+
+    def test_a_full_ring_is_told(self) -> None:
+        self.served.end()
+        self.served = Served(capacity=4_096)
+        self.addCleanup(self.served.end)
+        ring = self.ring()
+        with self.assertRaises(Full):
+            for gone in range(1_000):
+                ring.campaign("red", gone, node=1)
+        stands = ring.latest("red").term
+        self.assertLess(stands, 200)
+
+
+class CommandTest(ServedTest):
+    def told(self, *words: str) -> tuple[int, str]:
+        """The exit status of the command and what it printed, on both streams."""
+        ended = self.served.run(*words)
+        return ended.returncode, ended.stdout + ended.stderr
+
+    def test_commands(self) -> None:
+        self.assertEqual(self.told("latest", "red"), (1, "none\n"))
+        self.assertEqual(self.told("stand", "red", "5", "10"), (0, "stood\n"))
+        self.assertEqual(self.told("stand", "red", "5", "10"), (13, "cinoweta: no 3 already 10\n"))
+        self.until(lambda: self.told("who", "red", "5") == (0, "leader 1 10\n"), "no leader")
+        self.assertEqual(self.told("latest", "red", "--node", "1"), (0, "term 5 leader 1 10\n"))
+        self.assertEqual(self.told("who", "red", "4"), (1, "none\n"))
+        self.assertEqual(self.told("who", "red", "4", "--json", "--ring", self.served.ports)[1][:15], '{"group": "red"')
+        self.assertEqual(self.told("stand", "red", "4", "10"), (15, "cinoweta: no 5 stale 5\n"))
+        self.assertEqual(self.told("who", "RED", "4"), (11, "cinoweta: no 1 name\n"))
+        self.assertEqual(self.told("campaign", "red"), (1, "term 5 leader 1 10\n"))
+        status, text = self.told("campaign", "red", "--gone", "5", "--node", "2", "--rank", "7")
+        self.assertRegex(text, r"\Aterm 6 leader 2 7\d{6}\n\Z")
+        self.assertEqual((status, self.told("watch", "red", "--after", "5", "--count", "1")), (0, (0, text)))
+
+    def test_json(self) -> None:
+        status, text = self.told("--json", "campaign", "red")
+        told = json.loads(text)
+        self.assertEqual((status, told["group"], told["term"], told["is_mine"]), (0, "red", 1, True))
+        self.assertEqual(json.loads(self.told("--json", "latest", "red")[1])["leader"], told["leader"])
+        self.assertEqual(json.loads(self.told("--json", "stand", "red", "1", "5", "--node", "9")[1]).keys(), {"error"})
+        self.assertEqual(json.loads(self.told("--json", "latest", "A")[1])["refusal"], 1)
+
+    def test_wrong_words(self) -> None:
+        for words in (["stand", "red"], ["lock", "red"], ["latest", "red", "--", "true"], ["what"], [],
+                      ["--ring", "7101", "latest", "red"], ["campaign", "red", "--rank", "1000"]):
+            self.assertEqual(self.told(*words)[0], 2, words)
+        self.assertEqual(self.told("lock", "red", "--", "/no/such/program")[0], 127)
+
+    def test_no_answer(self) -> None:
+        self.served.kill()
+        self.assertEqual(self.told("--timeout", "0.2", "latest", "red")[0], 3)
+        self.served.start()
+
+
+class LockTest(ServedTest):
+    def setUp(self) -> None:
+        super().setUp()
+        self.lockers: list[subprocess.Popen[str]] = []
+        self.addCleanup(self.end_lockers)
+
+    def end_lockers(self) -> None:
+        for locker in self.lockers:
+            if locker.poll() is None:
+                locker.send_signal(signal.SIGCONT)
+                locker.kill()
+            locker.wait()
+            locker.stdout.close()
+
+    def lock(self, script: str, *words: str) -> subprocess.Popen[str]:
+        """Starts a locker of a shell's script."""
+        command = self.served.command("lock", "red", "--patience", "1", "--grace", "1", *words, "--", "sh", "-c", script)
+        locker = subprocess.Popen(command, cwd=HERE.parent, stdout=subprocess.PIPE, stderr=subprocess.DEVNULL, text=True)
+        self.lockers.append(locker)
+        return locker
+
+    def test_the_status_is_that_of_the_command(self) -> None:
+        for script, status in (("exit 0", 0), ("exit 7", 7), ("kill -9 $$", 137)):
+            self.assertEqual(self.served.run("lock", "red", "--", "sh", "-c", script).returncode, status)
+
+    def test_one_runs_behind_the_other(self) -> None:
+        lockers = [self.lock(f"echo $CINOWETA_TERM >> {self.served.folder}/terms; echo in; sleep 0.3; echo out") for _ in
+                   range(4)]
+        for locker in lockers:
+            self.assertEqual((locker.stdout.read(), locker.wait()), ("in\nout\n", 0))
+        with open(f"{self.served.folder}/terms", encoding="ascii") as file:
+            terms = [int(line) for line in file]
+        self.assertEqual((len(terms), terms), (4, sorted(set(terms))))
+
+    def test_who_is_paused_loses_the_lock(self) -> None:
+        first = self.lock("echo $CINOWETA_TERM; exec sleep 60")
+        self.assertEqual(first.stdout.readline(), "1\n")
+        second = self.lock("echo $CINOWETA_TERM; exec sleep 60")
+        time.sleep(1.5)
+        self.assertIsNone(second.poll())
+        first.send_signal(signal.SIGSTOP)
+        self.assertEqual(second.stdout.readline(), "2\n")
+        first.send_signal(signal.SIGCONT)
+        self.assertEqual(first.wait(10), 5)
+        self.assertIsNone(second.poll())
+
+    def test_a_command_that_does_not_heed_is_killed(self) -> None:
+        first = self.lock("trap '' TERM; echo $$; while :; do sleep 0.1; done")
+        command = int(first.stdout.readline())
+        first.send_signal(signal.SIGSTOP)
+        self.assertEqual(self.lock("echo $CINOWETA_TERM").stdout.readline(), "2\n")
+        first.send_signal(signal.SIGCONT)
+        self.assertEqual(first.wait(10), 5)
+        with self.assertRaises(ProcessLookupError):
+            os.kill(command, 0)
+
+    def test_who_is_killed_loses_it_at_once(self) -> None:
+        first = self.lock("echo $$; exec sleep 60")
+        command = int(first.stdout.readline())
+        first.kill()
+        self.assertEqual(self.lock("echo $CINOWETA_TERM", "--patience", "60").stdout.readline(), "2\n")
+        os.kill(command, signal.SIGKILL)
+
+    def test_a_signal_is_handed_on(self) -> None:
+        first = self.lock("trap 'echo ends; exit 4' TERM; echo in; while :; do sleep 0.1; done")
+        self.assertEqual(first.stdout.readline(), "in\n")
+        first.terminate()
+        self.assertEqual((first.stdout.readline(), first.wait(10)), ("ends\n", 4))
+
+    def test_a_ring_that_is_down_ends_no_lock(self) -> None:
+        first = self.lock("echo in; sleep 4; echo out")
+        self.assertEqual(first.stdout.readline(), "in\n")
+        self.served.kill()
+        self.assertEqual((first.stdout.read(), first.wait(10)), ("out\n", 0))
+        self.served.start()
+
+
+if __name__ == "__main__":
+    unittest.main()

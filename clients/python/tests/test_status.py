@@ -1,0 +1,65 @@
+"""`cinoweta status` beside a server that answers as `ringd --status` does."""
+import http.server
+import json
+import threading
+import unittest
+
+from cinoweta import NoAnswer, WrongRing, status
+
+NODES = [{"refusals": {"15": 4, "3": node, "7": 0}, "inputs": 20 + node, "node": node, "port": 7100 + node,
+          "stands": 10 + node, "state": state} for node, state in ((1, "well"), (2, "failed"))]
+TOLD = {"version": "0.1.0", "nodes": NODES, "dir": "ring-state", "started": 1700000000}
+
+
+class Answers(http.server.BaseHTTPRequestHandler):
+    def do_GET(self) -> None:
+        code, text = self.server.answers.get(self.path, (404, ""))
+        self.send_response(code)
+        self.end_headers()
+        self.wfile.write(text.encode())
+
+    def log_message(self, *_words: object) -> None:
+        """Nothing is told."""
+
+
+class StatusTest(unittest.TestCase):
+    def serve(self, answers: dict[str, tuple[int, str]]) -> int:
+        server = http.server.ThreadingHTTPServer(("127.0.0.1", 0), Answers)
+        server.answers = answers
+        threading.Thread(target=server.serve_forever, args=(0.01,), daemon=True).start()
+        self.addCleanup(server.server_close)
+        self.addCleanup(server.shutdown)
+        return server.server_address[1]
+
+    def test_health(self) -> None:
+        self.assertEqual(status.health(self.serve({"/health": (200, "well\n")})), [])
+        for text in ("node 2 failed\nnode 3 full\n", "node 2 failed\nnode 3 full"):
+            self.assertEqual(status.health(self.serve({"/health": (503, text)})), ["node 2 failed", "node 3 full"])
+        with self.assertRaises(WrongRing):
+            status.health(self.serve({}))
+
+    def test_status(self) -> None:
+        self.assertEqual(status.status(self.serve({"/status": (200, json.dumps(TOLD))})), TOLD)
+        for code, text in ((200, "[]"), (200, "well"), (404, "{}"), (200, '{"nodes": 3}'), (200, '{"nodes": [1]}')):
+            with self.assertRaises(WrongRing):
+                status.status(self.serve({"/status": (code, text)}))
+        with self.assertRaises(NoAnswer):
+            status.status(1)
+
+    def test_table(self) -> None:
+        self.assertEqual(status.table(TOLD).split("\n"), [
+            "version 0.1.0",
+            "dir ring-state",
+            "started 2023-11-14T22:13:20Z",
+            "node            1       2",
+            "port         7101    7102",
+            "state        well  failed",
+            "inputs         21      22",
+            "stands         11      12",
+            "refusals.3      1       2",
+            "refusals.15     4       4",
+        ])
+
+
+if __name__ == "__main__":
+    unittest.main()
