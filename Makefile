@@ -3,10 +3,11 @@
 # ringd: bin/ringd. serve: runs ringd on examples/ring.toml, unproved where bin/ringd is not built.
 # fencing: a leader that is paused and wakes late is turned away, over bin/ringd.
 # clients: the tests of the clients, over bin/ringd.
+# picture: the run of SCRIPT by ringctl, drawn as text and, to the file SVG, as SVG. pictures: the tests of that, and the pictures of the docs, over bin/ringctl.
 # kills: bin/ringd is killed 100 times at random moments, started again, and held to all that it told.
 # load: bin/ringd under load; LOAD has further words of bench/load.py.
 .PHONY: run test wrong_bodies bench clean always
-.PHONY: ringd serve fencing clients kills load
+.PHONY: ringd serve fencing clients picture pictures kills load
 
 run:
 	@bench/try.sh examples/first_election.ring
@@ -37,6 +38,13 @@ fencing:
 clients:
 	@python3 -m unittest discover -s examples
 	@python3 -m unittest discover -s clients/python/tests -t clients/python
+
+picture:
+	@pictures/draw.sh "$(SCRIPT)" $(if $(SVG),"$(SVG)")
+
+pictures: bin/ringctl
+	@python3 -m unittest discover -s pictures
+	@pictures/picture.py --docs
 
 kills:
 	@trials/kill.py --rounds 100

@@ -1,0 +1,109 @@
+"""Pictures of runs, with what ringctl prints for them written by hand; and of random scripts, over RINGCTL or bin/ringctl."""
+import os
+import random
+import subprocess
+import unittest
+import xml.etree.ElementTree
+
+import picture
+from run import Fault
+
+RINGCTL = os.environ.get("RINGCTL", str(picture.ROOT / "bin" / "ringctl"))
+RUN = """
+# A lost reply, and a message that comes again.
+ring 2 lazy
+stand 1 red 5 10
+flush 1
+deliver 1 0
+crash 2
+deliver 1 0
+flush 2
+credit 2 1
+deliver 1 7
+latest 2 red
+show 2
+"""
+PRINTED = """ring 2
+1: sealed
+flushed 1
+1: stood
+2: sealed
+2: lost
+up 2 0
+3: sealed
+flushed 1
+3: taken
+4: sealed
+no 21 unknown
+5: none
+node 2 inputs 1 durable 1 sent 1 taken 1 credit 0
+"""
+
+
+class PictureTest(unittest.TestCase):
+    def test_a_lazy_ring(self) -> None:
+        drawn, image = picture.draw(RUN, PRINTED, "run")
+        rows = [" ".join(line.replace("|", " ").replace("-", " ").split()) for line in drawn.splitlines()]
+        self.assertEqual(rows, [
+            "node 1 node 2",
+            "4 o 1: stand red 5 10, sealed",
+            "5 # flushed 1; 1: stood",
+            "6 2: 0 Token (10, 1), sealed >",
+            "7 X crash; 2: lost; up with 0",
+            "8 3: 0 Token (10, 1), sealed >",
+            "9 # flushed 1; 3: taken",
+            "10 < 4: credit 1, sealed",
+            "11 o deliver 1 7, no 21 unknown",
+            "12 o 5: latest red, none",
+            "13 o inputs 1 durable 1 sent 1 taken 1 credit 0",
+        ])
+        texts = [each.text for each in xml.etree.ElementTree.fromstring(image).iter("{http://www.w3.org/2000/svg}text")]
+        self.assertIn("crash; 2: lost; up with 0", texts)
+
+    def test_keys_are_told_where_there_are_several(self) -> None:
+        script = "ring 2\nstand 1 red 5 10\nstand 1 blue 1 3\ndeliver 1 0\ndeliver 1 1\n"
+        drawn, _ = picture.draw(script, "ring 2\n1: stood\n2: stood\n3: taken\n4: taken\n", "run")
+        self.assertIn("- 3: 0 red 5 Token (10, 1), passed on -", drawn)
+        self.assertIn("- 4: 1 blue 1 Token (3, 1), passed on -", drawn)
+        drawn, _ = picture.draw(script, "ring 2\n1: stood\n2: no 7 full\n3: taken\nno 21 unknown\n", "run")
+        self.assertIn("2: stand blue 1 3, no 7 full", drawn)
+
+    def test_what_does_not_agree_is_told(self) -> None:
+        lines = PRINTED.splitlines(keepends=True)
+        for number, line in enumerate(lines):
+            for other in ("", line.replace("1", "9").replace("0", "8") + "", line + line):
+                changed = "".join([*lines[:number], other, *lines[number + 1:]])
+                if changed != PRINTED:
+                    with self.assertRaises(Fault, msg=changed):
+                        picture.draw(RUN, changed, "run")
+        with self.assertRaises(Fault):
+            picture.draw("", "", "nothing")
+
+    @unittest.skipUnless(os.access(RINGCTL, os.X_OK), "there is no bin/ringctl")
+    def test_random_scripts(self) -> None:
+        many = "ring 2 lazy\n" + "".join(f"stand 1 red {term} 0\n" for term in range(1, 70)) + "flush 1\nflush 1\n"
+        for seed in range(300):
+            script = random_script(random.Random(seed)) if seed else many
+            ended = subprocess.run([RINGCTL], input=script, capture_output=True, text=True, check=True)
+            with self.subTest(seed=seed):
+                _, image = picture.draw(script, ended.stdout, f"seed {seed}")
+                xml.etree.ElementTree.fromstring(image)
+
+
+def random_script(rng: random.Random) -> str:
+    nodes = rng.randint(2, 5)
+    lines = [f"ring {nodes}{rng.choice(['', ' lazy', ' eager 4096'])}"]
+    for _ in range(rng.randint(5, 60)):
+        node, group, term = rng.randint(1, nodes), rng.choice(["red", "blue"]), rng.randint(1, 3)
+        lines.append(rng.choice([
+            f"stand {node} {group} {term} {rng.randrange(5)}", f"stand {node} {group} {term} {rng.randrange(5)}",
+            f"who {node} {group} {term}", f"latest {node} {group}", f"deliver {node} {rng.randrange(6)}",
+            f"deliver {node} {rng.randrange(3)}", f"credit {node} {rng.randrange(5)}", "deliver all", f"flush {node}",
+            f"flush {node}", f"crash {node}", f"stop {node} {rng.randint(1, 4)} {rng.choice(['old', 'new', 'fill 1'])}",
+            f"show {node}", f"stand {node} Red 1 1", "hello", "# a comment", "", f"deliver {nodes + 1} 0",
+        ]))
+    return "\n".join(lines) + rng.choice(["", "\n"])
+
+
+if __name__ == "__main__":
+    unittest.main()
