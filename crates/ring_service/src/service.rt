@@ -9,8 +9,8 @@ use sessions::Service;
 use std::sync::Wait;
 
 /// A service over a node that other threads use too. It stands by the hub, with a share of its own, and waits until the
-/// reply is released; it reads leaders from the board and waits for nobody. A Stand is refused as 9 where the hub is
-/// closed or has failed, as 6 and as 8; a read as 20 after the board's end.
+/// reply is released; it reads leaders from the board, whose reads take no handle to wait. A Stand is refused as 9 where
+/// the hub is closed or has failed, as 6 and as 8; a read as 20 after the board's end.
 #[derive(Drop)]
 pub struct HubService<'a, R, J: Naming, A: Node, D: Whole, C: Whole> {
     rt: &'a R,
