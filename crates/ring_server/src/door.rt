@@ -38,17 +38,31 @@ pub(crate) fn take_seats<J: Naming, A: Node, D: Whole, C: Whole, R: Wait>(
     Some(seats)
 }
 
-/// Sends again what the successor is not known to have taken.
-fn send_window<A: Node, D: Whole, C: Whole, R: Wait>(
+/// Sends all that the successor has not credited durably: before the node takes its first input of a run.
+pub(crate) fn send_window<A: Node, D: Whole, C: Whole, R: Wait>(
     rt: &R,
     hub: &Hub<A, D, C>,
     links: &Links<'_>,
 ) {
-    let Ok(packets) = hub.window(rt) else {
+    let Ok(window) = hub.window(rt) else {
         return;
     };
-    for packet in &packets {
-        links.send_again(rt, *packet);
+    for packet in &window {
+        links.send(rt, *packet);
+    }
+}
+
+/// Sends again what the successor may miss, if anything.
+fn send_what_may_miss<A: Node, D: Whole, C: Whole, R: Wait + Clock>(
+    rt: &R,
+    hub: &Hub<A, D, C>,
+    links: &Links<'_>,
+) {
+    if !links.may_have_lost(rt) {
+        return;
+    }
+    if let Ok(window) = hub.window(rt) {
+        links.send_again(rt, &window);
     }
 }
 
@@ -90,7 +104,7 @@ fn serve_turns<'a, J: Naming, A: Node, D: Whole, C: Whole, R: Wait + Clock>(
             // However a session ends, the next one is served.
             let _ = serve(alloc, &mut lines, &mut &stream, &mut service);
         }
-        send_window(rt, hub, links);
+        send_what_may_miss(rt, hub, links);
     }
     let (share, _reader, _last) = service.into_parts();
     share
@@ -113,7 +127,6 @@ pub(crate) fn serve_doors<
     doors: &Doors,
     links: &Links<'_>,
 ) -> Option<Vec<Share<A>>> {
-    send_window(rt, hub, links);
     let turns = AtomicU64::new(0);
     let turns = &turns;
     map_vec(

@@ -11,7 +11,7 @@ use std::sync::Wait;
 use std::time::{Clock, Duration};
 
 /// Flushes until the hub is closed and nothing waits, and sends what that releases. Where a growth is refused it tries
-/// again; whatever else is refused fails the node, so that nobody waits for ever. Whether it came to its end.
+/// again; whatever else is refused fails the node, which is told, so that nobody waits for ever. Whether it came to its end.
 pub(crate) fn flush_all<V: Device, J: Naming, A: Node, D: Whole, C: Whole, R: Wait + Clock>(
     rt: &R,
     hub: &Hub<A, D, C>,
@@ -33,5 +33,6 @@ pub(crate) fn flush_all<V: Device, J: Naming, A: Node, D: Whole, C: Whole, R: Wa
         }
     }
     hub.abandon(rt);
+    links.fail(rt);
     false
 }

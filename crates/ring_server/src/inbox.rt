@@ -93,7 +93,9 @@ fn take<A: Node, D: Whole, C: Whole, R: Wait>(
 ) {
     match packet {
         Packet::Carry { no, msg } => {
-            submit(rt, hub, intake, Request::Take(no, msg));
+            if !submit(rt, hub, intake, Request::Take(no, msg)) {
+                links.done();
+            }
         }
         Packet::Credit { upto } => {
             links.hear(upto);
@@ -151,15 +153,20 @@ fn release<A: Node, D: Whole, C: Whole, R: Wait>(
     ticket: Ticket,
     links: &Links<'_>,
 ) {
-    let question = ticket.question();
-    match hub.redeem_wait(rt, ticket) {
-        Ok((reply, _stub)) => {
-            if let (Request::Take(..), Reply::Refused(Refusal::Old(upto))) = (question, reply) {
-                links.send(rt, Packet::Credit { upto });
-            }
-        }
+    let is_message = matches!(ticket.question(), Request::Take(..));
+    let reply = match hub.redeem_wait(rt, ticket) {
+        Ok((reply, _stub)) => Some(reply),
         Err((ticket, _)) => {
             let _ = hub.forfeit(rt, ticket);
+            None
         }
+    };
+    if is_message {
+        match reply {
+            Some(Reply::Refused(Refusal::Old(upto))) => links.send(rt, Packet::Credit { upto }),
+            Some(Reply::Refused(Refusal::Full)) => links.fill(rt),
+            _ => {}
+        }
+        links.done();
     }
 }

@@ -13,10 +13,12 @@ mod node;
 mod open_node;
 mod pace;
 mod post;
+mod repeats;
 mod ring;
 mod ringd;
 mod run_fault;
 mod site;
+mod watch;
 
 pub use folder::{Folder, Unopened};
 pub use open_node::OpenNode;

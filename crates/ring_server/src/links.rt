@@ -2,15 +2,40 @@
 ghost use Rattle.std.specs.Prelude.{◌≤◌};
 
 use crate::post::Post;
+use crate::repeats::Repeats;
+use crate::watch::Watch;
 use ring_records::{NodeNo, Packet};
-use std::sync::Wait;
 use std::sync::atomic::{AtomicU64, Ordering};
+use std::sync::{Mutex, Wait};
+use std::time::{Clock, Instant};
 
-/// What a node's threads send by: its place in the ring, the letterboxes, and the greatest credit that its inbox heard.
+/// How many messages are sent again at once. So a letterbox has twice as many at most that were sent before.
+const AGAIN: usize = 1_024;
+
+/// What a node knows of its successor: the greatest credit that its inbox heard, and when messages were sent again.
+#[derive(Drop)]
+pub(crate) struct Successor {
+    heard: AtomicU64,
+    repeats: Mutex<Repeats>,
+}
+
+impl Successor {
+    /// Nothing is heard of it.
+    pub(crate) fn new() -> Successor {
+        Successor {
+            heard: AtomicU64::new(0),
+            repeats: Mutex::new(Repeats::new()),
+        }
+    }
+}
+
+/// What a node's threads send by and leave word at: its place in the ring, the letterboxes, what it knows of its
+/// successor, and the watch.
 #[derive(Clone, Copy)]
 pub(crate) struct Links<'a> {
     pub(crate) post: &'a Post,
-    pub(crate) heard: &'a AtomicU64,
+    pub(crate) watch: &'a Watch,
+    pub(crate) successor: &'a Successor,
     pub(crate) node: NodeNo,
     pub(crate) nodes: u8,
     ghost inside: { (node ≤ nodes) × (nodes ≤ 16) },
@@ -26,20 +51,58 @@ impl Links<'_> {
         self.post.send(rt, to, packet);
     }
 
+    /// The node has done with a message of its predecessor, however. The inbox alone calls it, once for each.
+    pub(crate) fn done(&self) {
+        self.post.done(self.node);
+    }
+
     /// Hears that the successor has so many messages, durably. The inbox alone calls it.
     pub(crate) fn hear(&self, upto: u64) {
-        if self.heard.load(Ordering::SeqCst) < upto {
-            self.heard.store(upto, Ordering::SeqCst);
+        if self.successor.heard.load(Ordering::SeqCst) < upto {
+            self.successor.heard.store(upto, Ordering::SeqCst);
         }
     }
 
-    /// Sends a packet of the node's window again, but no message that the successor is known to have, of which the node
-    /// may not have been told yet.
-    pub(crate) fn send_again<R: Wait>(&self, rt: &R, packet: Packet) {
-        match packet {
-            Packet::Carry { no, .. } if no < self.heard.load(Ordering::SeqCst) => {}
-            _ => self.send(rt, packet),
+    /// Whether a message may be lost, and is to be sent again: none waits at the successor, whose credit has stood
+    /// still for a while.
+    pub(crate) fn may_have_lost<R: Wait + Clock>(&self, rt: &R) -> bool {
+        if self.post.waits_at(self.node.successor(self.nodes)) {
+            return false;
         }
+        let Ok(now) = Instant::now(rt) else {
+            return false;
+        };
+        let heard = self.successor.heard.load(Ordering::SeqCst);
+        self.successor.repeats.lock(rt).are_due(now, heard)
+    }
+
+    /// Sends the first packets of the node's window again that the successor is not known to have; of what it is known
+    /// to have the node may not have been told yet.
+    pub(crate) fn send_again<R: Wait>(&self, rt: &R, window: &[Packet]) {
+        let heard = self.successor.heard.load(Ordering::SeqCst);
+        let mut left = AGAIN;
+        for packet in window {
+            if left == 0 {
+                break;
+            }
+            match *packet {
+                Packet::Carry { no, .. } if no < heard => {}
+                packet => {
+                    left -= 1;
+                    self.send(rt, packet);
+                }
+            }
+        }
+    }
+
+    /// The node has failed.
+    pub(crate) fn fail<R: Wait>(&self, rt: &R) {
+        self.watch.fail(rt, self.node);
+    }
+
+    /// The node refused a message for want of room.
+    pub(crate) fn fill<R: Wait>(&self, rt: &R) {
+        self.watch.fill(rt, self.node);
     }
 
     /// The node's door is done.

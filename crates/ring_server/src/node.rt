@@ -3,13 +3,14 @@ ghost use Rattle.std.specs.Prelude.{◌≡◌, ◌+◌, ◌-◌, ◌≤◌, fals
 ghost use denote.Param.Send.{IsSend};
 ghost use Rattle.commit_hub.specs.Pages.{places_of, ForAccepted, ForDurable, ForCosts, IsWhole};
 
-use crate::door::{Seat, serve_doors, take_seats};
+use crate::door::{Seat, send_window, serve_doors, take_seats};
 use crate::flush::flush_all;
 use crate::inbox::take_all;
-use crate::links::Links;
+use crate::links::{Links, Successor};
 use crate::open_node::OpenNode;
 use crate::post::Post;
 use crate::site::{Doors, Site};
+use crate::watch::Watch;
 use commit_hub::{Hub, Node, Share, Whole};
 use crossbeam_channel::Receiver;
 use decision_board::Naming;
@@ -20,7 +21,7 @@ use ring_service::{Flusher, opened_board};
 use std::alloc::Global;
 use std::net::TcpListener;
 use std::sync::Wait;
-use std::sync::atomic::{AtomicBool, AtomicU64, Ordering};
+use std::sync::atomic::{AtomicBool, Ordering};
 use std::thread::{Threads, join, scope, scope_env};
 use std::time::{Clock, Duration};
 
@@ -43,7 +44,7 @@ pub(crate) fn serve_node<
     C: Whole + Send + Sync,
     V: Device + Send + Drop,
     R: Threads + Wait + Clock + Sync,
->(rt: &R, site: Site<V>, post: &Post) -> Option<Shown>
+>(rt: &R, site: Site<V>, post: &Post, watch: &Watch) -> Option<Shown>
     requires member { site.opened.desk.member ≡ A.member }
     requires opened { length site.opened.desk.state.inputs ≡ A.opened }
     requires history { site.history ≡ J.book }
@@ -66,10 +67,11 @@ pub(crate) fn serve_node<
         desk,
         journal,
     } = opened;
-    let heard = AtomicU64::new(0);
+    let successor = Successor::new();
     let links = Links {
         post,
-        heard: &heard,
+        watch,
+        successor: &successor,
         node,
         nodes,
     };
@@ -184,6 +186,8 @@ fn run_ends<
         seats,
         doors,
     } = ends;
+    // No message of this run may come to the successor before these.
+    send_window(rt, hub, links);
     scope(
         scope_env(),
         rt,

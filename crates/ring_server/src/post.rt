@@ -5,9 +5,11 @@ use std::alloc::{AllocError, Global};
 use std::sync::atomic::{AtomicU64, Ordering};
 use std::sync::{Mutex, Wait};
 
+/// A node's letterbox, and how many messages were sent to it that it has not answered for yet.
 #[derive(Drop)]
 struct Letterbox {
     sender: Mutex<Option<Sender<Packet>>>,
+    waiting: AtomicU64,
 }
 
 /// Where packets are sent to. It alone holds senders, so that all letterboxes close at once: an inbox sends too, and
@@ -26,20 +28,49 @@ impl Post {
         for _ in 0..nodes {
             let (sender, receiver) = unbounded(alloc)?;
             let sender = Mutex::new(Some(sender));
-            boxes.push(Letterbox { sender })?;
+            let waiting = AtomicU64::new(0);
+            boxes.push(Letterbox { sender, waiting })?;
             receivers.push(receiver)?;
         }
         let doors = AtomicU64::new(u64::from(nodes));
         Ok((Post { boxes, doors }, receivers))
     }
 
-    /// Sends to a node. What finds no memory is lost, as is what comes after the last door.
+    fn letterbox(&self, node: NodeNo) -> Option<&Letterbox> {
+        self.boxes.get(usize::from(node.number()) - 1)
+    }
+
+    /// Sends to a node. What finds no memory is lost, as is what comes after the last door. A message waits there until
+    /// the node has done with it.
     pub fn send<R: Wait>(&self, rt: &R, node: NodeNo, packet: Packet) {
-        let Some(letterbox) = self.boxes.get(usize::from(node.number()) - 1) else {
+        let Some(letterbox) = self.letterbox(node) else {
             return;
         };
-        if let Some(sender) = letterbox.sender.lock(rt).as_ref() {
-            let _ = sender.send(rt, packet);
+        let waits = matches!(&packet, Packet::Carry { .. });
+        if waits {
+            letterbox.waiting.fetch_add(1, Ordering::SeqCst);
+        }
+        let is_sent = match letterbox.sender.lock(rt).as_ref() {
+            Some(sender) => sender.send(rt, packet).is_ok(),
+            None => false,
+        };
+        if waits && !is_sent {
+            self.done(node);
+        }
+    }
+
+    /// The node has done with a message that was sent to it: it took it or refused it, or the message is lost.
+    pub fn done(&self, node: NodeNo) {
+        if let Some(letterbox) = self.letterbox(node) {
+            letterbox.waiting.fetch_sub(1, Ordering::SeqCst);
+        }
+    }
+
+    /// Whether messages wait at the node.
+    pub fn waits_at(&self, node: NodeNo) -> bool {
+        match self.letterbox(node) {
+            Some(letterbox) => letterbox.waiting.load(Ordering::SeqCst) > 0,
+            None => false,
         }
     }
 

@@ -3,33 +3,53 @@ use crate::node::serve_node;
 use crate::post::Post;
 use crate::run_fault::RunFault;
 use crate::site::Site;
+use crate::watch::{News, Watch};
 use disk_model::Device;
-use ring_records::Shown;
+use ring_records::{NodeNo, Shown};
 use std::alloc::{AllocError, Global};
 use std::io::Write;
 use std::marker::Brand;
-use std::sync::Wait;
+use std::sync::{Arc, Wait};
 use std::thread;
 use std::thread::{JoinHandle, Threads};
 use std::time::Clock;
+
+/// What each node of a ring holds at the end, in their order, `None` where it failed.
+type Ends = Result<Vec<Option<Shown>>, AllocError>;
 
 // The ledgers of a node are picked here.
 fn one_node<V: Device + Send + Drop, R: Threads + Wait + Clock + Sync>(
     rt: &R,
     site: Site<V>,
     post: &Post,
+    watch: &Watch,
 ) -> Option<Shown> {
-    serve_node::<Brand, Brand, Brand, Brand, V, R>(rt, site, post)
+    serve_node::<Brand, Brand, Brand, Brand, V, R>(rt, site, post, watch)
 }
 
-/// Runs all nodes until the last door is done. Tells in their order what each holds then, `None` where it failed. All
-/// memory of its own is had before the first thread.
+/// Runs this node of the ring. However it fails, it is told.
+fn watched_node<V: Device + Send + Drop, R: Threads + Wait + Clock + Sync>(
+    rt: &R,
+    node: NodeNo,
+    site: Site<V>,
+    post: &Post,
+    watch: &Watch,
+) -> Option<Shown> {
+    let end = one_node(rt, site, post, watch);
+    if end.is_none() {
+        watch.fail(rt, node);
+    }
+    end
+}
+
+/// Runs all nodes until the last door is done. All memory of its own is had before the first thread.
 fn run_nodes<V: Device + Send + Drop, R: Threads + Wait + Clock + Sync>(
     rt: &R,
     alloc: Global,
     sites: Vec<Site<V>>,
     post: &Post,
-) -> Result<Vec<Option<Shown>>, AllocError> {
+    watch: &Watch,
+) -> Ends {
     let mut handles: Vec<Option<JoinHandle<Option<Shown>>>> = Vec::with_capacity(
         alloc,
         sites.len(),
@@ -37,9 +57,13 @@ fn run_nodes<V: Device + Send + Drop, R: Threads + Wait + Clock + Sync>(
     let mut ends: Vec<Option<Shown>> = Vec::with_capacity(alloc, sites.len())?;
     thread::scope(thread::scope_env(), rt, |scope| {
         for site in sites {
-            let started = scope.spawn(move || one_node(rt, site, post)).ok();
+            let node = site.node();
+            let started = scope
+                .spawn(move || watched_node(rt, node, site, post, watch))
+                .ok();
             if started.is_none() {
                 post.leave(rt);
+                watch.fail(rt, node);
             }
             if let Err(refused) = handles.push(started) {
                 drop(refused);
@@ -56,24 +80,31 @@ fn run_nodes<V: Device + Send + Drop, R: Threads + Wait + Clock + Sync>(
     Ok(ends)
 }
 
-/// Serves with all nodes of a ring until the last door is done, and gives the status: 0, or 1 where a node failed.
-/// Prints `serving` first, and at the end for each node in order what it holds, to `out`, or that it failed, to `err`.
-/// Refused where memory is wanting, or `out` does not take a line; no thread goes on then.
-pub fn serve_ring<V: Device + Send + Drop, R: Threads + Wait + Clock + Sync, O: Write, E: Write>(
-    rt: &R,
-    alloc: Global,
-    sites: Vec<Site<V>>,
-    post: &Post,
-    out: &mut O,
-    err: &mut E,
-) -> Result<u8, RunFault> {
-    if writeln!(out, "serving").is_err() || out.flush().is_err() {
-        return Err(RunFault::Output);
+/// Tells of nodes that fail or are full, until no node runs any more. Whether it is to end before: at the first node
+/// that fails, where that is asked for.
+fn tell_of_nodes<R: Wait, E: Write>(rt: &R, watch: &Watch, fail_stop: bool, err: &mut E) -> bool {
+    for _ in rt.forever() {
+        match watch.next(rt) {
+            News::Failed(node) => {
+                let _ = writeln!(err, "ringd: node {node} failed");
+                if fail_stop {
+                    return true;
+                }
+            }
+            News::Full(node) => {
+                let _ = writeln!(err, "ringd: node {node} full");
+            }
+            News::Ended => break,
+        }
     }
-    let ends = run_nodes(rt, alloc, sites, post)?;
+    false
+}
+
+/// Prints what each node holds. The status: 1 where one failed.
+fn print_ends<O: Write>(out: &mut O, ends: &[Option<Shown>]) -> Result<u8, RunFault> {
     let mut status = 0;
     let mut node = 0u8;
-    for end in &ends {
+    for end in ends {
         node = node.saturating_add(1);
         match end {
             Some(shown) => {
@@ -81,14 +112,51 @@ pub fn serve_ring<V: Device + Send + Drop, R: Threads + Wait + Clock + Sync, O: 
                     return Err(RunFault::Output);
                 }
             }
-            None => {
-                let _ = writeln!(err, "ringd: node {node} failed");
-                status = 1;
-            }
+            None => status = 1,
         }
     }
     if out.flush().is_err() {
         return Err(RunFault::Output);
     }
     Ok(status)
+}
+
+/// Serves with all nodes of a ring until the last door is done, and gives the status: 0, or 1 where a node failed.
+/// Prints `serving` first, and at the end for each node in order what it holds, to `out`; that a node has failed or is
+/// full once it is, to `err`. With `fail_stop` it ends with the first node that fails, and leaves the threads of the
+/// ring to the end of the program. Refused where memory or a thread is wanting, or `out` does not take a line; but for
+/// the last line no thread goes on then.
+pub fn serve_ring<
+    V: Device + Send + Drop + 'static,
+    R: Threads + Wait + Clock + Sync + Send + Copy + 'static,
+    O: Write,
+    E: Write,
+>(
+    rt: &R,
+    alloc: Global,
+    sites: Vec<Site<V>>,
+    post: Post,
+    fail_stop: bool,
+    out: &mut O,
+    err: &mut E,
+) -> Result<u8, RunFault> {
+    if writeln!(out, "serving").is_err() || out.flush().is_err() {
+        return Err(RunFault::Output);
+    }
+    let watch = Arc::new(alloc, Watch::new())?;
+    let theirs = Arc::try_clone(&watch)?;
+    let own = *rt;
+    let ring = thread::spawn(rt, move || {
+        let ends = run_nodes(&own, alloc, sites, &post, &theirs);
+        theirs.end(&own);
+        ends
+    });
+    let ring = match ring {
+        Ok(ring) => ring,
+        Err(_) => return Err(RunFault::Thread),
+    };
+    if tell_of_nodes(rt, &watch, fail_stop, err) {
+        return Ok(1);
+    }
+    print_ends(out, &ring.join(rt)?)
 }

@@ -35,6 +35,9 @@ where
     R: Threads
         + Wait
         + Sync
+        + Send
+        + Copy
+        + 'static
         + Clock
         + Files<File = File>
         + Net<Listener = TcpListener, Stream = TcpStream>,
@@ -71,6 +74,9 @@ where
     R: Threads
         + Wait
         + Sync
+        + Send
+        + Copy
+        + 'static
         + Clock
         + Files<File = File>
         + Net<Listener = TcpListener, Stream = TcpStream>,
@@ -146,6 +152,9 @@ where
     R: Threads
         + Wait
         + Sync
+        + Send
+        + Copy
+        + 'static
         + Clock
         + Files<File = File>
         + Net<Listener = TcpListener, Stream = TcpStream>,
@@ -162,7 +171,7 @@ where
     for ((opened, inbox), listener) in opened.into_iter().zip(inboxes).zip(listeners) {
         sites.push(Site::new(alloc, opened, inbox, listener, doors))?;
     }
-    serve_ring(rt, alloc, sites, &post, out, err)
+    serve_ring(rt, alloc, sites, post, false, out, err)
 }
 
 fn open_nodes<R: Files<File = File>>(

@@ -23,6 +23,9 @@ pub enum RunFault {
     /// A line was not printed.
     #[error("output cannot be written")]
     Output,
+    /// The system gave no thread.
+    #[error("no thread can be started")]
+    Thread,
     /// A growth was refused.
     #[error("out of memory")]
     Memory(#[from(alloc)] AllocError),

@@ -7,7 +7,7 @@ use commit_hub::Blanks;
 use crossbeam_channel::Receiver;
 use decision_board::Opened;
 use disk_model::Device;
-use ring_records::Packet;
+use ring_records::{NodeNo, Packet};
 use std::alloc::Global;
 use std::net::TcpListener;
 use std::time::Duration;
@@ -73,5 +73,10 @@ impl<V: Device> Site<V> {
             blanks: Blanks::new(doors.count + 1),
             history: Opened::new(),
         }
+    }
+
+    /// Which node it is.
+    pub(crate) fn node(&self) -> NodeNo {
+        self.opened.node
     }
 }

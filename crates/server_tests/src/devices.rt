@@ -45,6 +45,9 @@ fn serve_three<
     R: Threads
         + Wait
         + Sync
+        + Send
+        + Copy
+        + 'static
         + Clock
         + AllocGlobal
         + Net<Listener = TcpListener, Stream = TcpStream>,
@@ -63,7 +66,7 @@ fn serve_three<
             .push(Site::new(alloc, opened, inbox, listener, doors))
             .ok()?;
     }
-    let status = serve_ring(rt, alloc, sites, &post, &mut out, &mut err).ok()?;
+    let status = serve_ring(rt, alloc, sites, post, false, &mut out, &mut err).ok()?;
     Some((status, out, err))
 }
 

@@ -43,6 +43,9 @@ where
     R: Threads
         + Wait
         + Sync
+        + Send
+        + Copy
+        + 'static
         + Clock
         + Files<File = File>
         + Net<Listener = TcpListener, Stream = TcpStream>,

@@ -19,6 +19,9 @@ where
     R: Threads
         + Wait
         + Sync
+        + Send
+        + Copy
+        + 'static
         + Clock
         + Abort
         + AllocGlobal
@@ -37,6 +40,9 @@ where
     R: Threads
         + Wait
         + Sync
+        + Send
+        + Copy
+        + 'static
         + Clock
         + Abort
         + AllocGlobal
@@ -68,6 +74,9 @@ where
     R: Threads
         + Wait
         + Sync
+        + Send
+        + Copy
+        + 'static
         + Clock
         + Abort
         + AllocGlobal

@@ -72,6 +72,9 @@ where
     R: Threads
         + Wait
         + Sync
+        + Send
+        + Copy
+        + 'static
         + Clock
         + Abort
         + AllocGlobal
