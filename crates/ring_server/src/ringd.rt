@@ -92,7 +92,7 @@ where
         (false, None) => return Ok(0),
     };
     let doors = Doors::new(words.doors, sessions, words.idle);
-    serve(rt, alloc, &settings, doors, out, err)
+    serve(rt, alloc, &settings, doors, words.fail_stop, out, err)
 }
 
 /// The settings of a file, or of the input where the path is `-`.
@@ -139,12 +139,13 @@ fn print_settings<O: Write>(out: &mut O, settings: &Settings) -> io::Result<()> 
     out.flush()
 }
 
-/// Opens the nodes and then their doors, and serves.
+/// Opens the nodes and then their doors, and serves; with `fail_stop` until a node fails.
 fn serve<R, O: Write, E: Write>(
     rt: &R,
     alloc: Global,
     settings: &Settings,
     doors: Doors,
+    fail_stop: bool,
     out: &mut O,
     err: &mut E,
 ) -> Result<u8, RunFault>
@@ -171,7 +172,7 @@ where
     for ((opened, inbox), listener) in opened.into_iter().zip(inboxes).zip(listeners) {
         sites.push(Site::new(alloc, opened, inbox, listener, doors))?;
     }
-    serve_ring(rt, alloc, sites, post, false, out, err)
+    serve_ring(rt, alloc, sites, post, fail_stop, out, err)
 }
 
 fn open_nodes<R: Files<File = File>>(
