@@ -1,47 +1,118 @@
-// A ring of three of which one node's device fails.
+// A ring of three over devices in memory, of which one may fail.
 ghost use Rattle.std.specs.Prelude.{◌≤◌};
 
 use crate::clients::{answers, connect};
-use crate::programs::asks;
 use disk_model::{FuseDevice, MemDevice};
 use node_store::Node;
-use ring_records::NodeNo;
+use ring_records::{Bid, GroupName, Key, NodeNo, Refusal, Request, Term};
 use ring_server::{Doors, OpenNode, Post, Site, serve_ring};
-use std::alloc::{AllocGlobal, Global};
+use std::alloc::AllocGlobal;
+use std::io;
+use std::io::Write;
 use std::net::{Ipv4Addr, Net, TcpListener, TcpStream};
+use std::process::Abort;
 use std::sync::Wait;
+use std::sync::atomic::{AtomicU64, Ordering};
 use std::test::*;
-use std::thread::{Threads, join};
+use std::thread::Threads;
 use std::time::Clock;
 
-/// A new node of three, on a device that fails after so many calls.
-fn opened(alloc: Global, node: NodeNo, after: u64) -> Option<OpenNode<FuseDevice<MemDevice>>>
-    requires { node ≤ 3 }
-{
-    let device = FuseDevice::new(MemDevice::new(alloc, 8192).ok()?, after, false);
-    match Node::create(alloc, device, node, 3, 4096, 0) {
-        Ok(made) => Some(OpenNode::new(node, 3, made)),
-        Err((_device, _)) => None,
+/// How three nodes are served: from the port behind this one on, with so many bytes of capacity, for so many sessions
+/// each. Node 1 stood so often before, for `red`; node 2's device fails after so many calls.
+#[derive(Clone, Copy)]
+pub struct Served {
+    pub port: u16,
+    pub capacity: u32,
+    pub sessions: Option<u32>,
+    pub stood: u32,
+    pub fails_after: u64,
+    pub fail_stop: bool,
+}
+
+/// Standard error, of which another thread sees how long it is.
+#[derive(Drop)]
+struct Seen<'a> {
+    text: Vec<u8>,
+    len: &'a AtomicU64,
+}
+
+impl Write for Seen<'_> {
+    fn write(&mut self, bytes: &[u8]) -> io::Result<usize> {
+        self.text.extend_from_slice(bytes)?;
+        self.len.store(self.text.len() as u64, Ordering::SeqCst);
+        Ok(bytes.len())
+    }
+
+    fn flush(&mut self) -> io::Result<()> {
+        Ok(())
     }
 }
 
-/// Node 2's device fails within its 9th batch or before.
-fn site_of<R: AllocGlobal + Net<Listener = TcpListener, Stream = TcpStream>>(
+/// The Stand of node 1 for this term of `red`.
+fn stand(term: u32) -> Result<Request, Refusal> {
+    let group = GroupName::read(b"red")?;
+    let term = Term::new(term)?;
+    Ok(Request::Stand(Key { group, term }, Bid::new(10)?))
+}
+
+/// Has the node stand for terms 1 to `count`, durably.
+fn stand_before<R: Abort>(rt: &R, node: &mut Node<FuseDevice<MemDevice>>, count: u32) {
+    for term in 1..=count {
+        let question = stand(term).expect(rt, "a Stand");
+        let ticket = node.submit(question).expect(rt, "a ticket");
+        assert!(rt; node.flush().is_ok());
+        match node.redeem(ticket) {
+            Ok(_) => {}
+            Err((_ticket, refusal)) => panic!(rt; "{refusal}"),
+        }
+    }
+}
+
+/// A new node of three.
+fn opened<R: Abort + AllocGlobal>(
+    rt: &R,
+    node: NodeNo,
+    served: Served,
+) -> Option<OpenNode<FuseDevice<MemDevice>>>
+    requires { node ≤ 3 }
+{
+    let alloc = rt.alloc();
+    let fails_after = if node.number() == 2 {
+        served.fails_after
+    } else {
+        u64::MAX
+    };
+    let capacity = served.capacity.clamp(4096, 1 << 20);
+    let memory = MemDevice::new(alloc, 17 + capacity as usize).ok()?;
+    let device = FuseDevice::new(memory, fails_after, false);
+    let mut made = Node::create(alloc, device, node, 3, capacity, 0).ok()?;
+    if node.number() == 1 {
+        stand_before(rt, &mut made, served.stood);
+    }
+    if made.is_open() && made.open_tickets() == 0 {
+        Some(OpenNode::new(node, 3, made))
+    } else {
+        None
+    }
+}
+
+fn site_of<R: Abort + AllocGlobal + Net<Listener = TcpListener, Stream = TcpStream>>(
     rt: &R,
     number: u8,
-    port: u16,
+    served: Served,
 ) -> Option<(OpenNode<FuseDevice<MemDevice>>, TcpListener)> {
     let node = NodeNo::new(number).ok()?;
     if node.number() > 3 {
         return None;
     }
+    let port = served.port.saturating_add(u16::from(number));
     let listener = TcpListener::bind(rt, (Ipv4Addr::LOCALHOST, port)).ok()?;
-    let after = if number == 2 { 40 } else { 1_000_000 };
-    Some((opened(rt.alloc(), node, after)?, listener))
+    Some((opened(rt, node, served)?, listener))
 }
 
-/// Serves the three nodes, one session each, and gives the status and what was written.
-fn serve_three<
+/// Serves the three nodes, and gives the status and what was printed, to standard error last; how long that is stands
+/// in `len` meanwhile.
+pub fn serve_three<
     R: Threads
         + Wait
         + Sync
@@ -49,29 +120,34 @@ fn serve_three<
         + Copy
         + 'static
         + Clock
+        + Abort
         + AllocGlobal
         + Net<Listener = TcpListener, Stream = TcpStream>,
->(rt: &R, port: u16) -> Option<(u8, Vec<u8>, Vec<u8>)> {
+>(rt: &R, served: Served, len: &AtomicU64) -> Option<(u8, Vec<u8>, Vec<u8>)> {
     let alloc = rt.alloc();
     let mut out = Vec::new(alloc);
-    let mut err = Vec::new(alloc);
+    let mut err = Seen {
+        text: Vec::new(alloc),
+        len,
+    };
     let (post, inboxes) = Post::new(alloc, 3).ok()?;
     let mut sites = Vec::new(alloc);
     let mut number = 0u8;
     for inbox in inboxes {
         number = number.saturating_add(1);
-        let (opened, listener) = site_of(rt, number, port.saturating_add(u16::from(number)))?;
-        let doors = Doors::new(1, Some(1), 0);
+        let (opened, listener) = site_of(rt, number, served)?;
+        let doors = Doors::new(1, served.sessions, 0);
         sites
             .push(Site::new(alloc, opened, inbox, listener, doors))
             .ok()?;
     }
-    let status = serve_ring(rt, alloc, sites, post, false, &mut out, &mut err).ok()?;
-    Some((status, out, err))
+    let status = serve_ring(rt, alloc, sites, post, served.fail_stop, &mut out, &mut err).ok()?;
+    let Seen { text, len: _ } = err;
+    Some((status, out, text))
 }
 
 /// Stands for one term after the other until the node has failed. Whether it is told so, and asks on.
-fn stands_until_it_fails<R: AllocGlobal + Clock + Net<Stream = TcpStream>>(
+pub fn stands_until_it_fails<R: AllocGlobal + Clock + Net<Stream = TcpStream>>(
     rt: &R,
     port: u16,
 ) -> bool {
@@ -91,25 +167,13 @@ fn stands_until_it_fails<R: AllocGlobal + Clock + Net<Stream = TcpStream>>(
     false
 }
 
-#[test]
-fn one_node_of_three_fails(rt: HostRuntime) {
-    let rt = &rt;
-    let (told, ended) = join(
-        rt,
-        move || {
-            let fails = stands_until_it_fails(rt, 7173);
-            let stands = asks(rt, 7172, b"stand blue 7 7\n", b"stood");
-            asks(rt, 7174, b"latest green\n", b"none") && fails && stands
-        },
-        move || serve_three(rt, 7171),
-    );
-    assert!(rt; told);
-    match ended {
-        Some((status, out, err)) => {
-            assert_eq!(rt; status, 1);
-            assert!(rt; err.as_slice() == b"ringd: node 2 failed\n".as_slice());
-            assert!(rt; out.starts_with(b"serving\nnode 1 "));
+/// Waits until so many bytes are seen, at most five seconds.
+pub fn awaits<R: Clock>(rt: &R, len: &AtomicU64, count: u64) -> bool {
+    for _ in 0..5_000 {
+        if len.load(Ordering::SeqCst) >= count {
+            return true;
         }
-        None => panic!(rt; "not served"),
+        rt.sleep(std::time::Duration::from_millis(1));
     }
+    false
 }

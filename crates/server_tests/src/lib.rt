@@ -12,6 +12,8 @@ mod elections;
 #[cfg(test)]
 mod folders;
 #[cfg(test)]
+mod news;
+#[cfg(test)]
 mod programs;
 #[cfg(test)]
 mod refusals;
