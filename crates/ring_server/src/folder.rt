@@ -2,15 +2,17 @@
 ghost use Rattle.std.specs.Prelude.{◌≤◌};
 
 use crate::open_node::OpenNode;
-use disk_model::{Device, DeviceFault, FileDevice, OpenFault};
+use crate::unopened::{Answer, Place, Unopened};
+use disk_model::{Device, DeviceFault, FILE_LIMIT, FileDevice, OpenFault};
 use gated_journal::device_size;
 use node_store::Node;
-use ring_records::{Cause, NodeNo, Refusal};
+use ring_records::{NodeNo, Refusal};
 use std::alloc::{AllocError, Global};
-use std::fs::File;
-use std::io::ErrorKind;
+use std::fs::{File, OpenOptions};
+use std::io::{ErrorKind, Read};
+use std::os::unix::fs::FileExt;
 use std::rt::Files;
-use std::{fmt, fs, io};
+use std::{fs, io};
 
 /// How much of a new file is written at once.
 const PIECE: u64 = 1 << 12;
@@ -26,36 +28,23 @@ fn lengthen<V: Device>(device: &mut V, length: u64) -> Result<(), DeviceFault> {
     device.write_at(length - rest, &zeros[..rest as usize])
 }
 
-/// Why a node was not opened: the refusal of its journal or its desk, 15 with one failure where the system refused its
-/// file, and 8.
-#[derive(Clone, Copy, Debug)]
-pub struct Unopened(pub Refusal);
-
-impl fmt::Display for Unopened {
-    fn fmt<W: fmt::Write>(&self, f: &mut fmt::Formatter<W>) -> fmt::Result {
-        write!(f, "{}", Cause(self.0))
+/// What the system answers now of a file that could not be used: it is opened, locked, read and synced once more.
+fn read_again<R: Files<File = File>>(rt: &R, alloc: Global, path: &str) -> Result<(), Answer> {
+    let mut file = OpenOptions::new().read(true).write(true).open(rt, path)?;
+    file.try_lock()?;
+    if file.metadata()?.len() > FILE_LIMIT as u64 {
+        return Err(Answer::Error(ErrorKind::FileTooLarge));
     }
+    let mut bytes = Vec::new(alloc);
+    file.read_to_end(&mut bytes)?;
+    Ok(file.sync_all()?)
 }
 
-impl From<io::Error> for Unopened {
-    fn from(_: io::Error) -> Unopened {
-        Unopened(Refusal::Device(1))
-    }
-}
-
-impl From<AllocError> for Unopened {
-    fn from(_: AllocError) -> Unopened {
-        Unopened(Refusal::OutOfMemory)
-    }
-}
-
-impl From<OpenFault> for Unopened {
-    fn from(fault: OpenFault) -> Unopened {
-        Unopened(match fault {
-            OpenFault::Device => Refusal::Device(1),
-            OpenFault::Memory => Refusal::OutOfMemory,
-        })
-    }
+/// What the system answers now of a new file that could not be made: it is opened, grown and synced once more.
+fn grow_again<R: Files<File = File>>(rt: &R, path: &str, length: u64) -> Result<(), Answer> {
+    let file = OpenOptions::new().write(true).create(true).open(rt, path)?;
+    file.write_all_at(&[0; PIECE as usize], length)?;
+    Ok(file.sync_all()?)
 }
 
 /// A folder whose exclusive lock is held: nobody else who asks for it makes or opens nodes there.
@@ -68,10 +57,45 @@ pub struct Folder<'a> {
 impl<'a> Folder<'a> {
     /// The folder at this path. Refused where it is not there, or is in use.
     pub fn open<R: Files<File = File>>(rt: &R, path: &'a str) -> Result<Folder<'a>, Unopened> {
-        let file = File::open(rt, path)?;
+        let file = match File::open(rt, path) {
+            Ok(file) => file,
+            Err(error) => return Err(Unopened::at(Place::Folder, Answer::from(error))),
+        };
         match file.try_lock() {
             Ok(()) => Ok(Folder { path, file }),
-            Err(_) => Err(Unopened(Refusal::Device(1))),
+            Err(error) => Err(Unopened::at(Place::Folder, Answer::from(error))),
+        }
+    }
+
+    /// Whether `ring.made` is there: all nodes of a first start were made.
+    pub fn is_made<R: Files<File = File>>(&self, rt: &R, alloc: Global) -> Result<bool, Unopened> {
+        let path = format!(in alloc; "{}/ring.made", self.path)?;
+        match fs::exists(rt, path.as_str()) {
+            Ok(is_made) => Ok(is_made),
+            Err(error) => Err(Unopened::at(Place::Mark, Answer::from(error))),
+        }
+    }
+
+    /// Makes `ring.made`, which is there for good then.
+    pub fn mark_made<R: Files<File = File>>(&self, rt: &R, alloc: Global) -> Result<(), Unopened> {
+        let path = format!(in alloc; "{}/ring.made", self.path)?;
+        match File::create(rt, path.as_str()) {
+            Ok(_) => self.sync(),
+            Err(error) => Err(Unopened::at(Place::Mark, Answer::from(error))),
+        }
+    }
+
+    /// Whether the file `node-I.crj` is there.
+    pub fn has_node<R: Files<File = File>>(
+        &self,
+        rt: &R,
+        alloc: Global,
+        node: NodeNo,
+    ) -> Result<bool, Unopened> {
+        let path = format!(in alloc; "{}/node-{node}.crj", self.path)?;
+        match fs::exists(rt, path.as_str()) {
+            Ok(is_there) => Ok(is_there),
+            Err(error) => Err(Unopened::at(Place::Journal, Answer::from(error))),
         }
     }
 
@@ -87,14 +111,22 @@ impl<'a> Folder<'a> {
         requires { (node ≤ nodes) × (nodes ≤ 16) }
     {
         let path = format!(in alloc; "{}/node-{node}.crj", self.path)?;
-        if !fs::exists(rt, path.as_str())? {
+        if !self.has_node(rt, alloc, node)? {
             return self.make(rt, alloc, path.as_str(), node, nodes, capacity);
         }
-        let device = FileDevice::open(alloc, rt, path.as_str())?;
-        match Node::recover(alloc, device, node, nodes, 0) {
-            Ok(made) => Ok(OpenNode::new(node, nodes, made)),
-            Err((_device, refusal)) => Err(Unopened(refusal)),
-        }
+        let refusal = match FileDevice::open(alloc, rt, path.as_str()) {
+            Err(OpenFault::Memory) => return Err(Unopened::from(AllocError)),
+            Err(OpenFault::Device) => Refusal::Device(1),
+            Ok(device) => match Node::recover(alloc, device, node, nodes, 0) {
+                Ok(made) => return Ok(OpenNode::new(node, nodes, made)),
+                Err((_device, refusal)) => refusal,
+            },
+        };
+        let again = match refusal {
+            Refusal::Device(_) => read_again(rt, alloc, path.as_str()),
+            _ => Ok(()),
+        };
+        Err(Unopened::because(refusal, Place::Journal, again))
     }
 
     /// A new node. Its file has its full length, and its name only once it is formatted and synced, so that a stop at
@@ -111,22 +143,53 @@ impl<'a> Folder<'a> {
         requires { (node ≤ nodes) × (nodes ≤ 16) }
     {
         let new = format!(in alloc; "{path}.new")?;
-        match fs::remove_file(rt, new.as_str()) {
-            Ok(()) => {}
-            Err(error) if error.kind() == ErrorKind::NotFound => {}
-            Err(error) => return Err(Unopened::from(error)),
-        }
-        let mut device = FileDevice::create(alloc, rt, new.as_str())?;
-        if lengthen(&mut device, device_size(capacity)).is_err() {
-            return Err(Unopened(Refusal::Device(device.failures())));
-        }
-        match Node::create(alloc, device, node, nodes, capacity, 0) {
-            Err((_device, refusal)) => Err(Unopened(refusal)),
-            Ok(made) => {
-                fs::rename(rt, new.as_str(), path)?;
-                self.file.sync_all()?;
-                Ok(OpenNode::new(node, nodes, made))
+        remove(rt, new.as_str())?;
+        let refusal = match FileDevice::create(alloc, rt, new.as_str()) {
+            Err(OpenFault::Memory) => return Err(Unopened::from(AllocError)),
+            Err(OpenFault::Device) => Refusal::Device(1),
+            Ok(mut device) => {
+                if lengthen(&mut device, device_size(capacity)).is_err() {
+                    Refusal::Device(device.failures())
+                } else {
+                    match Node::create(alloc, device, node, nodes, capacity, 0) {
+                        Err((_device, refusal)) => refusal,
+                        Ok(made) => {
+                            self.name(rt, new.as_str(), path)?;
+                            return Ok(OpenNode::new(node, nodes, made));
+                        }
+                    }
+                }
             }
+        };
+        let again = match refusal {
+            Refusal::Device(_) => grow_again(rt, new.as_str(), device_size(capacity)),
+            _ => Ok(()),
+        };
+        Err(Unopened::because(refusal, Place::New, again))
+    }
+
+    /// Gives a new file its name, for good.
+    fn name<R: Files<File = File>>(&self, rt: &R, new: &str, path: &str) -> Result<(), Unopened> {
+        match fs::rename(rt, new, path) {
+            Ok(()) => self.sync(),
+            Err(error) => Err(Unopened::at(Place::New, Answer::from(error))),
         }
+    }
+
+    /// The names in the folder are there for good.
+    fn sync(&self) -> Result<(), Unopened> {
+        match self.file.sync_all() {
+            Ok(()) => Ok(()),
+            Err(error) => Err(Unopened::at(Place::Folder, Answer::from(error))),
+        }
+    }
+}
+
+/// There is no such file then.
+fn remove<R: Files<File = File>>(rt: &R, path: &str) -> Result<(), Unopened> {
+    match fs::remove_file(rt, path) {
+        Ok(()) => Ok(()),
+        Err(error) if error.kind() == ErrorKind::NotFound => Ok(()),
+        Err(error) => Err(Unopened::at(Place::New, Answer::from(error))),
     }
 }

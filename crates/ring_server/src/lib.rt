@@ -18,12 +18,14 @@ mod ring;
 mod ringd;
 mod run_fault;
 mod site;
+mod unopened;
 mod watch;
 
-pub use folder::{Folder, Unopened};
+pub use folder::Folder;
 pub use open_node::OpenNode;
 pub use post::Post;
 pub use ring::serve_ring;
 pub use ringd::start;
 pub use run_fault::RunFault;
 pub use site::{Doors, Site};
+pub use unopened::{Answer, Place, Unopened};

@@ -8,8 +8,9 @@ use crate::post::Post;
 use crate::ring::serve_ring;
 use crate::run_fault::RunFault;
 use crate::site::{Doors, Site};
+use crate::unopened::Unopened;
 use disk_model::FileDevice;
-use ring_records::NodeNo;
+use ring_records::{NodeNo, Refusal};
 use ring_service::{Settings, Words, read_settings, read_words};
 use std::alloc::{AllocError, Global};
 use std::fs::File;
@@ -92,7 +93,14 @@ where
         (false, None) => return Ok(0),
     };
     let doors = Doors::new(words.doors, sessions, words.idle);
-    serve(rt, alloc, &settings, doors, words.fail_stop, out, err)
+    match serve(rt, alloc, &settings, words, doors, out, err) {
+        Ok(status) => Ok(status),
+        Err(fault) => {
+            let _ = writeln!(err, "ringd: {fault}");
+            let _ = fault.print_answer(err, settings.dir.as_str());
+            Ok(fault.status())
+        }
+    }
 }
 
 /// The settings of a file, or of the input where the path is `-`.
@@ -144,8 +152,8 @@ fn serve<R, O: Write, E: Write>(
     rt: &R,
     alloc: Global,
     settings: &Settings,
+    words: &Words<'_>,
     doors: Doors,
-    fail_stop: bool,
     out: &mut O,
     err: &mut E,
 ) -> Result<u8, RunFault>
@@ -165,14 +173,61 @@ where
         Ok(folder) => folder,
         Err(why) => return Err(RunFault::Node(NodeNo::first(), why)),
     };
-    let opened = open_nodes(rt, alloc, &folder, settings)?;
+    let opened = open_ring(rt, alloc, &folder, settings, words.existing)?;
     let listeners = listen(rt, alloc, settings)?;
     let (post, inboxes) = Post::new(alloc, settings.nodes)?;
     let mut sites = Vec::new(alloc);
     for ((opened, inbox), listener) in opened.into_iter().zip(inboxes).zip(listeners) {
         sites.push(Site::new(alloc, opened, inbox, listener, doors))?;
     }
-    serve_ring(rt, alloc, sites, post, fail_stop, out, err)
+    serve_ring(rt, alloc, sites, post, words.fail_stop, out, err)
+}
+
+/// All nodes of the ring. Each has to be there already where they were all made once, or where `existing` says so: then
+/// nothing is made or changed where one is not.
+fn open_ring<R: Files<File = File>>(
+    rt: &R,
+    alloc: Global,
+    folder: &Folder<'_>,
+    settings: &Settings,
+    existing: bool,
+) -> Result<Vec<OpenNode<FileDevice>>, RunFault> {
+    let is_made = match folder.is_made(rt, alloc) {
+        Ok(is_made) => is_made,
+        Err(why) => return Err(RunFault::Node(NodeNo::first(), why)),
+    };
+    if is_made || existing {
+        look_for_nodes(rt, alloc, folder, settings)?;
+    }
+    let opened = open_nodes(rt, alloc, folder, settings)?;
+    if !is_made {
+        if let Err(why) = folder.mark_made(rt, alloc) {
+            return Err(RunFault::Node(NodeNo::first(), why));
+        }
+    }
+    Ok(opened)
+}
+
+/// Refused where a node has no file.
+fn look_for_nodes<R: Files<File = File>>(
+    rt: &R,
+    alloc: Global,
+    folder: &Folder<'_>,
+    settings: &Settings,
+) -> Result<(), RunFault> {
+    for number in 1..=settings.nodes {
+        let Ok(node) = NodeNo::new(number) else {
+            break;
+        };
+        match folder.has_node(rt, alloc, node) {
+            Ok(true) => {}
+            Ok(false) => {
+                return Err(RunFault::Node(node, Unopened::new(Refusal::NotFormatted)));
+            }
+            Err(why) => return Err(RunFault::Node(node, why)),
+        }
+    }
+    Ok(())
 }
 
 fn open_nodes<R: Files<File = File>>(

@@ -1,8 +1,10 @@
 //! What ends a run of `ringd` before its end.
-use crate::folder::Unopened;
+use crate::unopened::Unopened;
 use ring_records::NodeNo;
 use ring_service::StartFault;
 use std::alloc::AllocError;
+use std::io;
+use std::io::Write;
 use thiserror::Error;
 
 /// Why a run ended early, displayed without the program's name.
@@ -17,6 +19,9 @@ pub enum RunFault {
     /// A node was not opened.
     #[error("node {0}: {1}")]
     Node(NodeNo, Unopened),
+    /// The histories of two nodes are not of one time.
+    #[error("nodes {0} and {1} do not fit")]
+    Apart(NodeNo, NodeNo),
     /// A node's port is in use, or not to be had.
     #[error("port {0} cannot be used")]
     Port(u16),
@@ -32,6 +37,14 @@ pub enum RunFault {
 }
 
 impl RunFault {
+    /// A line of what the system answered, where a node of this folder was not opened for that.
+    pub(crate) fn print_answer<E: Write>(&self, err: &mut E, dir: &str) -> io::Result<()> {
+        match self {
+            RunFault::Node(node, why) => why.print(err, dir, *node),
+            _ => Ok(()),
+        }
+    }
+
     /// The status that the program ends with: 2 where the settings are at fault.
     pub fn status(&self) -> u8 {
         match self {

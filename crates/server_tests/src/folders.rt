@@ -12,11 +12,18 @@ fn a_kill_at_each_step_of_the_first_start(rt: HostRuntime) -> Result<(), Fail> {
     // no file
     anew(&rt, "killed");
     serves(&rt, settings, 7151, b"stand red 5 10\n", b"stood");
+    // all files, and no word that they are
+    assert!(rt; fs::exists(&rt, "killed/ring.made")?);
+    fs::remove_file(&rt, "killed/ring.made")?;
+    serves(&rt, settings, 7151, b"stand red 5 10\n", b"no 3 already 10");
+    assert!(rt; fs::exists(&rt, "killed/ring.made")?);
     // an empty file of the first name, and a formatted node whose file has its name
+    fs::remove_file(&rt, "killed/ring.made")?;
     fs::rename(&rt, "killed/node-2.crj", "killed/whole")?;
     fs::write(&rt, "killed/node-2.crj.new", b"".as_slice())?;
     serves(&rt, settings, 7151, b"stand red 5 10\n", b"no 3 already 10");
     // a formatted one of the first name
+    fs::remove_file(&rt, "killed/ring.made")?;
     fs::remove_file(&rt, "killed/node-2.crj")?;
     fs::rename(&rt, "killed/whole", "killed/node-2.crj.new")?;
     serves(&rt, settings, 7151, b"stand red 5 10\n", b"no 3 already 10");
@@ -37,15 +44,19 @@ fn journals_that_are_refused(rt: HostRuntime) -> Result<(), Fail> {
     {
         let file = File::open(&rt, "refused/node-2.crj")?;
         assert!(rt; file.try_lock().is_ok());
-        ends(&rt, &SERVE, settings, 1, b"ringd: node 2: device 1\n");
+        let text = b"ringd: node 2: device 1\nringd: refused/node-2.crj: in use\n";
+        ends(&rt, &SERVE, settings, 1, text);
     }
     {
         let folder = File::open(&rt, "refused")?;
         assert!(rt; folder.try_lock().is_ok());
-        ends(&rt, &SERVE, settings, 1, b"ringd: node 1: device 1\n");
+        let text = b"ringd: node 1: device 1\nringd: refused: in use\n";
+        ends(&rt, &SERVE, settings, 1, text);
     }
     // another ring's, and another node's
     let other = b"nodes = 3\ndir = \"refused\"\nport = 7155\n";
+    ends(&rt, &SERVE, other, 1, b"ringd: node 3: unformatted\n");
+    fs::remove_file(&rt, "refused/ring.made")?;
     ends(&rt, &SERVE, other, 1, b"ringd: node 1: wrongnode\n");
     fs::rename(&rt, "refused/node-2.crj", "refused/held")?;
     fs::rename(&rt, "refused/node-1.crj", "refused/node-2.crj")?;
@@ -64,5 +75,66 @@ fn journals_that_are_refused(rt: HostRuntime) -> Result<(), Fail> {
     )?;
     ends(&rt, &SERVE, settings, 1, b"ringd: node 1: damaged 16\n");
     fs::remove_dir_all(&rt, "refused")?;
+    Ok(())
+}
+
+#[test]
+fn a_node_that_is_gone(rt: HostRuntime) -> Result<(), Fail> {
+    let settings = b"nodes = 2\ndir = \"gone\"\nport = 7161\n".as_slice();
+    anew(&rt, "gone");
+    serves(&rt, settings, 7161, b"stand red 5 10\n", b"stood");
+    fs::rename(&rt, "gone/node-2.crj", "gone/held")?;
+    ends(&rt, &SERVE, settings, 1, b"ringd: node 2: unformatted\n");
+    assert!(rt; !fs::exists(&rt, "gone/node-2.crj")?);
+    assert!(rt; !fs::exists(&rt, "gone/node-2.crj.new")?);
+    fs::rename(&rt, "gone/node-1.crj", "gone/other")?;
+    ends(&rt, &SERVE, settings, 1, b"ringd: node 1: unformatted\n");
+    assert!(rt; !fs::exists(&rt, "gone/node-1.crj")?);
+    fs::rename(&rt, "gone/other", "gone/node-1.crj")?;
+    fs::rename(&rt, "gone/held", "gone/node-2.crj")?;
+    serves(&rt, settings, 7161, b"stand red 5 10\n", b"no 3 already 10");
+    fs::remove_dir_all(&rt, "gone")?;
+    Ok(())
+}
+
+#[test]
+fn nodes_that_have_to_be_there(rt: HostRuntime) -> Result<(), Fail> {
+    let settings = b"nodes = 2\ndir = \"existing\"\nport = 7165\n".as_slice();
+    let words = ["ringd", "--existing", "--serve", "1"];
+    anew(&rt, "existing");
+    ends(&rt, &words, settings, 1, b"ringd: node 1: unformatted\n");
+    assert!(rt; fs::read_dir(&rt, "existing")?.next().is_none());
+    serves(&rt, settings, 7165, b"stand red 5 10\n", b"stood");
+    fs::remove_file(&rt, "existing/ring.made")?;
+    fs::remove_file(&rt, "existing/node-2.crj")?;
+    ends(&rt, &words, settings, 1, b"ringd: node 2: unformatted\n");
+    assert!(rt; !fs::exists(&rt, "existing/node-2.crj")?);
+    assert!(rt; !fs::exists(&rt, "existing/ring.made")?);
+    fs::remove_dir_all(&rt, "existing")?;
+    Ok(())
+}
+
+#[test]
+fn what_the_system_answered(rt: HostRuntime) -> Result<(), Fail> {
+    let settings = b"nodes = 2\ndir = \"answers\"\nport = 7167\n".as_slice();
+    anew(&rt, "answers");
+    // a folder where a file is to be, old and new
+    fs::create_dir(&rt, "answers/node-1.crj")?;
+    let text = b"ringd: node 1: device 1\nringd: answers/node-1.crj: is a directory\n";
+    ends(&rt, &SERVE, settings, 1, text);
+    fs::remove_dir(&rt, "answers/node-1.crj")?;
+    fs::create_dir(&rt, "answers/node-1.crj.new")?;
+    let text = b"ringd: node 1: device 1\nringd: answers/node-1.crj.new: is a directory\n";
+    ends(&rt, &SERVE, settings, 1, text);
+    fs::remove_dir(&rt, "answers/node-1.crj.new")?;
+    // one in place of ring.made
+    fs::create_dir(&rt, "answers/ring.made")?;
+    ends(&rt, &SERVE, settings, 1, b"ringd: node 1: unformatted\n");
+    fs::remove_dir_all(&rt, "answers")?;
+    // a file in place of the folder
+    fs::write(&rt, "answers", b"".as_slice())?;
+    let text = b"ringd: node 1: device 1\nringd: answers/ring.made: not a directory\n";
+    ends(&rt, &SERVE, settings, 1, text);
+    fs::remove_file(&rt, "answers")?;
     Ok(())
 }

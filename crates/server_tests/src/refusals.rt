@@ -107,7 +107,8 @@ fn words(rt: HostRuntime) {
 fn no_folder_and_a_port_in_use(rt: HostRuntime) -> Result<(), Fail> {
     let serve = ["ringd", "--serve", "1"];
     let text = b"nodes = 3\ndir = \"no-such-folder\"\nport = 7141\n";
-    ends(&rt, &serve, text, 1, b"ringd: node 1: device 1\n");
+    let none = b"ringd: node 1: device 1\nringd: no-such-folder: entity not found\n";
+    ends(&rt, &serve, text, 1, none);
     anew(&rt, "in-use");
     let text = b"nodes = 2\ndir = \"in-use\"\nport = 7143\n".as_slice();
     {
