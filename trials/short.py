@@ -1,10 +1,10 @@
 #!/usr/bin/env python3
 """short.py [--ringd PATH] [--folder PATH] [--nodes N] [--doors D] [--clients C] [--seconds S] [--stands K] [--sync-ms M]
 
-Loads a ring by `ringd` with sessions of one Stand each, by C clients at every node side by side, for S seconds or until each node has K
-Stands, and tells what memory the server took at most, and how long an election takes: at rest before, right behind the load, and once
-the ring has come to rest again. A session's end is where a node may send messages again, so such sessions would show letterboxes that
-grow, and elections that wait behind what lies in them.
+Loads a ring by `ringd` with sessions of one line each, by C clients at every node side by side, for S seconds: Stands, until each node
+has K of them, and then questions. Tells what memory the server took at most, and how long an election takes: at rest before, right
+behind the load, and once the ring has come to rest again. A session's end is where a node may send messages again, so such sessions
+would show letterboxes that grow, and elections that wait behind what lies in them.
 
   --ringd PATH   the server, `bin/ringd` by default.
   --folder PATH  where the files are made, the current folder by default.
@@ -62,27 +62,26 @@ def exchange(port: int, lines: str) -> str:
 
 
 def client(port: int, group: str, stands: int, until: float, told: list[int]) -> None:
-    """Stands for one term after the other, a session each."""
-    for term in range(1, stands + 1):
-        if time.monotonic() > until:
-            return
+    """Stands for one term after the other, a session each, and then asks. Counts Stands and sessions."""
+    while time.monotonic() < until:
+        line = f"stand {group} {told[0] + 1} 1\n" if told[0] < stands else f"latest {group}\n"
         try:
-            if exchange(port, f"stand {group} {term} 1\n").startswith("stood\n"):
-                told[0] += 1
+            told[0] += exchange(port, line).startswith("stood\n")
+            told[1] += 1
         except OSError:
             time.sleep(0.01)
 
 
 def clients(port: int, node: int, count: int, stands: int, until: float, answers: multiprocessing.Queue) -> None:
-    """So many clients of a node, each in a thread and with a group of its own. Puts how many Stands were answered `stood`."""
-    told = [[0] for _ in range(count)]
+    """So many clients of a node, each in a thread and with a group of its own. Puts the counts of Stands and sessions."""
+    told = [[0, 0] for _ in range(count)]
     threads = [threading.Thread(target=client, args=(port, f"g{node}-{place}", stands // count, until, told[place]))
                for place in range(count)]
     for thread in threads:
         thread.start()
     for thread in threads:
         thread.join()
-    answers.put(sum(some[0] for some in told))
+    answers.put([sum(counts) for counts in zip(*told)])
 
 
 def election(port: int, nodes: int, name: str) -> float:
@@ -126,15 +125,14 @@ def measure(words: argparse.Namespace, server: int, port: int) -> bool:
                                                            begun + words.seconds, answers)) for node in range(words.nodes)]
     for work in works:
         work.start()
-    stood = sum(answers.get() for _ in works)
+    stood, sessions = (sum(counts) for counts in zip(*(answers.get() for _ in works)))
     for work in works:
         work.join()
-    took = time.monotonic() - begun
     behind = [election(port, words.nodes, f"behind{place}") for place in range(ELECTIONS)]
     rests(server)
     after = [election(port, words.nodes, f"after{place}") for place in range(ELECTIONS)]
     most = peak(server)
-    print(f"stood {stood} in {took:.1f} s, memory at most {most:.0f} MiB")
+    print(f"{sessions} sessions in {words.seconds} s, {stood} of them Stands, memory at most {most:.0f} MiB")
     for name, times in (("before", before), ("right behind", behind), ("at rest again", after)):
         print(f"election {name}: {1000 * statistics.median(times):.0f} ms, the first {1000 * times[0]:.0f} ms")
     is_quick = statistics.median(behind) <= 2 * statistics.median(before) + SLACK
@@ -171,7 +169,7 @@ def main() -> int:
     parser.add_argument("--ringd", default="bin/ringd")
     parser.add_argument("--folder", default=".")
     for name, default, least, most in (("nodes", 16, 2, 16), ("doors", 8, 1, 32), ("clients", 8, 1, 64), ("seconds", 10, 1, 60),
-                                       ("stands", 900, 1, 990), ("sync-ms", 0, 0, 100)):
+                                       ("stands", 200, 1, 990), ("sync-ms", 0, 0, 100)):
         parser.add_argument(f"--{name}", type=int, default=default, choices=range(least, most + 1), metavar=f"{least}..{most}")
     words = parser.parse_args()
     folder = tempfile.mkdtemp(prefix="short-", dir=words.folder)
