@@ -9,6 +9,7 @@ mod flush;
 mod folder;
 mod inbox;
 mod links;
+mod look_over;
 mod node;
 mod open_node;
 mod pace;

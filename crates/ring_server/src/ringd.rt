@@ -3,6 +3,7 @@ ghost use Rattle.std.specs.Prelude.{◌≡◌, ◌≤◌, IfOk};
 ghost use Rattle.ring_service.specs.Words.{IsIn};
 
 use crate::folder::Folder;
+use crate::look_over::look_over;
 use crate::open_node::OpenNode;
 use crate::post::Post;
 use crate::ring::serve_ring;
@@ -200,6 +201,7 @@ fn open_ring<R: Files<File = File>>(
         look_for_nodes(rt, alloc, folder, settings)?;
     }
     let opened = open_nodes(rt, alloc, folder, settings)?;
+    look_over(alloc, &opened)?;
     if !is_made {
         if let Err(why) = folder.mark_made(rt, alloc) {
             return Err(RunFault::Node(NodeNo::first(), why));

@@ -11,6 +11,7 @@ use Rattle.ring_records.specs.declared.msg.Msg.{Msg}
 use Rattle.ring_records.specs.Admission.{fresh, IsAdmitted, IsInTurn, IsLawful}
 use Rattle.ring_records.specs.Answer.{NodeState, durable_in}
 use Rattle.ring_records.specs.Emission.{sent}
+use Rattle.ring_records.specs.Fitting.{LinkFits}
 use Rattle.ring_records.specs.History.{upto_of, message_of, taken, credit}
 use Rattle.ring_records.specs.Member.{member, IsHistory}
 use Rattle.ring_records.specs.Place.{after, before}
@@ -130,6 +131,26 @@ module _ (n capacity : ℕ) (events : List (ℕ × Action)) (schedule : IsSchedu
   carried_credit : (upto : ℕ) → IsCarried n run i (Acked upto) → upto ≤ length (taken (part run (after n i)))
   unfolding IsCarried
   carried_credit upto e = e
+
+  -- node i is credited no more than its successor took
+  credited_taken : (h : List Input) → ((x : Input) → Contains h x → IsCarried n run i x) → credit h ≤ length (taken (part run (after n i)))
+  credited_taken h carried = elim (credit_from h) [
+    | inl e ↦ omega arith
+    | inr there ↦ carried_credit (credit h) (carried (Acked (credit h)) there)
+  ]
+
+  -- the link from node i fits
+  pub link_fits : LinkFits i (durable_in (at i)) (durable_in (at (after n i)))
+  link_fits =
+      let holds = schedule_holds n capacity events schedule in
+      let own = durable_is i in
+      let next = durable_is (after n i) in
+      let all = taken_sent in
+      let few = credited_taken (durable_in (at i)) (λ x there. holds.carried i x (front (at i).durable (at i).inputs x there)) in
+      record {
+        credited = subst (λ (h : List Input). credit (durable_in (at i)) ≤ length (taken h)) next few;
+        sent = subst (λ (h : List Input). length (taken h) ≤ length (sent i (durable_in (at i)))) next (subst (λ (h : List Input). length (taken (part run (after n i))) ≤ length (sent i h)) own all);
+      }
 
   -- no more messages of node i are credited to it than its durable inputs sent
   pub credited : credit (at i).inputs ≤ length (sent i (durable_in (at i)))

@@ -1,5 +1,5 @@
 -- What was handed out stays, and names one leader.
-use Rattle.std.proofs.Common.{ℕ, ◌≡◌, ◌≢◌, ◌≤◌, true, List, [], ◌∷◌, ◌++◌, length, take, drop, Option, Some, None, sym, ap, ◌∙◌, subst, inl, inr, arith}
+use Rattle.std.proofs.Common.{ℕ, ◌≡◌, ◌≢◌, ◌≤◌, true, List, [], ◌∷◌, ◌++◌, length, take, drop, Option, Some, None, sym, ap, ◌∙◌, subst, inl, inr, arith, append-nil}
 use Rattle.std.specs.List.{Contains}
 use Rattle.std.proofs.lemmas.List.{length-append, length-take-le, take-append-le, take-append-drop, take-take}
 use Rattle.std.proofs.lemmas.Option.{same_Some}
@@ -11,7 +11,8 @@ use Rattle.ring_records.specs.declared.reply.Reply.TheVariants as say
 use Rattle.ring_records.specs.declared.request.Request.{Request}
 use Rattle.ring_records.specs.declared.request.Request.TheVariants as ask
 use Rattle.ring_records.specs.Admission.{Base, fresh}
-use Rattle.ring_records.specs.Answer.{Answer, reply, NodeState}
+use Rattle.ring_records.specs.Answer.{Answer, reply, NodeState, durable_in}
+use Rattle.ring_records.specs.Fitting.{RingFits}
 use Rattle.ring_records.specs.Leader.{leader, latest}
 use Rattle.ring_records.specs.Lists.{joined_after}
 use Rattle.ring_records.specs.Order.{is_less}
@@ -24,6 +25,7 @@ use Rattle.ring_world.specs.Committed.{committed_by, committed}
 use Rattle.ring_world.specs.Events.{Thing, Replied, Sent, Shown, Rests, Action, Release, state_after, IsDurable, process, IsReleasable, May, MayHappen, IsSchedule}
 use Rattle.ring_world.specs.Released.{IsKept, named_by, named, IsAnnounced}
 use Rattle.ring_world.proofs.Chain.{agree, stands, greatest}
+use Rattle.ring_world.proofs.Credits.{link_fits}
 use Rattle.ring_world.proofs.Runs.{part-append}
 use Rattle.ring_world.proofs.Schedules.{Holds, schedule_holds}
 
@@ -100,6 +102,16 @@ committed_legal n capacity events s = (schedule_holds n capacity events s).legal
 
 pub committed_parts : (n capacity : ℕ) (events : List (ℕ × Action)) (i : ℕ) → IsSchedule n capacity events → part (committed n capacity events) i ≡ take (state_after n capacity events i).durable (state_after n capacity events i).inputs
 committed_parts n capacity events i s = (schedule_holds n capacity events s).parts i
+
+-- what is durable in a schedule fits
+pub ring_fits : (n capacity : ℕ) (events : List (ℕ × Action)) → IsSchedule n capacity events → RingFits n (λ i. durable_in (state_after n capacity events i))
+ring_fits n capacity events s =
+    let known : (i : ℕ) (key : Key) (c : Candidate) → leader i (durable_in (state_after n capacity events i)) key ≡ Some c → IsKnown (committed n capacity events) key c =
+    λ i key c leads. record { node = i; inputs = durable_in (state_after n capacity events i); rest = []; front = append-nil _ ∙ sym (committed_parts n capacity events i s); leads = leads } in
+    record {
+      links = λ i low high. link_fits n capacity events s i low high;
+      leaders = λ i j low high low_j high_j key c d one other. agree n capacity (committed n capacity events) key c d (committed_legal n capacity events s) (known i key c one) (known j key d other);
+    }
 
 -- ---- answers that name a leader
 

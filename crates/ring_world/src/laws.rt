@@ -6,6 +6,8 @@ ghost use Rattle.ring_records.specs.declared.candidate.Candidate.{Candidate};
 ghost use Rattle.ring_records.specs.declared.input.Input.{Input};
 ghost use Rattle.ring_records.specs.declared.input.Input.TheVariants.{Stand};
 ghost use Rattle.ring_records.specs.declared.key.Key.{Key};
+ghost use Rattle.ring_records.specs.Answer.{durable_in};
+ghost use Rattle.ring_records.specs.Fitting.{RingFits};
 ghost use Rattle.ring_records.specs.Order.{is_less};
 ghost use Rattle.ring_records.specs.Ring.{IsLegal, part};
 ghost use Rattle.ring_world.specs.Agreement.{IsKnown};
@@ -37,6 +39,13 @@ pub fn ring_legality()
     ensures legal { (n capacity : ℕ) (events : List (ℕ × Action)) → IsSchedule n capacity events → IsLegal n capacity (committed n capacity events) }
     ensures parts { (n capacity : ℕ) (events : List (ℕ × Action)) (i : ℕ)
         → IsSchedule n capacity events → part (committed n capacity events) i ≡ take (state_after n capacity events i).durable (state_after n capacity events i).inputs }
+{}
+
+/// In every schedule the durable histories of all nodes fit, and so do those with which they are opened again: for each
+/// link as many messages at most are credited as were taken, and taken as were sent, and no two nodes know different
+/// leaders for a key.
+pub fn ring_fits()
+    ensures fits { (n capacity : ℕ) (events : List (ℕ × Action)) → IsSchedule n capacity events → RingFits n (λ i. durable_in (state_after n capacity events i)) }
 {}
 
 /// In every schedule all answers that were ever released for one key name one leader. It stands among the inputs that

@@ -11,22 +11,22 @@ fn a_kill_at_each_step_of_the_first_start(rt: HostRuntime) -> Result<(), Fail> {
     let settings = b"nodes = 2\ndir = \"killed\"\nport = 7151\n".as_slice();
     // no file
     anew(&rt, "killed");
-    serves(&rt, settings, 7151, b"stand red 5 10\n", b"stood");
+    serves(&rt, settings, 7151, b"who red 1\n", b"none");
     // all files, and no word that they are
     assert!(rt; fs::exists(&rt, "killed/ring.made")?);
     fs::remove_file(&rt, "killed/ring.made")?;
-    serves(&rt, settings, 7151, b"stand red 5 10\n", b"no 3 already 10");
+    serves(&rt, settings, 7151, b"who red 1\n", b"none");
     assert!(rt; fs::exists(&rt, "killed/ring.made")?);
     // an empty file of the first name, and a formatted node whose file has its name
     fs::remove_file(&rt, "killed/ring.made")?;
     fs::rename(&rt, "killed/node-2.crj", "killed/whole")?;
     fs::write(&rt, "killed/node-2.crj.new", b"".as_slice())?;
-    serves(&rt, settings, 7151, b"stand red 5 10\n", b"no 3 already 10");
+    serves(&rt, settings, 7151, b"who red 1\n", b"none");
     // a formatted one of the first name
     fs::remove_file(&rt, "killed/ring.made")?;
     fs::remove_file(&rt, "killed/node-2.crj")?;
     fs::rename(&rt, "killed/whole", "killed/node-2.crj.new")?;
-    serves(&rt, settings, 7151, b"stand red 5 10\n", b"no 3 already 10");
+    serves(&rt, settings, 7151, b"who red 1\n", b"none");
     // a cut one, and none made
     anew(&rt, "killed");
     fs::write(&rt, "killed/node-1.crj.new", b"CRJRNL01".as_slice())?;

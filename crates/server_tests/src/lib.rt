@@ -2,6 +2,8 @@
 #![tactic(auto)]
 
 #[cfg(test)]
+mod backups;
+#[cfg(test)]
 mod clients;
 #[cfg(test)]
 mod devices;
