@@ -1,16 +1,17 @@
 //! A node's doors.
+use crate::client_stream::{ClientReader, ClientWriter, part};
 use crate::links::Links;
 use crate::site::Doors;
+use crate::start_latch::StartLatch;
 use commit_hub::{Hub, Node, Share, Whole};
 use decision_board::{Board, BoardReader, Naming};
 use ring_service::HubService;
-use sessions::serve;
+use sessions::{Service, serve};
 use std::alloc::Global;
 use std::io::BufReader;
 use std::net::{TcpListener, TcpStream};
 use std::sync::Wait;
 use std::sync::atomic::{AtomicU64, Ordering};
-use std::thread::{Threads, map_vec};
 use std::time::{Clock, Duration};
 
 /// What a door serves by: its share of the hub, and its reader of the board.
@@ -66,73 +67,109 @@ fn send_what_may_miss<A: Node, D: Whole, C: Whole, R: Wait + Clock>(
     }
 }
 
-/// The next client. A connection that broke before it was accepted is none.
+/// For how many milliseconds a door waits at most before it asks for a client again.
+const LONGEST_PAUSE: u64 = 1_000;
+
+/// The next client. Where none is to be had, as for want of a descriptor, it is asked again after a pause, twice as long
+/// each time.
 fn next_client<R: Wait + Clock>(rt: &R, listener: &TcpListener) -> Option<TcpStream> {
+    let mut pause = 1u64;
     for _ in rt.forever() {
         match listener.accept() {
             Ok((stream, _)) => return Some(stream),
-            Err(_) => rt.sleep(Duration::from_millis(1)),
+            Err(_) => rt.sleep(Duration::from_millis(pause)),
         }
+        pause = pause.saturating_mul(2).min(LONGEST_PAUSE);
     }
     None
 }
 
-/// Serves sessions, one after the other, while there are turns left.
-fn serve_turns<'a, J: Naming, A: Node, D: Whole, C: Whole, R: Wait + Clock>(
+/// What the doors of a node share: where clients come, and how many sessions are begun and how many doors are not done.
+#[derive(Drop)]
+pub(crate) struct Front {
+    listener: TcpListener,
+    idle: Option<Duration>,
+    sessions: u64,
+    begun: AtomicU64,
+    open: AtomicU64,
+}
+
+impl Front {
+    /// Before the first session.
+    pub(crate) fn new(listener: TcpListener, doors: Doors) -> Front {
+        Front {
+            listener,
+            idle: doors.idle,
+            sessions: doors.sessions,
+            begun: AtomicU64::new(0),
+            open: AtomicU64::new(u64::from(doors.count)),
+        }
+    }
+
+    /// Whether there is a session more, which the door that asked serves.
+    fn takes_turn(&self) -> bool {
+        self.begun.fetch_add(1, Ordering::SeqCst) < self.sessions
+    }
+
+    /// A door is done, which each says once. Whether it was the last one.
+    fn closes(&self) -> bool {
+        self.open.fetch_sub(1, Ordering::SeqCst) == 1
+    }
+}
+
+/// Serves a client to its session's end, however it ends.
+fn serve_client<S: Service, R: Wait + Clock>(
+    rt: &R,
+    alloc: Global,
+    stream: &TcpStream,
+    idle: Option<Duration>,
+    service: &mut S,
+) {
+    let _ = stream.set_nodelay(true);
+    let Ok(reader) = ClientReader::new(rt, stream, idle) else {
+        return;
+    };
+    if let Ok(mut lines) = BufReader::new(alloc, reader) {
+        let _ = serve(
+            alloc,
+            &mut lines,
+            &mut ClientWriter::new(rt, stream, idle),
+            service,
+        );
+    }
+    part(rt, stream);
+}
+
+/// Serves a door: one session after the other, while there are some left. The last door of the node says that all are
+/// done. Where the ring does not start, nothing is served.
+pub(crate) fn serve_door<'a, J: Naming, A: Node, D: Whole, C: Whole, R: Wait + Clock>(
     rt: &'a R,
     alloc: Global,
     hub: &'a Hub<A, D, C>,
     seat: Seat<J, A>,
-    listener: &TcpListener,
-    doors: &Doors,
-    turns: &AtomicU64,
+    front: &Front,
     links: &Links<'_>,
+    latch: &StartLatch,
 ) -> Share<A> {
     let Seat { share, reader } = seat;
+    if !latch.wait(rt) {
+        return share;
+    }
     let mut service = HubService::new(rt, hub, share, reader);
     for _ in rt.forever() {
-        if turns.fetch_add(1, Ordering::SeqCst) >= doors.sessions {
+        if !front.takes_turn() {
             break;
         }
-        let Some(stream) = next_client(rt, listener) else {
+        let Some(stream) = next_client(rt, &front.listener) else {
             break;
         };
-        let _ = stream.set_nodelay(true);
-        let _ = stream.set_read_timeout(doors.idle);
-        let _ = stream.set_write_timeout(doors.idle);
-        if let Ok(mut lines) = BufReader::new(alloc, &stream) {
-            // However a session ends, the next one is served.
-            let _ = serve(alloc, &mut lines, &mut &stream, &mut service);
-        }
+        serve_client(rt, alloc, &stream, front.idle, &mut service);
+        drop(stream);
         send_what_may_miss(rt, hub, links);
     }
     let (share, _reader, _last) = service.into_parts();
+    if front.closes() {
+        links.leave(rt);
+    }
     share
-}
-
-/// Serves the node's sessions at as many doors as there are seats, each in a thread of its own. Gives their shares back,
-/// or `None` where memory was wanting.
-pub(crate) fn serve_doors<
-    J: Naming + Send + Sync,
-    A: Node + Send + Sync,
-    D: Whole + Send + Sync,
-    C: Whole + Send + Sync,
-    R: Threads + Wait + Clock + Sync,
->(
-    rt: &R,
-    alloc: Global,
-    hub: &Hub<A, D, C>,
-    seats: Vec<Seat<J, A>>,
-    listener: &TcpListener,
-    doors: &Doors,
-    links: &Links<'_>,
-) -> Option<Vec<Share<A>>> {
-    let turns = AtomicU64::new(0);
-    let turns = &turns;
-    map_vec(
-        rt,
-        seats,
-        &|seat| serve_turns(rt, alloc, hub, seat, listener, doors, turns, links),
-    )
-    .ok()
 }

@@ -3,6 +3,7 @@
 //! `start` is the program `ringd` over readers and writers. docs/ARCHITECTURE.md tells who waits for whom.
 #![tactic(auto)]
 
+mod client_stream;
 mod credits;
 mod door;
 mod flush;
@@ -19,6 +20,7 @@ mod ring;
 mod ringd;
 mod run_fault;
 mod site;
+mod start_latch;
 mod unopened;
 mod watch;
 

@@ -3,13 +3,15 @@ ghost use Rattle.std.specs.Prelude.{◌≡◌, ◌+◌, ◌-◌, ◌≤◌, fals
 ghost use denote.Param.Send.{IsSend};
 ghost use Rattle.commit_hub.specs.Pages.{places_of, ForAccepted, ForDurable, ForCosts, IsWhole};
 
-use crate::door::{Seat, send_window, serve_doors, take_seats};
+use crate::door::{Front, Seat, send_window, serve_door, take_seats};
 use crate::flush::flush_all;
 use crate::inbox::take_all;
 use crate::links::{Links, Successor};
 use crate::open_node::OpenNode;
 use crate::post::Post;
+use crate::run_fault::RunFault;
 use crate::site::{Doors, Site};
+use crate::start_latch::StartLatch;
 use crate::watch::Watch;
 use commit_hub::{Hub, Node, Share, Whole};
 use crossbeam_channel::Receiver;
@@ -18,12 +20,11 @@ use disk_model::Device;
 use group_commit::Desk;
 use ring_records::{Packet, Shown};
 use ring_service::{Flusher, opened_board};
-use std::alloc::Global;
+use std::alloc::{AllocError, Global};
 use std::net::TcpListener;
 use std::sync::Wait;
-use std::sync::atomic::{AtomicBool, Ordering};
-use std::thread::{Threads, join, scope, scope_env};
-use std::time::{Clock, Duration};
+use std::thread::{JoinHandle, Threads, scope, scope_env};
+use std::time::Clock;
 
 /// What the inbox and the doors of a node take with them.
 #[derive(Drop)]
@@ -35,8 +36,9 @@ struct Ends<J: Naming, A: Node> {
     doors: Doors,
 }
 
-/// Runs a node until the last door of the ring is done, and shows what it holds then. `None` where its device failed,
-/// a growth was refused or a thread was not to be had: the others go on. Its doors are done once, however it ends.
+/// Runs a node until the last door of the ring is done, and shows what it holds then. `None` where its device failed: the
+/// others go on. It tells the latch once that its threads are there, or that a thread or memory is wanting; where the
+/// ring does not start, nothing is served.
 pub(crate) fn serve_node<
     J: Naming + Send + Sync,
     A: Node + Send + Sync,
@@ -44,7 +46,7 @@ pub(crate) fn serve_node<
     C: Whole + Send + Sync,
     V: Device + Send + Drop,
     R: Threads + Wait + Clock + Sync,
->(rt: &R, site: Site<V>, post: &Post, watch: &Watch) -> Option<Shown>
+>(rt: &R, site: Site<V>, post: &Post, watch: &Watch, latch: &StartLatch) -> Option<Shown>
     requires member { site.opened.desk.member ≡ A.member }
     requires opened { length site.opened.desk.state.inputs ≡ A.opened }
     requires history { site.history ≡ J.book }
@@ -76,7 +78,7 @@ pub(crate) fn serve_node<
         nodes,
     };
     let Ok(board) = opened_board::<J>(alloc, history, &desk, doors.count as usize) else {
-        links.leave(rt);
+        latch.tell(rt, Err(RunFault::Memory(AllocError)));
         return None;
     };
     let (hub, tie) = Hub::<A, D, C>::new(desk, blanks);
@@ -85,9 +87,7 @@ pub(crate) fn serve_node<
         take_seats(rt, alloc, &hub, &board, doors.count),
     );
     let mut flusher = Flusher::new(alloc, journal, board, tie);
-    let has_begun = AtomicBool::new(false);
-    let (shared, flushing, links, begun) = (&hub, &mut flusher, &links, &has_begun);
-    let (works, back) = match (share, seats) {
+    let shares = match (share, seats) {
         (Ok(share), Some(seats)) => {
             let ends = Ends {
                 inbox,
@@ -96,29 +96,16 @@ pub(crate) fn serve_node<
                 seats,
                 doors,
             };
-            join(
-                rt,
-                || -> bool
-                    requires { IsWhole D.all D.parts × IsWhole C.all C.parts }
-                {
-                    begun.store(true, Ordering::SeqCst);
-                    flush_all(rt, shared, flushing, links)
-                },
-                move || serve_ends(rt, alloc, shared, ends, links, begun),
-            )
+            run_threads(rt, alloc, &hub, &mut flusher, ends, &links, latch)
         }
         _ => {
-            links.leave(rt);
-            (false, None)
+            latch.tell(rt, Err(RunFault::Memory(AllocError)));
+            None
         }
     };
     let (_journal, board, _owed) = flusher.into_parts();
     board.end(rt);
-    if !works {
-        return None;
-    }
-    let (share, mut shares) = back?;
-    shares.push(share).ok()?;
+    let shares = shares?;
     if shares.len() != doors.count as usize + 1 {
         return None;
     }
@@ -128,57 +115,57 @@ pub(crate) fn serve_node<
     }
 }
 
-/// Whether the flusher begins within ten seconds. Where no thread is to be had for it, it does not: `join` runs it
-/// behind the other then, and nothing that waits for it would come to its end.
-fn awaits<R: Clock>(rt: &R, begun: &AtomicBool) -> bool {
-    for _ in 0..10_000 {
-        if begun.load(Ordering::SeqCst) {
-            return true;
-        }
-        rt.sleep(Duration::from_millis(1));
-    }
-    false
+/// Room for the doors' threads, and for the shares that come back.
+fn reserve<A: Node>(
+    handles: &mut Vec<JoinHandle<Share<A>>>,
+    shares: &mut Vec<Share<A>>,
+    doors: usize,
+) -> Result<(), RunFault> {
+    handles.reserve(doors)?;
+    shares.reserve(doors.saturating_add(1))?;
+    Ok(())
 }
 
-/// Runs the inbox in a thread and the doors in others, until the last door of the ring is done, and closes the hub.
-/// Gives the shares back where all went well.
-fn serve_ends<
-    J: Naming + Send + Sync,
-    A: Node + Send + Sync,
-    D: Whole + Send + Sync,
-    C: Whole + Send + Sync,
-    R: Threads + Wait + Clock + Sync,
->(
+/// Runs the inbox once all are let go, and closes the hub behind it: the doors are done by then. Where the ring does not
+/// start, nothing is taken.
+fn serve_inbox<A: Node, D: Whole, C: Whole, R: Wait + Clock>(
     rt: &R,
     alloc: Global,
     hub: &Hub<A, D, C>,
-    ends: Ends<J, A>,
+    share: Share<A>,
+    inbox: &Receiver<Packet>,
     links: &Links<'_>,
-    begun: &AtomicBool,
-) -> Option<(Share<A>, Vec<Share<A>>)> {
-    let shares = if awaits(rt, begun) {
-        run_ends(rt, alloc, hub, ends, links)
+    latch: &StartLatch,
+) -> Share<A> {
+    let share = if latch.wait(rt) {
+        take_all(rt, alloc, hub, share, inbox, links)
     } else {
-        links.leave(rt);
-        None
+        share
     };
     hub.close(rt);
-    shares
+    share
 }
 
-fn run_ends<
+/// Starts the inbox and the doors in threads, tells the latch, and flushes here once all are let go. Gives the shares
+/// back, or `None` where the ring did not start or the flusher did not come to its end.
+fn run_threads<
     J: Naming + Send + Sync,
     A: Node + Send + Sync,
     D: Whole + Send + Sync,
     C: Whole + Send + Sync,
+    V: Device,
     R: Threads + Wait + Clock + Sync,
 >(
     rt: &R,
     alloc: Global,
     hub: &Hub<A, D, C>,
+    flusher: &mut Flusher<V, J, A, D, C>,
     ends: Ends<J, A>,
     links: &Links<'_>,
-) -> Option<(Share<A>, Vec<Share<A>>)> {
+    latch: &StartLatch,
+) -> Option<Vec<Share<A>>>
+    requires { IsWhole D.all D.parts × IsWhole C.all C.parts }
+{
     let Ends {
         inbox,
         share,
@@ -186,27 +173,47 @@ fn run_ends<
         seats,
         doors,
     } = ends;
-    // No message of this run may come to the successor before these.
-    send_window(rt, hub, links);
+    let inbox = &inbox;
+    let front = Front::new(listener, doors);
+    let front = &front;
     scope(
         scope_env(),
         rt,
         |scope|
-            requires { IsSend J.row × IsSend A.row × IsSend D.row × IsSend C.row }
+            requires { IsSend J.row × IsSend A.row × IsSend D.row × IsSend C.row × IsWhole D.all D.parts × IsWhole C.all C.parts }
         {
-            let takes = scope
-                .spawn(move || take_all(rt, alloc, hub, share, &inbox, links))
-                .ok();
-            let others = if takes.is_some() {
-                serve_doors(rt, alloc, hub, seats, &listener, &doors, links)
-            } else {
-                None
-            };
-            links.leave(rt);
-            match (takes.map(|takes| takes.join(rt)), others) {
-                (Some(share), Some(others)) => Some((share, others)),
-                _ => None,
+            let mut handles = Vec::new(alloc);
+            let mut shares = Vec::new(alloc);
+            let mut outcome = reserve(&mut handles, &mut shares, seats.len());
+            match scope.spawn(move || serve_inbox(rt, alloc, hub, share, inbox, links, latch)) {
+                Ok(handle) => {
+                    if handles.push(handle).is_err() {
+                        outcome = Err(RunFault::Memory(AllocError));
+                    }
+                }
+                Err(_) => outcome = Err(RunFault::Thread),
             }
+            for seat in seats {
+                if outcome.is_err() {
+                    break;
+                }
+                match scope.spawn(move || serve_door(rt, alloc, hub, seat, front, links, latch)) {
+                    Ok(handle) => {
+                        if handles.push(handle).is_err() {
+                            outcome = Err(RunFault::Memory(AllocError));
+                        }
+                    }
+                    Err(_) => outcome = Err(RunFault::Thread),
+                }
+            }
+            // No message of this run may come to the successor before these.
+            send_window(rt, hub, links);
+            latch.tell(rt, outcome);
+            let mut works = latch.wait(rt) && flush_all(rt, hub, flusher, links);
+            for handle in handles {
+                works = shares.push(handle.join(rt)).is_ok() && works;
+            }
+            if works { Some(shares) } else { None }
         },
     )
 }

@@ -3,6 +3,7 @@ use crate::node::serve_node;
 use crate::post::Post;
 use crate::run_fault::RunFault;
 use crate::site::Site;
+use crate::start_latch::StartLatch;
 use crate::watch::{News, Watch};
 use disk_model::Device;
 use ring_records::{NodeNo, Shown};
@@ -23,8 +24,9 @@ fn one_node<V: Device + Send + Drop, R: Threads + Wait + Clock + Sync>(
     site: Site<V>,
     post: &Post,
     watch: &Watch,
+    latch: &StartLatch,
 ) -> Option<Shown> {
-    serve_node::<Brand, Brand, Brand, Brand, V, R>(rt, site, post, watch)
+    serve_node::<Brand, Brand, Brand, Brand, V, R>(rt, site, post, watch, latch)
 }
 
 /// Runs this node of the ring. However it fails, it is told.
@@ -34,8 +36,9 @@ fn watched_node<V: Device + Send + Drop, R: Threads + Wait + Clock + Sync>(
     site: Site<V>,
     post: &Post,
     watch: &Watch,
+    latch: &StartLatch,
 ) -> Option<Shown> {
-    let end = one_node(rt, site, post, watch);
+    let end = one_node(rt, site, post, watch, latch);
     if end.is_none() {
         watch.fail(rt, node);
     }
@@ -49,6 +52,7 @@ fn run_nodes<V: Device + Send + Drop, R: Threads + Wait + Clock + Sync>(
     sites: Vec<Site<V>>,
     post: &Post,
     watch: &Watch,
+    latch: &StartLatch,
 ) -> Ends {
     let mut handles: Vec<Option<JoinHandle<Option<Shown>>>> = Vec::with_capacity(
         alloc,
@@ -59,11 +63,10 @@ fn run_nodes<V: Device + Send + Drop, R: Threads + Wait + Clock + Sync>(
         for site in sites {
             let node = site.node();
             let started = scope
-                .spawn(move || watched_node(rt, node, site, post, watch))
+                .spawn(move || watched_node(rt, node, site, post, watch, latch))
                 .ok();
             if started.is_none() {
-                post.leave(rt);
-                watch.fail(rt, node);
+                latch.tell(rt, Err(RunFault::Thread));
             }
             if let Err(refused) = handles.push(started) {
                 drop(refused);
@@ -78,6 +81,17 @@ fn run_nodes<V: Device + Send + Drop, R: Threads + Wait + Clock + Sync>(
         }
     });
     Ok(ends)
+}
+
+/// Prints `serving` once all threads of all nodes are there, and lets them go: to serve, or to end where one is missing
+/// or the line is not taken.
+fn let_go<R: Wait, O: Write>(rt: &R, latch: &StartLatch, out: &mut O) -> Result<(), RunFault> {
+    let mut outcome = latch.wait_for_nodes(rt);
+    if outcome.is_ok() && (writeln!(out, "serving").is_err() || out.flush().is_err()) {
+        outcome = Err(RunFault::Output);
+    }
+    latch.open(rt, outcome.is_ok());
+    outcome
 }
 
 /// Tells of nodes that fail or are full, until no node runs any more. Whether it is to end before: at the first node
@@ -140,21 +154,26 @@ pub fn serve_ring<
     out: &mut O,
     err: &mut E,
 ) -> Result<u8, RunFault> {
-    if writeln!(out, "serving").is_err() || out.flush().is_err() {
-        return Err(RunFault::Output);
-    }
+    let latch = Arc::new(alloc, StartLatch::new(sites.len()))?;
     let watch = Arc::new(alloc, Watch::new())?;
-    let theirs = Arc::try_clone(&watch)?;
+    let (their_latch, their_watch) = (Arc::try_clone(&latch)?, Arc::try_clone(&watch)?);
     let own = *rt;
     let ring = thread::spawn(rt, move || {
-        let ends = run_nodes(&own, alloc, sites, &post, &theirs);
-        theirs.end(&own);
+        let ends = run_nodes(&own, alloc, sites, &post, &their_watch, &their_latch);
+        if let Err(fault) = &ends {
+            their_latch.fail(&own, RunFault::Memory(*fault));
+        }
+        their_watch.end(&own);
         ends
     });
     let ring = match ring {
         Ok(ring) => ring,
         Err(_) => return Err(RunFault::Thread),
     };
+    if let Err(fault) = let_go(rt, &latch, out) {
+        let _ = ring.join(rt);
+        return Err(fault);
+    }
     if tell_of_nodes(rt, &watch, fail_stop, err) {
         return Ok(1);
     }

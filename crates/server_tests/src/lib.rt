@@ -19,3 +19,5 @@ mod news;
 mod programs;
 #[cfg(test)]
 mod refusals;
+#[cfg(test)]
+mod sessions_ends;
