@@ -28,7 +28,7 @@ fn is_left_within_a_line<R: Net<Stream = TcpStream> + Clock>(rt: &R, port: u16) 
 #[test]
 fn a_slow_line(rt: HostRuntime) -> Result<(), Fail> {
     anew(&rt, "slow");
-    let settings = b"nodes = 2\ndir = \"slow\"\nport = 7181\n".as_slice();
+    let settings = b"nodes = 2\ndir = \"slow\"\nport = 7201\n".as_slice();
     let words = ["ringd", "--serve", "1", "--idle", "1"];
     let (rt, words) = (&rt, &words);
     let (told, (status, _, err)) = join(
@@ -36,8 +36,8 @@ fn a_slow_line(rt: HostRuntime) -> Result<(), Fail> {
         move || {
             let (one, two) = join(
                 rt,
-                move || is_left_within_a_line(rt, 7181),
-                move || is_left_within_a_line(rt, 7182),
+                move || is_left_within_a_line(rt, 7201),
+                move || is_left_within_a_line(rt, 7202),
             );
             one && two
         },
@@ -72,7 +72,7 @@ fn is_answered_whole<R: Net<Stream = TcpStream> + Clock>(
 #[test]
 fn answers_before_a_close(rt: HostRuntime) -> Result<(), Fail> {
     anew(&rt, "behind");
-    let settings = b"nodes = 2\ndir = \"behind\"\nport = 7184\n".as_slice();
+    let settings = b"nodes = 2\ndir = \"behind\"\nport = 7204\n".as_slice();
     let words = ["ringd", "--serve", "100"];
     let mut lines = Vec::new(rt.alloc());
     lines.extend_from_slice(b"latest red\nlatest blue\nbye\n")?;
@@ -83,8 +83,8 @@ fn answers_before_a_close(rt: HostRuntime) -> Result<(), Fail> {
     let (told, (status, _, err)) = join(
         rt,
         move || {
-            let first = is_answered_whole(rt, 7184, lines, 100);
-            is_answered_whole(rt, 7185, lines, 100) && first
+            let first = is_answered_whole(rt, 7204, lines, 100);
+            is_answered_whole(rt, 7205, lines, 100) && first
         },
         move || run(rt, words, settings),
     );
@@ -108,7 +108,7 @@ fn is_passed_over<R: Net<Stream = TcpStream> + Clock>(rt: &R, port: u16, lines: 
 #[test]
 fn a_client_that_takes_no_answer(rt: HostRuntime) -> Result<(), Fail> {
     anew(&rt, "full");
-    let settings = b"nodes = 2\ndir = \"full\"\nport = 7187\n".as_slice();
+    let settings = b"nodes = 2\ndir = \"full\"\nport = 7207\n".as_slice();
     let words = ["ringd", "--serve", "2", "--idle", "1"];
     let mut lines = Vec::new(rt.alloc());
     for _ in 0..11_000 {
@@ -120,8 +120,8 @@ fn a_client_that_takes_no_answer(rt: HostRuntime) -> Result<(), Fail> {
         move || {
             let (one, two) = join(
                 rt,
-                move || is_passed_over(rt, 7187, lines),
-                move || is_passed_over(rt, 7188, lines),
+                move || is_passed_over(rt, 7207, lines),
+                move || is_passed_over(rt, 7208, lines),
             );
             one && two
         },
@@ -154,7 +154,7 @@ impl Write for Muted {
 #[test]
 fn a_start_that_is_not_told(rt: HostRuntime) -> Result<(), Fail> {
     anew(&rt, "untold");
-    let settings = b"nodes = 3\ndir = \"untold\"\nport = 7191\n".as_slice();
+    let settings = b"nodes = 3\ndir = \"untold\"\nport = 7211\n".as_slice();
     let words = ["ringd", "--always", "--doors", "4"];
     let mut err = Vec::new(rt.alloc());
     let status = start(
