@@ -30,6 +30,9 @@ where
     R: Threads
         + Wait
         + Sync
+        + Send
+        + Copy
+        + 'static
         + Clock
         + Abort
         + AllocGlobal
