@@ -55,8 +55,13 @@ fn stand(term: u32) -> Result<Request, Refusal> {
     Ok(Request::Stand(Key { group, term }, Bid::new(10)?))
 }
 
-/// Has the node stand for terms 1 to `count`, durably.
-fn stand_before<R: Abort>(rt: &R, node: &mut Node<FuseDevice<MemDevice>>, count: u32) {
+/// Has the node stand for terms 1 to `count`, durably, and gives its device.
+fn stand_before<R: Abort>(
+    rt: &R,
+    made: Node<FuseDevice<MemDevice>>,
+    count: u32,
+) -> Option<FuseDevice<MemDevice>> {
+    let mut node = made;
     for term in 1..=count {
         let question = stand(term).expect(rt, "a Stand");
         let ticket = node.submit(question).expect(rt, "a ticket");
@@ -66,6 +71,11 @@ fn stand_before<R: Abort>(rt: &R, node: &mut Node<FuseDevice<MemDevice>>, count:
             Err((_ticket, refusal)) => panic!(rt; "{refusal}"),
         }
     }
+    node.close();
+    if node.is_open() || node.open_tickets() != 0 {
+        return None;
+    }
+    Some(node.into_device())
 }
 
 /// A new node of three.
@@ -85,14 +95,17 @@ fn opened<R: Abort + AllocGlobal>(
     let capacity = served.capacity.clamp(4096, 1 << 20);
     let memory = MemDevice::new(alloc, 17 + capacity as usize).ok()?;
     let device = FuseDevice::new(memory, fails_after, false);
-    let mut made = Node::create(alloc, device, node, 3, capacity, 0).ok()?;
-    if node.number() == 1 {
-        stand_before(rt, &mut made, served.stood);
+    let made = match Node::create(alloc, device, node, 3, capacity, 0) {
+        Ok(made) => made,
+        Err((_device, _)) => return None,
+    };
+    if node.number() != 1 || served.stood == 0 {
+        return Some(OpenNode::new(node, 3, made));
     }
-    if made.is_open() && made.open_tickets() == 0 {
-        Some(OpenNode::new(node, 3, made))
-    } else {
-        None
+    let device = stand_before(rt, made, served.stood)?;
+    match Node::recover(alloc, device, node, 3, 1) {
+        Ok(made) => Some(OpenNode::new(node, 3, made)),
+        Err((_device, _)) => None,
     }
 }
 
