@@ -1,4 +1,4 @@
--- What the parts of a legal run are. Nothing here depends on the capacity.
+-- What the parts of a legal run are.
 use Rattle.std.proofs.Common.{ℕ, ◌≡◌, ◌≤◌, cond, List, [], ◌∷◌, ◌++◌, Some, None, refl, sym, ap, ◌∙◌, subst, inl, inr}
 use Rattle.std.specs.List.{Contains, cons_option}
 use Rattle.std.proofs.lemmas.List.{append-nil}
@@ -119,7 +119,7 @@ Parts-start n = record {
   takers = λ i m p. none_in m p;
 }
 
-pub legal_parts : (n capacity : ℕ) (run : List (ℕ × Input)) → IsLegal n capacity run → Parts n run
+pub legal_parts : (n : ℕ) (run : List (ℕ × Input)) → IsLegal n run → Parts n run
 unfolding IsLegal
-legal_parts n capacity run legal =
-    along (MayFollow n capacity) (Parts n) (λ r s a f. Parts-next n r s.0 s.1 (record { low = a.first; high = a.last }) a.allowed a.carried f) [] run legal (Parts-start n)
+legal_parts n run legal =
+    along (MayFollow n) (Parts n) (λ r s a f. Parts-next n r s.0 s.1 (record { low = a.first; high = a.last }) a.allowed a.carried f) [] run legal (Parts-start n)

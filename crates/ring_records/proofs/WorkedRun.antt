@@ -1,6 +1,6 @@
 -- That the worked run is legal, and who leads at its end.
 use Rattle.std.proofs.Common.{◌≡◌, Some, refl, lit<, lit≤}
-use Rattle.ring_records.specs.Admission.{cost, used, IsInTurn, Fits}
+use Rattle.ring_records.specs.Admission.{IsInTurn}
 use Rattle.ring_records.specs.Emission.{is_below, emit, sent}
 use Rattle.ring_records.specs.History.{names, touched, bid_for, first_stand, stood, message_of, taken, is_stand, stands}
 use Rattle.ring_records.specs.Leader.{is_bid, makes_leader, first_leader, leader}
@@ -22,7 +22,102 @@ pub leads_at_3 : leader 3 (part first_election 3) red_5 ≡ Some winner
 unfolding leader first_leader makes_leader first found_after is_key is_bid first_stand bid_for item_at part
 leads_at_3 = refl
 
-pub legal : IsLegal 3 65536 first_election
-unfolding IsLegal EachAfter IsInTurn Fits IsCarried cost used names touched bid_for first_stand stood message_of taken is_stand stands is_below is_less is_key emit sent is_bid makes_leader first_leader leader first found_after before after item_at part
-legal =
-    (record { first = lit≤ tt; last = lit≤ tt; allowed = record { few = lit< tt; in_turn = record { untouched = refl; not_stale = λ term less. refl; few_stands = lit< tt } }; fits = lit≤ tt; carried = tt }, (record { first = lit≤ tt; last = lit≤ tt; allowed = record { few = lit< tt; in_turn = record { untouched = refl; not_stale = λ term less. refl; few_stands = lit< tt } }; fits = lit≤ tt; carried = tt }, (record { first = lit≤ tt; last = lit≤ tt; allowed = record { few = lit< tt; in_turn = record { untouched = refl; not_stale = λ term less. refl; few_stands = lit< tt } }; fits = lit≤ tt; carried = tt }, (record { first = lit≤ tt; last = lit≤ tt; allowed = record { few = lit< tt; in_turn = record { in_ring = lit≤ tt; next = refl } }; fits = lit≤ tt; carried = refl }, (record { first = lit≤ tt; last = lit≤ tt; allowed = record { few = lit< tt; in_turn = record { in_ring = lit≤ tt; next = refl } }; fits = lit≤ tt; carried = refl }, (record { first = lit≤ tt; last = lit≤ tt; allowed = record { few = lit< tt; in_turn = record { in_ring = lit≤ tt; next = refl } }; fits = lit≤ tt; carried = refl }, (record { first = lit≤ tt; last = lit≤ tt; allowed = record { few = lit< tt; in_turn = record { in_ring = lit≤ tt; next = refl } }; fits = lit≤ tt; carried = refl }, (record { first = lit≤ tt; last = lit≤ tt; allowed = record { few = lit< tt; in_turn = record { in_ring = lit≤ tt; next = refl } }; fits = lit≤ tt; carried = refl }, (record { first = lit≤ tt; last = lit≤ tt; allowed = record { few = lit< tt; in_turn = record { in_ring = lit≤ tt; next = refl } }; fits = lit≤ tt; carried = refl }, (record { first = lit≤ tt; last = lit≤ tt; allowed = record { few = lit< tt; in_turn = record { in_ring = lit≤ tt; next = refl } }; fits = lit≤ tt; carried = refl }, (record { first = lit≤ tt; last = lit≤ tt; allowed = record { few = lit< tt; in_turn = record { in_ring = lit≤ tt; next = refl } }; fits = lit≤ tt; carried = refl }, (record { first = lit≤ tt; last = lit≤ tt; allowed = record { few = lit< tt; in_turn = record { in_ring = lit≤ tt; next = refl } }; fits = lit≤ tt; carried = refl }, tt))))))))))))
+pub legal : IsLegal 3 first_election
+unfolding IsLegal EachAfter IsInTurn IsCarried names touched bid_for first_stand stood message_of taken is_stand stands is_below is_less is_key emit sent is_bid makes_leader first_leader leader first found_after before after item_at part
+legal = (
+  record {
+    first = lit≤ tt;
+    last = lit≤ tt;
+    carried = tt;
+    allowed = record { few = lit< tt; in_turn = record { untouched = refl; not_stale = λ term less. refl; few_stands = lit< tt } };
+  },
+  (
+    record {
+      first = lit≤ tt;
+      last = lit≤ tt;
+      carried = tt;
+      allowed = record { few = lit< tt; in_turn = record { untouched = refl; not_stale = λ term less. refl; few_stands = lit< tt } };
+    },
+    (
+      record {
+        first = lit≤ tt;
+        last = lit≤ tt;
+        carried = tt;
+        allowed = record { few = lit< tt; in_turn = record { untouched = refl; not_stale = λ term less. refl; few_stands = lit< tt } };
+      },
+      (
+        record {
+          first = lit≤ tt;
+          last = lit≤ tt;
+          carried = refl;
+          allowed = record { few = lit< tt; in_turn = record { in_ring = lit≤ tt; next = refl } };
+        },
+        (
+          record {
+            first = lit≤ tt;
+            last = lit≤ tt;
+            carried = refl;
+            allowed = record { few = lit< tt; in_turn = record { in_ring = lit≤ tt; next = refl } };
+          },
+          (
+            record {
+              first = lit≤ tt;
+              last = lit≤ tt;
+              carried = refl;
+              allowed = record { few = lit< tt; in_turn = record { in_ring = lit≤ tt; next = refl } };
+            },
+            (
+              record {
+                first = lit≤ tt;
+                last = lit≤ tt;
+                carried = refl;
+                allowed = record { few = lit< tt; in_turn = record { in_ring = lit≤ tt; next = refl } };
+              },
+              (
+                record {
+                  first = lit≤ tt;
+                  last = lit≤ tt;
+                  carried = refl;
+                  allowed = record { few = lit< tt; in_turn = record { in_ring = lit≤ tt; next = refl } };
+                },
+                (
+                  record {
+                    first = lit≤ tt;
+                    last = lit≤ tt;
+                    carried = refl;
+                    allowed = record { few = lit< tt; in_turn = record { in_ring = lit≤ tt; next = refl } };
+                  },
+                  (
+                    record {
+                      first = lit≤ tt;
+                      last = lit≤ tt;
+                      carried = refl;
+                      allowed = record { few = lit< tt; in_turn = record { in_ring = lit≤ tt; next = refl } };
+                    },
+                    (
+                      record {
+                        first = lit≤ tt;
+                        last = lit≤ tt;
+                        carried = refl;
+                        allowed = record { few = lit< tt; in_turn = record { in_ring = lit≤ tt; next = refl } };
+                      },
+                      (
+                        record {
+                          first = lit≤ tt;
+                          last = lit≤ tt;
+                          carried = refl;
+                          allowed = record { few = lit< tt; in_turn = record { in_ring = lit≤ tt; next = refl } };
+                        },
+                        tt,
+                      ),
+                    ),
+                  ),
+                ),
+              ),
+            ),
+          ),
+        ),
+      ),
+    ),
+  ),
+)

@@ -3,7 +3,7 @@ use Rattle.std.specs.Prelude.{ℕ, ◌≡◌, ◌==◌, ◌≤◌, if◌then◌e
 use Rattle.std.specs.List.{filter_map}
 use Rattle.ring_records.specs.declared.input.Input.{Input}
 use Rattle.ring_records.specs.declared.input.Input.TheVariants.{Stand, Take, Acked}
-use Rattle.ring_records.specs.Admission.{fresh, IsAllowed, Fits}
+use Rattle.ring_records.specs.Admission.{IsAllowed}
 use Rattle.ring_records.specs.Emission.{sent}
 use Rattle.ring_records.specs.History.{taken}
 use Rattle.ring_records.specs.Lists.{EachAfter}
@@ -23,13 +23,13 @@ IsCarried n run i (Take msg_no msg) = slice_get (sent (before n i) (part run (be
 IsCarried n run i (Acked upto) = upto ≤ length (taken (part run (after n i)))
 
 -- the step, an input at a node, may come after the run
-pub record MayFollow (n capacity : ℕ) (run : List (ℕ × Input)) (step : ℕ × Input) : Type 0 where
+pub record MayFollow (n : ℕ) (run : List (ℕ × Input)) (step : ℕ × Input) : Type 0 where
   pub first : 1 ≤ step.0
   pub last : step.0 ≤ n
   pub allowed : IsAllowed step.0 n (part run step.0) step.1
-  pub fits : Fits capacity fresh (part run step.0) step.1
   pub carried : IsCarried n run step.0 step.1
 
--- Ring run: each step may come after those before it
-unfoldable pub IsLegal : ℕ → ℕ → List (ℕ × Input) → Type 0
-IsLegal n capacity run = EachAfter (MayFollow n capacity) [] run
+-- Ring run: each step may come after those before it. Of room nothing is said: what holds of every run of this kind holds
+-- whatever the nodes' journals have room for.
+unfoldable pub IsLegal : ℕ → List (ℕ × Input) → Type 0
+IsLegal n run = EachAfter (MayFollow n) [] run

@@ -138,20 +138,20 @@ module _ (n : ℕ) (run : List (ℕ × Input)) (parts : Parts n run) (key : Key)
     | inr ne ↦ absurd (is_less-one_way c d (lesser d c w v.stands v.node ne) (lesser c d v w.stands w.node (λ q. ne (sym q))))
   ]
 
-pub agree : (n capacity : ℕ) (run : List (ℕ × Input)) (key : Key) (c d : Candidate) → IsLegal n capacity run → IsKnown run key c → IsKnown run key d → c ≡ d
-agree n capacity run key c d legal j k =
-    let parts = legal_parts n capacity run legal in
+pub agree : (n : ℕ) (run : List (ℕ × Input)) (key : Key) (c d : Candidate) → IsLegal n run → IsKnown run key c → IsKnown run key d → c ≡ d
+agree n run key c d legal j k =
+    let parts = legal_parts n run legal in
     one_winner n run parts key c d (won n run parts key c j) (won n run parts key d k)
 
-pub stands : (n capacity : ℕ) (run : List (ℕ × Input)) (key : Key) (c : Candidate) → IsLegal n capacity run → IsKnown run key c → Contains run (c.node, Stand key c.bid)
-stands n capacity run key c legal k =
-    let parts = legal_parts n capacity run legal in
+pub stands : (n : ℕ) (run : List (ℕ × Input)) (key : Key) (c : Candidate) → IsLegal n run → IsKnown run key c → Contains run (c.node, Stand key c.bid)
+stands n run key c legal k =
+    let parts = legal_parts n run legal in
     let w = won n run parts key c k in
     parts.in_run c.node (Stand key c.bid) ((allowed_facts c.node n key (part run c.node) (parts.allowed c.node)).stood_in c.bid w.stands)
 
-pub greatest : (n capacity : ℕ) (run : List (ℕ × Input)) (key : Key) (c d : Candidate) → IsLegal n capacity run → IsKnown run key c → Contains run (d.node, Stand key d.bid) → d ≢ c → is_less d c ≡ true
-greatest n capacity run key c d legal k s ne =
-    let parts = legal_parts n capacity run legal in
+pub greatest : (n : ℕ) (run : List (ℕ × Input)) (key : Key) (c d : Candidate) → IsLegal n run → IsKnown run key c → Contains run (d.node, Stand key d.bid) → d ≢ c → is_less d c ≡ true
+greatest n run key c d legal k s ne =
+    let parts = legal_parts n run legal in
     let w = won n run parts key c k in
     let mine = parts.in_part d.node (Stand key d.bid) s in
     let bid = (allowed_facts d.node n key (part run d.node) (parts.allowed d.node)).stands d.bid mine in

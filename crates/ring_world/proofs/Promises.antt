@@ -97,7 +97,7 @@ prefix_kept n capacity early late i t s =
 
 -- ---- the run of what is durable
 
-pub committed_legal : (n capacity : ℕ) (events : List (ℕ × Action)) → IsSchedule n capacity events → IsLegal n capacity (committed n capacity events)
+pub committed_legal : (n capacity : ℕ) (events : List (ℕ × Action)) → IsSchedule n capacity events → IsLegal n (committed n capacity events)
 committed_legal n capacity events s = (schedule_holds n capacity events s).legal
 
 pub committed_parts : (n capacity : ℕ) (events : List (ℕ × Action)) (i : ℕ) → IsSchedule n capacity events → part (committed n capacity events) i ≡ take (state_after n capacity events i).durable (state_after n capacity events i).inputs
@@ -110,7 +110,7 @@ ring_fits n capacity events s =
     λ i key c leads. record { node = i; inputs = durable_in (state_after n capacity events i); rest = []; front = append-nil _ ∙ sym (committed_parts n capacity events i s); leads = leads } in
     record {
       links = λ i low high. link_fits n capacity events s i low high;
-      leaders = λ i j low high low_j high_j key c d one other. agree n capacity (committed n capacity events) key c d (committed_legal n capacity events s) (known i key c one) (known j key d other);
+      leaders = λ i j low high low_j high_j key c d one other. agree n (committed n capacity events) key c d (committed_legal n capacity events s) (known i key c one) (known j key d other);
     }
 
 -- ---- answers that name a leader
@@ -173,10 +173,10 @@ announced-known n capacity events key c s a =
     }
 
 pub one_leader : (n capacity : ℕ) (events : List (ℕ × Action)) (key : Key) (c d : Candidate) → IsSchedule n capacity events → IsAnnounced events key c → IsAnnounced events key d → c ≡ d
-one_leader n capacity events key c d s a b = agree n capacity (committed n capacity events) key c d (committed_legal n capacity events s) (announced-known n capacity events key c s a) (announced-known n capacity events key d s b)
+one_leader n capacity events key c d s a b = agree n (committed n capacity events) key c d (committed_legal n capacity events s) (announced-known n capacity events key c s a) (announced-known n capacity events key d s b)
 
 pub leader_stands : (n capacity : ℕ) (events : List (ℕ × Action)) (key : Key) (c : Candidate) → IsSchedule n capacity events → IsAnnounced events key c → Contains (committed n capacity events) (c.node, Stand key c.bid)
-leader_stands n capacity events key c s a = stands n capacity (committed n capacity events) key c (committed_legal n capacity events s) (announced-known n capacity events key c s a)
+leader_stands n capacity events key c s a = stands n (committed n capacity events) key c (committed_legal n capacity events s) (announced-known n capacity events key c s a)
 
 pub leader_greatest : (n capacity : ℕ) (events : List (ℕ × Action)) (key : Key) (c d : Candidate) → IsSchedule n capacity events → IsAnnounced events key c → Contains (committed n capacity events) (d.node, Stand key d.bid) → d ≢ c → is_less d c ≡ true
-leader_greatest n capacity events key c d s a = greatest n capacity (committed n capacity events) key c d (committed_legal n capacity events s) (announced-known n capacity events key c s a)
+leader_greatest n capacity events key c d s a = greatest n (committed n capacity events) key c d (committed_legal n capacity events s) (announced-known n capacity events key c s a)

@@ -50,13 +50,13 @@ carried-kept n run more i (Take msg_no msg) c = rw part-append (sent-kept (befor
 carried-kept n run more i (Acked upto) c = rw part-append (taken-kept (part run (after n i)) _ upto c)
 
 -- lawful inputs of one node, each of them carried, go on with a legal run
-legal-more : (n capacity j : ℕ) → 1 ≤ j → j ≤ n → (xs : List Input) (run : List (ℕ × Input)) → IsLegal n capacity run → IsHistory (member j n capacity) (part run j ++ xs) → ((x : Input) → Contains xs x → IsCarried n run j x)
-    → IsLegal n capacity (run ++ map (λ x. (j, x)) xs)
+legal-more : (n capacity j : ℕ) → 1 ≤ j → j ≤ n → (xs : List Input) (run : List (ℕ × Input)) → IsLegal n run → IsHistory (member j n capacity) (part run j ++ xs) → ((x : Input) → Contains xs x → IsCarried n run j x)
+    → IsLegal n (run ++ map (λ x. (j, x)) xs)
 unfolding IsLegal IsLawful
 legal-more n capacity j first last [] run legal lawful carried = rw append-nil legal
 legal-more n capacity j first last (x ∷ xs) run legal lawful carried =
     let admitted = EachAfter-at (IsAdmitted j n capacity fresh) [] (part run j) x xs lawful in
-    let here = EachAfter-push (MayFollow n capacity) [] run (j, x) legal (record { first = first; last = last; allowed = admitted.allowed; fits = admitted.fits; carried = carried x (Contains-here x xs) }) in
+    let here = EachAfter-push (MayFollow n) [] run (j, x) legal (record { first = first; last = last; allowed = admitted.allowed; carried = carried x (Contains-here x xs) }) in
     let mine : part (run ++ (j, x) ∷ []) j ≡ part run j ++ x ∷ [] = part-same run j (x ∷ []) in
     let law = subst (λ h. EachAfter (IsAdmitted j n capacity fresh) [] h) (sym (append_assoc (part run j) (x ∷ []) xs) ∙ ap (λ ys. ys ++ xs) (sym mine)) lawful in
     let rest = legal-more n capacity j first last xs (run ++ (j, x) ∷ []) here law (λ y p. carried-kept n run ((j, x) ∷ []) j y (carried y (Contains-later x xs y p))) in
@@ -67,7 +67,7 @@ legal-more n capacity j first last (x ∷ xs) run legal lawful carried =
 pub record Holds (n capacity : ℕ) (events : List (ℕ × Action)) : Type 0 where
   pub sound : (i : ℕ) → Sound i n capacity (process n capacity events i)
   pub parts : (i : ℕ) → part (committed n capacity events) i ≡ take (state_after n capacity events i).durable (state_after n capacity events i).inputs
-  pub legal : IsLegal n capacity (committed n capacity events)
+  pub legal : IsLegal n (committed n capacity events)
   -- what a node accepted, durable or not, came of what is durable at its neighbours
   pub carried : (i : ℕ) (x : Input) → Contains (state_after n capacity events i).inputs x → IsCarried n (committed n capacity events) i x
   pub packets : (i : ℕ) (p : Packet) → Contains events (i, Release (Sent p)) → PacketRests i (part (committed n capacity events) i) p
@@ -137,8 +137,8 @@ module _ (n capacity : ℕ) (events : List (ℕ × Action)) (j : ℕ) (a : Actio
     unfolding IsLawful
     lawful-here = subst (λ h. EachAfter (IsAdmitted j n capacity fresh) [] h) (sym (ap (λ ys. ys ++ new_inputs) (w.parts j) ∙ durable-next j n capacity p mine a)) (EachAfter-take (IsAdmitted j n capacity fresh) _ _ sound-here.lawful)
 
-    legal-next : IsLegal n capacity (committed n capacity later)
-    legal-next = subst (IsLegal n capacity) (sym committed-next) (legal-more n capacity j h.first h.last new_inputs run w.legal lawful-here (λ x here. w.carried j x (durable-accepted j n capacity p mine a x here)))
+    legal-next : IsLegal n (committed n capacity later)
+    legal-next = subst (IsLegal n) (sym committed-next) (legal-more n capacity j h.first h.last new_inputs run w.legal lawful-here (λ x here. w.carried j x (durable-accepted j n capacity p mine a x here)))
 
     submitted : (q : Request) (x : Input) → a ≡ Submit q → input_of q ≡ Some x → IsCarried n run j x
     unfolding May

@@ -19,10 +19,10 @@ ghost use Rattle.ring_world.specs.Released.{IsKept, IsAnnounced};
 /// one candidate. It stands in the run, and every other candidate that stands there for the key, earlier or later, is
 /// less.
 pub fn agreement()
-    ensures same { (n capacity : ℕ) (run : List (ℕ × Input)) (key : Key) (c d : Candidate) → IsLegal n capacity run → IsKnown run key c → IsKnown run key d → c ≡ d }
-    ensures stands { (n capacity : ℕ) (run : List (ℕ × Input)) (key : Key) (c : Candidate) → IsLegal n capacity run → IsKnown run key c → Contains run (c.node, Stand key c.bid) }
-    ensures greatest { (n capacity : ℕ) (run : List (ℕ × Input)) (key : Key) (c d : Candidate)
-        → IsLegal n capacity run → IsKnown run key c → Contains run (d.node, Stand key d.bid) → d ≢ c → IsTrue (is_less d c) }
+    ensures same { (n : ℕ) (run : List (ℕ × Input)) (key : Key) (c d : Candidate) → IsLegal n run → IsKnown run key c → IsKnown run key d → c ≡ d }
+    ensures stands { (n : ℕ) (run : List (ℕ × Input)) (key : Key) (c : Candidate) → IsLegal n run → IsKnown run key c → Contains run (c.node, Stand key c.bid) }
+    ensures greatest { (n : ℕ) (run : List (ℕ × Input)) (key : Key) (c d : Candidate)
+        → IsLegal n run → IsKnown run key c → Contains run (d.node, Stand key d.bid) → d ≢ c → IsTrue (is_less d c) }
 {}
 
 /// In every schedule, at every node, what is released rests on inputs that are durable at its release. They are durable
@@ -36,7 +36,7 @@ pub fn prefix()
 /// In every schedule the inputs that became durable, in this order, are a legal run. Its part for a node is that node's
 /// first durable inputs.
 pub fn ring_legality()
-    ensures legal { (n capacity : ℕ) (events : List (ℕ × Action)) → IsSchedule n capacity events → IsLegal n capacity (committed n capacity events) }
+    ensures legal { (n capacity : ℕ) (events : List (ℕ × Action)) → IsSchedule n capacity events → IsLegal n (committed n capacity events) }
     ensures parts { (n capacity : ℕ) (events : List (ℕ × Action)) (i : ℕ)
         → IsSchedule n capacity events → part (committed n capacity events) i ≡ take (state_after n capacity events i).durable (state_after n capacity events i).inputs }
 {}
