@@ -1,6 +1,6 @@
 // What a node admits, and the first cause to refuse.
 use crate::rows::{input, inputs, node};
-use ring_records::look_back::refusal;
+use look_back::refusal;
 use ring_records::{Input, Refusal};
 use std::alloc::Global;
 use std::process::Abort;

@@ -1,6 +1,6 @@
 // What a node replies, and how many inputs that rests on.
 use crate::rows::{inputs, node};
-use ring_records::look_back::answer;
+use look_back::answer;
 use std::alloc::Global;
 use std::process::Abort;
 use test_rows::Note::{Elected, Token};

@@ -1,8 +1,6 @@
 // Elections, with what each node sends and knows worked out by hand.
 use crate::rows::{bid, candidate, input, inputs, key, messages, node};
-use ring_records::look_back::{
-    credit, emit, latest, leader, refusal, sent, stands, stood, taken, touched,
-};
+use look_back::{credit, emit, latest, leader, refusal, sent, stands, stood, taken, touched};
 use ring_records::{Input, NodeNo};
 use std::alloc::Global;
 use std::process::Abort;

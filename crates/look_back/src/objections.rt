@@ -1,0 +1,94 @@
+// What is against an input: the history, and the bytes that it takes.
+ghost use Rattle.std.specs.Prelude.{◌≡◌, ◌<◌, ◌≤◌, ◌*◌, ◌^◌, length};
+ghost use Rattle.ring_records.specs.Admission.{too_many, objection, used};
+ghost use Rattle.ring_records.specs.Member.{used_by};
+
+use crate::{credit, latest, sent_count, stands, stood, takes, touched};
+use ring_records::{Input, Key, Msg, NodeNo, Refusal};
+
+#[tactic(auto, unfolding(ring_records::specs::Admission::objection))]
+pub(super) fn objection(me: NodeNo, n: u8, history: &[Input], input: &Input) -> Option<Refusal>
+    ensures { result ≡ objection me n history.now input.now }
+{
+    match input {
+        Input::Stand { key, .. } => objection_to_stand(me, history, key),
+        Input::Take { no, msg } => objection_to_take(n, history, *no, msg),
+        Input::Acked { upto } => objection_to_ack(me, history, *upto),
+    }
+}
+
+#[tactic(auto, unfolding(ring_records::specs::Admission::objection, ring_records::specs::Admission::is_touched, ring_records::specs::Admission::already, ring_records::specs::Admission::stale))]
+fn objection_to_stand(me: NodeNo, history: &[Input], key: &Key) -> Option<Refusal>
+    ensures { result ≡ objection me 0 history.now (Input.Stand key.now 0) }
+{
+    if let Some(bid) = stood(history, key) {
+        return Some(Refusal::Already(bid));
+    }
+    if touched(history, key) {
+        return Some(Refusal::Late);
+    }
+    if let Some((greater, _)) = latest(me, history, &key.group) {
+        if key.term < greater {
+            return Some(Refusal::Stale(greater));
+        }
+    }
+    if stands(history) >= 1024 {
+        return Some(Refusal::Limit);
+    }
+    too_many(history)
+}
+
+#[tactic(auto, unfolding(ring_records::specs::Admission::objection, ring_records::specs::Admission::out_of_turn))]
+fn objection_to_take(n: u8, history: &[Input], no: u64, msg: &Msg) -> Option<Refusal>
+    ensures { result ≡ objection 0 n history.now (Input.Take no msg.now) }
+{
+    if n < msg.candidate().node.number() {
+        return Some(Refusal::BadNumber);
+    }
+    let expected = takes(history);
+    if no < expected {
+        return Some(Refusal::Old(expected));
+    }
+    if no > expected {
+        return Some(Refusal::Gap(expected));
+    }
+    too_many(history)
+}
+
+#[tactic(auto, unfolding(ring_records::specs::Admission::objection))]
+fn objection_to_ack(me: NodeNo, history: &[Input], upto: u64) -> Option<Refusal>
+    ensures { result ≡ objection me 0 history.now (Input.Acked upto) }
+{
+    let credit = credit(history);
+    if upto <= credit {
+        return Some(Refusal::Old(credit));
+    }
+    let sent = sent_count(me, history);
+    if upto > sent {
+        return Some(Refusal::AckAhead(sent));
+    }
+    too_many(history)
+}
+
+#[tactic(auto, unfolding(ring_records::specs::Admission::too_many))]
+fn too_many(history: &[Input]) -> Option<Refusal>
+    ensures { result ≡ too_many history.now }
+{
+    if history.len() >= 1 << 56 {
+        Some(Refusal::Limit)
+    } else {
+        None
+    }
+}
+
+pub(super) fn used(history: &[Input]) -> u64
+    requires { length history.now < 2 ^ 56 }
+    ensures value { result ≡ used_by history.now }
+    ensures bound { result ≤ 42 * length history.now }
+{
+    let mut used = 0;
+    for input in history {
+        used += input.cost() as u64;
+    }
+    used
+}
