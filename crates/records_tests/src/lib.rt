@@ -14,6 +14,8 @@ mod releases;
 #[cfg(test)]
 mod rows;
 #[cfg(test)]
+mod snapshots;
+#[cfg(test)]
 mod texts;
 #[cfg(test)]
 mod values;

@@ -1,24 +1,30 @@
 //! Laws of the definitions: public functions with an empty body, whose contracts say what follows from `specs/` alone.
 ghost use Rattle.std.specs.Prelude.{◌≡◌, ◌↔◌, ◌≤◌, ◌+◌, ◌||◌, ℕ, Option, true, false, if◌then◌else◌, List, [], ◌∷◌, ◌++◌, Some, None, slice_get, unwrap_or, length, Ok};
-ghost use Rattle.std.specs.List.{cons_option, Contains};
+ghost use Rattle.std.specs.FinMap as map;
+ghost use Rattle.std.specs.List.{cons_option, sum_by, Contains};
 ghost use Rattle.ring_records.specs.declared.candidate.Candidate.{Candidate};
 ghost use Rattle.ring_records.specs.declared.decision.Decision.{Decision};
 ghost use Rattle.ring_records.specs.declared.input.Input.{Input};
 ghost use Rattle.ring_records.specs.declared.key.Key.{Key};
 ghost use Rattle.ring_records.specs.declared.msg.Msg.{Msg};
+ghost use Rattle.ring_records.specs.declared.summary.Summary.{Summary};
 ghost use Rattle.ring_records.specs.Admission.{Base, cost, IsAllowed, IsAdmitted, objection, refusal};
 ghost use Rattle.ring_records.specs.declared.packet.Packet.{Packet};
+ghost use Rattle.ring_records.specs.declared.refusal.Refusal.{Refusal};
 ghost use Rattle.ring_records.specs.declared.request.Request.{Request};
 ghost use Rattle.ring_records.specs.Answer.{Answer, Answers, PacketRests};
 ghost use Rattle.ring_records.specs.Content.{named_by, leader_in, leads_in, IsNotBelow};
-ghost use Rattle.ring_records.specs.Emission.{emit, sent};
+ghost use Rattle.ring_records.specs.Emission.{emit, sent, carry};
 ghost use Rattle.ring_records.specs.History.{names, touched, bid_for, stood, message_of, taken, upto_of, credit, is_stand, stands};
-ghost use Rattle.ring_records.specs.Leader.{makes_leader, leader, latest, IsLatest};
-ghost use Rattle.ring_records.specs.Lists.{or_else};
+ghost use Rattle.ring_records.specs.Leader.{makes_leader, leader, latest, IsLatest, decided};
+ghost use Rattle.ring_records.specs.Known.{sends, stepped, after, Objects};
+ghost use Rattle.ring_records.specs.Lists.{or_else, EachAfter};
 ghost use Rattle.ring_records.specs.Member.{used_by};
 ghost use Rattle.ring_records.specs.Record.{AreBytes, HasRecord, BeginsWith, record_of, record_read};
 ghost use Rattle.ring_records.specs.Release.{packets, decisions, window, AreLeaders};
 ghost use Rattle.ring_records.specs.Ring.{IsLegal, part};
+ghost use Rattle.ring_records.specs.Snapshot.{IsSound, Spells, snapshot_len, state_len, msg_len};
+ghost use Rattle.ring_records.specs.Summary.{summary, empty};
 ghost use Rattle.ring_records.specs.WorkedRun.{red_5, winner, first_election};
 
 /// What one more input at the end changes: each look-back of the longer history is that of the shorter one, joined
@@ -94,7 +100,7 @@ pub fn released_stays()
 /// There is a legal run with a leader: three nodes stand for one key, and at its end each of them knows the one of
 /// the greatest bid.
 pub fn worked_run()
-    ensures legal { IsLegal 3 65536 first_election }
+    ensures legal { IsLegal 3 first_election }
     ensures node_1 { leader 1 (part first_election 1) red_5 ≡ Some winner }
     ensures node_2 { leader 2 (part first_election 2) red_5 ≡ Some winner }
     ensures node_3 { leader 3 (part first_election 3) red_5 ≡ Some winner }
@@ -107,4 +113,44 @@ pub fn records()
     ensures found { (bytes : List ℕ) (x : Input) (n : ℕ) → AreBytes bytes → record_read bytes ≡ Ok (x, n) → BeginsWith bytes x n }
     ensures apart { (x y : Input) (r s : List ℕ) → HasRecord x → HasRecord y → record_of x ++ r ≡ record_of y ++ s → x ≡ y }
     ensures cost { (x : Input) → cost x ≡ length (record_of x) + 7 }
+{}
+
+/// Two histories of a node that have one summary are as good as each other: they refuse the same inputs, room aside, send
+/// and decide the same, name the same leaders, and let the node release the same again. They go on so with each list
+/// of inputs that one of them allows.
+pub fn summary_suffices()
+    ensures refuses { (me n : ℕ) (g h : List Input) → summary me g ≡ summary me h → (x : Input) → objection me n g x ≡ objection me n h x }
+    ensures sends { (me : ℕ) (g h : List Input) → summary me g ≡ summary me h → (x : Input) → carry me g x ≡ carry me h x }
+    ensures decides { (me : ℕ) (g h : List Input) → summary me g ≡ summary me h → (x : Input) → decided me g x ≡ decided me h x }
+    ensures leads { (me : ℕ) (g h : List Input) → summary me g ≡ summary me h → (key : Key) → leader me g key ≡ leader me h key }
+    ensures latest { (me : ℕ) (g h : List Input) → summary me g ≡ summary me h → (group : List ℕ) → latest me g group ≡ latest me h group }
+    ensures window { (me : ℕ) (g h : List Input) → summary me g ≡ summary me h → window me g ≡ window me h }
+    ensures batch { (me n : ℕ) (g h l : List Input) → summary me g ≡ summary me h → EachAfter (IsAllowed me n) g l → (packets me g l ≡ packets me h l) × (decisions me g l ≡ decisions me h l) }
+    ensures stays { (me n : ℕ) (g h l : List Input) → summary me g ≡ summary me h → EachAfter (IsAllowed me n) g l → (summary me (g ++ l) ≡ summary me (h ++ l)) × EachAfter (IsAllowed me n) h l }
+{}
+
+/// A node that knows no more than a summary of its inputs sends, refuses and goes on as their history says. This holds of
+/// each history whose inputs were allowed one after the other.
+pub fn summary_goes_on()
+    ensures sends { (me : ℕ) (h : List Input) (x : Input) → sends me (summary me h) x ≡ emit me h x }
+    ensures objects { (me n : ℕ) (h : List Input) (x : Input) (o : Option Refusal) → Objects n (summary me h) x o → o ≡ objection me n h x }
+    ensures steps { (me n : ℕ) (h : List Input) (x : Input) → EachAfter (IsAllowed me n) [] h → IsAllowed me n h x → stepped me (summary me h) x ≡ summary me (h ++ x ∷ []) }
+    ensures goes_on { (me n : ℕ) (g l : List Input) → EachAfter (IsAllowed me n) [] g → EachAfter (IsAllowed me n) g l → after me (summary me g) l ≡ summary me (g ++ l) }
+{}
+
+/// What a node knows is sound: of no inputs, after each input to which it has no objection, and so of each history
+/// whose inputs have a record and were allowed one after the other.
+pub fn summary_sound()
+    ensures none { (me : ℕ) → summary me [] ≡ empty }
+    ensures empty { (n : ℕ) → IsSound n empty }
+    ensures steps { (me n : ℕ) (s : Summary) (x : Input) → 1 ≤ me → me ≤ 16 → me ≤ n → HasRecord x → IsSound n s → Objects n s x None → IsSound n (stepped me s x) }
+    ensures history { (me n : ℕ) (h : List Input) → 1 ≤ me → me ≤ 16 → me ≤ n → EachAfter (λ g x. IsAllowed me n g x × HasRecord x) [] h → IsSound n (summary me h) }
+{}
+
+/// Bytes are the snapshot of one summary at most, whatever it is asked to be of. That of no inputs has 38 bytes, and
+/// each key and each message that is not credited adds its own.
+pub fn snapshots()
+    ensures one { (n : ℕ) (bytes : List ℕ) (s t : Summary) → Spells n bytes s → Spells n bytes t → s ≡ t }
+    ensures len { (s : Summary) → snapshot_len s ≡ 38 + (sum_by state_len (map.values s.keys) + sum_by msg_len s.window) }
+    ensures none { snapshot_len empty ≡ 38 }
 {}

@@ -1,0 +1,244 @@
+-- Snapshots: what is read of one is spelled there, and what is spelled is read again, so bytes spell one summary at most.
+use Rattle.std.proofs.Common.{ℕ, suc, ◌≡◌, ◌+◌, ◌-◌, ◌^◌, ◌<◌, ◌≤◌, ltb, List, [], ◌∷◌, ◌++◌, map as list_map, length, Ok, Err, refl, sym, ap, subst, ◌∙◌, append_assoc, append-nil, arith, zero, inl, inr, ◌⊎◌}
+use Rattle.std.specs.FinMap as fin
+use Rattle.std.specs.Int.{w16, w32, w64, to_be_bytes}
+use Rattle.std.specs.List.{count_by, flat_map, AllByRecursion, Contains}
+use Rattle.std.specs.Prelude.{Result}
+use Rattle.std.proofs.lemmas.Bool.{ltb-false, le-ltb}
+use Rattle.std.proofs.lemmas.Nat.{be_bytes_2, from_be_bytes-to_be_bytes_2}
+use Rattle.ring_records.specs.declared.key.Key.{Key}
+use Rattle.ring_records.specs.declared.key_state.KeyState.{KeyState}
+use Rattle.ring_records.specs.declared.msg.Msg.{Msg}
+use Rattle.ring_records.specs.declared.record.RecordFault.{RecordFault}
+use Rattle.ring_records.specs.declared.record.RecordFault.TheVariants.{Number}
+use Rattle.ring_records.specs.declared.refusal.Refusal.{Refusal}
+use Rattle.ring_records.specs.declared.refusal.Refusal.TheVariants as refused
+use Rattle.ring_records.specs.declared.snapshot_read.Counts.{Counts}
+use Rattle.ring_records.specs.declared.summary.Summary.{Summary}
+use Rattle.ring_records.specs.KeyStates.{under_key, keyed}
+use Rattle.ring_records.specs.Record.{AreBytes, number_at}
+use Rattle.ring_records.specs.Snapshot.{state_bytes, msg_bytes, counts_bytes, snapshot_of, has_stood, IsStateOf, IsMessageOf, IsSound, Spells}
+use Rattle.ring_records.specs.SnapshotRead.{state_at, msg_at, items_at, counts_at, window_size, at_end, parts_at, AreFitting, IsBroken}
+use Rattle.ring_records.proofs.Compare.{get-key}
+use Rattle.ring_records.proofs.Fields.{bind_ok, must_not_ok, same_ok, Takes, Takes-then, IsWide, wide_32, wide_64, number-found, number-again}
+use Rattle.ring_records.proofs.SnapshotItems.{IsOwnState, state-found, state-again, msg-found, msg-again, items-found, items-again}
+use Rattle.ring_records.proofs.StatesInOrder.{values-keyed, len-values, IsOwn, sorted-own, entries-own, each-entry, each-found, each-value}
+
+-- ---- the counts
+
+wide_16 : IsWide w16 (2 ^ 16)
+wide_16 = record {
+  len = λ n. refl;
+  back = λ bytes len are. be_bytes_2 bytes _ len are refl;
+  again = λ n lt. from_be_bytes-to_be_bytes_2 n lt;
+  below = λ bytes are. omega (arith, are 0, are 1);
+}
+
+-- the bytes of the counts that were read
+abbrev numbers : Counts → List ℕ
+numbers k = to_be_bytes w64 k.inputs ++ to_be_bytes w64 k.taken ++ to_be_bytes w64 k.credit ++ to_be_bytes w64 k.sent ++ to_be_bytes w16 k.stands ++ to_be_bytes w32 k.keys
+
+-- what a snapshot begins with
+abbrev pub counts_of : Summary → Counts
+counts_of s = record { inputs = s.inputs; taken = s.taken; credit = s.credit; sent = s.sent; stands = s.stands; keys = fin.len s.keys }
+
+abbrev IsCounted : List ℕ → Counts × List ℕ → Type 0
+IsCounted bytes x = Takes bytes (numbers x.0) x.1 × (x.0.stands < 2 ^ 16) × (x.0.keys < 2 ^ 32)
+
+made : ℕ → ℕ → ℕ → ℕ → ℕ → ℕ → Counts
+made inputs taken credit sent stands keys = record { inputs = inputs; taken = taken; credit = credit; sent = sent; stands = stands; keys = keys }
+
+counts-found : (bytes : List ℕ) (x : Counts × List ℕ) → AreBytes bytes → counts_at bytes ≡ Ok x → IsCounted bytes x
+unfolding counts_at made
+counts-found bytes x are e =
+    let a = bind_ok (number_at w64 bytes) _ x e in
+    let b = bind_ok (number_at w64 a.0.1) _ x a.2 in
+    let c = bind_ok (number_at w64 b.0.1) _ x b.2 in
+    let d = bind_ok (number_at w64 c.0.1) _ x c.2 in
+    let f = bind_ok (number_at w16 d.0.1) _ x d.2 in
+    let g = bind_ok (number_at w32 f.0.1) _ x f.2 in
+    let inputs = number-found w64 (2 ^ 64) wide_64 bytes a.0 are a.1 in
+    let taken = number-found w64 (2 ^ 64) wide_64 a.0.1 b.0 inputs.0.left b.1 in
+    let credit = number-found w64 (2 ^ 64) wide_64 b.0.1 c.0 taken.0.left c.1 in
+    let sent = number-found w64 (2 ^ 64) wide_64 c.0.1 d.0 credit.0.left d.1 in
+    let stands = number-found w16 (2 ^ 16) wide_16 d.0.1 f.0 sent.0.left f.1 in
+    let keys = number-found w32 (2 ^ 32) wide_32 f.0.1 g.0 stands.0.left g.1 in
+    let two = Takes-then bytes _ a.0.1 _ b.0.1 inputs.0 taken.0 in
+    let three = Takes-then bytes _ b.0.1 _ c.0.1 two credit.0 in
+    let four = Takes-then bytes _ c.0.1 _ d.0.1 three sent.0 in
+    let five = Takes-then bytes _ d.0.1 _ f.0.1 four stands.0 in
+    let six = Takes-then bytes _ f.0.1 _ g.0.1 five keys.0 in
+    subst (IsCounted bytes) (same_ok (made a.0.0 b.0.0 c.0.0 d.0.0 f.0.0 g.0.0, g.0.1) x g.2) (six, stands.1, keys.1)
+
+counts-again : (k : Counts) (rest : List ℕ) → k.inputs < 2 ^ 64 → k.taken < 2 ^ 64 → k.credit < 2 ^ 64 → k.sent < 2 ^ 64 → k.stands < 2 ^ 16 → k.keys < 2 ^ 32 → counts_at (numbers k ++ rest) ≡ Ok (k, rest)
+unfolding counts_at
+counts-again k rest inputs taken credit sent stands keys =
+    let r6 : List ℕ = to_be_bytes w32 k.keys ++ rest in
+    let r5 : List ℕ = to_be_bytes w16 k.stands ++ r6 in
+    let r4 : List ℕ = to_be_bytes w64 k.sent ++ r5 in
+    let r3 : List ℕ = to_be_bytes w64 k.credit ++ r4 in
+    let r2 : List ℕ = to_be_bytes w64 k.taken ++ r3 in
+    let joined : numbers k ++ rest ≡ to_be_bytes w64 k.inputs ++ r2 = simp append_assoc in
+    ap counts_at joined ∙ rw (number-again w64 (2 ^ 64) wide_64 k.inputs r2 inputs, number-again w64 (2 ^ 64) wide_64 k.taken r3 taken, number-again w64 (2 ^ 64) wide_64 k.credit r4 credit, number-again w64 (2 ^ 64) wide_64 k.sent r5 sent, number-again w16 (2 ^ 16) wide_16 k.stands r6 stands, number-again w32 (2 ^ 32) wide_32 k.keys rest keys) refl
+
+-- ---- what is read is spelled
+
+abbrev Parts : Type 0
+Parts = Counts × List KeyState × List Msg
+
+-- the bytes are these parts, one behind the other
+record AreParts (n : ℕ) (bytes : List ℕ) (p : Parts) : Type 0 where
+  is : bytes ≡ numbers p.0 ++ (flat_map state_bytes p.1 ++ flat_map msg_bytes p.2)
+  few : p.0.stands < 2 ^ 16
+  few_keys : p.0.keys < 2 ^ 32
+  credit : p.0.credit ≤ p.0.sent
+  keys : length p.1 ≡ p.0.keys
+  window : length p.2 ≡ p.0.sent - p.0.credit
+  states : AllByRecursion (IsOwnState n) p.1
+  messages : AllByRecursion (IsMessageOf n) p.2
+
+end-found : (x y : Parts) (rest : List ℕ) → at_end x rest ≡ Ok y → (x ≡ y) × (rest ≡ [])
+end-found x y [] e = (same_ok x y e, refl)
+end-found x y (b ∷ rest) e = absurd cc
+
+joined : (bytes a b c r1 r2 r3 : List ℕ) → bytes ≡ a ++ r1 → r1 ≡ b ++ r2 → r2 ≡ c ++ r3 → r3 ≡ [] → bytes ≡ a ++ (b ++ c)
+joined bytes a b c r1 r2 r3 p q r s = p ∙ ap (λ (l : List ℕ). a ++ l) (q ∙ ap (λ (l : List ℕ). b ++ l) (r ∙ (ap (λ (l : List ℕ). c ++ l) s ∙ append-nil c)))
+
+parts-found : (n : ℕ) (bytes : List ℕ) (p : Parts) → AreBytes bytes → parts_at n bytes ≡ Ok p → AreParts n bytes p
+unfolding parts_at
+parts-found n bytes p are e =
+    let a = bind_ok (counts_at bytes) _ p e in
+    let k : Counts = a.0.0 in
+    let b = bind_ok (window_size k) _ p a.2 in
+    let c = bind_ok (items_at (state_at n) k.keys a.0.1) _ p b.2 in
+    let d = bind_ok (items_at (msg_at n) b.0 c.0.1) _ p c.2 in
+    let size = must_not_ok (ltb k.sent k.credit) Number (Ok (k.sent - k.credit)) b.0 b.1 in
+    let counts = counts-found bytes a.0 are a.1 in
+    let states = items-found (state_at n) state_bytes (IsOwnState n) (state-found n) k.keys a.0.1 c.0 counts.0.left c.1 in
+    let msgs = items-found (msg_at n) msg_bytes (IsMessageOf n) (msg-found n) b.0 c.0.1 d.0 states.taken.left d.1 in
+    let last = end-found (k, c.0.0, d.0.0) p d.0.1 d.2 in
+    subst (AreParts n bytes) {x = (k, c.0.0, d.0.0)} last.0 (record {
+      is = joined bytes (numbers k) (flat_map state_bytes c.0.0) (flat_map msg_bytes d.0.0) a.0.1 c.0.1 d.0.1 counts.0.parts states.taken.parts msgs.taken.parts last.1;
+      few = counts.1;
+      few_keys = counts.2;
+      credit = ltb-false k.sent k.credit size.0;
+      keys = states.len;
+      window = msgs.len ∙ sym (same_ok (k.sent - k.credit) b.0 size.1);
+      states = states.each;
+      messages = msgs.each;
+    })
+
+-- the summary of the parts
+abbrev pub made_of : Counts → List KeyState → List Msg → Summary
+made_of k states msgs = record { inputs = k.inputs; taken = k.taken; credit = k.credit; sent = k.sent; stands = k.stands; keys = keyed states; window = msgs }
+
+Contains-each : {A : Type 0} (P : A → Type 0) (xs : List A) → AllByRecursion P xs → (x : A) → Contains xs x → P x
+Contains-each P [] each x there = let below = there.1 in absurd (omega arith)
+Contains-each P (y ∷ xs) each x (zero, below, e) = subst P e each.0
+Contains-each P (y ∷ xs) each x (suc k, below, e) = Contains-each P xs each.1 x (k, omega arith, e)
+
+parts-spelled : (n : ℕ) (bytes : List ℕ) (k : Counts) (states : List KeyState) (msgs : List Msg) → AreParts n bytes (k, states, msgs) → AreFitting k states → Spells n bytes (made_of k states msgs)
+unfolding snapshot_of counts_bytes
+parts-spelled n bytes k states msgs parts fits =
+    let values : fin.values (keyed states) ≡ states = values-keyed states fits.rising in
+    let count : fin.len (keyed states) ≡ k.keys = sym (len-values (keyed states)) ∙ (ap length values ∙ parts.keys) in
+    let front : List ℕ = to_be_bytes w64 k.inputs ++ to_be_bytes w64 k.taken ++ to_be_bytes w64 k.credit ++ to_be_bytes w64 k.sent ++ to_be_bytes w16 k.stands in
+    record {
+      is = parts.is
+          ∙ (sym (append_assoc (numbers k) (flat_map state_bytes states) (flat_map msg_bytes msgs))
+          ∙ (λ i. (front ++ to_be_bytes w32 (sym count i)) ++ flat_map state_bytes (sym values i) ++ flat_map msg_bytes msgs));
+      sound = record {
+        inputs = fits.inputs;
+        acts = fits.acts;
+        sent = fits.sent;
+        credit = parts.credit;
+        window = parts.window;
+        few = parts.few;
+        stands = fits.stands ∙ ap (count_by has_stood) (sym values);
+        states = λ key state e. each-found (IsStateOf n) states parts.states key state (sym (get-key (list_map under_key states) key) ∙ e);
+        messages = Contains-each (IsMessageOf n) msgs parts.messages;
+      };
+      few_keys = subst (λ (c : ℕ). c < 2 ^ 32) (sym count) parts.few_keys;
+    }
+
+pub read-spelled : (n : ℕ) (bytes : List ℕ) (k : Counts) (states : List KeyState) (msgs : List Msg) → AreBytes bytes → parts_at n bytes ≡ Ok (k, states, msgs) → AreFitting k states → Spells n bytes (made_of k states msgs)
+read-spelled n bytes k states msgs are e fits = parts-spelled n bytes k states msgs (parts-found n bytes (k, states, msgs) are e) fits
+
+-- ---- what is spelled is read
+
+each-Contained : {A : Type 0} (P : A → Type 0) (xs : List A) → ((x : A) → Contains xs x → P x) → AllByRecursion P xs
+each-Contained P [] holds = tt
+each-Contained P (x ∷ xs) holds = (holds x (0, omega arith, refl), each-Contained P xs (λ y there. holds y (suc there.0, (let below = there.1 in omega arith), there.2)))
+
+module _ (n : ℕ) (s : Summary) (sound : IsSound n s) where
+  entries-of : AllByRecursion (λ (e : Key × KeyState). IsStateOf n e.0 e.1) (fin.entries s.keys)
+  entries-of = each-entry (IsStateOf n) (fin.entries s.keys) (fin.entries_sorted s.keys) (λ k t found. sound.states k t (fin.get-entries s.keys k ∙ found))
+
+  owns : (es : List (Key × KeyState)) → AllByRecursion (λ (e : Key × KeyState). IsStateOf n e.0 e.1) es → AllByRecursion IsOwn es × AllByRecursion (λ (e : Key × KeyState). IsOwnState n e.1) es
+  owns [] each = (tt, tt)
+  owns (e ∷ es) each =
+      let rest = owns es each.1 in
+      ((each.0.own, rest.0), (subst (λ (k : Key). IsStateOf n k e.1) (sym each.0.own) each.0, rest.1))
+
+  own-entries : AllByRecursion IsOwn (fin.entries s.keys)
+  own-entries = (owns (fin.entries s.keys) entries-of).0
+
+  states-each : AllByRecursion (IsOwnState n) (fin.values s.keys)
+  states-each = each-value (IsOwnState n) (fin.entries s.keys) (owns (fin.entries s.keys) entries-of).1
+
+  pub sound-fits : AreFitting (counts_of s) (fin.values s.keys)
+  sound-fits = record {
+    inputs = sound.inputs;
+    acts = sound.acts;
+    sent = sound.sent;
+    stands = sound.stands;
+    rising = sorted-own (fin.entries s.keys) own-entries (fin.entries_sorted s.keys);
+  }
+
+  pub parts-again : fin.len s.keys < 2 ^ 32 → parts_at n (snapshot_of s) ≡ Ok (counts_of s, fin.values s.keys, s.window)
+  unfolding parts_at snapshot_of counts_bytes
+  parts-again few =
+      let k : Counts = counts_of s in
+      let states : List ℕ = flat_map state_bytes (fin.values s.keys) in
+      let msgs : List ℕ = flat_map msg_bytes s.window in
+      let inputs : s.inputs ≤ 2 ^ 56 = sound.inputs in
+      let acts : s.taken + s.stands ≤ s.inputs = sound.acts in
+      let sent : s.sent ≤ s.inputs = sound.sent in
+      let credit : s.credit ≤ s.sent = sound.credit in
+      let regrouped : numbers k ++ states ++ msgs ≡ numbers k ++ (states ++ msgs) = append_assoc (numbers k) states msgs in
+      let counts = counts-again k (states ++ msgs) (omega arith) (omega arith) (omega arith) (omega arith) sound.few few in
+      let size : window_size k ≡ Ok (s.sent - s.credit) = rw (le-ltb s.sent s.credit credit) refl in
+      let keys : items_at (state_at n) (fin.len s.keys) (states ++ msgs) ≡ Ok (fin.values s.keys, msgs) =
+      ap (λ c. items_at (state_at n) c (states ++ msgs)) (sym (len-values s.keys)) ∙ items-again (state_at n) state_bytes (IsOwnState n) (state-again n) (fin.values s.keys) msgs states-each in
+      let window : items_at (msg_at n) (s.sent - s.credit) msgs ≡ Ok (s.window, []) =
+      (λ i. items_at (msg_at n) (sym sound.window i) (sym (append-nil msgs) i)) ∙ items-again (msg_at n) msg_bytes (IsMessageOf n) (msg-again n) s.window [] (each-Contained (IsMessageOf n) s.window sound.messages) in
+      ap (parts_at n) regrouped ∙ rw (counts, size, keys, window) refl
+
+pub spelled-read : (n : ℕ) (bytes : List ℕ) (s : Summary) → Spells n bytes s → parts_at n bytes ≡ Ok (counts_of s, fin.values s.keys, s.window)
+spelled-read n bytes s spells = ap (parts_at n) spells.is ∙ parts-again n s spells.sound spells.few_keys
+
+pub none-spelled : (n : ℕ) (bytes : List ℕ) (fault : RecordFault) → parts_at n bytes ≡ Err fault → (s : Summary) → Spells n bytes s → ⊥
+none-spelled n bytes fault e s spells = apart _ _ (sym (spelled-read n bytes s spells) ∙ e)
+  where
+    apart : (x : Parts) (d : RecordFault) → ◌≡◌ {A = Result Parts RecordFault} (Ok x) (Err d) → ⊥
+    apart x d f = cc f
+
+pub unfit-spelled : (n : ℕ) (bytes : List ℕ) (k : Counts) (states : List KeyState) (msgs : List Msg) → parts_at n bytes ≡ Ok (k, states, msgs) → (AreFitting k states → ⊥) → (s : Summary) → Spells n bytes s → ⊥
+unfit-spelled n bytes k states msgs e unfit s spells =
+    let same : ◌≡◌ {A = Parts} (counts_of s, fin.values s.keys, s.window) (k, states, msgs) = same_ok _ _ (sym (spelled-read n bytes s spells) ∙ e) in
+    unfit (subst (λ (p : Parts). AreFitting p.0 p.1) same (sound-fits n s spells.sound))
+
+-- bytes spell one summary at most
+pub one-spelled : (n : ℕ) (bytes : List ℕ) (s t : Summary) → Spells n bytes s → Spells n bytes t → s ≡ t
+one-spelled n bytes s t a b = λ i. record { inputs = (same i).0.inputs; taken = (same i).0.taken; credit = (same i).0.credit; sent = (same i).0.sent; stands = (same i).0.stands; keys = keys i; window = (same i).2 }
+  where
+    same : ◌≡◌ {A = Parts} (counts_of s, fin.values s.keys, s.window) (counts_of t, fin.values t.keys, t.window)
+    same = same_ok _ _ (sym (spelled-read n bytes s a) ∙ spelled-read n bytes t b)
+
+    keys : s.keys ≡ t.keys
+    keys = fin.same_entries_map s.keys t.keys
+        (sym (entries-own (fin.entries s.keys) (own-entries n s a.sound)) ∙ (ap (λ (p : Parts). list_map under_key p.1) same ∙ entries-own (fin.entries t.keys) (own-entries n t b.sound)))
+
+pub broken-spelled : (n : ℕ) (bytes : List ℕ) (e : Refusal) (found : Result Parts RecordFault) → found ≡ parts_at n bytes → IsBroken e found → (e ≡ refused.OutOfMemory) ⊎ ((e ≡ refused.Damaged 0) × ((s : Summary) → Spells n bytes s → ⊥))
+broken-spelled n bytes e (Ok x) is broken = inl broken
+broken-spelled n bytes e (Err fault) is broken = elim broken [ inl damaged ↦ inr (damaged, none-spelled n bytes fault (sym is)) | inr memory ↦ inl memory ]

@@ -1,0 +1,103 @@
+-- The bytes of a summary in a journal, and which bytes spell one. Numbers are big-endian.
+use Rattle.std.specs.Prelude.{ℕ, ◌≡◌, ◌+◌, ◌-◌, ◌^◌, ◌<◌, ◌≤◌, Bool, if◌then◌else◌, List, [], ◌∷◌, ◌++◌, length, Option, Some, None, is_some}
+use Rattle.std.specs.FinMap as fin
+use Rattle.std.specs.Int.{w16, w32, w64, to_be_bytes}
+use Rattle.std.specs.List.{flat_map, count_by, Contains}
+use Rattle.ring_records.specs.declared.candidate.Candidate.{Candidate}
+use Rattle.ring_records.specs.declared.key.Key.{Key}
+use Rattle.ring_records.specs.declared.key_state.KeyState.{KeyState}
+use Rattle.ring_records.specs.declared.msg.Msg.{Msg}
+use Rattle.ring_records.specs.declared.summary.Summary.{Summary}
+use Rattle.ring_records.specs.Message.{key_of, candidate_of}
+use Rattle.ring_records.specs.Record.{key_bytes, candidate_bytes, take_kind, IsKeyInRange, IsCandidateInRange}
+
+-- ---- the bytes
+
+-- bit 0 where the node stood, bit 1 where a leader is known
+abbrev pub flags : KeyState → ℕ
+flags s = (if is_some s.stood then 1 else 0) + (if is_some s.leader then 2 else 0)
+
+abbrev pub bid_bytes : Option ℕ → List ℕ
+bid_bytes None = []
+bid_bytes (Some bid) = to_be_bytes w32 bid
+
+abbrev pub leader_bytes : Option Candidate → List ℕ
+leader_bytes None = []
+leader_bytes (Some c) = candidate_bytes c
+
+-- a key, its flags, the bid if it stood, the leader if one is known
+unfoldable pub state_bytes : KeyState → List ℕ
+state_bytes s = key_bytes s.key ++ (flags s ∷ []) ++ bid_bytes s.stood ++ leader_bytes s.leader
+
+-- the kind, the key, the candidate
+unfoldable pub msg_bytes : Msg → List ℕ
+msg_bytes msg = (take_kind msg ∷ []) ++ key_bytes (key_of msg) ++ candidate_bytes (candidate_of msg)
+
+-- the five counts, and how many keys there are
+unfoldable pub counts_bytes : Summary → ℕ → List ℕ
+counts_bytes s keys =
+    to_be_bytes w64 s.inputs ++ to_be_bytes w64 s.taken ++ to_be_bytes w64 s.credit ++ to_be_bytes w64 s.sent
+    ++ to_be_bytes w16 s.stands ++ to_be_bytes w32 keys
+
+-- the states of the keys, in order of key
+abbrev pub keys_bytes : Summary → List ℕ
+keys_bytes s = flat_map state_bytes (fin.values s.keys)
+
+-- the messages that were sent and not credited
+abbrev pub window_bytes : Summary → List ℕ
+window_bytes s = flat_map msg_bytes s.window
+
+-- the snapshot
+unfoldable pub snapshot_of : Summary → List ℕ
+snapshot_of s = counts_bytes s (fin.len s.keys) ++ keys_bytes s ++ window_bytes s
+
+-- its length
+abbrev pub snapshot_len : Summary → ℕ
+snapshot_len s = length (snapshot_of s)
+
+-- how many of these bytes the state of a key takes, and a message
+abbrev pub state_len : KeyState → ℕ
+state_len s = 6 + length s.key.group + ((if is_some s.stood then 4 else 0) + (if is_some s.leader then 5 else 0))
+
+abbrev pub msg_len : Msg → ℕ
+msg_len msg = 11 + length (key_of msg).group
+
+-- ---- what a snapshot is asked for: where one of these fails it is broken
+
+-- a candidate of a ring of n
+pub record IsCandidateOf (n : ℕ) (c : Candidate) : Type 0 where
+  pub in_range : IsCandidateInRange c
+  pub in_ring : c.node ≤ n
+
+-- what a node of a ring of n may know of the key
+pub record IsStateOf (n : ℕ) (key : Key) (s : KeyState) : Type 0 where
+  pub own : s.key ≡ key
+  pub named : IsKeyInRange key
+  pub bid : (bid : ℕ) → s.stood ≡ Some bid → bid ≤ 999999999
+  pub led : (c : Candidate) → s.leader ≡ Some c → IsCandidateOf n c
+
+-- a message of a ring of n
+pub record IsMessageOf (n : ℕ) (msg : Msg) : Type 0 where
+  pub named : IsKeyInRange (key_of msg)
+  pub candidate : IsCandidateOf n (candidate_of msg)
+
+abbrev pub has_stood : KeyState → Bool
+has_stood s = is_some s.stood
+
+-- The counts fit each other and what is known of the keys, and all that is named is of a ring of n.
+pub record IsSound (n : ℕ) (s : Summary) : Type 0 where
+  pub inputs : s.inputs ≤ 2 ^ 56
+  pub acts : s.taken + s.stands ≤ s.inputs
+  pub sent : s.sent ≤ s.inputs
+  pub credit : s.credit ≤ s.sent
+  pub window : length s.window ≡ s.sent - s.credit
+  pub few : s.stands < 2 ^ 16
+  pub stands : s.stands ≡ count_by has_stood (fin.values s.keys)
+  pub states : (key : Key) (state : KeyState) → fin.get s.keys key ≡ Some state → IsStateOf n key state
+  pub messages : (msg : Msg) → Contains s.window msg → IsMessageOf n msg
+
+-- the bytes are the snapshot of s, which a node of a ring of n may have
+pub record Spells (n : ℕ) (bytes : List ℕ) (s : Summary) : Type 0 where
+  pub is : bytes ≡ snapshot_of s
+  pub sound : IsSound n s
+  pub few_keys : fin.len s.keys < 2 ^ 32

@@ -1,0 +1,358 @@
+// Reading the bytes of a summary.
+ghost use Rattle.std.specs.Prelude.{◌≡◌, ◌++◌, ◌∷◌, ◌⊎◌, [], Decides, IfOk, IfErr, Ok};
+ghost use Rattle.std.specs.Int.{w16};
+ghost use Rattle.std.specs.List.{count_by};
+ghost use Rattle.std.specs.List.Sorted.{IsStrictlySortedBy};
+ghost use Rattle.std.specs.declared.cmp.Ordering.TheVariants.{Less};
+ghost use Rattle.ring_records.specs.declared.summary.Summary.{Summary};
+ghost use Rattle.ring_records.specs.declared.refusal.Refusal.TheVariants.{Damaged, OutOfMemory};
+ghost use Rattle.ring_records.specs.KeyStates.{by_state};
+ghost use Rattle.ring_records.specs.Record.{Finds, number_at};
+ghost use Rattle.ring_records.specs.Snapshot.{Spells, has_stood};
+ghost use Rattle.ring_records.specs.SnapshotRead.{candidate_in, state_behind, state_at, named_at, token_of, elected_of, msg_behind, msg_at, items_at, counts_at, parts_at, AreFitting, IsBroken};
+
+use crate::record::{RecordFault, bid_of, byte_of, candidate_of, key_of, u32_of, u64_of};
+use crate::{Bid, Candidate, Key, KeyState, KeyStates, Messages, Msg, Refusal, Summary};
+use std::alloc::{AllocError, Global};
+use std::cmp::Ordering;
+
+// What a snapshot begins with: the counts of its summary, and how many keys there are.
+#[derive(Clone, Copy)]
+struct Counts {
+    inputs: u64,
+    taken: u64,
+    credit: u64,
+    sent: u64,
+    stands: u16,
+    keys: u32,
+}
+
+/// The summary whose snapshot these bytes are, in a ring of `n` nodes; refused as 16 with offset 0 where they are that
+/// of none, and as 8.
+pub fn read_summary(alloc: Global, bytes: &[u8], n: u8) -> Result<Summary, Refusal>
+    ensures found { IfOk result (λ s. Spells n bytes.now s) }
+    ensures broken { IfErr result (λ e. (e ≡ OutOfMemory) ⊎ ((e ≡ Damaged 0) × ((s : Summary) → ¬ (Spells n bytes.now s)))) }
+{
+    let (counts, states, messages) = match parts_of(alloc, bytes, n) {
+        Ok(parts) => parts,
+        Err(refusal) => return Err(refusal),
+    };
+    if !are_fitting(&counts, &states) {
+        return Err(Refusal::Damaged(0));
+    }
+    Ok(Summary {
+        inputs: counts.inputs,
+        taken: counts.taken,
+        credit: counts.credit,
+        sent: counts.sent,
+        stands: counts.stands,
+        keys: KeyStates::from_sorted(states),
+        window: Messages::from_vec(messages),
+    })
+}
+
+#[tactic(auto, unfolding(crate::specs::SnapshotRead::parts_at))]
+fn parts_of(
+    alloc: Global,
+    bytes: &[u8],
+    n: u8,
+) -> Result<(Counts, Vec<KeyState>, Vec<Msg>), Refusal>
+    ensures found { IfOk result (λ x. parts_at n bytes.now ≡ Ok (x.0, x.1.items, x.2.items)) }
+    ensures broken { IfErr result (λ e. IsBroken e (parts_at n bytes.now)) }
+{
+    let (counts, rest) = match counts_of(bytes) {
+        Ok(x) => x,
+        Err(_) => return Err(Refusal::Damaged(0)),
+    };
+    if counts.sent < counts.credit {
+        return Err(Refusal::Damaged(0));
+    }
+    let (states, rest) = match states_of(alloc, n, counts.keys, rest) {
+        Ok(x) => x,
+        Err(refusal) => return Err(refusal),
+    };
+    let (messages, rest) = match messages_of(alloc, n, counts.sent - counts.credit, rest) {
+        Ok(x) => x,
+        Err(refusal) => return Err(refusal),
+    };
+    match rest {
+        [] => Ok((counts, states, messages)),
+        [..] => Err(Refusal::Damaged(0)),
+    }
+}
+
+#[tactic(auto, unfolding(crate::specs::SnapshotRead::counts_at))]
+fn counts_of(bytes: &[u8]) -> Result<(Counts, &[u8]), RecordFault>
+    ensures { Finds (λ x. (x.0, x.1.now)) result (counts_at bytes.now) }
+{
+    let (inputs, rest) = u64_of(bytes)?;
+    let (taken, rest) = u64_of(rest)?;
+    let (credit, rest) = u64_of(rest)?;
+    let (sent, rest) = u64_of(rest)?;
+    let (stands, rest) = u16_of(rest)?;
+    let (keys, rest) = u32_of(rest)?;
+    let counts = Counts {
+        inputs,
+        taken,
+        credit,
+        sent,
+        stands,
+        keys,
+    };
+    Ok((counts, rest))
+}
+
+fn u16_of(bytes: &[u8]) -> Result<(u16, &[u8]), RecordFault>
+    ensures { Finds (λ x. (x.0, x.1.now)) result (number_at w16 bytes.now) }
+{
+    if bytes.len() < 2 {
+        return Err(RecordFault::Short);
+    }
+    let (front, rest) = bytes.split_at(2);
+    let number = u16::from_be_bytes([front[0], front[1]]);
+    Ok((number, rest))
+}
+
+// ---- the states of keys
+
+// So many states, and the bytes after them.
+fn states_of(
+    alloc: Global,
+    n: u8,
+    count: u32,
+    bytes: &[u8],
+) -> Result<(Vec<KeyState>, &[u8]), Refusal>
+    ensures found { IfOk result (λ x. items_at (state_at n) count bytes.now ≡ Ok (x.0.items, x.1.now)) }
+    ensures broken { IfErr result (λ e. IsBroken e (items_at (state_at n) count bytes.now)) }
+{
+    let mut states = Vec::new(alloc);
+    let mut rest = bytes;
+    for i in 0..count {
+        let (state, after) = match state_of(n, rest) {
+            Ok(x) => x,
+            Err(_) => return Err(Refusal::Damaged(0)),
+        };
+        match push_state(&mut states, &state) {
+            Ok(()) => {}
+            Err(_) => return Err(Refusal::OutOfMemory),
+        }
+        rest = after;
+    }
+    Ok((states, rest))
+}
+
+fn push_state(states: &mut Vec<KeyState>, state: &KeyState) -> Result<(), AllocError>
+    ensures { IfOk result (λ _. states.new.items ≡ states.old.items ++ state.now ∷ []) }
+{
+    let stood: Option<Bid> = state.stood;
+    let leader: Option<Candidate> = state.leader;
+    states.push(KeyState {
+        key: state.key,
+        stood,
+        leader,
+    })?;
+    Ok(())
+}
+
+#[tactic(auto, unfolding(crate::specs::SnapshotRead::state_at))]
+fn state_of(n: u8, bytes: &[u8]) -> Result<(KeyState, &[u8]), RecordFault>
+    ensures { Finds (λ x. (x.0, x.1.now)) result (state_at n bytes.now) }
+{
+    let (key, rest) = match key_of(bytes) {
+        Ok(x) => x,
+        Err(fault) => return Err(fault),
+    };
+    let (flags, rest) = byte_of(rest)?;
+    behind_key(n, key, flags, rest)
+}
+
+#[tactic(auto, unfolding(crate::specs::SnapshotRead::state_behind))]
+fn behind_key(n: u8, key: Key, flags: u8, bytes: &[u8]) -> Result<(KeyState, &[u8]), RecordFault>
+    ensures { Finds (λ x. (x.0, x.1.now)) result (state_behind n key flags bytes.now) }
+{
+    match flags {
+        0 => Ok((
+            KeyState {
+                key,
+                stood: None,
+                leader: None,
+            },
+            bytes,
+        )),
+        1 => match bid_of(bytes) {
+            Ok((bid, rest)) => Ok((
+                KeyState {
+                    key,
+                    stood: Some(bid),
+                    leader: None,
+                },
+                rest,
+            )),
+            Err(fault) => Err(fault),
+        },
+        2 => match candidate_in(n, bytes) {
+            Ok((leader, rest)) => Ok((
+                KeyState {
+                    key,
+                    stood: None,
+                    leader: Some(leader),
+                },
+                rest,
+            )),
+            Err(fault) => Err(fault),
+        },
+        3 => both_behind(n, key, bytes),
+        _ => Err(RecordFault::Number),
+    }
+}
+
+#[tactic(auto, unfolding(crate::specs::SnapshotRead::state_behind))]
+fn both_behind(n: u8, key: Key, bytes: &[u8]) -> Result<(KeyState, &[u8]), RecordFault>
+    ensures { Finds (λ x. (x.0, x.1.now)) result (state_behind n key 3 bytes.now) }
+{
+    let (bid, rest) = match bid_of(bytes) {
+        Ok(x) => x,
+        Err(fault) => return Err(fault),
+    };
+    match candidate_in(n, rest) {
+        Ok((leader, rest)) => Ok((
+            KeyState {
+                key,
+                stood: Some(bid),
+                leader: Some(leader),
+            },
+            rest,
+        )),
+        Err(fault) => Err(fault),
+    }
+}
+
+#[tactic(auto, unfolding(crate::specs::SnapshotRead::candidate_in))]
+fn candidate_in(n: u8, bytes: &[u8]) -> Result<(Candidate, &[u8]), RecordFault>
+    ensures { Finds (λ x. (x.0, x.1.now)) result (candidate_in n bytes.now) }
+{
+    let (candidate, rest) = match candidate_of(bytes) {
+        Ok(x) => x,
+        Err(fault) => return Err(fault),
+    };
+    if n < candidate.node.number() {
+        return Err(RecordFault::Number);
+    }
+    Ok((candidate, rest))
+}
+
+// ---- messages
+
+// So many messages, and the bytes after them.
+fn messages_of(alloc: Global, n: u8, count: u64, bytes: &[u8]) -> Result<(Vec<Msg>, &[u8]), Refusal>
+    ensures found { IfOk result (λ x. items_at (msg_at n) count bytes.now ≡ Ok (x.0.items, x.1.now)) }
+    ensures broken { IfErr result (λ e. IsBroken e (items_at (msg_at n) count bytes.now)) }
+{
+    let mut messages = Vec::new(alloc);
+    let mut rest = bytes;
+    for i in 0..count {
+        let (msg, after) = match msg_of(n, rest) {
+            Ok(x) => x,
+            Err(_) => return Err(Refusal::Damaged(0)),
+        };
+        match messages.extend_from_slice(&[msg]) {
+            Ok(()) => {}
+            Err(_) => return Err(Refusal::OutOfMemory),
+        }
+        rest = after;
+    }
+    Ok((messages, rest))
+}
+
+#[tactic(auto, unfolding(crate::specs::SnapshotRead::msg_at, crate::specs::SnapshotRead::msg_behind))]
+fn msg_of(n: u8, bytes: &[u8]) -> Result<(Msg, &[u8]), RecordFault>
+    ensures { Finds (λ x. (x.0, x.1.now)) result (msg_at n bytes.now) }
+{
+    let (kind, rest) = byte_of(bytes)?;
+    match kind {
+        2 => token_of(n, rest),
+        3 => elected_of(n, rest),
+        _ => Err(RecordFault::Kind),
+    }
+}
+
+#[tactic(auto, unfolding(crate::specs::SnapshotRead::token_of))]
+fn token_of(n: u8, bytes: &[u8]) -> Result<(Msg, &[u8]), RecordFault>
+    ensures { Finds (λ x. (x.0, x.1.now)) result (token_of n bytes.now) }
+{
+    match named_of(n, bytes) {
+        Ok((key, candidate, rest)) => Ok((Msg::Token { key, candidate }, rest)),
+        Err(fault) => Err(fault),
+    }
+}
+
+#[tactic(auto, unfolding(crate::specs::SnapshotRead::elected_of))]
+fn elected_of(n: u8, bytes: &[u8]) -> Result<(Msg, &[u8]), RecordFault>
+    ensures { Finds (λ x. (x.0, x.1.now)) result (elected_of n bytes.now) }
+{
+    match named_of(n, bytes) {
+        Ok((key, candidate, rest)) => Ok((Msg::Elected { key, candidate }, rest)),
+        Err(fault) => Err(fault),
+    }
+}
+
+#[tactic(auto, unfolding(crate::specs::SnapshotRead::named_at))]
+fn named_of(n: u8, bytes: &[u8]) -> Result<(Key, Candidate, &[u8]), RecordFault>
+    ensures { Finds (λ x. ((x.0, x.1), x.2.now)) result (named_at n bytes.now) }
+{
+    let (key, rest) = match key_of(bytes) {
+        Ok(x) => x,
+        Err(fault) => return Err(fault),
+    };
+    match candidate_in(n, rest) {
+        Ok((candidate, rest)) => Ok((key, candidate, rest)),
+        Err(fault) => Err(fault),
+    }
+}
+
+// ---- what must fit
+
+fn are_fitting(counts: &Counts, states: &[KeyState]) -> bool
+    ensures { Decides result (AreFitting counts.now states.now) }
+{
+    let stands = u64::from(counts.stands);
+    counts.inputs <= 1 << 56
+        && counts.taken <= counts.inputs
+        && stands <= counts.inputs - counts.taken
+        && counts.sent <= counts.inputs
+        && stands == stood_count(states)
+        && are_rising(states)
+}
+
+fn stood_count(states: &[KeyState]) -> u64
+    ensures value { result ≡ count_by has_stood states.now }
+{
+    let mut count = 0;
+    for state in states {
+        if state.stood.is_some() {
+            count += 1;
+        }
+    }
+    count
+}
+
+fn are_rising(states: &[KeyState]) -> bool
+    ensures { Decides result (IsStrictlySortedBy by_state states.now) }
+{
+    for i in 1..states.len() {
+        if !is_before(&states[i - 1], &states[i]) {
+            return false;
+        }
+    }
+    true
+}
+
+fn is_before(state: &KeyState, other: &KeyState) -> bool
+    ensures { Decides result (by_state state.now other.now ≡ Less) }
+{
+    match state.key.cmp(&other.key) {
+        Ordering::Less => true,
+        Ordering::Equal => false,
+        Ordering::Greater => false,
+    }
+}
