@@ -1,6 +1,8 @@
 -- What the holders of a hub's ledgers count.
-use Rattle.std.specs.Prelude.{ℕ}
+use Rattle.std.specs.Prelude.{ℕ, ◌≡◌, ◌+◌, List, length}
+use Rattle.std.specs.List.{sum_by}
 use Rattle.std.specs.declared.sync.ledger.Ledger as ledger
+use Rattle.ring_records.specs.declared.input.Input.{Input}
 use Rattle.commit_hub.specs.declared.ledgers.Node as node
 use Rattle.commit_hub.specs.declared.ledgers.Whole as whole
 use Rattle.commit_hub.specs.declared.share.Share.{Share}
@@ -10,6 +12,10 @@ module _ {A : Type 0} {a : node.Ghosts A} where
   -- the inputs that its holder submitted and the desk accepted
   abbrev pub count_of : Share A a → ℕ
   count_of share = share.count
+
+  -- of these inputs, behind the first so many, the shares count each one
+  abbrev pub AddUp : List (Share A a) → ℕ → List Input → Type 0
+  AddUp shares first inputs = length inputs ≡ first + sum_by count_of shares
 
 module _ {A D C : Type 0} {a : node.Ghosts A} {la : ledger.Ghosts A} {d : whole.Ghosts D} {c : whole.Ghosts C} where
   -- the inputs of the hub that are durable

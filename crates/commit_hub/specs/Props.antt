@@ -1,8 +1,7 @@
 -- That each fact which a hub keeps has one proof at most.
-use Rattle.std.specs.Prelude.{◌≡◌, List}
+use Rattle.std.specs.Prelude.{◌≡◌}
 use Rattle.std.proofs.Props.{props}
 use Rattle.std.specs.Coded.{le_prop}
-use Rattle.ring_records.specs.declared.input.Input.{Input}
 use Rattle.ring_records.specs.Answer.{NodeState, IsNodeState}
 use Rattle.ring_records.specs.Member.{Member}
 

@@ -5,7 +5,7 @@ use Rattle.ring_records.specs.declared.packet.Packet.{Packet}
 use Rattle.ring_records.specs.declared.refusal.Refusal.{Refusal}
 use Rattle.ring_records.specs.declared.refusal.Refusal.TheVariants as refused
 use Rattle.ring_records.specs.declared.request.Request.{Request}
-use Rattle.ring_records.specs.Member.{Member, member, IsHistory}
+use Rattle.ring_records.specs.Member.{Member, IsHistory}
 use Rattle.ring_records.specs.Message.{is_outside}
 use Rattle.ring_records.specs.Release.{packets, decisions, window}
 use Rattle.group_commit.specs.declared.landed.Landed.{Landed}

@@ -239,15 +239,15 @@ impl<A: Node, D: Whole, C: Whole> Hub<A, D, C> {
         ensures back { IfErr result (λ e. map count_of e.1.items ≡ map count_of shares.items) }
     {
         let Hub { guarded, bells } = self;
-        let mut guarded = guarded.into_inner();
-        let mut shares = shares;
-        if guarded.locked.adds_up(&mut shares) {
-            return Ok(guarded.into_desk());
+        match guarded.into_inner().into_locked().settle(shares) {
+            Ok(desk) => Ok(desk),
+            Err((locked, shares)) => {
+                let hub = Hub {
+                    guarded: Mutex::new(Guarded::new(locked)),
+                    bells,
+                };
+                Err((hub, shares, Refusal::Mismatch))
+            }
         }
-        let hub = Hub {
-            guarded: Mutex::new(guarded),
-            bells,
-        };
-        Err((hub, shares, Refusal::Mismatch))
     }
 }

@@ -1,32 +1,53 @@
 //! Whether the shares add up to what a hub's desk accepted.
-ghost use Rattle.std.specs.Prelude.{◌≡◌, ◌+◌, ◌-◌, ◌^◌, ◌↔◌, IsTrue, length, map, min};
+ghost use Rattle.std.specs.Prelude.{◌≡◌, ◌+◌, ◌-◌, ◌^◌, ◌↔◌, IsTrue, IsOk, IfOk, IfErr, length, map, min};
 ghost use Rattle.std.specs.List.{sum_by};
-ghost use Rattle.commit_hub.specs.Holders.{count_of};
+ghost use Rattle.commit_hub.specs.Holders.{count_of, AddUp};
 
 use crate::ledgers::{Node, Whole};
 use crate::locked::Locked;
 use crate::share::Share;
-use group_commit::Desk;
+use group_commit::{Desk, SharedDesk};
 use std::sync::ledger;
 
 impl<A: Node, D: Whole, C: Whole> Locked<A, D, C> {
-    /// Whether the shares count all inputs that were accepted since the hub was made. They do where every place is
-    /// here.
-    pub(crate) fn adds_up(&mut self, shares: &mut Vec<Share<A>>) -> bool
-        ensures exact { IsTrue result ↔ length self.old.desk.state.inputs ≡ A.opened + sum_by count_of shares.old.items }
+    /// Ends the ledgers and the shares, and gives the desk, exactly where the shares count all inputs that were accepted
+    /// since the hub was made. They do where every place is here. Else all comes back.
+    pub(crate) fn settle(
+        self,
+        shares: Vec<Share<A>>,
+    ) -> Result<Desk, (Locked<A, D, C>, Vec<Share<A>>)>
+        ensures exact { IsOk result ↔ AddUp shares.items A.opened self.shared.desk.state.inputs }
+        ensures whole { 1 + length shares.items ≡ A.parts → IsOk result }
+        ensures desk { IfOk result (λ desk. desk ≡ self.shared.desk) }
+        ensures back { IfErr result (λ e. e.0.shared.desk ≡ self.shared.desk) }
+        ensures shares { IfErr result (λ e. map count_of e.1.items ≡ map count_of shares.items) }
+    {
+        let mut locked = self;
+        let mut shares = shares;
+        if !locked.adds_up(&mut shares) {
+            return Err((locked, shares));
+        }
+        let Locked { shared, .. } = locked;
+        let SharedDesk { desk } = shared;
+        Ok(desk)
+    }
+
+    // Whether the shares count all inputs that were accepted since the hub was made. They do where every place is here.
+    fn adds_up(&mut self, shares: &mut Vec<Share<A>>) -> bool
+        ensures exact { IsTrue result ↔ AddUp shares.old.items A.opened self.old.shared.desk.state.inputs }
         ensures whole { 1 + length shares.old.items ≡ A.parts → IsTrue result }
-        ensures desk { self.new.desk ≡ self.old.desk }
+        ensures desk { self.new.shared.desk ≡ self.old.shared.desk }
         ensures shares { map count_of shares.new.items ≡ map count_of shares.old.items }
     {
         let Locked {
-            desk,
+            shared,
             accepted,
             first,
             opened,
             places,
             ..
         } = self;
-        if desk.history().len() as u64 == opened.saturating_add(counted_by(shares)) {
+        if shared.desk.history().len() as u64 == opened.saturating_add(counted_by(shares)) {
             return true;
         }
         // With every place here the shares count all that was accepted, so this is never so.
@@ -36,14 +57,6 @@ impl<A: Node, D: Whole, C: Whole> Locked<A, D, C> {
             unreachable!();
         }
         false
-    }
-
-    /// Ends the ledgers, and gives the desk.
-    pub(crate) fn into_desk(self) -> Desk
-        ensures { result ≡ self.desk }
-    {
-        let Locked { desk, .. } = self;
-        desk
     }
 }
 

@@ -4,7 +4,6 @@ ghost use Rattle.std.specs.Prelude.{◌≡◌};
 
 use crate::ledgers::{Node, Whole};
 use crate::locked::Locked;
-use group_commit::Desk;
 use std::sync::{Condvar, MutexGuard, Wait};
 
 /// The batches take turns, so that a batch that landed wakes its own waiters alone.
@@ -43,12 +42,12 @@ impl<A: Node, D: Whole, C: Whole> Guarded<A, D, C> {
         }
     }
 
-    /// The desk.
-    pub(crate) fn into_desk(self) -> Desk
-        ensures { result ≡ self.locked.desk }
+    /// The desk with its books.
+    pub(crate) fn into_locked(self) -> Locked<A, D, C>
+        ensures { result ≡ self.locked }
     {
         let Guarded { locked, .. } = self;
-        locked.into_desk()
+        locked
     }
 
     /// Whether the flusher is to sleep, which it does then: nothing waits, and more may come.

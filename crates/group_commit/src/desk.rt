@@ -432,6 +432,5 @@ fn count_with(inputs: &[Input], input: &Option<Input>) -> u64
 }
 
 mod decisions;
-mod discard;
 mod parts;
 mod vouch;

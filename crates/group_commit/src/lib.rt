@@ -7,8 +7,10 @@ mod kept;
 mod landed;
 mod outbox;
 mod released;
+mod shared;
 mod ticket;
 
 pub use desk::Desk;
 pub use landed::Landed;
+pub use shared::SharedDesk;
 pub use ticket::{Stub, Ticket};

@@ -5,7 +5,8 @@ use ring_records::{NodeNo, Reply, Request};
 use std::marker::Model;
 
 /// A request that a desk answered, and whose reply it keeps until the inputs that the reply rests on are durable. It
-/// must be spent: only `redeem` and `forfeit` end it.
+/// must be spent: `Desk::redeem` ends it, `Desk::forfeit` on a desk that is closed or has failed, and
+/// `SharedDesk::forfeit` in every case.
 pub struct Ticket {
     pub(crate) node: NodeNo,
     pub(crate) run: u64,

@@ -3,20 +3,18 @@
 ghost use Rattle.std.specs.Prelude.{◌≡◌, ◌≤◌, length};
 ghost use Rattle.commit_hub.specs.Pages.{ForAccepted, ForDurable, ForCosts, IsWhole};
 
-use crate::rows::{broken_journal, journal_of, new_desk, node, request};
-use commit_hub::{Blanks, Hub, Node, Share, Tie, Whole};
-use disk_model::{Device, MemDevice};
-use gated_journal::{Batch, Journal, Receipt, Spoiled};
+use crate::calls::*;
+use crate::ends::{abandons, closes, fails, settles_some};
+use crate::rows::{journal_of, new_desk, request};
+use commit_hub::{Blanks, Hub, Node, Tie, Whole};
 use group_commit::{Desk, Ticket};
-use ring_records::{Input, Refusal};
+use ring_records::Refusal;
 use std::alloc::AllocGlobal;
 use std::marker::Brand;
 use std::process::Abort;
 use std::sync::Wait;
 use std::test::*;
-use test_rows::{Ask, Op};
-
-const STAND: Ask = Ask::Stand("red", 5, 10);
+use test_rows::{Ask, Note};
 
 /// What is done with a hub.
 enum Case {
@@ -34,92 +32,16 @@ enum Case {
     LaunchesTwice,
     /// A receipt of another batch is handed in.
     LandsAnother,
+    /// Requests of each kind are taken.
+    Answers,
     /// The device fails with a batch.
     Fails,
-    /// A share is missing.
-    SettlesFew,
+    /// Its flusher goes on no more.
+    Abandons,
     /// It is closed.
     Closes,
-}
-
-fn submits<A: Node, D: Whole, C: Whole, R: Wait + Abort>(
-    rt: &R,
-    hub: &Hub<A, D, C>,
-    share: &mut Share<A>,
-) -> Ticket {
-    let question = request(rt, STAND);
-    hub.submit(rt, share, question).expect(rt, "a ticket")
-}
-
-/// No request is taken any more.
-fn takes_nothing<A: Node, D: Whole, C: Whole, R: Wait + Abort>(
-    rt: &R,
-    hub: &Hub<A, D, C>,
-    share: &mut Share<A>,
-) {
-    match hub.submit(rt, share, request(rt, STAND)) {
-        Ok(_ticket) => panic!(rt; "a ticket"),
-        Err(refusal) => assert!(rt; refusal == Refusal::Failed),
-    }
-}
-
-fn redeems<A: Node, D: Whole, C: Whole, R: Wait + Abort>(
-    rt: &R,
-    hub: &Hub<A, D, C>,
-    ticket: Ticket,
-) {
-    match hub.redeem_wait(rt, ticket) {
-        Ok((reply, stub)) => assert!(rt; stub.reply() == reply),
-        Err((_ticket, refusal)) => panic!(rt; "{refusal}"),
-    }
-}
-
-fn launches<A: Node, D: Whole, C: Whole, R: Wait + Abort>(
-    rt: &R,
-    hub: &Hub<A, D, C>,
-    tie: &mut Tie<A, D, C>,
-) -> Batch
-    requires { IsWhole D.all D.parts × IsWhole C.all C.parts }
-{
-    match hub.launch(rt, tie) {
-        Ok(Some(batch)) => batch,
-        Ok(None) => panic!(rt; "nothing waits"),
-        Err(refusal) => panic!(rt; "{refusal}"),
-    }
-}
-
-/// Commits the batch, which is the journal's next.
-fn commit<V: Device>(
-    rt: &impl Abort,
-    journal: &mut Journal<V>,
-    batch: Batch,
-) -> Result<Receipt, Spoiled> {
-    assert!(rt; !journal.is_spoiled());
-    assert!(rt; batch.node() == journal.node());
-    assert!(rt; batch.first() == journal.len());
-    assert!(rt; journal.room() >= batch.cost());
-    journal.commit(batch)
-}
-
-fn commits<R: Abort>(rt: &R, journal: &mut Journal<MemDevice>, batch: Batch) -> Receipt {
-    match commit(rt, journal, batch) {
-        Ok(receipt) => receipt,
-        Err(_spoiled) => panic!(rt; "spoiled"),
-    }
-}
-
-fn lands<A: Node, D: Whole, C: Whole, R: Wait + Abort>(
-    rt: &R,
-    hub: &Hub<A, D, C>,
-    tie: &mut Tie<A, D, C>,
-    receipt: Receipt,
-)
-    requires { IsWhole D.all D.parts × IsWhole C.all C.parts }
-{
-    match hub.land(rt, tie, receipt) {
-        Ok(landed) => assert!(rt; landed.count == 1),
-        Err((_receipt, refusal)) => panic!(rt; "{refusal}"),
-    }
+    /// Some of four shares are handed in.
+    SettlesSome(u8),
 }
 
 /// So many places are taken, and there is no other. All of their shares settle the hub.
@@ -158,6 +80,33 @@ fn refuses<A: Node, D: Whole, C: Whole, R: Wait + Abort>(
     }
 }
 
+/// An open hub takes requests, and the share counts those that are accepted, each once. A Take of a message of no node of
+/// the ring gets no ticket.
+fn answers<A: Node, D: Whole, C: Whole, R: Wait + Abort>(rt: &R, hub: &Hub<A, D, C>) {
+    let mut share = hub.enter(rt).expect(rt, "a place");
+    let asked = [
+        (Ask::Stand("red", 5, 10), 1),
+        (Ask::Stand("red", 5, 10), 1),
+        (Ask::Take(0, Note::Token("red", 5, 5, 3)), 2),
+        (Ask::Who("red", 5), 2),
+        (Ask::Acked(1), 3),
+        (Ask::Latest("red"), 3),
+    ];
+    for (ask, count) in asked {
+        let ticket = asks(rt, hub, &mut share, ask);
+        assert!(rt; ticket.question() == request(rt, ask));
+        assert!(rt; ticket.number() == count);
+        assert!(rt; hub.forfeit(rt, ticket).is_err());
+        assert!(rt; share.count() == count);
+    }
+    let outside = request(rt, Ask::Take(1, Note::Token("red", 6, 10, 4)));
+    match hub.submit(rt, &mut share, outside) {
+        Ok(_ticket) => panic!(rt; "a ticket"),
+        Err(refusal) => assert!(rt; refusal == Refusal::BadNumber),
+    }
+    assert!(rt; share.count() == 3);
+}
+
 /// A ticket is forfeited while requests are taken: it is refused, and ends.
 fn forfeits_open<A: Node, D: Whole, C: Whole, R: Wait + Abort>(rt: &R, hub: &Hub<A, D, C>) {
     let mut share = hub.enter(rt).expect(rt, "a place");
@@ -178,32 +127,10 @@ fn launches_twice<A: Node, D: Whole, C: Whole, R: Wait + Abort + AllocGlobal>(
     let mut share = hub.enter(rt).expect(rt, "a place");
     let ticket = submits(rt, hub, &mut share);
     let batch = launches(rt, hub, tie);
-    match hub.launch(rt, tie) {
-        Ok(_some) => panic!(rt; "a second batch"),
-        Err(refusal) => assert!(rt; refusal == Refusal::Busy),
-    }
+    launches_none(rt, hub, tie, Refusal::Busy);
     let receipt = commits(rt, &mut journal, batch);
     lands(rt, hub, tie, receipt);
     redeems(rt, hub, ticket);
-}
-
-/// The input of another journal.
-fn other_input(rt: &impl Abort) -> Input {
-    Op::Stand("blue", 1, 3).input().expect(rt, "an input")
-}
-
-/// The batch of another journal.
-fn other_batch<R: Abort + AllocGlobal>(rt: &R) -> Batch {
-    let inputs = [other_input(rt)];
-    Batch::new(rt.alloc(), node(rt, 1), 0, &inputs).expect(rt, "one input")
-}
-
-/// What the other journal's device made of its batch: it failed.
-fn other_spoiled<R: Abort + AllocGlobal>(rt: &R) -> Spoiled {
-    match commit(rt, &mut broken_journal(rt), other_batch(rt)) {
-        Ok(_receipt) => panic!(rt; "committed"),
-        Err(spoiled) => spoiled,
-    }
 }
 
 /// The receipt of another batch is refused and comes back; that of the batch lands.
@@ -231,88 +158,6 @@ fn lands_another<A: Node, D: Whole, C: Whole, R: Wait + Abort + AllocGlobal>(
     let receipt = commits(rt, &mut journal, batch);
     lands(rt, hub, tie, receipt);
     redeems(rt, hub, ticket);
-}
-
-/// The spoiled batch of another journal is refused and comes back. With its own the hub has failed: what waits is
-/// refused, and so are requests and launches.
-fn fails<A: Node, D: Whole, C: Whole, R: Wait + Abort + AllocGlobal>(
-    rt: &R,
-    hub: &Hub<A, D, C>,
-    tie: &mut Tie<A, D, C>,
-)
-    requires { IsWhole D.all D.parts × IsWhole C.all C.parts }
-{
-    let mut share = hub.enter(rt).expect(rt, "a place");
-    let ticket = submits(rt, hub, &mut share);
-    let batch = launches(rt, hub, tie);
-    match hub.fail(rt, tie, other_spoiled(rt)) {
-        Ok(()) => panic!(rt; "failed"),
-        Err((spoiled, refusal)) => {
-            assert!(rt; refusal == Refusal::Foreign);
-            assert!(rt; spoiled.inputs() == [other_input(rt)].as_slice());
-            spoiled.into_parts();
-        }
-    }
-    match commit(rt, &mut broken_journal(rt), batch) {
-        Ok(_receipt) => panic!(rt; "committed"),
-        Err(spoiled) => match hub.fail(rt, tie, spoiled) {
-            Ok(()) => {}
-            Err((_spoiled, refusal)) => panic!(rt; "{refusal}"),
-        },
-    }
-    takes_nothing(rt, hub, &mut share);
-    match hub.launch(rt, tie) {
-        Ok(_some) => panic!(rt; "a batch, or none"),
-        Err(refusal) => assert!(rt; refusal == Refusal::Failed),
-    }
-    match hub.redeem_wait(rt, ticket) {
-        Ok(_) => panic!(rt; "redeemed"),
-        Err((ticket, refusal)) => {
-            assert!(rt; refusal == Refusal::Failed);
-            assert!(rt; hub.forfeit(rt, ticket).is_ok());
-        }
-    }
-}
-
-/// With a share missing nothing is settled, and all comes back; with all of them it is.
-fn settles_few<A: Node, D: Whole, C: Whole, R: Wait + Abort + AllocGlobal>(
-    rt: &R,
-    hub: Hub<A, D, C>,
-) {
-    let mut one = hub.enter(rt).expect(rt, "a place");
-    let mut shares = Vec::with_capacity(rt.alloc(), 2).expect(rt, "ample memory");
-    shares.push_reserved(hub.enter(rt).expect(rt, "a place"));
-    let ticket = submits(rt, &hub, &mut one);
-    let Err((hub, mut shares, refusal)) = hub.settle(shares) else {
-        panic!(rt; "settled");
-    };
-    assert!(rt; refusal == Refusal::Mismatch);
-    assert!(rt; shares.len() == 1);
-    hub.close(rt);
-    assert!(rt; hub.forfeit(rt, ticket).is_ok());
-    shares.push(one).expect(rt, "ample memory");
-    match hub.settle(shares) {
-        Ok(desk) => assert!(rt; desk.history().len() == 1),
-        Err(_) => panic!(rt; "not settled"),
-    }
-}
-
-/// A closed hub takes no requests, and where nothing waits there is no batch any more.
-fn closes<A: Node, D: Whole, C: Whole, R: Wait + Abort>(
-    rt: &R,
-    hub: &Hub<A, D, C>,
-    tie: &mut Tie<A, D, C>,
-)
-    requires { IsWhole D.all D.parts × IsWhole C.all C.parts }
-{
-    let mut share = hub.enter(rt).expect(rt, "a place");
-    hub.close(rt);
-    takes_nothing(rt, hub, &mut share);
-    match hub.launch(rt, tie) {
-        Ok(None) => {}
-        Ok(Some(_batch)) => panic!(rt; "a batch"),
-        Err(refusal) => panic!(rt; "{refusal}"),
-    }
 }
 
 /// Does with a hub what the case says. What is given is a ticket of it.
@@ -343,9 +188,11 @@ fn on_hub<A: Node, D: Whole, C: Whole, R: Wait + Abort + AllocGlobal>(
         Case::ForfeitsOpen => forfeits_open(rt, &hub),
         Case::LaunchesTwice => launches_twice(rt, &hub, &mut tie),
         Case::LandsAnother => lands_another(rt, &hub, &mut tie),
+        Case::Answers => answers(rt, &hub),
         Case::Fails => fails(rt, &hub, &mut tie),
-        Case::SettlesFew => settles_few(rt, hub),
+        Case::Abandons => abandons(rt, &hub, &mut tie),
         Case::Closes => closes(rt, &hub, &mut tie),
+        Case::SettlesSome(mask) => settles_some(rt, hub, mask),
     }
     None
 }
@@ -403,19 +250,33 @@ fn one_batch_flies(rt: HostRuntime) -> Result<(), Fail> {
 }
 
 #[test]
+fn an_open_hub_takes_requests(rt: HostRuntime) -> Result<(), Fail> {
+    ends(&rt, 1, Case::Answers);
+    Ok(())
+}
+
+#[test]
 fn a_hub_fails_with_its_device(rt: HostRuntime) -> Result<(), Fail> {
     ends(&rt, 1, Case::Fails);
     Ok(())
 }
 
 #[test]
-fn all_shares_settle_a_hub(rt: HostRuntime) -> Result<(), Fail> {
-    ends(&rt, 2, Case::SettlesFew);
+fn an_abandoned_hub_has_failed(rt: HostRuntime) -> Result<(), Fail> {
+    ends(&rt, 1, Case::Abandons);
     Ok(())
 }
 
 #[test]
 fn a_closed_hub_takes_no_requests(rt: HostRuntime) -> Result<(), Fail> {
     ends(&rt, 1, Case::Closes);
+    Ok(())
+}
+
+#[test]
+fn shares_settle_a_hub_where_they_add_up(rt: HostRuntime) -> Result<(), Fail> {
+    for mask in 0..16 {
+        ends(&rt, 4, Case::SettlesSome(mask));
+    }
     Ok(())
 }

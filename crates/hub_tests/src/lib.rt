@@ -4,4 +4,8 @@
 #[cfg(test)]
 mod bounds;
 #[cfg(test)]
+mod calls;
+#[cfg(test)]
+mod ends;
+#[cfg(test)]
 mod rows;

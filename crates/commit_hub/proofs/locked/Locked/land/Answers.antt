@@ -11,19 +11,19 @@ use Rattle.commit_hub.proofs.locked.Locked.land.Goals as goal
 pub used_of-cost-requires : goal.used_of-cost-requires
 used_of-cost-requires g c =
     let old = c.args.self.now in
-    let next : c.land.new.self ≡ landed old.desk = c.in-Ok.ensures.next in
-    let start : c.durable-start.result ≡ old.desk.state.durable = c.durable-start.ensures in
-    let end : c.durable-end.result ≡ old.desk.state.flying = c.durable-end.ensures ∙ ap (λ (d : DeskView). d.state.durable) next in
-    let inputs : c.history.result.now ≡ old.desk.state.inputs = c.history.ensures.inputs ∙ ap (λ (d : DeskView). d.state.inputs) next in
-    let capacity : c.capacity.result ≡ old.desk.member.capacity = c.capacity.ensures ∙ ap (λ (d : DeskView). d.member.capacity) next in
-    let fits : used_by (flying_in old.desk.state) ≤ old.desk.member.capacity = omega (arith, flying_fits old.desk.member old.desk.state old.lawful old.counts) in
+    let next : c.land.new.self ≡ landed old.shared.desk = c.in-Ok.ensures.next in
+    let start : c.durable-start.result ≡ old.shared.desk.state.durable = c.durable-start.ensures in
+    let end : c.durable-end.result ≡ old.shared.desk.state.flying = c.durable-end.ensures ∙ ap (λ (d : DeskView). d.state.durable) next in
+    let inputs : c.history.result.now ≡ old.shared.desk.state.inputs = c.history.ensures.inputs ∙ ap (λ (d : DeskView). d.state.inputs) next in
+    let capacity : c.capacity.result ≡ old.shared.desk.member.capacity = c.capacity.ensures ∙ ap (λ (d : DeskView). d.member.capacity) next in
+    let fits : used_by (flying_in old.shared.desk.state) ≤ old.shared.desk.member.capacity = omega (arith, flying_fits old.shared.desk.member old.shared.desk.state old.lawful old.counts) in
     rw (start, end, inputs, capacity) fits
 
 pub invariant_of-self-in-Ok : goal.invariant_of-self-in-Ok
 invariant_of-self-in-Ok g c =
     let old = c.args.self.now in
-    let s = old.desk.state in
-    let next : c.land.new.self ≡ landed old.desk = c.in-Ok.ensures.next in
+    let s = old.shared.desk.state in
+    let next : c.land.new.self ≡ landed old.shared.desk = c.in-Ok.ensures.next in
     let start : c.durable-start.result ≡ s.durable = c.durable-start.ensures in
     let end : c.durable-end.result ≡ s.flying = c.durable-end.ensures ∙ ap (λ (d : DeskView). d.state.durable) next in
     let inputs : c.history.result.now ≡ s.inputs = c.history.ensures.inputs ∙ ap (λ (d : DeskView). d.state.inputs) next in
@@ -44,6 +44,6 @@ invariant_of-self-in-Ok g c =
 pub returns-in-Ok-clause-brought : goal.returns-in-Ok-clause-brought
 returns-in-Ok-clause-brought g c =
     let old = c.args.self.now in
-    let first : durable_of c.args.tie.now ≡ old.desk.state.durable = search rules in
+    let first : durable_of c.args.tie.now ≡ old.shared.desk.state.durable = search rules in
     subst (λ (m : Member). IsBrought m (durable_of c.args.tie.now) c.args.receipt.inputs.items c.in-Ok.landed) old.of
-    (brings old.desk.member old.desk.state _ _ c.in-Ok.landed old.lawful old.counts first c.in-Ok.ensures.flying.inputs c.in-Ok.ensures.packets c.in-Ok.ensures.decisions)
+    (brings old.shared.desk.member old.shared.desk.state _ _ c.in-Ok.landed old.lawful old.counts first c.in-Ok.ensures.flying.inputs c.in-Ok.ensures.packets c.in-Ok.ensures.decisions)

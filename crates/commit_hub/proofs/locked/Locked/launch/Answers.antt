@@ -9,6 +9,6 @@ use Rattle.commit_hub.proofs.locked.Locked.launch.Goals as goal
 pub returns-clause-room : goal.returns-clause-room
 returns-clause-room g c =
     let old = c.args.self.now in
-    let costs : costs_of c.args.tie.now ≡ used_by (durable_in old.desk.state) = search rules in
-    let room = room_left c.launch.result (costs_of c.args.tie.now) _ _ old.desk c.launch.new.self old.lawful old.counts costs c.launch.ensures.next c.launch.ensures.batch in
+    let costs : costs_of c.args.tie.now ≡ used_by (durable_in old.shared.desk.state) = search rules in
+    let room = room_left c.launch.result (costs_of c.args.tie.now) _ _ old.shared.desk c.launch.new.self old.lawful old.counts costs c.launch.ensures.next c.launch.ensures.batch in
     subst (λ (m : Member). IfOk c.launch.result (λ some. IfSome some (λ batch. costs_of c.args.tie.now + used_by (batch_shown batch).inputs ≤ m.capacity))) old.of room

@@ -8,10 +8,10 @@ use Rattle.commit_hub.proofs.locked.Locked.submit.Goals as goal
 pub invariant_of-self-in-Ok : goal.invariant_of-self-in-Ok
 invariant_of-self-in-Ok g c =
     let old = c.args.self.now in
-    let m = old.desk.member in
-    let next : c.submit.new.self ≡ submitted c.args.question old.desk = c.in-Ok.ensures.next in
-    let more = gained_by m old.desk.state.inputs c.args.question in
-    let grown = grows c.args.question old.desk c.submit.new.self next in
+    let m = old.shared.desk.member in
+    let next : c.submit.new.self ≡ submitted c.args.question old.shared.desk = c.in-Ok.ensures.next in
+    let more = gained_by m old.shared.desk.state.inputs c.args.question in
+    let grown = grows c.args.question old.shared.desk c.submit.new.self next in
     let counted : c.add.new.self.total ≡ length c.submit.new.self.state.inputs = search (rules, grown) in
     record {
       of = ap (λ (d : DeskView). d.member) next ∙ old.of;
@@ -21,5 +21,5 @@ invariant_of-self-in-Ok g c =
       first_is = old.first_is;
       spare_is = old.spare_is;
       durable_is = old.durable_is ∙ sym (ap (λ (d : DeskView). d.state.durable) next);
-      costs_is = old.costs_is ∙ sym (ap (λ (d : DeskView). used_by (durable_in d.state)) next ∙ ap used_by (durable_stays old.desk.state more old.counts));
+      costs_is = old.costs_is ∙ sym (ap (λ (d : DeskView). used_by (durable_in d.state)) next ∙ ap used_by (durable_stays old.shared.desk.state more old.counts));
     }

@@ -8,4 +8,4 @@ pub returns-clause-lawful : goal.returns-clause-lawful
 returns-clause-lawful g c =
     let old = c.args.self.now in
     subst (λ (m : Member). IfOk c.window.result (λ list. IsWindow m list.items)) old.of
-    (is_window (λ list. list.items) c.window.result old.desk.member old.desk.state old.lawful c.window.ensures)
+    (is_window (λ list. list.items) c.window.result old.shared.desk.member old.shared.desk.state old.lawful c.window.ensures)
