@@ -29,6 +29,10 @@ module _ {V J A D C : Type 0} {v : device.Ghosts V} {a : node.Ghosts A} {la : le
   abbrev pub told_to : Flusher V J A D C v a la d c → List Decision
   told_to flusher = published (board_of flusher) ++ (pending (board_of flusher) ++ owed_of flusher)
 
+  -- all that its board took is known to be published
+  abbrev pub is_published : Flusher V J A D C v a la d c → Bool
+  is_published flusher = flusher.is_published
+
   -- the device failed with one of its batches, or the hub refused one
   abbrev pub has_ended : Flusher V J A D C v a la d c → Bool
   has_ended flusher = flusher.has_ended

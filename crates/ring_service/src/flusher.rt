@@ -32,7 +32,9 @@ pub struct Flusher<V: Device, J: Naming, A: Node, D: Whole, C: Whole> {
     tie: Tie<A, D, C>,
     board: Board<J>,
     owed: VecDeque<Decision>,
+    is_published: bool,
     has_ended: bool,
+    ghost shown: { is_published ≡ true → pending board ≡ [] },
     ghost ready: { has_ended ≡ false → is_spoiled journal ≡ false },
     ghost member: { has_ended ≡ false → member_of journal ≡ A.member },
     ghost len: { has_ended ≡ false → len_of journal ≡ durable_of tie },
@@ -40,7 +42,7 @@ pub struct Flusher<V: Device, J: Naming, A: Node, D: Whole, C: Whole> {
 }
 
 impl<V: Device, J: Naming, A: Node, D: Whole, C: Whole> Flusher<V, J, A, D, C> {
-    ghost use Rattle.ring_service.specs.Flushers.{journal_of, device_in, board_of, owed_of, told_to, has_ended};
+    ghost use Rattle.ring_service.specs.Flushers.{journal_of, device_in, board_of, owed_of, told_to, is_published, has_ended};
 
     /// A flusher that owes nothing. The journal is that of the node of the tie's hub, is not spoiled, and has what the
     /// tie counts.
@@ -64,6 +66,7 @@ impl<V: Device, J: Naming, A: Node, D: Whole, C: Whole> Flusher<V, J, A, D, C> {
             tie,
             board,
             owed: VecDeque::new(alloc),
+            is_published: false,
             has_ended: false,
         }
     }
@@ -74,7 +77,7 @@ impl<V: Device, J: Naming, A: Node, D: Whole, C: Whole> Flusher<V, J, A, D, C> {
     /// Refused as 8, 9 or 12, nothing was launched: a growth was refused; the flusher has ended or the hub has failed; a
     /// batch flies. Refused as 15, the device failed, and as 10, the hub refused what came of the batch, which is ended.
     /// After 15 and 10 the flusher has ended. Decisions that the board cannot take for memory stay owed, and go first in
-    /// the next round.
+    /// the next round; all that it took is published, but for want of memory, of which `is_published` tells.
     pub fn flush_round<R: Wait, G: Gate>(
         &mut self,
         rt: &R,
@@ -85,6 +88,7 @@ impl<V: Device, J: Naming, A: Node, D: Whole, C: Whole> Flusher<V, J, A, D, C> {
         ensures round { IfOk result (λ some. IfSome some (λ landed. IsRound A.member (V.disk (device_in self.old)) (V.disk (device_in self.new)) (len_of (journal_of self.old)) landed)) }
         ensures told { IfOk result (λ some. IfSome some (λ landed. told_to self.new ≡ told_to self.old ++ landed.decisions.items)) }
         ensures published { IsPrefix (published (board_of self.old)) (published (board_of self.new)) }
+        ensures pending { is_published self.new ≡ true → pending (board_of self.new) ≡ [] }
         ensures none { IfOk result (λ some. IfNone some (journal_of self.new ≡ journal_of self.old)) }
         ensures kept { IfOk result (λ some. IfNone some (told_to self.new ≡ told_to self.old)) }
 
@@ -113,6 +117,7 @@ impl<V: Device, J: Naming, A: Node, D: Whole, C: Whole> Flusher<V, J, A, D, C> {
             tie,
             board,
             owed,
+            is_published,
             has_ended,
         } = self;
         // A batch has at most 64 inputs, and each makes one leader known at most.
@@ -130,12 +135,21 @@ impl<V: Device, J: Naming, A: Node, D: Whole, C: Whole> Flusher<V, J, A, D, C> {
                         Err(refusal)
                     }
                     Ok(landed) => {
-                        publish(rt, board, owed, &landed.decisions);
+                        *is_published = publish(rt, board, owed, &landed.decisions).is_ok();
                         Ok(Some(landed))
                     }
                 }
             }
         }
+    }
+
+    /// Whether all that the board took is published. Before the first round it is not known; after a round it is not where
+    /// publishing was refused for want of memory, until a later one finds some.
+    pub fn is_published(&self) -> bool
+        ensures value { result ≡ is_published self.now }
+        ensures pending { result ≡ true → pending (board_of self.now) ≡ [] }
+    {
+        self.is_published
     }
 
     /// The journal, the board, and the decisions that the board could not take yet.
@@ -149,6 +163,7 @@ impl<V: Device, J: Naming, A: Node, D: Whole, C: Whole> Flusher<V, J, A, D, C> {
             tie: _,
             board,
             owed,
+            is_published: _,
             has_ended: _,
         } = self;
         (journal, board, owed)

@@ -139,8 +139,8 @@ fn publishes<V: Device, J: Naming, A: Node, D: Whole, C: Whole, R: Wait + Abort>
     let mut share = hub.enter(rt).expect(rt, "a place");
     let red = submits(rt, hub, &mut share, elected(0, "red", 5));
     let blue = submits(rt, hub, &mut share, elected(1, "blue", 1));
-    assert!(rt; reads(rt, reader, "red") == Ok(None));
-    assert!(rt; rounds(rt, hub, flusher, &mut gate) == (2, 2));
+    assert!(rt; reads(rt, reader, "red") == Ok(None) && !flusher.is_published());
+    assert!(rt; rounds(rt, hub, flusher, &mut gate) == (2, 2) && flusher.is_published());
     assert!(rt; gate.first == 0 && gate.count == 2);
     assert!(rt; reads(rt, reader, "red") == latest(rt, 5, 30, 2));
     assert!(rt; reads(rt, reader, "blue") == latest(rt, 1, 30, 2));
@@ -148,7 +148,7 @@ fn publishes<V: Device, J: Naming, A: Node, D: Whole, C: Whole, R: Wait + Abort>
     redeems(rt, hub, red);
     redeems(rt, hub, blue);
     let green = submits(rt, hub, &mut share, Ask::Stand("green", 1, 3));
-    assert!(rt; rounds(rt, hub, flusher, &mut gate) == (1, 0));
+    assert!(rt; rounds(rt, hub, flusher, &mut gate) == (1, 0) && flusher.is_published());
     assert!(rt; gate.first == 2 && gate.count == 1);
     redeems(rt, hub, green);
     hub.close(rt);
