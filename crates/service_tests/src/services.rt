@@ -122,7 +122,7 @@ fn play<
     shares.push_reserved(two);
     match hub.settle(shares) {
         Ok(desk) => Outcome { desk, red, blue },
-        Err(_) => unreachable!(),
+        Err(_) => panic!(rt; "not settled"),
     }
 }
 
