@@ -6,9 +6,10 @@
 # picture: the run of SCRIPT by ringctl, drawn as text and, to the file SVG, as SVG. pictures: the tests of that, and the pictures of the docs, over bin/ringctl.
 # kills: bin/ringd is killed 100 times at random moments, started again, and held to all that it told.
 # short: bin/ringd under sessions of one Stand each, its memory, and elections right behind them.
+# threads: bin/ringd where the system grants too few threads; as root.
 # load: bin/ringd under load; LOAD has further words of bench/load.py.
 .PHONY: run test wrong_bodies bench clean always
-.PHONY: ringd serve fencing clients picture pictures kills load short
+.PHONY: ringd serve fencing clients picture pictures kills load short threads
 
 run:
 	@bench/try.sh examples/first_election.ring
@@ -55,6 +56,9 @@ bench: bin/ringctl bin/bench
 
 short: bin/ringd
 	@trials/short.py --ringd bin/ringd
+
+threads: bin/ringd
+	@trials/threads.py --ringd bin/ringd
 
 load: bin/ringd
 	@bench/load.py --ringd bin/ringd $(LOAD)
