@@ -6,6 +6,8 @@ ghost use Rattle.ring_records.specs.declared.input.Input.TheVariants.{Stand, Tak
 ghost use Rattle.ring_records.specs.declared.key.Key.{Key};
 ghost use Rattle.ring_records.specs.declared.msg.Msg.TheVariants.{Token, Elected};
 ghost use Rattle.ring_records.specs.Emission.{emit};
+ghost use Rattle.ring_records.specs.Known.{passed, shown};
+ghost use Rattle.ring_records.specs.Lists.{or_else};
 
 use ring_records::{Bid, Candidate, Key, Msg, NodeNo};
 
@@ -38,6 +40,7 @@ impl Ballot {
     #[tactic(auto, unfolding(ring_records::specs::Emission::emit))]
     pub fn stand(&mut self, me: NodeNo, key: Key, bid: Bid) -> Msg
         requires { self.old.stood ≡ None }
+        ensures value { result ≡ Token key (record { bid = bid; node = me }) }
         ensures sends { (h : List Input) → emit me h (Stand key bid) ≡ Some result }
         ensures next { (h : List Input) → StandsFor self.old me h key → StandsFor self.new me (h ++ Stand key bid ∷ []) key }
         ensures stood { self.new.stood ≡ Some bid }
@@ -52,8 +55,10 @@ impl Ballot {
 
     /// Node `me` takes the token of a candidate: what it sends on. Its own token that comes home makes it the leader,
     /// once; another's goes on unless the node stood with a greater candidate.
-    #[tactic(auto, unfolding(ring_records::specs::Emission::emit, ring_records::specs::Emission::is_below, ring_records::specs::Leader::is_bid))]
+    #[tactic(auto, unfolding(ring_records::specs::Emission::emit, ring_records::specs::Emission::is_below, ring_records::specs::Leader::is_bid, ring_records::specs::Known::passed, ring_records::specs::Known::shown))]
     pub fn hear_token(&mut self, me: NodeNo, key: Key, candidate: Candidate) -> Option<Msg>
+        ensures value { result ≡ passed me self.old.stood self.old.leader (Token key candidate) }
+        ensures shown { self.new.leader ≡ or_else self.old.leader (shown me self.old.stood (Token key candidate)) }
         ensures sends { (h : List Input) (msg_no : ℕ) → StandsFor self.old me h key → emit me h (Take msg_no (Token key candidate)) ≡ result }
         ensures next { (h : List Input) (msg_no : ℕ) → StandsFor self.old me h key → StandsFor self.new me (h ++ Take msg_no (Token key candidate) ∷ []) key }
         ensures stood { self.new.stood ≡ self.old.stood }
@@ -75,8 +80,10 @@ impl Ballot {
 
     /// Node `me` takes the news of who is elected: what it sends on. The round stops at the leader itself, and where
     /// a leader is known already.
-    #[tactic(auto, unfolding(ring_records::specs::Emission::emit))]
+    #[tactic(auto, unfolding(ring_records::specs::Emission::emit, ring_records::specs::Known::passed, ring_records::specs::Known::shown))]
     pub fn hear_elected(&mut self, me: NodeNo, key: Key, candidate: Candidate) -> Option<Msg>
+        ensures value { result ≡ passed me self.old.stood self.old.leader (Elected key candidate) }
+        ensures shown { self.new.leader ≡ or_else self.old.leader (shown me self.old.stood (Elected key candidate)) }
         ensures sends { (h : List Input) (msg_no : ℕ) → StandsFor self.old me h key → emit me h (Take msg_no (Elected key candidate)) ≡ result }
         ensures next { (h : List Input) (msg_no : ℕ) → StandsFor self.old me h key → StandsFor self.new me (h ++ Take msg_no (Elected key candidate) ∷ []) key }
         ensures stood { self.new.stood ≡ self.old.stood }
