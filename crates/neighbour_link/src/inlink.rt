@@ -31,6 +31,13 @@ impl Inlink {
         Inlink { expected: 0 }
     }
 
+    /// A link on which so many messages were taken.
+    pub fn restore(taken: u64) -> Inlink
+        ensures { result ≡ taken }
+    {
+        Inlink { expected: taken }
+    }
+
     /// The number that is taken next, which is how many messages were taken.
     pub fn expected(&self) -> u64
         ensures { result ≡ self.now }

@@ -50,6 +50,23 @@ impl Outlink {
         }
     }
 
+    /// A link on which `sent` messages were sent: `window` are the last of them, and those before are credited. The
+    /// caller sees that there are no more in the window than were sent.
+    pub fn restore(alloc: Global, sent: u64, window: &[Msg]) -> Result<Outlink, AllocError>
+        requires { length window.now ≤ sent }
+        ensures credited { IfOk result (λ made. made.link.credited ≡ sent - length window.now) }
+        ensures window { IfOk result (λ made. made.link.window ≡ window.now) }
+        ensures stands { IfOk result (λ made. (messages : List Msg) (credit : ℕ) → sent ≡ length messages → credit ≤ sent → window.now ≡ drop credit messages
+            → OutlinkStandsFor made.link messages credit) }
+    {
+        let kept = Vec::from_slice(alloc, window)?;
+        Ok(Outlink {
+            kept,
+            first: sent - window.len() as u64,
+            dead: 0,
+        })
+    }
+
     /// How many messages were sent, which is the number of the next one.
     pub fn sent(&self) -> u64
         ensures value { result ≡ sent_count self.now.link }
