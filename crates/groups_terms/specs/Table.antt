@@ -1,13 +1,18 @@
 -- What a table is seen as, and what it stands for.
-use Rattle.std.specs.Prelude.{ℕ, ◌≡◌, List, Option, None, unwrap_or, refl}
+use Rattle.std.specs.Prelude.{ℕ, ◌≡◌, List, map as list_map, Option, None, unwrap_or, refl}
 use Rattle.std.specs.Coded.{Coded, code_by, coded×, coded_ℕ, coded_option}
 use Rattle.std.specs.FinMap as map
 use Rattle.ring_records.specs.declared.candidate.Candidate.{Candidate}
 use Rattle.ring_records.specs.declared.input.Input.{Input}
 use Rattle.ring_records.specs.declared.key.Key.{Key}
+use Rattle.ring_records.specs.declared.key_state.KeyState.{KeyState}
+use Rattle.ring_records.specs.declared.msg.Msg.{Msg}
 use Rattle.ring_records.specs.History.{touched, stands}
 use Rattle.ring_records.specs.KeyOrder.{key_cmp, coded_key}
+use Rattle.ring_records.specs.KeyStates.{keyed}
+use Rattle.ring_records.specs.Known.{shown}
 use Rattle.ring_records.specs.Leader.{IsLatest}
+use Rattle.ring_records.specs.Lists.{or_else}
 use Rattle.cr_automaton.specs.declared.ballot.Ballot.{Ballot}
 use Rattle.cr_automaton.specs.Ballot.{StandsFor}
 use Rattle.groups_terms.specs.Latest.{Leaders, latest_of}
@@ -42,6 +47,33 @@ leads ballots group term = (known (map.get ballots (record { group = group; term
 -- the kept latest leaders are those of the ballots
 abbrev pub AreLatest : map.FinMap key_cmp Ballot → Leaders → Type 0
 AreLatest ballots latest = (group : List ℕ) → IsLatest (leads ballots group) (latest_of latest group)
+
+-- ---- by value
+
+-- the ballot once its node, me, took the message
+abbrev pub heard : ℕ → Ballot → Msg → Ballot
+heard me ballot msg = record { stood = ballot.stood; leader = or_else ballot.leader (shown me ballot.stood msg) }
+
+-- what a kept ballot says of its key
+abbrev pub state_at : Key × Ballot → KeyState
+state_at entry = record { key = entry.0; stood = entry.1.stood; leader = entry.1.leader }
+
+-- what the table says of the keys of its ballots
+abbrev pub states_in : TableView → map.FinMap key_cmp KeyState
+states_in table = keyed (list_map state_at (map.entries table.ballots))
+
+-- the ballot that such a state makes
+abbrev pub ballot_of : KeyState → Ballot
+ballot_of s = record { stood = s.stood; leader = s.leader }
+
+abbrev pub entry_of : KeyState → Key × Ballot
+entry_of s = (s.key, ballot_of s)
+
+-- the ballots that these states make
+abbrev pub ballots_of : List KeyState → map.FinMap key_cmp Ballot
+ballots_of states = map.from_entries (list_map entry_of states)
+
+-- ---- by a history
 
 -- it has what the history h of its node says of each key, and how many Stands there are
 pub record TableStandsFor (table : TableView) (h : List Input) : Type 0 where

@@ -1,19 +1,23 @@
 // The ballots of one node.
-ghost use Rattle.std.specs.Prelude.{◌≡◌, ◌+◌, ◌<◌, ◌^◌, ℕ, false, List, ◌++◌, ◌∷◌, [], Some, None, IfOk, OnOk, OnErr};
+ghost use Rattle.std.specs.Prelude.{◌≡◌, ◌+◌, ◌<◌, ◌^◌, ℕ, false, List, ◌++◌, ◌∷◌, [], map as list_map, Some, None, IfOk, OnOk, OnErr};
 ghost use Rattle.std.specs.FinMap as map;
 ghost use Rattle.ring_records.specs.declared.candidate.Candidate.{Candidate};
 ghost use Rattle.ring_records.specs.declared.input.Input.{Input};
 ghost use Rattle.ring_records.specs.declared.input.Input.TheVariants.{Stand, Take};
 ghost use Rattle.ring_records.specs.declared.key.Key.{Key};
+ghost use Rattle.ring_records.specs.declared.msg.Msg.TheVariants.{Token};
 ghost use Rattle.ring_records.specs.Emission.{emit};
 ghost use Rattle.ring_records.specs.KeyOrder.{key_cmp};
+ghost use Rattle.ring_records.specs.KeyStates.{keyed};
+ghost use Rattle.ring_records.specs.Known.{passed};
 ghost use Rattle.ring_records.specs.Leader.{IsLatest, latest};
 ghost use Rattle.ring_records.specs.Message.{key_of};
 ghost use Rattle.cr_automaton.specs.Ballot.{StandsFor};
+ghost use Rattle.groups_terms.specs.Table.{state_at, heard};
 
 use crate::latest::{Latest, latest_leader, make_room, note};
 use cr_automaton::Ballot;
-use ring_records::{Bid, Candidate, GroupName, Key, Msg, NodeNo, Term};
+use ring_records::{Bid, Candidate, GroupName, Key, KeyState, KeyStates, Msg, NodeNo, Term};
 use std::alloc::{AllocError, Global};
 use std::collections::BTreeMap;
 use std::marker::Model;
@@ -41,7 +45,9 @@ impl Model for Table {
 }
 
 impl Table {
-    ghost use Rattle.groups_terms.specs.Table.{TableView, ballot_at, leads, TableStandsFor};
+    ghost use Rattle.ring_records.specs.History.{stands};
+    ghost use Rattle.ring_records.specs.Summary.{key_states};
+    ghost use Rattle.groups_terms.specs.Table.{TableView, ballot_at, ballot_of, states_in, leads, TableStandsFor};
 
     /// The table of a node that has accepted nothing.
     pub fn new(alloc: Global, me: NodeNo) -> Table
@@ -95,7 +101,8 @@ impl Table {
         ensures me { self.new.me ≡ self.old.me }
         ensures sends { IfOk result (λ token. (h : List Input) → emit self.old.me h (Stand key bid) ≡ Some token) }
         ensures next { OnOk result ((h : List Input) → TableStandsFor self.old h → TableStandsFor self.new (h ++ Stand key bid ∷ [])) }
-        ensures one_key { OnOk result (self.new.ballots ≡ map.insert self.old.ballots key (ballot_at self.new key)) }
+        ensures token { IfOk result (λ token. token ≡ Token key (record { bid = bid; node = self.old.me })) }
+        ensures one_key { OnOk result (self.new.ballots ≡ map.insert self.old.ballots key (record { stood = Some bid; leader = (ballot_at self.old key).leader })) }
         ensures stands { OnOk result (self.new.stands ≡ self.old.stands + 1) }
         ensures err { OnErr result (self.new ≡ self.old) }
     {
@@ -111,7 +118,8 @@ impl Table {
         ensures me { self.new.me ≡ self.old.me }
         ensures sends { IfOk result (λ on. (h : List Input) (msg_no : ℕ) → TableStandsFor self.old h → emit self.old.me h (Take msg_no msg.now) ≡ on) }
         ensures next { OnOk result ((h : List Input) (msg_no : ℕ) → TableStandsFor self.old h → TableStandsFor self.new (h ++ Take msg_no msg.now ∷ [])) }
-        ensures one_key { OnOk result (self.new.ballots ≡ map.insert self.old.ballots (key_of msg.now) (ballot_at self.new (key_of msg.now))) }
+        ensures passes { IfOk result (λ on. on ≡ passed self.old.me (ballot_at self.old (key_of msg.now)).stood (ballot_at self.old (key_of msg.now)).leader msg.now) }
+        ensures one_key { OnOk result (self.new.ballots ≡ map.insert self.old.ballots (key_of msg.now) (heard self.old.me (ballot_at self.old (key_of msg.now)) msg.now)) }
         ensures stands { self.new.stands ≡ self.old.stands }
         ensures err { OnErr result (self.new ≡ self.old) }
     {
@@ -137,6 +145,57 @@ impl Table {
         })
     }
 
+    /// What it knows of each key that an input named, in order of key. The error is that of the allocator.
+    pub fn key_states(&self, alloc: Global) -> Result<KeyStates, AllocError>
+        ensures value { IfOk result (λ states. states ≡ states_in self.now) }
+        ensures known { IfOk result (λ states. (h : List Input) → TableStandsFor self.now h → states ≡ key_states self.now.me h) }
+    {
+        states_of(alloc, &self.ballots)
+    }
+
+    /// The table of node `me`, which knows this of its keys and made so many Stands. The error is that of the allocator.
+    pub fn restore(
+        alloc: Global,
+        me: NodeNo,
+        states: &KeyStates,
+        count: u32,
+    ) -> Result<Table, AllocError>
+        ensures me { IfOk result (λ table. table.me ≡ me) }
+        ensures value { IfOk result (λ table. states_in table ≡ states.now) }
+        ensures count { IfOk result (λ table. table.stands ≡ count) }
+        ensures stands { IfOk result (λ table. (h : List Input) → states.now ≡ key_states me h → count ≡ stands h → TableStandsFor table h) }
+    {
+        let mut table = Table::new(alloc, me);
+        table.stands = count;
+        let items = states.as_slice();
+        // From the last state to the first, so that those which are put are the rest of the list.
+        let mut left = items.len();
+        while left > 0 {
+            left -= 1;
+            table.put_state(&items[left])?;
+        }
+        Ok(table)
+    }
+
+    // Puts what is known of a key that has no ballot.
+    fn put_state(&mut self, state: &KeyState) -> Result<(), AllocError>
+        requires { map.get self.old.ballots state.now.key ≡ None }
+        ensures me { self.new.me ≡ self.old.me }
+        ensures stands { self.new.stands ≡ self.old.stands }
+        ensures ballots { OnOk result (self.new.ballots ≡ map.insert self.old.ballots state.now.key (ballot_of state.now)) }
+    {
+        let key = state.key;
+        let leader = state.leader;
+        let ballot = Ballot {
+            stood: state.stood,
+            leader,
+        };
+        make_room(&mut self.latest, &key.group, &None, &leader)?;
+        put(&mut self.ballots, &key, &ballot)?;
+        note(&mut self.latest, &key, None, leader);
+        Ok(())
+    }
+
     // The ballot of the key, an empty one where no input named it.
     fn known(&self, key: &Key) -> Ballot
         ensures { result ≡ ballot_at self.now key.now }
@@ -146,6 +205,20 @@ impl Table {
             None => Ballot::new(),
         }
     }
+}
+
+fn states_of(alloc: Global, ballots: &BTreeMap<Key, Ballot>) -> Result<KeyStates, AllocError>
+    ensures { IfOk result (λ states. states ≡ keyed (list_map state_at ballots.now.entries)) }
+{
+    let mut items = Vec::with_capacity(alloc, ballots.len())?;
+    for (key, ballot) in ballots {
+        items.push(KeyState {
+            key: *key,
+            stood: ballot.stood,
+            leader: ballot.leader,
+        })?;
+    }
+    Ok(KeyStates::from_sorted(items))
 }
 
 fn put(ballots: &mut BTreeMap<Key, Ballot>, key: &Key, ballot: &Ballot) -> Result<(), AllocError>
@@ -162,6 +235,8 @@ fn hear(ballot: &mut Ballot, me: NodeNo, msg: &Msg) -> Option<Msg>
     ensures sends { (h : List Input) (msg_no : ℕ) → StandsFor ballot.old me h (key_of msg.now) → emit me h (Take msg_no msg.now) ≡ result }
     ensures next { (h : List Input) (msg_no : ℕ) → StandsFor ballot.old me h (key_of msg.now) → StandsFor ballot.new me (h ++ Take msg_no msg.now ∷ []) (key_of msg.now) }
     ensures leader { (c : Candidate) → ballot.old.leader ≡ Some c → ballot.new.leader ≡ Some c }
+    ensures passes { result ≡ passed me ballot.old.stood ballot.old.leader msg.now }
+    ensures heard { ballot.new ≡ heard me ballot.old msg.now }
 {
     match msg {
         Msg::Token { key, candidate } => ballot.hear_token(me, *key, *candidate),

@@ -1,10 +1,9 @@
 use Rattle.std.proofs.Common.{◌∷◌, ◌++◌, [], ap, ◌∙◌}
 use Rattle.std.specs.FinMap as map
 use Rattle.ring_records.specs.declared.input.Input.TheVariants.{Take}
-use Rattle.ring_records.specs.declared.key.Key.{Key}
 use Rattle.ring_records.specs.Message.{key_of}
-use Rattle.groups_terms.specs.Table.{TableView, ballot_at}
-use Rattle.groups_terms.proofs.Tables.{hear_kept, hear_next, put_seen, one_key_put, moved}
+use Rattle.groups_terms.specs.Table.{TableView, ballot_at, heard}
+use Rattle.groups_terms.proofs.Tables.{hear_kept, hear_next, put_seen, moved}
 use Rattle.groups_terms.proofs.table.Table.hear.Goals as goal
 
 pub invariant_of-self-2 : goal.invariant_of-self-2
@@ -22,6 +21,7 @@ returns-clause-next c = λ h msg_no stands.
 
 pub returns-clause-one_key : goal.returns-clause-one_key
 returns-clause-one_key c =
-    one_key_put c.args.self.now _ (key_of c.args.msg.now) c.hear-on.new.ballot
-    (put_seen c.args.self.now _ _ c.key-key.result c.hear-on.new.ballot (ap (λ (t : TableView). t.ballots) c.self.view_is) c.in_ok-put.ensures.ok
-    ∙ ap (λ (k : Key). map.insert c.args.self.now.ballots k c.hear-on.new.ballot) c.key-key.ensures)
+    let me = ap (λ (t : TableView). t.me) c.self.view_is in
+    let was = c.known-ballot.ensures ∙ ap (ballot_at c.args.self.now) c.key-key.ensures in
+    put_seen c.args.self.now _ _ c.key-key.result c.hear-on.new.ballot (ap (λ (t : TableView). t.ballots) c.self.view_is) c.in_ok-put.ensures.ok
+    ∙ (λ i. map.insert c.args.self.now.ballots (c.key-key.ensures i) ((c.hear-on.ensures.heard ∙ (λ j. heard (me j) (was j) c.args.msg.now)) i))
