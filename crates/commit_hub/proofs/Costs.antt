@@ -6,13 +6,13 @@ use Rattle.ring_records.specs.declared.input.Input.{Input}
 use Rattle.ring_records.specs.Admission.{fresh, used, cost, Fits, IsAdmitted, IsLawful}
 use Rattle.ring_records.specs.Answer.{NodeState, IsNodeState, launched, durable_in, flown_in, flying_in}
 use Rattle.ring_records.specs.Member.{member, used_by, IsHistory}
-use Rattle.ring_records.proofs.Counts.{used-push}
+use Rattle.ring_records.proofs.Counts.{used-push, used-each}
 use Rattle.ring_records.proofs.Lists.{along}
 use Rattle.gated_journal.proofs.Rest.{used-joined}
 
 fits_next : (me n capacity : ℕ) (h : List Input) (x : Input) → IsAdmitted me n capacity fresh h x → used_by h ≤ capacity → used_by (h ++ x ∷ []) ≤ capacity
 unfolding Fits
-fits_next me n capacity h x admitted fits = omega (arith, admitted.fits, used-push h x)
+fits_next me n capacity h x admitted fits = omega (arith, admitted.fits (omega arith), used-push h x)
 
 -- a lawful history fits the capacity
 pub used_within : (me n capacity : ℕ) (h : List Input) → IsHistory (member me n capacity) h → used_by h ≤ capacity
@@ -21,8 +21,7 @@ used_within me n capacity h lawful = along (IsAdmitted me n capacity fresh) (λ 
 
 -- and so do its first inputs
 pub used_front : (k me n capacity : ℕ) (h : List Input) → IsHistory (member me n capacity) h → used_by (take k h) ≤ capacity
-unfolding used
-used_front k me n capacity h lawful = omega (arith, used_within me n capacity h lawful, sum_by-take-drop cost h k)
+used_front k me n capacity h lawful = omega (arith, used_within me n capacity h lawful, used-each h, sum_by-take-drop cost h k, used-each (take k h))
 
 from_to : (d f : ℕ) (h : List Input) → d ≤ f → take d h ++ take (f - d) (drop d h) ≡ take f h
 from_to d f h le = let sum : d + (f - d) ≡ f = omega (arith, le) in sym (take-add d (f - d) h) ∙ ap (λ k. take k h) sum

@@ -11,6 +11,7 @@ use Rattle.ring_records.specs.declared.input.Input.{Input}
 use Rattle.ring_records.specs.Admission.{used, cost}
 use Rattle.ring_records.specs.Member.{Member, used_by}
 use Rattle.ring_records.specs.Record.{record_of}
+use Rattle.ring_records.proofs.Counts.{used-each}
 use Rattle.ring_records.proofs.LookBack.{IsItem, take-item}
 use Rattle.ring_records.proofs.Records.{cost-record, record-long}
 use Rattle.gated_journal.specs.Frames.{records, body, frames, joined, AreBatches, IsFrame, ReadsTo, Appends}
@@ -22,12 +23,10 @@ use Rattle.gated_journal.proofs.Unique.{unique}
 -- ---- sums of costs
 
 pub used-joined : (a b : List Input) → used_by (a ++ b) ≡ used_by a + used_by b
-unfolding used
-used-joined a b = sum_by-append cost a b
+used-joined a b = omega (arith, used-each (a ++ b), sum_by-append cost a b, used-each a, used-each b)
 
 used-one : (x : Input) → used_by (x ∷ []) ≡ cost x
-unfolding used
-used-one x = zero-add (cost x)
+used-one x = used-each (x ∷ []) ∙ zero-add (cost x)
 
 pub used-parts : (inputs : List Input) → used_by inputs ≡ length (records inputs) + 7 * length inputs
 unfolding used

@@ -4,15 +4,14 @@
 
 ghost use Rattle.std.specs.Prelude.{◌≡◌, ℕ, ◌<◌, ◌≤◌, ◌*◌, ◌^◌, length, IfOk, Some};
 ghost use Rattle.std.specs.Option.{option_and_then};
-ghost use Rattle.ring_records.specs.Admission.{too_many, objection, used, refusal};
+ghost use Rattle.ring_records.specs.Admission.{objection, shortage, refusal};
 ghost use Rattle.ring_records.specs.Emission.{is_below, emit, sent, carry};
 ghost use Rattle.ring_records.specs.History.{names, touched, bid_for, is_stand, message_of, upto_of, stood, taken, credit, stands};
 ghost use Rattle.ring_records.specs.Order.{is_key};
 ghost use Rattle.ring_records.specs.Leader.{is_bid, makes_leader, leader, decided, greater_term, term_led, latest};
-ghost use Rattle.ring_records.specs.Member.{member, refusal_by};
 
 use ring_records::{
-    Bid, Candidate, Decision, GroupName, Input, Key, Msg, NodeNo, Packet, Refusal, Term,
+    Base, Bid, Candidate, Decision, GroupName, Input, Key, Msg, NodeNo, Packet, Refusal, Term,
 };
 use std::alloc::{AllocError, Global};
 
@@ -20,7 +19,7 @@ mod objections;
 mod releases;
 mod replies;
 
-use objections::{objection, used};
+use objections::{objection, shortage};
 pub use releases::{decisions, packets, window};
 pub use replies::answer;
 
@@ -159,25 +158,23 @@ pub fn decided(me: NodeNo, history: &[Input], input: &Input) -> Option<Decision>
     }
 }
 
-/// Why node `me` of a ring of `n` refuses the input after the history, where nothing is summarised: the first cause
-/// that there is. None means that the input is admitted.
+/// Why node `me` of a ring of `n` refuses the input after the history, where the area of its journal stands for this
+/// beside its frames: the first cause that there is. None means that the input is admitted.
 pub fn refusal(
     me: NodeNo,
     n: u8,
     capacity: u32,
+    base: &Base,
     history: &[Input],
     input: &Input,
 ) -> Option<Refusal>
-    ensures { result ≡ refusal_by (member me n capacity) history.now input.now }
+    ensures { result ≡ refusal me n capacity base.now history.now input.now }
 {
     let objection = objection(me, n, history, input);
     if objection.is_some() {
         return objection;
     }
-    if (capacity as u64) < used(history) + input.cost() as u64 {
-        return Some(Refusal::Full);
-    }
-    None
+    shortage(capacity, base, history, input)
 }
 
 #[tactic(auto, unfolding(ring_records::specs::History::names))]

@@ -1,10 +1,10 @@
 // What is against an input: the history, and the bytes that it takes.
 ghost use Rattle.std.specs.Prelude.{◌≡◌, ◌<◌, ◌≤◌, ◌*◌, ◌^◌, length};
-ghost use Rattle.ring_records.specs.Admission.{too_many, objection, used};
-ghost use Rattle.ring_records.specs.Member.{used_by};
+ghost use Rattle.std.specs.List.{sum_by};
+ghost use Rattle.ring_records.specs.Admission.{cost, too_many, objection, shortage, used};
 
 use crate::{credit, latest, sent_count, stands, stood, takes, touched};
-use ring_records::{Input, Key, Msg, NodeNo, Refusal};
+use ring_records::{Base, Input, Key, Msg, NodeNo, Refusal};
 
 #[tactic(auto, unfolding(ring_records::specs::Admission::objection))]
 pub(super) fn objection(me: NodeNo, n: u8, history: &[Input], input: &Input) -> Option<Refusal>
@@ -81,14 +81,42 @@ fn too_many(history: &[Input]) -> Option<Refusal>
     }
 }
 
-pub(super) fn used(history: &[Input]) -> u64
+pub(super) fn shortage(
+    capacity: u32,
+    base: &Base,
+    history: &[Input],
+    input: &Input,
+) -> Option<Refusal>
     requires { length history.now < 2 ^ 56 }
-    ensures value { result ≡ used_by history.now }
-    ensures bound { result ≤ 42 * length history.now }
+    ensures { result ≡ shortage capacity base.now history.now input.now }
 {
-    let mut used = 0;
-    for input in history {
-        used += input.cost() as u64;
+    if (history.len() as u64) < base.inputs {
+        return None;
     }
-    used
+    if (capacity as u64) < used(base, history) + input.cost() as u64 {
+        return Some(Refusal::Full);
+    }
+    None
+}
+
+#[tactic(auto, unfolding(ring_records::specs::Admission::used))]
+fn used(base: &Base, history: &[Input]) -> u64
+    requires few { length history.now < 2 ^ 56 }
+    requires within { base.now.inputs ≤ length history.now }
+    ensures value { result ≡ used base.now history.now }
+    ensures bound { result < 2 ^ 63 }
+{
+    costs(&history[base.inputs as usize..]) + base.bytes as u64
+}
+
+fn costs(inputs: &[Input]) -> u64
+    requires { length inputs.now < 2 ^ 56 }
+    ensures value { result ≡ sum_by cost inputs.now }
+    ensures bound { result ≤ 42 * length inputs.now }
+{
+    let mut costs = 0;
+    for input in inputs {
+        costs += input.cost() as u64;
+    }
+    costs
 }

@@ -11,7 +11,7 @@ use Rattle.ring_records.specs.Answer.{NodeState, launched, durable_in, flown_in,
 use Rattle.ring_records.specs.History.{taken}
 use Rattle.ring_records.specs.Lists.{found_after}
 use Rattle.ring_records.specs.Member.{Member, member, used_by, IsHistory}
-use Rattle.ring_records.proofs.Counts.{used-push}
+use Rattle.ring_records.proofs.Counts.{used-push, used-each}
 use Rattle.ring_records.proofs.Lists.{along}
 use Rattle.gated_journal.specs.declared.batch.Batch.{Batch}
 use Rattle.gated_journal.specs.Batch.{Numbered, numbered, shown}
@@ -27,7 +27,7 @@ use Rattle.node_store.specs.State.{IsLeft, until, ReadsOnce, Stands}
 
 fits_next : (me n capacity : ℕ) (h : List Input) (x : Input) → IsAdmitted me n capacity fresh h x → used_by h ≤ capacity → used_by (h ++ x ∷ []) ≤ capacity
 unfolding Fits
-fits_next me n capacity h x admitted fits = omega (arith, admitted.fits, used-push h x)
+fits_next me n capacity h x admitted fits = omega (arith, admitted.fits (omega arith), used-push h x)
 
 -- a lawful history fits the capacity
 used_within : (me n capacity : ℕ) (h : List Input) → IsHistory (member me n capacity) h → used_by h ≤ capacity
@@ -35,8 +35,7 @@ unfolding IsLawful used
 used_within me n capacity h lawful = along (IsAdmitted me n capacity fresh) (λ l. used_by l ≤ capacity) (fits_next me n capacity) [] h lawful (omega arith)
 
 used-front : (k : ℕ) (h : List Input) → used_by (take k h) ≤ used_by h
-unfolding used
-used-front k h = omega (arith, sum_by-take-drop cost h k)
+used-front k h = omega (arith, used-each h, sum_by-take-drop cost h k, used-each (take k h))
 
 -- ---- what may be launched
 

@@ -1,7 +1,7 @@
 // What a node admits, and the first cause to refuse.
 use crate::rows::{input, inputs, node};
 use look_back::refusal;
-use ring_records::{Input, Refusal};
+use ring_records::{Base, Input, Refusal};
 use std::alloc::Global;
 use std::process::Abort;
 use test_rows::Cause;
@@ -15,7 +15,14 @@ type Row<'a> = (&'a str, &'a [Op], Op, Option<Cause>);
 fn judges(rt: &impl Abort, alloc: Global, capacity: u32, row: Row<'_>) {
     let (name, before, op, cause) = row;
     let history = inputs(rt, alloc, before);
-    let refused = refusal(node(rt, 1), 3, capacity, &history, &input(rt, op));
+    let refused = refusal(
+        node(rt, 1),
+        3,
+        capacity,
+        &Base::fresh(),
+        &history,
+        &input(rt, op),
+    );
     let want = match cause {
         Some(cause) => Some(cause.refusal().expect(rt, "a cause")),
         None => None,
@@ -32,6 +39,30 @@ fn a_cost_has_to_fit(rt: &impl Abort, alloc: Global) {
     judges(rt, alloc, 56, ("one byte too many", &before, other, full));
     judges(rt, alloc, 57, ("it just fits", &before, other, None));
     judges(rt, alloc, 0, ("full comes last", &[stood], stood, already));
+}
+
+/// What a base stands for takes its bytes and no others, and of an input that it stands for nothing is asked.
+fn a_base_takes_its_bytes(rt: &impl Abort, alloc: Global) {
+    let before = inputs(rt, alloc, &[Stand("red", 5, 10), Acked(1)]);
+    let other = input(rt, Stand("blue", 4, 5));
+    let full = Some(Refusal::Full);
+    let rows = [
+        ("one byte too many", 1, 101, full),
+        ("it just fits", 1, 102, None),
+        ("behind no inputs", 2, 85, full),
+        ("it fits behind none", 2, 86, None),
+        ("the base stands for it", 3, 0, None),
+    ];
+    for (name, summarised, capacity, want) in rows {
+        let base = Base {
+            layout: 2,
+            epoch: 1,
+            inputs: summarised,
+            bytes: 65,
+        };
+        let refused = refusal(node(rt, 1), 3, capacity, &base, &before, &other);
+        assert_eq!(rt; refused, want, "{name}");
+    }
 }
 
 fn judges_stands(rt: &impl Abort, alloc: Global) {
@@ -97,6 +128,7 @@ fn refuses_by_the_first_cause(rt: HostRuntime) {
     judges_takes(&rt, rt.alloc());
     judges_credits(&rt, rt.alloc());
     a_cost_has_to_fit(&rt, rt.alloc());
+    a_base_takes_its_bytes(&rt, rt.alloc());
 }
 
 /// Whether node 1 of two, with this capacity, admits the input after these; what is over a limit is refused so.
@@ -109,7 +141,7 @@ fn limits(
     limit: Refusal,
 ) {
     let want = if is_over { Some(limit) } else { None };
-    let refused = refusal(node(rt, 1), 2, capacity, history, input);
+    let refused = refusal(node(rt, 1), 2, capacity, &Base::fresh(), history, input);
     assert_eq!(rt; refused, want, "stand {} at {capacity}", history.len());
 }
 

@@ -1,6 +1,7 @@
 // What a node replies, and how many inputs that rests on.
 use crate::rows::{inputs, node};
 use look_back::answer;
+use ring_records::Base;
 use std::alloc::Global;
 use std::process::Abort;
 use test_rows::Note::{Elected, Token};
@@ -12,7 +13,7 @@ fn tells(rt: &impl Abort, alloc: Global, capacity: u32, before: &[Op], row: (&st
     let (name, ask, say, number) = row;
     let history = inputs(rt, alloc, before);
     let request = ask.request().expect(rt, "a request");
-    let told = answer(node(rt, 1), 3, capacity, &history, &request);
+    let told = answer(node(rt, 1), 3, capacity, &Base::fresh(), &history, &request);
     let want = say.reply().expect(rt, "a reply");
     assert_eq!(rt; told.0, want, "{name}");
     assert_eq!(rt; told.1, number, "{name}: its number");

@@ -1,7 +1,7 @@
 // Elections, with what each node sends and knows worked out by hand.
 use crate::rows::{bid, candidate, input, inputs, key, messages, node};
 use look_back::{credit, emit, latest, leader, refusal, sent, stands, stood, taken, touched};
-use ring_records::{Input, NodeNo};
+use ring_records::{Base, Input, NodeNo};
 use std::alloc::Global;
 use std::process::Abort;
 use test_rows::Note::{self, Elected, Token};
@@ -19,7 +19,7 @@ struct Election {
 /// Each input is admitted after those before it.
 fn is_admitted(rt: &impl Abort, me: NodeNo, n: u8, history: &[Input]) {
     for (place, input) in history.iter().enumerate() {
-        let refused = refusal(me, n, 65536, &history[..place], input);
+        let refused = refusal(me, n, 65536, &Base::fresh(), &history[..place], input);
         assert_eq!(rt; refused, None, "input {place} at node {me}");
     }
 }

@@ -2,13 +2,14 @@
 ghost use Rattle.std.specs.Prelude.{◌≡◌, ◌↔◌, ◌≤◌, ◌+◌, ◌||◌, ℕ, Option, true, false, if◌then◌else◌, List, [], ◌∷◌, ◌++◌, Some, None, slice_get, unwrap_or, length, Ok};
 ghost use Rattle.std.specs.FinMap as map;
 ghost use Rattle.std.specs.List.{cons_option, sum_by, Contains};
+ghost use Rattle.ring_records.specs.declared.base.Base.{Base};
 ghost use Rattle.ring_records.specs.declared.candidate.Candidate.{Candidate};
 ghost use Rattle.ring_records.specs.declared.decision.Decision.{Decision};
 ghost use Rattle.ring_records.specs.declared.input.Input.{Input};
 ghost use Rattle.ring_records.specs.declared.key.Key.{Key};
 ghost use Rattle.ring_records.specs.declared.msg.Msg.{Msg};
 ghost use Rattle.ring_records.specs.declared.summary.Summary.{Summary};
-ghost use Rattle.ring_records.specs.Admission.{Base, cost, IsAllowed, IsAdmitted, objection, refusal};
+ghost use Rattle.ring_records.specs.Admission.{used, cost, IsAllowed, IsAdmitted, objection, refusal};
 ghost use Rattle.ring_records.specs.declared.packet.Packet.{Packet};
 ghost use Rattle.ring_records.specs.declared.refusal.Refusal.{Refusal};
 ghost use Rattle.ring_records.specs.declared.request.Request.{Request};
@@ -19,7 +20,6 @@ ghost use Rattle.ring_records.specs.History.{names, touched, bid_for, stood, mes
 ghost use Rattle.ring_records.specs.Leader.{makes_leader, leader, latest, IsLatest, decided};
 ghost use Rattle.ring_records.specs.Known.{sends, stepped, after, Objects};
 ghost use Rattle.ring_records.specs.Lists.{or_else, EachAfter};
-ghost use Rattle.ring_records.specs.Member.{used_by};
 ghost use Rattle.ring_records.specs.Record.{AreBytes, HasRecord, BeginsWith, record_of, record_read};
 ghost use Rattle.ring_records.specs.Release.{packets, decisions, window, AreLeaders};
 ghost use Rattle.ring_records.specs.Ring.{IsLegal, part};
@@ -37,7 +37,7 @@ pub fn one_more_input()
     ensures stands { (h : List Input) (x : Input) → stands (h ++ x ∷ []) ≡ stands h + (if is_stand x then 1 else 0) }
     ensures leader { (me : ℕ) (h : List Input) (x : Input) (key : Key) → leader me (h ++ x ∷ []) key ≡ or_else (leader me h key) (makes_leader me key h x) }
     ensures sent { (me : ℕ) (h : List Input) (x : Input) → sent me (h ++ x ∷ []) ≡ sent me h ++ cons_option (emit me h x) [] }
-    ensures used { (h : List Input) (x : Input) → used_by (h ++ x ∷ []) ≡ used_by h + cost x }
+    ensures used { (base : Base) (h : List Input) (x : Input) → base.inputs ≤ length h → used base (h ++ x ∷ []) ≡ used base h + cost x }
 {}
 
 /// What never changes as a history grows: the bid of a Stand, a leader, and each message that was sent or taken.

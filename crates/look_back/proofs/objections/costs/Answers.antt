@@ -1,17 +1,16 @@
 use Rattle.std.proofs.Common.{refl, ap, ◌∙◌, arith}
 use Rattle.std.proofs.lemmas.List.{take_all}
-use Rattle.ring_records.specs.Admission.{used}
-use Rattle.ring_records.specs.Member.{used_by}
-use Rattle.ring_records.proofs.LookBack.{used-item}
-use Rattle.look_back.proofs.objections.used.Goals as goal
+use Rattle.std.specs.List.{sum_by}
+use Rattle.ring_records.specs.Admission.{cost}
+use Rattle.ring_records.proofs.LookBack.{cost-item}
+use Rattle.look_back.proofs.objections.costs.Goals as goal
 
 pub loop-input-init : goal.loop-input-init
-unfolding used
 loop-input-init c = record { same = refl; few = omega arith }
 
 pub loop-input-preserved : goal.loop-input-preserved
 loop-input-preserved c =
-    let more = used-item _ _ _ (record { within = c.loop-input-test.true; is = c.input-item.is }) in
+    let more = cost-item _ _ _ (record { within = c.loop-input-test.true; is = c.input-item.is }) in
     let same = c.loop-input.invariant.same in
     let few = c.loop-input.invariant.few in
     let one = c.cost.ensures.value in
@@ -19,4 +18,4 @@ loop-input-preserved c =
     record { same = omega arith; few = omega arith }
 
 pub returns-clause-value : goal.returns-clause-value
-returns-clause-value c = c.loop-input.invariant.same ∙ ap used_by (take_all _ _ c.loop-input-test.false)
+returns-clause-value c = c.loop-input.invariant.same ∙ ap (sum_by cost) (take_all _ _ c.loop-input-test.false)
