@@ -1,3 +1,8 @@
+pub mod AreaAlone
+pub mod AreaBeside
+pub mod AreaKept
+pub mod AreaShut
+pub mod AreaStaged
 pub mod Behind
 pub mod Fault
 pub mod Frame

@@ -15,7 +15,7 @@ use Rattle.ring_records.proofs.Counts.{used-each}
 use Rattle.ring_records.proofs.LookBack.{IsItem, take-item}
 use Rattle.ring_records.proofs.Records.{cost-record, record-long}
 use Rattle.gated_journal.specs.Frames.{records, body, frames, joined, AreBatches, IsFrame, ReadsTo, Appends}
-use Rattle.gated_journal.specs.Reading.{HasHeader, ReadsAt, IsAtRest, AllReadAs, ReadsAsOneOf, new_image, is_header}
+use Rattle.gated_journal.specs.Reading.{HasHeader, ReadsAt, IsAtRest, AllReadAs, ReadsAsOneOf, mark, new_image, is_header}
 use Rattle.gated_journal.proofs.Behind.{inside}
 use Rattle.gated_journal.proofs.Kept.{header_kept}
 use Rattle.gated_journal.proofs.Unique.{unique}
@@ -133,7 +133,7 @@ pub moment : (header : Member) (old now : List ℕ) (inputs batch : List Input) 
 moment header old now inputs batch gate_at n read is =
     let in_old = inside 16 old inputs gate_at read.frames in
     let low : 16 ≤ gate_at = omega (arith, read.frames.ends) in
-    let head : HasHeader header now = header_kept header gate_at (1 + n) old now low (omega (arith, in_old, low)) is.changes read.head in
+    let head : HasHeader header now = header_kept mark header gate_at (1 + n) old now low (omega (arith, in_old, low)) is.changes read.head in
     ⊎_elim (λ before. inl (record { gate_at = gate_at; at = record { head = head; frames = before } })) (λ after. inr (record { gate_at = gate_at + n; at = record { head = head; frames = after } })) is.frames
 
 -- ---- that a batch fits
@@ -158,7 +158,7 @@ pub after : (header : Member) (old new : List ℕ) (inputs batch : List Input) (
 after header old new inputs batch gate_at n read done =
     let in_old = inside 16 old inputs gate_at read.frames in
     let low : 16 ≤ gate_at = omega (arith, read.frames.ends) in
-    record { head = header_kept header gate_at (1 + n) old new low (omega (arith, in_old, low)) done.1 read.head; frames = done.0 }
+    record { head = header_kept mark header gate_at (1 + n) old new low (omega (arith, in_old, low)) done.1 read.head; frames = done.0 }
 
 -- the capacity of a header that may be written
 pub in_range : (header : Member) → is_header header ≡ true → (4096 ≤ header.capacity) × (header.capacity ≤ 1048576)

@@ -6,7 +6,7 @@ use Rattle.ring_records.specs.Member.{Member}
 use Rattle.ring_records.specs.Record.{record_of}
 use Rattle.ring_records.proofs.Records.{records-apart}
 use Rattle.gated_journal.specs.Frames.{records, body, frames, joined, HaveRecords, IsBatch, AreBatches, ReadsTo}
-use Rattle.gated_journal.specs.Reading.{HasHeader, ReadsAs}
+use Rattle.gated_journal.specs.Reading.{HasMarkedHeader, HasHeader, mark, ReadsAs}
 use Rattle.gated_journal.specs.Unread.{NoFrame, IsDamagedAt}
 
 records-unique : (b c : List Input) (r s : List ℕ) → HaveRecords b → HaveRecords c → length b ≡ length c → records b ++ r ≡ records c ++ s → (b ≡ c) × (r ≡ s)
@@ -88,9 +88,12 @@ damaged_once offset image at other one two =
 pub unique_inputs : (header other : Member) (image : List ℕ) (inputs more : List Input) → ReadsAs header image inputs → ReadsAs other image more → inputs ≡ more
 unique_inputs header other image inputs more one two = (unique 16 image inputs more one.gate_at two.gate_at one.at.frames two.at.frames).0
 
-pub header_unique : (header other : Member) (image : List ℕ) → HasHeader header image → HasHeader other image → header ≡ other
-header_unique header other image one two =
+pub marked_unique : (one_mark other_mark : List ℕ) (header other : Member) (image : List ℕ) → HasMarkedHeader one_mark header image → HasMarkedHeader other_mark other image → header ≡ other
+marked_unique one_mark other_mark header other image one two =
     let node : header.node ≡ other.node = sym one.node ∙ two.node in
     let n : header.n ≡ other.n = sym one.n ∙ two.n in
     let capacity : header.capacity ≡ other.capacity = sym one.capacity ∙ two.capacity in
     λ i. record { node = node i; n = n i; capacity = capacity i }
+
+pub header_unique : (header other : Member) (image : List ℕ) → HasHeader header image → HasHeader other image → header ≡ other
+header_unique header other image one two = marked_unique mark mark header other image one two

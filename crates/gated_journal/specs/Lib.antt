@@ -1,3 +1,4 @@
+pub mod Areas
 pub mod Batch
 pub mod Frames
 pub mod Journal

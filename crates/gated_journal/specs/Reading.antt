@@ -22,15 +22,18 @@ mark = codes "CRJRNL01"
 abbrev pub new_image : Member → List ℕ
 new_image header = mark ++ header.node ∷ header.n ∷ to_be_bytes w32 header.capacity ++ 0 ∷ 0 ∷ 0 ∷ []
 
--- the image begins with this header, whose capacity is in its range
-pub record HasHeader (header : Member) (image : List ℕ) : Type 0 where
-  pub marked : take 8 image ≡ mark
+-- the image begins with this mark and this header, whose capacity is in its range
+pub record HasMarkedHeader (layout_mark : List ℕ) (header : Member) (image : List ℕ) : Type 0 where
+  pub marked : take 8 image ≡ layout_mark
   pub node : slice_index image 8 ≡ header.node
   pub n : slice_index image 9 ≡ header.n
   pub capacity : number_at 4 10 image ≡ header.capacity
   pub from : 4096 ≤ header.capacity
   pub to : header.capacity ≤ 1048576
   pub blank : number_at 2 14 image ≡ 0
+
+abbrev pub HasHeader : Member → List ℕ → Type 0
+HasHeader header image = HasMarkedHeader mark header image
 
 -- where the frames begin: behind the header
 abbrev pub frames_at : ℕ

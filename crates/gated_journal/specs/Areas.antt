@@ -1,0 +1,167 @@
+-- Two areas of a journal, of which one is read, and what an image reads as then (layout 2). An area is a gate, a layout,
+-- an epoch, the length of a snapshot, the snapshot, and frames behind it.
+use Rattle.std.specs.Prelude.{◌≡◌, ◌≢◌, ◌⊎◌, ◌+◌, ◌^◌, ◌<◌, ◌≤◌, ℕ, nat_le, Bool, true, false, if◌then◌else◌, List, [], ◌∷◌, ◌++◌, length, take, drop, slice_index, codes}
+use Rattle.std.specs.Int.{w32, w64, to_be_bytes}
+use Rattle.std.specs.List.{sum_by}
+use Rattle.disk_model.specs.Disk.{Disk, MayLeave, IsSynced}
+use Rattle.ring_records.specs.declared.input.Input.{Input}
+use Rattle.ring_records.specs.declared.summary.Summary.{Summary}
+use Rattle.ring_records.specs.Admission.{cost}
+use Rattle.ring_records.specs.Member.{Member}
+use Rattle.ring_records.specs.Snapshot.{Spells, snapshot_of, snapshot_len}
+use Rattle.ring_records.specs.Summary.{summary}
+use Rattle.gated_journal.specs.Frames.{ReadsTo}
+use Rattle.gated_journal.specs.Reading.{number_at, HasMarkedHeader}
+
+-- ---- what is read
+
+-- what an image reads as: the layout and the epoch of the area in use, the summary of its snapshot, and the inputs of
+-- the frames behind that
+pub record Reading : Type 0 where
+  pub layout : ℕ
+  pub epoch : ℕ
+  pub base : Summary
+  pub inputs : List Input
+
+abbrev pub with_more : Reading → List Input → Reading
+with_more r batch = record r { inputs = r.inputs ++ batch }
+
+-- an area without frames
+abbrev pub fresh_area : ℕ → ℕ → Summary → Reading
+fresh_area layout epoch base = record { layout = layout; epoch = epoch; base = base; inputs = [] }
+
+-- the bytes of the capacity that a summary takes in an area of this layout
+abbrev pub area_bytes : ℕ → Summary → ℕ
+area_bytes layout s = if nat_le layout 1 then 0 else snapshot_len s
+
+-- how many bytes of the capacity are used: by the snapshot, and by the inputs behind it
+abbrev pub used_in : Reading → ℕ
+used_in r = area_bytes r.layout r.base + sum_by cost r.inputs
+
+-- how many inputs there are, those that are summarised among them
+abbrev pub count_in : Reading → ℕ
+count_in r = r.base.inputs + length r.inputs
+
+-- it stands for the inputs h of node `me`: the summary is that of the first of them, and its inputs are the rest
+pub record StandsFor (me : ℕ) (r : Reading) (h : List Input) : Type 0 where
+  pub before : List Input
+  pub base : r.base ≡ summary me before
+  pub joined : h ≡ before ++ r.inputs
+
+-- ---- an area
+
+-- area A begins behind the header, area B where A ends at the latest
+abbrev pub area_a : ℕ
+area_a = 16
+
+abbrev pub area_b : ℕ → ℕ
+area_b capacity = 31 + capacity
+
+-- the one of them, and the other
+pub record AreAreas (capacity start other : ℕ) : Type 0 where
+  pub both : start + other ≡ area_a + area_b capacity
+  pub one : start ≢ area_a → other ≡ area_a
+
+-- the layout that is written
+abbrev pub newest : ℕ
+newest = 2
+
+-- how long an area is before its snapshot
+abbrev pub head_len : ℕ
+head_len = 14
+
+abbrev pub layout_at : ℕ → List ℕ → ℕ
+layout_at start image = slice_index image (start + 1)
+
+abbrev pub epoch_at : ℕ → List ℕ → ℕ
+epoch_at start image = number_at 8 (start + 2) image
+
+-- how long its snapshot is
+abbrev pub size_at : ℕ → List ℕ → ℕ
+size_at start image = number_at 4 (start + 10) image
+
+-- where its frames begin
+abbrev pub frames_of : ℕ → List ℕ → ℕ
+frames_of start image = start + head_len + size_at start image
+
+-- its snapshot
+abbrev pub snapshot_at : ℕ → List ℕ → List ℕ
+snapshot_at start image = take (size_at start image) (drop (start + head_len) image)
+
+-- the area counts: its gate is there and open, and its layout is known
+pub record Counts (start : ℕ) (image : List ℕ) : Type 0 where
+  pub gate : slice_index image start ≡ 1
+  pub known : layout_at start image ≡ newest
+
+-- Behind the gate at `start` stand the layout, the epoch and the snapshot of r, for a ring of n, and its frames begin at
+-- `offset`.
+pub record HasBase (n start : ℕ) (image : List ℕ) (r : Reading) (offset : ℕ) : Type 0 where
+  pub layout : r.layout ≡ layout_at start image
+  pub known : r.layout ≡ newest
+  pub epoch : r.epoch ≡ epoch_at start image
+  pub small : r.epoch < 2 ^ 40
+  pub offset_is : offset ≡ frames_of start image
+  pub there : offset ≤ length image
+  pub snapshot : Spells n (snapshot_at start image) r.base
+
+-- the bytes behind the gate of an area without frames, and its closed gate
+abbrev pub new_area : ℕ → ℕ → Summary → List ℕ
+new_area layout epoch s = layout ∷ to_be_bytes w64 epoch ++ to_be_bytes w32 (snapshot_len s) ++ snapshot_of s ++ 0 ∷ []
+
+-- ---- the area that is read
+
+abbrev pub area_mark : List ℕ
+area_mark = codes "CRJRNL02"
+
+-- The image has this header and reads as r: of the area at `start`, whose gate is open, with frames from `offset` on and
+-- the closed gate at `gate_at`. The other area does not count, or its epoch is less.
+pub record ReadsByAreaAt (header : Member) (image : List ℕ) (r : Reading) (start other offset gate_at : ℕ) : Type 0 where
+  pub head : HasMarkedHeader area_mark header image
+  pub areas : AreAreas header.capacity start other
+  pub gate : slice_index image start ≡ 1
+  pub base : HasBase header.n start image r offset
+  pub older : Counts other image → epoch_at other image < r.epoch
+  pub frames : ReadsTo offset image r.inputs gate_at
+  pub within : gate_at ≤ start + head_len + header.capacity
+
+-- *Reading*: the image reads as r
+pub record ReadsByArea (header : Member) (image : List ℕ) (r : Reading) : Type 0 where
+  pub start : ℕ
+  pub other : ℕ
+  pub offset : ℕ
+  pub gate_at : ℕ
+  pub at : ReadsByAreaAt header image r start other offset gate_at
+
+-- every image that a stop may leave reads as r
+abbrev pub AllReadByArea : Member → Disk → Reading → Type 0
+AllReadByArea header disk r = (image : List ℕ) → MayLeave disk image → ReadsByArea header image r
+
+-- the image reads as the one or as the other
+abbrev pub ReadsByAreaAsOneOf : Member → Reading → Reading → List ℕ → Type 0
+ReadsByAreaAsOneOf header old new image = ReadsByArea header image old ⊎ ReadsByArea header image new
+
+-- ---- the area that is not in use
+
+-- What is known of its gate: it is there and closed, or it is open if it is there.
+pub record IsGate (is_closed : Bool) (other : ℕ) (image : List ℕ) : Type 0 where
+  pub shut : is_closed ≡ true → (other < length image) × (slice_index image other ≢ 1)
+  pub not_shut : is_closed ≡ false → other < length image → slice_index image other ≡ 1
+
+-- where a checkpoint writes its first 0: to the gate, or behind one that is closed already
+abbrev pub first_write : Bool → ℕ → ℕ
+first_write is_closed other = if is_closed then other + 1 else other
+
+-- behind its gate stands all of a new area, which is read once the gate is open
+pub record IsStaged (n other : ℕ) (image : List ℕ) (r : Reading) (offset : ℕ) : Type 0 where
+  pub there : other < length image
+  pub base : HasBase n other image r offset
+  pub frames : ReadsTo offset image r.inputs offset
+
+-- ---- at rest
+
+-- Nothing waits for a sync, the other gate is known, and the image is read at these places, as so many inputs that use so
+-- much of the capacity, in this epoch.
+pub record IsInUse (header : Member) (disk : Disk) (start other offset gate_at : ℕ) (is_closed : Bool) (epoch count used : ℕ) : Type 0 where
+  pub synced : IsSynced disk
+  pub gate : IsGate is_closed other disk.image
+  pub reads : ∥ ((r : Reading) × (ReadsByAreaAt header disk.image r start other offset gate_at × ((r.epoch ≡ epoch) × ((count_in r ≡ count) × (used_in r ≡ used))))) ∥₁
