@@ -9,9 +9,7 @@ use Rattle.gated_journal.specs.Areas.{Reading, area_mark, epoch_at, ReadsByAreaA
 use Rattle.gated_journal.proofs.AreaBeside.{InOrder, where_are, swapped, beside}
 use Rattle.gated_journal.proofs.AreaKept.{frames_kept, base_kept, older_kept, low}
 use Rattle.gated_journal.proofs.Kept.{SameBytes, kept, header_kept}
-
-not_both : {A : Type 0} → true ≡ false → A
-not_both e = absurd cc
+use Rattle.gated_journal.proofs.Results.{not_both}
 
 -- while the other area is closed it does not come to count in an epoch of its own
 pub closing : (is_closed : Bool) (header : Member) (image new : List ℕ) (r : Reading) (start other offset gate_at : ℕ) → ReadsByAreaAt header image r start other offset gate_at → IsGate is_closed other image

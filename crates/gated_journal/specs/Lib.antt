@@ -1,5 +1,7 @@
 pub mod Areas
 pub mod Batch
+pub mod Choose
+pub mod Damage
 pub mod Frames
 pub mod Journal
 pub mod Props

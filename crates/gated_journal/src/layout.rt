@@ -1,12 +1,23 @@
 //! Where a journal lies on its device.
 ghost use Rattle.std.specs.Prelude.{◌≡◌, ◌+◌};
 ghost use Rattle.ring_records.specs.Member.{member};
+ghost use Rattle.gated_journal.specs.Areas.{area_b};
 ghost use Rattle.gated_journal.specs.Reading.{is_header};
 
 use ring_records::NodeNo;
 
 /// The offset of the frames of a journal of layout 1: they stand behind its header.
 pub(crate) const FRAMES: u64 = 16;
+
+/// The offset of area A of a journal with two areas: it stands behind the header.
+pub(crate) const AREA_A: u64 = 16;
+
+/// The offset of area B: it stands where area A ends at the latest.
+pub(crate) fn area_b(capacity: u32) -> u64
+    ensures { result ≡ area_b capacity }
+{
+    31 + u64::from(capacity)
+}
 
 /// Whether a journal may have this header: of a ring of 2 to 16 nodes, a node of it, and a capacity of 4,096 to
 /// 1,048,576 bytes.

@@ -1,6 +1,7 @@
 //! A journal of frames, each behind a gate that is opened once the frame is stable.
 #![tactic(auto)]
 
+mod area;
 mod batch;
 mod commit;
 mod journal;

@@ -42,8 +42,8 @@ fn settle<D: Device>(device: &mut D) -> Result<(), Refusal>
     }
 }
 
-// Reads the bytes from `off` on.
-fn read_part<D: Device>(device: &mut D, off: u64, buf: &mut [u8]) -> Result<(), Refusal>
+/// Reads the bytes from `off` on.
+pub(crate) fn read_part<D: Device>(device: &mut D, off: u64, buf: &mut [u8]) -> Result<(), Refusal>
     ensures part { OnOk result (IsPart off buf.new (D.disk device.old).image) }
     ensures disk { D.disk device.new ≡ D.disk device.old }
     ensures any_moment { LeavesOnly D.clock D.left_since device.old device.new (MayLeave (D.disk device.old)) }

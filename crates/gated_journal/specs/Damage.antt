@@ -1,0 +1,43 @@
+-- Why no area of an image is read: the first fault, with its offset.
+use Rattle.std.specs.Prelude.{◌≡◌, ◌⊎◌, ◌+◌, ◌^◌, ◌<◌, ◌≤◌, ℕ, List, length}
+use Rattle.ring_records.specs.declared.input.Input.{Input}
+use Rattle.ring_records.specs.declared.refusal.Refusal.{Refusal}
+use Rattle.ring_records.specs.declared.refusal.Refusal.TheVariants.{Damaged}
+use Rattle.ring_records.specs.declared.summary.Summary.{Summary}
+use Rattle.ring_records.specs.Snapshot.{Spells}
+use Rattle.gated_journal.specs.Areas.{Reading, area_a, head_len, AreAreas, epoch_at, frames_of, snapshot_at, HasBase}
+use Rattle.gated_journal.specs.Choose.{IsChosen, IsUnchosen}
+use Rattle.gated_journal.specs.Frames.{ReadsTo}
+use Rattle.gated_journal.specs.Unread.{IsBroken}
+
+-- the bytes of the area are short, its epoch is too great, or its snapshot is of no summary of a ring of n
+abbrev pub IsHeadBroken : ℕ → ℕ → List ℕ → Type 0
+IsHeadBroken n start image =
+    (length image < frames_of start image)
+    ⊎ ((2 ^ 40 ≤ epoch_at start image) ⊎ ((s : Summary) → Spells n (snapshot_at start image) s → ⊥))
+
+-- frames from this offset on end behind this bound
+pub record GoesPast (bound offset : ℕ) (image : List ℕ) : Type 0 where
+  pub inputs : List Input
+  pub gate_at : ℕ
+  pub frames : ReadsTo offset image inputs gate_at
+  pub past : bound < gate_at
+
+-- the head of the area is whole, and its frames are broken or take more than the capacity
+pub record AreFramesBroken (n capacity start : ℕ) (image : List ℕ) (refusal : Refusal) : Type 0 where
+  pub reading : Reading
+  pub offset : ℕ
+  pub base : HasBase n start image reading offset
+  pub cause : IsBroken offset image refusal ⊎ ((refusal ≡ Damaged start) × GoesPast (start + head_len + capacity) offset image)
+
+-- the area that is read is broken, in its head or in its frames
+pub record IsAreaBroken (n capacity : ℕ) (image : List ℕ) (refusal : Refusal) : Type 0 where
+  pub start : ℕ
+  pub other : ℕ
+  pub areas : AreAreas capacity start other
+  pub area : IsChosen start other image
+  pub cause : ((refusal ≡ Damaged start) × IsHeadBroken n start image) ⊎ AreFramesBroken n capacity start image refusal
+
+-- no area is read, or the one that is read is broken
+pub record AreAreasUnread (n capacity : ℕ) (image : List ℕ) (refusal : Refusal) : Type 0 where
+  pub cause : ((refusal ≡ Damaged area_a) × IsUnchosen capacity image) ⊎ IsAreaBroken n capacity image refusal
