@@ -1,5 +1,6 @@
 pub mod AreaAlone
 pub mod AreaBeside
+pub mod AreaFormatted
 pub mod AreaHeads
 pub mod AreaKept
 pub mod AreaShut

@@ -9,7 +9,7 @@ use Rattle.ring_records.specs.declared.summary.Summary.{Summary}
 use Rattle.ring_records.specs.Admission.{cost}
 use Rattle.ring_records.specs.Member.{Member}
 use Rattle.ring_records.specs.Snapshot.{Spells, snapshot_of, snapshot_len}
-use Rattle.ring_records.specs.Summary.{summary}
+use Rattle.ring_records.specs.Summary.{summary, empty}
 use Rattle.gated_journal.specs.Frames.{ReadsTo}
 use Rattle.gated_journal.specs.Reading.{number_at, HasMarkedHeader}
 
@@ -113,6 +113,10 @@ new_area layout epoch s = layout ∷ to_be_bytes w64 epoch ++ to_be_bytes w32 (s
 abbrev pub area_mark : List ℕ
 area_mark = codes "CRJRNL02"
 
+-- a device without inputs: a header, and area A
+abbrev pub new_areas : Member → List ℕ
+new_areas header = area_mark ++ header.node ∷ header.n ∷ to_be_bytes w32 header.capacity ++ 0 ∷ 0 ∷ 1 ∷ new_area newest 1 empty
+
 -- The image has this header and reads as r: of the area at `start`, whose gate is open, with frames from `offset` on and
 -- the closed gate at `gate_at`. The other area does not count, or its epoch is less.
 pub record ReadsByAreaAt (header : Member) (image : List ℕ) (r : Reading) (start other offset gate_at : ℕ) : Type 0 where
@@ -140,6 +144,10 @@ AllReadByArea header disk r = (image : List ℕ) → MayLeave disk image → Rea
 abbrev pub ReadsByAreaAsOneOf : Member → Reading → Reading → List ℕ → Type 0
 ReadsByAreaAsOneOf header old new image = ReadsByArea header image old ⊎ ReadsByArea header image new
 
+-- a moment of the opening of the other area: what was read before is read, or that area, whose closed gate is at `next`
+abbrev pub ReadsByAreaAtOneOf : Member → Reading → ℕ → ℕ → ℕ → ℕ → Reading → ℕ → List ℕ → Type 0
+ReadsByAreaAtOneOf header old start other offset gate_at new next image = ReadsByAreaAt header image old start other offset gate_at ⊎ ReadsByAreaAt header image new other start next next
+
 -- ---- the area that is not in use
 
 -- What is known of its gate: it is there and closed, or it is open if it is there.
@@ -156,6 +164,16 @@ pub record IsStaged (n other : ℕ) (image : List ℕ) (r : Reading) (offset : �
   pub there : other < length image
   pub base : HasBase n other image r offset
   pub frames : ReadsTo offset image r.inputs offset
+
+-- The other area may be replaced by that of s in this epoch: the image is read at these places in a lesser one, and the
+-- snapshot is sound and fits the capacity.
+pub record MayReplace (header : Member) (image : List ℕ) (old : Reading) (start other offset gate_at : ℕ) (is_closed : Bool) (epoch : ℕ) (s : Summary) : Type 0 where
+  pub reads : ReadsByAreaAt header image old start other offset gate_at
+  pub gate : IsGate is_closed other image
+  pub newer : old.epoch < epoch
+  pub small : epoch < 2 ^ 40
+  pub spells : Spells header.n (snapshot_of s) s
+  pub fits : snapshot_len s ≤ header.capacity
 
 -- ---- at rest
 

@@ -3,7 +3,9 @@
 
 mod area;
 mod batch;
+mod checkpoint;
 mod commit;
+mod format;
 mod journal;
 pub mod laws;
 mod layout;
