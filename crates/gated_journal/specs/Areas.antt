@@ -1,12 +1,12 @@
 -- Two areas of a journal, of which one is read, and what an image reads as then (layout 2). An area is a gate, a layout,
 -- an epoch, the length of a snapshot, the snapshot, and frames behind it.
-use Rattle.std.specs.Prelude.{◌≡◌, ◌≢◌, ◌⊎◌, ◌+◌, ◌^◌, ◌<◌, ◌≤◌, ℕ, nat_le, Bool, true, false, if◌then◌else◌, List, [], ◌∷◌, ◌++◌, length, take, drop, slice_index, codes}
+use Rattle.std.specs.Prelude.{◌≡◌, ◌≢◌, ◌⊎◌, ◌+◌, ◌^◌, ◌<◌, ◌≤◌, ℕ, Bool, true, false, if◌then◌else◌, List, [], ◌∷◌, ◌++◌, length, take, drop, slice_index, codes}
 use Rattle.std.specs.Int.{w32, w64, to_be_bytes}
 use Rattle.std.specs.List.{sum_by}
 use Rattle.disk_model.specs.Disk.{Disk, MayLeave, IsSynced}
 use Rattle.ring_records.specs.declared.input.Input.{Input}
 use Rattle.ring_records.specs.declared.summary.Summary.{Summary}
-use Rattle.ring_records.specs.Admission.{cost}
+use Rattle.ring_records.specs.Admission.{cost, area_bytes}
 use Rattle.ring_records.specs.Member.{Member}
 use Rattle.ring_records.specs.Snapshot.{Spells, snapshot_of, snapshot_len}
 use Rattle.ring_records.specs.Summary.{summary, empty}
@@ -29,10 +29,6 @@ with_more r batch = record r { inputs = r.inputs ++ batch }
 -- an area without frames
 abbrev pub fresh_area : ℕ → ℕ → Summary → Reading
 fresh_area layout epoch base = record { layout = layout; epoch = epoch; base = base; inputs = [] }
-
--- the bytes of the capacity that a summary takes in an area of this layout
-abbrev pub area_bytes : ℕ → Summary → ℕ
-area_bytes layout s = if nat_le layout 1 then 0 else snapshot_len s
 
 -- how many bytes of the capacity are used: by the snapshot, and by the inputs behind it
 abbrev pub used_in : Reading → ℕ
