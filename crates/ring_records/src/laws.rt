@@ -1,5 +1,5 @@
 //! Laws of the definitions: public functions with an empty body, whose contracts say what follows from `specs/` alone.
-ghost use Rattle.std.specs.Prelude.{◌≡◌, ◌↔◌, ◌≤◌, ◌+◌, ◌||◌, ℕ, Option, true, false, if◌then◌else◌, List, [], ◌∷◌, ◌++◌, Some, None, slice_get, unwrap_or, length, Ok};
+ghost use Rattle.std.specs.Prelude.{◌≡◌, ◌↔◌, ◌≤◌, ◌+◌, ◌||◌, ℕ, Bool, Option, true, false, if◌then◌else◌, List, [], ◌∷◌, ◌++◌, Some, None, slice_get, unwrap_or, length, Ok};
 ghost use Rattle.std.specs.FinMap as map;
 ghost use Rattle.std.specs.List.{cons_option, sum_by, Contains};
 ghost use Rattle.ring_records.specs.declared.base.Base.{Base};
@@ -9,7 +9,7 @@ ghost use Rattle.ring_records.specs.declared.input.Input.{Input};
 ghost use Rattle.ring_records.specs.declared.key.Key.{Key};
 ghost use Rattle.ring_records.specs.declared.msg.Msg.{Msg};
 ghost use Rattle.ring_records.specs.declared.summary.Summary.{Summary};
-ghost use Rattle.ring_records.specs.Admission.{used, cost, IsAllowed, IsAdmitted, objection, refusal};
+ghost use Rattle.ring_records.specs.Admission.{fresh, used, cost, IsAllowed, IsAdmitted, IsBaseOf, IsLawful, objection, refusal};
 ghost use Rattle.ring_records.specs.declared.packet.Packet.{Packet};
 ghost use Rattle.ring_records.specs.declared.refusal.Refusal.{Refusal};
 ghost use Rattle.ring_records.specs.declared.request.Request.{Request};
@@ -20,10 +20,12 @@ ghost use Rattle.ring_records.specs.History.{names, touched, bid_for, stood, mes
 ghost use Rattle.ring_records.specs.Leader.{makes_leader, leader, latest, IsLatest, decided};
 ghost use Rattle.ring_records.specs.Known.{sends, stepped, after, Objects};
 ghost use Rattle.ring_records.specs.Lists.{or_else, EachAfter};
+ghost use Rattle.ring_records.specs.Member.{Member};
 ghost use Rattle.ring_records.specs.Record.{AreBytes, HasRecord, BeginsWith, record_of, record_read};
 ghost use Rattle.ring_records.specs.Release.{packets, decisions, window, AreLeaders};
 ghost use Rattle.ring_records.specs.Ring.{IsLegal, part};
 ghost use Rattle.ring_records.specs.Snapshot.{IsSound, Spells, snapshot_len, state_len, msg_len};
+ghost use Rattle.ring_records.specs.States.{NodeState, IsLawfulState, is_idle, opened, asked, launched, launched_all, landed, left_by};
 ghost use Rattle.ring_records.specs.Summary.{summary, empty};
 ghost use Rattle.ring_records.specs.WorkedRun.{red_5, winner, first_election};
 
@@ -95,6 +97,19 @@ pub fn released_stays()
     ensures packets { (me : ℕ) (h rest : List Input) (packet : Packet) → PacketRests me h packet → PacketRests me (h ++ rest) packet }
     ensures batch { (me : ℕ) (h l : List Input) (packet : Packet) → Contains (packets me h l) packet → PacketRests me (h ++ l) packet }
     ensures window { (me : ℕ) (h : List Input) (packet : Packet) → Contains (window me h) packet → PacketRests me h packet }
+{}
+
+/// The state of a durable node stays lawful, whatever the area of its journal stands for: it is opened and asked; a batch
+/// or a checkpoint begins to fly, where nothing flies; what flies lands; and it stops. A new node's area stands for no
+/// input, and so for none of any history.
+pub fn states_stay_lawful()
+    ensures new { (me : ℕ) (h : List Input) → IsBaseOf me fresh h }
+    ensures opened { (m : Member) (b : Base) (l : List Input) → IsBaseOf m.node b l → IsLawful m.node m.n m.capacity b l → IsLawfulState m (opened b l) }
+    ensures asked { (m : Member) (s : NodeState) (q : Request) → IsLawfulState m s → IsLawfulState m (asked m s q) }
+    ensures launched { (m : Member) (s : NodeState) → is_idle s ≡ true → IsLawfulState m s → IsLawfulState m (launched s) }
+    ensures launched_all { (m : Member) (s : NodeState) → is_idle s ≡ true → IsLawfulState m s → IsLawfulState m (launched_all m.node s) }
+    ensures landed { (m : Member) (s : NodeState) → IsLawfulState m s → IsLawfulState m (landed s) }
+    ensures left { (m : Member) (keeps_flying : Bool) (s : NodeState) → IsLawfulState m s → IsLawfulState m (left_by keeps_flying s) }
 {}
 
 /// There is a legal run with a leader: three nodes stand for one key, and at its end each of them knows the one of

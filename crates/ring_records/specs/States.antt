@@ -1,0 +1,113 @@
+-- The state of a durable node, with what the areas of its journal stand for: what may happen to it, and what the node
+-- accepts and answers in it. Answer and Member say the same of a node whose journal summarises no input.
+use Rattle.std.specs.Prelude.{ℕ, ◌≡◌, ◌+◌, ◌-◌, ◌≤◌, min, Bool, ◌&&◌, if◌then◌else◌, nat_eq, List, ◌++◌, length, take, drop, Option, Some, None, unwrap_or, is_none}
+use Rattle.ring_records.specs.declared.base.Base.{Base}
+use Rattle.ring_records.specs.declared.input.Input.{Input}
+use Rattle.ring_records.specs.declared.refusal.Refusal.{Refusal}
+use Rattle.ring_records.specs.declared.reply.Reply.{Reply}
+use Rattle.ring_records.specs.declared.request.Request.{Request}
+use Rattle.ring_records.specs.Admission.{base_of, refusal, IsBaseOf, IsLawful}
+use Rattle.ring_records.specs.Answer.{Answer, Answered, gained, reply, answer, answered}
+use Rattle.ring_records.specs.Member.{Member}
+use Rattle.ring_records.specs.Summary.{summary}
+
+-- ---- the state
+
+-- The inputs that it accepted; how many of them are durable; how many are durable or fly; what the area in use stands for;
+-- and, where a checkpoint flies, what its area stands for
+pub record NodeState : Type 0 where
+  pub inputs : List Input
+  pub durable : ℕ
+  pub flying : ℕ
+  pub base : Base
+  pub checkpoint : Option Base
+
+-- what the area stands for that is in use once all that flies is durable: room is counted from it
+abbrev pub launched_base : NodeState → Base
+launched_base s = unwrap_or s.checkpoint s.base
+
+-- nothing flies: no input, and no checkpoint
+abbrev pub is_idle : NodeState → Bool
+is_idle s = nat_eq s.flying s.durable && is_none s.checkpoint
+
+-- its durable inputs
+abbrev pub durable_in : NodeState → List Input
+durable_in s = take s.durable s.inputs
+
+-- its inputs that are durable or fly
+abbrev pub flown_in : NodeState → List Input
+flown_in s = take s.flying s.inputs
+
+-- those that fly
+abbrev pub flying_in : NodeState → List Input
+flying_in s = take (s.flying - s.durable) (drop s.durable s.inputs)
+
+-- the area in use stands for durable inputs, and a checkpoint that flies for all that are durable or fly
+pub record IsNodeState (s : NodeState) : Type 0 where
+  pub durable : s.durable ≤ s.flying
+  pub flying : s.flying ≤ length s.inputs
+  pub based : s.base.inputs ≤ s.durable
+  pub checkpointed : (b : Base) → s.checkpoint ≡ Some b → b.inputs ≡ s.flying
+
+-- ---- what the node accepts and answers
+
+-- why it refuses an input, if it does
+abbrev pub refusal_by : Member → NodeState → Input → Option Refusal
+refusal_by m s x = refusal m.node m.n m.capacity (launched_base s) s.inputs x
+
+-- the inputs, one or none, that it gains by a request
+abbrev pub gained_by : Member → NodeState → Request → List Input
+gained_by m s q = gained m.node m.n m.capacity (launched_base s) s.inputs q
+
+-- what it replies to a request
+abbrev pub reply_by : Member → NodeState → Request → Reply
+reply_by m s q = reply m.node m.n m.capacity (launched_base s) s.inputs q
+
+-- its reply, and the number of inputs that it rests on
+abbrev pub answer_by : Member → NodeState → Request → Answer
+answer_by m s q = answer m.node m.n m.capacity (launched_base s) s.inputs q
+
+-- the request with its answer
+abbrev pub answered_by : Member → NodeState → Request → Answered
+answered_by m s q = answered m.node m.n m.capacity (launched_base s) s.inputs q
+
+-- ---- what may happen
+
+-- it is opened with these inputs, all of them durable
+abbrev pub opened : Base → List Input → NodeState
+opened b l = record { inputs = l; durable = length l; flying = length l; base = b; checkpoint = None }
+
+-- it accepts what a request asks
+abbrev pub asked : Member → NodeState → Request → NodeState
+asked m s q = record s { inputs = s.inputs ++ gained_by m s q }
+
+-- the first waiting inputs fly, at most 64
+abbrev pub launched : NodeState → NodeState
+launched s = record s { flying = min (s.durable + 64) (length s.inputs) }
+
+-- what the next area of node me stands for, behind this one, where all of h is summarised
+abbrev pub next_base : ℕ → Base → List Input → Base
+next_base me b h = base_of 2 (b.epoch + 1) (summary me h)
+
+-- all its inputs fly, as a checkpoint
+abbrev pub launched_all : ℕ → NodeState → NodeState
+launched_all me s = record s { flying = length s.inputs; checkpoint = Some (next_base me s.base s.inputs) }
+
+-- what flies is durable
+abbrev pub landed : NodeState → NodeState
+landed s = record s { durable = s.flying; base = launched_base s; checkpoint = None }
+
+-- a stop leaves it so: what flies is kept, or it is not
+abbrev pub left_by : Bool → NodeState → NodeState
+left_by keeps_flying s = if keeps_flying then opened (launched_base s) (flown_in s) else opened s.base (durable_in s)
+
+-- ---- what stays so
+
+-- The areas stand for its first inputs. It may accept what is durable or flies, with room counted from the area in use, and
+-- all that it accepted, with room counted from the area that is in use then.
+pub record IsLawfulState (m : Member) (s : NodeState) : Type 0 where
+  pub counts : IsNodeState s
+  pub base : IsBaseOf m.node s.base (durable_in s)
+  pub next : IsBaseOf m.node (launched_base s) s.inputs
+  pub held : IsLawful m.node m.n m.capacity s.base (flown_in s)
+  pub all : IsLawful m.node m.n m.capacity (launched_base s) s.inputs
