@@ -4,6 +4,7 @@ ghost use Rattle.std.specs.List.{cons_option};
 ghost use Rattle.ring_records.specs.Answer.{Answered, IsNodeState, durable_in, flying_in};
 ghost use Rattle.ring_records.specs.Emission.{sent};
 ghost use Rattle.ring_records.specs.History.{taken, credit};
+ghost use Rattle.ring_records.specs.Leader.{leader};
 ghost use Rattle.ring_records.specs.Member.{member, IsHistory};
 ghost use Rattle.ring_records.specs.Release.{packets, decisions, window};
 
@@ -15,7 +16,7 @@ use crate::outbox::Outbox;
 use crate::ticket::{Stub, Ticket};
 use gated_journal::{Batch, Receipt, Spoiled};
 use node_core::NodeCore;
-use ring_records::{Input, NodeNo, Packet, Refusal, Reply, Request};
+use ring_records::{Candidate, Input, Key, NodeNo, Packet, Refusal, Reply, Request};
 use std::alloc::{AllocError, AllocFailed, Global};
 use std::collections::BTreeMap;
 use std::marker::Model;
@@ -341,6 +342,13 @@ impl Desk {
         ensures { result ≡ credit self.now.state.inputs }
     {
         self.core.credit()
+    }
+
+    /// The leader that its inputs make known for a key, also where they are not durable.
+    pub fn who(&self, key: &Key) -> Option<Candidate>
+        ensures { result ≡ leader self.now.member.node self.now.state.inputs key.now }
+    {
+        self.core.who(key)
     }
 
     /// How many messages of the predecessor its durable inputs took: so many it may credit.

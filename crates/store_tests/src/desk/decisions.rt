@@ -1,6 +1,7 @@
 // What leaders the durable inputs made known.
 use super::*;
 use test_rows::Sends::{Carry, Credit};
+use test_rows::{candidate, key};
 
 /// The desk has these decisions, in this order.
 fn decides(rt: &impl Abort, desk: &Desk, leads: &[Leads]) {
@@ -78,8 +79,12 @@ fn first_leader_of_a_key(rt: HostRuntime) {
 fn leader_that_waits(rt: HostRuntime) {
     let announced = Note::Elected("red", 5, 30, 2);
     let leads = [("red", 5, 30, 2)];
+    let red = key("red", 5).expect(&rt, "a key");
+    let leader = candidate(30, 2).expect(&rt, "a candidate");
     let mut station = station_of(&rt, 1, &[]);
+    assert_eq!(rt; station.desk.who(&red), None);
     let taken = asks(&rt, &mut station.desk, Ask::Take(0, announced), 1);
+    assert_eq!(rt; station.desk.who(&red), Some(leader));
     decides(&rt, &station.desk, &[]);
     let receipt = launches(&rt, &mut station, 1);
     decides(&rt, &station.desk, &[]);
