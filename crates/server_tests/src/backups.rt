@@ -58,14 +58,14 @@ where
 
 #[test]
 fn an_old_copy_of_one_file(rt: HostRuntime) -> Result<(), Fail> {
-    let settings = b"nodes = 2\ndir = \"old-copy\"\nport = 7171\n".as_slice();
+    let settings = b"nodes = 2\ndir = \"old-copy\"\nport = 7225\n".as_slice();
     anew(&rt, "old-copy");
-    serves(&rt, settings, 7171, b"who red 1\n", b"none");
+    serves(&rt, settings, 7225, b"who red 1\n", b"none");
     fs::copy(&rt, "old-copy/node-2.crj", "old-copy/old")?;
     elects(
         &rt,
         settings,
-        7171,
+        7225,
         b"stand red 5 10\n",
         b"term 5 leader 1 10",
     );
@@ -75,19 +75,19 @@ fn an_old_copy_of_one_file(rt: HostRuntime) -> Result<(), Fail> {
     ends(&rt, &SERVE, settings, 1, text);
     ends(&rt, &SERVE, settings, 1, text);
     fs::rename(&rt, "old-copy/whole", "old-copy/node-2.crj")?;
-    serves(&rt, settings, 7171, b"stand red 5 10\n", b"no 3 already 10");
+    serves(&rt, settings, 7225, b"stand red 5 10\n", b"no 3 already 10");
     fs::remove_dir_all(&rt, "old-copy")?;
     Ok(())
 }
 
 #[test]
 fn a_file_of_another_ring(rt: HostRuntime) -> Result<(), Fail> {
-    let one = b"nodes = 2\ndir = \"leader-10\"\nport = 7173\n".as_slice();
-    let two = b"nodes = 2\ndir = \"leader-20\"\nport = 7173\n".as_slice();
+    let one = b"nodes = 2\ndir = \"leader-10\"\nport = 7227\n".as_slice();
+    let two = b"nodes = 2\ndir = \"leader-20\"\nport = 7227\n".as_slice();
     anew(&rt, "leader-10");
     anew(&rt, "leader-20");
-    elects(&rt, one, 7173, b"stand red 5 10\n", b"term 5 leader 1 10");
-    elects(&rt, two, 7173, b"stand red 5 20\n", b"term 5 leader 1 20");
+    elects(&rt, one, 7227, b"stand red 5 10\n", b"term 5 leader 1 10");
+    elects(&rt, two, 7227, b"stand red 5 20\n", b"term 5 leader 1 20");
     // as many messages were sent and taken in both
     fs::rename(&rt, "leader-20/node-2.crj", "leader-10/node-2.crj")?;
     ends(&rt, &SERVE, one, 1, b"ringd: nodes 1 and 2 do not fit\n");

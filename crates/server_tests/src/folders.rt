@@ -80,9 +80,9 @@ fn journals_that_are_refused(rt: HostRuntime) -> Result<(), Fail> {
 
 #[test]
 fn a_node_that_is_gone(rt: HostRuntime) -> Result<(), Fail> {
-    let settings = b"nodes = 2\ndir = \"gone\"\nport = 7161\n".as_slice();
+    let settings = b"nodes = 2\ndir = \"gone\"\nport = 7221\n".as_slice();
     anew(&rt, "gone");
-    serves(&rt, settings, 7161, b"stand red 5 10\n", b"stood");
+    serves(&rt, settings, 7221, b"stand red 5 10\n", b"stood");
     fs::rename(&rt, "gone/node-2.crj", "gone/held")?;
     ends(&rt, &SERVE, settings, 1, b"ringd: node 2: unformatted\n");
     assert!(rt; !fs::exists(&rt, "gone/node-2.crj")?);
@@ -92,19 +92,19 @@ fn a_node_that_is_gone(rt: HostRuntime) -> Result<(), Fail> {
     assert!(rt; !fs::exists(&rt, "gone/node-1.crj")?);
     fs::rename(&rt, "gone/other", "gone/node-1.crj")?;
     fs::rename(&rt, "gone/held", "gone/node-2.crj")?;
-    serves(&rt, settings, 7161, b"stand red 5 10\n", b"no 3 already 10");
+    serves(&rt, settings, 7221, b"stand red 5 10\n", b"no 3 already 10");
     fs::remove_dir_all(&rt, "gone")?;
     Ok(())
 }
 
 #[test]
 fn nodes_that_have_to_be_there(rt: HostRuntime) -> Result<(), Fail> {
-    let settings = b"nodes = 2\ndir = \"existing\"\nport = 7165\n".as_slice();
+    let settings = b"nodes = 2\ndir = \"existing\"\nport = 7223\n".as_slice();
     let words = ["ringd", "--existing", "--serve", "1"];
     anew(&rt, "existing");
     ends(&rt, &words, settings, 1, b"ringd: node 1: unformatted\n");
     assert!(rt; fs::read_dir(&rt, "existing")?.next().is_none());
-    serves(&rt, settings, 7165, b"stand red 5 10\n", b"stood");
+    serves(&rt, settings, 7223, b"stand red 5 10\n", b"stood");
     fs::remove_file(&rt, "existing/ring.made")?;
     fs::remove_file(&rt, "existing/node-2.crj")?;
     ends(&rt, &words, settings, 1, b"ringd: node 2: unformatted\n");
