@@ -5,21 +5,21 @@ use Rattle.std.proofs.lemmas.Bool.Decides.{nat_tests}
 use Rattle.std.proofs.lemmas.List.{length-append, take-append-drop}
 use Rattle.std.proofs.lemmas.List.Elements.{Contains-push, Contains-append_left}
 use Rattle.std.proofs.lemmas.Option.{same_Some, slice_get_within}
+use Rattle.ring_records.specs.declared.base.Base.{Base}
 use Rattle.ring_records.specs.declared.input.Input.{Input}
 use Rattle.ring_records.specs.declared.input.Input.TheVariants.{Stand, Take, Acked}
 use Rattle.ring_records.specs.declared.msg.Msg.{Msg}
-use Rattle.ring_records.specs.Admission.{fresh, IsAdmitted, IsInTurn, IsLawful}
-use Rattle.ring_records.specs.Answer.{NodeState, durable_in}
+use Rattle.ring_records.specs.Admission.{IsAdmitted, IsInTurn, IsLawful}
 use Rattle.ring_records.specs.Emission.{sent}
 use Rattle.ring_records.specs.Fitting.{LinkFits}
 use Rattle.ring_records.specs.History.{upto_of, message_of, taken, credit}
-use Rattle.ring_records.specs.Member.{member, IsHistory}
 use Rattle.ring_records.specs.Place.{after, before}
 use Rattle.ring_records.specs.Ring.{part, IsCarried}
-use Rattle.ring_records.proofs.Growth.{EachAfter-take}
+use Rattle.ring_records.specs.States.{NodeState, launched_base, durable_in}
 use Rattle.ring_records.proofs.History.{taken-push}
 use Rattle.ring_records.proofs.Leader.{Contains-here, Contains-later, Contains-filter_map_from}
 use Rattle.ring_records.proofs.Lists.{along, none≢some}
+use Rattle.ring_records.proofs.States.{lawful-first}
 use Rattle.ring_world.specs.Committed.{committed}
 use Rattle.ring_world.specs.Events.{Action, state_after, IsSchedule}
 use Rattle.ring_world.proofs.Schedules.{schedule_holds}
@@ -66,11 +66,11 @@ stays h x none earlier =
       | inr last ↦ inr (record { msg_no = last.msg_no; msg = last.msg; count = ap length same ∙ last.count; there = Contains-append_left h (x ∷ []) (Take last.msg_no last.msg) last.there })
     ]
 
-next : (me n capacity : ℕ) (h : List Input) (x : Input) → IsAdmitted me n capacity fresh h x → Taken h → Taken (h ++ x ∷ [])
+next : (me n capacity : ℕ) (base : Base) (h : List Input) (x : Input) → IsAdmitted me n capacity base h x → Taken h → Taken (h ++ x ∷ [])
 unfolding IsInTurn message_of
-next me n capacity h (Stand key bid) admitted earlier = stays h (Stand key bid) refl earlier
-next me n capacity h (Acked upto) admitted earlier = stays h (Acked upto) refl earlier
-next me n capacity h (Take msg_no msg) admitted earlier =
+next me n capacity base h (Stand key bid) admitted earlier = stays h (Stand key bid) refl earlier
+next me n capacity base h (Acked upto) admitted earlier = stays h (Acked upto) refl earlier
+next me n capacity base h (Take msg_no msg) admitted earlier =
     let more = ap length (taken-push h (Take msg_no msg)) in
     let sum = length-append (taken h) (msg ∷ []) in
     let at : msg_no ≡ length (taken h) = admitted.allowed.in_turn.next in
@@ -80,19 +80,15 @@ none_taken : Taken []
 unfolding taken
 none_taken = inl refl
 
-last_take : (me n capacity : ℕ) (h : List Input) → IsHistory (member me n capacity) h → Taken h
+last_take : (me n capacity : ℕ) (base : Base) (h : List Input) → IsLawful me n capacity base h → Taken h
 unfolding IsLawful
-last_take me n capacity h lawful = along (IsAdmitted me n capacity fresh) Taken (next me n capacity) [] h lawful none_taken
+last_take me n capacity base h lawful = along (IsAdmitted me n capacity base) Taken (next me n capacity base) [] h lawful none_taken
 
 -- ---- in a ring
 
 before_after : (n i : ℕ) → 1 ≤ i → i ≤ n → before n (after n i) ≡ i
 unfolding after before
 before_after n i low high = grind (arith, nat_tests)
-
-lawful_front : (me n capacity k : ℕ) (h : List Input) → IsHistory (member me n capacity) h → IsHistory (member me n capacity) (take k h)
-unfolding IsLawful
-lawful_front me n capacity k h lawful = EachAfter-take (IsAdmitted me n capacity fresh) k h lawful
 
 front : {A : Type 0} (k : ℕ) (l : List A) (x : A) → Contains (take k l) x → Contains l x
 front k l x there = subst (λ ys. Contains ys x) (take-append-drop k l) (Contains-append_left (take k l) (drop k l) x there)
@@ -119,8 +115,9 @@ module _ (n capacity : ℕ) (events : List (ℕ × Action)) (schedule : IsSchedu
   taken_sent =
       let b = after n i in
       let holds = schedule_holds n capacity events schedule in
-      let lawful = lawful_front b n capacity (at b).durable (at b).inputs (holds.sound b).lawful in
-      elim (last_take b n capacity (part run b) (subst (IsHistory (member b n capacity)) (sym (durable_is b)) lawful)) [
+      let base = launched_base (at b) in
+      let lawful = lawful-first b n capacity base (at b).durable (at b).inputs (holds.sound b).lawful.all in
+      elim (last_take b n capacity base (part run b) (subst (IsLawful b n capacity base) (sym (durable_is b)) lawful)) [
         | inl e ↦ omega arith
         | inr t ↦ let there = front (at b).durable (at b).inputs (Take t.msg_no t.msg) (subst (λ l. Contains l (Take t.msg_no t.msg)) (durable_is b) t.there) in
             let low = carried_one t.msg_no t.msg (holds.carried b (Take t.msg_no t.msg) there) in

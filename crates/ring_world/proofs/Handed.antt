@@ -10,10 +10,11 @@ use Rattle.ring_records.specs.declared.packet.Packet.{Packet}
 use Rattle.ring_records.specs.declared.packet.Packet.TheVariants.{Carry, Credit}
 use Rattle.ring_records.specs.declared.request.Request.{Request}
 use Rattle.ring_records.specs.declared.request.Request.TheVariants as ask
-use Rattle.ring_records.specs.Answer.{PacketRests, durable_in}
+use Rattle.ring_records.specs.Answer.{PacketRests}
 use Rattle.ring_records.specs.History.{taken}
 use Rattle.ring_records.specs.Order.{is_key, is_candidate, is_msg}
 use Rattle.ring_records.specs.Place.{after, before}
+use Rattle.ring_records.specs.States.{durable_in}
 use Rattle.ring_records.proofs.Keys.{is_key-true, is_key-same}
 use Rattle.ring_world.specs.Events.{Sent, Rests, Action, Release, Process, process, IsDelivered, IsReleasable, IsSchedule}
 use Rattle.ring_world.specs.Ring.{RingView, node_at, handed, is_sent, message, is_earned, is_released}

@@ -10,7 +10,7 @@ use Rattle.ring_records.proofs.Lists.{none≢some}
 use Rattle.ring_records.proofs.Leader.{Contains-filter_map_from}
 use Rattle.ring_world.specs.declared.announced.Announced.{Announced}
 use Rattle.ring_world.specs.Announced.{announced_with, announced_by, announced}
-use Rattle.ring_world.specs.Events.{Replied, Sent, Shown, Action, Submit, Launch, Land, Release, Crash}
+use Rattle.ring_world.specs.Events.{Replied, Sent, Shown, Action, Submit, Launch, LaunchAll, Land, Release, Crash}
 use Rattle.ring_world.specs.Released.{named_by, named, IsAnnounced}
 
 -- ---- what a leader that is named was released by
@@ -23,6 +23,7 @@ by_is : (events : List (ℕ × Action)) (e : ℕ × Action) (x : Announced) → 
 unfolding named announced_by
 by_is events (node, Submit question) x p q = none≢some _ q
 by_is events (node, Launch) x p q = none≢some _ q
+by_is events (node, LaunchAll) x p q = none≢some _ q
 by_is events (node, Land) x p q = none≢some _ q
 by_is events (node, Release (Replied a)) x p q = record { node = node; thing = Replied a; released = p; names = with_is node (named_by a.question a.answer.reply) x q }
 by_is events (node, Release (Sent packet)) x p q = none≢some _ q

@@ -1,12 +1,15 @@
 -- The nodes of a ring stay those that its events reach.
-use Rattle.std.proofs.Common.{ℕ, ◌≡◌, ◌≤◌, ◌<◌, ◌+◌, ◌-◌, Bool, true, false, nat_lt, min, List, [], ◌∷◌, ◌++◌, length, take, map, set, get_or, Option, sym, ap, ◌∙◌, subst, inl, inr, arith}
+use Rattle.std.proofs.Common.{ℕ, ◌≡◌, ◌≤◌, ◌<◌, ◌+◌, ◌-◌, Bool, true, false, ◌&&◌, nat_lt, min, List, [], ◌∷◌, ◌++◌, length, take, map, set, get_or, Option, refl, sym, ap, ◌∙◌, subst, inl, inr, arith}
 use Rattle.std.specs.List.{Contains}
-use Rattle.std.proofs.lemmas.Bool.{cases_eq, leb-true, ltb-true}
+use Rattle.std.specs.Prelude.{is_none}
+use Rattle.std.proofs.lemmas.Bool.{cases_eq, eq-eqb, ne_eqb, leb-true, ltb-true}
 use Rattle.std.proofs.lemmas.List.{length-append, length-set, get_or-set_same, get_or-set_other}
 use Rattle.std.proofs.lemmas.List.Elements.{Contains-push, Contains-push_cases, Contains-append_left}
 use Rattle.ring_records.specs.declared.request.Request.{Request}
-use Rattle.ring_records.specs.Answer.{NodeState, launched, landed, opened, left_by}
-use Rattle.ring_records.specs.Member.{member, answered_by, asked_by}
+use Rattle.ring_records.specs.Admission.{fresh}
+use Rattle.ring_records.specs.Member as history
+use Rattle.ring_records.specs.Member.{member}
+use Rattle.ring_records.specs.States.{NodeState, is_idle, answered_by, opened, asked, launched, landed, left_by}
 use Rattle.ring_records.proofs.Leader.{Contains-nil}
 use Rattle.ring_node.specs.Node.{NodeView, new_node, durable_in, ticket_of, asked_with, flushed, restarted, left}
 use Rattle.ring_node.specs.Open.{Open, due, is_due}
@@ -64,8 +67,8 @@ module _ (n capacity : ℕ) (events : List (ℕ × Action)) (nodes : List NodeVi
     abbrev submission : Request → List (ℕ × Action)
     submission q = (i, Submit q) ∷ []
 
-    pub answered_same : (q : Request) → answered_by v.member v.inputs q ≡ answered_by (member i n capacity) p.state.inputs q
-    answered_same q t = answered_by (mine.is t) (mine.state t).inputs q
+    pub answered_same : (q : Request) → history.answered_by v.member v.inputs q ≡ answered_by (member i n capacity) p.state q
+    answered_same q t = answered_by (mine.is t) (mine.state t) q
 
     asked_here : (serial : Option ℕ) (q : Request) → ShowsNode n capacity (events ++ submission q) i (asked_with serial q v)
     unfolding asked_with act
@@ -73,11 +76,11 @@ module _ (n capacity : ℕ) (events : List (ℕ × Action)) (nodes : List NodeVi
         let same = process-same n capacity events i (Submit q) in
         record {
           is = mine.is;
-          state = (λ t. asked_by (mine.is t) (mine.state t) q) ∙ ap (λ (r : Process). r.state) (sym same);
+          state = (λ t. asked (mine.is t) (mine.state t) q) ∙ ap (λ (r : Process). r.state) (sym same);
           kept = λ t here. subst (λ (r : Process). Contains r.kept t.kept) (sym same) (elim (Contains-push_cases v.held (ticket_of serial v q) t here) [
-            | inl old ↦ Contains-append_left p.kept (answered_by (member i n capacity) p.state.inputs q ∷ []) t.kept (mine.kept t old)
-            | inr new ↦ subst (λ (u : Open). Contains (p.kept ++ answered_by (member i n capacity) p.state.inputs q ∷ []) u.kept) new
-                (subst (Contains (p.kept ++ answered_by (member i n capacity) p.state.inputs q ∷ [])) (sym (answered_same q)) (Contains-push p.kept (answered_by (member i n capacity) p.state.inputs q)))
+            | inl old ↦ Contains-append_left p.kept (answered_by (member i n capacity) p.state q ∷ []) t.kept (mine.kept t old)
+            | inr new ↦ subst (λ (u : Open). Contains (p.kept ++ answered_by (member i n capacity) p.state q ∷ []) u.kept) new
+                (subst (Contains (p.kept ++ answered_by (member i n capacity) p.state q ∷ [])) (sym (answered_same q)) (Contains-push p.kept (answered_by (member i n capacity) p.state q)))
           ]);
           few = (let l = length-append events (submission q) in let f = mine.few in omega arith);
         }
@@ -94,10 +97,10 @@ module _ (n capacity : ℕ) (events : List (ℕ × Action)) (nodes : List NodeVi
 
     may_launch : MayHappen n capacity events (i, Launch)
     unfolding May
-    may_launch = record { first = first; last = last; may = sym (ap (λ (s : NodeState). s.flying) mine.state) ∙ ap (λ (s : NodeState). s.durable) mine.state }
+    may_launch = record { first = first; last = last; may = ap is_idle (sym mine.state) ∙ ap (λ b. b && true) (eq-eqb v.durable v.durable refl) }
 
-    may_land : nat_lt p.state.durable (length p.state.inputs) ≡ true → p.state.durable < min (p.state.durable + 64) (length p.state.inputs)
-    may_land e = let more = ltb-true p.state.durable (length p.state.inputs) e in omega arith
+    may_land : nat_lt p.state.durable (length p.state.inputs) ≡ true → is_idle (launched p.state) ≡ false
+    may_land e = ap (λ b. b && is_none p.state.checkpoint) (ne_eqb (min (p.state.durable + 64) (length p.state.inputs)) p.state.durable (λ same. let more = ltb-true p.state.durable (length p.state.inputs) e in absurd (omega arith)))
 
     landed_here : ShowsNode n capacity (events ++ batch) i (flushed v)
     unfolding act
@@ -145,7 +148,7 @@ module _ (n capacity : ℕ) (events : List (ℕ × Action)) (nodes : List NodeVi
 
     -- ---- node i loses its memory
 
-    reopened : (more : List (ℕ × Action)) (inputs : List _) → process n capacity (events ++ more) i ≡ record { state = opened inputs; kept = [] } → ShowsNode n capacity (events ++ more) i (restarted inputs v)
+    reopened : (more : List (ℕ × Action)) (inputs : List _) → process n capacity (events ++ more) i ≡ record { state = opened fresh inputs; kept = [] } → ShowsNode n capacity (events ++ more) i (restarted inputs v)
     unfolding restarted
     reopened more inputs same = record {
       is = mine.is;
@@ -161,15 +164,15 @@ module _ (n capacity : ℕ) (events : List (ℕ × Action)) (nodes : List NodeVi
     unfolding May act
     crashed_shows =
         moved crash (grows_one n capacity events i (Crash false) shows.schedule (record { first = first; last = last; may = tt })) (restarted (durable_in v) v)
-        (reopened crash (durable_in v) (process-same n capacity events i (Crash false) ∙ ap (λ (s : NodeState). record { state = opened (take s.durable s.inputs); kept = [] }) (sym mine.state)))
+        (reopened crash (durable_in v) (process-same n capacity events i (Crash false) ∙ ap (λ (s : NodeState). record { state = left_by false s; kept = [] }) (sym mine.state)))
 
     abbrev stop : Bool → List (ℕ × Action)
     stop keeps_flying = (i, Launch) ∷ (i, Crash keeps_flying) ∷ []
 
-    stopped_here : (keeps_flying : Bool) → process n capacity (events ++ stop keeps_flying) i ≡ record { state = opened (left keeps_flying v); kept = [] }
+    stopped_here : (keeps_flying : Bool) → process n capacity (events ++ stop keeps_flying) i ≡ record { state = opened fresh (left keeps_flying v); kept = [] }
     unfolding act
-    stopped_here true = process_two n capacity events i Launch (Crash true) ∙ ap (λ (s : NodeState). record { state = opened (left_by true (launched s)); kept = [] }) (sym mine.state)
-    stopped_here false = process_two n capacity events i Launch (Crash false) ∙ ap (λ (s : NodeState). record { state = opened (left_by false (launched s)); kept = [] }) (sym mine.state)
+    stopped_here true = process_two n capacity events i Launch (Crash true) ∙ ap (λ (s : NodeState). record { state = left_by true (launched s); kept = [] }) (sym mine.state)
+    stopped_here false = process_two n capacity events i Launch (Crash false) ∙ ap (λ (s : NodeState). record { state = left_by false (launched s); kept = [] }) (sym mine.state)
 
     pub stopped_shows : (keeps_flying : Bool) → Shows n capacity (events ++ stop keeps_flying) (set nodes (i - 1) (restarted (left keeps_flying v) v))
     unfolding May

@@ -11,13 +11,13 @@ use Rattle.ring_records.specs.declared.key.Key.{Key}
 use Rattle.ring_records.specs.declared.reply.Reply.TheVariants as say
 use Rattle.ring_records.specs.declared.request.Request.{Request}
 use Rattle.ring_records.specs.declared.request.Request.TheVariants as ask
-use Rattle.ring_records.specs.Admission.{fresh}
-use Rattle.ring_records.specs.Answer.{Answer, reply, NodeState, durable_in}
+use Rattle.ring_records.specs.Answer.{Answer, reply}
 use Rattle.ring_records.specs.Fitting.{RingFits}
 use Rattle.ring_records.specs.Leader.{leader, latest}
 use Rattle.ring_records.specs.Lists.{joined_after}
 use Rattle.ring_records.specs.Order.{is_less}
 use Rattle.ring_records.specs.Ring.{part, IsLegal}
+use Rattle.ring_records.specs.States.{NodeState, IsNodeState, durable_in}
 use Rattle.ring_records.proofs.Growth.{leader-kept, EachAfter-front, EachAfter-at, take-less}
 use Rattle.ring_records.proofs.Leader.{Contains-nil, Contains-cons_cases, latest-leads}
 use Rattle.ring_records.proofs.Lists.{none≢some, joined_after-append}
@@ -45,6 +45,9 @@ fronts d e xs ys more inside outside same k less =
       same = sym (take-take k e ys (omega arith)) ∙ (ap (take k) same ∙ (take-append-le k (take d xs) more (omega arith) ∙ take-take k d xs less));
     }
 
+durable_within : (s : NodeState) → IsNodeState s → s.durable ≤ length s.inputs
+durable_within s counts = let d = counts.durable in let f = counts.flying in omega arith
+
 module _ (n capacity : ℕ) (early late : List (ℕ × Action)) (before : Holds n capacity early) (after : Holds n capacity (early ++ late)) (i : ℕ) where
   abbrev at_release : NodeState
   at_release = state_after n capacity early i
@@ -64,13 +67,11 @@ module _ (n capacity : ℕ) (early late : List (ℕ × Action)) (before : Holds 
 
   stays : (k : ℕ) → k ≤ at_release.durable → record { durable : k ≤ now.durable; same : take k now.inputs ≡ take k at_release.inputs }
   stays = fronts at_release.durable now.durable at_release.inputs now.inputs grows.0
-      (let s = before.sound i in let l = s.low in let h = s.high in omega arith)
-      (let s = after.sound i in let l = s.low in let h = s.high in omega arith) grows.1
+      (durable_within at_release (before.sound i).lawful.counts) (durable_within now (after.sound i).lawful.counts) grows.1
 
   durable-kept : (t : Thing) → IsDurable i n capacity at_release t → IsKept i n capacity t at_release now
   durable-kept t r =
-      let s = before.sound i in
-      let within : at_release.durable ≤ length at_release.inputs = (let l = s.low in let h = s.high in omega arith) in
+      let within : at_release.durable ≤ length at_release.inputs = durable_within at_release (before.sound i).lawful.counts in
       let less = r.durable in
       let kept = stays r.number less in
       record { number = r.number; rested = record { within = omega arith; rests = r.rests }; was_durable = less; is_durable = kept.durable; same = kept.same }
@@ -149,8 +150,8 @@ reply-leads me n capacity base h (ask.Acked upto) key c e = none≢some (key, c)
 rests-leads : (me n capacity : ℕ) (h : List Input) (t : Thing) (key : Key) (c : Candidate) → Rests me n capacity h t → named t ≡ Some (key, c) → leader me h key ≡ Some c
 unfolding Rests named
 rests-leads me n capacity h (Replied a) key c r e =
-    let answers = r.1 in
-    let said = reply-leads me n capacity fresh (take answers.before h) a.question key c (ap (named_by a.question) (sym (ap (λ (b : Answer). b.reply) answers.same)) ∙ e) in
+    let answers = r.1.answers in
+    let said = reply-leads me n capacity r.1.base (take answers.before h) a.question key c (ap (named_by a.question) (sym (ap (λ (b : Answer). b.reply) answers.same)) ∙ e) in
     subst (λ g. leader me g key ≡ Some c) (take-append-drop answers.before h) (leader-kept me (take answers.before h) (drop answers.before h) key c said)
 rests-leads me n capacity h (Sent packet) key c r e = none≢some (key, c) e
 rests-leads me n capacity h (Shown asked d) key c r e =

@@ -2,8 +2,8 @@
 use Rattle.std.proofs.Common.{ℕ, ◌≡◌, true, false, cond, [], ◌∷◌, ◌++◌, Option, append-nil, ap, ◌∙◌}
 use Rattle.ring_records.specs.declared.request.Request.{Request}
 use Rattle.ring_records.specs.declared.request.Request.TheVariants as ask
-use Rattle.ring_records.specs.Admission.{fresh}
-use Rattle.ring_records.specs.Answer.{asked as asked_state, launched, landed as landed_state}
+use Rattle.ring_records.specs.Member.{member}
+use Rattle.ring_records.specs.States.{asked as asked_state, launched, landed as landed_state}
 use Rattle.ring_world.specs.Events.{Submit, Launch, Land, Process, act}
 use Rattle.ring_world.specs.Ring.{RingView, node_at, asked, landed, waits, settled, due_at, given}
 use Rattle.ring_world.proofs.Moves.{process_two, process_two-other, process-release, process-releases}
@@ -24,7 +24,7 @@ module _ (w : RingView) (i : ℕ) where
   unfolding settled
   node_settled j = ap (λ (p : Process). p.state) (process-releases w.size w.capacity i (due_at w i) w.events j)
 
-  pub node_asked : (serial : Option ℕ) (q : Request) → node_at (asked serial i q w) i ≡ asked_state i w.size w.capacity fresh (node_at w i) q
+  pub node_asked : (serial : Option ℕ) (q : Request) → node_at (asked serial i q w) i ≡ asked_state (member i w.size w.capacity) (node_at w i) q
   unfolding asked act
   node_asked serial q = ap (λ (p : Process). p.state) (process-same w.size w.capacity w.events i (Submit q))
 

@@ -2,13 +2,15 @@
 use Rattle.std.proofs.Common.{ℕ, zero, suc, ◌≡◌, ◌+◌, ◌≤◌, Bool, true, false, min, cond, List, [], ◌∷◌, ◌++◌, length, Option, Some, None, refl, sym, ◌∙◌, subst, inl, inr, arith}
 use Rattle.std.proofs.lemmas.Bool.{cases_eq, ltb-false, ltb-true}
 use Rattle.std.proofs.lemmas.List.{length-append}
+use Rattle.ring_records.specs.declared.base.Base.{Base}
 use Rattle.ring_records.specs.declared.input.Input.{Input}
 use Rattle.ring_records.specs.declared.refusal.Refusal.{Refusal}
 use Rattle.ring_records.specs.declared.request.Request.{Request}
-use Rattle.ring_records.specs.Admission.{fresh}
-use Rattle.ring_records.specs.Answer.{NodeState, input_of, gained, if_free, if_input}
-use Rattle.ring_records.specs.Member.{member, refusal_by, gained_by}
+use Rattle.ring_records.specs.Admission.{refusal}
+use Rattle.ring_records.specs.Answer.{input_of, gained, if_free, if_input}
+use Rattle.ring_records.specs.Member.{member}
 use Rattle.ring_records.specs.Ring.{part}
+use Rattle.ring_records.specs.States.{NodeState, gained_by, left_by, launched, launched_base}
 use Rattle.ring_world.specs.Events.{Action, Launch, Crash, Process, act, process, state_after}
 use Rattle.ring_world.specs.Rest.{IsAllDurable}
 use Rattle.ring_world.specs.Ring.{RingView, Part, node_at, asked, landed, waits, settled, released, and_then, round, rounds, drained, crashed, stopped, given, brought, swept, swept_with, swept_on, swept_one, next_delivery, new_ring}
@@ -30,14 +32,14 @@ one_if_free : (o : Option Refusal) (x : Input) → length (if_free o x) ≤ 1
 one_if_free None x = omega arith
 one_if_free (Some r) x = omega arith
 
-one_if_input : (me n capacity : ℕ) (h : List Input) (o : Option Input) → length (if_input me n capacity fresh h o) ≤ 1
-one_if_input me n capacity h None = omega arith
-one_if_input me n capacity h (Some x) = one_if_free (refusal_by (member me n capacity) h x) x
+one_if_input : (me n capacity : ℕ) (base : Base) (h : List Input) (o : Option Input) → length (if_input me n capacity base h o) ≤ 1
+one_if_input me n capacity base h None = omega arith
+one_if_input me n capacity base h (Some x) = one_if_free (refusal me n capacity base h x) x
 
 -- a request adds at most one input
-one_gained : (me n capacity : ℕ) (h : List Input) (q : Request) → length (gained_by (member me n capacity) h q) ≤ 1
+one_gained : (me n capacity : ℕ) (s : NodeState) (q : Request) → length (gained_by (member me n capacity) s q) ≤ 1
 unfolding gained
-one_gained me n capacity h q = one_if_input me n capacity h (input_of q)
+one_gained me n capacity s q = one_if_input me n capacity (launched_base s) s.inputs (input_of q)
 
 -- ---- rounds
 
@@ -99,10 +101,10 @@ asked_near : (serial : Option ℕ) (i : ℕ) (q : Request) (w : RingView) → Is
 unfolding IsAllDurable
 asked_near serial i q w all =
     let s = node_at w i in
-    let more = gained_by (member i w.size w.capacity) s.inputs q in
+    let more = gained_by (member i w.size w.capacity) s q in
     let is = all i in
     let l = length-append s.inputs more in
-    let one = one_gained i w.size w.capacity s.inputs q in
+    let one = one_gained i w.size w.capacity s q in
     let same = sym (node_asked w i serial q) in
     record {
       least = subst (λ (r : NodeState). r.durable ≤ length r.inputs) same (let le : s.durable ≤ length (s.inputs ++ more) = omega arith in le);
@@ -154,9 +156,14 @@ pub durable_crashed : (i : ℕ) (w : RingView) → IsAllDurable w → IsAllDurab
 unfolding crashed act IsAllDurable
 durable_crashed i w all = still_one w.size w.capacity w.events i all (Crash false) refl
 
+-- no stop leaves an input that waits
+still_left : (keeps_flying : Bool) (s : NodeState) → IsStill (left_by keeps_flying s)
+still_left true s = refl
+still_left false s = refl
+
 pub durable_stopped : (keeps_flying : Bool) (i : ℕ) (w : RingView) → IsAllDurable w → IsAllDurable (stopped keeps_flying i w)
 unfolding stopped act IsAllDurable
-durable_stopped keeps_flying i w all = still_two w.size w.capacity w.events i all Launch (Crash keeps_flying) refl
+durable_stopped keeps_flying i w all = still_two w.size w.capacity w.events i all Launch (Crash keeps_flying) (still_left keeps_flying (launched (node_at w i)))
 
 -- what was told changes no node
 pub durable_told : (w : RingView) → IsAllDurable w → IsAllDurable (record w { told = w.events })

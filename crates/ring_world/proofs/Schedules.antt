@@ -5,6 +5,7 @@ use Rattle.std.proofs.lemmas.Bool.{cases_eq, eq-eqb, ne_eqb}
 use Rattle.std.proofs.lemmas.List.{append-nil}
 use Rattle.std.proofs.lemmas.List.Elements.{Contains-push_cases}
 use Rattle.std.proofs.lemmas.List.Sums.{fold-append}
+use Rattle.ring_records.specs.declared.base.Base.{Base}
 use Rattle.ring_records.specs.declared.input.Input.{Input}
 use Rattle.ring_records.specs.declared.input.Input.TheVariants.{Stand, Take, Acked}
 use Rattle.ring_records.specs.declared.packet.Packet.{Packet}
@@ -14,17 +15,18 @@ use Rattle.ring_records.specs.declared.request.Request.TheVariants as ask
 use Rattle.ring_records.specs.Admission.{fresh, IsAdmitted, IsLawful}
 use Rattle.ring_records.specs.Answer.{input_of, PacketRests}
 use Rattle.ring_records.specs.Lists.{EachAfter, joined_after}
-use Rattle.ring_records.specs.Member.{member, IsHistory}
 use Rattle.ring_records.specs.Place.{before, after}
 use Rattle.ring_records.specs.Ring.{item_at, part, IsCarried, MayFollow, IsLegal}
-use Rattle.ring_records.proofs.Growth.{take-less, sent-kept, taken-kept, EachAfter-at, EachAfter-take}
+use Rattle.ring_records.specs.States.{launched_base, opened}
+use Rattle.ring_records.proofs.Growth.{take-less, sent-kept, taken-kept, EachAfter-at}
 use Rattle.ring_records.proofs.Leader.{Contains-nil, Contains-here, Contains-later}
 use Rattle.ring_records.proofs.Lists.{along, none≢some, EachAfter-push, joined_after-push}
 use Rattle.ring_records.proofs.Resting.{rests-stay}
 use Rattle.ring_records.proofs.Ring.{part-push}
+use Rattle.ring_records.proofs.States.{lawful-first}
 use Rattle.ring_world.specs.Committed.{made_durable, committed_by, committed}
 use Rattle.ring_world.specs.Events.{Sent, Rests, Action, Submit, Release, Process, started, act, process, state_after, IsDelivered, IsReleasable, May, MayHappen, IsSchedule}
-use Rattle.ring_world.proofs.Processes.{Sound, sound-started, sound-next, durable-next, inputs-next, durable-accepted}
+use Rattle.ring_world.proofs.Processes.{Sound, sound-new, sound-next, durable-next, inputs-next, durable-accepted}
 use Rattle.ring_world.proofs.Runs.{part-append, part-same, part-other}
 
 -- ---- one more event
@@ -32,13 +34,13 @@ use Rattle.ring_world.proofs.Runs.{part-append, part-same, part-other}
 pub process-same : (n capacity : ℕ) (events : List (ℕ × Action)) (j : ℕ) (a : Action) → process n capacity (events ++ (j, a) ∷ []) j ≡ act j n capacity (process n capacity events j) a
 unfolding process item_at
 process-same n capacity events j a =
-    ap (fold (act j n capacity) (started [])) (part-push events (j, a) j ∙ ap (λ b. part events j ++ cons_option (cond b (Some a) None) []) (eq-eqb j j refl))
-    ∙ fold-append (act j n capacity) (started []) (part events j) (a ∷ [])
+    ap (fold (act j n capacity) (started (opened fresh []))) (part-push events (j, a) j ∙ ap (λ b. part events j ++ cons_option (cond b (Some a) None) []) (eq-eqb j j refl))
+    ∙ fold-append (act j n capacity) (started (opened fresh [])) (part events j) (a ∷ [])
 
 pub process-other : (n capacity : ℕ) (events : List (ℕ × Action)) (j : ℕ) (a : Action) (i : ℕ) → (j ≡ i → ⊥) → process n capacity (events ++ (j, a) ∷ []) i ≡ process n capacity events i
 unfolding process item_at
 process-other n capacity events j a i ne =
-    ap (fold (act i n capacity) (started [])) (part-push events (j, a) i ∙ (ap (λ b. part events i ++ cons_option (cond b (Some a) None) []) (ne_eqb j i ne) ∙ append-nil (part events i)))
+    ap (fold (act i n capacity) (started (opened fresh []))) (part-push events (j, a) i ∙ (ap (λ b. part events i ++ cons_option (cond b (Some a) None) []) (ne_eqb j i ne) ∙ append-nil (part events i)))
 
 -- ---- runs that go on
 
@@ -50,16 +52,16 @@ carried-kept n run more i (Take msg_no msg) c = rw part-append (sent-kept (befor
 carried-kept n run more i (Acked upto) c = rw part-append (taken-kept (part run (after n i)) _ upto c)
 
 -- lawful inputs of one node, each of them carried, go on with a legal run
-legal-more : (n capacity j : ℕ) → 1 ≤ j → j ≤ n → (xs : List Input) (run : List (ℕ × Input)) → IsLegal n run → IsHistory (member j n capacity) (part run j ++ xs) → ((x : Input) → Contains xs x → IsCarried n run j x)
+legal-more : (n capacity j : ℕ) (base : Base) → 1 ≤ j → j ≤ n → (xs : List Input) (run : List (ℕ × Input)) → IsLegal n run → IsLawful j n capacity base (part run j ++ xs) → ((x : Input) → Contains xs x → IsCarried n run j x)
     → IsLegal n (run ++ map (λ x. (j, x)) xs)
 unfolding IsLegal IsLawful
-legal-more n capacity j first last [] run legal lawful carried = rw append-nil legal
-legal-more n capacity j first last (x ∷ xs) run legal lawful carried =
-    let admitted = EachAfter-at (IsAdmitted j n capacity fresh) [] (part run j) x xs lawful in
+legal-more n capacity j base first last [] run legal lawful carried = rw append-nil legal
+legal-more n capacity j base first last (x ∷ xs) run legal lawful carried =
+    let admitted = EachAfter-at (IsAdmitted j n capacity base) [] (part run j) x xs lawful in
     let here = EachAfter-push (MayFollow n) [] run (j, x) legal (record { first = first; last = last; allowed = admitted.allowed; carried = carried x (Contains-here x xs) }) in
     let mine : part (run ++ (j, x) ∷ []) j ≡ part run j ++ x ∷ [] = part-same run j (x ∷ []) in
-    let law = subst (λ h. EachAfter (IsAdmitted j n capacity fresh) [] h) (sym (append_assoc (part run j) (x ∷ []) xs) ∙ ap (λ ys. ys ++ xs) (sym mine)) lawful in
-    let rest = legal-more n capacity j first last xs (run ++ (j, x) ∷ []) here law (λ y p. carried-kept n run ((j, x) ∷ []) j y (carried y (Contains-later x xs y p))) in
+    let law = subst (λ h. EachAfter (IsAdmitted j n capacity base) [] h) (sym (append_assoc (part run j) (x ∷ []) xs) ∙ ap (λ ys. ys ++ xs) (sym mine)) lawful in
+    let rest = legal-more n capacity j base first last xs (run ++ (j, x) ∷ []) here law (λ y p. carried-kept n run ((j, x) ∷ []) j y (carried y (Contains-later x xs y p))) in
     rw append_assoc at rest
 
 -- ---- what every schedule keeps
@@ -131,14 +133,16 @@ module _ (n capacity : ℕ) (events : List (ℕ × Action)) (j : ℕ) (a : Actio
         other ne = part-other run j i new_inputs ne ∙ (w.parts i ∙ ap (λ (q : Process). take q.state.durable q.state.inputs) (sym (process-other n capacity events j a i ne)))
 
     sound-here : Sound j n capacity (act j n capacity p a)
-    sound-here = sound-next j n capacity p mine a
+    sound-here = sound-next j n capacity p mine events a h.may
 
-    lawful-here : IsHistory (member j n capacity) (part run j ++ new_inputs)
-    unfolding IsLawful
-    lawful-here = subst (λ h. EachAfter (IsAdmitted j n capacity fresh) [] h) (sym (ap (λ ys. ys ++ new_inputs) (w.parts j) ∙ durable-next j n capacity p mine a)) (EachAfter-take (IsAdmitted j n capacity fresh) _ _ sound-here.lawful)
+    abbrev base : Base
+    base = launched_base (act j n capacity p a).state
+
+    lawful-here : IsLawful j n capacity base (part run j ++ new_inputs)
+    lawful-here = subst (IsLawful j n capacity base) (sym (ap (λ ys. ys ++ new_inputs) (w.parts j) ∙ durable-next j n capacity p mine a)) (lawful-first j n capacity base _ _ sound-here.lawful.all)
 
     legal-next : IsLegal n (committed n capacity later)
-    legal-next = subst (IsLegal n) (sym committed-next) (legal-more n capacity j h.first h.last new_inputs run w.legal lawful-here (λ x here. w.carried j x (durable-accepted j n capacity p mine a x here)))
+    legal-next = subst (IsLegal n) (sym committed-next) (legal-more n capacity j base h.first h.last new_inputs run w.legal lawful-here (λ x here. w.carried j x (durable-accepted j n capacity p mine a x here)))
 
     submitted : (q : Request) (x : Input) → a ≡ Submit q → input_of q ≡ Some x → IsCarried n run j x
     unfolding May
@@ -186,7 +190,7 @@ module _ (n capacity : ℕ) (events : List (ℕ × Action)) (j : ℕ) (a : Actio
 holds-first : (n capacity : ℕ) → Holds n capacity []
 unfolding process part committed joined_after IsLawful IsLegal EachAfter
 holds-first n capacity = record {
-  sound = λ i. sound-started i n capacity [] tt;
+  sound = λ i. sound-new i n capacity;
   parts = λ i. refl;
   legal = tt;
   carried = λ i x here. Contains-nil x here;

@@ -6,7 +6,7 @@ use Rattle.std.proofs.lemmas.Bool.Decides.{nat_tests}
 use Rattle.std.proofs.lemmas.List.{map-set, set-get_or, get_or-set_same}
 use Rattle.std.proofs.lemmas.Option.{slice_get_read, get_or_from_slice_get}
 use Rattle.ring_records.specs.declared.request.Request.{Request}
-use Rattle.ring_records.specs.Answer.{NodeState, launched}
+use Rattle.ring_records.specs.States.{NodeState, launched}
 use Rattle.ring_records.specs.Emission.{sent}
 use Rattle.ring_records.specs.History.{credit}
 use Rattle.ring_records.specs.Member.{Member}
@@ -92,8 +92,8 @@ module _ (w : RingView) (events : List (ℕ × Action)) (nodes : List NodeView) 
     in_order : v.durable ≤ length v.inputs
     in_order =
         let sound = (schedule_holds w.size w.capacity w.events ties.shows.schedule).sound i in
-        let low = sound.low in
-        let high = sound.high in
+        let low = sound.lawful.counts.durable in
+        let high = sound.lawful.counts.flying in
         let inputs = ap (λ (s : NodeState). length s.inputs) node_is.state in
         let d = durable in
         omega (arith, low, high, inputs, d)

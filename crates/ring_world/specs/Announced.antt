@@ -5,7 +5,7 @@ use Rattle.ring_records.specs.declared.candidate.Candidate.{Candidate}
 use Rattle.ring_records.specs.declared.input.Input.TheVariants.{Stand}
 use Rattle.ring_records.specs.declared.key.Key.{Key}
 use Rattle.ring_world.specs.Committed.{committed}
-use Rattle.ring_world.specs.Events.{Replied, Sent, Shown, Action, Submit, Launch, Land, Release, Crash}
+use Rattle.ring_world.specs.Events.{Replied, Sent, Shown, Action, Submit, Launch, LaunchAll, Land, Release, Crash}
 use Rattle.ring_world.specs.Released.{named_by}
 use Rattle.ring_world.specs.Ring.{RingView}
 use Rattle.ring_world.specs.declared.announced.Announced.{Announced}
@@ -18,6 +18,7 @@ announced_with node (Some named) = Some (record { node = node; key = named.0; le
 unfoldable pub announced_by : ℕ × Action → Option Announced
 announced_by (node, Submit q) = None
 announced_by (node, Launch) = None
+announced_by (node, LaunchAll) = None
 announced_by (node, Land) = None
 announced_by (node, Release (Replied a)) = announced_with node (named_by a.question a.answer.reply)
 announced_by (node, Release (Sent packet)) = None

@@ -1,14 +1,15 @@
 -- The inputs of all nodes, in the order in which they became durable.
 use Rattle.std.specs.Prelude.{ℕ, if◌then◌else◌, List, [], map}
 use Rattle.ring_records.specs.declared.input.Input.{Input}
-use Rattle.ring_records.specs.Answer.{NodeState, flying_in}
 use Rattle.ring_records.specs.Lists.{joined_after}
-use Rattle.ring_world.specs.Events.{Action, Submit, Launch, Land, Release, Crash, state_after}
+use Rattle.ring_records.specs.States.{NodeState, flying_in}
+use Rattle.ring_world.specs.Events.{Action, Submit, Launch, LaunchAll, Land, Release, Crash, state_after}
 
--- the inputs that the action makes durable: the batch that lands, or that a crash keeps
+-- the inputs that the action makes durable: those that land, or that a crash keeps
 unfoldable pub made_durable : NodeState → Action → List Input
 made_durable s (Submit q) = []
 made_durable s Launch = []
+made_durable s LaunchAll = []
 made_durable s Land = flying_in s
 made_durable s (Release thing) = []
 made_durable s (Crash keeps_flying) = if keeps_flying then flying_in s else []

@@ -1,7 +1,8 @@
 -- What may happen to the nodes of a ring, crashes among it, and where it leads. A schedule is a list of events, oldest
 -- first. An event is a node and what it does.
-use Rattle.std.specs.Prelude.{ℕ, Bool, ◌≡◌, ◌<◌, ◌≤◌, List, [], ◌∷◌, ◌++◌, length, take, Some}
+use Rattle.std.specs.Prelude.{ℕ, Bool, true, false, ◌≡◌, ◌≤◌, List, [], ◌∷◌, ◌++◌, length, take, Some}
 use Rattle.std.specs.List.{fold, Contains}
+use Rattle.ring_records.specs.declared.base.Base.{Base}
 use Rattle.ring_records.specs.declared.candidate.Candidate.{Candidate}
 use Rattle.ring_records.specs.declared.input.Input.{Input}
 use Rattle.ring_records.specs.declared.key.Key.{Key}
@@ -9,13 +10,14 @@ use Rattle.ring_records.specs.declared.packet.Packet.{Packet}
 use Rattle.ring_records.specs.declared.packet.Packet.TheVariants.{Carry, Credit}
 use Rattle.ring_records.specs.declared.request.Request.{Request}
 use Rattle.ring_records.specs.declared.request.Request.TheVariants as ask
-use Rattle.ring_records.specs.Admission.{fresh}
-use Rattle.ring_records.specs.Answer.{Answered, Answers, PacketRests, NodeState, left_by, launched, landed, opened}
+use Rattle.ring_records.specs.Admission.{fresh, IsBaseOf}
+use Rattle.ring_records.specs.Answer.{Answered, Answers, PacketRests}
 use Rattle.ring_records.specs.Leader.{leader}
 use Rattle.ring_records.specs.Lists.{EachAfter}
-use Rattle.ring_records.specs.Member.{member, answered_by, asked_by}
+use Rattle.ring_records.specs.Member.{member}
 use Rattle.ring_records.specs.Place.{before, after}
 use Rattle.ring_records.specs.Ring.{part}
+use Rattle.ring_records.specs.States.{NodeState, is_idle, answered_by, opened, asked, launched, launched_all, landed, left_by}
 
 -- ---- what a node hands out
 
@@ -25,10 +27,16 @@ pub data Thing : Type 0 where
   Sent : Packet → Thing
   Shown : Key → Candidate → Thing
 
+-- the first inputs of h, so many of them, give the answer; room was counted from what an area may stand for after them
+pub record WasAnswered (me n capacity : ℕ) (h : List Input) (a : Answered) : Type 0 where
+  pub base : Base
+  pub answers : Answers me n capacity base h a.question a.answer
+  pub based : IsBaseOf me base (take answers.before h)
+
 -- The thing rests on these inputs, all of them: the request left them with this answer; they sent the message, or hold
 -- as many takes as are credited; they decide the leader.
 unfoldable pub Rests : ℕ → ℕ → ℕ → List Input → Thing → Type 0
-Rests me n capacity h (Replied a) = (a.answer.number ≡ length h) × Answers me n capacity fresh h a.question a.answer
+Rests me n capacity h (Replied a) = (a.answer.number ≡ length h) × WasAnswered me n capacity h a
 Rests me n capacity h (Sent packet) = PacketRests me h packet
 Rests me n capacity h (Shown key c) = leader me h key ≡ Some c
 
@@ -44,6 +52,8 @@ pub data Action : Type 0 where
   Submit : Request → Action
   -- a batch of its inputs begins to fly
   Launch : Action
+  -- all its inputs begin to fly, as a checkpoint
+  LaunchAll : Action
   -- what flies is durable
   Land : Action
   -- it hands the thing out
@@ -56,21 +66,22 @@ pub record Process : Type 0 where
   pub state : NodeState
   pub kept : List Answered
 
--- it is opened with these inputs, and keeps no answer
-abbrev pub started : List Input → Process
-started inputs = record { state = opened inputs; kept = [] }
+-- it is opened in this state, and keeps no answer
+abbrev pub started : NodeState → Process
+started state = record { state = state; kept = [] }
 
 -- node me of a ring of n, with a capacity, after the action
 unfoldable pub act : ℕ → ℕ → ℕ → Process → Action → Process
-act me n capacity p (Submit q) = record { state = asked_by (member me n capacity) p.state q; kept = p.kept ++ answered_by (member me n capacity) p.state.inputs q ∷ [] }
+act me n capacity p (Submit q) = record { state = asked (member me n capacity) p.state q; kept = p.kept ++ answered_by (member me n capacity) p.state q ∷ [] }
 act me n capacity p Launch = record p { state = launched p.state }
+act me n capacity p LaunchAll = record p { state = launched_all me p.state }
 act me n capacity p Land = record p { state = landed p.state }
 act me n capacity p (Release thing) = p
 act me n capacity p (Crash keeps_flying) = started (left_by keeps_flying p.state)
 
 -- node i after the events
 unfoldable pub process : ℕ → ℕ → List (ℕ × Action) → ℕ → Process
-process n capacity events i = fold (act i n capacity) (started []) (part events i)
+process n capacity events i = fold (act i n capacity) (started (opened fresh [])) (part events i)
 
 -- what node i accepted, and how much of it is durable, after the events
 abbrev pub state_after : ℕ → ℕ → List (ℕ × Action) → ℕ → NodeState
@@ -105,8 +116,9 @@ IsReleasable i n capacity p (Shown key c) = IsDurable i n capacity p.state (Show
 -- node i may do this after the events, which made it p
 unfoldable pub May : ℕ → ℕ → List (ℕ × Action) → ℕ → Process → Action → Type 0
 May n capacity events i p (Submit q) = IsDelivered n events i q
-May n capacity events i p Launch = p.state.flying ≡ p.state.durable
-May n capacity events i p Land = p.state.durable < p.state.flying
+May n capacity events i p Launch = is_idle p.state ≡ true
+May n capacity events i p LaunchAll = is_idle p.state ≡ true
+May n capacity events i p Land = is_idle p.state ≡ false
 May n capacity events i p (Release thing) = IsReleasable i n capacity p thing
 May n capacity events i p (Crash keeps_flying) = Unit {0}
 

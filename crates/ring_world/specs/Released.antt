@@ -7,7 +7,7 @@ use Rattle.ring_records.specs.declared.reply.Reply.{Reply}
 use Rattle.ring_records.specs.declared.reply.Reply.TheVariants as say
 use Rattle.ring_records.specs.declared.request.Request.{Request}
 use Rattle.ring_records.specs.declared.request.Request.TheVariants as ask
-use Rattle.ring_records.specs.Answer.{NodeState}
+use Rattle.ring_records.specs.States.{NodeState}
 use Rattle.ring_world.specs.Events.{Thing, Replied, Sent, Shown, Action, Release, RestsOn}
 
 -- What the thing rested on, at its release, were inputs that were durable at its node; they are durable now, and the

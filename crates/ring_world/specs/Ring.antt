@@ -6,13 +6,14 @@ use Rattle.ring_records.specs.declared.packet.Packet.TheVariants.{Carry, Credit}
 use Rattle.ring_records.specs.declared.reply.Reply.{Reply}
 use Rattle.ring_records.specs.declared.request.Request.{Request}
 use Rattle.ring_records.specs.declared.request.Request.TheVariants as ask
-use Rattle.ring_records.specs.Answer.{Answered, NodeState, durable_in}
+use Rattle.ring_records.specs.Answer.{Answered}
 use Rattle.ring_records.specs.Emission.{sent}
 use Rattle.ring_records.specs.History.{taken}
 use Rattle.ring_records.specs.Lists.{first}
-use Rattle.ring_records.specs.Member.{member, answered_by}
+use Rattle.ring_records.specs.Member.{member}
 use Rattle.ring_records.specs.Order.{is_msg}
 use Rattle.ring_records.specs.Place.{after, before}
+use Rattle.ring_records.specs.States.{NodeState, durable_in, answered_by}
 use Rattle.ring_node.specs.Open.{Open, serial_of, due, sealed}
 use Rattle.ring_world.specs.Events.{Replied, Sent, Action, Submit, Launch, Land, Release, Crash, state_after}
 
@@ -52,7 +53,7 @@ happens events i held w = record w { events = w.events ++ events; held = set w.h
 
 -- the answer of node i to a request
 abbrev pub answered_at : RingView → ℕ → Request → Answered
-answered_at w i q = answered_by (member i w.size w.capacity) (node_at w i).inputs q
+answered_at w i q = answered_by (member i w.size w.capacity) (node_at w i) q
 
 -- the packet that a neighbour of node i releases to it, for what the request brings
 abbrev pub handed : ℕ → ℕ → Request → List (ℕ × Action)

@@ -1,4 +1,4 @@
--- Two schedules: an election of three nodes, and one of two nodes with crashes.
+-- Schedules: an election of three nodes, and one of two nodes with crashes.
 use Rattle.std.specs.Prelude.{ℕ, true, false, List, [], ◌∷◌, ◌++◌, Some}
 use Rattle.ring_records.specs.declared.candidate.Candidate.{Candidate}
 use Rattle.ring_records.specs.declared.input.Input.{Input}
@@ -59,13 +59,14 @@ abbrev pub alone : Candidate
 alone = record { bid = 10; node = 1 }
 
 -- Node 1 stands, and node 2 takes its token twice: it crashes while the first Take flies, which is lost, and again
--- while the second flies, which is kept. Then it sends the token on, and node 1 says that it leads.
-abbrev pub crash_events : List (ℕ × Action)
-crash_events =
+-- while the second flies, which is kept. Then it sends the token on, and node 1 says that it leads. The Takes fly as a
+-- batch, or as a checkpoint.
+abbrev pub crash_events : Action → List (ℕ × Action)
+crash_events launch =
     stood 1 10
     ++ (1, Release (Sent (Carry 0 (Token red_5 alone))))
-    ∷ (2, Submit (ask.Take 0 (Token red_5 alone))) ∷ (2, Launch) ∷ (2, Crash false)
-    ∷ (2, Submit (ask.Take 0 (Token red_5 alone))) ∷ (2, Launch) ∷ (2, Crash true)
+    ∷ (2, Submit (ask.Take 0 (Token red_5 alone))) ∷ (2, launch) ∷ (2, Crash false)
+    ∷ (2, Submit (ask.Take 0 (Token red_5 alone))) ∷ (2, launch) ∷ (2, Crash true)
     ∷ delivered 2 1 0 (Token red_5 alone) 2
     ++ told 1 2 alone
 

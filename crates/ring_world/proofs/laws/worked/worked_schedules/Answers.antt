@@ -1,4 +1,4 @@
-use Rattle.ring_world.proofs.WorkedSchedule.{election_committed, election_schedule, election_announced, crash_committed, crash_schedule, crash_announced}
+use Rattle.ring_world.proofs.WorkedSchedule.{election_committed, election_schedule, election_announced, crash_committed, crash_schedule, crash_announced, checkpoint_committed, checkpoint_schedule, checkpoint_announced}
 use Rattle.ring_world.proofs.laws.worked.worked_schedules.Goals as goal
 
 pub returns-clause-election : goal.returns-clause-election
@@ -18,3 +18,12 @@ returns-clause-crashes_durable c = crash_committed
 
 pub returns-clause-crashes_announced : goal.returns-clause-crashes_announced
 returns-clause-crashes_announced c = crash_announced
+
+pub returns-clause-checkpoints : goal.returns-clause-checkpoints
+returns-clause-checkpoints c = checkpoint_schedule
+
+pub returns-clause-checkpoints_durable : goal.returns-clause-checkpoints_durable
+returns-clause-checkpoints_durable c = checkpoint_committed
+
+pub returns-clause-checkpoints_announced : goal.returns-clause-checkpoints_announced
+returns-clause-checkpoints_announced c = checkpoint_announced

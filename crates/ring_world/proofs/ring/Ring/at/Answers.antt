@@ -1,5 +1,5 @@
 use Rattle.std.proofs.Common.{ap}
-use Rattle.ring_records.specs.Answer.{NodeState}
+use Rattle.ring_records.specs.States.{NodeState}
 use Rattle.ring_world.proofs.Steps.{tied}
 use Rattle.ring_world.proofs.Ties.{node_is}
 use Rattle.ring_world.proofs.ring.Ring.at.Goals as goal

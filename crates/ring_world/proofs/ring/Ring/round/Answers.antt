@@ -1,6 +1,6 @@
 use Rattle.std.proofs.Common.{◌++◌, ◌-◌, ap, sym, ◌∙◌, arith}
 use Rattle.std.specs.List.{filter_map}
-use Rattle.ring_records.specs.Answer.{NodeState}
+use Rattle.ring_records.specs.States.{NodeState}
 use Rattle.ring_node.specs.Open.{due}
 use Rattle.ring_world.specs.Ring.{RingView, node_at, landed, replies, reply_of}
 use Rattle.ring_world.specs.Shows.{batch_of}
