@@ -1,5 +1,6 @@
 //! The folder of the nodes' files.
-ghost use Rattle.std.specs.Prelude.{◌≤◌};
+ghost use Rattle.std.specs.Prelude.{◌≡◌, ◌≤◌, IfOk};
+ghost use Rattle.ring_server.specs.Fits.{number_of};
 
 use crate::open_node::OpenNode;
 use crate::unopened::{Answer, Place, Unopened};
@@ -109,6 +110,7 @@ impl<'a> Folder<'a> {
         capacity: u32,
     ) -> Result<OpenNode<FileDevice>, Unopened>
         requires { (node ≤ nodes) × (nodes ≤ 16) }
+        ensures { IfOk result (λ opened. number_of opened ≡ node) }
     {
         let path = format!(in alloc; "{}/node-{node}.crj", self.path)?;
         if !self.has_node(rt, alloc, node)? {
@@ -141,6 +143,7 @@ impl<'a> Folder<'a> {
         capacity: u32,
     ) -> Result<OpenNode<FileDevice>, Unopened>
         requires { (node ≤ nodes) × (nodes ≤ 16) }
+        ensures { IfOk result (λ opened. number_of opened ≡ node) }
     {
         let new = format!(in alloc; "{path}.new")?;
         remove(rt, new.as_str())?;

@@ -1,31 +1,39 @@
 //! Whether the nodes of a ring are of one time.
-ghost use Rattle.std.specs.Prelude.{IsTrue, ◌↔◌};
-ghost use Rattle.ring_records.specs.Fitting.{LinkFits};
+ghost use Rattle.std.specs.Prelude.{ℕ, ◌≡◌, ◌<◌, ◌≤◌, ◌+◌, ◌↔◌, IsTrue, false, length, OnOk, IfErr, IfSome, IfNone};
+ghost use Rattle.ring_records.specs.Answer.{durable_in};
+ghost use Rattle.ring_records.specs.Fitting.{LinkFits, LeadersFit, RingFits};
+ghost use Rattle.ring_records.specs.Place.{after};
+ghost use Rattle.ring_server.specs.Fits.{number_of, IsInOrder, history, Agrees, Differs, IsCause, IsMemory};
 
 use crate::open_node::OpenNode;
 use crate::run_fault::RunFault;
 use disk_model::Device;
 use group_commit::Desk;
-use ring_records::Decision;
-use std::alloc::Global;
-use std::cmp::Ordering;
+use ring_records::{Decision, NodeNo};
+use std::alloc::AllocError;
 
 /// Refused with the first two nodes that do not fit, where two do not: a link, of which the node behind it took more
 /// than the node before it sent, or less than was credited, or two leaders that are known for one key.
-pub(crate) fn look_over<V: Device>(alloc: Global, ring: &[OpenNode<V>]) -> Result<(), RunFault> {
+pub(crate) fn look_over<V: Device>(ring: &[OpenNode<V>]) -> Result<(), RunFault>
+    requires order { IsInOrder ring.now }
+    ensures fits { OnOk result (RingFits (length ring.now) (history ring.now)) }
+    ensures apart { IfErr result (λ fault. IsCause (length ring.now) (history ring.now) fault) }
+    ensures memory { RingFits (length ring.now) (history ring.now) → IfErr result (λ fault. IsMemory fault) }
+{
     look_at_links(ring)?;
-    look_at_leaders(alloc, ring)
+    look_at_leaders(ring)
 }
 
-fn look_at_links<V: Device>(ring: &[OpenNode<V>]) -> Result<(), RunFault> {
+fn look_at_links<V: Device>(ring: &[OpenNode<V>]) -> Result<(), RunFault>
+    requires order { IsInOrder ring.now }
+    ensures fit { OnOk result ((i : ℕ) → 1 ≤ i → i ≤ length ring.now → LinkFits i (history ring.now i) (history ring.now (after (length ring.now) i))) }
+    ensures apart { IfErr result (λ fault. IsCause (length ring.now) (history ring.now) fault) }
+{
     for place in 0..ring.len() {
-        let behind = if place + 1 == ring.len() {
-            0
-        } else {
-            place + 1
-        };
-        if !link_fits(&ring[place].desk, &ring[behind].desk) {
-            return Err(RunFault::Apart(ring[place].node, ring[behind].node));
+        let own = node_at(ring, place);
+        let next = node_at(ring, behind(place, ring.len()));
+        if !link_fits(&own.desk, &next.desk) {
+            return Err(RunFault::Apart(own.node, next.node));
         }
     }
     Ok(())
@@ -39,36 +47,76 @@ fn link_fits(own: &Desk, next: &Desk) -> bool
 }
 
 /// Each node is compared with those before it.
-fn look_at_leaders<V: Device>(alloc: Global, ring: &[OpenNode<V>]) -> Result<(), RunFault> {
-    let mut known: Vec<Vec<Decision>> = Vec::new(alloc);
+fn look_at_leaders<V: Device>(ring: &[OpenNode<V>]) -> Result<(), RunFault>
+    requires order { IsInOrder ring.now }
+    ensures fit { OnOk result ((i j : ℕ) → 1 ≤ i → i ≤ length ring.now → 1 ≤ j → j ≤ length ring.now → LeadersFit i j (history ring.now i) (history ring.now j)) }
+    ensures apart { IfErr result (λ fault. IsCause (length ring.now) (history ring.now) fault) }
+{
     for place in 0..ring.len() {
-        let decisions = ring[place].desk.decisions()?;
-        for before in 0..known.len().min(place) {
-            if !leaders_fit(&known[before], &decisions) {
-                return Err(RunFault::Apart(ring[before].node, ring[place].node));
-            }
+        let own = node_at(ring, place);
+        let Ok(decisions) = own.desk.decisions() else {
+            return Err(RunFault::Memory(AllocError));
+        };
+        if let Some(other) = differing(ring, place, &decisions) {
+            return Err(RunFault::Apart(other, own.node));
         }
-        known.push(decisions)?;
     }
     Ok(())
 }
 
-/// Whether these decisions, each list in order of key, name no different leaders for a key.
-fn leaders_fit(own: &[Decision], other: &[Decision]) -> bool {
-    let mut at = 0;
-    let mut there = 0;
-    while at < own.len() && there < other.len() {
-        match own[at].key.cmp(&other[there].key) {
-            Ordering::Less => at += 1,
-            Ordering::Greater => there += 1,
-            Ordering::Equal => {
-                if own[at].leader != other[there].leader {
-                    return false;
-                }
-                at += 1;
-                there += 1;
+/// The first node before a place that knows another leader for the key of a decision.
+fn differing<V: Device>(
+    ring: &[OpenNode<V>],
+    place: usize,
+    decisions: &[Decision],
+) -> Option<NodeNo>
+    requires order { IsInOrder ring.now }
+    requires inside { place ≤ length ring.now }
+    ensures none { IfNone result ((i : ℕ) → 1 ≤ i → i ≤ place → Agrees i (history ring.now i) decisions.now) }
+    ensures some { IfSome result (λ i. (1 ≤ i) × (i ≤ place) × Differs i (history ring.now i) decisions.now) }
+{
+    for before in 0..place {
+        let other = node_at(ring, before);
+        if !agrees(&other.desk, decisions) {
+            return Some(other.node);
+        }
+    }
+    None
+}
+
+/// Whether the node knows no other leader for the key of a decision.
+fn agrees(desk: &Desk, decisions: &[Decision]) -> bool
+    ensures yes { IsTrue result → Agrees desk.now.member.node desk.now.state.inputs decisions.now }
+    ensures no { result ≡ false → Differs desk.now.member.node desk.now.state.inputs decisions.now }
+{
+    for decision in decisions {
+        if let Some(leader) = desk.who(&decision.key) {
+            if leader != decision.leader {
+                return false;
             }
         }
     }
     true
+}
+
+/// The node at a place, counted from 0.
+fn node_at<V: Device>(ring: &[OpenNode<V>], place: usize) -> &OpenNode<V>
+    requires order { IsInOrder ring.now }
+    requires inside { place < length ring.now }
+    ensures number { number_of result.now ≡ place + 1 }
+    ensures desk { result.now.desk.member.node ≡ place + 1 }
+    ensures inputs { result.now.desk.state.inputs ≡ history ring.now (place + 1) }
+    ensures durable { durable_in result.now.desk.state ≡ history ring.now (place + 1) }
+{
+    &ring[place]
+}
+
+/// The place of the node that the one at this place sends to, of so many.
+#[tactic(auto, unfolding(ring_records::specs::Place::after))]
+fn behind(place: usize, count: usize) -> usize
+    requires { place < count }
+    ensures inside { result < count }
+    ensures after { result + 1 ≡ after count (place + 1) }
+{
+    if place + 1 == count { 0 } else { place + 1 }
 }

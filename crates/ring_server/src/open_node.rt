@@ -3,7 +3,7 @@ ghost use Rattle.std.specs.Prelude.{◌≡◌, ◌≤◌, ◌-◌, ◌||◌, fal
 ghost use Rattle.ring_records.specs.Answer.{durable_in};
 ghost use Rattle.ring_records.specs.Member.{used_by};
 ghost use Rattle.gated_journal.specs.Journal.{member_of, len_of, room_of, is_spoiled};
-ghost use Rattle.node_store.specs.Node.{desk_of};
+ghost use Rattle.node_store.specs.Node.{desk_of, state_of};
 
 use disk_model::Device;
 use gated_journal::Journal;
@@ -22,17 +22,24 @@ pub struct OpenNode<V: Device> {
     ghost place: { (desk.member.node ≡ node) × (desk.member.n ≡ nodes) },
     ghost ready: { is_spoiled journal ≡ false },
     ghost member: { member_of journal ≡ desk.member },
+    ghost durable: { desk.state.durable ≡ length desk.state.inputs },
     ghost len: { len_of journal ≡ desk.state.durable },
     ghost room: { room_of journal ≡ desk.member.capacity - used_by (durable_in desk.state) },
 }
 
 impl<V: Device> OpenNode<V> {
-    /// The parts of this node of a ring of so many, which takes requests and has no open ticket.
+    ghost use Rattle.ring_server.specs.Fits.{number_of, inputs_of};
+
+    /// The parts of this node of a ring of so many, which takes requests, has no open ticket, and whose inputs are all
+    /// durable.
     pub fn new(number: NodeNo, nodes: u8, node: Node<V>) -> OpenNode<V>
         requires inside { (number ≤ nodes) × (nodes ≤ 16) }
         requires place { ((desk_of node).member.node ≡ number) × ((desk_of node).member.n ≡ nodes) }
         requires open { ((desk_of node).closed || (desk_of node).failed) ≡ false }
         requires spent { length (desk_of node).tickets ≡ 0 }
+        requires durable { (state_of node).durable ≡ length (state_of node).inputs }
+        ensures number { number_of result ≡ number }
+        ensures inputs { inputs_of result ≡ (state_of node).inputs }
     {
         let (desk, journal) = node.split();
         OpenNode {

@@ -1,6 +1,8 @@
 //! The program `ringd`, over readers and writers.
-ghost use Rattle.std.specs.Prelude.{◌≡◌, ◌≤◌, IfOk};
+ghost use Rattle.std.specs.Prelude.{◌≡◌, ◌≤◌, length, IfOk};
+ghost use Rattle.ring_records.specs.Fitting.{RingFits};
 ghost use Rattle.ring_service.specs.Words.{IsIn};
+ghost use Rattle.ring_server.specs.Fits.{IsInOrder, history};
 
 use crate::folder::Folder;
 use crate::look_over::look_over;
@@ -184,15 +186,19 @@ where
     serve_ring(rt, alloc, sites, post, words.fail_stop, out, err)
 }
 
-/// All nodes of the ring. Each has to be there already where they were all made once, or where `existing` says so: then
-/// nothing is made or changed where one is not.
+/// All nodes of the ring, which fit. Each has to be there already where they were all made once, or where `existing`
+/// says so: then nothing is made or changed where one is not.
 fn open_ring<R: Files<File = File>>(
     rt: &R,
     alloc: Global,
     folder: &Folder<'_>,
     settings: &Settings,
     existing: bool,
-) -> Result<Vec<OpenNode<FileDevice>>, RunFault> {
+) -> Result<Vec<OpenNode<FileDevice>>, RunFault>
+    ensures order { IfOk result (λ opened. IsInOrder opened.items) }
+    ensures count { IfOk result (λ opened. length opened.items ≡ settings.now.nodes) }
+    ensures fits { IfOk result (λ opened. RingFits settings.now.nodes (history opened.items)) }
+{
     let is_made = match folder.is_made(rt, alloc) {
         Ok(is_made) => is_made,
         Err(why) => return Err(RunFault::Node(NodeNo::first(), why)),
@@ -201,7 +207,7 @@ fn open_ring<R: Files<File = File>>(
         look_for_nodes(rt, alloc, folder, settings)?;
     }
     let opened = open_nodes(rt, alloc, folder, settings)?;
-    look_over(alloc, &opened)?;
+    look_over(&opened)?;
     if !is_made {
         if let Err(why) = folder.mark_made(rt, alloc) {
             return Err(RunFault::Node(NodeNo::first(), why));
@@ -232,16 +238,20 @@ fn look_for_nodes<R: Files<File = File>>(
     Ok(())
 }
 
+/// Nodes 1 to the last, in this order.
 fn open_nodes<R: Files<File = File>>(
     rt: &R,
     alloc: Global,
     folder: &Folder<'_>,
     settings: &Settings,
-) -> Result<Vec<OpenNode<FileDevice>>, RunFault> {
+) -> Result<Vec<OpenNode<FileDevice>>, RunFault>
+    ensures order { IfOk result (λ opened. IsInOrder opened.items) }
+    ensures count { IfOk result (λ opened. length opened.items ≡ settings.now.nodes) }
+{
     let mut nodes = Vec::new(alloc);
-    for number in 1..=settings.nodes {
-        let Ok(node) = NodeNo::new(number) else {
-            break;
+    for place in 0..settings.nodes {
+        let Ok(node) = NodeNo::new(place + 1) else {
+            unreachable!();
         };
         match folder.node(rt, alloc, node, settings.nodes, settings.capacity) {
             Ok(opened) => nodes.push(opened)?,

@@ -1,0 +1,84 @@
+-- The nodes of a ring as they were opened, and which of them do not fit.
+use Rattle.std.specs.Prelude.{ℕ, ◌≡◌, ◌≢◌, ◌+◌, ◌-◌, ◌≤◌, ◌⊎◌, List, [], slice_get, Option, Some, None}
+use Rattle.std.specs.List.{Contains}
+use Rattle.disk_model.specs.declared.device.Device.{Ghosts}
+use Rattle.ring_records.specs.declared.candidate.Candidate.{Candidate}
+use Rattle.ring_records.specs.declared.decision.Decision.{Decision}
+use Rattle.ring_records.specs.declared.input.Input.{Input}
+use Rattle.ring_records.specs.declared.key.Key.{Key}
+use Rattle.ring_records.specs.Fitting.{LinkFits}
+use Rattle.ring_records.specs.Leader.{leader}
+use Rattle.ring_records.specs.Place.{after}
+use Rattle.ring_server.specs.declared.open_node.OpenNode.{OpenNode}
+use Rattle.ring_server.specs.declared.run_fault.RunFault.{RunFault}
+use Rattle.ring_server.specs.declared.run_fault.RunFault.TheVariants as fault
+
+-- ---- the nodes
+
+module _ {D : Type 0} {g : Ghosts D} where
+  -- its place in the ring, from 1 on
+  abbrev pub number_of : OpenNode D g → ℕ
+  number_of opened = opened.node
+
+  -- what it was opened with, all of it durable
+  abbrev pub inputs_of : OpenNode D g → List Input
+  inputs_of opened = opened.desk.state.inputs
+
+  -- they are nodes 1, 2, 3 and so on
+  abbrev pub IsInOrder : List (OpenNode D g) → Type 0
+  IsInOrder ring = (k : ℕ) (opened : OpenNode D g) → slice_get ring k ≡ Some opened → number_of opened ≡ k + 1
+
+  abbrev pub inputs_there : Option (OpenNode D g) → List Input
+  inputs_there None = []
+  inputs_there (Some opened) = inputs_of opened
+
+  -- the inputs of node i, the i-th of them
+  abbrev pub history : List (OpenNode D g) → ℕ → List Input
+  history ring i = inputs_there (slice_get ring (i - 1))
+
+-- ---- leaders beside decisions
+
+-- node i knows no leader for a key of these decisions but the one that they tell
+abbrev pub Agrees : ℕ → List Input → List Decision → Type 0
+Agrees i h list = (told : Decision) (c : Candidate) → Contains list told → leader i h told.key ≡ Some c → c ≡ told.leader
+
+-- node i knows another leader than one of these decisions tells for its key
+pub record Differs (i : ℕ) (h : List Input) (list : List Decision) : Type 0 where
+  pub told : Decision
+  pub other : Candidate
+  pub among : Contains list told
+  pub known : leader i h told.key ≡ Some other
+  pub differ : other ≢ told.leader
+
+-- ---- two nodes that do not fit
+
+-- node i sends to node j in a ring of n, and that link does not fit
+pub record IsLinkApart (n i j : ℕ) (own next : List Input) : Type 0 where
+  pub behind : j ≡ after n i
+  pub unfit : LinkFits i own next → ⊥
+
+-- nodes i and j know different leaders for a key
+pub record KnowTwo (i j : ℕ) (own other : List Input) : Type 0 where
+  pub key : Key
+  pub one : Candidate
+  pub two : Candidate
+  pub here : leader i own key ≡ Some one
+  pub there : leader j other key ≡ Some two
+  pub differ : one ≢ two
+
+-- i and j are nodes of a ring of n that do not fit
+pub record IsApart (n : ℕ) (history : ℕ → List Input) (i j : ℕ) : Type 0 where
+  pub one : (1 ≤ i) × (i ≤ n)
+  pub other : (1 ≤ j) × (j ≤ n)
+  pub why : IsLinkApart n i j (history i) (history j) ⊎ KnowTwo i j (history i) (history j)
+
+-- it names two nodes that do not fit, or tells that memory was wanting
+abbrev pub IsCause : ℕ → (ℕ → List Input) → RunFault → Type 0
+IsCause n history (fault.Apart i j) = IsApart n history i j
+IsCause n history (fault.Memory why) = Unit {0}
+IsCause n history other = ⊥
+
+-- memory was wanting
+abbrev pub IsMemory : RunFault → Type 0
+IsMemory (fault.Memory why) = Unit {0}
+IsMemory other = ⊥
