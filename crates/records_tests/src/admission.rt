@@ -45,15 +45,14 @@ fn a_cost_has_to_fit(rt: &impl Abort, alloc: Global) {
 fn a_base_takes_its_bytes(rt: &impl Abort, alloc: Global) {
     let before = inputs(rt, alloc, &[Stand("red", 5, 10), Acked(1)]);
     let other = input(rt, Stand("blue", 4, 5));
-    let full = Some(Refusal::Full);
     let rows = [
-        ("one byte too many", 1, 101, full),
-        ("it just fits", 1, 102, None),
-        ("behind no inputs", 2, 85, full),
-        ("it fits behind none", 2, 86, None),
-        ("the base stands for it", 3, 0, None),
+        ("one byte too many", 1, 101, true),
+        ("it just fits", 1, 102, false),
+        ("behind no inputs", 2, 85, true),
+        ("it fits behind none", 2, 86, false),
+        ("the base stands for it", 3, 0, false),
     ];
-    for (name, summarised, capacity, want) in rows {
+    for (name, summarised, capacity, is_full) in rows {
         let base = Base {
             layout: 2,
             epoch: 1,
@@ -61,7 +60,10 @@ fn a_base_takes_its_bytes(rt: &impl Abort, alloc: Global) {
             bytes: 65,
         };
         let refused = refusal(node(rt, 1), 3, capacity, &base, &before, &other);
-        assert_eq!(rt; refused, want, "{name}");
+        match refused {
+            Some(cause) => assert!(rt; is_full && cause == Refusal::Full, "{name}"),
+            None => assert!(rt; !is_full, "{name}"),
+        }
     }
 }
 
