@@ -1,8 +1,10 @@
 pub mod AreaAlone
 pub mod AreaBeside
 pub mod AreaFormatted
+pub mod AreaFound
 pub mod AreaHeads
 pub mod AreaKept
+pub mod AreaRest
 pub mod AreaShut
 pub mod AreaStaged
 pub mod Behind

@@ -1,10 +1,11 @@
 -- Which of the two areas is read, and what the parts of the reader find of it.
 use Rattle.std.specs.Prelude.{◌≡◌, ◌⊎◌, ◌^◌, ◌<◌, ◌≤◌, ℕ, List, length, slice_index}
-use Rattle.gated_journal.specs.Areas.{area_a, area_b, AreAreas, layout_at, epoch_at, size_at, frames_of, Counts, IsGate}
+use Rattle.gated_journal.specs.Areas.{Reading, newest, area_a, area_b, AreAreas, layout_at, epoch_at, size_at, frames_of, Counts, IsGate}
 use Rattle.gated_journal.specs.declared.area.Area.{Area}
 use Rattle.gated_journal.specs.declared.area.Area.TheVariants.{A, B}
 use Rattle.gated_journal.specs.declared.area.Chosen.{Chosen}
 use Rattle.gated_journal.specs.declared.area.Head.{Head}
+use Rattle.gated_journal.specs.declared.contents.Contents.{Contents}
 
 -- ---- the choice
 
@@ -45,4 +46,9 @@ pub record IsUsed (capacity : ℕ) (image : List ℕ) (chosen : Chosen) : Type 0
   pub small : chosen.epoch < 2 ^ 40
   pub offset : chosen.offset ≡ frames_of chosen.start image
   pub there : chosen.offset ≤ length image
+  pub near : chosen.offset < 2 ^ 40
   pub gate : IsGate chosen.is_closed chosen.other image
+
+-- what the area that was chosen is read as
+abbrev pub reading_of : Chosen → Contents → Reading
+reading_of chosen found = record { layout = newest; epoch = chosen.epoch; base = found.base; inputs = found.inputs.items }

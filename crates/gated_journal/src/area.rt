@@ -84,7 +84,7 @@ fn choose(a: &Head, b: &Head) -> Option<Area>
 
 // The area at `start`, where its head is whole.
 fn take_area(head: &Head, start: u64, over: &Head, other: u64, size: u64) -> Result<Chosen, Refusal>
-    requires small { start < 2 ^ 62 }
+    requires small { start < 2 ^ 34 }
     ensures used { IfOk result (λ chosen. (capacity : ℕ) (image : List ℕ) → length image ≡ size → AreAreas capacity start other → IsChosen start other image
         → IsHeadOf head.now start image → IsHeadOf over.now other image → IsUsed capacity image chosen) }
     ensures broken { IfErr result (λ refusal. (n capacity : ℕ) (image : List ℕ) → length image ≡ size → AreAreas capacity start other → IsChosen start other image

@@ -5,6 +5,7 @@ mod area;
 mod batch;
 mod checkpoint;
 mod commit;
+mod contents;
 mod format;
 mod journal;
 pub mod laws;

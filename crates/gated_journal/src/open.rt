@@ -108,14 +108,14 @@ fn read_header<D: Device>(device: &mut D, node: NodeNo, n: u8) -> Result<u32, Re
     capacity_of(&head, node, n)
 }
 
-// Reads the frames from `from` on: their inputs, and the offset of the closed gate.
-fn read_frames<D: Device>(
+/// Reads the frames from `from` on: their inputs, and the offset of the closed gate.
+pub(crate) fn read_frames<D: Device>(
     alloc: Global,
     device: &mut D,
     from: u64,
 ) -> Result<(Vec<Input>, u64), Refusal>
-    requires long { from < length (D.disk device.old).image }
-    requires near { from < 2 ^ 32 }
+    requires long { from ≤ length (D.disk device.old).image }
+    requires near { from < 2 ^ 40 }
     ensures frames { IfOk result (λ read. ReadsTo from (D.disk device.old).image read.0.items read.1) }
     ensures small { IfOk result (λ read. read.1 < 2 ^ 63 + from) }
     ensures disk { D.disk device.new ≡ D.disk device.old }

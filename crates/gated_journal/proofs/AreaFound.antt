@@ -1,0 +1,56 @@
+-- What is found in the area that was chosen, and what is wrong with it.
+use Rattle.std.proofs.Common.{◌≡◌, ◌⊎◌, inl, inr, ⊎_elim, ℕ, ◌+◌, ◌<◌, List, [], refl, sym}
+use Rattle.ring_records.specs.declared.input.Input.{Input}
+use Rattle.ring_records.specs.declared.refusal.Refusal.{Refusal}
+use Rattle.ring_records.specs.declared.refusal.Refusal.TheVariants.{Damaged, OutOfMemory}
+use Rattle.ring_records.specs.declared.summary.Summary.{Summary}
+use Rattle.ring_records.specs.Snapshot.{Spells}
+use Rattle.gated_journal.specs.Areas.{Reading, newest, fresh_area, snapshot_at, HasBase}
+use Rattle.gated_journal.specs.Choose.{IsUsed}
+use Rattle.gated_journal.specs.Damage.{IsBaseless, GoesPast, AreAreasUnread}
+use Rattle.gated_journal.specs.Frames.{ReadsTo}
+use Rattle.gated_journal.specs.Unread.{IsBroken}
+use Rattle.gated_journal.specs.declared.area.Chosen.{Chosen}
+
+module _ (n capacity : ℕ) (image : List ℕ) (chosen : Chosen) (used : IsUsed capacity image chosen) where
+  -- its snapshot is read
+  pub base_found : (base : Summary) (inputs : List Input) → Spells n (snapshot_at chosen.start image) base
+      → HasBase n chosen.start image (record { layout = newest; epoch = chosen.epoch; base = base; inputs = inputs }) chosen.offset
+  base_found base inputs spells =
+      record { layout = sym used.area.counts.known; known = refl; epoch = used.epoch; small = used.small; offset_is = used.offset; there = used.there; snapshot = spells }
+
+  -- it has none
+  pub baseless : (refusal : Refusal) → IsBaseless n (snapshot_at chosen.start image) chosen.start refusal → (refusal ≡ OutOfMemory) ⊎ AreAreasUnread n capacity image refusal
+  baseless refusal is =
+      ⊎_elim (λ memory. inl memory)
+      (λ broken. inr (record { cause = inr (record { start = chosen.start; other = chosen.other; areas = used.areas; area = used.area; cause = inl (broken.0, inr (inr broken.1)) }) })) is.cause
+
+  -- its frames are broken
+  pub frames_broken : (base : Summary) (refusal : Refusal) → Spells n (snapshot_at chosen.start image) base → IsBroken chosen.offset image refusal → AreAreasUnread n capacity image refusal
+  frames_broken base refusal spells broken = record {
+    cause = inr (record {
+      start = chosen.start;
+      other = chosen.other;
+      areas = used.areas;
+      area = used.area;
+      cause = inr (record { reading = fresh_area newest chosen.epoch base; offset = chosen.offset; base = base_found base [] spells; cause = inl broken });
+    });
+  }
+
+  -- or go too far
+  pub goes_past : (base : Summary) (inputs : List Input) (gate_at : ℕ) → Spells n (snapshot_at chosen.start image) base → ReadsTo chosen.offset image inputs gate_at → chosen.start + 14 + capacity < gate_at
+      → AreAreasUnread n capacity image (Damaged chosen.start)
+  goes_past base inputs gate_at spells frames past = record {
+    cause = inr (record {
+      start = chosen.start;
+      other = chosen.other;
+      areas = used.areas;
+      area = used.area;
+      cause = inr (record {
+        reading = fresh_area newest chosen.epoch base;
+        offset = chosen.offset;
+        base = base_found base [] spells;
+        cause = inr (refl, record { inputs = inputs; gate_at = gate_at; frames = frames; past = past });
+      });
+    });
+  }
