@@ -5,9 +5,9 @@ use Rattle.ring_records.specs.declared.refusal.Refusal.{Refusal}
 use Rattle.ring_records.specs.declared.refusal.Refusal.TheVariants.{Damaged, OutOfMemory}
 use Rattle.ring_records.specs.declared.summary.Summary.{Summary}
 use Rattle.ring_records.specs.Snapshot.{Spells}
-use Rattle.gated_journal.specs.Areas.{Reading, newest, fresh_area, snapshot_at, HasBase}
+use Rattle.gated_journal.specs.Areas.{newest, fresh_area, snapshot_at, HasBase}
 use Rattle.gated_journal.specs.Choose.{IsUsed}
-use Rattle.gated_journal.specs.Damage.{IsBaseless, GoesPast, AreAreasUnread}
+use Rattle.gated_journal.specs.Damage.{IsBaseless, IsContentless, AreAreasUnread}
 use Rattle.gated_journal.specs.Frames.{ReadsTo}
 use Rattle.gated_journal.specs.Unread.{IsBroken}
 use Rattle.gated_journal.specs.declared.area.Chosen.{Chosen}
@@ -37,7 +37,13 @@ module _ (n capacity : ℕ) (image : List ℕ) (chosen : Chosen) (used : IsUsed 
     });
   }
 
-  -- or go too far
+  -- it gives nothing
+  pub contentless : (refusal : Refusal) → IsContentless n chosen.start chosen.offset image refusal → (refusal ≡ OutOfMemory) ⊎ AreAreasUnread n capacity image refusal
+  contentless refusal is =
+      ⊎_elim (λ none. baseless refusal none)
+      (λ rest. ⊎_elim (λ memory. inl memory) (λ (b : (s : Summary) × (Spells n (snapshot_at chosen.start image) s × IsBroken chosen.offset image refusal)). inr (frames_broken b.0 refusal b.1.0 b.1.1)) rest) is.cause
+
+  -- its frames go too far
   pub goes_past : (base : Summary) (inputs : List Input) (gate_at : ℕ) → Spells n (snapshot_at chosen.start image) base → ReadsTo chosen.offset image inputs gate_at → chosen.start + 14 + capacity < gate_at
       → AreAreasUnread n capacity image (Damaged chosen.start)
   goes_past base inputs gate_at spells frames past = record {

@@ -1,5 +1,5 @@
 -- A journal of two areas at rest: one batch more, and another area in its place.
-use Rattle.std.proofs.Common.{◌≡◌, ◌⊎◌, inl, inr, ⊎_elim, ℕ, ◌+◌, ◌≤◌, List, ◌++◌, length, Bool, false, refl, sym, ◌∙◌, ap, subst, arith, length-append}
+use Rattle.std.proofs.Common.{◌≡◌, inl, inr, ⊎_elim, ℕ, ◌+◌, ◌≤◌, List, ◌++◌, length, Bool, false, refl, sym, ◌∙◌, ap, subst, arith, length-append}
 use Rattle.std.specs.List.{sum_by}
 use Rattle.std.proofs.lemmas.List.Sums.{sum_by-append}
 use Rattle.std.proofs.Math.Logic.{∥∥₁_elim}
@@ -11,8 +11,8 @@ use Rattle.ring_records.specs.declared.input.Input.{Input}
 use Rattle.ring_records.specs.Admission.{cost}
 use Rattle.ring_records.specs.Member.{Member}
 use Rattle.gated_journal.specs.Frames.{ReadsTo, Appends}
-use Rattle.gated_journal.specs.Areas.{Reading, with_more, count_in, used_in, ReadsByAreaAt, ReadsByArea, AllReadByArea, ReadsByAreaAsOneOf, ReadsByAreaAtOneOf, IsGate, IsInUse}
-use Rattle.gated_journal.proofs.AreaAlone.{SameReading, alone}
+use Rattle.gated_journal.specs.Areas.{Reading, with_more, count_in, used_in, ReadsByAreaAt, AllReadByArea, ReadsByAreaAsOneOf, ReadsByAreaAtOneOf, IsGate, IsInUse}
+use Rattle.gated_journal.proofs.AreaAlone.{alone}
 use Rattle.gated_journal.proofs.AreaBeside.{grown, gate_grown}
 
 -- where nothing waits for a sync, a stop leaves what is read

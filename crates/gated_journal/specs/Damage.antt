@@ -45,3 +45,9 @@ pub record AreAreasUnread (n capacity : ℕ) (image : List ℕ) (refusal : Refus
 -- the snapshot of the area at `start` gives no summary: its bytes are of none, or there is no memory for it
 pub record IsBaseless (n : ℕ) (bytes : List ℕ) (start : ℕ) (refusal : Refusal) : Type 0 where
   pub cause : (refusal ≡ OutOfMemory) ⊎ ((refusal ≡ Damaged start) × ((s : Summary) → Spells n bytes s → ⊥))
+
+-- the area at `start` gives nothing: its snapshot gives none, or its frames, which begin at `offset`, are broken behind
+-- one that does, or there is no memory for them
+pub record IsContentless (n start offset : ℕ) (image : List ℕ) (refusal : Refusal) : Type 0 where
+  pub cause : IsBaseless n (snapshot_at start image) start refusal
+      ⊎ ((refusal ≡ OutOfMemory) ⊎ ((s : Summary) × (Spells n (snapshot_at start image) s × IsBroken offset image refusal)))
