@@ -9,7 +9,7 @@ use Rattle.ring_records.specs.declared.input.Input.{Input}
 use Rattle.ring_records.specs.declared.refusal.Refusal.{Refusal}
 use Rattle.ring_records.specs.declared.request.Request.{Request}
 use Rattle.ring_records.specs.Admission.{fresh, refusal, IsBaseOf, IsLawful}
-use Rattle.ring_records.specs.Answer.{input_of, if_free, if_input, gained, answer, answered, Answered, Answers}
+use Rattle.ring_records.specs.Answer.{input_of, if_free, if_input, gained, answer, answered, Answered}
 use Rattle.ring_records.specs.Lists.{EachAfter}
 use Rattle.ring_records.specs.Member.{Member, member}
 use Rattle.ring_records.specs.States.{NodeState, IsLawfulState, launched_base, flying_in, left_by, gained_by, answered_by, opened, asked}

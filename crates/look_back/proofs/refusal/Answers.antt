@@ -1,4 +1,4 @@
-use Rattle.std.proofs.Common.{sym, ◌∙◌, ap}
+use Rattle.std.proofs.Common.{sym, ◌∙◌}
 use Rattle.ring_records.proofs.Admission.{objection-allowed}
 use Rattle.ring_records.proofs.LookBack.{is_some-none, refusal-objected, refusal-fitting}
 use Rattle.look_back.proofs.refusal.Goals as goal
