@@ -65,9 +65,10 @@ lawful-gained me n capacity b h q lawful = asks (input_of q)
 rebased : (me n capacity : ℕ) (b c : Base) (before h : List Input) → length before + length h ≤ c.inputs → EachAfter (IsAdmitted me n capacity b) before h → EachAfter (IsAdmitted me n capacity c) before h
 unfolding EachAfter Fits
 rebased me n capacity b c before [] all each = tt
-rebased me n capacity b c before (x ∷ h) all each =
-    (record { allowed = each.0.allowed; fits = λ within. absurd (omega arith) },
-    rebased me n capacity b c (before ++ x ∷ []) h (let l = length-append before (x ∷ []) in omega arith) each.1)
+rebased me n capacity b c before (x ∷ h) all each = (
+  record { allowed = each.0.allowed; fits = λ within. absurd (omega arith) },
+  rebased me n capacity b c (before ++ x ∷ []) h (let l = length-append before (x ∷ []) in omega arith) each.1,
+)
 
 pub lawful-rebased : (me n capacity : ℕ) (b c : Base) (h : List Input) → length h ≤ c.inputs → IsLawful me n capacity b h → IsLawful me n capacity c h
 unfolding IsLawful

@@ -17,10 +17,10 @@ AreNumbered-push number xs x old new k y there =
     let is = get_or_from_slice_get (xs ++ x ∷ []) k y y there in
     let inside : k ≤ length xs = omega (arith, size) in
     elim (eq-or-lt_of_le inside) [
-      inl last ↦
-        (let seam : get_or (xs ++ x ∷ []) k y ≡ x = ap (λ i. get_or (xs ++ x ∷ []) i y) last ∙ get_or-append_seam xs x [] y in
-        ap number (sym is ∙ seam) ∙ new ∙ ap (λ i. i + 1) (sym last))
+      | inl last ↦
+          (let seam : get_or (xs ++ x ∷ []) k y ≡ x = ap (λ i. get_or (xs ++ x ∷ []) i y) last ∙ get_or-append_seam xs x [] y in
+          ap number (sym is ∙ seam) ∙ new ∙ ap (λ i. i + 1) (sym last))
       | inr before ↦
-        (let same : get_or xs k y ≡ y = sym (get_or-append xs (x ∷ []) y k before) ∙ is in
-        old k y (slice_get-get_or xs k y before ∙ ap Some same))
+          (let same : get_or xs k y ≡ y = sym (get_or-append xs (x ∷ []) y k before) ∙ is in
+          old k y (slice_get-get_or xs k y before ∙ ap Some same))
     ]
