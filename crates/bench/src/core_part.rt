@@ -1,8 +1,4 @@
 // One node that accepts inputs over many keys, with half of what it sent in its window.
-ghost use Rattle.std.specs.Prelude.{List};
-ghost use Rattle.ring_records.specs.declared.input.Input.{Input};
-ghost use Rattle.node_core.specs.Core.{CoreStandsFor};
-
 use crate::fault::Fault;
 use crate::keys::key;
 use crate::words::next_amount;
@@ -72,10 +68,7 @@ fn message(no: u64) -> Result<Msg, Refusal> {
 }
 
 // How many elections the input decided: 0 or 1.
-fn accept(core: &mut NodeCore, input: Input) -> Result<u32, Refusal>
-    requires { (h : List Input) × CoreStandsFor core.old h }
-    ensures { (h : List Input) × CoreStandsFor core.new h }
-{
+fn accept(core: &mut NodeCore, input: Input) -> Result<u32, Refusal> {
     core.admit(&input)?;
     match core.apply(input) {
         Ok(effects) => Ok(effects.decided.is_some() as u32),

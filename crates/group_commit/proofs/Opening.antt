@@ -20,12 +20,12 @@ use Rattle.group_commit.specs.Outbox.{effects_of}
 -- the core stands for the first inputs, which are lawful
 pub record Opens (core : CoreView) (me n capacity : ℕ) (inputs : List Input) (count : ℕ) : Type 0 where
   pub stands : CoreStandsFor core (take count inputs)
-  pub me_is : core.table.me ≡ me
+  pub me_is : core.me ≡ me
   pub ring_is : core.size ≡ n
   pub capacity_is : core.capacity ≡ capacity
   pub lawful : IsHistory (member me n capacity) (take count inputs)
 
-pub opens_none : (core : CoreView) (me n capacity : ℕ) (inputs : List Input) → core.table.me ≡ me → core.size ≡ n → core.capacity ≡ capacity → CoreStandsFor core [] → Opens core me n capacity inputs 0
+pub opens_none : (core : CoreView) (me n capacity : ℕ) (inputs : List Input) → core.me ≡ me → core.size ≡ n → core.capacity ≡ capacity → CoreStandsFor core [] → Opens core me n capacity inputs 0
 unfolding IsLawful EachAfter
 opens_none core me n capacity inputs me_is ring_is capacity_is stands = record { stands = stands; me_is = me_is; ring_is = ring_is; capacity_is = capacity_is; lawful = tt }
 
@@ -50,7 +50,7 @@ judged core me n capacity inputs count x found opens says =
 
 -- what the next input brings
 pub brought : (core : CoreView) (me n capacity : ℕ) (inputs : List Input) (count : ℕ) (x : Input) (effects : Effects) → Opens core me n capacity inputs count
-    → ((h : List Input) → CoreStandsFor core h → effects.carry ≡ carry core.table.me h x) → ((h : List Input) → CoreStandsFor core h → effects.decided ≡ decided core.table.me h x) → effects ≡ effects_of me (take count inputs) x
+    → ((h : List Input) → CoreStandsFor core h → effects.carry ≡ carry core.me h x) → ((h : List Input) → CoreStandsFor core h → effects.decided ≡ decided core.me h x) → effects ≡ effects_of me (take count inputs) x
 brought core me n capacity inputs count x effects opens sends decides =
     (λ i. record { carry = sends (take count inputs) opens.stands i; decided = decides (take count inputs) opens.stands i }) ∙ ap (λ k. effects_of k (take count inputs) x) opens.me_is
 
@@ -62,7 +62,7 @@ lawful_next me n capacity h x lawful free = EachAfter-push (IsAdmitted me n capa
 -- one input more
 pub opens_next : (core new : CoreView) (me n capacity : ℕ) (inputs : List Input) (count : ℕ) (x : Input) → Opens core me n capacity inputs count → IsItem inputs count x
     → refusal_by (member me n capacity) (take count inputs) x ≡ None → ((h : List Input) → CoreStandsFor core h → CoreStandsFor new (h ++ x ∷ []))
-    → new.table.me ≡ core.table.me → new.size ≡ core.size → new.capacity ≡ core.capacity → Opens new me n capacity inputs (count + 1)
+    → new.me ≡ core.me → new.size ≡ core.size → new.capacity ≡ core.capacity → Opens new me n capacity inputs (count + 1)
 opens_next core new me n capacity inputs count x opens here free stands me_same ring_same capacity_same =
     let more = take-item inputs count x here in
     record {

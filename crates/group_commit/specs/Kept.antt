@@ -21,7 +21,7 @@ AreAnswers member (ticket ∷ tickets) = IsAnswer member ticket.1 × AreAnswers 
 -- what they let the node release; no number of a ticket is given twice; and what is kept for a ticket is an answer.
 pub record IsDesk (core : CoreView) (outbox : Outbox) (member : Member) (s : NodeState) (tickets : List (ℕ × Answered)) (issued : ℕ) : Type 0 where
   pub stands : CoreStandsFor core s.inputs
-  pub me : core.table.me ≡ member.node
+  pub me : core.me ≡ member.node
   pub ring : core.size ≡ member.n
   pub bytes : core.capacity ≡ member.capacity
   pub in_order : s.durable ≤ s.flying

@@ -67,10 +67,10 @@ impl Outbox {
     /// nothing.
     pub(crate) fn accept(&mut self, core: &mut NodeCore, input: &Input) -> Result<(), AllocError>
         requires admitted { (h : List Input) × CoreStandsFor core.old h × (refusal_by (member_of core.old) h input.now ≡ None) }
-        ensures holds { OnOk result ((durable flying : ℕ) (h : List Input) → durable ≤ length h → CoreStandsFor core.old h → Holds core.old.table.me self.old h durable flying
-            → Holds core.old.table.me self.new (h ++ input.now ∷ []) durable flying) }
+        ensures holds { OnOk result ((durable flying : ℕ) (h : List Input) → durable ≤ length h → CoreStandsFor core.old h → Holds core.old.me self.old h durable flying
+            → Holds core.old.me self.new (h ++ input.now ∷ []) durable flying) }
         ensures stands { OnOk result ((h : List Input) → CoreStandsFor core.old h → CoreStandsFor core.new (h ++ input.now ∷ [])) }
-        ensures member { (core.new.table.me ≡ core.old.table.me) × (core.new.size ≡ core.old.size) × (core.new.capacity ≡ core.old.capacity) }
+        ensures member { (core.new.me ≡ core.old.me) × (core.new.size ≡ core.old.size) × (core.new.capacity ≡ core.old.capacity) }
         ensures err { OnErr result (core.new ≡ core.old) }
         ensures same { OnErr result ((me durable flying : ℕ) (h : List Input) → Holds me self.old h durable flying → Holds me self.new h durable flying) }
     {

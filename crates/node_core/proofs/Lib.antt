@@ -1,2 +1,6 @@
-mod Accepts
-mod Cores
+pub mod Histories
+mod Measures
+mod Objections
+mod Refusals
+mod Steps
+mod Views

@@ -1,2 +1,6 @@
+pub mod Brought
 pub mod Codes
 pub mod Core
+pub mod Judged
+pub mod Kept
+pub mod Measure

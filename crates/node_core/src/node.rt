@@ -1,65 +1,111 @@
-// A node by what it keeps.
-ghost use Rattle.std.specs.Prelude.{◌≡◌, ℕ, List, [], ◌∷◌, ◌++◌, length, drop, None, IfOk, OnOk, OnErr};
+// A node by what it knows, with the capacity of its journal.
+ghost use Rattle.std.specs.Prelude.{◌≡◌, ◌+◌, ◌<◌, ◌≤◌, ◌^◌, ℕ, List, [], ◌∷◌, ◌++◌, length, drop, Bool, nat_lt, None, IfOk, OnOk, OnErr};
 ghost use Rattle.std.specs.Result.{result_err};
 ghost use Rattle.ring_records.specs.declared.input.Input.{Input};
-ghost use Rattle.ring_records.specs.Admission.{used, objection, refusal};
+ghost use Rattle.ring_records.specs.Admission.{cost};
 ghost use Rattle.ring_records.specs.Emission.{sent, carry};
 ghost use Rattle.ring_records.specs.History.{taken, credit, stands};
-ghost use Rattle.ring_records.specs.Leader.{leader, latest, decided};
+ghost use Rattle.ring_records.specs.Known.{stepped, known_of, leader_of, leads_in};
+ghost use Rattle.ring_records.specs.Leader.{IsLatest, leader, latest, decided};
 ghost use Rattle.ring_records.specs.Member.{used_by, refusal_by};
-ghost use Rattle.groups_terms.specs.Table.{ballot_at};
-ghost use Rattle.node_core.specs.Core.{CoreStandsFor, member_of};
+ghost use Rattle.ring_records.specs.Snapshot.{IsSound, snapshot_len};
+ghost use Rattle.ring_records.specs.Summary as summed;
+ghost use Rattle.node_core.specs.Brought.{brought};
+ghost use Rattle.node_core.specs.Core.{CoreStandsFor, IsNodeOf, Refuses, member_of};
 
-use crate::accept::accept;
 use crate::effects::Effects;
-use crate::judge::{against_acked, against_stand, against_take};
-use groups_terms::Table;
-use neighbour_link::{Inlink, Outlink};
-use ring_records::{Candidate, GroupName, Input, Key, Msg, NodeNo, Refusal, Term};
+use crate::free::FreeCore;
+use crate::measure::{freed, len_at, len_on};
+use ring_records::{
+    Candidate, GroupName, Input, Key, Msg, NodeNo, Refusal, Summary, Term, summary_len,
+};
 use std::alloc::{AllocError, Global};
 use std::marker::Model;
 
-/// A node of a ring: its ballots, its two links and its counts, in place of the history of its accepted inputs.
+/// A node of a ring with the capacity of its journal: what it knows of its accepted inputs, in place of their history.
 #[derive(Drop)]
 pub struct NodeCore {
-    size: u8,
+    core: FreeCore,
     capacity: u32,
-    table: Table,
-    outlink: Outlink,
-    inlink: Inlink,
-    // How many inputs it accepted, and the bytes of the capacity that they take.
-    inputs: u64,
-    used: u32,
+    // The bytes of the capacity that are taken.
+    used: u64,
+    // The length of the snapshot of what it knows.
+    snapshot: u64,
 }
 
 impl Model for NodeCore {
     ghost use Rattle.node_core.specs.Codes.{coded_core};
     ghost use Rattle.node_core.specs.Core.{CoreView};
+    ghost use Rattle.node_core.specs.Kept.{IsMeasured};
 
     ghost Value = { CoreView };
 
     ghost coded = { coded_core };
 
-    ghost view = { λ c. record { size = c.size; capacity = c.capacity; table = c.table; out = c.outlink.link; expected = c.inlink; inputs = c.inputs; used = c.used } };
+    ghost view = { λ c. record { me = c.core.me; size = c.core.size; capacity = c.capacity; known = c.core.known; used = c.used } };
+
+    ghost invariant = { λ c. IsMeasured c.core.known c.snapshot };
 }
 
 impl NodeCore {
     /// Node `node` of a ring of `n` nodes, with a capacity in bytes, that has accepted nothing.
     pub fn new(alloc: Global, node: NodeNo, n: u8, capacity: u32) -> NodeCore
-        ensures me { result.table.me ≡ node }
+        ensures me { result.me ≡ node }
         ensures ring { result.size ≡ n }
         ensures capacity { result.capacity ≡ capacity }
+        ensures value { (result.known ≡ summed.empty) × (result.used ≡ 0) }
         ensures empty { CoreStandsFor result [] }
     {
         NodeCore {
-            size: n,
+            core: FreeCore::new(alloc, node, n),
             capacity,
-            table: Table::new(alloc, node),
-            outlink: Outlink::new(alloc),
-            inlink: Inlink::new(),
-            inputs: 0,
             used: 0,
+            snapshot: 38,
         }
+    }
+
+    /// Node `node` of a ring of `n` nodes, with a capacity in bytes, that knows this, and of whose capacity a snapshot
+    /// of it is taken. The caller sees that it is sound. The error is that of the allocator.
+    pub fn restore(
+        alloc: Global,
+        node: NodeNo,
+        n: u8,
+        capacity: u32,
+        from: &Summary,
+    ) -> Result<NodeCore, AllocError>
+        requires { IsSound n from.now }
+        ensures { IfOk result (λ core. core ≡ record { me = node; size = n; capacity = capacity; known = from.now; used = snapshot_len from.now }) }
+    {
+        let snapshot = summary_len(from);
+        Ok(NodeCore {
+            core: FreeCore::restore(alloc, node, n, from)?,
+            capacity,
+            used: snapshot,
+            snapshot,
+        })
+    }
+
+    /// What it knows. The error is that of the allocator.
+    pub fn summary(&self, alloc: Global) -> Result<Summary, AllocError>
+        ensures value { IfOk result (λ given. given ≡ self.now.known) }
+        ensures sound { OnOk result (IsNodeOf self.now.size self.now.me → IsSound self.now.size self.now.known) }
+        ensures known { IfOk result (λ given. (h : List Input) → CoreStandsFor self.now h → given ≡ summed.summary self.now.me h) }
+    {
+        self.core.summary(alloc)
+    }
+
+    /// The length of the snapshot of what it knows, in bytes.
+    pub fn summary_len(&self) -> u64
+        ensures { result ≡ snapshot_len self.now.known }
+    {
+        self.snapshot
+    }
+
+    /// From now on the snapshot of what it knows takes the bytes of the capacity, in place of its inputs so far.
+    pub fn rebase(&mut self)
+        ensures { self.new ≡ record self.old { used = snapshot_len self.old.known } }
+    {
+        self.used = self.snapshot;
     }
 
     /// Whether the input may be accepted now. Refused by the first cause that there is: a Stand as 3 where the node
@@ -68,12 +114,13 @@ impl NodeCore {
     /// where it is not above the credit, 14 where it is above the count sent; each as 6 at 2^56 inputs, and as 7 where
     /// its cost does not fit the capacity.
     pub fn admit(&self, input: &Input) -> Result<(), Refusal>
-        ensures { (h : List Input) → CoreStandsFor self.now h → result_err result ≡ refusal_by (member_of self.now) h input.now }
+        ensures value { Refuses self.now input.now (result_err result) }
+        ensures known { (h : List Input) → CoreStandsFor self.now h → result_err result ≡ refusal_by (member_of self.now) h input.now }
     {
-        if let Some(refusal) = self.objection(input) {
+        if let Some(refusal) = self.core.objection(input) {
             return Err(refusal);
         }
-        if self.used as u64 + input.cost() as u64 > self.capacity as u64 {
+        if self.is_short(input.cost()) {
             return Err(Refusal::Full);
         }
         Ok(())
@@ -81,63 +128,74 @@ impl NodeCore {
 
     /// Accepts an input that `admit` answers Ok of: what it brings. An `Err` changes nothing.
     pub fn apply(&mut self, input: Input) -> Result<Effects, AllocError>
-        requires { (h : List Input) × CoreStandsFor self.old h × (refusal_by (member_of self.old) h input ≡ None) }
-        ensures me { self.new.table.me ≡ self.old.table.me }
+        requires { Refuses self.old input None }
+        ensures steps { OnOk result (self.new ≡ record self.old { known = stepped self.old.me self.old.known input; used = self.old.used + cost input }) }
+        ensures brings { IfOk result (λ effects. effects ≡ brought self.old.me self.old.known input) }
+        ensures me { self.new.me ≡ self.old.me }
         ensures ring { self.new.size ≡ self.old.size }
         ensures capacity { self.new.capacity ≡ self.old.capacity }
-        ensures carry { IfOk result (λ effects. (h : List Input) → CoreStandsFor self.old h → effects.carry ≡ carry self.old.table.me h input) }
-        ensures decided { IfOk result (λ effects. (h : List Input) → CoreStandsFor self.old h → effects.decided ≡ decided self.old.table.me h input) }
+        ensures carry { IfOk result (λ effects. (h : List Input) → CoreStandsFor self.old h → effects.carry ≡ carry self.old.me h input) }
+        ensures decided { IfOk result (λ effects. (h : List Input) → CoreStandsFor self.old h → effects.decided ≡ decided self.old.me h input) }
         ensures stands { OnOk result ((h : List Input) → CoreStandsFor self.old h → CoreStandsFor self.new (h ++ input ∷ [])) }
         ensures err { OnErr result (self.new ≡ self.old) }
     {
-        self.outlink.reserve(1)?;
-        let cost = input.cost();
-        let effects = accept(&mut self.table, &mut self.outlink, &mut self.inlink, input)?;
-        self.inputs += 1;
+        let cost = input.cost() as u64;
+        let removed = len_at(&self.core, &input) as u64 + freed(&self.core, &input);
+        let effects = self.core.apply(input)?;
+        let added = len_at(&self.core, &input) + len_on(&effects);
+        self.snapshot = self.snapshot + added as u64 - removed;
         self.used += cost;
         Ok(effects)
     }
 
-    /// A core that stands for the same history.
+    /// A core that knows the same, with the same capacity.
     pub fn try_copy(&self) -> Result<NodeCore, AllocError>
         ensures { IfOk result (λ copy. copy ≡ self.now) }
     {
         Ok(NodeCore {
-            size: self.size,
+            core: self.core.try_copy()?,
             capacity: self.capacity,
-            table: self.table.try_copy()?,
-            outlink: self.outlink.try_copy()?,
-            inlink: self.inlink,
-            inputs: self.inputs,
             used: self.used,
+            snapshot: self.snapshot,
         })
     }
 
+    // Whether so many bytes more do not fit the capacity.
+    fn is_short(&self, cost: u32) -> bool
+        ensures { result ≡ nat_lt self.now.capacity (self.now.used + cost) }
+    {
+        let capacity = self.capacity as u64;
+        self.used > capacity || cost as u64 > capacity - self.used
+    }
+}
+
+impl NodeCore {
     /// The leader for the key, if one is known.
     pub fn who(&self, key: &Key) -> Option<Candidate>
-        ensures value { result ≡ (ballot_at self.now.table key.now).leader }
-        ensures known { (h : List Input) → CoreStandsFor self.now h → result ≡ leader self.now.table.me h key.now }
+        ensures value { result ≡ leader_of (known_of self.now.known key.now) }
+        ensures known { (h : List Input) → CoreStandsFor self.now h → result ≡ leader self.now.me h key.now }
     {
-        self.table.who(key)
+        self.core.who(key)
     }
 
     /// The greatest term of the group with a known leader, and that leader.
     pub fn latest(&self, group: &GroupName) -> Option<(Term, Candidate)>
-        ensures { (h : List Input) → CoreStandsFor self.now h → result ≡ latest self.now.table.me h group.now }
+        ensures value { IsLatest (leads_in self.now.known group.now) result }
+        ensures known { (h : List Input) → CoreStandsFor self.now h → result ≡ latest self.now.me h group.now }
     {
-        self.table.latest(group)
+        self.core.latest(group)
     }
 
     /// How many inputs it accepted, at most 2^56.
     pub fn inputs(&self) -> u64
-        ensures value { result ≡ self.now.inputs }
+        ensures value { result ≡ self.now.known.inputs }
         ensures known { (h : List Input) → CoreStandsFor self.now h → result ≡ length h }
     {
-        self.inputs
+        self.core.inputs()
     }
 
-    /// The bytes of the capacity that they take.
-    pub fn used(&self) -> u32
+    /// The bytes of the capacity that are taken.
+    pub fn used(&self) -> u64
         ensures value { result ≡ self.now.used }
         ensures known { (h : List Input) → CoreStandsFor self.now h → result ≡ used_by h }
     {
@@ -146,59 +204,41 @@ impl NodeCore {
 
     /// How many messages it sent.
     pub fn sent(&self) -> u64
-        ensures { (h : List Input) → CoreStandsFor self.now h → result ≡ length (sent self.now.table.me h) }
+        ensures value { result ≡ self.now.known.sent }
+        ensures known { (h : List Input) → CoreStandsFor self.now h → result ≡ length (sent self.now.me h) }
     {
-        self.outlink.sent()
+        self.core.sent()
     }
 
     /// How many messages it took, which is the number that it expects.
     pub fn taken(&self) -> u64
-        ensures value { result ≡ self.now.expected }
+        ensures value { result ≡ self.now.known.taken }
         ensures known { (h : List Input) → CoreStandsFor self.now h → result ≡ length (taken h) }
     {
-        self.inlink.expected()
+        self.core.taken()
     }
 
     /// How many of its messages its successor is known to have taken.
     pub fn credit(&self) -> u64
-        ensures { (h : List Input) → CoreStandsFor self.now h → result ≡ credit h }
+        ensures value { result ≡ self.now.known.credit }
+        ensures known { (h : List Input) → CoreStandsFor self.now h → result ≡ credit h }
     {
-        self.outlink.credited()
+        self.core.credit()
     }
 
     /// The messages sent and not credited, oldest first.
     pub fn window(&self) -> &[Msg]
-        ensures { (h : List Input) → CoreStandsFor self.now h → result.now ≡ drop (credit h) (sent self.now.table.me h) }
+        ensures value { result.now ≡ self.now.known.window }
+        ensures known { (h : List Input) → CoreStandsFor self.now h → result.now ≡ drop (credit h) (sent self.now.me h) }
     {
-        self.outlink.window()
+        self.core.window()
     }
 
-    /// How many Stands it made, at most 1,024.
+    /// How many Stands it made.
     pub fn stands(&self) -> u32
-        ensures { (h : List Input) → CoreStandsFor self.now h → result ≡ stands h }
+        ensures value { result ≡ self.now.known.stands }
+        ensures known { (h : List Input) → CoreStandsFor self.now h → result ≡ stands h }
     {
-        self.table.stands()
-    }
-
-    fn objection(&self, input: &Input) -> Option<Refusal>
-        ensures { (h : List Input) → CoreStandsFor self.now h → result ≡ objection self.now.table.me self.now.size h input.now }
-    {
-        match input {
-            Input::Stand { key, .. } => self.stand_objection(key),
-            Input::Take { no, msg } => against_take(self.size, &self.inlink, self.inputs, *no, msg),
-            Input::Acked { upto } => against_acked(&self.outlink, self.inputs, *upto),
-        }
-    }
-
-    fn stand_objection(&self, key: &Key) -> Option<Refusal>
-        ensures { (h : List Input) (n bid : ℕ) → CoreStandsFor self.now h → result ≡ objection self.now.table.me n h (Input.Stand key.now bid) }
-    {
-        against_stand(
-            key.term,
-            self.table.ballot(key),
-            self.table.latest(&key.group),
-            self.table.stands(),
-            self.inputs,
-        )
+        self.core.stands()
     }
 }

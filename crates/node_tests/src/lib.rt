@@ -4,6 +4,8 @@
 #[cfg(test)]
 mod ballots;
 #[cfg(test)]
+mod free;
+#[cfg(test)]
 mod links;
 #[cfg(test)]
 mod node;

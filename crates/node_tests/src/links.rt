@@ -56,8 +56,10 @@ fn the_expected_number_alone_is_next(rt: HostRuntime) {
             assert!(&rt; link.expected() < u64::MAX);
             link.take();
         }
-        assert_eq!(rt; link.expected(), taken);
-        assert_eq!(rt; link.judge(no), judged, "{no} where {taken} were taken");
+        for link in [link, Inlink::restore(taken)] {
+            assert_eq!(rt; link.expected(), taken);
+            assert_eq!(rt; link.judge(no), judged, "{no} where {taken} were taken");
+        }
     }
 }
 
@@ -110,6 +112,13 @@ fn credits_are_above_the_last_and_not_above_the_sent(rt: HostRuntime) {
     }
 }
 
+/// The link that has the count and the window of this one.
+fn restored(rt: &impl Abort, alloc: Global, link: &Outlink) -> Outlink {
+    let (sent, window) = (link.sent(), link.window());
+    assert!(rt; window.len() as u64 <= sent);
+    Outlink::restore(alloc, sent, window).expect(rt, "ample memory")
+}
+
 #[test]
 fn the_window_begins_at_the_credit(rt: HostRuntime) {
     let mut link = Outlink::new(rt.alloc());
@@ -125,5 +134,6 @@ fn the_window_begins_at_the_credit(rt: HostRuntime) {
         shows(&rt, &link, upto, end);
         let copy = link.try_copy().expect(&rt, "ample memory");
         shows(&rt, &copy, upto, end);
+        shows(&rt, &restored(&rt, rt.alloc(), &link), upto, end);
     }
 }

@@ -4,7 +4,7 @@ use cr_automaton::Ballot;
 use groups_terms::Table;
 use ring_records::{GroupName, Key, Msg, Term};
 use std::process::Abort;
-use test_rows::Note::{self, Elected};
+use test_rows::Note::{self, Elected, Token};
 
 #[test]
 fn a_stand_touches_one_key(rt: HostRuntime) {
@@ -74,4 +74,31 @@ fn the_latest_is_of_the_greatest_term(rt: HostRuntime) {
     let copy = table.try_copy().expect(&rt, "ample memory");
     is_led(&rt, &copy, &red, (80, 3));
     assert_eq!(rt; copy.latest(&red.group), table.latest(&red.group));
+}
+
+#[test]
+fn a_table_is_restored_from_what_it_knows(rt: HostRuntime) {
+    let alloc = rt.alloc();
+    let mut table = Table::new(alloc, node(&rt, 2));
+    let red = key(&rt, "red", 5);
+    if table.ballot(&red).is_none() {
+        table.stand(red, bid(&rt, 30)).expect(&rt, "ample memory");
+    }
+    // One key that is relayed alone, and two with leaders.
+    for note in [
+        Token("blu", 1, 7, 1),
+        Elected("red", 9, 90, 3),
+        Elected("red", 5, 30, 3),
+    ] {
+        table.hear(&msg(&rt, note)).expect(&rt, "ample memory");
+    }
+    let states = table.key_states(alloc).expect(&rt, "ample memory");
+    assert_eq!(rt; states.len(), 3);
+    let other = Table::restore(alloc, node(&rt, 2), &states, 1).expect(&rt, "ample memory");
+    assert_eq!(rt; other.stands(), 1);
+    for (group, term) in [("red", 5), ("red", 9), ("blu", 1), ("blu", 2)] {
+        let key = key(&rt, group, term);
+        assert_eq!(rt; other.ballot(&key), table.ballot(&key));
+        assert_eq!(rt; other.latest(&key.group), table.latest(&key.group));
+    }
 }

@@ -1,5 +1,5 @@
 // The bytes of a summary in a journal.
-ghost use Rattle.std.specs.Prelude.{◌≡◌, ◌++◌, ◌*◌, ◌<◌, ◌≤◌, ◌^◌, length, IfOk, OnOk};
+ghost use Rattle.std.specs.Prelude.{◌≡◌, ◌++◌, ◌+◌, ◌*◌, ◌<◌, ◌≤◌, ◌^◌, length, IfOk, OnOk};
 ghost use Rattle.std.specs.FinMap as map;
 ghost use Rattle.std.specs.List.{flat_map, sum_by};
 ghost use Rattle.ring_records.specs.Record.{key_bytes, candidate_bytes};
@@ -8,9 +8,10 @@ ghost use Rattle.ring_records.specs.Snapshot.{flags, counts_bytes, state_bytes, 
 use crate::{Candidate, Key, KeyState, Msg, Summary};
 use std::alloc::{AllocError, Global};
 
-/// The length of its snapshot in bytes.
+/// The length of its snapshot in bytes, below 2^63 + 2^62.
 pub fn summary_len(summary: &Summary) -> u64
-    ensures { result ≡ snapshot_len summary.now }
+    ensures value { result ≡ snapshot_len summary.now }
+    ensures range { result < 2 ^ 63 + 2 ^ 62 }
 {
     38 + states_len(summary.keys.as_slice()) + messages_len(summary.window.as_slice())
 }
@@ -26,7 +27,8 @@ fn states_len(states: &[KeyState]) -> u64
     len
 }
 
-fn messages_len(messages: &[Msg]) -> u64
+/// The bytes that messages take in a snapshot.
+pub fn messages_len(messages: &[Msg]) -> u64
     ensures value { result ≡ sum_by msg_len messages.now }
     ensures bound { result ≤ 27 * length messages.now }
 {
@@ -37,8 +39,8 @@ fn messages_len(messages: &[Msg]) -> u64
     len
 }
 
-// The bytes that the state of a key takes in a snapshot, 7 to 31.
-fn state_len(state: &KeyState) -> u32
+/// The bytes that the state of a key takes in a snapshot, 7 to 31.
+pub fn state_len(state: &KeyState) -> u32
     ensures value { result ≡ state_len state.now }
     ensures range { result ≤ 31 }
 {
@@ -48,8 +50,8 @@ fn state_len(state: &KeyState) -> u32
     6 + name + (bid + leader)
 }
 
-// The bytes that a message takes in a snapshot, 12 to 27.
-fn msg_len(msg: &Msg) -> u32
+/// The bytes that a message takes in a snapshot, 12 to 27.
+pub fn msg_len(msg: &Msg) -> u32
     ensures value { result ≡ msg_len msg.now }
     ensures range { result ≤ 27 }
 {

@@ -21,12 +21,12 @@ pub(super) fn replay(
     inputs: &[Input],
 ) -> Result<(), Refusal>
     requires fresh { CoreStandsFor core.old [] }
-    requires empty { Holds core.old.table.me outbox.old [] 0 0 }
+    requires empty { Holds core.old.me outbox.old [] 0 0 }
     ensures stands { OnOk result (CoreStandsFor core.new inputs.now) }
-    ensures member { OnOk result ((core.new.table.me ≡ core.old.table.me) × (core.new.size ≡ core.old.size) × (core.new.capacity ≡ core.old.capacity)) }
+    ensures member { OnOk result ((core.new.me ≡ core.old.me) × (core.new.size ≡ core.old.size) × (core.new.capacity ≡ core.old.capacity)) }
     ensures lawful { OnOk result (IsHistory (member_of core.old) inputs.now) }
-    ensures holds { OnOk result (Holds core.old.table.me outbox.new inputs.now (length inputs.now) (length inputs.now)) }
-    ensures refusal { IfErr result (λ refusal. (refusal ≡ Refusal.OutOfMemory) ⊎ IsUnlawful (member core.old.table.me core.old.size core.old.capacity) inputs.now refusal) }
+    ensures holds { OnOk result (Holds core.old.me outbox.new inputs.now (length inputs.now) (length inputs.now)) }
+    ensures refusal { IfErr result (λ refusal. (refusal ≡ Refusal.OutOfMemory) ⊎ IsUnlawful (member core.old.me core.old.size core.old.capacity) inputs.now refusal) }
 {
     for i in 0..inputs.len() {
         let input = inputs[i];
@@ -54,10 +54,10 @@ pub(super) fn accept(
     requires free { IfSome input.now (λ x. refusal_by (member_of core.old) inputs.old.items x ≡ None) }
     ensures inputs { OnOk result (inputs.new.items ≡ inputs.old.items ++ cons_option input.now []) }
     ensures stands { CoreStandsFor core.new inputs.new.items }
-    ensures member { (core.new.table.me ≡ core.old.table.me) × (core.new.size ≡ core.old.size) × (core.new.capacity ≡ core.old.capacity) }
+    ensures member { (core.new.me ≡ core.old.me) × (core.new.size ≡ core.old.size) × (core.new.capacity ≡ core.old.capacity) }
     ensures lawful { OnOk result (IsHistory (member_of core.old) inputs.old.items → IsHistory (member_of core.old) inputs.new.items) }
-    ensures holds { (durable flying : ℕ) → durable ≤ length inputs.old.items → Holds core.old.table.me outbox.old inputs.old.items durable flying
-        → Holds core.old.table.me outbox.new inputs.new.items durable flying }
+    ensures holds { (durable flying : ℕ) → durable ≤ length inputs.old.items → Holds core.old.me outbox.old inputs.old.items durable flying
+        → Holds core.old.me outbox.new inputs.new.items durable flying }
     ensures err { OnErr result (inputs.new.items ≡ inputs.old.items) }
 {
     match input {
@@ -76,9 +76,9 @@ fn accept_one(
     requires free { refusal_by (member_of core.old) inputs.old.items input.now ≡ None }
     ensures inputs { OnOk result (inputs.new.items ≡ inputs.old.items ++ input.now ∷ []) }
     ensures stands { CoreStandsFor core.new inputs.new.items }
-    ensures member { (core.new.table.me ≡ core.old.table.me) × (core.new.size ≡ core.old.size) × (core.new.capacity ≡ core.old.capacity) }
-    ensures holds { (durable flying : ℕ) → durable ≤ length inputs.old.items → Holds core.old.table.me outbox.old inputs.old.items durable flying
-        → Holds core.old.table.me outbox.new inputs.new.items durable flying }
+    ensures member { (core.new.me ≡ core.old.me) × (core.new.size ≡ core.old.size) × (core.new.capacity ≡ core.old.capacity) }
+    ensures holds { (durable flying : ℕ) → durable ≤ length inputs.old.items → Holds core.old.me outbox.old inputs.old.items durable flying
+        → Holds core.old.me outbox.new inputs.new.items durable flying }
     ensures err { OnErr result (inputs.new.items ≡ inputs.old.items) }
 {
     inputs.reserve(1)?;

@@ -78,7 +78,7 @@ fn core_after(
 ) -> Result<NodeCore, AllocError>
     requires { IsHistory (member node n capacity) inputs.now }
     ensures stands { IfOk result (λ core. CoreStandsFor core inputs.now) }
-    ensures me { IfOk result (λ core. core.table.me ≡ node) }
+    ensures me { IfOk result (λ core. core.me ≡ node) }
     ensures ring { IfOk result (λ core. core.size ≡ n) }
     ensures capacity { IfOk result (λ core. core.capacity ≡ capacity) }
 {

@@ -11,4 +11,4 @@ returns-in-Some-clause-lawful c =
     let h = c.args.inputs.now.items in
     let x = c.in-Some.input in
     let free : refusal_by (member_of core) h x ≡ None = search rules in
-    ok_then c.accept_one.result (λ more lawful. subst (λ (l : List Input). IsHistory (member_of core) l) (sym more) (lawful_next core.table.me core.size core.capacity h x lawful free)) c.accept_one.ensures.inputs
+    ok_then c.accept_one.result (λ more lawful. subst (λ (l : List Input). IsHistory (member_of core) l) (sym more) (lawful_next core.me core.size core.capacity h x lawful free)) c.accept_one.ensures.inputs

@@ -5,5 +5,5 @@ use Rattle.group_commit.proofs.desk.parts.replay.Given as goal
 
 abbrev pub invariant-loop-i : goal.invariant-loop-i
 invariant-loop-i l =
-    Opens l.core l.fn.core.table.me l.fn.core.size l.fn.core.capacity l.inputs l.i
-    × Holds l.fn.core.table.me l.outbox (take l.i l.inputs) (length (take l.i l.inputs)) (length (take l.i l.inputs))
+    Opens l.core l.fn.core.me l.fn.core.size l.fn.core.capacity l.inputs l.i
+    × Holds l.fn.core.me l.outbox (take l.i l.inputs) (length (take l.i l.inputs)) (length (take l.i l.inputs))

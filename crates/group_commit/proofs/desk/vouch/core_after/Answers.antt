@@ -2,6 +2,7 @@ use Rattle.std.proofs.Common.{rules, List, [], ◌∷◌, ◌++◌, take}
 use Rattle.ring_records.specs.declared.input.Input.{Input}
 use Rattle.ring_records.proofs.LookBack.{IsItem}
 use Rattle.node_core.specs.Core.{CoreStandsFor}
+use Rattle.node_core.proofs.Histories.{admitted}
 use Rattle.group_commit.proofs.Opening.{lawful_at, opens_for, opens_none, opens_next}
 use Rattle.group_commit.proofs.desk.vouch.core_after.Goals as goal
 
@@ -13,7 +14,8 @@ apply-requires c =
     let x = c.index-inputs-i.result in
     let item : IsItem c.args.inputs.now c.loop-i.i x = record { within = c.loop-i-test.true; is = c.index-inputs-i.is } in
     let free = lawful_at c.args.node c.args.n c.args.capacity c.args.inputs.now c.loop-i.i x c.requires item in
-    (take c.loop-i.i c.args.inputs.now, c.loop-i.invariant.stands, opens_for c.loop-i.core c.args.node c.args.n c.args.capacity c.args.inputs.now c.loop-i.i x c.loop-i.invariant free)
+    admitted c.loop-i.core (take c.loop-i.i c.args.inputs.now) x c.loop-i.invariant.stands
+    (opens_for c.loop-i.core c.args.node c.args.n c.args.capacity c.args.inputs.now c.loop-i.i x c.loop-i.invariant free)
 
 pub loop-i-preserved : goal.loop-i-preserved
 loop-i-preserved c =

@@ -1,13 +1,43 @@
-use Rattle.std.proofs.Common.{◌+◌, ◌<◌, ◌≤◌, subst, sym, ap, ◌∙◌}
+use Rattle.std.proofs.Common.{rules, ◌≡◌, ◌∙◌, Some, None, true, false, sym, subst}
+use Rattle.ring_records.specs.declared.refusal.Refusal.TheVariants as refused
+use Rattle.ring_records.specs.Known.{Objects}
 use Rattle.node_core.specs.Core.{CoreView}
-use Rattle.node_core.proofs.Cores.{refused_before, refused_last, not_refused}
+use Rattle.node_core.proofs.Histories.{refused-is}
+use Rattle.node_core.proofs.Refusals.{refuses_first, refuses_last}
 use Rattle.node_core.proofs.node.NodeCore.admit.Goals as goal
 
-pub returns-in-Some : goal.returns-in-Some
-returns-in-Some c = λ h s. refused_before _ _ _ h _ _ (sym c.in-Some.is ∙ c.objection.ensures h s)
+pub returns-in-Some-clause-value : goal.returns-in-Some-clause-value
+returns-in-Some-clause-value c =
+    let said = subst (λ (v : CoreView). Objects v.size v.known c.args.input.now c.objection.result) c.self.view_is c.objection.ensures in
+    refuses_first c.args.self.now c.args.input.now c.objection.result _ said c.in-Some.is
 
-pub returns-then-self-cost : goal.returns-then-self-cost
-returns-then-self-cost c = λ h s. refused_last _ _ _ h _ _ _ (sym c.in_default.is ∙ c.objection.ensures h s) (ap (λ (core : CoreView). core.used) c.self.view_is ∙ s.used) c.cost.ensures.value (subst (λ (core : CoreView). core.capacity < c.self.inside.used + c.cost.result) c.self.view_is c.if-self-cost.true)
+pub returns-in-Some-clause-known : goal.returns-in-Some-clause-known
+returns-in-Some-clause-known c = λ h s.
+    let said = subst (λ (v : CoreView). Objects v.size v.known c.args.input.now c.objection.result) c.self.view_is c.objection.ensures in
+    refused-is c.args.self.now h c.args.input.now _ s (refuses_first c.args.self.now c.args.input.now c.objection.result _ said c.in-Some.is)
 
-pub returns : goal.returns
-returns c = λ h s. not_refused _ _ _ h _ _ _ (sym c.in_default.is ∙ c.objection.ensures h s) (ap (λ (core : CoreView). core.used) c.self.view_is ∙ s.used) c.cost.ensures.value (subst (λ (core : CoreView). c.self.inside.used + c.cost.result ≤ core.capacity) c.self.view_is c.if-self-cost.false)
+pub returns-then-is_short-clause-value : goal.returns-then-is_short-clause-value
+returns-then-is_short-clause-value c =
+    let said = subst (λ (v : CoreView). Objects v.size v.known c.args.input.now c.objection.result) c.self.view_is c.objection.ensures in
+    let short : c.is_short.result ≡ true = search rules in
+    refuses_last c.args.self.now c.args.input.now c.objection.result c.cost.result true said c.in_default.is c.cost.ensures.value (sym short ∙ c.is_short.ensures)
+
+pub returns-then-is_short-clause-known : goal.returns-then-is_short-clause-known
+returns-then-is_short-clause-known c = λ h s.
+    let said = subst (λ (v : CoreView). Objects v.size v.known c.args.input.now c.objection.result) c.self.view_is c.objection.ensures in
+    let short : c.is_short.result ≡ true = search rules in
+    refused-is c.args.self.now h c.args.input.now (Some refused.Full) s
+    (refuses_last c.args.self.now c.args.input.now c.objection.result c.cost.result true said c.in_default.is c.cost.ensures.value (sym short ∙ c.is_short.ensures))
+
+pub returns-clause-value : goal.returns-clause-value
+returns-clause-value c =
+    let said = subst (λ (v : CoreView). Objects v.size v.known c.args.input.now c.objection.result) c.self.view_is c.objection.ensures in
+    let short : c.is_short.result ≡ false = search rules in
+    refuses_last c.args.self.now c.args.input.now c.objection.result c.cost.result false said c.in_default.is c.cost.ensures.value (sym short ∙ c.is_short.ensures)
+
+pub returns-clause-known : goal.returns-clause-known
+returns-clause-known c = λ h s.
+    let said = subst (λ (v : CoreView). Objects v.size v.known c.args.input.now c.objection.result) c.self.view_is c.objection.ensures in
+    let short : c.is_short.result ≡ false = search rules in
+    refused-is c.args.self.now h c.args.input.now None s
+    (refuses_last c.args.self.now c.args.input.now c.objection.result c.cost.result false said c.in_default.is c.cost.ensures.value (sym short ∙ c.is_short.ensures))

@@ -1,29 +1,81 @@
-use Rattle.std.proofs.Common.{◌≡◌, ◌+◌, List, None, refl, sym, ap, subst, arith}
+use Rattle.std.proofs.Common.{◌≡◌, ◌+◌, ◌≤◌, ◌∙◌, None, sym, ap, subst, arith}
 use Rattle.ring_records.specs.declared.input.Input.{Input}
-use Rattle.ring_records.specs.Member.{refusal_by}
-use Rattle.node_core.specs.Core.{CoreView, CoreStandsFor, member_of}
-use Rattle.node_core.proofs.Accepts.{admitted, has_room, kept, core_next}
+use Rattle.ring_records.specs.declared.summary.Summary.{Summary}
+use Rattle.ring_records.specs.Admission.{cost}
+use Rattle.ring_records.specs.Known.{Objects, sends}
+use Rattle.node_core.specs.declared.effects.Effects.{Effects}
+use Rattle.node_core.specs.Brought.{brought}
+use Rattle.node_core.specs.Core.{CoreView, FreeView}
+use Rattle.node_core.proofs.Histories.{carries, decides, goes_on}
+use Rattle.node_core.proofs.Measures.{acked_within, few_inputs, measured_next, one_more, within_next}
+use Rattle.node_core.proofs.Refusals.{objects_none, fits, stepped_core}
 use Rattle.node_core.proofs.node.NodeCore.apply.Goals as goal
 
-abbrev Admits : Input → CoreView → Type 0
-Admits x core = (h : List Input) × CoreStandsFor core h × (refusal_by (member_of core) h x ≡ None)
+pub freed-requires : goal.freed-requires
+freed-requires c = λ upto is.
+    let free = subst (λ (v : CoreView). Objects v.size v.known c.args.input None) (sym c.self.view_is) (objects_none c.args.self.now c.args.input c.requires) in
+    acked_within c.self.inside.core.size c.self.inside.core.known upto (subst (λ (x : Input). Objects c.self.inside.core.size c.self.inside.core.known x None) is free)
 
-pub accept-requires-clause-allowed : goal.accept-requires-clause-allowed
-accept-requires-clause-allowed c = admitted _ c.reserve.new.self.link c.args.input c.reserve.ensures.same (subst (Admits c.args.input) (sym c.self.view_is) c.requires)
+pub apply-requires : goal.apply-requires
+apply-requires c = subst (λ (v : CoreView). Objects v.size v.known c.args.input None) (sym c.self.view_is) (objects_none c.args.self.now c.args.input c.requires)
 
 pub overflow_add-self : goal.overflow_add-self
 overflow_add-self c =
-    let few = (has_room _ c.args.input (subst (Admits c.args.input) (sym c.self.view_is) c.requires)).0 in
+    let free = subst (λ (v : CoreView). Objects v.size v.known c.args.input None) (sym c.self.view_is) (objects_none c.args.self.now c.args.input c.requires) in
+    let few = few_inputs c.self.inside.core.size c.self.inside.core.known c.args.input free in
+    let short = c.self.invariant.short in
+    let a = c.len_at-2.ensures.range in
+    let b = c.len_on.ensures.range in
+    omega arith
+
+pub overflow_sub-self : goal.overflow_sub-self
+overflow_sub-self c =
+    let next = ap (λ (v : FreeView). v.known) c.in_ok-effects.ensures.steps in
+    let law = measured_next c.self.inside.core.me c.self.inside.core.known c.apply.new.self.known c.args.input c.self.inside.snapshot (c.len_at.result + c.freed.result) (c.len_at-2.result + c.len_on.result)
+    next c.self.invariant.exact (λ i. c.len_at.ensures.value i + c.freed.ensures.value i)
+    (λ i. c.len_at-2.ensures.value i + c.len_on.ensures.value _ (sends c.self.inside.core.me c.self.inside.core.known c.args.input) c.in_ok-effects.ensures.brings i) in
     omega arith
 
 pub overflow_add-self-2 : goal.overflow_add-self-2
 overflow_add-self-2 c =
-    let fits = (has_room _ c.args.input (subst (Admits c.args.input) (sym c.self.view_is) c.requires)).1 in
+    let fit : c.self.inside.used + cost c.args.input ≤ c.self.inside.capacity = subst (λ (v : CoreView). v.used + cost c.args.input ≤ v.capacity) (sym c.self.view_is) (fits c.args.self.now c.args.input c.requires) in
     let is = c.cost-cost.ensures.value in
     let ranges = c.self.ranges in
     omega arith
 
+pub invariant_of-self-2 : goal.invariant_of-self-2
+invariant_of-self-2 c =
+    let free = subst (λ (v : CoreView). Objects v.size v.known c.args.input None) (sym c.self.view_is) (objects_none c.args.self.now c.args.input c.requires) in
+    let next = ap (λ (v : FreeView). v.known) c.in_ok-effects.ensures.steps in
+    let law = measured_next c.self.inside.core.me c.self.inside.core.known c.apply.new.self.known c.args.input c.self.inside.snapshot (c.len_at.result + c.freed.result) (c.len_at-2.result + c.len_on.result)
+    next c.self.invariant.exact (λ i. c.len_at.ensures.value i + c.freed.ensures.value i)
+    (λ i. c.len_at-2.ensures.value i + c.len_on.ensures.value _ (sends c.self.inside.core.me c.self.inside.core.known c.args.input) c.in_ok-effects.ensures.brings i) in
+    let more : c.apply.new.self.known.inputs ≡ c.self.inside.core.known.inputs + 1 = ap (λ (s : Summary). s.inputs) next ∙ one_more c.self.inside.core.me c.self.inside.core.known c.args.input in
+    let short = c.self.invariant.short in
+    let a = c.len_at-2.ensures.range in
+    let b = c.len_on.ensures.range in
+    record {
+      exact = omega arith;
+      within = subst (λ (s : Summary). s.credit ≤ s.sent) (sym next) (within_next c.self.inside.core.me c.self.inside.core.size c.self.inside.core.known c.args.input free c.self.invariant.within);
+      short = omega arith;
+    }
+
+pub returns-clause-steps : goal.returns-clause-steps
+returns-clause-steps c = stepped_core c.args.self.now c.self.inside.core c.apply.new.self c.self.inside.capacity c.self.inside.used _ c.args.input c.self.view_is c.in_ok-effects.ensures.steps c.cost-cost.ensures.value
+
+pub returns-clause-brings : goal.returns-clause-brings
+returns-clause-brings c = c.in_ok-effects.ensures.brings ∙ ap (λ (v : CoreView). brought v.me v.known c.args.input) c.self.view_is
+
+pub returns-clause-carry : goal.returns-clause-carry
+returns-clause-carry c = λ h s.
+    ap (λ (e : Effects). e.carry) (c.in_ok-effects.ensures.brings ∙ ap (λ (v : CoreView). brought v.me v.known c.args.input) c.self.view_is) ∙ carries c.args.self.now h c.args.input s
+
+pub returns-clause-decided : goal.returns-clause-decided
+returns-clause-decided c = λ h s.
+    ap (λ (e : Effects). e.decided) (c.in_ok-effects.ensures.brings ∙ ap (λ (v : CoreView). brought v.me v.known c.args.input) c.self.view_is) ∙ decides c.args.self.now h c.args.input s
+
 pub returns-clause-stands : goal.returns-clause-stands
 returns-clause-stands c = λ h s.
-    let was = subst (λ (core : CoreView). CoreStandsFor core h) (sym c.self.view_is) s in
-    core_next _ _ h c.args.input was (c.in_ok-effects.ensures.keeps h (kept _ c.reserve.new.self.link h c.reserve.ensures.same was)) (c.in_ok-effects.ensures.expected h was.expected) refl (ap (λ n. c.self.inside.used + n) c.cost-cost.ensures.value)
+    goes_on c.args.self.now _ h c.args.input
+    (stepped_core c.args.self.now c.self.inside.core c.apply.new.self c.self.inside.capacity c.self.inside.used _ c.args.input c.self.view_is c.in_ok-effects.ensures.steps c.cost-cost.ensures.value)
+    (subst (λ (v : CoreView). v.known.credit ≤ v.known.sent) c.self.view_is c.self.invariant.within) c.requires s

@@ -1,16 +1,21 @@
-use Rattle.std.proofs.Common.{refl}
+use Rattle.std.proofs.Common.{◌≡◌, ◌≤◌, refl, sym, ap, ◌∙◌, subst, arith}
 use Rattle.ring_records.specs.Admission.{used}
-use Rattle.ring_records.specs.History.{taken, credit}
-use Rattle.ring_records.specs.Emission.{sent}
-use Rattle.ring_records.specs.Lists.{found_after}
+use Rattle.ring_records.specs.Snapshot.{snapshot_len}
+use Rattle.ring_records.specs.Summary.{empty}
+use Rattle.ring_records.proofs.Snapshots.{length-empty}
+use Rattle.ring_records.proofs.Sound.{summary-none}
+use Rattle.node_core.specs.Core.{FreeView}
 use Rattle.node_core.proofs.node.NodeCore.new.Goals as goal
 
+pub invariant_of-result : goal.invariant_of-result
+invariant_of-result c =
+    let same : c.new.result.known ≡ empty = ap (λ (v : FreeView). v.known) c.new.ensures in
+    let len = ap snapshot_len same ∙ length-empty in
+    record { exact = sym len; within = subst (λ s. s.credit ≤ s.sent) (sym same) (omega arith); short = omega arith }
+
 pub returns-clause-empty : goal.returns-clause-empty
-unfolding used taken sent credit found_after
+unfolding used
 returns-clause-empty c = record {
-  table = c.new.ensures.empty;
-  out = c.new-2.ensures.stands;
-  expected = c.new-3.ensures;
-  inputs = refl;
-  used = refl;
+  knows = ap (λ (v : FreeView). v.known) c.new.ensures ∙ sym (summary-none c.new.result.me);
+  bytes = refl;
 }

@@ -1,0 +1,123 @@
+-- What a core does whose history is told: its clauses over histories, from what it knows.
+use Rattle.std.proofs.Common.{ℕ, ◌≡◌, ◌+◌, ◌≤◌, Bool, true, false, cond, ◌&&◌, eqb, not, List, [], ◌∷◌, ◌++◌, length, Option, Some, None, refl, sym, ap, subst, ◌∙◌}
+use Rattle.std.specs.Prelude.{is_none, nat_lt}
+use Rattle.std.specs.Option.{option_map}
+use Rattle.ring_records.specs.declared.candidate.Candidate.{Candidate}
+use Rattle.ring_records.specs.declared.input.Input.{Input}
+use Rattle.ring_records.specs.declared.input.Input.TheVariants.{Stand, Take, Acked}
+use Rattle.ring_records.specs.declared.key.Key.{Key}
+use Rattle.ring_records.specs.declared.msg.Msg.{Msg}
+use Rattle.ring_records.specs.declared.msg.Msg.TheVariants.{Token, Elected}
+use Rattle.ring_records.specs.declared.packet.Packet.TheVariants.{Carry}
+use Rattle.ring_records.specs.declared.refusal.Refusal.{Refusal}
+use Rattle.ring_records.specs.declared.refusal.Refusal.TheVariants as refused
+use Rattle.ring_records.specs.declared.summary.Summary.{Summary}
+use Rattle.ring_records.specs.Admission.{cost, where_so, objection, refusal, IsAllowed}
+use Rattle.ring_records.specs.Emission.{is_below, emit, sent, carry}
+use Rattle.ring_records.specs.History.{first_stand, stood}
+use Rattle.ring_records.specs.Known.{Objects, stepped, known_of, leader_of, leads_in}
+use Rattle.ring_records.specs.Leader.{IsLatest, is_bid, makes_leader, leader, latest, newly, decided}
+use Rattle.ring_records.specs.Lists.{or_else}
+use Rattle.ring_records.specs.Member.{refusal_by}
+use Rattle.ring_records.specs.Order.{is_key}
+use Rattle.ring_records.proofs.Admission.{or_else-none, objection-allowed, shortage-each}
+use Rattle.ring_records.proofs.Counts.{used-push, none-decided, shown-decided}
+use Rattle.ring_records.proofs.Keys.{is_key-same}
+use Rattle.ring_records.proofs.Known.{leader-known, sends-known, objects-known, objects-of, stepped-known}
+use Rattle.ring_records.proofs.Latest.{latest_is, latest_same, one_latest}
+use Rattle.node_core.specs.Brought.{told_by, brought}
+use Rattle.node_core.specs.Core.{CoreView, CoreStandsFor, Refuses, member_of}
+
+-- ---- what is refused
+
+pub refused-is : (core : CoreView) (h : List Input) (x : Input) (o : Option Refusal) → CoreStandsFor core h → Refuses core x o → o ≡ refusal_by (member_of core) h x
+unfolding refusal
+refused-is core h x o s (first, objects, e) =
+    let same = objects-known core.me core.size h x first (subst (λ (k : Summary). Objects core.size k x first) s.knows objects) in
+    e
+    ∙ ((λ i. or_else (same i) (where_so (nat_lt core.capacity (s.bytes i + cost x)) refused.Full))
+    ∙ ap (or_else (objection core.me core.size h x)) (sym (shortage-each core.capacity h x)))
+
+-- So a history in which an input is refused by nothing has it refused by nothing here.
+pub refused-of : (core : CoreView) (h : List Input) (x : Input) → CoreStandsFor core h → Refuses core x (refusal_by (member_of core) h x)
+unfolding refusal
+refused-of core h x s = (
+  objection core.me core.size h x,
+  subst (λ (k : Summary). Objects core.size k x (objection core.me core.size h x)) (sym s.knows) (objects-of core.me core.size h x),
+  ap (or_else (objection core.me core.size h x)) (shortage-each core.capacity h x)
+      ∙ (λ i. or_else (objection core.me core.size h x) (where_so (nat_lt core.capacity (sym s.bytes i + cost x)) refused.Full)),
+)
+
+pub admitted : (core : CoreView) (h : List Input) (x : Input) → CoreStandsFor core h → refusal_by (member_of core) h x ≡ None → Refuses core x None
+admitted core h x s free = subst (Refuses core x) free (refused-of core h x s)
+
+pub allowed : (core : CoreView) (h : List Input) (x : Input) → CoreStandsFor core h → Refuses core x None → IsAllowed core.me core.size h x
+unfolding refusal
+allowed core h x s r = objection-allowed core.me core.size h x (or_else-none _ _ (sym (refused-is core h x None s r))).0
+
+-- ---- what is brought
+
+-- an Elected goes on exactly where a leader becomes known
+token_told : (own bid below same : Bool) (known : Option Candidate) (key : Key) (c : Candidate) → same ≡ true
+    → told_by (cond own (cond (bid && is_none known) (Some (Elected key c)) None) (cond below (Some (Token key c)) None)) ≡ newly key known (or_else known (cond (same && own && bid) (Some c) None))
+token_told own bid below false known key c e = absurd cc
+token_told true true below true None key c e = refl
+token_told true true below true (Some d) key c e = refl
+token_told true false below true None key c e = refl
+token_told true false below true (Some d) key c e = refl
+token_told false bid true true None key c e = refl
+token_told false bid true true (Some d) key c e = refl
+token_told false bid false true None key c e = refl
+token_told false bid false true (Some d) key c e = refl
+
+elected_told : (own same : Bool) (known : Option Candidate) (key : Key) (c : Candidate) → same ≡ true
+    → told_by (cond (not own && is_none known) (Some (Elected key c)) None) ≡ newly key known (or_else known (cond (same && not own) (Some c) None))
+elected_told own false known key c e = absurd cc
+elected_told true true None key c e = refl
+elected_told true true (Some d) key c e = refl
+elected_told false true None key c e = refl
+elected_told false true (Some d) key c e = refl
+
+told : (me : ℕ) (h : List Input) (msg_no : ℕ) (msg : Msg) (on : Option Msg) → emit me h (Take msg_no msg) ≡ on → told_by on ≡ decided me h (Take msg_no msg)
+unfolding emit makes_leader stood
+told me h msg_no (Token key c) on e =
+    ap told_by (sym e)
+    ∙ (token_told (eqb c.node me) (is_bid (first_stand h key) c.bid) (is_below (first_stand h key) me c) (is_key key key) (leader me h key) key c (is_key-same key)
+    ∙ shown-decided me h msg_no (Token key c) key (leader me h key) (makes_leader me key h (Take 0 (Token key c))) refl refl refl)
+told me h msg_no (Elected key c) on e =
+    ap told_by (sym e)
+    ∙ (elected_told (eqb c.node me) (is_key key key) (leader me h key) key c (is_key-same key)
+    ∙ shown-decided me h msg_no (Elected key c) key (leader me h key) (makes_leader me key h (Take 0 (Elected key c))) refl refl refl)
+
+decided-sends : (me : ℕ) (h : List Input) (x : Input) → told_by (emit me h x) ≡ decided me h x
+unfolding emit decided
+decided-sends me h (Stand key bid) = sym (none-decided me h key bid)
+decided-sends me h (Take msg_no msg) = told me h msg_no msg (emit me h (Take msg_no msg)) refl
+decided-sends me h (Acked upto) = refl
+
+pub carries : (core : CoreView) (h : List Input) (x : Input) → CoreStandsFor core h → (brought core.me core.known x).carry ≡ carry core.me h x
+unfolding carry
+carries core h x s = ap (λ (k : Summary). (brought core.me k x).carry) s.knows ∙ ap (option_map (Carry (length (sent core.me h)))) (sends-known core.me h x)
+
+pub decides : (core : CoreView) (h : List Input) (x : Input) → CoreStandsFor core h → (brought core.me core.known x).decided ≡ decided core.me h x
+decides core h x s = ap (λ (k : Summary). (brought core.me k x).decided) s.knows ∙ (ap told_by (sends-known core.me h x) ∙ decided-sends core.me h x)
+
+-- ---- the next history
+
+pub goes_on : (core new : CoreView) (h : List Input) (x : Input) → new ≡ record core { known = stepped core.me core.known x; used = core.used + cost x } → core.known.credit ≤ core.known.sent → Refuses core x None → CoreStandsFor core h → CoreStandsFor new (h ++ x ∷ [])
+goes_on core new h x is within r s = subst (λ (c : CoreView). CoreStandsFor c (h ++ x ∷ [])) (sym is) (record {
+  knows = ap (λ (k : Summary). stepped core.me k x) s.knows
+      ∙ stepped-known core.me core.size h x (allowed core h x s r) (subst (λ (k : Summary). k.credit ≤ k.sent) s.knows within);
+  bytes = ap (λ n. n + cost x) s.bytes ∙ sym (used-push h x);
+})
+
+-- ---- who leads
+
+pub leads : (core : CoreView) (h : List Input) (key : Key) → CoreStandsFor core h → leader_of (known_of core.known key) ≡ leader core.me h key
+leads core h key s = ap (λ (k : Summary). leader_of (known_of k key)) s.knows ∙ leader-known core.me h key
+
+pub leads_last : (core : CoreView) (h : List Input) (group : List ℕ) (led : Option (ℕ × Candidate)) → CoreStandsFor core h → IsLatest (leads_in core.known group) led → led ≡ latest core.me h group
+leads_last core h group led s is =
+    one_latest (λ term. leader core.me h (record { group = group; term = term })) led (latest core.me h group)
+    (latest_same (leads_in core.known group) (λ term. leader core.me h (record { group = group; term = term })) (λ term. sym (leads core h (record { group = group; term = term }) s)) led is)
+    (latest_is core.me h group)

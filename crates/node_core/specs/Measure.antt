@@ -1,0 +1,33 @@
+-- How the length of a snapshot changes with an input.
+use Rattle.std.specs.Prelude.{ℕ, ◌-◌, take, Option, Some, None}
+use Rattle.std.specs.List.{sum_by}
+use Rattle.ring_records.specs.declared.input.Input.{Input}
+use Rattle.ring_records.specs.declared.input.Input.TheVariants.{Stand, Take, Acked}
+use Rattle.ring_records.specs.declared.key_state.KeyState.{KeyState}
+use Rattle.ring_records.specs.declared.msg.Msg.{Msg}
+use Rattle.ring_records.specs.declared.summary.Summary.{Summary}
+use Rattle.ring_records.specs.Known.{known_of}
+use Rattle.ring_records.specs.Message.{key_of}
+use Rattle.ring_records.specs.Snapshot.{state_len, msg_len}
+
+-- the bytes of the state of a key, where one is known
+abbrev pub len_of : Option KeyState → ℕ
+len_of None = 0
+len_of (Some s) = state_len s
+
+-- the bytes of the state of the key that the input names
+abbrev pub len_at : Summary → Input → ℕ
+len_at s (Stand key bid) = len_of (known_of s key)
+len_at s (Take msg_no msg) = len_of (known_of s (key_of msg))
+len_at s (Acked upto) = 0
+
+-- the bytes of the messages that the input takes out of the window
+abbrev pub freed : Summary → Input → ℕ
+freed s (Stand key bid) = 0
+freed s (Take msg_no msg) = 0
+freed s (Acked upto) = sum_by msg_len (take (upto - s.credit) s.window)
+
+-- the bytes of a message that is sent
+abbrev pub len_on : Option Msg → ℕ
+len_on None = 0
+len_on (Some msg) = msg_len msg

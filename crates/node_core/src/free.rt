@@ -1,0 +1,221 @@
+// A node by what it knows, whatever its journal has room for.
+ghost use Rattle.std.specs.Prelude.{◌≡◌, ◌≤◌, ℕ, ◌+◌, length, IfOk, OnOk, OnErr};
+ghost use Rattle.ring_records.specs.Known.{Objects, stepped, known_of, leader_of, leads_in};
+ghost use Rattle.ring_records.specs.Leader.{IsLatest};
+ghost use Rattle.ring_records.specs.Snapshot.{IsSound};
+ghost use Rattle.ring_records.specs.Summary.{empty};
+ghost use Rattle.node_core.specs.Brought.{brought};
+ghost use Rattle.node_core.specs.Core.{IsNodeOf};
+
+use crate::accept::accept;
+use crate::effects::Effects;
+use crate::judge::{against_acked, against_stand, against_take};
+use crate::ranges::look_at;
+use groups_terms::Table;
+use neighbour_link::{Inlink, Outlink};
+use ring_records::{
+    Candidate, GroupName, Input, Key, KeyState, Messages, Msg, NodeNo, Refusal, Summary, Term,
+};
+use std::alloc::{AllocError, Global};
+use std::marker::Model;
+
+/// A node of a ring, with no bound on the bytes of its journal: its ballots, its two links and a count, in place of
+/// the history of its accepted inputs. It is seen as what it knows of them, which may be that of no history.
+#[derive(Drop)]
+pub struct FreeCore {
+    size: u8,
+    table: Table,
+    outlink: Outlink,
+    inlink: Inlink,
+    // How many inputs it accepted.
+    inputs: u64,
+}
+
+impl Model for FreeCore {
+    ghost use Rattle.node_core.specs.Codes.{coded_free};
+    ghost use Rattle.node_core.specs.Core.{FreeView};
+    ghost use Rattle.node_core.specs.Kept.{known_with, IsCounted};
+
+    ghost Value = { FreeView };
+
+    ghost coded = { coded_free };
+
+    ghost view = { λ c. record { me = c.table.me; size = c.size; known = known_with c.inputs c.table c.outlink.link c.inlink } };
+
+    ghost invariant = { λ c. IsCounted c.table.me c.size (known_with c.inputs c.table c.outlink.link c.inlink) };
+}
+
+impl FreeCore {
+    /// Node `node` of a ring of `n` nodes, that has accepted nothing.
+    pub fn new(alloc: Global, node: NodeNo, n: u8) -> FreeCore
+        ensures { result ≡ record { me = node; size = n; known = empty } }
+    {
+        FreeCore {
+            size: n,
+            table: Table::new(alloc, node),
+            outlink: Outlink::new(alloc),
+            inlink: Inlink::new(),
+            inputs: 0,
+        }
+    }
+
+    /// Node `node` of a ring of `n` nodes, that knows this. The caller sees that it is sound. The error is that of the
+    /// allocator.
+    pub fn restore(
+        alloc: Global,
+        node: NodeNo,
+        n: u8,
+        from: &Summary,
+    ) -> Result<FreeCore, AllocError>
+        requires { IsSound n from.now }
+        ensures { IfOk result (λ core. core ≡ record { me = node; size = n; known = from.now }) }
+    {
+        Ok(FreeCore {
+            size: n,
+            table: Table::restore(alloc, node, &from.keys, from.stands as u32)?,
+            outlink: Outlink::restore(alloc, from.sent, from.window.as_slice())?,
+            inlink: Inlink::restore(from.taken),
+            inputs: from.inputs,
+        })
+    }
+
+    /// What it knows. The error is that of the allocator.
+    pub fn summary(&self, alloc: Global) -> Result<Summary, AllocError>
+        ensures value { IfOk result (λ given. given ≡ self.now.known) }
+        ensures sound { OnOk result (IsNodeOf self.now.size self.now.me → IsSound self.now.size self.now.known) }
+    {
+        Ok(Summary {
+            inputs: self.inputs,
+            taken: self.inlink.expected(),
+            credit: self.outlink.credited(),
+            sent: self.outlink.sent(),
+            stands: self.table.stands() as u16,
+            keys: self.table.key_states(alloc)?,
+            window: Messages::from_slice(alloc, self.outlink.window())?,
+        })
+    }
+
+    /// What is said against the input: the first cause that there is, as `NodeCore::admit` has them, the capacity aside.
+    pub fn objection(&self, input: &Input) -> Option<Refusal>
+        ensures { Objects self.now.size self.now.known input.now result }
+    {
+        match input {
+            Input::Stand { key, .. } => self.stand_objection(key),
+            Input::Take { no, msg } => against_take(self.size, &self.inlink, self.inputs, *no, msg),
+            Input::Acked { upto } => against_acked(&self.outlink, self.inputs, *upto),
+        }
+    }
+
+    /// Accepts an input to which `objection` has nothing: what it brings. An `Err` changes nothing.
+    pub fn apply(&mut self, input: Input) -> Result<Effects, AllocError>
+        requires { Objects self.old.size self.old.known input None }
+        ensures steps { OnOk result (self.new ≡ record self.old { known = stepped self.old.me self.old.known input }) }
+        ensures brings { IfOk result (λ effects. effects ≡ brought self.old.me self.old.known input) }
+        ensures err { OnErr result (self.new ≡ self.old) }
+    {
+        look_at(&input);
+        self.outlink.reserve(1)?;
+        let effects = accept(&mut self.table, &mut self.outlink, &mut self.inlink, input)?;
+        self.inputs += 1;
+        Ok(effects)
+    }
+
+    /// A core that knows the same.
+    pub fn try_copy(&self) -> Result<FreeCore, AllocError>
+        ensures { IfOk result (λ copy. copy ≡ self.now) }
+    {
+        Ok(FreeCore {
+            size: self.size,
+            table: self.table.try_copy()?,
+            outlink: self.outlink.try_copy()?,
+            inlink: self.inlink,
+            inputs: self.inputs,
+        })
+    }
+}
+
+impl FreeCore {
+    /// What it knows of the key, where an input named it.
+    pub fn state(&self, key: &Key) -> Option<KeyState>
+        ensures { result ≡ known_of self.now.known key.now }
+    {
+        match self.table.ballot(key) {
+            Some(ballot) => Some(KeyState {
+                key: *key,
+                stood: ballot.stood,
+                leader: ballot.leader,
+            }),
+            None => None,
+        }
+    }
+
+    /// The leader for the key, if one is known.
+    pub fn who(&self, key: &Key) -> Option<Candidate>
+        ensures { result ≡ leader_of (known_of self.now.known key.now) }
+    {
+        self.table.who(key)
+    }
+
+    /// The greatest term of the group with a known leader, and that leader.
+    pub fn latest(&self, group: &GroupName) -> Option<(Term, Candidate)>
+        ensures { IsLatest (leads_in self.now.known group.now) result }
+    {
+        self.table.latest(group)
+    }
+
+    /// How many inputs it accepted, at most 2^56.
+    pub fn inputs(&self) -> u64
+        ensures { result ≡ self.now.known.inputs }
+    {
+        self.inputs
+    }
+
+    /// How many messages it sent, no more than it accepted inputs.
+    pub fn sent(&self) -> u64
+        ensures value { result ≡ self.now.known.sent }
+        ensures few { result ≤ self.now.known.inputs }
+    {
+        self.outlink.sent()
+    }
+
+    /// How many messages it took, which is the number that it expects.
+    pub fn taken(&self) -> u64
+        ensures { result ≡ self.now.known.taken }
+    {
+        self.inlink.expected()
+    }
+
+    /// How many of its messages its successor is known to have taken.
+    pub fn credit(&self) -> u64
+        ensures { result ≡ self.now.known.credit }
+    {
+        self.outlink.credited()
+    }
+
+    /// The messages sent and not credited, oldest first.
+    pub fn window(&self) -> &[Msg]
+        ensures value { result.now ≡ self.now.known.window }
+        ensures count { self.now.known.sent ≡ self.now.known.credit + length result.now }
+    {
+        self.outlink.window()
+    }
+
+    /// How many Stands it made.
+    pub fn stands(&self) -> u32
+        ensures { result ≡ self.now.known.stands }
+    {
+        self.table.stands()
+    }
+
+    fn stand_objection(&self, key: &Key) -> Option<Refusal>
+        ensures { (n bid : ℕ) → Objects n self.now.known (Input.Stand key.now bid) result }
+    {
+        against_stand(
+            key.term,
+            self.table.ballot(key),
+            self.table.latest(&key.group),
+            self.table.stands(),
+            self.inputs,
+        )
+    }
+}

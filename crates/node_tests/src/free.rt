@@ -1,0 +1,66 @@
+// Each public call of a core that has no capacity, with ample memory.
+use crate::rows::{bid, candidate, input, key, msg, node};
+use node_core::{Effects, FreeCore};
+use ring_records::{KeyState, Packet, Refusal, read_summary, write_summary};
+use std::alloc::Global;
+use std::process::Abort;
+use test_rows::Note::{Elected, Token};
+use test_rows::Op::{self, Acked, Stand, Take};
+
+/// Accepts the input, which nothing is said against.
+fn accept(rt: &impl Abort, core: &mut FreeCore, op: Op) -> Effects {
+    let input = input(rt, op);
+    match core.objection(&input) {
+        None => core.apply(input).expect(rt, "ample memory"),
+        Some(refusal) => panic!(rt; "{refusal}"),
+    }
+}
+
+/// The core that is restored from the snapshot of what this one knows.
+fn restored(rt: &impl Abort, alloc: Global, core: &FreeCore) -> FreeCore {
+    let summary = core.summary(alloc).expect(rt, "ample memory");
+    assert!(rt; summary.keys.len() <= u32::MAX as usize, "few keys");
+    let bytes = write_summary(alloc, &summary).expect(rt, "ample memory");
+    match read_summary(alloc, &bytes, 3) {
+        Ok(from) => FreeCore::restore(alloc, node(rt, 2), 3, &from).expect(rt, "ample memory"),
+        Err(refusal) => panic!(rt; "{refusal}"),
+    }
+}
+
+/// It stood for red with a bid of 30, which came home; its two messages are in its window.
+fn has_won(rt: &impl Abort, core: &FreeCore) {
+    let (red, leader) = (key(rt, "red", 5), Some(candidate(rt, (30, 2))));
+    let stood = Some(bid(rt, 30));
+    assert_eq!(rt;
+        core.state(&red),
+        Some(KeyState {
+            key: red,
+            stood,
+            leader
+        })
+    );
+    assert_eq!(rt; core.state(&key(rt, "red", 4)), None);
+    assert_eq!(rt; core.who(&red), leader);
+    assert_eq!(rt; core.latest(&red.group).map(|led| led.1), leader);
+    assert_eq!(rt; (core.inputs(), core.sent(), core.taken()), (2, 2, 1));
+    assert_eq!(rt;
+        (core.credit(), core.stands(), core.window().len()),
+        (0, 1, 2)
+    );
+    let again = input(rt, Stand("red", 5, 31));
+    assert_eq!(rt; core.objection(&again), Some(Refusal::Already(bid(rt, 30))));
+}
+
+#[test]
+fn a_core_without_a_capacity_is_copied_and_restored(rt: HostRuntime) {
+    let mut core = FreeCore::new(rt.alloc(), node(&rt, 2), 3);
+    accept(&rt, &mut core, Stand("red", 5, 30));
+    let home = accept(&rt, &mut core, Take(0, Token("red", 5, 30, 2)));
+    let won = msg(&rt, Elected("red", 5, 30, 2));
+    assert_eq!(rt; home.carry, Some(Packet::Carry { no: 1, msg: won }));
+    let mut copy = core.try_copy().expect(&rt, "ample memory");
+    accept(&rt, &mut copy, Acked(2));
+    assert_eq!(rt; (copy.credit(), copy.window().len()), (2, 0));
+    has_won(&rt, &core);
+    has_won(&rt, &restored(&rt, rt.alloc(), &core));
+}

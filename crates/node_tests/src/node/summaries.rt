@@ -1,0 +1,151 @@
+// What a node knows, taken out as a summary and put back from its snapshot: the restored node judges, sends and answers
+// as the first one, and its snapshot has the same bytes.
+use super::*;
+use ring_records::{read_summary, write_summary};
+
+/// The snapshot of what the node knows, of the length that it tells.
+fn snapshot(rt: &impl Abort, alloc: Global, core: &NodeCore) -> Vec<u8> {
+    let summary = core.summary(alloc).expect(rt, "ample memory");
+    assert!(rt; summary.keys.len() <= u32::MAX as usize, "few keys");
+    let bytes = write_summary(alloc, &summary).expect(rt, "ample memory");
+    assert_eq!(rt; core.summary_len(), bytes.len() as u64);
+    bytes
+}
+
+/// Node 2 of three, with a capacity, as these bytes have it.
+fn restored(rt: &impl Abort, alloc: Global, capacity: u32, bytes: &[u8]) -> NodeCore {
+    let read = read_summary(alloc, bytes, 3);
+    match read {
+        Ok(from) => {
+            NodeCore::restore(alloc, node(rt, 2), 3, capacity, &from).expect(rt, "ample memory")
+        }
+        Err(refusal) => panic!(rt; "{refusal}"),
+    }
+}
+
+/// Inputs at the borders of what the histories below leave.
+const ASKED: [Op; 12] = [
+    Stand("red", 5, 31),
+    Stand("red", 4, 1),
+    Stand("red", 6, 1),
+    Stand("blue", 1, 9),
+    Stand("green", 1, 1),
+    Take(0, Token("red", 5, 40, 3)),
+    Take(1, Token("red", 5, 40, 3)),
+    Take(2, Elected("red", 5, 40, 3)),
+    Take(4, Elected("red", 5, 40, 4)),
+    Acked(0),
+    Acked(2),
+    Acked(9),
+];
+
+/// Both admit the same, and refuse the rest for the same causes.
+fn judge_alike(rt: &impl Abort, core: &NodeCore, other: &NodeCore) {
+    for op in ASKED {
+        let input = input(rt, op);
+        assert_eq!(rt; core.admit(&input), other.admit(&input));
+    }
+}
+
+/// Both show the same; of its capacity the restored one has taken the bytes of the snapshot.
+fn show_alike(rt: &impl Abort, core: &NodeCore, other: &NodeCore) {
+    let (mut here, there) = (counts(core), counts(other));
+    here.1 = core.summary_len();
+    assert_eq!(rt; here, there);
+    assert_eq!(rt; core.window(), other.window());
+    for (group, term) in [("red", 5), ("red", 4), ("blue", 1), ("green", 1)] {
+        let key = key(rt, group, term);
+        assert_eq!(rt; core.who(&key), other.who(&key));
+        assert_eq!(rt; core.latest(&key.group), other.latest(&key.group));
+    }
+}
+
+/// A restored node accepts the input too, and brings the same. From then on its snapshot stands for all its inputs.
+fn accepts_alike(rt: &impl Abort, alloc: Global, rig: &mut Rig, op: Op) {
+    let input = input(rt, op);
+    let bytes = snapshot(rt, alloc, &rig.core);
+    let mut other = restored(rt, alloc, 65_536, &bytes);
+    show_alike(rt, &rig.core, &other);
+    judge_alike(rt, &rig.core, &other);
+    let effects = rig.accept(rt, input);
+    assert_eq!(rt; accept(rt, &mut other, input), effects);
+    assert_eq!(rt; snapshot(rt, alloc, &other), snapshot(rt, alloc, &rig.core));
+    assert_eq!(rt; other.used(), bytes.len() as u64 + input.cost() as u64);
+    other.rebase();
+    show_alike(rt, &rig.core, &other);
+}
+
+fn accept(rt: &impl Abort, core: &mut NodeCore, input: Input) -> Result<Effects, Refusal> {
+    core.admit(&input)?;
+    Ok(core.apply(input).expect(rt, "ample memory"))
+}
+
+/// Each input of the history finds a node that is restored from its summary as good as the first one.
+fn goes_on(rt: &impl Abort, alloc: Global, ops: &[Op]) {
+    let mut rig = Rig::new(rt, alloc, 3, 65_536);
+    for op in ops {
+        accepts_alike(rt, alloc, &mut rig, *op);
+    }
+}
+
+#[test]
+fn a_restored_node_goes_on_as_the_first_one(rt: HostRuntime) {
+    let (own, won) = (Token("red", 5, 30, 2), Elected("red", 5, 30, 2));
+    let (relayed, told) = (Token("blue", 1, 7, 1), Elected("blue", 1, 9, 3));
+    let elected = [
+        Stand("red", 5, 30),
+        Take(0, Token("red", 5, 10, 1)),
+        Take(1, Token("red", 5, 40, 3)),
+        Take(2, own),
+        Acked(2),
+        Take(3, won),
+        Acked(3),
+    ];
+    let passed_on = [
+        Take(0, relayed),
+        Stand("blue", 2, 3),
+        Acked(1),
+        Take(1, told),
+        Acked(3),
+        Take(2, relayed),
+    ];
+    goes_on(&rt, rt.alloc(), &elected);
+    goes_on(&rt, rt.alloc(), &passed_on);
+}
+
+// 38 bytes of counts. A key takes 5 and its name, 1 for its flags, 4 for a bid and 5 for a leader, a message 11 and its
+// name.
+#[test]
+fn a_snapshot_has_the_bytes_of_its_keys_and_its_window(rt: HostRuntime) {
+    let own = Token("red", 5, 30, 2);
+    let rows = [
+        (Stand("red", 5, 30), 65),
+        (Take(0, Token("blue", 1, 7, 1)), 90),
+        (Acked(1), 76),
+        (Take(1, own), 95),
+        (Take(2, own), 95),
+        (Acked(3), 66),
+    ];
+    let mut rig = Rig::new(&rt, rt.alloc(), 3, 65_536);
+    assert_eq!(rt; rig.core.summary_len(), 38);
+    for (op, len) in rows {
+        rig.accept_all(&rt, &[op]);
+        assert_eq!(rt; rig.core.summary_len(), len);
+    }
+}
+
+#[test]
+fn a_snapshot_takes_its_bytes_of_the_capacity(rt: HostRuntime) {
+    let rig = Rig::after(&rt, rt.alloc(), 3, 65_536, &[Stand("red", 5, 30)]);
+    let bytes = snapshot(&rt, rt.alloc(), &rig.core);
+    let credit = input(&rt, Acked(1));
+    for (capacity, refused) in [
+        (64, Some(Refusal::Full)),
+        (80, Some(Refusal::Full)),
+        (81, None),
+    ] {
+        let core = restored(&rt, rt.alloc(), capacity, &bytes);
+        assert_eq!(rt; core.used(), 65);
+        assert_eq!(rt; core.admit(&credit).err(), refused);
+    }
+}
