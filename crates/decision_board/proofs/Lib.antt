@@ -1,4 +1,5 @@
 mod Adding
 mod Boards
 mod Maps
+mod Next
 mod Steps

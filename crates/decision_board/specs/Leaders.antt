@@ -1,7 +1,9 @@
 -- The leaders by key, as they are kept.
-use Rattle.std.specs.Prelude.{ℕ, ◌≡◌, ◌≤◌, if◌then◌else◌, List, Option, IsSome}
+use Rattle.std.specs.Prelude.{ℕ, ◌≡◌, ◌≤◌, if◌then◌else◌, List, Option, Some, None, IsSome}
 use Rattle.std.specs.Coded.{Coded}
 use Rattle.std.specs.FinMap as map
+use Rattle.std.specs.declared.ops.Bound.{Bound}
+use Rattle.std.specs.declared.ops.Bound.TheVariants.{Excluded, Unbounded}
 use Rattle.ring_records.specs.declared.candidate.Candidate.{Candidate}
 use Rattle.ring_records.specs.declared.decision.Decision.{Decision}
 use Rattle.ring_records.specs.declared.key.Key.{Key}
@@ -25,6 +27,11 @@ HaveTerms leaders = (key : Key) → IsSome (map.get leaders key) → HasTerm key
 -- the leaders of a group's terms
 abbrev pub leads : LeaderMap → List ℕ → ℕ → Option Candidate
 leads leaders group term = map.get leaders (record { group = group; term = term })
+
+-- where the keys of the groups behind a name begin
+abbrev pub start_of : Option (List ℕ) → Bound Key
+start_of None = Unbounded
+start_of (Some group) = Excluded (record { group = group; term = 999999999 })
 
 -- the first leader for a key stays
 abbrev pub put : LeaderMap → Key → Candidate → LeaderMap

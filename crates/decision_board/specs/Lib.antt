@@ -1,5 +1,6 @@
 pub mod Boards
 pub mod History
 pub mod Leaders
+pub mod Next
 pub mod Posts
 pub mod Stores

@@ -2,12 +2,27 @@
 ghost use Rattle.std.specs.Prelude.{◌≡◌, ℕ, OnOk, OnErr};
 ghost use Rattle.std.specs.FinMap as map;
 ghost use Rattle.ring_records.specs.Leader.{IsLatest};
-ghost use Rattle.decision_board.specs.Leaders.{leads, put};
+ghost use Rattle.decision_board.specs.Leaders.{leads, put, start_of};
+ghost use Rattle.decision_board.specs.Next.{IsFirstLed, IsNext};
 
-use ring_records::{Candidate, GroupName, Key, Term};
+use ring_records::{Candidate, Decision, GroupName, Key, Term};
 use std::alloc::{AllocError, Global};
 use std::collections::BTreeMap;
 use std::marker::Model;
+use std::ops::Bound;
+
+// Where the keys of the groups behind the name begin.
+fn start_of(after: Option<GroupName>) -> Bound<Key>
+    ensures { result ≡ start_of after }
+{
+    match after {
+        Some(group) => Bound::Excluded(Key {
+            group,
+            term: Term::last(),
+        }),
+        None => Bound::Unbounded,
+    }
+}
 
 /// The leaders, as a finite map from key to leader.
 #[derive(Drop)]
@@ -61,6 +76,27 @@ impl Leaders {
         };
         let (key, leader) = self.by_key.range(first..=last).next_back()?;
         Some((key.term, *leader))
+    }
+
+    // The first group behind the name that has a leader.
+    fn first_led(&self, after: Option<GroupName>) -> Option<GroupName>
+        ensures { IsFirstLed (leads self.now) after result }
+    {
+        let (key, _leader) = self
+            .by_key
+            .range((start_of(after), Bound::Unbounded))
+            .next()?;
+        Some(key.group)
+    }
+
+    /// The first group behind the name that has a leader, with its greatest term and that leader.
+    pub fn next(&self, after: Option<GroupName>) -> Option<Decision>
+        ensures { IsNext (leads self.now) after result }
+    {
+        let group = self.first_led(after)?;
+        let (term, leader) = self.latest(&group)?;
+        let key = Key { group, term };
+        Some(Decision { key, leader })
     }
 
     /// Puts the leader where the key has none. An `Err` changes nothing.

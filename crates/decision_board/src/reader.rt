@@ -6,6 +6,7 @@ ghost use Rattle.ring_records.specs.Content.{leader_in, leads_in, IsNotBelow};
 ghost use Rattle.ring_records.specs.Leader.{IsLatest};
 ghost use Rattle.ring_records.specs.declared.candidate.Candidate.{Candidate};
 ghost use Rattle.ring_records.specs.declared.refusal.Refusal.TheVariants.{NoPlace};
+ghost use Rattle.decision_board.specs.Next.{IsNext};
 ghost use Rattle.decision_board.specs.Boards.{seen, learned};
 
 use crate::history::{Front, Naming};
@@ -96,6 +97,27 @@ impl<J: Naming> BoardReader<J> {
         }
     }
 
+    /// The first group behind the name that has a leader, with its greatest term and that leader, in the list that is
+    /// seen then: all groups come, one by one, each behind the one before; refused as 20 after the board's end.
+    pub fn next_group(&mut self, after: Option<GroupName>) -> Result<Option<Decision>, Refusal>
+        ensures answer { IfOk result (λ a. IsNext (leads_in (seen self.new)) after a) }
+        ensures begins { IfOk result (λ _. IsPrefix (seen self.old) (seen self.new) × IsPrefix (learned self.old) (seen self.new)) }
+        ensures learned { learned self.new ≡ learned self.old }
+        ensures refused { IfErr result (λ e. (e ≡ NoPlace) × (self.new ≡ self.old)) }
+    {
+        match replace_with(&mut self.place, after, find_next::<J>) {
+            Some((next, front)) => {
+                // What is published never goes back, so it covers what was told.
+                if !front.covers(&self.learned) {
+                    return Err(Refusal::NoPlace);
+                }
+                self.seen = front;
+                Ok(next)
+            }
+            None => Err(Refusal::NoPlace),
+        }
+    }
+
     /// Learns what the board told. Each later read sees it.
     pub fn learn(&mut self, told: Told<J>)
         ensures seen { seen self.new ≡ seen self.old }
@@ -140,6 +162,24 @@ fn find_latest<J: Naming>(
             let latest = reading.get().latest(&group);
             let front = reading.get().front.again();
             (reading.leave(), Some((latest, front)))
+        }
+        Err(place) => (place, None),
+    }
+}
+
+// The first group behind the name that has a leader, and the list that names it.
+fn find_next<J: Naming>(
+    place: Place<J>,
+    after: Option<GroupName>,
+) -> (Place<J>, Option<(Option<Decision>, Front)>)
+    ensures { MatchOption result.1 (view result.0.place ≡ view place.place)
+        (λ a. IsNext (leads_in a.1.seen.log) after a.0 × (a.1.seen.book ≡ J.book) × (view result.0.place ≡ a.1.seen.log) × IsPrefix (view place.place) a.1.seen.log) }
+{
+    match place.enter_as::<Sees<J>>() {
+        Ok(reading) => {
+            let next = reading.get().next(after);
+            let front = reading.get().front.again();
+            (reading.leave(), Some((next, front)))
         }
         Err(place) => (place, None),
     }

@@ -4,6 +4,7 @@ ghost use Rattle.std.specs.FinMap as map;
 ghost use Rattle.ring_records.specs.Content.{leader_in, leads_in};
 ghost use Rattle.ring_records.specs.Leader.{IsLatest};
 ghost use Rattle.decision_board.specs.Leaders.{AreOf};
+ghost use Rattle.decision_board.specs.Next.{IsNext};
 ghost use Rattle.decision_board.specs.Stores.{after, state_of};
 
 use crate::history::Front;
@@ -53,6 +54,14 @@ impl Store {
         ensures { IsLatest (leads_in self.now.front.seen.log group.now) result }
     {
         self.leaders.latest(group)
+    }
+
+    /// The first group behind the name that has a leader, with its greatest term and that leader.
+    pub fn next(&self, after: Option<GroupName>) -> Option<Decision>
+        requires { AreOf self.now.leaders self.now.front.seen.log }
+        ensures { IsNext (leads_in self.now.front.seen.log) after result }
+    {
+        self.leaders.next(after)
     }
 
     /// Takes in the next decision. An `Err` changes nothing.
