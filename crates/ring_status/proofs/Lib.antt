@@ -1,0 +1,3 @@
+mod Appends
+mod Floats
+mod Names

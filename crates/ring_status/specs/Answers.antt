@@ -1,0 +1,52 @@
+-- The bytes of an answer.
+use Rattle.std.specs.Prelude.{ℕ, List, [], ◌++◌, length, codes}
+use Rattle.std.specs.Fmt.{decimal}
+use Rattle.ring_status.specs.declared.answer.Content.{Content}
+use Rattle.ring_status.specs.declared.answer.Content.TheVariants.{Text, Json, Metrics}
+use Rattle.ring_status.specs.declared.request.Method.{Method}
+use Rattle.ring_status.specs.declared.request.Method.TheVariants.{Get, Head}
+use Rattle.ring_status.specs.declared.status.Status.{Status}
+use Rattle.ring_status.specs.declared.status.Status.TheVariants as status
+
+abbrev pub status_line : Status → List ℕ
+status_line status.Found = codes "200 OK"
+status_line status.BadRequest = codes "400 Bad Request"
+status_line status.NotFound = codes "404 Not Found"
+status_line status.NotAllowed = codes "405 Method Not Allowed"
+status_line status.TooLarge = codes "431 Request Header Fields Too Large"
+status_line status.Unavailable = codes "503 Service Unavailable"
+
+abbrev pub content_text : Content → List ℕ
+content_text Text = codes "text/plain; charset=utf-8"
+content_text Json = codes "application/json"
+content_text Metrics = codes "text/plain; version=0.0.4; charset=utf-8"
+
+-- the field that a status has to have
+abbrev pub field_of : Status → List ℕ
+field_of status.Found = []
+field_of status.BadRequest = []
+field_of status.NotFound = []
+field_of status.NotAllowed = codes "Allow: GET, HEAD\r\n"
+field_of status.TooLarge = []
+field_of status.Unavailable = []
+
+unfoldable pub start_of : Status → Content → List ℕ
+start_of status content = codes "HTTP/1.1 " ++ status_line status ++ codes "\r\nContent-Type: " ++ content_text content ++ codes "\r\n"
+
+unfoldable pub fields_of : Status → ℕ → List ℕ
+fields_of status bytes = codes "Content-Length: " ++ decimal bytes ++ codes "\r\n" ++ field_of status
+
+unfoldable pub last_fields : List ℕ
+last_fields = codes "Cache-Control: no-store\r\nConnection: close\r\n\r\n"
+
+-- the head of an answer, whose body has so many bytes
+abbrev pub head_text : Status → Content → ℕ → List ℕ
+head_text status content bytes = start_of status content ++ fields_of status bytes ++ last_fields
+
+-- what is sent of a body
+abbrev pub sent : Method → List ℕ → List ℕ
+sent Get body = body
+sent Head body = []
+
+unfoldable pub answer : Method → Status → Content → List ℕ → List ℕ
+answer method status content body = head_text status content (length body) ++ sent method body

@@ -1,0 +1,92 @@
+-- What is told as JSON. The members stand in the order of their names.
+use Rattle.std.specs.Prelude.{ℕ, Bool, List, map, codes}
+use Rattle.serde_json.specs.Data.{Data, array, boolean, member, no_members, number, object, string, unsigned}
+use Rattle.serde_json.specs.View.{items_of}
+use Rattle.ring_records.specs.declared.decision.Decision.{Decision}
+use Rattle.ring_status.specs.declared.values.Condition.{Condition}
+use Rattle.ring_status.specs.declared.values.Condition.TheVariants.{Well, Limit, Full, Failed}
+use Rattle.ring_status.specs.declared.values.NodeStatus.{NodeStatus}
+use Rattle.ring_status.specs.declared.values.RefusalCount.{RefusalCount}
+use Rattle.ring_status.specs.declared.values.RingStatus.{RingStatus}
+
+abbrev pub natural : ℕ → Data
+natural n = number (unsigned n)
+
+-- one for each, in their order
+abbrev pub each : {A : Type 0} → (A → Data) → List A → Data
+each data_of xs = array (items_of (map data_of xs))
+
+-- ---- a node
+
+abbrev pub condition_text : Condition → List ℕ
+condition_text Well = codes "well"
+condition_text Limit = codes "limit"
+condition_text Full = codes "full"
+condition_text Failed = codes "failed"
+
+abbrev pub refusal_data : RefusalCount → Data
+refusal_data told = object (member (codes "count") (natural told.count) (member (codes "number") (natural told.number) no_members))
+
+abbrev pub journal_data : NodeStatus → Data
+journal_data node = object
+    (member (codes "batches") (natural node.batches)
+    (member (codes "capacity") (natural node.capacity)
+    (member (codes "durable") (natural (node.shown).durable)
+    (member (codes "inputs") (natural (node.shown).inputs)
+    (member (codes "syncs") (natural node.syncs)
+    (member (codes "used") (natural node.used) no_members))))))
+
+abbrev pub messages_data : NodeStatus → Data
+messages_data node = object
+    (member (codes "credit") (natural (node.shown).credit)
+    (member (codes "sent") (natural (node.shown).sent)
+    (member (codes "taken") (natural (node.shown).taken)
+    (member (codes "waiting") (natural node.letters) no_members))))
+
+abbrev pub sessions_data : NodeStatus → Data
+sessions_data node = object
+    (member (codes "begun") (natural node.sessions)
+    (member (codes "busy") (natural node.busy)
+    (member (codes "doors") (natural node.doors)
+    (member (codes "refusals") (each refusal_data (node.refusals).items) no_members))))
+
+abbrev pub stands_data : NodeStatus → Data
+stands_data node = object (member (codes "left") (natural node.stands_left) (member (codes "taken") (natural node.stands) no_members))
+
+abbrev pub node_data : NodeStatus → Data
+node_data node = object
+    (member (codes "journal") (journal_data node)
+    (member (codes "messages") (messages_data node)
+    (member (codes "node") (natural node.node)
+    (member (codes "port") (natural node.port)
+    (member (codes "sessions") (sessions_data node)
+    (member (codes "stands") (stands_data node)
+    (member (codes "state") (string (condition_text node.condition)) no_members)))))))
+
+-- ---- the ring
+
+unfoldable pub status_data : RingStatus → Data
+status_data ring = object
+    (member (codes "dir") (string (ring.dir).now)
+    (member (codes "nodes") (each node_data (ring.nodes).now)
+    (member (codes "started") (natural ring.started)
+    (member (codes "version") (string (ring.version).now) no_members))))
+
+-- ---- leaders
+
+abbrev pub lead_data : Decision → Data
+lead_data lead = object
+    (member (codes "bid") (natural (lead.leader).bid)
+    (member (codes "group") (string (lead.key).group)
+    (member (codes "node") (natural (lead.leader).node)
+    (member (codes "term") (natural (lead.key).term) no_members))))
+
+-- a page by the board of a node, and whether more groups stand behind it
+unfoldable pub leaders_data : ℕ → List Decision → Bool → Data
+leaders_data node leads more = object
+    (member (codes "by") (natural node)
+    (member (codes "leaders") (each lead_data leads)
+    (member (codes "more") (boolean more) no_members)))
+
+unfoldable pub latest_data : ℕ → Decision → Data
+latest_data node lead = object (member (codes "by") (natural node) (member (codes "leader") (lead_data lead) no_members))

@@ -1,0 +1,32 @@
+-- Whether each node takes what it should.
+use Rattle.std.specs.Prelude.{ℕ, Bool, true, false, if◌then◌else◌, List, [], ◌++◌, codes}
+use Rattle.std.specs.Fmt.{decimal}
+use Rattle.std.specs.List.{flat_map, list_all}
+use Rattle.ring_status.specs.declared.values.Condition.{Condition}
+use Rattle.ring_status.specs.declared.values.Condition.TheVariants.{Well, Limit, Full, Failed}
+use Rattle.ring_status.specs.declared.values.NodeStatus.{NodeStatus}
+
+abbrev pub takes : Condition → Bool
+takes Well = true
+takes Limit = false
+takes Full = false
+takes Failed = false
+
+abbrev pub is_well : NodeStatus → Bool
+is_well node = takes node.condition
+
+abbrev pub all_well : List NodeStatus → Bool
+all_well nodes = list_all is_well nodes
+
+-- the line of a node that does not take what it should
+abbrev pub line_for : ℕ → Condition → List ℕ
+line_for node Well = []
+line_for node Limit = codes "node " ++ decimal node ++ codes " limit\n"
+line_for node Full = codes "node " ++ decimal node ++ codes " full\n"
+line_for node Failed = codes "node " ++ decimal node ++ codes " failed\n"
+
+abbrev pub fault_text : NodeStatus → List ℕ
+fault_text node = line_for node.node node.condition
+
+unfoldable pub health_body : List NodeStatus → List ℕ
+health_body nodes = if all_well nodes then codes "well\n" else flat_map fault_text nodes

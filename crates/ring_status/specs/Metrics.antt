@@ -1,0 +1,154 @@
+-- The text for Prometheus.
+use Rattle.std.specs.Prelude.{ℕ, List, [], ◌∷◌, ◌++◌, codes}
+use Rattle.std.specs.Fmt.{decimal}
+use Rattle.std.specs.List.{flat_map}
+use Rattle.ring_status.specs.declared.metric.Metric.{Metric}
+use Rattle.ring_status.specs.declared.metric.Metric.TheVariants as of
+use Rattle.ring_status.specs.declared.values.Condition.{Condition}
+use Rattle.ring_status.specs.declared.values.Condition.TheVariants.{Well, Limit, Full, Failed}
+use Rattle.ring_status.specs.declared.values.NodeStatus.{NodeStatus}
+use Rattle.ring_status.specs.declared.values.RefusalCount.{RefusalCount}
+
+-- ---- what is measured
+
+abbrev pub name_text : Metric → List ℕ
+name_text of.Failed = codes "cinoweta_node_failed"
+name_text of.Full = codes "cinoweta_node_full"
+name_text of.AtLimit = codes "cinoweta_node_at_limit"
+name_text of.Inputs = codes "cinoweta_inputs_total"
+name_text of.Durable = codes "cinoweta_durable_inputs_total"
+name_text of.Sent = codes "cinoweta_messages_sent_total"
+name_text of.Taken = codes "cinoweta_messages_taken_total"
+name_text of.Credit = codes "cinoweta_messages_credited_total"
+name_text of.Used = codes "cinoweta_journal_used_bytes"
+name_text of.Capacity = codes "cinoweta_journal_capacity_bytes"
+name_text of.Stands = codes "cinoweta_stands_total"
+name_text of.StandsLeft = codes "cinoweta_stands_left"
+name_text of.Batches = codes "cinoweta_batches_total"
+name_text of.Syncs = codes "cinoweta_syncs_total"
+name_text of.Sessions = codes "cinoweta_sessions_total"
+name_text of.Doors = codes "cinoweta_doors"
+name_text of.BusyDoors = codes "cinoweta_doors_busy"
+name_text of.Letters = codes "cinoweta_letters_waiting"
+
+abbrev pub help_text : Metric → List ℕ
+help_text of.Failed = codes "Whether the node failed."
+help_text of.Full = codes "Whether the node has no room for a Stand or a message."
+help_text of.AtLimit = codes "Whether the node has taken all Stands that it may."
+help_text of.Inputs = codes "Inputs that the node accepted."
+help_text of.Durable = codes "Inputs of the node that are durable."
+help_text of.Sent = codes "Messages that the node sent to its successor."
+help_text of.Taken = codes "Messages of its predecessor that the node took."
+help_text of.Credit = codes "Messages that the successor credited."
+help_text of.Used = codes "Bytes of its capacity that the node's inputs take."
+help_text of.Capacity = codes "Bytes of inputs that the node takes."
+help_text of.Stands = codes "Stands that the node took."
+help_text of.StandsLeft = codes "Stands that the node may still take."
+help_text of.Batches = codes "Batches that the node wrote since the start."
+help_text of.Syncs = codes "Syncs of its device since the start."
+help_text of.Sessions = codes "Sessions begun at the node since the start."
+help_text of.Doors = codes "Doors of the node."
+help_text of.BusyDoors = codes "Doors of the node that serve a session."
+help_text of.Letters = codes "Messages in the node's letterbox."
+
+-- a counter never goes down but at a start
+abbrev pub kind_text : Metric → List ℕ
+kind_text of.Failed = codes "gauge"
+kind_text of.Full = codes "gauge"
+kind_text of.AtLimit = codes "gauge"
+kind_text of.Inputs = codes "counter"
+kind_text of.Durable = codes "counter"
+kind_text of.Sent = codes "counter"
+kind_text of.Taken = codes "counter"
+kind_text of.Credit = codes "counter"
+kind_text of.Used = codes "gauge"
+kind_text of.Capacity = codes "gauge"
+kind_text of.Stands = codes "counter"
+kind_text of.StandsLeft = codes "gauge"
+kind_text of.Batches = codes "counter"
+kind_text of.Syncs = codes "counter"
+kind_text of.Sessions = codes "counter"
+kind_text of.Doors = codes "gauge"
+kind_text of.BusyDoors = codes "gauge"
+kind_text of.Letters = codes "gauge"
+
+-- 1 where it is so, else 0
+abbrev pub failed : Condition → ℕ
+failed Well = 0
+failed Limit = 0
+failed Full = 0
+failed Failed = 1
+
+abbrev pub full : Condition → ℕ
+full Well = 0
+full Limit = 0
+full Full = 1
+full Failed = 0
+
+abbrev pub at_limit : Condition → ℕ
+at_limit Well = 0
+at_limit Limit = 1
+at_limit Full = 0
+at_limit Failed = 0
+
+abbrev pub value_of : Metric → NodeStatus → ℕ
+value_of of.Failed node = failed node.condition
+value_of of.Full node = full node.condition
+value_of of.AtLimit node = at_limit node.condition
+value_of of.Inputs node = (node.shown).inputs
+value_of of.Durable node = (node.shown).durable
+value_of of.Sent node = (node.shown).sent
+value_of of.Taken node = (node.shown).taken
+value_of of.Credit node = (node.shown).credit
+value_of of.Used node = node.used
+value_of of.Capacity node = node.capacity
+value_of of.Stands node = node.stands
+value_of of.StandsLeft node = node.stands_left
+value_of of.Batches node = node.batches
+value_of of.Syncs node = node.syncs
+value_of of.Sessions node = node.sessions
+value_of of.Doors node = node.doors
+value_of of.BusyDoors node = node.busy
+value_of of.Letters node = node.letters
+
+-- all of them, in their order
+unfoldable pub metrics : List Metric
+metrics =
+    of.Failed ∷ of.Full ∷ of.AtLimit ∷ of.Inputs ∷ of.Durable ∷ of.Sent
+    ∷ of.Taken ∷ of.Credit ∷ of.Used ∷ of.Capacity ∷ of.Stands ∷ of.StandsLeft
+    ∷ of.Batches ∷ of.Syncs ∷ of.Sessions ∷ of.Doors ∷ of.BusyDoors ∷ of.Letters ∷ []
+
+-- ---- the text
+
+abbrev pub head_of : List ℕ → List ℕ → List ℕ → List ℕ
+head_of name help kind =
+    codes "# HELP " ++ name ++ codes " " ++ help ++ codes "\n# TYPE " ++ name ++ codes " " ++ kind ++ codes "\n"
+
+-- the line of a node
+abbrev pub sample : Metric → NodeStatus → List ℕ
+sample metric node =
+    name_text metric ++ codes "{node=\"" ++ decimal node.node ++ codes "\"} " ++ decimal (value_of metric node) ++ codes "\n"
+
+abbrev pub family_of : List NodeStatus → Metric → List ℕ
+family_of nodes metric = head_of (name_text metric) (help_text metric) (kind_text metric) ++ flat_map (sample metric) nodes
+
+-- the line of a refusal that clients of a node were told
+unfoldable pub refusal_sample : ℕ → RefusalCount → List ℕ
+refusal_sample node told =
+    codes "cinoweta_refusals_total{node=\"" ++ decimal node ++ codes "\",number=\"" ++ decimal told.number
+    ++ codes "\"} " ++ decimal told.count ++ codes "\n"
+
+abbrev pub refusal_samples : NodeStatus → List ℕ
+refusal_samples node = flat_map (refusal_sample node.node) (node.refusals).items
+
+unfoldable pub refusals_head : List ℕ
+refusals_head = head_of (codes "cinoweta_refusals_total") (codes "Refusals that clients were told since the start, by their number.") (codes "counter")
+
+unfoldable pub started_family : ℕ → List ℕ
+started_family started =
+    head_of (codes "cinoweta_start_time_seconds") (codes "When the program was started, in Unix time.") (codes "gauge")
+    ++ codes "cinoweta_start_time_seconds" ++ codes " " ++ decimal started ++ codes "\n"
+
+-- when the ring was started, what is measured, and the refusals
+unfoldable pub metrics_body : ℕ → List NodeStatus → List ℕ
+metrics_body started nodes = started_family started ++ flat_map (family_of nodes) metrics ++ refusals_head ++ flat_map refusal_samples nodes

@@ -1,0 +1,28 @@
+//! What an operator asks of a ring over HTTP/1.1, and the bytes of the answers. Nothing here opens a socket or a node.
+//!
+//! A request is the head of a message: its method, GET or HEAD, and its target, which names what is asked. An answer is
+//! a head and a body: `/health` in lines, `/status` and `/leaders` as JSON, `/metrics` in the text format of Prometheus.
+//!
+//! `specs/` says the same by a look at bytes and values: Targets what a target asks, Requests what a head asks, Answers
+//! the bytes of an answer, and Health, Data and Metrics its bodies.
+#![tactic(auto)]
+
+mod answer;
+mod health;
+mod json;
+mod metric;
+mod metrics;
+mod request;
+mod status;
+mod target;
+mod values;
+
+pub use answer::{Content, answer_text};
+pub use health::{are_well, health_text};
+pub use json::{latest_json, leaders_json, status_json};
+pub use metric::Metric;
+pub use metrics::metrics_text;
+pub use request::{HEAD_BYTES, Method, Request, read_request};
+pub use status::Status;
+pub use target::{Target, read_target};
+pub use values::{Condition, NodeStatus, RefusalCount, RingStatus};

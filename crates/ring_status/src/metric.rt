@@ -1,0 +1,156 @@
+// What is measured of a node.
+ghost use Rattle.std.specs.Prelude.{◌≡◌};
+ghost use Rattle.ring_status.specs.Metrics.{help_text, kind_text, metrics, name_text, value_of};
+
+use crate::values::{Condition, NodeStatus};
+
+/// What is measured of a node, each with a name, a line that tells what it is, and a kind.
+#[derive(Clone, Copy, Debug, PartialEq, Eq)]
+pub enum Metric {
+    Failed,
+    Full,
+    AtLimit,
+    Inputs,
+    Durable,
+    Sent,
+    Taken,
+    Credit,
+    Used,
+    Capacity,
+    Stands,
+    StandsLeft,
+    Batches,
+    Syncs,
+    Sessions,
+    Doors,
+    BusyDoors,
+    Letters,
+}
+
+/// All of them, in the order in which they are told.
+const METRICS: [Metric; 18] = [
+    Metric::Failed,
+    Metric::Full,
+    Metric::AtLimit,
+    Metric::Inputs,
+    Metric::Durable,
+    Metric::Sent,
+    Metric::Taken,
+    Metric::Credit,
+    Metric::Used,
+    Metric::Capacity,
+    Metric::Stands,
+    Metric::StandsLeft,
+    Metric::Batches,
+    Metric::Syncs,
+    Metric::Sessions,
+    Metric::Doors,
+    Metric::BusyDoors,
+    Metric::Letters,
+];
+
+impl Metric {
+    /// All of them, in the order in which they are told.
+    #[tactic(auto, unfolding(crate::specs::Metrics::metrics))]
+    pub fn all() -> &'static [Metric]
+        ensures { result.now ≡ metrics }
+    {
+        &METRICS
+    }
+
+    /// Its name. A counter's ends in `_total`.
+    pub fn name(self) -> &'static str
+        ensures { result.now ≡ name_text self }
+    {
+        match self {
+            Metric::Failed => "cinoweta_node_failed",
+            Metric::Full => "cinoweta_node_full",
+            Metric::AtLimit => "cinoweta_node_at_limit",
+            Metric::Inputs => "cinoweta_inputs_total",
+            Metric::Durable => "cinoweta_durable_inputs_total",
+            Metric::Sent => "cinoweta_messages_sent_total",
+            Metric::Taken => "cinoweta_messages_taken_total",
+            Metric::Credit => "cinoweta_messages_credited_total",
+            Metric::Used => "cinoweta_journal_used_bytes",
+            Metric::Capacity => "cinoweta_journal_capacity_bytes",
+            Metric::Stands => "cinoweta_stands_total",
+            Metric::StandsLeft => "cinoweta_stands_left",
+            Metric::Batches => "cinoweta_batches_total",
+            Metric::Syncs => "cinoweta_syncs_total",
+            Metric::Sessions => "cinoweta_sessions_total",
+            Metric::Doors => "cinoweta_doors",
+            Metric::BusyDoors => "cinoweta_doors_busy",
+            Metric::Letters => "cinoweta_letters_waiting",
+        }
+    }
+
+    /// What it is.
+    pub fn help(self) -> &'static str
+        ensures { result.now ≡ help_text self }
+    {
+        match self {
+            Metric::Failed => "Whether the node failed.",
+            Metric::Full => "Whether the node has no room for a Stand or a message.",
+            Metric::AtLimit => "Whether the node has taken all Stands that it may.",
+            Metric::Inputs => "Inputs that the node accepted.",
+            Metric::Durable => "Inputs of the node that are durable.",
+            Metric::Sent => "Messages that the node sent to its successor.",
+            Metric::Taken => "Messages of its predecessor that the node took.",
+            Metric::Credit => "Messages that the successor credited.",
+            Metric::Used => "Bytes of its capacity that the node's inputs take.",
+            Metric::Capacity => "Bytes of inputs that the node takes.",
+            Metric::Stands => "Stands that the node took.",
+            Metric::StandsLeft => "Stands that the node may still take.",
+            Metric::Batches => "Batches that the node wrote since the start.",
+            Metric::Syncs => "Syncs of its device since the start.",
+            Metric::Sessions => "Sessions begun at the node since the start.",
+            Metric::Doors => "Doors of the node.",
+            Metric::BusyDoors => "Doors of the node that serve a session.",
+            Metric::Letters => "Messages in the node's letterbox.",
+        }
+    }
+
+    /// Its kind: a counter never goes down but at a start.
+    pub fn kind(self) -> &'static str
+        ensures { result.now ≡ kind_text self }
+    {
+        match self {
+            Metric::Inputs
+            | Metric::Durable
+            | Metric::Sent
+            | Metric::Taken
+            | Metric::Credit
+            | Metric::Stands
+            | Metric::Batches
+            | Metric::Syncs
+            | Metric::Sessions => "counter",
+            _ => "gauge",
+        }
+    }
+
+    /// Its value at a node.
+    pub fn of(self, node: &NodeStatus) -> u64
+        ensures { result ≡ value_of self node.now }
+    {
+        match self {
+            Metric::Failed => u64::from(matches!(node.condition, Condition::Failed)),
+            Metric::Full => u64::from(matches!(node.condition, Condition::Full)),
+            Metric::AtLimit => u64::from(matches!(node.condition, Condition::Limit)),
+            Metric::Inputs => node.shown.inputs,
+            Metric::Durable => node.shown.durable,
+            Metric::Sent => node.shown.sent,
+            Metric::Taken => node.shown.taken,
+            Metric::Credit => node.shown.credit,
+            Metric::Used => node.used,
+            Metric::Capacity => node.capacity,
+            Metric::Stands => node.stands,
+            Metric::StandsLeft => node.stands_left,
+            Metric::Batches => node.batches,
+            Metric::Syncs => node.syncs,
+            Metric::Sessions => node.sessions,
+            Metric::Doors => node.doors,
+            Metric::BusyDoors => node.busy,
+            Metric::Letters => node.letters,
+        }
+    }
+}

@@ -1,0 +1,132 @@
+// The text for Prometheus.
+ghost use Rattle.std.specs.Prelude.{◌≡◌, ◌++◌, IfOk, OnOk, string_bytes};
+ghost use Rattle.std.specs.List.{flat_map};
+ghost use Rattle.ring_status.specs.Metrics.{family_of, head_of, metrics_body, refusal_sample, refusal_samples, refusals_head, sample, started_family};
+
+use crate::metric::Metric;
+use crate::values::{NodeStatus, RefusalCount, RingStatus};
+use ring_records::NodeNo;
+use std::alloc::{AllocError, Global};
+
+fn print_head(out: &mut String, name: &str, help: &str, kind: &str) -> Result<(), AllocError>
+    ensures { OnOk result (string_bytes out.new ≡ string_bytes out.old ++ head_of name.now help.now kind.now) }
+{
+    writeln!(out, "# HELP {name} {help}\n# TYPE {name} {kind}")
+}
+
+fn print_sample(out: &mut String, metric: Metric, node: &NodeStatus) -> Result<(), AllocError>
+    ensures { OnOk result (string_bytes out.new ≡ string_bytes out.old ++ sample metric node.now) }
+{
+    let name = metric.name();
+    let number = node.node.number();
+    let value = metric.of(node);
+    writeln!(out, "{name}{{node=\"{number}\"}} {value}")
+}
+
+fn print_samples(out: &mut String, metric: Metric, nodes: &[NodeStatus]) -> Result<(), AllocError>
+    ensures { OnOk result (string_bytes out.new ≡ string_bytes out.old ++ flat_map (sample metric) nodes.now) }
+{
+    for node in nodes {
+        print_sample(out, metric, node)?;
+    }
+    Ok(())
+}
+
+#[tactic(auto, using(crate::proofs::Appends::two))]
+fn print_family(out: &mut String, metric: Metric, nodes: &[NodeStatus]) -> Result<(), AllocError>
+    ensures { OnOk result (string_bytes out.new ≡ string_bytes out.old ++ family_of nodes.now metric) }
+{
+    print_head(out, metric.name(), metric.help(), metric.kind())?;
+    print_samples(out, metric, nodes)
+}
+
+fn print_families(
+    out: &mut String,
+    metrics: &[Metric],
+    nodes: &[NodeStatus],
+) -> Result<(), AllocError>
+    ensures { OnOk result (string_bytes out.new ≡ string_bytes out.old ++ flat_map (family_of nodes.now) metrics.now) }
+{
+    for metric in metrics {
+        print_family(out, *metric, nodes)?;
+    }
+    Ok(())
+}
+
+#[tactic(auto, unfolding(crate::specs::Metrics::refusal_sample))]
+fn print_refusal(out: &mut String, node: NodeNo, told: &RefusalCount) -> Result<(), AllocError>
+    ensures { OnOk result (string_bytes out.new ≡ string_bytes out.old ++ refusal_sample node told.now) }
+{
+    let node = node.number();
+    let number = told.number;
+    let count = told.count;
+    writeln!(
+        out,
+        "cinoweta_refusals_total{{node=\"{node}\",number=\"{number}\"}} {count}"
+    )
+}
+
+fn print_refusals(
+    out: &mut String,
+    node: NodeNo,
+    refusals: &[RefusalCount],
+) -> Result<(), AllocError>
+    ensures { OnOk result (string_bytes out.new ≡ string_bytes out.old ++ flat_map (refusal_sample node) refusals.now) }
+{
+    for told in refusals {
+        print_refusal(out, node, told)?;
+    }
+    Ok(())
+}
+
+fn print_all_refusals(out: &mut String, nodes: &[NodeStatus]) -> Result<(), AllocError>
+    ensures { OnOk result (string_bytes out.new ≡ string_bytes out.old ++ flat_map refusal_samples nodes.now) }
+{
+    for node in nodes {
+        print_refusals(out, node.node, node.refusals.as_slice())?;
+    }
+    Ok(())
+}
+
+#[tactic(auto, unfolding(crate::specs::Metrics::started_family))]
+fn print_started(out: &mut String, started: u64) -> Result<(), AllocError>
+    ensures { OnOk result (string_bytes out.new ≡ string_bytes out.old ++ started_family started) }
+{
+    let name = "cinoweta_start_time_seconds";
+    let help = "When the program was started, in Unix time.";
+    writeln!(
+        out,
+        "# HELP {name} {help}\n# TYPE {name} gauge\n{name} {started}"
+    )
+}
+
+#[tactic(auto, unfolding(crate::specs::Metrics::refusals_head))]
+fn print_refusals_head(out: &mut String) -> Result<(), AllocError>
+    ensures { OnOk result (string_bytes out.new ≡ string_bytes out.old ++ refusals_head) }
+{
+    print_head(
+        out,
+        "cinoweta_refusals_total",
+        "Refusals that clients were told since the start, by their number.",
+        "counter",
+    )
+}
+
+#[tactic(auto, using(crate::proofs::Appends::four), unfolding(crate::specs::Metrics::metrics_body))]
+fn print_all(out: &mut String, ring: &RingStatus<'_>) -> Result<(), AllocError>
+    ensures { OnOk result (string_bytes out.new ≡ string_bytes out.old ++ metrics_body ring.now.started ring.now.nodes.now) }
+{
+    print_started(out, ring.started)?;
+    print_families(out, Metric::all(), ring.nodes)?;
+    print_refusals_head(out)?;
+    print_all_refusals(out, ring.nodes)
+}
+
+/// The numbers of a ring in the text format of Prometheus, version 0.0.4. Refused for want of memory alone.
+pub fn metrics_text(alloc: Global, ring: &RingStatus<'_>) -> Result<String, AllocError>
+    ensures { IfOk result (λ text. string_bytes text ≡ metrics_body ring.now.started ring.now.nodes.now) }
+{
+    let mut out = String::new(alloc);
+    print_all(&mut out, ring)?;
+    Ok(out)
+}

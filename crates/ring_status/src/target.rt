@@ -1,0 +1,158 @@
+// What a target asks.
+ghost use Rattle.std.specs.Prelude.{◌≡◌, ◌==◌, ok_or, option_map, position};
+ghost use Rattle.ring_status.specs.Targets.{after_in, behind, cut_at, group_word, leader_of, node_in, node_word, page_by_one, page_by_two, page_of, target_of};
+
+use crate::status::Status;
+use line_words::{read_group, read_number};
+use ring_records::{GroupName, NodeNo};
+
+/// What is asked.
+#[derive(Clone, Copy, Debug, PartialEq, Eq)]
+pub enum Target {
+    /// Whether each node takes Stands and messages.
+    Health,
+    /// The ring and its nodes, as JSON.
+    Status,
+    /// Their numbers, in the text format of Prometheus.
+    Metrics,
+    /// A page of the groups with their latest leaders: those behind a group, by the board of a node.
+    Leaders(NodeNo, Option<GroupName>),
+    /// The latest leader of a group, by the board of a node.
+    LeaderOf(NodeNo, GroupName),
+}
+
+// The place of the first such byte.
+fn place_of(text: &[u8], byte: u8) -> Option<usize>
+    ensures { result ≡ position (λ b. b == byte) text.now }
+{
+    text.iter().position(|b| *b == byte)
+}
+
+#[tactic(auto, unfolding(crate::specs::Targets::cut_at))]
+// What stands before the byte, and what stands behind it where it is there.
+fn cut_at(text: &[u8], byte: u8) -> (&[u8], Option<&[u8]>)
+    ensures before { result.0.now ≡ (cut_at byte text.now).0 }
+    ensures behind { option_map (λ rest. rest.now) result.1 ≡ (cut_at byte text.now).1 }
+{
+    match place_of(text, byte) {
+        None => (text, None),
+        Some(at) => (&text[..at], Some(&text[at + 1..])),
+    }
+}
+
+#[tactic(auto, unfolding(crate::specs::Targets::behind))]
+// What stands behind these bytes, where the text begins with them.
+fn behind<'a>(text: &'a [u8], front: &[u8]) -> Option<&'a [u8]>
+    ensures { option_map (λ rest. rest.now) result ≡ behind front.now text.now }
+{
+    if text.starts_with(front) {
+        Some(&text[front.len()..])
+    } else {
+        None
+    }
+}
+
+fn node_word(word: &[u8]) -> Option<NodeNo>
+    ensures { result ≡ node_word word.now }
+{
+    let number = read_number(word, 1, 16).ok()?;
+    NodeNo::new(number as u8).ok()
+}
+
+fn group_word(word: &[u8]) -> Option<GroupName>
+    ensures { result ≡ group_word word.now }
+{
+    read_group(word).ok()
+}
+
+// The node of `node=I`.
+fn node_in(parameter: &[u8]) -> Option<NodeNo>
+    ensures { result ≡ node_in parameter.now }
+{
+    node_word(behind(parameter, b"node=")?)
+}
+
+// The group of `after=GROUP`.
+fn after_in(parameter: &[u8]) -> Option<GroupName>
+    ensures { result ≡ after_in parameter.now }
+{
+    group_word(behind(parameter, b"after=")?)
+}
+
+// The page of one parameter, of either kind.
+fn page_by_one(parameter: &[u8]) -> Option<Target>
+    ensures { result ≡ page_by_one parameter.now }
+{
+    match node_in(parameter) {
+        Some(node) => Some(Target::Leaders(node, None)),
+        None => Some(Target::Leaders(NodeNo::first(), Some(after_in(parameter)?))),
+    }
+}
+
+fn page_by_two(first: &[u8], second: &[u8]) -> Option<Target>
+    ensures { result ≡ page_by_two first.now second.now }
+{
+    let node = node_in(first)?;
+    Some(Target::Leaders(node, Some(after_in(second)?)))
+}
+
+// The page that a query asks for.
+fn page_of(query: Option<&[u8]>) -> Option<Target>
+    ensures { result ≡ page_of (option_map (λ q. q.now) query.entry) }
+{
+    match query {
+        None => Some(Target::Leaders(NodeNo::first(), None)),
+        Some(query) => match cut_at(query, b'&') {
+            (only, None) => page_by_one(only),
+            (first, Some(second)) => page_by_two(first, second),
+        },
+    }
+}
+
+// The leader that a name and a query ask for.
+fn leader_of(name: &[u8], query: Option<&[u8]>) -> Option<Target>
+    ensures { result ≡ leader_of name.now (option_map (λ q. q.now) query.entry) }
+{
+    let group = group_word(name)?;
+    let node = match query {
+        None => NodeNo::first(),
+        Some(query) => node_in(query)?,
+    };
+    Some(Target::LeaderOf(node, group))
+}
+
+// A page, where there is one.
+fn or_bad(page: Option<Target>) -> Result<Target, Status>
+    ensures { result ≡ ok_or page Status.BadRequest }
+{
+    match page {
+        Some(page) => Ok(page),
+        None => Err(Status::BadRequest),
+    }
+}
+
+#[tactic(auto, unfolding(crate::specs::Targets::target_of))]
+/// What a target asks: `/health`, `/status` and `/metrics`, whose query is not read; `/leaders`, with `node=I` or
+/// `after=GROUP` or both, in this order and parted by `&`; `/leaders/GROUP`, with `node=I` or nothing. Node 1 is asked
+/// where none is named. Refused as 404 where there is no such page, and else as 400 by its name or its query.
+pub fn read_target(target: &[u8]) -> Result<Target, Status>
+    ensures { result ≡ target_of target.now }
+{
+    let (path, query) = cut_at(target, b'?');
+    if path == b"/health".as_slice() {
+        return Ok(Target::Health);
+    }
+    if path == b"/status".as_slice() {
+        return Ok(Target::Status);
+    }
+    if path == b"/metrics".as_slice() {
+        return Ok(Target::Metrics);
+    }
+    if path == b"/leaders".as_slice() {
+        return or_bad(page_of(query));
+    }
+    match behind(path, b"/leaders/") {
+        Some(name) => or_bad(leader_of(name, query)),
+        None => Err(Status::NotFound),
+    }
+}

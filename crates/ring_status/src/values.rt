@@ -1,0 +1,69 @@
+// What is told of a ring.
+use ring_records::{NodeNo, Shown};
+
+/// Whether a node takes Stands and messages.
+#[derive(Clone, Copy, Debug, PartialEq, Eq)]
+pub enum Condition {
+    /// It takes them.
+    Well,
+    /// It takes no further Stand: it has taken all that it may.
+    Limit,
+    /// It takes neither: there is no room for one.
+    Full,
+    /// It takes neither: its device failed, or a growth was refused.
+    Failed,
+}
+
+/// How often clients were told a refusal.
+#[derive(Clone, Copy, Debug, PartialEq, Eq)]
+pub struct RefusalCount {
+    /// The refusal's number, 1 to 25.
+    pub number: u8,
+    pub count: u64,
+}
+
+/// What is told of a node. Counts are those since the start, where nothing else is said.
+#[derive(Debug, Drop)]
+pub struct NodeStatus {
+    pub node: NodeNo,
+    /// The port of its doors.
+    pub port: u16,
+    pub condition: Condition,
+    /// Its inputs, and how far its links are, since its first start.
+    pub shown: Shown,
+    /// How many bytes of its capacity its inputs take.
+    pub used: u64,
+    /// How many bytes of inputs it takes.
+    pub capacity: u64,
+    /// How many Stands it has taken since its first start.
+    pub stands: u64,
+    /// How many more it may take.
+    pub stands_left: u64,
+    /// How many batches it wrote.
+    pub batches: u64,
+    /// How many syncs of its device it waited for.
+    pub syncs: u64,
+    /// The refusals that its clients were told.
+    pub refusals: Vec<RefusalCount>,
+    /// How many sessions were begun at its doors.
+    pub sessions: u64,
+    /// How many doors it has.
+    pub doors: u64,
+    /// How many of them serve a session.
+    pub busy: u64,
+    /// How many messages wait in its letterbox.
+    pub letters: u64,
+}
+
+/// What is told of a ring.
+#[derive(Clone, Copy, Debug)]
+pub struct RingStatus<'a> {
+    /// The version of the program.
+    pub version: &'a str,
+    /// The folder of its nodes.
+    pub dir: &'a str,
+    /// When it was started, in seconds of Unix time.
+    pub started: u64,
+    /// Its nodes, in their order.
+    pub nodes: &'a [NodeStatus],
+}
