@@ -4,6 +4,8 @@
 #[cfg(test)]
 mod calls;
 #[cfg(test)]
+mod groups;
+#[cfg(test)]
 mod growths;
 #[cfg(test)]
 mod rows;

@@ -1,0 +1,114 @@
+// What is told of a ring.
+use crate::rows::{lead, node};
+use ring_records::NodeNo;
+use ring_status::{
+    Condition, RingStatus, are_well, health_text, latest_json, leaders_json, metrics_text,
+    status_json,
+};
+use std::test::Fail;
+
+#[test]
+fn health(rt: HostRuntime) -> Result<(), Fail> {
+    let table: [([Condition; 3], &str); 4] = [
+        (
+            [Condition::Well, Condition::Well, Condition::Well],
+            "well\n",
+        ),
+        (
+            [Condition::Limit, Condition::Failed, Condition::Full],
+            "node 1 limit\nnode 2 failed\nnode 3 full\n",
+        ),
+        (
+            [Condition::Well, Condition::Full, Condition::Well],
+            "node 2 full\n",
+        ),
+        (
+            [Condition::Well, Condition::Well, Condition::Failed],
+            "node 3 failed\n",
+        ),
+    ];
+    for (conditions, wanted) in table {
+        let mut nodes = Vec::new(rt.alloc());
+        let mut number = 0u8;
+        for condition in conditions {
+            number = number.saturating_add(1);
+            nodes.push(node(&rt, rt.alloc(), number, condition)?)?;
+        }
+        assert_eq!(rt; health_text(rt.alloc(), &nodes)?.as_str(), wanted);
+        assert_eq!(rt; are_well(&nodes), wanted == "well\n");
+    }
+    Ok(())
+}
+
+#[test]
+fn status(rt: HostRuntime) -> Result<(), Fail> {
+    let mut nodes = Vec::new(rt.alloc());
+    nodes.push(node(&rt, rt.alloc(), 2, Condition::Limit)?)?;
+    let ring = RingStatus {
+        version: "0.1.0",
+        dir: "a\"b",
+        started: 1_700_000_000,
+        nodes: &nodes,
+    };
+    assert_eq!(rt;
+        status_json(rt.alloc(), &ring)?.as_str(),
+        "{\"dir\":\"a\\\"b\",\"nodes\":[{\"journal\":{\"batches\":5,\"capacity\":65536,\"durable\":29,\"inputs\":30,\
+         \"syncs\":6,\"used\":1234},\"messages\":{\"credit\":10,\"sent\":12,\"taken\":11,\"waiting\":9},\"node\":2,\
+         \"port\":7102,\"sessions\":{\"begun\":8,\"busy\":3,\"doors\":4,\"refusals\":[{\"count\":2,\"number\":4},\
+         {\"count\":1,\"number\":25}]},\"stands\":{\"left\":1017,\"taken\":7},\"state\":\"limit\"}],\
+         \"started\":1700000000,\"version\":\"0.1.0\"}"
+    );
+    Ok(())
+}
+
+#[test]
+fn leaders(rt: HostRuntime) -> Result<(), Fail> {
+    let first = lead(&rt, "blue", 7, 3, 2);
+    let second = lead(&rt, "red", 5, 10, 1);
+    let node = NodeNo::first();
+    assert_eq!(rt;
+        leaders_json(rt.alloc(), node, &[first, second], true)?.as_str(),
+        "{\"by\":1,\"leaders\":[{\"bid\":3,\"group\":\"blue\",\"node\":2,\"term\":7},{\"bid\":10,\"group\":\"red\",\
+         \"node\":1,\"term\":5}],\"more\":true}"
+    );
+    assert_eq!(rt;
+        leaders_json(rt.alloc(), node, &[], false)?.as_str(),
+        "{\"by\":1,\"leaders\":[],\"more\":false}"
+    );
+    assert_eq!(rt;
+        latest_json(rt.alloc(), node, &second)?.as_str(),
+        "{\"by\":1,\"leader\":{\"bid\":10,\"group\":\"red\",\"node\":1,\"term\":5}}"
+    );
+    Ok(())
+}
+
+#[test]
+fn metrics(rt: HostRuntime) -> Result<(), Fail> {
+    let mut nodes = Vec::new(rt.alloc());
+    nodes.push(node(&rt, rt.alloc(), 1, Condition::Well)?)?;
+    nodes.push(node(&rt, rt.alloc(), 2, Condition::Full)?)?;
+    let ring = RingStatus {
+        version: "0.1.0",
+        dir: "state",
+        started: 1_700_000_000,
+        nodes: &nodes,
+    };
+    let text = metrics_text(rt.alloc(), &ring)?;
+    // 20 families of two lines each, a line for each node in 18 of them, two of them with two refusals, and the start
+    assert_eq!(rt; text.as_str().lines().count(), 20 * 2 + 18 * 2 + 2 * 2 + 1);
+    for part in [
+        "# HELP cinoweta_start_time_seconds When the program was started, in Unix time.\n# TYPE \
+         cinoweta_start_time_seconds gauge\ncinoweta_start_time_seconds 1700000000\n",
+        "# HELP cinoweta_node_full Whether the node has no room for a Stand or a message.\n# TYPE cinoweta_node_full \
+         gauge\ncinoweta_node_full{node=\"1\"} 0\ncinoweta_node_full{node=\"2\"} 1\n",
+        "# HELP cinoweta_inputs_total Inputs that the node accepted.\n# TYPE cinoweta_inputs_total \
+         counter\ncinoweta_inputs_total{node=\"1\"} 30\ncinoweta_inputs_total{node=\"2\"} 30\n",
+        "cinoweta_letters_waiting{node=\"2\"} 9\n# HELP cinoweta_refusals_total Refusals that clients were told since \
+         the start, by their number.\n# TYPE cinoweta_refusals_total \
+         counter\ncinoweta_refusals_total{node=\"1\",number=\"4\"} \
+         2\ncinoweta_refusals_total{node=\"1\",number=\"25\"} 1\n",
+    ] {
+        assert!(rt; text.as_str().contains(part), "{part}");
+    }
+    Ok(())
+}
