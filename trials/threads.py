@@ -65,7 +65,7 @@ def is_served(process: subprocess.Popen) -> bool:
 
 def starts(words: argparse.Namespace, folder: str, port: int, threads: int) -> bool:
     """Whether a start with so many threads serves. It is held to what it says."""
-    command = [words.ringd, "--settings", os.path.join(folder, "settings.toml"), "--always", "--doors", str(words.doors)]
+    command = [os.path.join(folder, "ringd"), "--settings", os.path.join(folder, "settings.toml"), "--always", "--doors", str(words.doors)]
     with subprocess.Popen(command, stdout=subprocess.PIPE, stderr=subprocess.PIPE, cwd=folder,
                           preexec_fn=limited(words.user, threads)) as process:
         try:
@@ -86,6 +86,8 @@ def walk(words: argparse.Namespace, folder: str) -> int:
     port = free_ports(words.nodes)
     with open(os.path.join(folder, "settings.toml"), "w", encoding="utf-8") as file:
         file.write(f'nodes = {words.nodes}\ndir = "{folder}"\nport = {port}\n')
+    # The user may not reach where the program stands.
+    shutil.copy(words.ringd, os.path.join(folder, "ringd"))
     os.chown(folder, words.user, words.user)
     threads, served = 0, 0
     while served < 3:
@@ -103,7 +105,6 @@ def main() -> int:
     for name, default, least, most in (("nodes", 2, 2, 16), ("doors", 2, 1, 32), ("user", 54321, 1, 2 ** 31)):
         parser.add_argument(f"--{name}", type=int, default=default, metavar=f"{least}..{most}")
     words = parser.parse_args()
-    words.ringd = os.path.abspath(words.ringd)
     if os.geteuid() != 0:
         parser.error("it takes root to limit the threads of a user")
     folder = tempfile.mkdtemp(prefix="threads-")
