@@ -24,7 +24,7 @@ impl Ballot {
     ghost use Rattle.cr_automaton.specs.Ballot.{StandsFor};
 
     /// The ballot of a key that no input names yet.
-    #[tactic(auto, unfolding(ring_records::specs::History::stood, ring_records::specs::History::first_stand, ring_records::specs::Leader::leader, ring_records::specs::Leader::first_leader, ring_records::specs::Lists::first, ring_records::specs::Lists::found_after))]
+    #[tactic(auto, unfolding(ring_records::specs::History::first_stand, ring_records::specs::Leader::first_leader, ring_records::specs::Lists::first, ring_records::specs::Lists::found_after))]
     pub fn new() -> Ballot
         ensures empty { (me : ℕ) (key : Key) → StandsFor result me [] key }
         ensures stood { result.stood ≡ None }
@@ -55,7 +55,7 @@ impl Ballot {
 
     /// Node `me` takes the token of a candidate: what it sends on. Its own token that comes home makes it the leader,
     /// once; another's goes on unless the node stood with a greater candidate.
-    #[tactic(auto, unfolding(ring_records::specs::Emission::emit, ring_records::specs::Emission::is_below, ring_records::specs::Leader::is_bid, ring_records::specs::Known::passed, ring_records::specs::Known::shown))]
+    #[tactic(auto, unfolding(ring_records::specs::Emission::emit, ring_records::specs::Emission::passed_on, ring_records::specs::History::stood, ring_records::specs::Leader::leader, ring_records::specs::Emission::is_below, ring_records::specs::Leader::is_bid, ring_records::specs::Known::passed, ring_records::specs::Known::shown))]
     pub fn hear_token(&mut self, me: NodeNo, key: Key, candidate: Candidate) -> Option<Msg>
         ensures value { result ≡ passed me self.old.stood self.old.leader (Token key candidate) }
         ensures shown { self.new.leader ≡ or_else self.old.leader (shown me self.old.stood (Token key candidate)) }
@@ -80,7 +80,7 @@ impl Ballot {
 
     /// Node `me` takes the news of who is elected: what it sends on. The round stops at the leader itself, and where
     /// a leader is known already.
-    #[tactic(auto, unfolding(ring_records::specs::Emission::emit, ring_records::specs::Known::passed, ring_records::specs::Known::shown))]
+    #[tactic(auto, unfolding(ring_records::specs::Emission::emit, ring_records::specs::Emission::passed_on, ring_records::specs::Leader::leader, ring_records::specs::Known::passed, ring_records::specs::Known::shown))]
     pub fn hear_elected(&mut self, me: NodeNo, key: Key, candidate: Candidate) -> Option<Msg>
         ensures value { result ≡ passed me self.old.stood self.old.leader (Elected key candidate) }
         ensures shown { self.new.leader ≡ or_else self.old.leader (shown me self.old.stood (Elected key candidate)) }

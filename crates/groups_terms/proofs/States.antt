@@ -21,6 +21,7 @@ use Rattle.ring_records.specs.Leader.{leader, noted}
 use Rattle.ring_records.specs.Order.{is_key}
 use Rattle.ring_records.specs.Summary.{state_of, key_states}
 use Rattle.ring_records.proofs.Compare.{keys_total, keys_exact, get-put}
+use Rattle.ring_records.proofs.History.{stood-first, leader-first}
 use Rattle.ring_records.proofs.Keys.{is_key-true}
 use Rattle.ring_records.proofs.Known.{stood-known, leader-known, touched-known}
 use Rattle.ring_records.proofs.Lists.{none≢some}
@@ -33,7 +34,8 @@ use Rattle.groups_terms.proofs.Tables.{hear_kept}
 -- ---- the states of a table
 
 -- the states of entries in order are in order
-below : (k : Key) (es : List (Key × Ballot)) → AllByRecursion (λ (j : Key). key_cmp k j ≡ Less) (list_map (λ e. e.0) es) → (b : Ballot) → AllByRecursion (λ s. by_state (state_at (k, b)) s ≡ Less) (list_map state_at es)
+below : (k : Key) (es : List (Key × Ballot)) → AllByRecursion (λ (j : Key). key_cmp k j ≡ Less) (list_map (λ e. e.0) es) → (b : Ballot)
+    → AllByRecursion (λ s. by_state (state_at (k, b)) s ≡ Less) (list_map state_at es)
 below k [] a b = tt
 below k (e ∷ es) a b = (a.0, below k es a.1 b)
 
@@ -58,10 +60,11 @@ states-told t es h are s = map.same_map keys_total keys_exact _ _ (λ key.
     map.get-from_entries keys_total (list_map under_key (list_map state_at es)) key
     ∙ (find-states es key
     ∙ (ap (option_map (λ b. state_at (key, b))) (sym (map.get-from_entries keys_total es key) ∙ ap (λ m. map.get m key) are)
-    ∙ (at key (map.get t.ballots key) (touched h key) (s.touched key) (s.ballots key).bid (s.ballots key).known
+    ∙ (at key (map.get t.ballots key) (touched h key) (s.touched key) ((s.ballots key).bid ∙ sym (stood-first h key)) ((s.ballots key).known ∙ sym (leader-first t.me h key))
     ∙ sym (get-states t.me h key)))))
   where
-    at : (key : Key) (o : Option Ballot) (b : Bool) → b ≡ is_some o → (known o).stood ≡ stood h key → (known o).leader ≡ leader t.me h key → option_map (λ b. state_at (key, b)) o ≡ cond b (Some (state_of t.me h key)) None
+    at : (key : Key) (o : Option Ballot) (b : Bool) → b ≡ is_some o → (known o).stood ≡ stood h key → (known o).leader ≡ leader t.me h key
+        → option_map (λ b. state_at (key, b)) o ≡ cond b (Some (state_of t.me h key)) None
     at key None b e f g = sym (ap (λ c. cond c (Some (state_of t.me h key)) None) e)
     at key (Some ballot) b e f g = (λ i. Some (record { key = key; stood = f i; leader = g i })) ∙ sym (ap (λ c. cond c (Some (state_of t.me h key)) None) e)
 
@@ -78,7 +81,8 @@ states-put t u key b put = map.same_map keys_total keys_exact _ _ (λ other.
     ∙ (ap (option_map (λ c. state_at (other, c))) (ap (λ m. map.get m other) put ∙ get-put t.ballots key b other)
     ∙ (at other (is_key key other) refl ∙ sym (get-put (states_in t) key (state_at (key, b)) other))))
   where
-    at : (other : Key) (same : Bool) → is_key key other ≡ same → option_map (λ c. state_at (other, c)) (cond same (Some b) (map.get t.ballots other)) ≡ cond same (Some (state_at (key, b))) (map.get (states_in t) other)
+    at : (other : Key) (same : Bool) → is_key key other ≡ same
+        → option_map (λ c. state_at (other, c)) (cond same (Some b) (map.get t.ballots other)) ≡ cond same (Some (state_at (key, b))) (map.get (states_in t) other)
     at other true e = ap (λ (k : Key). Some (state_at (k, b))) (sym (is_key-true key other e))
     at other false e = sym (get-states_in t other)
 
@@ -114,11 +118,13 @@ states-entries t es are = map.same_map keys_total keys_exact _ _ (λ key.
 
 -- what a table that stands for a history says is what the history says
 pub states_in-known : (t : TableView) (h : List Input) → TableStandsFor t h → states_in t ≡ key_states t.me h
-states_in-known t h s = states-told t (map.entries t.ballots) h (map.same_map keys_total keys_exact _ _ (λ key. map.get-from_entries keys_total (map.entries t.ballots) key ∙ sym (map.get-entries t.ballots key))) s
+states_in-known t h s =
+    states-told t (map.entries t.ballots) h (map.same_map keys_total keys_exact _ _ (λ key. map.get-from_entries keys_total (map.entries t.ballots) key ∙ sym (map.get-entries t.ballots key))) s
 
 -- ---- a table that is told the states
 
-pub state_kept : (t : TableView) (m m' : map.FinMap key_cmp Ballot) (old kept new : Leaders) (key : Key) (b : Ballot) → m ≡ t.ballots → AreLatest m old → map.get t.ballots key ≡ None → ((group : List ℕ) → latest_of kept group ≡ latest_of old group)
+pub state_kept : (t : TableView) (m m' : map.FinMap key_cmp Ballot) (old kept new : Leaders) (key : Key) (b : Ballot) → m ≡ t.ballots → AreLatest m old → map.get t.ballots key ≡ None
+    → ((group : List ℕ) → latest_of kept group ≡ latest_of old group)
     → m' ≡ map.insert m key b → ((group : List ℕ) → latest_of new group ≡ noted None b.leader key group (latest_of kept group)) → AreLatest m' new
 state_kept t m m' old placed new key b same are none room put note =
     hear_kept t m m' old placed new key (record { stood = None; leader = None }) b same are (sym (ap known none)) room put (λ c e. none≢some c e) note
@@ -138,12 +144,14 @@ sorted-drop (suc n) (x ∷ xs) s = sorted-drop n xs s.1
 pub from_here : (items : List KeyState) (i j : ℕ) (s : KeyState) → i < length items → j ≡ i + 1 → s ≡ get_or items i s → drop i items ≡ s ∷ drop j items
 from_here items i j s less next is = drop_more items i s less ∙ (λ k. sym is k ∷ drop (sym next k) items)
 
-pub absent : (items : List KeyState) (i j : ℕ) (s : KeyState) (m : map.FinMap key_cmp Ballot) → IsStrictlySortedBy by_state items → i < length items → j ≡ i + 1 → s ≡ get_or items i s → m ≡ ballots_of (drop j items) → map.get m s.key ≡ None
+pub absent : (items : List KeyState) (i j : ℕ) (s : KeyState) (m : map.FinMap key_cmp Ballot) → IsStrictlySortedBy by_state items → i < length items → j ≡ i + 1 → s ≡ get_or items i s
+    → m ≡ ballots_of (drop j items) → map.get m s.key ≡ None
 absent items i j s m sorted less next is e =
     let here = subst (IsStrictlySortedBy by_state) (from_here items i j s less next is) (sorted-drop i items sorted) in
     ap (λ n. map.get n s.key) e ∙ (map.get-from_entries keys_total (list_map entry_of (drop j items)) s.key ∙ find-below s (drop j items) (sorted_head by_state s (drop j items) here))
 
-pub one_more_put : (items : List KeyState) (i j : ℕ) (s : KeyState) (m n : map.FinMap key_cmp Ballot) → i < length items → j ≡ i + 1 → s ≡ get_or items i s → m ≡ ballots_of (drop j items) → n ≡ map.insert m s.key (ballot_of s) → n ≡ ballots_of (drop i items)
+pub one_more_put : (items : List KeyState) (i j : ℕ) (s : KeyState) (m n : map.FinMap key_cmp Ballot) → i < length items → j ≡ i + 1 → s ≡ get_or items i s
+    → m ≡ ballots_of (drop j items) → n ≡ map.insert m s.key (ballot_of s) → n ≡ ballots_of (drop i items)
 one_more_put items i j s m n less next is e put = put ∙ (ap (λ k. map.insert k s.key (ballot_of s)) e ∙ sym (ap ballots_of (from_here items i j s less next is)))
 
 -- what the ballots have at a key, by the states
@@ -160,7 +168,8 @@ keys_kept : (items : List KeyState) (key : Key) (s : KeyState) → find key_cmp 
 keys_kept [] key s e = none≢some s e
 keys_kept (t ∷ items) key s e = go (key_cmp key t.key) refl (keys_kept items key s) e
   where
-    go : (o : Ordering) → key_cmp key t.key ≡ o → (find key_cmp key (list_map under_key items) ≡ Some s → s.key ≡ key) → cond (is_eq o) (Some t) (find key_cmp key (list_map under_key items)) ≡ Some s → s.key ≡ key
+    go : (o : Ordering) → key_cmp key t.key ≡ o → (find key_cmp key (list_map under_key items) ≡ Some s → s.key ≡ key)
+        → cond (is_eq o) (Some t) (find key_cmp key (list_map under_key items)) ≡ Some s → s.key ≡ key
     go Less f rest g = rest g
     go Equal f rest g = ap (λ (u : KeyState). u.key) (sym (same_Some t s g)) ∙ sym (keys_exact key t.key f)
     go Greater f rest g = rest g
@@ -186,8 +195,8 @@ states-put_back t items are = map.same_map keys_total keys_exact _ _ (λ key.
 pub restored : (t : TableView) (items : List KeyState) (h : List Input) → t.ballots ≡ ballots_of items → keyed items ≡ key_states t.me h → t.stands ≡ stands h → TableStandsFor t h
 restored t items h are told count = record {
   ballots = λ key. record {
-    bid = ap (λ o. (known o).stood) (is key) ∙ bid_at key (touched h key) refl;
-    known = ap (λ o. (known o).leader) (is key) ∙ leader_at key (touched h key) refl;
+    bid = ap (λ o. (known o).stood) (is key) ∙ (bid_at key (touched h key) refl ∙ stood-first h key);
+    known = ap (λ o. (known o).leader) (is key) ∙ (leader_at key (touched h key) refl ∙ leader-first t.me h key);
   };
   touched = λ key. sym (ap is_some (is key) ∙ some_at key (touched h key));
   stands = count;
@@ -216,8 +225,8 @@ all_told items left es e none = sym (ap (λ l. items ++ list_map state_at l) non
 pub stands-known : (t : TableView) (h : List Input) → states_in t ≡ key_states t.me h → t.stands ≡ stands h → TableStandsFor t h
 stands-known t h same count = record {
   ballots = λ key. record {
-    bid = sym (stood_in t key) ∙ (ap (λ m. stood_of (map.get m key)) same ∙ stood-known t.me h key);
-    known = sym (leader_in t key) ∙ (ap (λ m. leader_of (map.get m key)) same ∙ leader-known t.me h key);
+    bid = sym (stood_in t key) ∙ (ap (λ m. stood_of (map.get m key)) same ∙ (stood-known t.me h key ∙ stood-first h key));
+    known = sym (leader_in t key) ∙ (ap (λ m. leader_of (map.get m key)) same ∙ (leader-known t.me h key ∙ leader-first t.me h key));
   };
   touched = λ key. sym (touched-known t.me h key) ∙ (ap (λ m. is_some (map.get m key)) (sym same) ∙ touched_in t key);
   stands = count;

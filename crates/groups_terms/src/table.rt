@@ -94,6 +94,13 @@ impl Table {
         self.stands
     }
 
+    /// How many keys its inputs named.
+    pub fn keys(&self) -> usize
+        ensures { result ≡ map.len (states_in self.now) }
+    {
+        self.ballots.len()
+    }
+
     /// Stands for a key for which the node has not stood: the token that it sends. An `Err` changes nothing.
     pub fn stand(&mut self, key: Key, bid: Bid) -> Result<Msg, AllocError>
         requires fresh { (ballot_at self.old key).stood ≡ None }

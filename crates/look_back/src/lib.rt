@@ -5,10 +5,10 @@
 ghost use Rattle.std.specs.Prelude.{◌≡◌, ℕ, ◌<◌, ◌≤◌, ◌*◌, ◌^◌, length, IfOk, Some};
 ghost use Rattle.std.specs.Option.{option_and_then};
 ghost use Rattle.ring_records.specs.Admission.{objection, shortage, refusal};
-ghost use Rattle.ring_records.specs.Emission.{is_below, emit, sent, carry};
-ghost use Rattle.ring_records.specs.History.{names, touched, bid_for, is_stand, message_of, upto_of, stood, taken, credit, stands};
+ghost use Rattle.ring_records.specs.Emission.{is_below, passed_on, emit, sent, carry};
+ghost use Rattle.ring_records.specs.History.{names, is_named, touched, bid_for, is_stand, message_of, upto_of, first_stand, stood, taken, credit, stands};
 ghost use Rattle.ring_records.specs.Order.{is_key};
-ghost use Rattle.ring_records.specs.Leader.{is_bid, makes_leader, leader, decided, greater_term, term_led, latest};
+ghost use Rattle.ring_records.specs.Leader.{is_bid, makes_leader, first_leader, leader, decided, greater_term, term_led, latest};
 
 use ring_records::{
     Base, Bid, Candidate, Decision, GroupName, Input, Key, Msg, NodeNo, Packet, Refusal, Term,
@@ -24,16 +24,32 @@ pub use releases::{decisions, packets, window};
 pub use replies::answer;
 
 /// Whether some Stand or Take of the history names the key.
-#[tactic(auto, unfolding(ring_records::specs::History::touched))]
-pub fn touched(history: &[Input], key: &Key) -> bool
-    ensures { result ≡ touched history.now key.now }
+#[tactic(auto, unfolding(ring_records::specs::History::is_named))]
+pub fn is_named(history: &[Input], key: &Key) -> bool
+    ensures { result ≡ is_named history.now key.now }
 {
     history.iter().any(|input| names(key, input))
 }
 
+/// Whether the key is touched.
+#[tactic(auto, unfolding(ring_records::specs::History::touched))]
+pub fn touched(history: &[Input], key: &Key) -> bool
+    ensures { result ≡ touched history.now key.now }
+{
+    is_named(history, key)
+}
+
 /// The bid of the Stand for the key, if there is one.
+#[tactic(auto, unfolding(ring_records::specs::History::stood))]
 pub fn stood(history: &[Input], key: &Key) -> Option<Bid>
     ensures { result ≡ stood history.now key.now }
+{
+    first_stand(history, key)
+}
+
+/// The bid of the first Stand for the key.
+pub fn first_stand(history: &[Input], key: &Key) -> Option<Bid>
+    ensures { result ≡ first_stand history.now key.now }
 {
     for input in history {
         let bid = bid_for(key, input);
@@ -77,8 +93,16 @@ pub fn taken(alloc: Global, history: &[Input]) -> Result<Vec<Msg>, AllocError>
 }
 
 /// The leader for the key, if node `me` knows one by its history.
+#[tactic(auto, unfolding(ring_records::specs::Leader::leader))]
 pub fn leader(me: NodeNo, history: &[Input], key: &Key) -> Option<Candidate>
     ensures { result ≡ leader me history.now key.now }
+{
+    first_leader(me, history, key)
+}
+
+/// The candidate of the first input that shows one to lead for the key.
+pub fn first_leader(me: NodeNo, history: &[Input], key: &Key) -> Option<Candidate>
+    ensures { result ≡ first_leader me history.now key.now }
 {
     for (index, input) in history.iter().enumerate() {
         let shown = shown_leader(me, key, &history[..index], input);
@@ -102,7 +126,7 @@ pub fn latest(me: NodeNo, history: &[Input], group: &GroupName) -> Option<(Term,
     latest
 }
 
-/// What node `me` sends on when it accepts the input after the history.
+/// What node `me` sends when it accepts the input after the history.
 #[tactic(auto, unfolding(ring_records::specs::Emission::emit))]
 pub fn emit(me: NodeNo, history: &[Input], input: &Input) -> Option<Msg>
     ensures { result ≡ emit me history.now input.now }
@@ -252,14 +276,16 @@ fn shown_leader(me: NodeNo, key: &Key, before: &[Input], input: &Input) -> Optio
     }
 }
 
-#[tactic(auto, unfolding(ring_records::specs::Leader::makes_leader, ring_records::specs::History::stood))]
+#[tactic(auto, unfolding(ring_records::specs::Leader::makes_leader))]
 fn named_leader(me: NodeNo, key: &Key, before: &[Input], msg: &Msg) -> Option<Candidate>
     ensures { result ≡ makes_leader me key.now before.now (Input.Take 0 msg.now) }
 {
     let candidate = msg.candidate();
     let shows = match msg {
         Msg::Token { key: named, .. } => {
-            is_key(named, key) && candidate.node == me && is_bid(stood(before, key), candidate.bid)
+            is_key(named, key)
+                && candidate.node == me
+                && is_bid(first_stand(before, key), candidate.bid)
         }
         Msg::Elected { key: named, .. } => is_key(named, key) && candidate.node != me,
     };
@@ -319,9 +345,9 @@ fn is_below(stood: Option<Bid>, me: NodeNo, candidate: &Candidate) -> bool
     }
 }
 
-#[tactic(auto, unfolding(ring_records::specs::Emission::emit))]
+#[tactic(auto, unfolding(ring_records::specs::Emission::passed_on))]
 fn pass_on(me: NodeNo, history: &[Input], msg: &Msg) -> Option<Msg>
-    ensures { result ≡ emit me history.now (Input.Take 0 msg.now) }
+    ensures { result ≡ passed_on me history.now msg.now }
 {
     let (key, candidate) = (msg.key(), msg.candidate());
     let own = candidate.node == me;

@@ -13,7 +13,7 @@ use Rattle.ring_records.specs.declared.msg.Msg.TheVariants.{Token, Elected}
 use Rattle.ring_records.specs.declared.packet.Packet.TheVariants.{Carry}
 use Rattle.ring_records.specs.declared.refusal.Refusal.TheVariants as refused
 use Rattle.ring_records.specs.Admission.{IsInTurn, IsAllowed, where_so, already, is_touched, stale, out_of_turn, too_many, objection}
-use Rattle.ring_records.specs.Emission.{emit, sent, carry}
+use Rattle.ring_records.specs.Emission.{passed_on, emit, sent, carry}
 use Rattle.ring_records.specs.History.{names, bid_for, stood, message_of, taken, upto_of, credit, is_stand}
 use Rattle.ring_records.specs.Leader.{makes_leader, leader, latest, newly, decided}
 use Rattle.ring_records.specs.Lists.{or_else, found_after, EachAfter}
@@ -36,7 +36,7 @@ module _ (me : ℕ) (g h : List Input) (a : AreAlike me g h) where
   makes_leader-alike key (Acked upto) = refl
 
   pub emit-alike : (x : Input) → emit me g x ≡ emit me h x
-  unfolding emit
+  unfolding emit passed_on
   emit-alike (Stand key bid) = refl
   emit-alike (Take msg_no (Token key c)) = rw (a.stood_same key, a.leader_same key) refl
   emit-alike (Take msg_no (Elected key c)) = rw (a.leader_same key) refl

@@ -13,7 +13,7 @@ use Rattle.ring_records.specs.declared.msg.Msg.TheVariants.{Token, Elected}
 use Rattle.ring_records.specs.declared.refusal.Refusal.{Refusal}
 use Rattle.ring_records.specs.declared.refusal.Refusal.TheVariants as refused
 use Rattle.ring_records.specs.Admission.{IsInTurn, IsAllowed, where_so, already, is_touched, stale, too_many, objection}
-use Rattle.ring_records.specs.Emission.{emit, sent}
+use Rattle.ring_records.specs.Emission.{passed_on, emit, sent}
 use Rattle.ring_records.specs.History.{names, touched, bid_for, first_stand, stood, message_of, taken, upto_of, credit, is_stand, stands}
 use Rattle.ring_records.specs.Known.{passed, shown, stood_of, leader_of, known_of, leads_in, sends, stepped, after, Objects}
 use Rattle.ring_records.specs.Leader.{is_bid, makes_leader, leader, latest}
@@ -54,7 +54,7 @@ touched-known me h key = ap is_some (get-states me h key) ∙ some_where (touche
 -- ---- what it sends, and has against an input
 
 emit-passed : (me : ℕ) (h : List Input) (msg_no : ℕ) (msg : Msg) → emit me h (Take msg_no msg) ≡ passed me (stood h (key_of msg)) (leader me h (key_of msg)) msg
-unfolding emit passed
+unfolding emit passed_on passed
 emit-passed me h msg_no (Token key c) = refl
 emit-passed me h msg_no (Elected key c) = refl
 
@@ -102,7 +102,8 @@ shows me h msg_no (Token k c) key e = ap (λ b. cond (b && (eqb c.node me) && is
 shows me h msg_no (Elected k c) key e = ap (λ b. cond (b && not (eqb c.node me)) (Some c) None) e
 
 -- the states after an input that names the key: the one of the key is new, and the others are as before
-states-named : (me : ℕ) (h : List Input) (x : Input) (key : Key) (s : KeyState) → ((other : Key) → names other x ≡ is_key key other) → s ≡ state_of me (h ++ x ∷ []) key → fin.insert (key_states me h) key s ≡ key_states me (h ++ x ∷ [])
+states-named : (me : ℕ) (h : List Input) (x : Input) (key : Key) (s : KeyState) → ((other : Key) → names other x ≡ is_key key other) → s ≡ state_of me (h ++ x ∷ []) key
+    → fin.insert (key_states me h) key s ≡ key_states me (h ++ x ∷ [])
 states-named me h x key s named e = fin.same_map keys_total keys_exact _ _ (λ other. get-put (key_states me h) key s other ∙ at other (is_key key other) refl)
   where
     or_true : (b : Bool) → (b || true) ≡ true
@@ -241,9 +242,19 @@ stepped-known me n h (Acked upto) a within = acked-goes_on me h upto a.in_turn.a
 -- no more is credited than was sent
 pub credit-next : (me n : ℕ) (h : List Input) (x : Input) → IsAllowed me n h x → credit h ≤ length (sent me h) → credit (h ++ x ∷ []) ≤ length (sent me (h ++ x ∷ []))
 unfolding upto_of IsInTurn
-credit-next me n h (Stand key bid) a le = let same = credit-push h (Stand key bid) in let more = ap length (sent-push me h (Stand key bid)) ∙ length-append (sent me h) (cons_option (emit me h (Stand key bid)) []) in omega arith
-credit-next me n h (Take msg_no msg) a le = let same = credit-push h (Take msg_no msg) in let more = ap length (sent-push me h (Take msg_no msg)) ∙ length-append (sent me h) (cons_option (emit me h (Take msg_no msg)) []) in omega arith
-credit-next me n h (Acked upto) a le = let same = credit-push h (Acked upto) in let within = a.in_turn.sent in let more = ap length (sent-push me h (Acked upto)) ∙ length-append (sent me h) (cons_option (emit me h (Acked upto)) []) in omega arith
+credit-next me n h (Stand key bid) a le =
+    let same = credit-push h (Stand key bid) in
+    let more = ap length (sent-push me h (Stand key bid)) ∙ length-append (sent me h) (cons_option (emit me h (Stand key bid)) []) in
+    omega arith
+credit-next me n h (Take msg_no msg) a le =
+    let same = credit-push h (Take msg_no msg) in
+    let more = ap length (sent-push me h (Take msg_no msg)) ∙ length-append (sent me h) (cons_option (emit me h (Take msg_no msg)) []) in
+    omega arith
+credit-next me n h (Acked upto) a le =
+    let same = credit-push h (Acked upto) in
+    let within = a.in_turn.sent in
+    let more = ap length (sent-push me h (Acked upto)) ∙ length-append (sent me h) (cons_option (emit me h (Acked upto)) []) in
+    omega arith
 
 pub credit-sent : (me n : ℕ) (h : List Input) → EachAfter (IsAllowed me n) [] h → credit h ≤ length (sent me h)
 unfolding credit

@@ -140,7 +140,8 @@ state-found n bytes x are e =
     let three = Takes-then bytes (key_bytes x.0.key ++ flags x.0 ∷ []) b.0.1 (bid_bytes x.0.stood) r.mid two r.bid in
     (Takes-then bytes ((key_bytes x.0.key ++ flags x.0 ∷ []) ++ bid_bytes x.0.stood) r.mid (leader_bytes x.0.leader) x.1 three r.led, subst (λ (k : Key). IsStateOf n k x.0) (sym r.of.own) r.of)
 
-behind-again : (n : ℕ) (key : Key) (stood : Option ℕ) (leader : Option Candidate) (rest : List ℕ) → ((bid : ℕ) → stood ≡ Some bid → bid ≤ 999999999) → ((c : Candidate) → leader ≡ Some c → IsCandidateOf n c)
+behind-again : (n : ℕ) (key : Key) (stood : Option ℕ) (leader : Option Candidate) (rest : List ℕ) → ((bid : ℕ) → stood ≡ Some bid → bid ≤ 999999999)
+    → ((c : Candidate) → leader ≡ Some c → IsCandidateOf n c)
     → state_behind n key (flags (record { key = key; stood = stood; leader = leader })) (bid_bytes stood ++ (leader_bytes leader ++ rest)) ≡ Ok (record { key = key; stood = stood; leader = leader }, rest)
 unfolding state_behind
 behind-again n key None None rest b l = refl
@@ -174,7 +175,8 @@ named-found n bytes x are e =
     subst (λ (y : (Key × Candidate) × List ℕ). IsNamed n bytes y.0.0 y.0.1 y.1) (same_ok ((a.0.0, b.0.0), b.0.1) x b.2) (record { mid = a.0.1; first = key.0; second = c.0; named = key.1; candidate = c.1 })
 
 -- behind a kind byte
-msg-taken : (n kind : ℕ) (bytes after : List ℕ) (key : Key) (c : Candidate) (rest : List ℕ) → Takes bytes (kind ∷ []) after → IsNamed n after key c rest → Takes bytes ((kind ∷ []) ++ key_bytes key ++ candidate_bytes c) rest
+msg-taken : (n kind : ℕ) (bytes after : List ℕ) (key : Key) (c : Candidate) (rest : List ℕ) → Takes bytes (kind ∷ []) after → IsNamed n after key c rest
+    → Takes bytes ((kind ∷ []) ++ key_bytes key ++ candidate_bytes c) rest
 msg-taken n kind bytes after key c rest first x =
     Takes-then bytes ((kind ∷ []) ++ key_bytes key) x.mid (candidate_bytes c) rest (Takes-then bytes (kind ∷ []) after (key_bytes key) x.mid first x.first) x.second
 
@@ -224,7 +226,8 @@ module _ {A : Type 0} (f : List ℕ → Result (A × List ℕ) RecordFault) (g :
     pub each : AllByRecursion P xs.0
     pub len : length xs.0 ≡ count
 
-  pub items-found : ((bytes : List ℕ) (x : A × List ℕ) → AreBytes bytes → f bytes ≡ Ok x → Takes bytes (g x.0) x.1 × P x.0) → (count : ℕ) (bytes : List ℕ) (xs : List A × List ℕ) → AreBytes bytes → items_at f count bytes ≡ Ok xs → AreFound bytes count xs
+  pub items-found : ((bytes : List ℕ) (x : A × List ℕ) → AreBytes bytes → f bytes ≡ Ok x → Takes bytes (g x.0) x.1 × P x.0) → (count : ℕ) (bytes : List ℕ) (xs : List A × List ℕ)
+      → AreBytes bytes → items_at f count bytes ≡ Ok xs → AreFound bytes count xs
   unfolding items_at
   items-found found zero bytes xs are e = subst (AreFound bytes zero) (same_ok ([], bytes) xs e) (record { taken = takes-none bytes are; each = tt; len = refl })
   items-found found (suc count) bytes xs are e =
@@ -238,7 +241,8 @@ module _ {A : Type 0} (f : List ℕ → Result (A × List ℕ) RecordFault) (g :
         len = ap suc rest.len;
       })
 
-  pub items-again : ((x : A) (rest : List ℕ) → P x → f (g x ++ rest) ≡ Ok (x, rest)) → (xs : List A) (rest : List ℕ) → AllByRecursion P xs → items_at f (length xs) (flat_map g xs ++ rest) ≡ Ok (xs, rest)
+  pub items-again : ((x : A) (rest : List ℕ) → P x → f (g x ++ rest) ≡ Ok (x, rest)) → (xs : List A) (rest : List ℕ) → AllByRecursion P xs
+      → items_at f (length xs) (flat_map g xs ++ rest) ≡ Ok (xs, rest)
   unfolding items_at
   items-again again [] rest each = refl
   items-again again (x ∷ xs) rest each =

@@ -70,7 +70,8 @@ counts-found bytes x are e =
     let six = Takes-then bytes _ f.0.1 _ g.0.1 five keys.0 in
     subst (IsCounted bytes) (same_ok (made a.0.0 b.0.0 c.0.0 d.0.0 f.0.0 g.0.0, g.0.1) x g.2) (six, stands.1, keys.1)
 
-counts-again : (k : Counts) (rest : List ℕ) → k.inputs < 2 ^ 64 → k.taken < 2 ^ 64 → k.credit < 2 ^ 64 → k.sent < 2 ^ 64 → k.stands < 2 ^ 16 → k.keys < 2 ^ 32 → counts_at (numbers k ++ rest) ≡ Ok (k, rest)
+counts-again : (k : Counts) (rest : List ℕ) → k.inputs < 2 ^ 64 → k.taken < 2 ^ 64 → k.credit < 2 ^ 64 → k.sent < 2 ^ 64 → k.stands < 2 ^ 16 → k.keys < 2 ^ 32
+    → counts_at (numbers k ++ rest) ≡ Ok (k, rest)
 unfolding counts_at
 counts-again k rest inputs taken credit sent stands keys =
     let r6 : List ℕ = to_be_bytes w32 k.keys ++ rest in
@@ -161,7 +162,8 @@ parts-spelled n bytes k states msgs parts fits =
       few_keys = subst (λ (c : ℕ). c < 2 ^ 32) (sym count) parts.few_keys;
     }
 
-pub read-spelled : (n : ℕ) (bytes : List ℕ) (k : Counts) (states : List KeyState) (msgs : List Msg) → AreBytes bytes → parts_at n bytes ≡ Ok (k, states, msgs) → AreFitting k states → Spells n bytes (made_of k states msgs)
+pub read-spelled : (n : ℕ) (bytes : List ℕ) (k : Counts) (states : List KeyState) (msgs : List Msg) → AreBytes bytes → parts_at n bytes ≡ Ok (k, states, msgs) → AreFitting k states
+    → Spells n bytes (made_of k states msgs)
 read-spelled n bytes k states msgs are e fits = parts-spelled n bytes k states msgs (parts-found n bytes (k, states, msgs) are e) fits
 
 -- ---- what is spelled is read
@@ -223,7 +225,8 @@ none-spelled n bytes fault e s spells = apart _ _ (sym (spelled-read n bytes s s
     apart : (x : Parts) (d : RecordFault) → ◌≡◌ {A = Result Parts RecordFault} (Ok x) (Err d) → ⊥
     apart x d f = cc f
 
-pub unfit-spelled : (n : ℕ) (bytes : List ℕ) (k : Counts) (states : List KeyState) (msgs : List Msg) → parts_at n bytes ≡ Ok (k, states, msgs) → (AreFitting k states → ⊥) → (s : Summary) → Spells n bytes s → ⊥
+pub unfit-spelled : (n : ℕ) (bytes : List ℕ) (k : Counts) (states : List KeyState) (msgs : List Msg) → parts_at n bytes ≡ Ok (k, states, msgs) → (AreFitting k states → ⊥)
+    → (s : Summary) → Spells n bytes s → ⊥
 unfit-spelled n bytes k states msgs e unfit s spells =
     let same : ◌≡◌ {A = Parts} (counts_of s, fin.values s.keys, s.window) (k, states, msgs) = same_ok _ _ (sym (spelled-read n bytes s spells) ∙ e) in
     unfit (subst (λ (p : Parts). AreFitting p.0 p.1) same (sound-fits n s spells.sound))
@@ -239,6 +242,7 @@ one-spelled n bytes s t a b = λ i. record { inputs = (same i).0.inputs; taken =
     keys = fin.same_entries_map s.keys t.keys
         (sym (entries-own (fin.entries s.keys) (own-entries n s a.sound)) ∙ (ap (λ (p : Parts). list_map under_key p.1) same ∙ entries-own (fin.entries t.keys) (own-entries n t b.sound)))
 
-pub broken-spelled : (n : ℕ) (bytes : List ℕ) (e : Refusal) (found : Result Parts RecordFault) → found ≡ parts_at n bytes → IsBroken e found → (e ≡ refused.OutOfMemory) ⊎ ((e ≡ refused.Damaged 0) × ((s : Summary) → Spells n bytes s → ⊥))
+pub broken-spelled : (n : ℕ) (bytes : List ℕ) (e : Refusal) (found : Result Parts RecordFault) → found ≡ parts_at n bytes → IsBroken e found
+    → (e ≡ refused.OutOfMemory) ⊎ ((e ≡ refused.Damaged 0) × ((s : Summary) → Spells n bytes s → ⊥))
 broken-spelled n bytes e (Ok x) is broken = inl broken
 broken-spelled n bytes e (Err fault) is broken = elim broken [ inl damaged ↦ inr (damaged, none-spelled n bytes fault (sym is)) | inr memory ↦ inl memory ]

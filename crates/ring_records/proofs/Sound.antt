@@ -31,9 +31,9 @@ use Rattle.ring_records.specs.Summary.{key_states, summary, empty}
 use Rattle.ring_records.proofs.Admission.{or_else-none, where_so-none, allowed-free}
 use Rattle.ring_records.proofs.Compare.{get-put}
 use Rattle.ring_records.proofs.Keys.{is_key-true}
-use Rattle.ring_records.proofs.KeysPut.{part_of, keys-put}
 use Rattle.ring_records.proofs.Known.{objects-of, stepped-known, credit-next}
 use Rattle.ring_records.proofs.Lists.{along, none≢some, Contains-option_cases}
+use Rattle.ring_records.proofs.Standing.{stand-counted, take-counted}
 use Rattle.ring_records.proofs.StatesInOrder.{values-keyed}
 
 pub sound-empty : (n : ℕ) → IsSound n empty
@@ -81,7 +81,8 @@ shown-of n me stood (Elected key d) c of e = go (not (eqb d.node me)) e
     go true e = subst (IsCandidateOf n) (same_Some d c e) of.candidate
     go false e = none≢some c e
 
-either-of : (n : ℕ) (a b : Option Candidate) (c : Candidate) → ((c : Candidate) → a ≡ Some c → IsCandidateOf n c) → ((c : Candidate) → b ≡ Some c → IsCandidateOf n c) → or_else a b ≡ Some c → IsCandidateOf n c
+either-of : (n : ℕ) (a b : Option Candidate) (c : Candidate) → ((c : Candidate) → a ≡ Some c → IsCandidateOf n c) → ((c : Candidate) → b ≡ Some c → IsCandidateOf n c)
+    → or_else a b ≡ Some c → IsCandidateOf n c
 either-of n None b c f g e = g c e
 either-of n (Some d) b c f g e = f c e
 
@@ -119,14 +120,6 @@ unknown : (o : Option KeyState) → is_some o ≡ false → o ≡ None
 unknown None e = refl
 unknown (Some s) e = absurd cc
 
-same_stood : (o : Option KeyState) (s : KeyState) → s.stood ≡ stood_of o → part_of (λ s. cond (has_stood s) 1 0) o ≡ cond (has_stood s) 1 0
-same_stood None s e = sym (ap (λ (b : Option ℕ). cond (is_some b) 1 0) e)
-same_stood (Some t) s e = sym (ap (λ (b : Option ℕ). cond (is_some b) 1 0) e)
-
--- what counts as one Stand
-abbrev stood_once : KeyState → ℕ
-stood_once s = cond (has_stood s) 1 0
-
 module _ (n me : ℕ) (s : Summary) (sound : IsSound n s) where
   stand-sound : (key : Key) (bid : ℕ) → IsKeyInRange key → bid ≤ 999999999 → 1 ≤ me → me ≤ 16 → me ≤ n → Objects n s (Stand key bid) None → IsSound n (stepped me s (Stand key bid))
   stand-sound key bid named low from to inside (led, latest, free) =
@@ -137,17 +130,13 @@ module _ (n me : ℕ) (s : Summary) (sound : IsSound n s) where
       let new : known_of s key ≡ None = unknown (known_of s key) (where_so-none _ _ b.1) in
       let few : s.stands < 1024 = leb-false 1024 s.stands (where_so-none _ _ d.0) in
       let room : s.inputs < 2 ^ 56 = leb-false (2 ^ 56) s.inputs (where_so-none _ _ d.1) in
-      let v : KeyState = record { key = key; stood = Some bid; leader = leader_of (known_of s key) } in
       let msg : Msg = Token key (record { bid = bid; node = me }) in
       let own : IsMessageOf n msg = record { named = named; candidate = record { in_range = record { bid = low; from = from; to = to }; in_ring = inside } } in
-      let put = keys-put stood_once s.keys key v in
-      let none = ap (part_of stood_once) new in
       let longer = length-append s.window (msg ∷ []) in
       let fits : s.credit ≤ s.sent = sound.credit in
       let acts : s.taken + s.stands ≤ s.inputs = sound.acts in
       let within : s.sent ≤ s.inputs = sound.sent in
       let window : length s.window ≡ s.sent - s.credit = sound.window in
-      let counted : s.stands ≡ count_by has_stood (fin.values s.keys) = sound.stands in
       record {
         inputs = omega arith;
         acts = omega arith;
@@ -155,8 +144,8 @@ module _ (n me : ℕ) (s : Summary) (sound : IsSound n s) where
         credit = omega arith;
         window = omega arith;
         few = omega arith;
-        stands = omega arith;
-        states = states-put n s.keys key v sound.states (record {
+        stands = stand-counted me s key bid new sound.stands;
+        states = states-put n s.keys key (record { key = key; stood = Some bid; leader = leader_of (known_of s key) }) sound.states (record {
           own = refl;
           named = named;
           bid = λ b e. subst (λ (k : ℕ). k ≤ 999999999) (same_Some bid b e) low;
@@ -176,14 +165,11 @@ module _ (n me : ℕ) (s : Summary) (sound : IsSound n s) where
       let v : KeyState = record { key = key; stood = stood; leader = or_else led (shown me stood msg) } in
       let of : IsMessageOf n msg = record { named = named; candidate = record { in_range = range; in_ring = ltb-false n (candidate_of msg).node (where_so-none _ _ a.0) } } in
       let on = passed me stood led msg in
-      let put = keys-put stood_once s.keys key v in
-      let same = same_stood (known_of s key) v refl in
       let longer = length-append s.window (cons_option on []) in
       let fits : s.credit ≤ s.sent = sound.credit in
       let acts : s.taken + s.stands ≤ s.inputs = sound.acts in
       let within : s.sent ≤ s.inputs = sound.sent in
       let window : length s.window ≡ s.sent - s.credit = sound.window in
-      let counted : s.stands ≡ count_by has_stood (fin.values s.keys) = sound.stands in
       let one = nothing_else on in
       record {
         inputs = omega arith;
@@ -192,7 +178,7 @@ module _ (n me : ℕ) (s : Summary) (sound : IsSound n s) where
         credit = omega arith;
         window = omega arith;
         few = sound.few;
-        stands = omega arith;
+        stands = take-counted me s msg_no msg sound.stands;
         states = states-put n s.keys key v sound.states (record {
           own = refl;
           named = named;
@@ -240,7 +226,8 @@ summary-none me = refl
 abbrev pub IsGiven : ℕ → ℕ → List Input → Input → Type 0
 IsGiven me n h x = IsAllowed me n h x × HasRecord x
 
-sound-next : (me n : ℕ) → 1 ≤ me → me ≤ 16 → me ≤ n → (h : List Input) (x : Input) → IsGiven me n h x → IsSound n (summary me h) × (credit h ≤ length (sent me h)) → IsSound n (summary me (h ++ x ∷ [])) × (credit (h ++ x ∷ []) ≤ length (sent me (h ++ x ∷ [])))
+sound-next : (me n : ℕ) → 1 ≤ me → me ≤ 16 → me ≤ n → (h : List Input) (x : Input) → IsGiven me n h x → IsSound n (summary me h) × (credit h ≤ length (sent me h))
+    → IsSound n (summary me (h ++ x ∷ [])) × (credit (h ++ x ∷ []) ≤ length (sent me (h ++ x ∷ [])))
 sound-next me n from to inside h x given so_far =
     let free : Objects n (summary me h) x None = subst (Objects n (summary me h) x) (allowed-free me n h x given.0) (objects-of me n h x) in
     let next = sound-stepped me n (summary me h) x from to inside given.1 so_far.0 free in

@@ -12,7 +12,7 @@ use Rattle.ring_records.specs.Admission.{base_of, fresh, refusal, Fits, IsBaseOf
 use Rattle.ring_records.specs.Answer.{input_of, if_free, if_input, gained}
 use Rattle.ring_records.specs.Lists.{EachAfter}
 use Rattle.ring_records.specs.Member.{Member}
-use Rattle.ring_records.specs.States.{NodeState, IsNodeState, IsLawfulState, launched_base, is_idle, durable_in, flown_in, gained_by, opened, asked, launched, next_base, launched_all, landed, left_by}
+use Rattle.ring_records.specs.States.{NodeState, IsNodeState, IsPlain, IsLawfulState, launched_base, is_idle, durable_in, flown_in, gained_by, opened, asked, launched, next_base, launched_all, landed, left_by}
 use Rattle.ring_records.specs.Summary.{summary}
 use Rattle.ring_records.proofs.Admission.{refusal-admitted}
 use Rattle.ring_records.proofs.Growth.{EachAfter-take}
@@ -62,7 +62,8 @@ lawful-gained me n capacity b h q lawful = asks (input_of q)
     asks (Some x) = free x (refusal me n capacity b h x) refl
 
 -- a base asks no room of what it stands for, so where it stands for all of them the inputs are lawful with it
-rebased : (me n capacity : ℕ) (b c : Base) (before h : List Input) → length before + length h ≤ c.inputs → EachAfter (IsAdmitted me n capacity b) before h → EachAfter (IsAdmitted me n capacity c) before h
+rebased : (me n capacity : ℕ) (b c : Base) (before h : List Input) → length before + length h ≤ c.inputs → EachAfter (IsAdmitted me n capacity b) before h
+    → EachAfter (IsAdmitted me n capacity c) before h
 unfolding EachAfter Fits
 rebased me n capacity b c before [] all each = tt
 rebased me n capacity b c before (x ∷ h) all each = (
@@ -107,6 +108,21 @@ next-few s counts = go s.checkpoint refl
 
 never : {C : Type 0} (o : Option Base) (b : Base) → o ≡ None → o ≡ Some b → C
 never o b none some = none≢some b (sym none ∙ some)
+
+-- ---- where no input is summarised, and no checkpoint flies
+
+pub plain-base : (s : NodeState) → IsPlain s → launched_base s ≡ fresh
+plain-base s plain_is = ap (λ o. unwrap_or o s.base) plain_is.none ∙ plain_is.base
+
+pub plain-counts : (s : NodeState) → IsPlain s → s.durable ≤ s.flying → s.flying ≤ length s.inputs → IsNodeState s
+plain-counts s plain_is low high =
+    let none = ap (λ (b : Base). b.inputs) plain_is.base in
+    record { durable = low; flying = high; based = omega arith; checkpointed = λ b e. never s.checkpoint b plain_is.none e }
+
+pub plain-landed : (s : NodeState) → IsPlain s → IsPlain (landed s)
+plain-landed s plain_is = record { base = plain-base s plain_is; none = refl }
+
+-- ---- what happens
 
 pub lawful-opened : (m : Member) (b : Base) (l : List Input) → IsBaseOf m.node b l → IsLawful m.node m.n m.capacity b l → IsLawfulState m (opened b l)
 lawful-opened m b l of lawful =

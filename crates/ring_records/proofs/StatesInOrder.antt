@@ -72,7 +72,8 @@ unfolding IsStrictlySortedBy
 rise-all [] i so_far all = tt
 rise-all (s ∷ ss) i so_far all = sorted_from_all_adjacent states_total (s ∷ ss) s (λ k inside. so_far k s (omega arith) inside)
 
-pub rising-at : (states : List KeyState) (i : ℕ) (a b : KeyState) → 1 ≤ i → i < length states → a ≡ get_or states (i - 1) a → b ≡ get_or states i b → IsStrictlySortedBy by_state states → by_state a b ≡ Less
+pub rising-at : (states : List KeyState) (i : ℕ) (a b : KeyState) → 1 ≤ i → i < length states → a ≡ get_or states (i - 1) a → b ≡ get_or states i b → IsStrictlySortedBy by_state states
+    → by_state a b ≡ Less
 rising-at states i a b from inside at_a at_b sorted =
     (λ j. by_state (at_a j) (get_or_read states i b inside at_b a j)) ∙ Less-from_sorted by_state states (i - 1) i a sorted (omega arith) inside
 
@@ -103,7 +104,8 @@ entries-own [] own = refl
 entries-own (e ∷ es) own = λ i. (own.0 i, e.1) ∷ entries-own es own.1 i
 
 -- what holds of each state that is found holds of each entry
-pub each-entry : (P : Key → KeyState → Type 0) (es : List (Key × KeyState)) → T (is_sorted key_cmp es) → ((k : Key) (s : KeyState) → find key_cmp k es ≡ Some s → P k s) → AllByRecursion (λ e. P e.0 e.1) es
+pub each-entry : (P : Key → KeyState → Type 0) (es : List (Key × KeyState)) → T (is_sorted key_cmp es) → ((k : Key) (s : KeyState) → find key_cmp k es ≡ Some s → P k s)
+    → AllByRecursion (λ e. P e.0 e.1) es
 each-entry P [] h holds = tt
 each-entry P (e ∷ es) h holds = (
   holds e.0 e.1 (ap (λ o. cond (is_eq o) (Some e.1) (find key_cmp e.0 es)) (tied_itself keys_total e.0)),

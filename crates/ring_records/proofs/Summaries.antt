@@ -1,10 +1,9 @@
 -- What two histories with one summary share, and that they share it after each input that they allow.
-use Rattle.std.proofs.Common.{ℕ, ◌≡◌, Bool, true, false, cond, ◌||◌, List, [], ◌∷◌, ◌++◌, map, length, drop, Some, None, refl, sym, ap, ◌∙◌}
+use Rattle.std.proofs.Common.{ℕ, ◌≡◌, Bool, true, false, cond, ◌||◌, List, [], ◌∷◌, map, length, drop, Some, None, refl, sym, ap, ◌∙◌}
 use Rattle.std.specs.Cmp.{eq_by_cmp_equiv}
 use Rattle.std.specs.FinMap as fin
-use Rattle.std.specs.List.{cons_option, filter_map, list_any}
+use Rattle.std.specs.List.{filter_map, list_any}
 use Rattle.std.specs.Map.{lookup}
-use Rattle.std.proofs.lemmas.Bool.{or_parts}
 use Rattle.std.proofs.lemmas.Option.{same_Some}
 use Rattle.ring_records.specs.declared.input.Input.{Input}
 use Rattle.ring_records.specs.declared.input.Input.TheVariants.{Stand, Take, Acked}
@@ -12,15 +11,14 @@ use Rattle.ring_records.specs.declared.key.Key.{Key}
 use Rattle.ring_records.specs.declared.key_state.KeyState.{KeyState}
 use Rattle.ring_records.specs.declared.summary.Summary.{Summary}
 use Rattle.ring_records.specs.Emission.{sent}
-use Rattle.ring_records.specs.History.{names, touched, bid_for, first_stand, stood, taken, credit, stands}
+use Rattle.ring_records.specs.History.{names, is_named, touched, stood, taken, credit, stands}
 use Rattle.ring_records.specs.KeyStates.{under_key}
-use Rattle.ring_records.specs.Leader.{makes_leader, first_leader, leader}
-use Rattle.ring_records.specs.Lists.{first, found_after}
+use Rattle.ring_records.specs.Leader.{leader}
 use Rattle.ring_records.specs.Message.{key_of}
 use Rattle.ring_records.specs.Order.{is_key}
 use Rattle.ring_records.specs.Summary.{named, state_of, key_states, summary}
 use Rattle.ring_records.proofs.Compare.{keys_total, keys_exact, is_eq-key_cmp, get-key}
-use Rattle.ring_records.proofs.History.{bid_for-unnamed, makes_leader-unnamed}
+use Rattle.ring_records.proofs.History.{touched-named, unnamed-stand, unnamed-leader}
 use Rattle.ring_records.proofs.Keys.{is_key-true}
 use Rattle.ring_records.proofs.Lists.{none≢some}
 
@@ -40,38 +38,28 @@ lookup-states f keeps (k ∷ ks) key =
     go true e = ap (λ (j : Key). Some (f j)) (sym (is_key-true key k e))
     go false e = refl
 
-named-touched : (h : List Input) (key : Key) → list_any (is_key key) (filter_map named h) ≡ touched h key
-unfolding named touched names
-named-touched [] key = refl
-named-touched (Stand k bid ∷ h) key = λ i. is_key-flip key k i || named-touched h key i
-named-touched (Take msg_no msg ∷ h) key = λ i. is_key-flip key (key_of msg) i || named-touched h key i
-named-touched (Acked upto ∷ h) key = named-touched h key
+named-keys : (h : List Input) (key : Key) → list_any (is_key key) (filter_map named h) ≡ is_named h key
+unfolding named is_named names
+named-keys [] key = refl
+named-keys (Stand k bid ∷ h) key = λ i. is_key-flip key k i || named-keys h key i
+named-keys (Take msg_no msg ∷ h) key = λ i. is_key-flip key (key_of msg) i || named-keys h key i
+named-keys (Acked upto ∷ h) key = named-keys h key
 
 pub get-states : (me : ℕ) (h : List Input) (key : Key) → fin.get (key_states me h) key ≡ cond (touched h key) (Some (state_of me h key)) None
 unfolding key_states
 get-states me h key =
     get-key (map under_key (map (state_of me h) (filter_map named h))) key
     ∙ (lookup-states (state_of me h) (λ k. refl) (filter_map named h) key
-    ∙ ap (λ b. cond b (Some (state_of me h key)) None) (named-touched h key))
+    ∙ ap (λ b. cond b (Some (state_of me h key)) None) (named-keys h key ∙ sym (touched-named h key)))
 
 -- a key that is not touched has no state
 pub untouched-stood : (h : List Input) (key : Key) → touched h key ≡ false → stood h key ≡ None
-unfolding touched stood first_stand first
-untouched-stood [] key e = refl
-untouched-stood (x ∷ h) key e =
-    let parts = or_parts (names key x) (list_any (names key) h) e in
-    ap (λ o. first (cons_option o (filter_map (bid_for key) h))) (bid_for-unnamed key x parts.0) ∙ untouched-stood h key parts.1
-
-untouched-found : (me : ℕ) (before h : List Input) (key : Key) → touched h key ≡ false → first (found_after (makes_leader me key) before h) ≡ None
-unfolding touched first found_after
-untouched-found me before [] key e = refl
-untouched-found me before (x ∷ h) key e =
-    let parts = or_parts (names key x) (list_any (names key) h) e in
-    ap (λ o. first (cons_option o (found_after (makes_leader me key) (before ++ x ∷ []) h))) (makes_leader-unnamed me key before x parts.0) ∙ untouched-found me (before ++ x ∷ []) h key parts.1
+unfolding touched stood
+untouched-stood h key e = unnamed-stand h key e
 
 pub untouched-leader : (me : ℕ) (h : List Input) (key : Key) → touched h key ≡ false → leader me h key ≡ None
-unfolding leader first_leader
-untouched-leader me h key e = untouched-found me [] h key e
+unfolding touched leader
+untouched-leader me h key e = unnamed-leader me h key e
 
 -- ---- two histories of which the same is known
 

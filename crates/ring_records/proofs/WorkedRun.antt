@@ -1,8 +1,8 @@
 -- That the worked run is legal, and who leads at its end.
 use Rattle.std.proofs.Common.{◌≡◌, Some, refl, lit<, lit≤}
 use Rattle.ring_records.specs.Admission.{IsInTurn}
-use Rattle.ring_records.specs.Emission.{is_below, emit, sent}
-use Rattle.ring_records.specs.History.{names, touched, bid_for, first_stand, stood, message_of, taken, is_stand, stands}
+use Rattle.ring_records.specs.Emission.{is_below, passed_on, emit, sent}
+use Rattle.ring_records.specs.History.{names, is_named, touched, bid_for, first_stand, stood, message_of, taken, is_stand, stands}
 use Rattle.ring_records.specs.Leader.{is_bid, makes_leader, first_leader, leader}
 use Rattle.ring_records.specs.Lists.{first, found_after, EachAfter}
 use Rattle.ring_records.specs.Order.{is_less, is_key}
@@ -23,7 +23,7 @@ unfolding leader first_leader makes_leader first found_after is_key is_bid first
 leads_at_3 = refl
 
 pub legal : IsLegal 3 first_election
-unfolding IsLegal EachAfter IsInTurn IsCarried names touched bid_for first_stand stood message_of taken is_stand stands is_below is_less is_key emit sent is_bid makes_leader first_leader leader first found_after before after item_at part
+unfolding IsLegal EachAfter IsInTurn IsCarried names is_named touched bid_for first_stand stood message_of taken is_stand stands is_below is_less is_key passed_on emit sent is_bid makes_leader first_leader leader first found_after before after item_at part
 legal = (
   record {
     first = lit≤ tt;

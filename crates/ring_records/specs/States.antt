@@ -1,13 +1,17 @@
 -- The state of a durable node, with what the areas of its journal stand for: what may happen to it, and what the node
--- accepts and answers in it. Answer and Member say the same of a node whose journal summarises no input.
+-- accepts and answers in it.
 use Rattle.std.specs.Prelude.{ℕ, ◌≡◌, ◌+◌, ◌-◌, ◌≤◌, min, Bool, ◌&&◌, if◌then◌else◌, nat_eq, List, ◌++◌, length, take, drop, Option, Some, None, unwrap_or, is_none}
 use Rattle.ring_records.specs.declared.base.Base.{Base}
 use Rattle.ring_records.specs.declared.input.Input.{Input}
+use Rattle.ring_records.specs.declared.limits.TheConstants.{BATCH_INPUTS}
 use Rattle.ring_records.specs.declared.refusal.Refusal.{Refusal}
 use Rattle.ring_records.specs.declared.reply.Reply.{Reply}
 use Rattle.ring_records.specs.declared.request.Request.{Request}
-use Rattle.ring_records.specs.Admission.{base_of, refusal, IsBaseOf, IsLawful}
+use Rattle.ring_records.specs.declared.shown.Shown.{Shown}
+use Rattle.ring_records.specs.Admission.{base_of, fresh, refusal, IsBaseOf, IsLawful}
 use Rattle.ring_records.specs.Answer.{Answer, Answered, gained, reply, answer, answered}
+use Rattle.ring_records.specs.Emission.{sent}
+use Rattle.ring_records.specs.History.{taken, credit}
 use Rattle.ring_records.specs.Member.{Member}
 use Rattle.ring_records.specs.Summary.{summary}
 
@@ -21,6 +25,15 @@ pub record NodeState : Type 0 where
   pub flying : ℕ
   pub base : Base
   pub checkpoint : Option Base
+
+-- that of a node whose area in use stands for no input beside its frames, and of which no checkpoint flies
+abbrev pub plain : List Input → ℕ → ℕ → NodeState
+plain inputs durable flying = record { inputs = inputs; durable = durable; flying = flying; base = fresh; checkpoint = None }
+
+-- it is such a state
+pub record IsPlain (s : NodeState) : Type 0 where
+  pub base : s.base ≡ fresh
+  pub none : s.checkpoint ≡ None
 
 -- what the area stands for that is in use once all that flies is durable: room is counted from it
 abbrev pub launched_base : NodeState → Base
@@ -48,6 +61,10 @@ pub record IsNodeState (s : NodeState) : Type 0 where
   pub flying : s.flying ≤ length s.inputs
   pub based : s.base.inputs ≤ s.durable
   pub checkpointed : (b : Base) → s.checkpoint ≡ Some b → b.inputs ≡ s.flying
+
+-- what node me shows in this state
+abbrev pub shown_in : ℕ → NodeState → Shown
+shown_in me s = record { inputs = length s.inputs; durable = s.durable; sent = length (sent me s.inputs); taken = length (taken s.inputs); credit = credit s.inputs }
 
 -- ---- what the node accepts and answers
 
@@ -81,9 +98,9 @@ opened b l = record { inputs = l; durable = length l; flying = length l; base = 
 abbrev pub asked : Member → NodeState → Request → NodeState
 asked m s q = record s { inputs = s.inputs ++ gained_by m s q }
 
--- the first waiting inputs fly, at most 64
+-- the first waiting inputs fly, as many as a batch may have
 abbrev pub launched : NodeState → NodeState
-launched s = record s { flying = min (s.durable + 64) (length s.inputs) }
+launched s = record s { flying = min (s.durable + BATCH_INPUTS) (length s.inputs) }
 
 -- what the next area of node me stands for, behind this one, where all of h is summarised
 abbrev pub next_base : ℕ → Base → List Input → Base

@@ -1,7 +1,7 @@
 //! Laws of the definitions: public functions with an empty body, whose contracts say what follows from `specs/` alone.
 ghost use Rattle.std.specs.Prelude.{◌≡◌, ◌↔◌, ◌≤◌, ◌+◌, ◌||◌, ℕ, Bool, Option, true, false, if◌then◌else◌, List, [], ◌∷◌, ◌++◌, Some, None, slice_get, unwrap_or, length, Ok};
 ghost use Rattle.std.specs.FinMap as map;
-ghost use Rattle.std.specs.List.{cons_option, sum_by, Contains};
+ghost use Rattle.std.specs.List.{cons_option, count_by, sum_by, Contains};
 ghost use Rattle.ring_records.specs.declared.base.Base.{Base};
 ghost use Rattle.ring_records.specs.declared.candidate.Candidate.{Candidate};
 ghost use Rattle.ring_records.specs.declared.decision.Decision.{Decision};
@@ -16,36 +16,37 @@ ghost use Rattle.ring_records.specs.declared.request.Request.{Request};
 ghost use Rattle.ring_records.specs.Answer.{Answer, Answers, PacketRests};
 ghost use Rattle.ring_records.specs.Content.{named_by, leader_in, leads_in, IsNotBelow};
 ghost use Rattle.ring_records.specs.Emission.{emit, sent, carry};
-ghost use Rattle.ring_records.specs.History.{names, touched, bid_for, stood, message_of, taken, upto_of, credit, is_stand, stands};
-ghost use Rattle.ring_records.specs.Leader.{makes_leader, leader, latest, IsLatest, decided};
+ghost use Rattle.ring_records.specs.History.{names, is_named, touched, bid_for, first_stand, stood, message_of, taken, upto_of, credit, is_stand, stands};
+ghost use Rattle.ring_records.specs.Leader.{makes_leader, first_leader, leader, latest, IsLatest, decided};
 ghost use Rattle.ring_records.specs.Known.{sends, stepped, after, Objects};
 ghost use Rattle.ring_records.specs.Lists.{or_else, EachAfter};
 ghost use Rattle.ring_records.specs.Member.{Member};
 ghost use Rattle.ring_records.specs.Record.{AreBytes, HasRecord, BeginsWith, record_of, record_read};
 ghost use Rattle.ring_records.specs.Release.{packets, decisions, window, AreLeaders};
 ghost use Rattle.ring_records.specs.Ring.{IsLegal, part};
-ghost use Rattle.ring_records.specs.Snapshot.{IsSound, Spells, snapshot_len, state_len, msg_len};
+ghost use Rattle.ring_records.specs.Snapshot.{IsSound, Spells, has_stood, snapshot_len, state_len, msg_len};
 ghost use Rattle.ring_records.specs.States.{NodeState, IsLawfulState, is_idle, opened, asked, launched, launched_all, landed, left_by};
-ghost use Rattle.ring_records.specs.Summary.{summary, empty};
+ghost use Rattle.ring_records.specs.Summary.{key_states, summary, empty};
 ghost use Rattle.ring_records.specs.WorkedRun.{red_5, winner, first_election};
 
 /// What one more input at the end changes: each look-back of the longer history is that of the shorter one, joined
 /// with what the new input says.
 pub fn one_more_input()
-    ensures touched { (h : List Input) (x : Input) (key : Key) → touched (h ++ x ∷ []) key ≡ (touched h key || names key x) }
-    ensures stood { (h : List Input) (x : Input) (key : Key) → stood (h ++ x ∷ []) key ≡ or_else (stood h key) (bid_for key x) }
+    ensures is_named { (h : List Input) (x : Input) (key : Key) → is_named (h ++ x ∷ []) key ≡ (is_named h key || names key x) }
+    ensures first_stand { (h : List Input) (x : Input) (key : Key) → first_stand (h ++ x ∷ []) key ≡ or_else (first_stand h key) (bid_for key x) }
     ensures taken { (h : List Input) (x : Input) → taken (h ++ x ∷ []) ≡ taken h ++ cons_option (message_of x) [] }
     ensures credit { (h : List Input) (x : Input) → credit (h ++ x ∷ []) ≡ unwrap_or (upto_of x) (credit h) }
     ensures stands { (h : List Input) (x : Input) → stands (h ++ x ∷ []) ≡ stands h + (if is_stand x then 1 else 0) }
-    ensures leader { (me : ℕ) (h : List Input) (x : Input) (key : Key) → leader me (h ++ x ∷ []) key ≡ or_else (leader me h key) (makes_leader me key h x) }
+    ensures first_leader { (me : ℕ) (h : List Input) (x : Input) (key : Key) → first_leader me (h ++ x ∷ []) key ≡ or_else (first_leader me h key) (makes_leader me key h x) }
     ensures sent { (me : ℕ) (h : List Input) (x : Input) → sent me (h ++ x ∷ []) ≡ sent me h ++ cons_option (emit me h x) [] }
     ensures used { (base : Base) (h : List Input) (x : Input) → base.inputs ≤ length h → used base (h ++ x ∷ []) ≡ used base h + cost x }
 {}
 
-/// What never changes as a history grows: the bid of a Stand, a leader, and each message that was sent or taken.
+/// What never changes as a history grows: the bid of the first Stand, the first leader, and each message that was sent
+/// or taken.
 pub fn firsts_stay()
-    ensures stood { (h rest : List Input) (key : Key) (bid : ℕ) → stood h key ≡ Some bid → stood (h ++ rest) key ≡ Some bid }
-    ensures leader { (me : ℕ) (h rest : List Input) (key : Key) (c : Candidate) → leader me h key ≡ Some c → leader me (h ++ rest) key ≡ Some c }
+    ensures stand { (h rest : List Input) (key : Key) (bid : ℕ) → first_stand h key ≡ Some bid → first_stand (h ++ rest) key ≡ Some bid }
+    ensures leader { (me : ℕ) (h rest : List Input) (key : Key) (c : Candidate) → first_leader me h key ≡ Some c → first_leader me (h ++ rest) key ≡ Some c }
     ensures sent { (me : ℕ) (h rest : List Input) (msg_no : ℕ) (m : Msg) → slice_get (sent me h) msg_no ≡ Some m → slice_get (sent me (h ++ rest)) msg_no ≡ Some m }
     ensures taken { (h rest : List Input) → taken (h ++ rest) ≡ taken h ++ taken rest }
 {}
@@ -57,6 +58,12 @@ pub fn keys_apart()
     ensures stood { (h : List Input) (x : Input) (key : Key) → names key x ≡ false → stood (h ++ x ∷ []) key ≡ stood h key }
     ensures leader { (me : ℕ) (h : List Input) (x : Input) (key : Key) → names key x ≡ false → leader me (h ++ x ∷ []) key ≡ leader me h key }
     ensures emission { (me : ℕ) (h : List Input) (x y : Input) → ((key : Key) → names key y ≡ true → names key x ≡ false) → emit me (h ++ x ∷ []) y ≡ emit me h y }
+{}
+
+/// Where each input is allowed after those before it, the Stands of a history are as many as its keys with a bid. The
+/// count that a summary carries, and the check of a snapshot's count, rest on this.
+pub fn stands_counted()
+    ensures { (me n : ℕ) (h : List Input) → EachAfter (IsAllowed me n) [] h → stands h ≡ count_by has_stood (map.values (key_states me h)) }
 {}
 
 /// The latest leader of a group leads in its term, and no greater term of the group has a leader. So where there is

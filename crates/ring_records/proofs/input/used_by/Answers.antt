@@ -1,0 +1,18 @@
+use Rattle.std.proofs.Common.{refl, arith}
+use Rattle.ring_records.specs.Admission.{used}
+use Rattle.ring_records.proofs.LookBack.{used-item}
+use Rattle.ring_records.proofs.input.used_by.Goals as goal
+
+pub loop-input-init : goal.loop-input-init
+unfolding used
+loop-input-init c = refl
+
+pub overflow_add-used : goal.overflow_add-used
+overflow_add-used c =
+    let next = used-item c.args.inputs.now c.loop-input.input-index _ (record { within = c.loop-input-test.true; is = c.input-item.is }) in
+    omega (arith, next.0, next.1, c.loop-input.invariant, c.from-used.ensures, c.cost.ensures.value, c.requires)
+
+pub loop-input-preserved : goal.loop-input-preserved
+loop-input-preserved c =
+    let next = used-item c.args.inputs.now c.loop-input.input-index _ (record { within = c.loop-input-test.true; is = c.input-item.is }) in
+    omega (arith, next.0, c.loop-input.invariant, c.from-used.ensures, c.cost.ensures.value)

@@ -1,0 +1,5 @@
+use Rattle.ring_records.proofs.Standing.{stands-counted}
+use Rattle.ring_records.proofs.laws.stands_counted.Goals as goal
+
+pub returns : goal.returns
+returns c = stands-counted
