@@ -13,7 +13,7 @@ use Rattle.ring_records.specs.declared.refusal.Refusal.{Refusal}
 use Rattle.ring_records.specs.declared.refusal.Refusal.TheVariants as refused
 use Rattle.ring_records.specs.declared.summary.Summary.{Summary}
 use Rattle.ring_records.specs.Admission.{cost, where_so, objection, refusal, IsAllowed}
-use Rattle.ring_records.specs.Emission.{is_below, emit, sent, carry}
+use Rattle.ring_records.specs.Emission.{is_below, passed_on, emit, sent, carry}
 use Rattle.ring_records.specs.History.{first_stand, stood}
 use Rattle.ring_records.specs.Known.{Objects, stepped, known_of, leader_of, leads_in}
 use Rattle.ring_records.specs.Leader.{IsLatest, is_bid, makes_leader, leader, latest, newly, decided}
@@ -79,7 +79,7 @@ elected_told false true None key c e = refl
 elected_told false true (Some d) key c e = refl
 
 told : (me : ℕ) (h : List Input) (msg_no : ℕ) (msg : Msg) (on : Option Msg) → emit me h (Take msg_no msg) ≡ on → told_by on ≡ decided me h (Take msg_no msg)
-unfolding emit makes_leader stood
+unfolding emit passed_on makes_leader stood
 told me h msg_no (Token key c) on e =
     ap told_by (sym e)
     ∙ (token_told (eqb c.node me) (is_bid (first_stand h key) c.bid) (is_below (first_stand h key) me c) (is_key key key) (leader me h key) key c (is_key-same key)

@@ -1,29 +1,35 @@
 -- How long the snapshot of what a core knows is, and how that changes with an input.
-use Rattle.std.proofs.Common.{ℕ, ◌≡◌, ◌+◌, ◌-◌, ◌<◌, ◌≤◌, ◌^◌, List, [], ◌∷◌, ◌++◌, cond, Option, Some, None, refl, sym, ap, ◌∙◌, append-nil, arith}
+use Rattle.std.proofs.Common.{ℕ, ◌≡◌, ◌+◌, ◌-◌, ◌<◌, ◌≤◌, ◌^◌, Bool, true, false, ◌&&◌, not, eqb, nat_lt, List, [], ◌∷◌, ◌++◌, length, cond, Option, Some, None, is_none, refl, sym, ap, ◌∙◌, append-nil, arith}
 use Rattle.std.specs.FinMap as map
 use Rattle.std.specs.List.{cons_option, sum_by}
 use Rattle.std.specs.Prelude.{is_some, nat_le}
-use Rattle.std.proofs.lemmas.Bool.{ltb-false, leb-false}
+use Rattle.std.proofs.lemmas.Bool.{ltb-false, leb-false, lt-ltb, le-ltb}
 use Rattle.std.proofs.lemmas.List.Sums.{sum_by-cons, sum_by-append, sum_by-take-drop}
 use Rattle.ring_records.specs.declared.input.Input.{Input}
 use Rattle.ring_records.specs.declared.input.Input.TheVariants.{Stand, Take, Acked}
 use Rattle.ring_records.specs.declared.key.Key.{Key}
 use Rattle.ring_records.specs.declared.key_state.KeyState.{KeyState}
+use Rattle.ring_records.specs.declared.candidate.Candidate.{Candidate}
 use Rattle.ring_records.specs.declared.msg.Msg.{Msg}
+use Rattle.ring_records.specs.declared.msg.Msg.TheVariants.{Token, Elected}
 use Rattle.ring_records.specs.declared.summary.Summary.{Summary}
 use Rattle.ring_records.specs.declared.refusal.Refusal.TheVariants as refused
 use Rattle.ring_records.specs.Admission.{where_so, already, stale}
 use Rattle.ring_records.specs.Lists.{or_else}
-use Rattle.ring_records.specs.Known.{stood_of, sends, stepped, known_of, Objects}
+use Rattle.ring_records.specs.Emission.{is_below}
+use Rattle.ring_records.specs.Known.{passed, shown, stood_of, leader_of, sends, stepped, known_of, Objects}
+use Rattle.ring_records.specs.Leader.{is_bid}
 use Rattle.ring_records.specs.Message.{key_of}
 use Rattle.ring_records.specs.KeyOrder.{key_cmp}
 use Rattle.ring_records.specs.Snapshot.{state_len, msg_len, snapshot_len}
 use Rattle.ring_records.proofs.Admission.{or_else-none, where_so-none}
-use Rattle.ring_records.proofs.Compare.{get-put}
+use Rattle.ring_records.proofs.Compare.{get-put, keys_total}
 use Rattle.ring_records.proofs.Keys.{is_key-same}
 use Rattle.ring_records.proofs.KeysPut.{part_of, keys-put}
 use Rattle.ring_records.proofs.Snapshots.{length-snapshot}
-use Rattle.node_core.specs.Measure.{len_of, len_at, freed, len_on}
+use Rattle.node_core.specs.Brought.{told_by, brought}
+use Rattle.node_core.specs.Measure.{AreNamed, bare_len, grown, len_of, len_at, freed, len_on}
+use Rattle.node_core.specs.declared.effects.Effects.{Effects}
 
 get-new : (m : map.FinMap key_cmp KeyState) (k : Key) (v : KeyState) → map.get (map.insert m k v) k ≡ Some v
 get-new m k v = get-put m k v k ∙ ap (λ b. cond b (Some v) (map.get m k)) (is_key-same k)
@@ -60,20 +66,116 @@ measured me s (Acked upto) =
     let c = sum_by-take-drop msg_len s.window (upto - s.credit) in
     omega arith
 
--- the length, and what is taken off and added, told of the core as it is seen
-pub measured_next : (me : ℕ) (s u : Summary) (x : Input) (bytes removed added : ℕ) → u ≡ stepped me s x → bytes ≡ snapshot_len s → removed ≡ len_at s x + freed s x → added ≡ len_at u x + len_on (sends me s x) → snapshot_len u + removed ≡ bytes + added
-measured_next me s u x bytes removed added e is less more =
-    let law = measured me s x in
-    let len = ap snapshot_len e in
-    let at : len_at u x ≡ len_at (stepped me s x) x = ap (λ (k : Summary). len_at k x) e in
-    omega arith
-
 -- what is known of an Acked that nothing is said against
 pub acked_within : (n : ℕ) (s : Summary) (upto : ℕ) → Objects n s (Acked upto) None → (s.credit < upto) × (upto ≤ s.sent)
 acked_within n s upto e =
     let a = or_else-none _ _ (sym e) in
     let b = or_else-none _ _ a.1 in
     (leb-false upto s.credit (where_so-none _ _ a.0), ltb-false s.sent upto (where_so-none _ _ b.0))
+
+-- what is known of the key of a Stand that nothing is said against: nothing
+unnamed : (n : ℕ) (s : Summary) (key : Key) (bid : ℕ) → Objects n s (Stand key bid) None → known_of s key ≡ None
+unnamed n s key bid (led, is, e) = none (known_of s key) (where_so-none (is_some (known_of s key)) refused.Late (or_else-none (already (stood_of (known_of s key))) (where_so (is_some (known_of s key)) refused.Late) touched).1)
+  where
+    touched : or_else (already (stood_of (known_of s key))) (where_so (is_some (known_of s key)) refused.Late) ≡ None
+    touched = (or_else-none _ _ (sym e)).0
+
+    none : (o : Option KeyState) → is_some o ≡ false → o ≡ None
+    none None e = refl
+    none (Some state) e = absurd cc
+
+-- ---- how the states of keys grow
+
+-- the bytes of a leader that may be known
+abbrev five : Option Candidate → ℕ
+five leader = cond (is_some leader) 5 0
+
+abbrev five_told : Option Msg → ℕ
+five_told on = cond (is_some (told_by on)) 5 0
+
+-- a leader becomes known exactly where an Elected is sent on
+token_led : (own bid below : Bool) (leader : Option Candidate) (key : Key) (c : Candidate)
+    → five_told (cond own (cond (bid && is_none leader) (Some (Elected key c)) None) (cond below (Some (Token key c)) None)) + five leader ≡ five (or_else leader (cond (own && bid) (Some c) None))
+token_led true true below None key c = refl
+token_led true false below None key c = refl
+token_led true true below (Some l) key c = refl
+token_led true false below (Some l) key c = refl
+token_led false bid true None key c = refl
+token_led false bid false None key c = refl
+token_led false bid true (Some l) key c = refl
+token_led false bid false (Some l) key c = refl
+
+elected_led : (own : Bool) (leader : Option Candidate) (key : Key) (c : Candidate)
+    → five_told (cond (not own && is_none leader) (Some (Elected key c)) None) + five leader ≡ five (or_else leader (cond (not own) (Some c) None))
+elected_led true None key c = refl
+elected_led true (Some l) key c = refl
+elected_led false None key c = refl
+elected_led false (Some l) key c = refl
+
+led : (me : ℕ) (stood : Option ℕ) (leader : Option Candidate) (msg : Msg) → five_told (passed me stood leader msg) + five leader ≡ five (or_else leader (shown me stood msg))
+unfolding passed shown
+led me stood leader (Token key c) = token_led (eqb c.node me) (is_bid stood c.bid) (is_below stood me c) leader key c
+led me stood leader (Elected key c) = elected_led (eqb c.node me) leader key c
+
+-- the key of a message is named first, or its leader may become known
+module _ (me : ℕ) (s : Summary) (msg : Msg) (are_named : AreNamed s) where
+  abbrev named : Key
+  named = key_of msg
+
+  -- what is known of it afterwards, by what is known before
+  abbrev told_now : Option KeyState → KeyState
+  told_now o = record { key = named; stood = stood_of o; leader = or_else (leader_of o) (shown me (stood_of o) msg) }
+
+  abbrev keys_now : Option KeyState → ℕ
+  keys_now o = map.len (map.insert s.keys named (told_now o))
+
+  abbrev grown_now : Option KeyState → ℕ
+  grown_now o = cond (nat_lt (map.len s.keys) (keys_now o)) (bare_len named) 0 + five_told (passed me (stood_of o) (leader_of o) msg)
+
+  keys_count : (o : Option KeyState) → known_of s named ≡ o → keys_now o ≡ cond (is_some o) (map.len s.keys) (map.len s.keys + 1)
+  keys_count o e = map.len-insert keys_total s.keys named (told_now o) ∙ ap (λ (p : Option KeyState). cond (is_some p) (map.len s.keys) (map.len s.keys + 1)) e
+
+  by_value : (o : Option KeyState) → known_of s named ≡ o → len_of o + grown_now o ≡ state_len (told_now o)
+  by_value None e =
+      let longer : nat_lt (map.len s.keys) (keys_now None) ≡ true = ap (nat_lt (map.len s.keys)) (keys_count None e) ∙ lt-ltb (map.len s.keys) (map.len s.keys + 1) (omega arith) in
+      let l = led me None None msg in
+      let m = ap (λ b. cond b (bare_len named) 0) longer in
+      omega arith
+  by_value (Some known) e =
+      let same : nat_lt (map.len s.keys) (keys_now (Some known)) ≡ false = ap (nat_lt (map.len s.keys)) (keys_count (Some known) e) ∙ le-ltb (map.len s.keys) (map.len s.keys) (omega arith) in
+      let l = led me known.stood known.leader msg in
+      let m = ap (λ b. cond b (bare_len named) 0) same in
+      let name = ap (λ (k : Key). length k.group) (are_named named known e) in
+      omega arith
+
+  take_grown : (msg_no : ℕ) → len_at s (Take msg_no msg) + grown (map.len s.keys) (map.len (stepped me s (Take msg_no msg)).keys) (Take msg_no msg) (brought me s (Take msg_no msg))
+      ≡ len_at (stepped me s (Take msg_no msg)) (Take msg_no msg)
+  take_grown msg_no = by_value (known_of s named) refl ∙ ap len_of (sym (get-new s.keys named (told_now (known_of s named))))
+
+at_grown : (me n : ℕ) (s : Summary) (x : Input) → Objects n s x None → AreNamed s
+    → len_at s x + grown (map.len s.keys) (map.len (stepped me s x).keys) x (brought me s x) ≡ len_at (stepped me s x) x
+at_grown me n s (Stand key bid) free are_named =
+    let none = unnamed n s key bid free in
+    let v : KeyState = record { key = key; stood = Some bid; leader = leader_of (known_of s key) } in
+    let before : len_of (known_of s key) ≡ 0 = ap len_of none in
+    let after : len_of (map.get (map.insert s.keys key v) key) ≡ state_len v = ap len_of (get-new s.keys key v) in
+    let led : five (leader_of (known_of s key)) ≡ 0 = ap (λ (o : Option KeyState). five (leader_of o)) none in
+    omega arith
+at_grown me n s (Take msg_no msg) free are_named = take_grown me s msg are_named msg_no
+at_grown me n s (Acked upto) free are_named = refl
+
+-- The length, and what is taken off and added, told of the core as it is seen: so many keys are named before the input, and
+-- so many with it.
+pub measured_next : (me n : ℕ) (s u : Summary) (x : Input) (bytes before after removed more on : ℕ) (effects : Effects) → Objects n s x None → AreNamed s → u ≡ stepped me s x → bytes ≡ snapshot_len s
+    → before ≡ map.len s.keys → after ≡ map.len u.keys → effects ≡ brought me s x → removed ≡ freed s x → more ≡ grown before after x effects → on ≡ len_on (sends me s x)
+    → snapshot_len u + removed ≡ bytes + (more + on)
+measured_next me n s u x bytes before after removed more on effects free are_named e is was are brings less grew sent =
+    let law = measured me s x in
+    let at = at_grown me n s x free are_named in
+    let len = ap snapshot_len e in
+    let grows : more ≡ grown (map.len s.keys) (map.len (stepped me s x).keys) x (brought me s x) =
+    grew ∙ (λ i. grown (was i) (are i) x (brings i)) ∙ ap (λ (k : Summary). grown (map.len s.keys) (map.len k.keys) x (brought me s x)) e in
+    omega arith
 
 -- no more is credited than was sent, and one input more is known of
 pub within_next : (me n : ℕ) (s : Summary) (x : Input) → Objects n s x None → s.credit ≤ s.sent → (stepped me s x).credit ≤ (stepped me s x).sent

@@ -5,7 +5,9 @@ ghost use Rattle.ring_records.specs.Leader.{IsLatest};
 ghost use Rattle.ring_records.specs.Snapshot.{IsSound};
 ghost use Rattle.ring_records.specs.Summary.{empty};
 ghost use Rattle.node_core.specs.Brought.{brought};
+ghost use Rattle.std.specs.FinMap as map;
 ghost use Rattle.node_core.specs.Core.{IsNodeOf};
+ghost use Rattle.node_core.specs.Measure.{AreNamed};
 
 use crate::accept::accept;
 use crate::effects::Effects;
@@ -147,6 +149,14 @@ impl FreeCore {
             }),
             None => None,
         }
+    }
+
+    /// How many keys its inputs named.
+    pub fn keys(&self) -> usize
+        ensures count { result ≡ map.len self.now.known.keys }
+        ensures named { AreNamed self.now.known }
+    {
+        self.table.keys()
     }
 
     /// The leader for the key, if one is known.

@@ -1,35 +1,53 @@
 // How the length of a core's snapshot changes.
-ghost use Rattle.std.specs.Prelude.{◌≡◌, ◌<◌, ◌≤◌, ◌^◌, ℕ, Option};
+ghost use Rattle.std.specs.Prelude.{◌≡◌, ◌<◌, ◌≤◌, ◌^◌, ℕ, Option, nat_lt, is_some, if◌then◌else◌};
 ghost use Rattle.ring_records.specs.declared.input.Input.TheVariants.{Acked};
 ghost use Rattle.ring_records.specs.declared.msg.Msg.{Msg};
-ghost use Rattle.ring_records.specs.Known.{known_of};
 ghost use Rattle.node_core.specs.Brought.{effects_of};
 ghost use Rattle.node_core.specs.Measure as bytes;
 
 use crate::effects::Effects;
 use crate::free::FreeCore;
-use ring_records::{Input, Key, Packet, messages_len, msg_len, state_len};
+use ring_records::{Input, Key, KeyState, Packet, messages_len, msg_len, state_len};
 
-/// The bytes of the state of the key that the input names.
-pub fn len_at(core: &FreeCore, input: &Input) -> u32
-    ensures value { result ≡ bytes.len_at core.now.known input.now }
-    ensures range { result ≤ 31 }
+/// By how many bytes the states of keys grow, where so many keys were named before the input, so many are with it, and it
+/// brings this.
+pub fn grown(before: usize, after: usize, input: &Input, effects: &Effects) -> u32
+    ensures value { result ≡ bytes.grown before after input.now effects.now }
+    ensures range { result ≤ 36 }
 {
     match input {
-        Input::Stand { key, .. } => len_of(core, key),
-        Input::Take { msg, .. } => len_of(core, &msg.key()),
+        Input::Stand { key, .. } => bare_len(key) + 4,
+        Input::Take { msg, .. } => named(before, after, &msg.key()) + led(effects),
         Input::Acked { .. } => 0,
     }
 }
 
-fn len_of(core: &FreeCore, key: &Key) -> u32
-    ensures value { result ≡ bytes.len_of (known_of core.now.known key.now) }
+// The bytes of the state of a key with no bid and no leader.
+fn bare_len(key: &Key) -> u32
+    ensures value { result ≡ bytes.bare_len key.now }
     ensures range { result ≤ 31 }
 {
-    match core.state(key) {
-        Some(state) => state_len(&state),
-        None => 0,
-    }
+    state_len(&KeyState {
+        key: *key,
+        stood: None,
+        leader: None,
+    })
+}
+
+// Those of a key that is named first.
+fn named(before: usize, after: usize, key: &Key) -> u32
+    ensures value { result ≡ (if nat_lt before after then bytes.bare_len key.now else 0) }
+    ensures range { result ≤ 31 }
+{
+    if before < after { bare_len(key) } else { 0 }
+}
+
+// Those of a leader that becomes known.
+fn led(effects: &Effects) -> u32
+    ensures value { result ≡ (if is_some effects.now.decided then 5 else 0) }
+    ensures range { result ≤ 5 }
+{
+    if effects.decided.is_some() { 5 } else { 0 }
 }
 
 /// The bytes of the messages that the input takes out of the window, where nothing is said against it.

@@ -15,7 +15,7 @@ ghost use Rattle.node_core.specs.Core.{CoreStandsFor, IsNodeOf, Refuses, member_
 
 use crate::effects::Effects;
 use crate::free::FreeCore;
-use crate::measure::{freed, len_at, len_on};
+use crate::measure::{freed, grown, len_on};
 use ring_records::{
     Candidate, GroupName, Input, Key, Msg, NodeNo, Refusal, Summary, Term, summary_len,
 };
@@ -64,24 +64,25 @@ impl NodeCore {
         }
     }
 
-    /// Node `node` of a ring of `n` nodes, with a capacity in bytes, that knows this, and of whose capacity a snapshot
-    /// of it is taken. The caller sees that it is sound. The error is that of the allocator.
+    /// Node `node` of a ring of `n` nodes, with a capacity in bytes, of which so many are taken, that knows this. The
+    /// caller sees that it is sound. The error is that of the allocator.
     pub fn restore(
         alloc: Global,
         node: NodeNo,
         n: u8,
         capacity: u32,
+        used: u64,
         from: &Summary,
     ) -> Result<NodeCore, AllocError>
         requires { IsSound n from.now }
-        ensures { IfOk result (λ core. core ≡ record { me = node; size = n; capacity = capacity; known = from.now; used = snapshot_len from.now }) }
+        ensures { IfOk result (λ core. core ≡ record { me = node; size = n; capacity = capacity; known = from.now; used = used }) }
     {
-        let snapshot = summary_len(from);
+        let core = FreeCore::restore(alloc, node, n, from)?;
         Ok(NodeCore {
-            core: FreeCore::restore(alloc, node, n, from)?,
+            core,
             capacity,
-            used: snapshot,
-            snapshot,
+            used,
+            snapshot: summary_len(from),
         })
     }
 
@@ -140,9 +141,10 @@ impl NodeCore {
         ensures err { OnErr result (self.new ≡ self.old) }
     {
         let cost = input.cost() as u64;
-        let removed = len_at(&self.core, &input) as u64 + freed(&self.core, &input);
+        let keys = self.core.keys();
+        let removed = freed(&self.core, &input);
         let effects = self.core.apply(input)?;
-        let added = len_at(&self.core, &input) + len_on(&effects);
+        let added = grown(keys, self.core.keys(), &input, &effects) + len_on(&effects);
         self.snapshot = self.snapshot + added as u64 - removed;
         self.used += cost;
         Ok(effects)

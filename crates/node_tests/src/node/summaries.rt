@@ -17,7 +17,11 @@ fn restored(rt: &impl Abort, alloc: Global, capacity: u32, bytes: &[u8]) -> Node
     let read = read_summary(alloc, bytes, 3);
     match read {
         Ok(from) => {
-            NodeCore::restore(alloc, node(rt, 2), 3, capacity, &from).expect(rt, "ample memory")
+            let used = bytes.len() as u64;
+            NodeCore::restore(alloc, node(rt, 2), 3, capacity, used, &from).expect(
+                rt,
+                "ample memory",
+            )
         }
         Err(refusal) => panic!(rt; "{refusal}"),
     }

@@ -11,8 +11,8 @@ use Rattle.node_core.proofs.Measures.{acked_within, few_inputs, measured_next, o
 use Rattle.node_core.proofs.Refusals.{objects_none, fits, stepped_core}
 use Rattle.node_core.proofs.node.NodeCore.apply.Goals as goal
 
-pub freed-requires : goal.freed-requires
-freed-requires c = λ upto is.
+pub freed-removed-requires : goal.freed-removed-requires
+freed-removed-requires c = λ upto is.
     let free = subst (λ (v : CoreView). Objects v.size v.known c.args.input None) (sym c.self.view_is) (objects_none c.args.self.now c.args.input c.requires) in
     acked_within c.self.inside.core.size c.self.inside.core.known upto (subst (λ (x : Input). Objects c.self.inside.core.size c.self.inside.core.known x None) is free)
 
@@ -24,16 +24,17 @@ overflow_add-self c =
     let free = subst (λ (v : CoreView). Objects v.size v.known c.args.input None) (sym c.self.view_is) (objects_none c.args.self.now c.args.input c.requires) in
     let few = few_inputs c.self.inside.core.size c.self.inside.core.known c.args.input free in
     let short = c.self.invariant.short in
-    let a = c.len_at-2.ensures.range in
+    let a = c.grown.ensures.range in
     let b = c.len_on.ensures.range in
     omega arith
 
 pub overflow_sub-self : goal.overflow_sub-self
 overflow_sub-self c =
+    let free = subst (λ (v : CoreView). Objects v.size v.known c.args.input None) (sym c.self.view_is) (objects_none c.args.self.now c.args.input c.requires) in
     let next = ap (λ (v : FreeView). v.known) c.in_ok-effects.ensures.steps in
-    let law = measured_next c.self.inside.core.me c.self.inside.core.known c.apply.new.self.known c.args.input c.self.inside.snapshot (c.len_at.result + c.freed.result) (c.len_at-2.result + c.len_on.result)
-    next c.self.invariant.exact (λ i. c.len_at.ensures.value i + c.freed.ensures.value i)
-    (λ i. c.len_at-2.ensures.value i + c.len_on.ensures.value _ (sends c.self.inside.core.me c.self.inside.core.known c.args.input) c.in_ok-effects.ensures.brings i) in
+    let law = measured_next c.self.inside.core.me c.self.inside.core.size c.self.inside.core.known c.apply.new.self.known c.args.input c.self.inside.snapshot c.keys-keys.result c.keys.result
+    c.freed-removed.result c.grown.result c.len_on.result c.in_ok-effects.effects free c.keys-keys.ensures.named next c.self.invariant.exact c.keys-keys.ensures.count c.keys.ensures.count
+    c.in_ok-effects.ensures.brings c.freed-removed.ensures.value c.grown.ensures.value (c.len_on.ensures.value _ (sends c.self.inside.core.me c.self.inside.core.known c.args.input) c.in_ok-effects.ensures.brings) in
     omega arith
 
 pub overflow_add-self-2 : goal.overflow_add-self-2
@@ -47,12 +48,12 @@ pub invariant_of-self-2 : goal.invariant_of-self-2
 invariant_of-self-2 c =
     let free = subst (λ (v : CoreView). Objects v.size v.known c.args.input None) (sym c.self.view_is) (objects_none c.args.self.now c.args.input c.requires) in
     let next = ap (λ (v : FreeView). v.known) c.in_ok-effects.ensures.steps in
-    let law = measured_next c.self.inside.core.me c.self.inside.core.known c.apply.new.self.known c.args.input c.self.inside.snapshot (c.len_at.result + c.freed.result) (c.len_at-2.result + c.len_on.result)
-    next c.self.invariant.exact (λ i. c.len_at.ensures.value i + c.freed.ensures.value i)
-    (λ i. c.len_at-2.ensures.value i + c.len_on.ensures.value _ (sends c.self.inside.core.me c.self.inside.core.known c.args.input) c.in_ok-effects.ensures.brings i) in
+    let law = measured_next c.self.inside.core.me c.self.inside.core.size c.self.inside.core.known c.apply.new.self.known c.args.input c.self.inside.snapshot c.keys-keys.result c.keys.result
+    c.freed-removed.result c.grown.result c.len_on.result c.in_ok-effects.effects free c.keys-keys.ensures.named next c.self.invariant.exact c.keys-keys.ensures.count c.keys.ensures.count
+    c.in_ok-effects.ensures.brings c.freed-removed.ensures.value c.grown.ensures.value (c.len_on.ensures.value _ (sends c.self.inside.core.me c.self.inside.core.known c.args.input) c.in_ok-effects.ensures.brings) in
     let more : c.apply.new.self.known.inputs ≡ c.self.inside.core.known.inputs + 1 = ap (λ (s : Summary). s.inputs) next ∙ one_more c.self.inside.core.me c.self.inside.core.known c.args.input in
     let short = c.self.invariant.short in
-    let a = c.len_at-2.ensures.range in
+    let a = c.grown.ensures.range in
     let b = c.len_on.ensures.range in
     record {
       exact = omega arith;
