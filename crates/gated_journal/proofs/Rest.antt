@@ -1,5 +1,5 @@
 -- A journal at rest, and one batch more.
-use Rattle.std.proofs.Common.{◌≡◌, inl, inr, ⊎_elim, ℕ, ◌+◌, ◌*◌, ◌<◌, ◌≤◌, List, [], ◌∷◌, ◌++◌, length, take, drop, take-append-drop, get_or, leb, ◌&&◌, zero-add, true, refl, sym, ◌∙◌, ap, subst, arith, length-append, length-take}
+use Rattle.std.proofs.Common.{◌≡◌, inl, inr, ⊎_elim, ℕ, ◌+◌, ◌*◌, ◌<◌, ◌≤◌, List, [], ◌∷◌, ◌++◌, length, take, drop, get_or, leb, ◌&&◌, zero-add, true, refl, sym, ◌∙◌, ap, subst, arith, length-append, length-take}
 use Rattle.std.proofs.lemmas.Bool.{and_parts, leb-true}
 use Rattle.std.proofs.lemmas.List.{drop_more, ext_get_or, get_or-take}
 use Rattle.std.proofs.lemmas.List.Sums.{sum_by-append}
@@ -12,7 +12,6 @@ use Rattle.ring_records.specs.Admission.{used, cost}
 use Rattle.ring_records.specs.Member.{Member, used_by}
 use Rattle.ring_records.specs.Record.{record_of}
 use Rattle.ring_records.proofs.Counts.{used-each}
-use Rattle.ring_records.proofs.LookBack.{IsItem, take-item}
 use Rattle.ring_records.proofs.Records.{cost-record, record-long}
 use Rattle.gated_journal.specs.Frames.{records, body, frames, joined, AreBatches, IsFrame, ReadsTo, Appends}
 use Rattle.gated_journal.specs.Reading.{HasHeader, ReadsAt, IsAtRest, AllReadAs, ReadsAsOneOf, mark, new_image, is_header}
@@ -52,13 +51,6 @@ pub used-bound : (batches : List (List Input)) → used_by (joined batches) ≤ 
 unfolding used
 used-bound [] = omega arith
 used-bound (b ∷ batches) = omega (arith, used-bound batches, used-joined b (joined batches), used-parts b, records-long b, length-append (body b) (frames batches), length-body b)
-
--- the first inputs take no more than all of them
-pub used-item : (inputs : List Input) (i : ℕ) (x : Input) → IsItem inputs i x → (used_by (take (i + 1) inputs) ≡ used_by (take i inputs) + cost x) × (used_by (take (i + 1) inputs) ≤ used_by inputs)
-used-item inputs i x here =
-    let more = ap used_by (take-item inputs i x here) ∙ used-joined (take i inputs) (x ∷ []) in
-    let whole = ap used_by (sym (take-append-drop (i + 1) inputs)) ∙ used-joined (take (i + 1) inputs) (drop (i + 1) inputs) in
-    (omega (arith, more, used-one x), omega (arith, whole))
 
 -- ---- a new journal
 

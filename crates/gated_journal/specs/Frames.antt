@@ -3,6 +3,7 @@ use Rattle.std.specs.Prelude.{◌≡◌, ◌≢◌, ◌⊎◌, ◌+◌, ◌≤�
 use Rattle.std.specs.Int.{w16, w32, to_be_bytes}
 use Rattle.disk_model.specs.Disk.{Changes}
 use Rattle.ring_records.specs.declared.input.Input.{Input}
+use Rattle.ring_records.specs.declared.limits.TheConstants.{BATCH_INPUTS}
 use Rattle.ring_records.specs.Record.{HasRecord, record_of}
 
 -- ---- how frames are spelled
@@ -28,7 +29,7 @@ HaveRecords (x ∷ inputs) = HasRecord x × HaveRecords inputs
 -- 1 to 64 inputs that have records
 pub record IsBatch (inputs : List Input) : Type 0 where
   pub some : 1 ≤ length inputs
-  pub few : length inputs ≤ 64
+  pub few : length inputs ≤ BATCH_INPUTS
   pub have : HaveRecords inputs
 
 abbrev pub AreBatches : List (List Input) → Type 0

@@ -3,6 +3,7 @@ use Rattle.std.specs.Prelude.{◌≡◌, ◌⊎◌, ◌+◌, ◌*◌, ◌≤◌,
 use Rattle.std.specs.Int.{w32, to_be_bytes}
 use Rattle.disk_model.specs.Disk.{Disk, MayLeave, IsSynced}
 use Rattle.ring_records.specs.declared.input.Input.{Input}
+use Rattle.ring_records.specs.declared.limits.TheConstants.{GREATEST_CAPACITY, LEAST_CAPACITY}
 use Rattle.ring_records.specs.Member.{Member, used_by}
 use Rattle.gated_journal.specs.Frames.{ReadsTo}
 
@@ -13,7 +14,7 @@ number_at (suc k) off image = number_at k off image * 256 + slice_index image (o
 
 -- what a header names, the node, the ring's size and the capacity, is in its range
 abbrev pub is_header : Member → Bool
-is_header header = nat_le 2 header.n && (nat_le header.n 16 && (nat_le header.node header.n && (nat_le 4096 header.capacity && nat_le header.capacity 1048576)))
+is_header header = nat_le 2 header.n && (nat_le header.n 16 && (nat_le header.node header.n && (nat_le LEAST_CAPACITY header.capacity && nat_le header.capacity GREATEST_CAPACITY)))
 
 abbrev pub mark : List ℕ
 mark = codes "CRJRNL01"
@@ -22,14 +23,18 @@ mark = codes "CRJRNL01"
 abbrev pub new_image : Member → List ℕ
 new_image header = mark ++ header.node ∷ header.n ∷ to_be_bytes w32 header.capacity ++ 0 ∷ 0 ∷ 0 ∷ []
 
+-- how many bytes of a device a journal of this capacity may come to use: its header, its frames, and a gate
+abbrev pub device_size : ℕ → ℕ
+device_size capacity = 17 + capacity
+
 -- the image begins with this mark and this header, whose capacity is in its range
 pub record HasMarkedHeader (layout_mark : List ℕ) (header : Member) (image : List ℕ) : Type 0 where
   pub marked : take 8 image ≡ layout_mark
   pub node : slice_index image 8 ≡ header.node
   pub n : slice_index image 9 ≡ header.n
   pub capacity : number_at 4 10 image ≡ header.capacity
-  pub from : 4096 ≤ header.capacity
-  pub to : header.capacity ≤ 1048576
+  pub from : LEAST_CAPACITY ≤ header.capacity
+  pub to : header.capacity ≤ GREATEST_CAPACITY
   pub blank : number_at 2 14 image ≡ 0
 
 abbrev pub HasHeader : Member → List ℕ → Type 0

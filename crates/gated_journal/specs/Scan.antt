@@ -2,13 +2,14 @@
 use Rattle.std.specs.Prelude.{◌≡◌, ◌+◌, ◌≤◌, ℕ, List, ◌++◌, length, drop}
 use Rattle.std.specs.Int.{w16, w32, to_be_bytes}
 use Rattle.ring_records.specs.declared.input.Input.{Input}
+use Rattle.ring_records.specs.declared.limits.TheConstants.{BATCH_INPUTS}
 use Rattle.gated_journal.specs.Frames.{records, body, HaveRecords, IsBatch}
 
 -- The bytes begin with a count of 1 to 64, a length, and so many bytes; a frame at their head has this count and these
 -- records.
 pub record HasHead (tail : List ℕ) (count : ℕ) (found : List ℕ) : Type 0 where
   pub some : 1 ≤ count
-  pub few : count ≤ 64
+  pub few : count ≤ BATCH_INPUTS
   pub whole : tail ≡ to_be_bytes w16 count ++ (to_be_bytes w32 (length found) ++ (found ++ drop (6 + length found) tail))
   pub alone : (batch : List Input) (rest : List ℕ) → IsBatch batch → tail ≡ body batch ++ rest → (length batch ≡ count) × (records batch ≡ found)
 

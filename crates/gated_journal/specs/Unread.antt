@@ -2,6 +2,7 @@
 use Rattle.std.specs.Prelude.{◌≡◌, ◌⊎◌, ◌+◌, ◌-◌, ◌==◌, ◌&&◌, not, min, ◌^◌, ◌≤◌, ℕ, nat_lt, nat_le, if◌then◌else◌, List, [], ◌∷◌, ◌++◌, length, take, drop, slice_index, Result, Ok, Err}
 use Rattle.std.specs.Str.{bytes_eq}
 use Rattle.ring_records.specs.declared.input.Input.{Input}
+use Rattle.ring_records.specs.declared.limits.TheConstants.{GREATEST_CAPACITY, LEAST_CAPACITY}
 use Rattle.ring_records.specs.declared.refusal.Refusal.{Refusal}
 use Rattle.ring_records.specs.declared.refusal.Refusal.TheVariants.{NotFormatted, WrongNode, Damaged, OutOfMemory, Device}
 use Rattle.gated_journal.specs.Frames.{body, frames, joined, IsBatch, AreBatches}
@@ -14,7 +15,7 @@ abbrev pub head_at : ℕ → ℕ → List ℕ → Result ℕ Refusal
 head_at node n head =
     if not (bytes_eq (take 8 head) mark) then Err NotFormatted
     else (if not (slice_index head 8 == node && slice_index head 9 == n) then Err WrongNode
-    else (if not (nat_le 4096 (number_at 4 10 head) && nat_le (number_at 4 10 head) 1048576) then Err (Damaged 10)
+    else (if not (nat_le LEAST_CAPACITY (number_at 4 10 head) && nat_le (number_at 4 10 head) GREATEST_CAPACITY) then Err (Damaged 10)
     else (if not (number_at 2 14 head == 0) then Err (Damaged 14)
     else Ok (number_at 4 10 head))))
 
@@ -23,7 +24,7 @@ header_at node n image = if nat_lt (length image) 17 then Err NotFormatted else 
 
 -- ---- the frames
 
--- from this offset on there are frames of these inputs, up to `gate_at`
+-- From `offset` to `gate_at` the image has frames, one after the other, of batches that have these inputs together.
 pub record ReadsUpTo (offset : ℕ) (image : List ℕ) (inputs : List Input) (gate_at : ℕ) : Type 0 where
   pub batches : List (List Input)
   pub whole : drop offset image ≡ frames batches ++ drop gate_at image
@@ -35,13 +36,13 @@ pub record ReadsUpTo (offset : ℕ) (image : List ℕ) (inputs : List Input) (ga
 abbrev pub NoFrame : List ℕ → Type 0
 NoFrame tail = (batch : List Input) (rest : List ℕ) → IsBatch batch → tail ≡ body batch ++ rest → ⊥
 
--- There are frames up to `gate_at`, and there no byte, or an open gate with no frame behind it.
+-- Frames go up to `gate_at`, and there they break off: the image ends, or the gate is open and no frame stands behind it.
 pub record IsDamagedAt (offset : ℕ) (image : List ℕ) (gate_at : ℕ) : Type 0 where
   pub inputs : List Input
   pub up_to : ReadsUpTo offset image inputs gate_at
   pub broken : (drop gate_at image ≡ []) ⊎ ((tail : List ℕ) × ((drop gate_at image ≡ 1 ∷ tail) × NoFrame tail))
 
--- the refusal says where they are damaged
+-- the refusal names the gate at which they break off
 pub record IsBroken (offset : ℕ) (image : List ℕ) (refusal : Refusal) : Type 0 where
   pub gate_at : ℕ
   pub is : refusal ≡ Damaged gate_at
@@ -49,7 +50,7 @@ pub record IsBroken (offset : ℕ) (image : List ℕ) (refusal : Refusal) : Type
 
 -- ---- both
 
--- the header has this fault, or it has none and the frames have it
+-- Why the image does not read: the header has this fault, or it has none and the frames have it.
 pub record IsUnread (node n : ℕ) (image : List ℕ) (refusal : Refusal) : Type 0 where
   pub cause : (header_at node n image ≡ Err refusal) ⊎ ((capacity : ℕ) × (header_at node n image ≡ Ok capacity) × IsBroken frames_at image refusal)
 
@@ -58,7 +59,7 @@ pub record IsFault (before now : ℕ) (refusal : Refusal) : Type 0 where
   pub is : refusal ≡ Device now
   pub rises : min (before + 1) (2 ^ 64 - 1) ≤ now
 
--- why a journal is not opened: the device failed, a growth was refused behind a header without fault, or the image does
--- not read
+-- Why a journal is not opened, in one of three ways: the device failed; or the header has no fault, and a growth was
+-- refused; or the image does not read.
 pub record IsUnopened (node n before now : ℕ) (image : List ℕ) (refusal : Refusal) : Type 0 where
   pub cause : IsFault before now refusal ⊎ (((capacity : ℕ) × (header_at node n image ≡ Ok capacity) × (refusal ≡ OutOfMemory)) ⊎ IsUnread node n image refusal)

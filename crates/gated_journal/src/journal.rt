@@ -1,18 +1,19 @@
 ghost use Rattle.std.specs.Prelude.{◌≡◌, ◌+◌, ◌++◌, ◌-◌, ◌⊎◌, ◌<◌, ◌≤◌, ◌^◌, ℕ, List, [], true, false, length, min, is_err, IfOk, IfErr, OnOk, OnErr, IsOk};
 ghost use Rattle.disk_model.specs.Disk.{MayLeave, LeavesOnly, HasCause, Reaches, synced};
+ghost use Rattle.ring_records.specs.declared.limits.TheConstants.{GREATEST_CAPACITY, LEAST_CAPACITY};
 ghost use Rattle.ring_records.specs.declared.input.Input.{Input};
 ghost use Rattle.ring_records.specs.Admission.{used};
 ghost use Rattle.ring_records.specs.Member.{member, used_by};
-ghost use Rattle.gated_journal.specs.Reading.{is_header, frames_at, new_image, IsAtRest, ReadsAs, AllReadAs, ReadsAsOneOf};
+ghost use Rattle.gated_journal.specs.Reading.{device_size, is_header, frames_at, new_image, IsAtRest, ReadsAs, AllReadAs, ReadsAsOneOf};
 ghost use Rattle.gated_journal.specs.Unread.{IsFault, IsUnread, IsUnopened};
 
 use crate::commit::append;
+use crate::flown::Flown;
 use crate::layout::{FRAMES, is_header};
 use crate::open::{Opened, open};
-use crate::spell::used_of;
 use crate::{Batch, Receipt, Spoiled};
 use disk_model::{Device, FuseDevice, write_through};
-use ring_records::{Input, NodeNo, Refusal};
+use ring_records::{GREATEST_CAPACITY, Input, LEAST_CAPACITY, NodeNo, Refusal, used_by};
 use std::alloc::Global;
 
 /// The durable inputs of one node, on a device of its own.
@@ -31,8 +32,8 @@ pub struct Journal<D: Device> {
     ghost from: { frames_at ≤ gate_at },
     ghost within: { gate_at ≤ frames_at + used },
     ghost counted: { count ≤ used },
-    ghost least: { 4096 ≤ capacity },
-    ghost small: { capacity ≤ 1048576 },
+    ghost least: { LEAST_CAPACITY ≤ capacity },
+    ghost small: { capacity ≤ GREATEST_CAPACITY },
 }
 
 // A header, and a closed gate.
@@ -142,7 +143,7 @@ impl<D: Device> Journal<D> {
                     capacity,
                     gate_at,
                     count: inputs.len() as u64,
-                    used: used_of(&inputs),
+                    used: used_by(&inputs),
                     is_spoiled: false,
                 };
                 Ok((journal, inputs))
@@ -160,8 +161,8 @@ impl<D: Device> Journal<D> {
     /// The bytes that its inputs may take by their costs, 4,096 to 1,048,576.
     pub fn capacity(&self) -> u32
         ensures value { result ≡ (member_of self.now).capacity }
-        ensures from { 4096 ≤ result }
-        ensures to { result ≤ 1048576 }
+        ensures from { LEAST_CAPACITY ≤ result }
+        ensures to { result ≤ GREATEST_CAPACITY }
     {
         self.capacity
     }
@@ -230,7 +231,7 @@ impl<D: Device> Journal<D> {
             → AllReadAs (member_of self.old) (D.disk (device_of self.new)) (inputs ++ (shown batch).inputs)) }
         ensures spoils { is_spoiled self.new ≡ is_err result }
         ensures cause { HasCause (D.count (device_of self.old)) (D.count (device_of self.new)) result }
-        ensures works { Reaches (D.reach (device_of self.old)) (17 + (member_of self.old).capacity) → IsOk result }
+        ensures works { Reaches (D.reach (device_of self.old)) (device_size (member_of self.old).capacity) → IsOk result }
         ensures reach { D.reach (device_of self.new) ≡ D.reach (device_of self.old) }
         ensures receipt { IfOk result (λ receipt. landed receipt ≡ shown batch) }
         ensures spoiled { IfErr result (λ spoiled. lost spoiled ≡ shown batch) }
@@ -247,23 +248,22 @@ impl<D: Device> Journal<D> {
             bytes,
         } = batch;
         self.is_spoiled = true;
+        let more = inputs.len() as u64;
+        let flown = Flown {
+            node,
+            first,
+            inputs,
+            snapshot: None,
+        };
         match append(&mut self.device, self.gate_at, &bytes) {
             Ok(()) => {
                 self.gate_at += bytes.len() as u64;
-                self.count += inputs.len() as u64;
+                self.count += more;
                 self.used += u64::from(cost);
                 self.is_spoiled = false;
-                Ok(Receipt {
-                    node,
-                    first,
-                    inputs,
-                })
+                Ok(Receipt { flown })
             }
-            Err(_) => Err(Spoiled {
-                node,
-                first,
-                inputs,
-            }),
+            Err(_) => Err(Spoiled { flown }),
         }
     }
 }

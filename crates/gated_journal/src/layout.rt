@@ -2,9 +2,9 @@
 ghost use Rattle.std.specs.Prelude.{◌≡◌, ◌+◌};
 ghost use Rattle.ring_records.specs.Member.{member};
 ghost use Rattle.gated_journal.specs.Areas.{area_b};
-ghost use Rattle.gated_journal.specs.Reading.{is_header};
+ghost use Rattle.gated_journal.specs.Reading.{is_header, device_size};
 
-use ring_records::NodeNo;
+use ring_records::{GREATEST_CAPACITY, LEAST_CAPACITY, NodeNo};
 
 /// The offset of the frames of a journal of layout 1: they stand behind its header.
 pub(crate) const FRAMES: u64 = 16;
@@ -24,12 +24,16 @@ pub(crate) fn area_b(capacity: u32) -> u64
 pub fn is_header(node: NodeNo, n: u8, capacity: u32) -> bool
     ensures { result ≡ is_header (member node n capacity) }
 {
-    2 <= n && n <= 16 && node.number() <= n && 4096 <= capacity && capacity <= 1_048_576
+    2 <= n
+        && n <= 16
+        && node.number() <= n
+        && LEAST_CAPACITY <= capacity
+        && capacity <= GREATEST_CAPACITY
 }
 
 /// How many bytes of a device a journal of this capacity may come to use: its header, its frames, and a gate.
 pub fn device_size(capacity: u32) -> u64
-    ensures { result ≡ 17 + capacity }
+    ensures { result ≡ device_size capacity }
 {
     FRAMES + u64::from(capacity) + 1
 }

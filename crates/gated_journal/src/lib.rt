@@ -6,6 +6,7 @@ mod batch;
 mod checkpoint;
 mod commit;
 mod contents;
+mod flown;
 mod format;
 mod journal;
 pub mod laws;

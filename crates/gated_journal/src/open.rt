@@ -10,7 +10,7 @@ ghost use Rattle.gated_journal.specs.Unread.{head_at, header_at, IsFault, IsBrok
 use crate::layout::FRAMES;
 use crate::scan::{Unread, scan};
 use disk_model::Device;
-use ring_records::{Input, NodeNo, Refusal};
+use ring_records::{GREATEST_CAPACITY, Input, LEAST_CAPACITY, NodeNo, Refusal};
 use std::alloc::{AllocFailed, Global};
 
 /// What a journal is opened with.
@@ -69,7 +69,7 @@ fn capacity_of(head: &[u8; 16], node: NodeNo, n: u8) -> Result<u32, Refusal>
         return Err(Refusal::WrongNode);
     }
     let capacity = u32::from_be_bytes([head[10], head[11], head[12], head[13]]);
-    if !(4096 <= capacity && capacity <= 1_048_576) {
+    if !(LEAST_CAPACITY <= capacity && capacity <= GREATEST_CAPACITY) {
         return Err(Refusal::Damaged(10));
     }
     if u16::from_be_bytes([head[14], head[15]]) != 0 {

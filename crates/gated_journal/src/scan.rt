@@ -6,7 +6,7 @@ ghost use Rattle.gated_journal.specs.Frames.{records, body, IsBatch, HaveRecords
 ghost use Rattle.gated_journal.specs.Scan.{HasHead, TakesRecords, TakesFrame};
 ghost use Rattle.gated_journal.specs.Unread.{NoFrame, IsDamagedAt};
 
-use ring_records::{Input, read_record};
+use ring_records::{BATCH_INPUTS, Input, read_record};
 use std::alloc::{AllocError, AllocFailed, Global};
 
 /// Why bytes do not read as frames.
@@ -26,7 +26,7 @@ fn head_of(tail: &[u8]) -> Option<(usize, &[u8])>
     }
     let count = u16::from_be_bytes([tail[0], tail[1]]) as usize;
     let size = u32::from_be_bytes([tail[2], tail[3], tail[4], tail[5]]) as usize;
-    if count == 0 || count > 64 || tail.len() - 6 < size {
+    if count == 0 || count > BATCH_INPUTS || tail.len() - 6 < size {
         return None;
     }
     Some((count, &tail[6..6 + size]))

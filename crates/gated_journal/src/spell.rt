@@ -1,37 +1,25 @@
 //! A frame's bytes.
-ghost use Rattle.std.specs.Prelude.{◌≡◌, ◌≤◌, ◌+◌, ◌*◌, ◌^◌, ◌<◌, ◌++◌, ◌∷◌, [], length, IfOk, OnOk};
+ghost use Rattle.std.specs.Prelude.{◌≡◌, ◌≤◌, ◌+◌, ◌*◌, ◌++◌, ◌∷◌, [], length, IfOk, OnOk};
 ghost use Rattle.ring_records.specs.Admission.{used};
 ghost use Rattle.ring_records.specs.Member.{used_by};
 ghost use Rattle.ring_records.specs.Record.{AreBytes, HasRecord, record_of};
 ghost use Rattle.gated_journal.specs.Frames.{IsFrame, records};
 
-use ring_records::{Input, write_record};
+use ring_records::{BATCH_INPUTS, Input, write_record};
 use std::alloc::{AllocError, Global};
 
 /// The bytes of the capacity that the inputs take together.
 pub(crate) fn cost_of(inputs: &[Input]) -> u32
-    requires { length inputs.now ≤ 64 }
+    requires { length inputs.now ≤ BATCH_INPUTS }
     ensures value { result ≡ used_by inputs.now }
     ensures records { result ≡ length (records inputs.now) + 7 * length inputs.now }
-    ensures bound { result ≤ 42 * 64 }
+    ensures bound { result ≤ 42 * BATCH_INPUTS }
 {
     let mut cost = 0;
     for input in inputs {
         cost += input.cost();
     }
     cost
-}
-
-/// The bytes of a capacity that a whole journal's inputs take.
-pub(crate) fn used_of(inputs: &[Input]) -> u64
-    requires { used_by inputs.now < 2 ^ 64 }
-    ensures { result ≡ used_by inputs.now }
-{
-    let mut used = 0;
-    for input in inputs {
-        used += u64::from(input.cost());
-    }
-    used
 }
 
 fn push_text(bytes: &mut Vec<u8>, text: &[u8]) -> Result<(), AllocError>
@@ -54,7 +42,7 @@ fn push_record(bytes: &mut Vec<u8>, input: &Input) -> Result<(), AllocError>
 /// The frame of the inputs behind its gate, and the next gate, which is closed.
 pub(crate) fn spell(alloc: Global, inputs: &[Input]) -> Result<Vec<u8>, AllocError>
     requires some { 1 ≤ length inputs.now }
-    requires few { length inputs.now ≤ 64 }
+    requires few { length inputs.now ≤ BATCH_INPUTS }
     ensures { IfOk result (λ bytes. IsFrame inputs.now bytes.items) }
 {
     let count = inputs.len() as u16;

@@ -9,5 +9,5 @@ returns c =
     let count : count_at tail ≡ c.from_be_bytes-count.result = omega (arith, c.from_be_bytes-count.ensures) in
     let size : size_at tail ≡ 6 + c.from_be_bytes-size.result - 6 = omega (arith, c.from_be_bytes-size.ensures) in
     let long : 6 ≤ length tail = omega (arith, c.if-tail-lt6.false) in
-    let found = head tail (λ i. omega (arith, c.type_inv.tail i)) long (omega (arith, count, c.if-count-eq0.false)) (omega (arith, count, c.if-count-gt64.false)) (omega (arith, size, c.if-tail-size.false)) in
+    let found = head tail (λ i. omega (arith, c.type_inv.tail i)) long (omega (arith, count, c.if-count-eq0.false)) (omega (arith, count, c.if-count-gt-BATCH_INPUTS.false)) (omega (arith, size, c.if-tail-size.false)) in
     subst (λ (n : ℕ). HasHead tail n (take (6 + c.from_be_bytes-size.result - 6) (drop 6 tail))) count (subst (λ (n : ℕ). HasHead tail (count_at tail) (take n (drop 6 tail))) size found)

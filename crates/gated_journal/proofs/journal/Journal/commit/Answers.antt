@@ -28,7 +28,7 @@ overflow_add-self-in-Ok g c =
     let b = c.args.batch in
     let f = fits b.inputs.items b.bytes.items b.framed in
     let room : used_by b.inputs.items ≤ j.capacity - j.used = c.requires.room in
-    omega (arith, c.len-in-Ok.ensures, f.count, f.some, room, j.counted, j.small)
+    omega (arith, c.len-more.ensures, f.count, f.some, room, j.counted, j.small)
 
 pub invariant_of-self : goal.invariant_of-self
 invariant_of-self g c =
@@ -42,12 +42,12 @@ invariant_of-self g c =
     let f = fits batch b.bytes.items b.framed in
     let frame = subst (λ l. IsFrame batch l) (sym c.deref.ensures.value) b.framed in
     let bytes_same : length c.deref.result.now ≡ c.len.result = omega (arith, ap length c.deref.ensures.value, c.len.ensures) in
-    let count_same : length batch ≡ c.len-in-Ok.result = omega (arith, c.len-in-Ok.ensures) in
+    let count_same : length batch ≡ c.len-more.result = omega (arith, c.len-more.ensures) in
     let sum_same : used_by batch ≡ c.from.result = sym b.counted ∙ sym c.from.ensures in
     let next = rest_next header old new j.gate_at (j.gate_at + length c.deref.result.now) j.count j.used batch rest c.in-Ok.ensures.synced
     (λ inputs read. after header old.image new.image inputs batch j.gate_at (length c.deref.result.now) read (c.in-Ok.ensures.done 16 inputs batch rest.synced read.frames frame)) in
     record {
-      settled = λ same. subst (λ n. IsAtRest header new (j.gate_at + n) (j.count + c.len-in-Ok.result) (j.used + c.from.result)) bytes_same
+      settled = λ same. subst (λ n. IsAtRest header new (j.gate_at + n) (j.count + c.len-more.result) (j.used + c.from.result)) bytes_same
           (subst (λ n. IsAtRest header new (j.gate_at + length c.deref.result.now) (j.count + n) (j.used + c.from.result)) count_same
           (subst (λ n. IsAtRest header new (j.gate_at + length c.deref.result.now) (j.count + length batch) (j.used + n)) sum_same next));
       from = omega (arith, j.from);

@@ -4,8 +4,8 @@ use Rattle.gated_journal.specs.Reading.{ReadsAt, IsAtRest}
 use Rattle.gated_journal.proofs.Rest.{opens, all_read, rest_of}
 use Rattle.gated_journal.proofs.journal.Journal.reopen.Goals as goal
 
-pub used_of-requires : goal.used_of-requires
-used_of-requires g c =
+pub used_by-requires : goal.used_by-requires
+used_by-requires g c =
     let o = opens _ _ c.in-Ok.field-0.inputs.items c.in-Ok.field-0.gate_at c.in-Ok.ensures.reads in
     omega (arith, ap used_by c.deref.ensures.value, o.bound, c.in-Ok.field-0.small)
 
@@ -18,9 +18,9 @@ invariant_of-journal g c =
     let read : ReadsAt header disk.image f.inputs.items f.gate_at = subst (λ (l : List ℕ). ReadsAt header l f.inputs.items f.gate_at) (sym c.open.ensures.image) c.in-Ok.ensures.reads in
     let rest = rest_of header disk f.inputs.items f.gate_at c.in-Ok.ensures.synced read in
     let count : length f.inputs.items ≡ c.len.result = search rules in
-    let sum : used_by f.inputs.items ≡ c.used_of.result = sym (c.used_of.ensures ∙ ap used_by c.deref.ensures.value) in
+    let sum : used_by f.inputs.items ≡ c.used_by.result = sym (c.used_by.ensures ∙ ap used_by c.deref.ensures.value) in
     record {
-      settled = λ ready. subst (λ (k : ℕ). IsAtRest header disk f.gate_at k c.used_of.result) count (subst (λ (k : ℕ). IsAtRest header disk f.gate_at (length f.inputs.items) k) sum rest);
+      settled = λ ready. subst (λ (k : ℕ). IsAtRest header disk f.gate_at k c.used_by.result) count (subst (λ (k : ℕ). IsAtRest header disk f.gate_at (length f.inputs.items) k) sum rest);
       from = o.from;
       within = omega (arith, o.within, sum);
       counted = omega (arith, o.counted, sum, count);
