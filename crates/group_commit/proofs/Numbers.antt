@@ -1,13 +1,19 @@
 -- Open tickets by their numbers.
-use Rattle.std.proofs.Common.{◌≡◌, ◌≢◌, ℕ, ◌+◌, ◌<◌, Bool, true, false, nat_eq, cond, List, [], ◌∷◌, ◌++◌, Some, refl, sym, ◌∙◌, ap, arith}
-use Rattle.std.proofs.lemmas.Bool.{eq-eqb, eqb-true, ne_eqb}
+use Rattle.std.proofs.Common.{◌≡◌, ◌≢◌, ℕ, ◌+◌, ◌<◌, ◌^◌, Bool, true, false, ◌||◌, nat_eq, cond, List, [], ◌∷◌, ◌++◌, Some, None, refl, sym, ◌∙◌, ap, arith}
+use Rattle.std.proofs.lemmas.Bool.{eq-eqb, eqb-true, ne_eqb, leb-false}
+use Rattle.std.specs.Prelude.{nat_le}
 use Rattle.std.specs.BTreeMap.{insert_entry}
 use Rattle.std.specs.Cmp.{ranks}
 use Rattle.std.specs.Map.{lookup, remove_entry}
 use Rattle.std.specs.Ordering.{nat_cmp, is_eq, match_ordering, MatchOrdering}
 use Rattle.std.specs.declared.cmp.Ordering.{Ordering}
 use Rattle.std.specs.declared.cmp.Ordering.TheVariants.{Less, Equal, Greater}
+use Rattle.ring_records.specs.declared.refusal.Refusal.TheVariants.{Failed, BadNumber, Limit}
+use Rattle.ring_records.specs.declared.request.Request.{Request}
 use Rattle.ring_records.specs.Answer.{Answered}
+use Rattle.ring_records.specs.Message.{is_outside}
+use Rattle.ring_records.proofs.Lists.{none≢some}
+use Rattle.group_commit.specs.Desk.{DeskView, objection}
 use Rattle.group_commit.specs.Kept.{AreBelow}
 
 by_rank : (a b : ℕ) (o : Ordering) → MatchOrdering o (a < b) (a ≡ b) (b < a) → is_eq o ≡ nat_eq a b
@@ -78,3 +84,17 @@ kept_without own other (t ∷ tickets) apart = by_test (nat_eq other t.0) refl (
 pub kept_before : (own other : ℕ) (kept : Answered) (tickets : List (ℕ × Answered)) → own ≢ other → lookup (nat_eq own) (tickets ++ (other, kept) ∷ []) ≡ lookup (nat_eq own) tickets
 kept_before own other kept [] apart = rw (ne_eqb own other apart) refl
 kept_before own other kept (t ∷ tickets) apart = ap (λ found. cond (nat_eq own t.0) (Some t.1) found) (kept_before own other kept tickets apart)
+
+-- ---- where a ticket is given
+
+pub few_issued : (desk : DeskView) (q : Request) → objection desk q ≡ None → desk.issued < 2 ^ 60
+few_issued desk q none = go (desk.closed || desk.failed) (is_outside desk.member.n q) none
+  where
+    limit : (b : Bool) → cond b (Some Limit) None ≡ None → b ≡ false
+    limit true e = none≢some Limit (sym e)
+    limit false e = refl
+
+    go : (shut outside : Bool) → cond shut (Some Failed) (cond outside (Some BadNumber) (cond (nat_le (2 ^ 60) desk.issued) (Some Limit) None)) ≡ None → desk.issued < 2 ^ 60
+    go true outside e = none≢some Failed (sym e)
+    go false true e = none≢some BadNumber (sym e)
+    go false false e = leb-false (2 ^ 60) desk.issued (limit _ e)

@@ -1,110 +1,149 @@
 -- What a node may release once one more input is durable.
-use Rattle.std.proofs.Common.{◌≡◌, ℕ, ◌+◌, ◌<◌, ◌≤◌, ◌^◌, List, [], ◌∷◌, ◌++◌, length, take, Option, None, sym, ap, ◌∙◌, subst, append-nil, arith}
-use Rattle.std.specs.Prelude.{unwrap_or}
+use Rattle.std.proofs.Common.{◌≡◌, ℕ, ◌+◌, ◌-◌, ◌<◌, ◌≤◌, ◌^◌, List, [], ◌∷◌, ◌++◌, length, take, drop, Option, Some, None, refl, sym, ap, ◌∙◌, subst, append-nil, length-append, length-drop, length-take-le, arith}
 use Rattle.std.specs.List.{cons_option}
 use Rattle.std.specs.Option.{option_map}
-use Rattle.std.proofs.lemmas.List.{length-append, length-take-le, take_all}
+use Rattle.std.specs.Prelude.{nat_le, is_some}
+use Rattle.std.proofs.lemmas.Bool.{ltb-false, leb-false}
+use Rattle.ring_records.specs.declared.decision.Decision.{Decision}
 use Rattle.ring_records.specs.declared.input.Input.{Input}
 use Rattle.ring_records.specs.declared.input.Input.TheVariants.{Stand, Take, Acked}
 use Rattle.ring_records.specs.declared.key.Key.{Key}
 use Rattle.ring_records.specs.declared.msg.Msg.{Msg}
-use Rattle.ring_records.specs.declared.packet.Packet.TheVariants.{Carry}
-use Rattle.ring_records.specs.Emission.{emit, sent, carry}
-use Rattle.ring_records.specs.Admission.{IsInTurn, IsAllowed}
-use Rattle.ring_records.specs.History.{message_of, upto_of, taken, credit}
-use Rattle.ring_records.specs.Leader.{decided}
-use Rattle.ring_records.specs.Lists.{found_after}
-use Rattle.ring_records.specs.Release.{decisions, numbered, window}
 use Rattle.ring_records.specs.declared.packet.Packet.{Packet}
+use Rattle.ring_records.specs.declared.packet.Packet.TheVariants.{Carry}
+use Rattle.ring_records.specs.declared.refusal.Refusal.TheVariants as refused
+use Rattle.ring_records.specs.declared.summary.Summary.{Summary}
+use Rattle.ring_records.specs.Admission.{where_so, already, stale}
+use Rattle.ring_records.specs.Known.{Objects, stood_of, known_of, sends, stepped}
+use Rattle.ring_records.specs.Lists.{or_else}
+use Rattle.ring_records.specs.Release.{numbered}
+use Rattle.ring_records.specs.Summary.{empty}
+use Rattle.ring_records.proofs.Admission.{or_else-none, where_so-none}
 use Rattle.ring_records.proofs.LookBack.{IsItem, take-item}
-use Rattle.ring_records.proofs.Counts.{taken-few, sent-few}
-use Rattle.ring_records.proofs.History.{taken-push, sent-push, credit-push}
-use Rattle.ring_records.proofs.Lists.{found_after-push}
-use Rattle.neighbour_link.specs.Outlink.{LinkView, OutlinkStandsFor, sent_count}
-use Rattle.neighbour_link.proofs.Links.{sent_count-stands}
+use Rattle.neighbour_link.specs.Outlink.{LinkView, sent_count}
+use Rattle.node_core.specs.Brought.{brought}
 use Rattle.node_core.specs.declared.effects.Effects.{Effects}
 use Rattle.group_commit.specs.declared.released.Released.{Released}
-use Rattle.group_commit.specs.Outbox.{Keeps, effects_of}
+use Rattle.group_commit.specs.Outbox.{Keeps}
 
-pub keeps_none : (me : ℕ) (released : Released) → OutlinkStandsFor released.link.link [] 0 → released.decisions.items ≡ [] → released.taken ≡ 0 → Keeps me released []
-unfolding decisions found_after sent credit taken
-keeps_none me released link decided takes = record { link = link; decisions = decided; taken = takes }
+pub keeps_none : (released : Released) → released.link.link.credited ≡ 0 → released.link.link.window ≡ [] → released.decisions.items ≡ [] → released.taken ≡ 0 → Keeps released empty []
+keeps_none released credited window decided taken = record {
+  credited = credited;
+  window = window;
+  sent = (let none = ap length window in omega (arith, credited, none));
+  taken = taken;
+  decisions = decided;
+  sent_few = omega arith;
+  taken_few = omega arith;
+}
+
+-- ---- what nothing is against
+
+-- there is one number more for an input
+pub few : (n : ℕ) (s : Summary) (x : Input) → Objects n s x None → s.inputs < 2 ^ 56
+few n s (Stand key bid) (led, is, e) =
+    let a = or_else-none (or_else (already (stood_of (known_of s key))) (where_so (is_some (known_of s key)) refused.Late)) _ (sym e) in
+    let b = or_else-none (stale key.term led) _ a.1 in
+    let c = or_else-none (where_so (nat_le 1024 s.stands) refused.Limit) _ b.1 in
+    leb-false (2 ^ 56) s.inputs (where_so-none _ refused.Limit c.1)
+few n s (Take msg_no msg) e =
+    let a = or_else-none _ _ (sym e) in
+    let b = or_else-none _ _ a.1 in
+    leb-false (2 ^ 56) s.inputs (where_so-none _ _ b.1)
+few n s (Acked upto) e =
+    let a = or_else-none _ _ (sym e) in
+    let b = or_else-none _ _ a.1 in
+    leb-false (2 ^ 56) s.inputs (where_so-none _ _ b.1)
+
+-- a credit is above the last one, and not above what was sent
+pub credited : (n : ℕ) (s : Summary) (x : Input) (upto : ℕ) → Objects n s x None → x ≡ Acked upto → (s.credit < upto) × (upto ≤ s.sent)
+credited n s x upto free is =
+    let a = or_else-none _ _ (sym (subst (λ (y : Input). Objects n s y None) is free)) in
+    let b = or_else-none _ _ a.1 in
+    (leb-false upto s.credit (where_so-none _ _ a.0), ltb-false s.sent upto (where_so-none _ _ b.0))
+
+pub few_queued : (n : ℕ) (released : Released) (s : Summary) (decided : List Decision) (x : Input) → Keeps released s decided → Objects n s x None → sent_count released.link.link + 1 < 2 ^ 64
+few_queued n released s decided x keeps free = let below = few n s x free in let sent = keeps.sent in let within = keeps.sent_few in omega arith
+
+pub few_taken : (n : ℕ) (released : Released) (s : Summary) (decided : List Decision) (x : Input) → Keeps released s decided → Objects n s x None → released.taken + 1 < 2 ^ 64
+few_taken n released s decided x keeps free = let below = few n s x free in let taken = keeps.taken in let within = keeps.taken_few in omega arith
 
 -- ---- one more input
 
--- its message, if it sends one, is queued
-pub queued : (me : ℕ) (link new : LinkView) (h : List Input) (x : Input) (effects : Effects) → OutlinkStandsFor link (sent me h) (credit h) → effects ≡ effects_of me h x
-    → ((sent : List Msg) (credit : ℕ) (on : Option Msg) → OutlinkStandsFor link sent credit → effects.carry ≡ option_map (Carry (length sent)) on → OutlinkStandsFor new (sent ++ cons_option on []) credit)
-    → OutlinkStandsFor new (sent me (h ++ x ∷ [])) (credit h)
-unfolding carry
-queued me link new h x effects stands brings queue =
-    subst (λ (l : List Msg). OutlinkStandsFor new l (credit h)) (sym (sent-push me h x)) (queue (sent me h) (credit h) (emit me h x) stands (λ i. (brings i).carry))
+-- the link once what the input sends is queued
+pub record Queued (me : ℕ) (link : LinkView) (s : Summary) (x : Input) : Type 0 where
+  pub credited : link.credited ≡ s.credit
+  pub window : link.window ≡ s.window ++ cons_option (sends me s x) []
+  pub sent : sent_count link ≡ s.sent + length (cons_option (sends me s x) [])
 
--- one more message is counted
-pub few_queued : (me n : ℕ) (released : Released) (h : List Input) (x : Input) → Keeps me released h → IsAllowed me n h x → sent_count released.link.link + 1 < 2 ^ 64
-few_queued me n released h x keeps allowed =
-    let few = allowed.few in
-    let count = sent_count-stands released.link.link (sent me h) (credit h) keeps.link in
-    let some = sent-few me h in
-    omega arith
+pub queued : (me : ℕ) (old : Released) (link : LinkView) (s : Summary) (decided : List Decision) (x : Input) (effects : Effects) → Keeps old s decided → effects ≡ brought me s x → link.credited ≡ old.link.link.credited
+    → ((count : ℕ) (on : Option Msg) → effects.carry ≡ option_map (Carry count) on → link.window ≡ old.link.link.window ++ cons_option on []) → Queued me link s x
+queued me old link s decided x effects keeps brings credited window =
+    let more = window s.sent (sends me s x) (λ i. (brings i).carry) in
+    let count = ap length more ∙ length-append old.link.link.window (cons_option (sends me s x) []) in
+    let before = keeps.sent in
+    record {
+      credited = credited ∙ keeps.credited;
+      window = more ∙ ap (λ l. l ++ cons_option (sends me s x) []) keeps.window;
+      sent = omega (arith, credited, count, before);
+    }
 
-pub few_taken : (me n : ℕ) (released : Released) (h : List Input) (x : Input) → Keeps me released h → IsAllowed me n h x → released.taken + 1 < 2 ^ 64
-few_taken me n released h x keeps allowed =
-    let few = allowed.few in
-    let count = keeps.taken in
-    let some = taken-few h in
-    omega arith
-
--- a credit that is allowed is above the last one, and not above what was sent
-pub credit_allowed : (me n : ℕ) (link : LinkView) (h : List Input) (x : Input) (upto : ℕ) → OutlinkStandsFor link (sent me (h ++ x ∷ [])) (credit h) → IsAllowed me n h x → x ≡ Acked upto
-    → (link.credited < upto) × (upto ≤ sent_count link)
-unfolding IsInTurn
-credit_allowed me n link h x upto stands allowed is =
-    let turn = (subst (IsAllowed me n h) is allowed).in_turn in
-    let above = turn.above in
-    let within = turn.sent in
-    let credited = stands.credited in
-    let count = sent_count-stands link (sent me (h ++ x ∷ [])) (credit h) stands in
-    let more : length (sent me (h ++ x ∷ [])) ≡ length (sent me h) + length (cons_option (emit me h x) []) = ap length (sent-push me h x) ∙ length-append (sent me h) (cons_option (emit me h x) []) in
+-- a credit that is allowed may be taken then
+pub may_credit : (me n : ℕ) (link : LinkView) (s : Summary) (x : Input) (upto : ℕ) → Queued me link s x → Objects n s x None → x ≡ Acked upto → (link.credited < upto) × (upto ≤ sent_count link)
+may_credit me n link s x upto q free is =
+    let within = credited n s x upto free is in
+    let from = q.credited in
+    let sent = q.sent in
     (omega arith, omega arith)
 
-keeps_next : (me : ℕ) (old new : Released) (h : List Input) (x : Input) (effects : Effects) → Keeps me old h → effects ≡ effects_of me h x
-    → new.decisions.items ≡ old.decisions.items ++ cons_option effects.decided []
-    → OutlinkStandsFor new.link.link (sent me (h ++ x ∷ [])) (credit (h ++ x ∷ [])) → new.taken ≡ length (taken (h ++ x ∷ [])) → Keeps me new (h ++ x ∷ [])
-unfolding decisions
-keeps_next me old new h x effects keeps brings more link takes = record {
-  link = link;
-  decisions = more ∙ (λ i. keeps.decisions i ++ cons_option ((brings i).decided) []) ∙ sym (found_after-push (decided me) [] h x);
-  taken = takes;
-}
+one_most : {A : Type 0} (o : Option A) → length (cons_option o []) ≤ 1
+one_most None = omega arith
+one_most (Some x) = omega arith
 
-same_credit : (h : List Input) (x : Input) → upto_of x ≡ None → credit h ≡ credit (h ++ x ∷ [])
-same_credit h x none = sym (credit-push h x ∙ ap (λ o. unwrap_or o (credit h)) none)
+pub next_stand : (me : ℕ) (old new : Released) (s : Summary) (decided more : List Decision) (x : Input) (key : Key) (bid : ℕ) → Keeps old s decided → x ≡ Stand key bid → Queued me new.link.link s x
+    → new.taken ≡ old.taken → new.decisions.items ≡ old.decisions.items ++ more → Keeps new (stepped me s x) (decided ++ more)
+next_stand me old new s decided more x key bid keeps is q taken told = subst (λ (y : Input). Queued me new.link.link s y → Keeps new (stepped me s y) (decided ++ more)) (sym is) (λ q. record {
+  credited = q.credited;
+  window = q.window;
+  sent = q.sent;
+  taken = taken ∙ keeps.taken;
+  decisions = told ∙ ap (λ l. l ++ more) keeps.decisions;
+  sent_few = (let few = keeps.sent_few in let one = one_most (sends me s (Stand key bid)) in omega arith);
+  taken_few = (let few = keeps.taken_few in omega arith);
+}) q
 
-same_taken : (h : List Input) (x : Input) → message_of x ≡ None → length (taken h) ≡ length (taken (h ++ x ∷ []))
-same_taken h x none = sym (ap length (taken-push h x ∙ ap (λ (o : Option Msg). taken h ++ cons_option o []) none ∙ append-nil (taken h)))
+pub next_take : (me : ℕ) (old new : Released) (s : Summary) (decided more : List Decision) (x : Input) (msg_no : ℕ) (msg : Msg) → Keeps old s decided → x ≡ Take msg_no msg → Queued me new.link.link s x
+    → new.taken ≡ old.taken + 1 → new.decisions.items ≡ old.decisions.items ++ more → Keeps new (stepped me s x) (decided ++ more)
+next_take me old new s decided more x msg_no msg keeps is q taken told = subst (λ (y : Input). Queued me new.link.link s y → Keeps new (stepped me s y) (decided ++ more)) (sym is) (λ q. record {
+  credited = q.credited;
+  window = q.window;
+  sent = q.sent;
+  taken = taken ∙ ap (λ n. n + 1) keeps.taken;
+  decisions = told ∙ ap (λ l. l ++ more) keeps.decisions;
+  sent_few = (let few = keeps.sent_few in let one = one_most (sends me s (Take msg_no msg)) in omega arith);
+  taken_few = (let few = keeps.taken_few in omega arith);
+}) q
 
-pub next_stand : (me : ℕ) (old new : Released) (h : List Input) (x : Input) (effects : Effects) (key : Key) (bid : ℕ) → Keeps me old h → effects ≡ effects_of me h x → x ≡ Stand key bid
-    → new.decisions.items ≡ old.decisions.items ++ cons_option effects.decided [] → OutlinkStandsFor new.link.link (sent me (h ++ x ∷ [])) (credit h) → new.taken ≡ old.taken → Keeps me new (h ++ x ∷ [])
-unfolding upto_of message_of
-next_stand me old new h x effects key bid keeps brings is more link takes =
-    keeps_next me old new h x effects keeps brings more (subst (OutlinkStandsFor new.link.link (sent me (h ++ x ∷ []))) (same_credit h x (ap upto_of is)) link)
-    (takes ∙ (keeps.taken ∙ same_taken h x (ap message_of is)))
-
-pub next_take : (me : ℕ) (old new : Released) (h : List Input) (x : Input) (effects : Effects) (msg_no : ℕ) (msg : Msg) → Keeps me old h → effects ≡ effects_of me h x → x ≡ Take msg_no msg
-    → new.decisions.items ≡ old.decisions.items ++ cons_option effects.decided [] → OutlinkStandsFor new.link.link (sent me (h ++ x ∷ [])) (credit h) → new.taken ≡ old.taken + 1 → Keeps me new (h ++ x ∷ [])
-unfolding upto_of message_of
-next_take me old new h x effects msg_no msg keeps brings is more link takes =
-    keeps_next me old new h x effects keeps brings more (subst (OutlinkStandsFor new.link.link (sent me (h ++ x ∷ []))) (same_credit h x (ap upto_of is)) link)
-    (takes ∙ (ap (λ n. n + 1) keeps.taken ∙ sym (ap length (taken-push h x ∙ ap (λ (o : Option Msg). taken h ++ cons_option o []) (ap message_of is)) ∙ length-append (taken h) (msg ∷ []))))
-
-pub next_acked : (me : ℕ) (old new : Released) (h : List Input) (x : Input) (effects : Effects) (upto : ℕ) → Keeps me old h → effects ≡ effects_of me h x → x ≡ Acked upto
-    → new.decisions.items ≡ old.decisions.items ++ cons_option effects.decided [] → OutlinkStandsFor new.link.link (sent me (h ++ x ∷ [])) upto → new.taken ≡ old.taken → Keeps me new (h ++ x ∷ [])
-unfolding upto_of message_of
-next_acked me old new h x effects upto keeps brings is more link takes =
-    let credits : upto ≡ credit (h ++ x ∷ []) = sym (credit-push h x ∙ ap (λ y. unwrap_or (upto_of y) (credit h)) is) in
-    keeps_next me old new h x effects keeps brings more (subst (OutlinkStandsFor new.link.link (sent me (h ++ x ∷ []))) credits link)
-    (takes ∙ (keeps.taken ∙ same_taken h x (ap message_of is)))
+pub next_acked : (me n : ℕ) (old new : Released) (link : LinkView) (s : Summary) (decided more : List Decision) (x : Input) (upto : ℕ) → Keeps old s decided → x ≡ Acked upto → Objects n s x None → Queued me link s x
+    → new.link.link.credited ≡ upto → new.link.link.window ≡ drop (upto - link.credited) link.window
+    → new.taken ≡ old.taken → new.decisions.items ≡ old.decisions.items ++ more → Keeps new (stepped me s x) (decided ++ more)
+next_acked me n old new link s decided more x upto keeps is free q upto_is window taken told = subst (λ (y : Input). Objects n s y None → Queued me link s y → Keeps new (stepped me s y) (decided ++ more)) (sym is) (λ free q.
+    let within = credited n s (Acked upto) upto free refl in
+    let same : link.window ≡ s.window = q.window ∙ append-nil s.window in
+    let left : new.link.link.window ≡ drop (upto - s.credit) s.window = window ∙ (λ i. drop (upto - q.credited i) (same i)) in
+    let count = ap length left ∙ length-drop (upto - s.credit) s.window in
+    let sent = q.sent in
+    let from = q.credited in
+    let size = ap length same in
+    record {
+      credited = upto_is;
+      window = left;
+      sent = omega arith;
+      taken = taken ∙ keeps.taken;
+      decisions = told ∙ ap (λ l. l ++ more) keeps.decisions;
+      sent_few = (let few = keeps.sent_few in omega arith);
+      taken_few = (let few = keeps.taken_few in omega arith);
+    }) free q
 
 -- ---- the messages that may be released again
 
@@ -122,11 +161,3 @@ numbered-item first msgs index msg before after here is more =
     more ∙ ap (λ l. l ++ Carry (first + index) msg ∷ []) is
     ∙ ap (λ n. numbered first (take index msgs) ++ Carry (first + n) msg ∷ []) count
     ∙ sym (numbered-push first (take index msgs) msg) ∙ ap (numbered first) (sym (take-item msgs index msg here))
-
-pub window_is : (me : ℕ) (released : Released) (h : List Input) (msgs : List Msg) (first index : ℕ) (packets : List Packet) → Keeps me released h → msgs ≡ released.link.link.window
-    → first + length msgs ≡ sent_count released.link.link → length msgs ≤ index → packets ≡ numbered first (take index msgs) → packets ≡ window me h
-unfolding window
-window_is me released h msgs first index packets keeps window_same last all is =
-    let same : length msgs ≡ length released.link.link.window = ap length window_same in
-    let from : first ≡ released.link.link.credited = omega (arith, same, last) in
-    is ∙ (λ i. numbered ((from ∙ keeps.link.credited) i) (take_all index msgs all i)) ∙ ap (numbered (credit h)) (window_same ∙ keeps.link.window)

@@ -10,10 +10,9 @@ use Rattle.ring_records.specs.declared.reply.Reply.{Reply}
 use Rattle.ring_records.specs.declared.reply.Reply.TheVariants as say
 use Rattle.ring_records.specs.declared.request.Request.{Request}
 use Rattle.ring_records.specs.declared.request.Request.TheVariants as ask
-use Rattle.ring_records.specs.Admission.{fresh, IsAdmitted, IsLawful}
-use Rattle.ring_records.specs.Answer.{Answer, Answered, NodeState, input_of, if_free, unless, gained, reply}
-use Rattle.ring_records.specs.Member.{Member, member, IsHistory, refusal_by, answer_by}
-use Rattle.ring_records.proofs.Growth.{EachAfter-take}
+use Rattle.ring_records.specs.Answer.{Answer, Answered, input_of, if_free, unless, gained, reply}
+use Rattle.ring_records.specs.Member.{Member, member, refusal_by, answer_by}
+use Rattle.ring_records.specs.States.{NodeState}
 use Rattle.ring_records.proofs.Lists.{none≢some}
 use Rattle.group_commit.specs.Vouch.{acceptance, Accepts, IsInput, IsVouched}
 
@@ -45,10 +44,15 @@ answer_of h gains None found given says number finds gain count same none =
     (λ i. record { reply = (sym same ∙ finds) i; number = counts i })
 answer_of h gains (Some x) found given says number finds gain count same none = absurd cc
 
--- the first inputs of a lawful history are lawful
-pub lawful_take : (me n capacity k : ℕ) (h : List Input) → IsHistory (member me n capacity) h → IsHistory (member me n capacity) (take k h)
-unfolding IsLawful
-lawful_take me n capacity k h lawful = EachAfter-take (IsAdmitted me n capacity fresh) k h lawful
+-- and where this is the answer, the core gives it and accepts nothing
+pub tells : (h gains : List Input) (o : Option Input) (found given says : Reply) (number : ℕ) → found ≡ says → cons_option o [] ≡ gains → length h ≡ number → ◌≡◌ {A = Answer} (record { reply = given; number = number }) (record { reply = says; number = length (h ++ gains) })
+    → (found ≡ given) × (is_none o ≡ true)
+tells h gains None found given says number finds gain count same = (finds ∙ (λ i. (sym same i).reply), refl)
+tells h gains (Some x) found given says number finds gain count same =
+    let grown = ap (λ l. length (h ++ l)) gain in
+    let more = length-append h (x ∷ []) in
+    let counted : number ≡ length (h ++ gains) = λ i. (same i).number in
+    absurd (omega arith)
 
 -- the input that a reply accepts is the one that its request brings
 pub accepts_one : (q : Request) (reply : Reply) (x y : Input) → Accepts q reply x → Accepts q reply y → x ≡ y

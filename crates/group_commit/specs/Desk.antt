@@ -1,13 +1,16 @@
 -- What a desk is seen as, what its calls make of it, and why they are refused.
-use Rattle.std.specs.Prelude.{ℕ, ◌≡◌, ◌<◌, ◌^◌, ◌⊎◌, ◌+◌, Bool, false, ◌||◌, if◌then◌else◌, List, [], ◌∷◌, ◌++◌, take, nat_eq, nat_lt, nat_le, slice_get, Option, Some, None}
+use Rattle.std.specs.Prelude.{ℕ, ◌≡◌, ◌<◌, ◌^◌, ◌⊎◌, ◌+◌, Bool, false, ◌||◌, if◌then◌else◌, List, [], ◌∷◌, ◌++◌, take, nat_eq, nat_le, slice_get, Option, Some, None}
 use Rattle.std.specs.Map.{lookup, remove_entry}
 use Rattle.ring_records.specs.declared.input.Input.{Input}
 use Rattle.ring_records.specs.declared.refusal.Refusal.{Refusal}
 use Rattle.ring_records.specs.declared.refusal.Refusal.TheVariants as refused
 use Rattle.ring_records.specs.declared.request.Request.{Request}
+use Rattle.ring_records.specs.Admission.{fresh}
 use Rattle.ring_records.specs.Answer as answers
-use Rattle.ring_records.specs.Answer.{Answered, NodeState, opened, flying_in}
-use Rattle.ring_records.specs.Member.{Member, member, IsHistory, refusal_by, answered_by, asked_by}
+use Rattle.ring_records.specs.Answer.{Answered}
+use Rattle.ring_records.specs.Member.{Member, member, IsHistory, refusal_by}
+use Rattle.ring_records.specs.States as states
+use Rattle.ring_records.specs.States.{NodeState, is_idle, opened, flying_in, answered_by}
 use Rattle.ring_records.specs.Message.{is_outside}
 use Rattle.gated_journal.specs.Batch.{Numbered}
 use Rattle.group_commit.specs.Ticket.{TicketView, ticket_with}
@@ -26,11 +29,11 @@ pub record DeskView : Type 0 where
 
 -- just opened with these inputs
 abbrev pub new_desk : Member → ℕ → List Input → DeskView
-new_desk member run inputs = record { member = member; run = run; state = opened inputs; tickets = []; issued = 0; closed = false; failed = false }
+new_desk member run inputs = record { member = member; run = run; state = opened fresh inputs; tickets = []; issued = 0; closed = false; failed = false }
 
 -- what it answers to a request
 abbrev pub answered : DeskView → Request → Answered
-answered desk q = answered_by desk.member desk.state.inputs q
+answered desk q = answered_by desk.member desk.state q
 
 -- the ticket that it gives for a request
 abbrev pub ticket_for : Request → DeskView → TicketView
@@ -41,7 +44,7 @@ ticket_for q desk = ticket_with desk.member.node desk.run desk.issued (answered 
 -- it gave a ticket for the request
 abbrev pub submitted : Request → DeskView → DeskView
 submitted q desk = record desk {
-  state = asked_by desk.member desk.state q;
+  state = states.asked desk.member desk.state q;
   tickets = desk.tickets ++ (desk.issued, answered desk q) ∷ [];
   issued = desk.issued + 1;
 }
@@ -52,11 +55,11 @@ ended own desk = record desk { tickets = remove_entry (nat_eq own) desk.tickets 
 
 -- a batch flies
 abbrev pub launched : DeskView → DeskView
-launched desk = record desk { state = answers.launched desk.state }
+launched desk = record desk { state = states.launched desk.state }
 
 -- what flies is durable
 abbrev pub landed : DeskView → DeskView
-landed desk = record desk { state = answers.landed desk.state }
+landed desk = record desk { state = states.landed desk.state }
 
 -- ---- refusals
 
@@ -83,8 +86,8 @@ pub record IsUnlawful (member : Member) (inputs : List Input) (why : Refusal) : 
 abbrev pub launch_objection : DeskView → Option Refusal
 launch_objection desk =
     if desk.failed then Some refused.Failed
-    else (if nat_lt desk.state.durable desk.state.flying then Some refused.Busy
-    else None)
+    else (if is_idle desk.state then None
+    else Some refused.Busy)
 
 -- ---- tickets
 
@@ -103,7 +106,7 @@ pub record IsHere (desk : DeskView) (ticket : TicketView) (kept : Answered) : Ty
 pub record IsAnswer (member : Member) (a : Answered) : Type 0 where
   pub history : List Input
   pub lawful : IsHistory member history
-  pub gives : a ≡ answered_by member history a.question
+  pub gives : a ≡ answers.answered member.node member.n member.capacity fresh history a.question
 
 -- why its reply is not released: no such ticket is open here, or the reply rests on inputs that are not durable
 pub record IsSealed (desk : DeskView) (ticket : TicketView) (why : Refusal) : Type 0 where
@@ -112,8 +115,9 @@ pub record IsSealed (desk : DeskView) (ticket : TicketView) (why : Refusal) : Ty
 
 -- ---- batches
 
--- these are the node's inputs that fly
+-- these are the node's inputs that fly, and a batch
 pub record IsFlying (desk : DeskView) (batch : Numbered) : Type 0 where
   pub node : batch.node ≡ desk.member.node
   pub first : batch.first ≡ desk.state.durable
   pub inputs : batch.inputs ≡ flying_in desk.state
+  pub snapshot : batch.snapshot ≡ None

@@ -1,30 +1,55 @@
--- What an outbox holds for the inputs of node me, of which the first ones are durable and those behind them fly.
-use Rattle.std.specs.Prelude.{ℕ, ◌≡◌, ◌+◌, ◌-◌, ◌<◌, ◌≤◌, List, [], ◌∷◌, ◌++◌, length, take, drop, vec_len, vec_capacity}
+-- What an outbox holds, where a node knows s by its durable inputs.
+use Rattle.std.specs.Prelude.{ℕ, ◌≡◌, ◌+◌, ◌<◌, ◌≤◌, nat_lt, if◌then◌else◌, List, [], ◌∷◌, None, vec_len, vec_capacity}
+use Rattle.std.specs.List.{filter_map}
+use Rattle.ring_records.specs.declared.decision.Decision.{Decision}
 use Rattle.ring_records.specs.declared.input.Input.{Input}
-use Rattle.ring_records.specs.Emission.{sent, carry}
-use Rattle.ring_records.specs.History.{taken, credit}
-use Rattle.ring_records.specs.Leader.{decided}
-use Rattle.ring_records.specs.Release.{decisions}
-use Rattle.neighbour_link.specs.Outlink.{OutlinkStandsFor}
+use Rattle.ring_records.specs.declared.packet.Packet.{Packet}
+use Rattle.ring_records.specs.declared.packet.Packet.TheVariants.{Credit}
+use Rattle.ring_records.specs.declared.summary.Summary.{Summary}
+use Rattle.ring_records.specs.Known.{Objects, stepped, after}
+use Rattle.ring_records.specs.Lists.{EachAfter}
+use Rattle.neighbour_link.specs.Outlink.{sent_count}
+use Rattle.node_core.specs.Brought.{brought}
 use Rattle.node_core.specs.declared.effects.Effects.{Effects}
 use Rattle.group_commit.specs.declared.landed.Landed.{Landed}
 use Rattle.group_commit.specs.declared.outbox.Outbox.{Outbox}
 use Rattle.group_commit.specs.declared.released.Released.{Released}
 
--- what the input brings, accepted after h
-abbrev pub effects_of : ℕ → List Input → Input → Effects
-effects_of me h x = record { carry = carry me h x; decided = decided me h x }
+-- ---- what inputs bring
 
--- what each of the inputs l brings, accepted after h
-unfoldable pub effects_after : ℕ → List Input → List Input → List Effects
-effects_after me h [] = []
-effects_after me h (x ∷ l) = effects_of me h x ∷ effects_after me (h ++ x ∷ []) l
+-- nothing is against each of these inputs after those before it, where node me of a ring of n knows s before the first
+abbrev pub AreFree : ℕ → ℕ → Summary → List Input → Type 0
+AreFree me n s l = EachAfter (λ before x. Objects n (after me s before) x None) [] l
 
--- it has what node me may release, where h is durable
-pub record Keeps (me : ℕ) (released : Released) (h : List Input) : Type 0 where
-  pub link : OutlinkStandsFor released.link.link (sent me h) (credit h)
-  pub decisions : released.decisions.items ≡ decisions me [] h
-  pub taken : released.taken ≡ length (taken h)
+-- what each of the inputs l brings in turn, where node me knows s before the first
+unfoldable pub brought_after : ℕ → Summary → List Input → List Effects
+brought_after me s [] = []
+brought_after me s (x ∷ l) = brought me s x ∷ brought_after me (stepped me s x) l
+
+-- the messages among it
+abbrev pub carried : List Effects → List Packet
+carried effects = filter_map (λ (e : Effects). e.carry) effects
+
+-- the decisions among it
+abbrev pub told : List Effects → List Decision
+told effects = filter_map (λ (e : Effects). e.decided) effects
+
+-- one credit of all messages that are taken now, where more are than before
+abbrev pub credit_since : ℕ → ℕ → List Packet
+credit_since before now = if nat_lt before now then Credit now ∷ [] else []
+
+-- ---- what is kept
+
+-- it has what a node that knows s may release, with these decisions
+pub record Keeps (released : Released) (s : Summary) (decided : List Decision) : Type 0 where
+  pub credited : released.link.link.credited ≡ s.credit
+  pub window : released.link.link.window ≡ s.window
+  pub sent : sent_count released.link.link ≡ s.sent
+  pub taken : released.taken ≡ s.taken
+  pub decisions : released.decisions.items ≡ decided
+  -- no more was sent, and no more was taken, than there were inputs
+  pub sent_few : s.sent ≤ s.inputs
+  pub taken_few : s.taken ≤ s.inputs
 
 -- so many inputs more take no memory
 pub record HasRoom (released : Released) (count : ℕ) : Type 0 where
@@ -41,11 +66,12 @@ pub record IsBlank (landed : Landed) : Type 0 where
   pub packets : landed.packets.items ≡ []
   pub decisions : landed.decisions.items ≡ []
 
--- It has what the durable inputs let node me release, and what those behind them bring. What flies lands without memory.
-pub record Holds (me : ℕ) (outbox : Outbox) (inputs : List Input) (durable flying : ℕ) : Type 0 where
-  pub released : Keeps me outbox.released (take durable inputs)
-  pub waiting : outbox.waiting.items ≡ effects_after me (take durable inputs) (drop durable inputs)
-  pub room : HasRoom outbox.released (flying - durable)
+-- It has what the durable inputs, by which node me knows s, let it release, with these decisions, and what each input of l
+-- brings, which wait behind them. So many of these fly, and land without memory.
+pub record Holds (me : ℕ) (outbox : Outbox) (s : Summary) (decided : List Decision) (l : List Input) (flying : ℕ) : Type 0 where
+  pub released : Keeps outbox.released s decided
+  pub waiting : outbox.waiting.items ≡ brought_after me s l
+  pub room : HasRoom outbox.released flying
   pub blank : IsBlank outbox.landing
-  pub ready : durable < flying → IsReady outbox.landing (flying - durable)
-  pub count : durable < flying → outbox.landing.count ≡ flying - durable
+  pub ready : 0 < flying → IsReady outbox.landing flying
+  pub count : 0 < flying → outbox.landing.count ≡ flying

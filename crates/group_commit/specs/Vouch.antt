@@ -5,8 +5,9 @@ use Rattle.ring_records.specs.declared.input.Input.TheVariants.{Stand, Take, Ack
 use Rattle.ring_records.specs.declared.reply.Reply.{Reply}
 use Rattle.ring_records.specs.declared.reply.Reply.TheVariants as say
 use Rattle.ring_records.specs.declared.request.Request.{Request}
-use Rattle.ring_records.specs.Answer.{Answered, NodeState, input_of}
-use Rattle.ring_records.specs.Member.{Member, member, answer_by}
+use Rattle.ring_records.specs.Answer.{Answered, input_of}
+use Rattle.ring_records.specs.Member.{Member, answer_by}
+use Rattle.ring_records.specs.States.{NodeState}
 
 -- the reply that says that the input is accepted
 unfoldable pub acceptance : Input → Reply

@@ -1,12 +1,10 @@
 //! A node's inputs: which of them are durable, which fly, and the replies that wait for them.
-ghost use Rattle.std.specs.Prelude.{◌≡◌, ◌+◌, ◌-◌, ◌++◌, ◌∷◌, ◌≤◌, ◌⊎◌, ◌||◌, ℕ, List, [], not, true, false, Some, None, length, IfSome, IfNone, MatchOption, IfOk, IfErr, OnOk, OnErr};
+ghost use Rattle.std.specs.Prelude.{◌≡◌, ◌+◌, ◌-◌, ◌<◌, ◌++◌, ◌∷◌, ◌≤◌, ◌⊎◌, ◌||◌, ℕ, List, [], not, true, false, Some, None, length, IfSome, MatchOption, IfOk, IfErr, OnOk, OnErr};
 ghost use Rattle.std.specs.List.{cons_option};
-ghost use Rattle.ring_records.specs.Answer.{Answered, IsNodeState, durable_in, flying_in};
-ghost use Rattle.ring_records.specs.Emission.{sent};
-ghost use Rattle.ring_records.specs.History.{taken, credit};
-ghost use Rattle.ring_records.specs.Leader.{leader};
+ghost use Rattle.ring_records.specs.Answer.{Answered};
 ghost use Rattle.ring_records.specs.Member.{member, IsHistory};
 ghost use Rattle.ring_records.specs.Release.{packets, decisions, window};
+ghost use Rattle.ring_records.specs.States.{IsNodeState, IsPlain, durable_in, flying_in};
 
 use crate::desk::parts::{accept, prepare, replay};
 use crate::judge::judge;
@@ -16,7 +14,7 @@ use crate::outbox::Outbox;
 use crate::ticket::{Stub, Ticket};
 use gated_journal::{Batch, Receipt, Spoiled};
 use node_core::NodeCore;
-use ring_records::{Candidate, Input, Key, NodeNo, Packet, Refusal, Reply, Request};
+use ring_records::{BATCH_INPUTS, Input, NodeNo, Packet, Refusal, Reply, Request};
 use std::alloc::{AllocError, AllocFailed, Global};
 use std::collections::BTreeMap;
 use std::marker::Model;
@@ -48,24 +46,26 @@ impl Model for Desk {
     ghost Value = { DeskView };
 
     ghost use Rattle.ring_records.specs.Member.{member};
+    ghost use Rattle.ring_records.specs.States.{plain};
+    ghost use Rattle.ring_records.specs.Summary.{empty};
     ghost use Rattle.group_commit.specs.Kept.{IsDesk};
 
     ghost view = { λ d. record {
       member = member d.node d.n d.capacity;
       run = d.run;
-      state = record { inputs = d.inputs.items; durable = d.durable; flying = d.flying };
+      state = plain d.inputs.items d.durable d.flying;
       tickets = d.tickets.entries;
       issued = d.issued;
       closed = d.is_closed;
       failed = d.is_failed;
     } };
 
-    ghost invariant = { λ d. IsDesk d.core d.outbox (member d.node d.n d.capacity) (record { inputs = d.inputs.items; durable = d.durable; flying = d.flying }) d.tickets.entries d.issued };
+    ghost invariant = { λ d. IsDesk d.core d.outbox (member d.node d.n d.capacity) empty (plain d.inputs.items d.durable d.flying) d.tickets.entries d.issued };
 }
 
 impl Desk {
     ghost use Rattle.group_commit.specs.Desk.{new_desk, answered, ticket_for, submitted, ended, launched, landed, objection, launch_objection, IsUnlawful, IsAnswer, IsHere, IsSealed, IsFlying};
-    ghost use Rattle.gated_journal.specs.Batch.{shown as batch_shown, landed as receipted, lost, numbered};
+    ghost use Rattle.gated_journal.specs.Batch.{shown as batch_shown, landed as receipted, lost, numbered, numbered_with};
     ghost use Rattle.group_commit.specs.Ticket.{shown, answered_with};
 
     /// The desk of a node that holds these inputs, all of them durable. Refused as 24 with the number of the first
@@ -211,11 +211,11 @@ impl Desk {
         Ok(())
     }
 
-    /// The first inputs that wait, at most 64, as a batch to be made durable; they fly from then on. `None` where none
-    /// waits. Refused as 9 where the desk has failed, as 12 where a batch is flying, and as 8.
+    /// The first inputs that wait, at most 64, as a batch to be made durable; they fly from then on. `None` exactly
+    /// where none waits. Refused as 9 where the desk has failed, as 12 where a batch is flying, and as 8.
     pub fn launch(&mut self) -> Result<Option<Batch>, Refusal>
         ensures batch { IfOk result (λ some. IfSome some (λ batch. batch_shown batch ≡ numbered self.old.member.node self.old.state.durable (flying_in self.new.state))) }
-        ensures none { IfOk result (λ some. IfNone some (self.old.state.durable ≡ length self.old.state.inputs)) }
+        ensures none { IfOk result (λ some. MatchOption some (self.old.state.durable ≡ length self.old.state.inputs) (λ _. self.old.state.durable < length self.old.state.inputs)) }
         ensures next { OnOk result (self.new ≡ launched self.old) }
         ensures free { OnOk result (launch_objection self.old ≡ None) }
         ensures refusal { IfErr result (λ refusal. (launch_objection self.old ≡ Some refusal) ⊎ ((launch_objection self.old ≡ None) × (refusal ≡ Refusal.OutOfMemory))) }
@@ -225,7 +225,7 @@ impl Desk {
             return Err(refusal);
         }
         let start = self.durable as usize;
-        let end = self.inputs.len().min(start + 64);
+        let end = self.inputs.len().min(start + BATCH_INPUTS);
         if start == end {
             return Ok(None);
         }
@@ -251,13 +251,15 @@ impl Desk {
         ensures back { IfErr result (λ e. receipted e.0 ≡ receipted receipt) }
         ensures same { OnErr result (self.new ≡ self.old) }
     {
-        if self.is_failed || !self.is_flying(receipt.node(), receipt.first(), receipt.inputs()) {
+        let snapshot = receipt.snapshot();
+        let flies = self.is_flying(receipt.node(), receipt.first(), receipt.inputs(), snapshot);
+        if self.is_failed || !flies {
             return Err((receipt, Refusal::Foreign));
         }
         let _ = receipt.into_parts();
         let start = self.durable as usize;
         let end = self.flying as usize;
-        let landed = self.outbox.settle(&self.inputs, start, end);
+        let landed = self.outbox.settle(&self.inputs[start..end]);
         self.durable = self.flying;
         Ok(landed)
     }
@@ -271,7 +273,8 @@ impl Desk {
         ensures back { IfErr result (λ e. lost e.0 ≡ lost spoiled) }
         ensures same { OnErr result (self.new ≡ self.old) }
     {
-        if !self.is_flying(spoiled.node(), spoiled.first(), spoiled.inputs()) {
+        let snapshot = spoiled.snapshot();
+        if !self.is_flying(spoiled.node(), spoiled.first(), spoiled.inputs(), snapshot) {
             return Err((spoiled, Refusal::Foreign));
         }
         let _ = spoiled.into_parts();
@@ -305,57 +308,9 @@ impl Desk {
         ensures inputs { result.now ≡ self.now.state.inputs }
         ensures lawful { IsHistory self.now.member result.now }
         ensures counts { IsNodeState self.now.state }
+        ensures plain { IsPlain self.now.state }
     {
         &self.inputs
-    }
-
-    /// How many of its inputs are durable.
-    pub fn durable(&self) -> u64
-        ensures { result ≡ self.now.state.durable }
-    {
-        self.durable
-    }
-
-    /// How many of its inputs are durable or fly.
-    pub fn flying(&self) -> u64
-        ensures { result ≡ self.now.state.flying }
-    {
-        self.flying
-    }
-
-    /// How many messages its inputs sent to the successor.
-    pub fn sent(&self) -> u64
-        ensures { result ≡ length (sent self.now.member.node self.now.state.inputs) }
-    {
-        self.core.sent()
-    }
-
-    /// How many messages of the predecessor its inputs took.
-    pub fn taken(&self) -> u64
-        ensures { result ≡ length (taken self.now.state.inputs) }
-    {
-        self.core.taken()
-    }
-
-    /// The last credit of the successor, 0 before the first: so many messages the successor is known to have taken.
-    pub fn credit(&self) -> u64
-        ensures { result ≡ credit self.now.state.inputs }
-    {
-        self.core.credit()
-    }
-
-    /// The leader that its inputs make known for a key, also where they are not durable.
-    pub fn who(&self, key: &Key) -> Option<Candidate>
-        ensures { result ≡ leader self.now.member.node self.now.state.inputs key.now }
-    {
-        self.core.who(key)
-    }
-
-    /// How many messages of the predecessor its durable inputs took: so many it may credit.
-    pub fn durable_taken(&self) -> u64
-        ensures { result ≡ length (taken (durable_in self.now.state)) }
-    {
-        self.outbox.released.taken
     }
 
     /// The messages of its durable inputs that the successor is not known to have taken, as Carry packets in order:
@@ -393,13 +348,14 @@ impl Desk {
         }
     }
 
-    // Whether these are the inputs that fly.
-    fn is_flying(&self, node: NodeNo, first: u64, inputs: &[Input]) -> bool
-        ensures yes { result ≡ true → IsFlying self.now (numbered node first inputs.now) }
-        ensures no { result ≡ false → IsFlying self.now (numbered node first inputs.now) → ⊥ }
+    // Whether these are the inputs that fly, and a batch.
+    fn is_flying(&self, node: NodeNo, first: u64, inputs: &[Input], snapshot: Option<u64>) -> bool
+        ensures yes { result ≡ true → IsFlying self.now (numbered_with node first inputs.now snapshot) }
+        ensures no { result ≡ false → IsFlying self.now (numbered_with node first inputs.now snapshot) → ⊥ }
     {
         let flying = &self.inputs[self.durable as usize..self.flying as usize];
-        node == self.node && first == self.durable && inputs == flying
+        let is_batch = snapshot.is_none();
+        is_batch && node == self.node && first == self.durable && inputs == flying
     }
 
     // Why no ticket is given.
@@ -439,6 +395,7 @@ fn count_with(inputs: &[Input], input: &Option<Input>) -> u64
     inputs.len() as u64 + u64::from(input.is_some())
 }
 
+mod counts;
 mod decisions;
 mod parts;
 mod vouch;

@@ -1,11 +1,15 @@
 // What a node may release, and what waits until it may be.
-ghost use Rattle.std.specs.Prelude.{◌≡◌, ◌+◌, ◌-◌, ◌++◌, ◌∷◌, ◌≤◌, ◌<◌, ℕ, List, [], take, drop, length, None, OnOk, OnErr};
+ghost use Rattle.std.specs.Prelude.{◌≡◌, ◌+◌, ◌++◌, ◌∷◌, ◌<◌, ℕ, List, [], take, length, None, OnOk, OnErr};
+ghost use Rattle.std.specs.List.{cons_option};
 ghost use Rattle.std.specs.VecDeque.{deque_len, deque_capacity};
+ghost use Rattle.ring_records.specs.declared.decision.Decision.{Decision};
 ghost use Rattle.ring_records.specs.declared.input.Input.{Input};
-ghost use Rattle.ring_records.specs.Admission.{IsAllowed};
-ghost use Rattle.ring_records.specs.Member.{member, IsHistory, refusal_by};
-ghost use Rattle.node_core.specs.Core.{CoreStandsFor, member_of};
-ghost use Rattle.ring_records.specs.Release.{packets, decisions};
+ghost use Rattle.ring_records.specs.declared.summary.Summary.{Summary};
+ghost use Rattle.ring_records.specs.Admission.{cost};
+ghost use Rattle.ring_records.specs.Known.{Objects, stepped, after};
+ghost use Rattle.ring_records.specs.Summary.{empty};
+ghost use Rattle.node_core.specs.Brought.{brought};
+ghost use Rattle.node_core.specs.Core.{Refuses};
 
 use crate::landed::Landed;
 use crate::released::Released;
@@ -39,11 +43,11 @@ pub(crate) struct Outbox {
 }
 
 impl Outbox {
-    ghost use Rattle.group_commit.specs.Outbox.{Holds, effects_of};
+    ghost use Rattle.group_commit.specs.Outbox.{Holds, AreFree, carried, told, credit_since};
 
     /// That of no inputs.
     pub(crate) fn new(alloc: Global) -> Outbox
-        ensures { (me : ℕ) → Holds me result [] 0 0 }
+        ensures { (me : ℕ) → Holds me result empty [] [] 0 }
     {
         Outbox {
             released: Released::new(alloc),
@@ -54,9 +58,9 @@ impl Outbox {
 
     /// Adds what a durable input lets the node release, where none waits.
     pub(crate) fn add(&mut self, input: &Input, effects: &Effects) -> Result<(), AllocError>
-        requires allowed { (me n : ℕ) × (h : List Input) × Holds me self.old h (length h) (length h) × IsAllowed me n h input.now × (effects.now ≡ effects_of me h input.now) }
-        ensures holds { OnOk result ((me n : ℕ) (h : List Input) → Holds me self.old h (length h) (length h)
-            → IsAllowed me n h input.now → effects.now ≡ effects_of me h input.now → Holds me self.new (h ++ input.now ∷ []) (length h + 1) (length h + 1)) }
+        requires free { (me n : ℕ) × (s : Summary) × (decided : List Decision) × Holds me self.old s decided [] 0 × Objects n s input.now None × (effects.now ≡ brought me s input.now) }
+        ensures holds { OnOk result ((me n : ℕ) (s : Summary) (decided : List Decision) → Holds me self.old s decided [] 0 → Objects n s input.now None → effects.now ≡ brought me s input.now
+            → Holds me self.new (stepped me s input.now) (decided ++ cons_option effects.now.decided []) [] 0) }
     {
         self.released.reserve(1)?;
         self.released.add(input, effects);
@@ -66,13 +70,12 @@ impl Outbox {
     /// Has the core accept an input that it admits, and keeps what that brings until it is durable. An `Err` changes
     /// nothing.
     pub(crate) fn accept(&mut self, core: &mut NodeCore, input: &Input) -> Result<(), AllocError>
-        requires admitted { (h : List Input) × CoreStandsFor core.old h × (refusal_by (member_of core.old) h input.now ≡ None) }
-        ensures holds { OnOk result ((durable flying : ℕ) (h : List Input) → durable ≤ length h → CoreStandsFor core.old h → Holds core.old.me self.old h durable flying
-            → Holds core.old.me self.new (h ++ input.now ∷ []) durable flying) }
-        ensures stands { OnOk result ((h : List Input) → CoreStandsFor core.old h → CoreStandsFor core.new (h ++ input.now ∷ [])) }
-        ensures member { (core.new.me ≡ core.old.me) × (core.new.size ≡ core.old.size) × (core.new.capacity ≡ core.old.capacity) }
+        requires { Refuses core.old input.now None }
+        ensures steps { OnOk result (core.new ≡ record core.old { known = stepped core.old.me core.old.known input.now; used = core.old.used + cost input.now }) }
+        ensures holds { OnOk result ((s : Summary) (decided : List Decision) (l : List Input) (flying : ℕ) → core.old.known ≡ after core.old.me s l → Holds core.old.me self.old s decided l flying
+            → Holds core.old.me self.new s decided (l ++ input.now ∷ []) flying) }
         ensures err { OnErr result (core.new ≡ core.old) }
-        ensures same { OnErr result ((me durable flying : ℕ) (h : List Input) → Holds me self.old h durable flying → Holds me self.new h durable flying) }
+        ensures same { OnErr result ((me flying : ℕ) (s : Summary) (decided : List Decision) (l : List Input) → Holds me self.old s decided l flying → Holds me self.new s decided l flying) }
     {
         self.waiting.reserve(1)?;
         match core.apply(*input) {
@@ -86,8 +89,8 @@ impl Outbox {
 
     /// Takes the memory for what so many inputs bring, which fly from now on.
     pub(crate) fn load(&mut self, count: u32) -> Result<(), AllocError>
-        ensures holds { OnOk result ((me durable : ℕ) (h : List Input) → Holds me self.old h durable durable → Holds me self.new h durable (durable + count)) }
-        ensures err { OnErr result ((me durable : ℕ) (h : List Input) → Holds me self.old h durable durable → Holds me self.new h durable durable) }
+        ensures holds { OnOk result ((me : ℕ) (s : Summary) (decided : List Decision) (l : List Input) → Holds me self.old s decided l 0 → Holds me self.new s decided l count) }
+        ensures err { OnErr result ((me : ℕ) (s : Summary) (decided : List Decision) (l : List Input) → Holds me self.old s decided l 0 → Holds me self.new s decided l 0) }
     {
         let alloc = *self.waiting.allocator();
         self.released.reserve(count as usize)?;
@@ -95,21 +98,19 @@ impl Outbox {
         Ok(())
     }
 
-    /// Adds what the inputs from `start` to below `end` bring, which flew and are durable now.
-    pub(crate) fn settle(&mut self, inputs: &[Input], start: usize, end: usize) -> Landed
-        requires some { start < end }
-        requires within { end ≤ length inputs.now }
-        requires lawful { (me n capacity : ℕ) × Holds me self.old inputs.now start end × IsHistory (member me n capacity) inputs.now }
-        ensures count { (me : ℕ) → Holds me self.old inputs.now start end → result.count ≡ end - start }
-        ensures packets { (me n capacity : ℕ) → Holds me self.old inputs.now start end → IsHistory (member me n capacity) inputs.now
-            → result.packets.items ≡ packets me (take start inputs.now) (take (end - start) (drop start inputs.now)) }
-        ensures decisions { (me n capacity : ℕ) → Holds me self.old inputs.now start end → IsHistory (member me n capacity) inputs.now
-            → result.decisions.items ≡ decisions me (take start inputs.now) (take (end - start) (drop start inputs.now)) }
-        ensures holds { (me n capacity : ℕ) → Holds me self.old inputs.now start end → IsHistory (member me n capacity) inputs.now → Holds me self.new inputs.now end end }
+    /// Adds what these inputs bring, which flew and are durable now: the first of those that wait.
+    pub(crate) fn settle(&mut self, inputs: &[Input]) -> Landed
+        requires some { 0 < length inputs.now }
+        requires holds { (me n : ℕ) × (s : Summary) × (decided : List Decision) × (rest : List Input) × Holds me self.old s decided (inputs.now ++ rest) (length inputs.now) × AreFree me n s inputs.now }
+        ensures count { result.count ≡ length inputs.now }
+        ensures packets { result.packets.items ≡ carried (take (length inputs.now) self.old.waiting.items) ++ credit_since self.old.released.taken self.new.released.taken }
+        ensures decisions { result.decisions.items ≡ told (take (length inputs.now) self.old.waiting.items) }
+        ensures holds { (me n : ℕ) (s : Summary) (decided : List Decision) (rest : List Input) → Holds me self.old s decided (inputs.now ++ rest) (length inputs.now) → AreFree me n s inputs.now
+            → Holds me self.new (after me s inputs.now) (decided ++ result.decisions.items) rest 0 }
     {
         let mut landed = self.landing.hand_out();
         let taken = self.released.taken;
-        for i in start..end {
+        for i in 0..inputs.len() {
             let Some(brought) = self.waiting.pop_front() else {
                 unreachable!();
             };

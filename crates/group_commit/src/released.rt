@@ -1,13 +1,16 @@
 // What the durable inputs of a node let it release.
-ghost use Rattle.std.specs.Prelude.{◌≡◌, ◌+◌, ◌++◌, ◌∷◌, ◌≤◌, ◌<◌, ◌^◌, ℕ, List, [], length, Option, IfOk, OnOk, OnErr, vec_len, vec_capacity};
+ghost use Rattle.std.specs.Prelude.{◌≡◌, ◌+◌, ◌-◌, ◌++◌, ◌∷◌, ◌≤◌, ◌<◌, ◌^◌, ℕ, List, [], None, length, drop, Option, IfOk, OnOk, OnErr, vec_len, vec_capacity};
 ghost use Rattle.std.specs.List.{cons_option};
 ghost use Rattle.std.specs.Option.{option_map};
-ghost use Rattle.ring_records.specs.declared.input.Input.{Input};
+ghost use Rattle.ring_records.specs.declared.decision.Decision.{Decision};
 ghost use Rattle.ring_records.specs.declared.msg.Msg.{Msg};
 ghost use Rattle.ring_records.specs.declared.packet.Packet.TheVariants.{Carry};
-ghost use Rattle.ring_records.specs.Admission.{IsAllowed};
-ghost use Rattle.ring_records.specs.Release.{window};
-ghost use Rattle.neighbour_link.specs.Outlink.{OutlinkStandsFor, sent_count};
+ghost use Rattle.ring_records.specs.declared.summary.Summary.{Summary};
+ghost use Rattle.ring_records.specs.Known.{Objects, stepped};
+ghost use Rattle.ring_records.specs.Release.{numbered};
+ghost use Rattle.ring_records.specs.Summary.{empty};
+ghost use Rattle.neighbour_link.specs.Outlink.{sent_count};
+ghost use Rattle.node_core.specs.Brought.{brought};
 
 use crate::landed::push_decision;
 use neighbour_link::Outlink;
@@ -25,11 +28,11 @@ pub(crate) struct Released {
 }
 
 impl Released {
-    ghost use Rattle.group_commit.specs.Outbox.{Keeps, HasRoom, effects_of};
+    ghost use Rattle.group_commit.specs.Outbox.{Keeps, HasRoom};
 
     /// That of no inputs.
     pub(crate) fn new(alloc: Global) -> Released
-        ensures { (me : ℕ) → Keeps me result [] }
+        ensures { Keeps result empty [] }
     {
         Released {
             link: Outlink::new(alloc),
@@ -40,7 +43,7 @@ impl Released {
 
     /// Makes room for what so many inputs more let it release.
     pub(crate) fn reserve(&mut self, count: usize) -> Result<(), AllocError>
-        ensures keeps { (me : ℕ) (h : List Input) → Keeps me self.old h → Keeps me self.new h }
+        ensures keeps { (s : Summary) (decided : List Decision) → Keeps self.old s decided → Keeps self.new s decided }
         ensures room { OnOk result (HasRoom self.new count) }
     {
         self.link.reserve(count)?;
@@ -49,7 +52,7 @@ impl Released {
 
     /// The messages that the successor is not known to have taken, as packets.
     pub(crate) fn window(&self, alloc: Global) -> Result<Vec<Packet>, AllocError>
-        ensures { IfOk result (λ packets. (me : ℕ) (h : List Input) → Keeps me self.now h → packets.items ≡ window me h) }
+        ensures { IfOk result (λ packets. packets.items ≡ numbered self.now.link.link.credited self.now.link.link.window) }
     {
         let messages = self.link.window();
         let first = self.link.sent() - messages.len() as u64;
@@ -64,8 +67,9 @@ impl Released {
     /// Adds what the next durable input lets it release, for which there is room.
     pub(crate) fn add(&mut self, input: &Input, effects: &Effects)
         requires room { HasRoom self.old 1 }
-        requires allowed { (me n : ℕ) × (h : List Input) × Keeps me self.old h × IsAllowed me n h input.now × (effects.now ≡ effects_of me h input.now) }
-        ensures keeps { (me n : ℕ) (h : List Input) → Keeps me self.old h → IsAllowed me n h input.now → effects.now ≡ effects_of me h input.now → Keeps me self.new (h ++ input.now ∷ []) }
+        requires free { (me n : ℕ) × (s : Summary) × (decided : List Decision) × Keeps self.old s decided × Objects n s input.now None × (effects.now ≡ brought me s input.now) }
+        ensures keeps { (me n : ℕ) (s : Summary) (decided : List Decision) → Keeps self.old s decided → Objects n s input.now None → effects.now ≡ brought me s input.now
+            → Keeps self.new (stepped me s input.now) (decided ++ cons_option effects.now.decided []) }
         ensures room { (k : ℕ) → HasRoom self.old (k + 1) → HasRoom self.new k }
     {
         queue(&mut self.link, &effects.carry);
@@ -82,8 +86,8 @@ impl Released {
 fn queue(link: &mut Outlink, carry: &Option<Packet>)
     requires few { sent_count link.old.link + 1 < 2 ^ 64 }
     requires room { 1 ≤ link.old.room }
-    ensures stands { (sent : List Msg) (credit : ℕ) (on : Option Msg) → OutlinkStandsFor link.old.link sent credit
-        → carry.now ≡ option_map (Carry (length sent)) on → OutlinkStandsFor link.new.link (sent ++ cons_option on []) credit }
+    ensures credited { link.new.link.credited ≡ link.old.link.credited }
+    ensures window { (count : ℕ) (on : Option Msg) → carry.now ≡ option_map (Carry count) on → link.new.link.window ≡ link.old.link.window ++ cons_option on [] }
     ensures room { link.old.room ≤ link.new.room + 1 }
 {
     if let Some(Packet::Carry { msg, .. }) = carry {
@@ -97,7 +101,8 @@ fn queue(link: &mut Outlink, carry: &Option<Packet>)
 fn credit(link: &mut Outlink, upto: u64)
     requires above { link.old.link.credited < upto }
     requires sent { upto ≤ sent_count link.old.link }
-    ensures stands { (sent : List Msg) (credit : ℕ) → OutlinkStandsFor link.old.link sent credit → OutlinkStandsFor link.new.link sent upto }
+    ensures credited { link.new.link.credited ≡ upto }
+    ensures window { link.new.link.window ≡ drop (upto - link.old.link.credited) link.old.link.window }
     ensures room { link.old.room ≤ link.new.room }
 {
     if link.credit(upto).is_err() {

@@ -1,6 +1,6 @@
 //! The leaders that a desk's durable inputs made known.
 ghost use Rattle.std.specs.Prelude.{IfOk};
-ghost use Rattle.ring_records.specs.Answer.{durable_in};
+ghost use Rattle.ring_records.specs.States.{durable_in};
 ghost use Rattle.ring_records.specs.Release.{AreLeaders};
 
 use crate::desk::Desk;

@@ -1,32 +1,34 @@
 // What a desk has its core and its outbox do.
 ghost use Rattle.std.specs.Prelude.{◌≡◌, ◌+◌, ◌-◌, ◌++◌, ◌∷◌, ◌≤◌, ◌<◌, ◌⊎◌, ℕ, List, [], None, length, take, drop, IfSome, IfOk, IfErr, OnOk, OnErr};
 ghost use Rattle.std.specs.List.{cons_option};
-ghost use Rattle.ring_records.specs.Admission.{refusal};
-ghost use Rattle.ring_records.specs.Member.{member, IsHistory, refusal_by};
+ghost use Rattle.ring_records.specs.declared.decision.Decision.{Decision};
+ghost use Rattle.ring_records.specs.declared.input.Input.{Input};
+ghost use Rattle.ring_records.specs.declared.summary.Summary.{Summary};
+ghost use Rattle.ring_records.specs.Admission.{cost};
+ghost use Rattle.ring_records.specs.Known.{after, stepped};
 ghost use Rattle.gated_journal.specs.Batch.{shown as batch_shown, numbered};
-ghost use Rattle.node_core.specs.Core.{CoreStandsFor, member_of};
-ghost use Rattle.group_commit.specs.Desk.{IsUnlawful};
-ghost use Rattle.group_commit.specs.Outbox.{Holds};
+ghost use Rattle.node_core.specs.Core.{Refuses};
+ghost use Rattle.group_commit.specs.Opening.{core_after, IsKnownLawful, IsKnownUnlawful};
+ghost use Rattle.group_commit.specs.Outbox.{brought_after, told, Holds};
 
 use crate::outbox::Outbox;
 use gated_journal::Batch;
 use node_core::NodeCore;
-use ring_records::{Input, NodeNo, Refusal};
+use ring_records::{BATCH_INPUTS, Input, NodeNo, Refusal};
 use std::alloc::AllocError;
 
-// Has a new core and a new outbox take the inputs of a node, all of them durable.
+// Has a core and an outbox take the inputs of a node since its opening, all of them durable.
 pub(super) fn replay(
     core: &mut NodeCore,
     outbox: &mut Outbox,
     inputs: &[Input],
 ) -> Result<(), Refusal>
-    requires fresh { CoreStandsFor core.old [] }
-    requires empty { Holds core.old.me outbox.old [] 0 0 }
-    ensures stands { OnOk result (CoreStandsFor core.new inputs.now) }
-    ensures member { OnOk result ((core.new.me ≡ core.old.me) × (core.new.size ≡ core.old.size) × (core.new.capacity ≡ core.old.capacity)) }
-    ensures lawful { OnOk result (IsHistory (member_of core.old) inputs.now) }
-    ensures holds { OnOk result (Holds core.old.me outbox.new inputs.now (length inputs.now) (length inputs.now)) }
-    ensures refusal { IfErr result (λ refusal. (refusal ≡ Refusal.OutOfMemory) ⊎ IsUnlawful (member core.old.me core.old.size core.old.capacity) inputs.now refusal) }
+    requires { (decided : List Decision) × Holds core.old.me outbox.old core.old.known decided [] 0 }
+    ensures knows { OnOk result (core.new ≡ core_after core.old inputs.now) }
+    ensures lawful { OnOk result (IsKnownLawful core.old inputs.now) }
+    ensures holds { OnOk result ((decided : List Decision) → Holds core.old.me outbox.old core.old.known decided [] 0
+        → Holds core.old.me outbox.new (after core.old.me core.old.known inputs.now) (decided ++ told (brought_after core.old.me core.old.known inputs.now)) [] 0) }
+    ensures refusal { IfErr result (λ refusal. (refusal ≡ Refusal.OutOfMemory) ⊎ IsKnownUnlawful core.old inputs.now refusal) }
 {
     for i in 0..inputs.len() {
         let input = inputs[i];
@@ -50,15 +52,13 @@ pub(super) fn accept(
     outbox: &mut Outbox,
     input: &Option<Input>,
 ) -> Result<(), AllocError>
-    requires stands { CoreStandsFor core.old inputs.old.items }
-    requires free { IfSome input.now (λ x. refusal_by (member_of core.old) inputs.old.items x ≡ None) }
+    requires { IfSome input.now (λ x. Refuses core.old x None) }
     ensures inputs { OnOk result (inputs.new.items ≡ inputs.old.items ++ cons_option input.now []) }
-    ensures stands { CoreStandsFor core.new inputs.new.items }
-    ensures member { (core.new.me ≡ core.old.me) × (core.new.size ≡ core.old.size) × (core.new.capacity ≡ core.old.capacity) }
-    ensures lawful { OnOk result (IsHistory (member_of core.old) inputs.old.items → IsHistory (member_of core.old) inputs.new.items) }
-    ensures holds { (durable flying : ℕ) → durable ≤ length inputs.old.items → Holds core.old.me outbox.old inputs.old.items durable flying
-        → Holds core.old.me outbox.new inputs.new.items durable flying }
-    ensures err { OnErr result (inputs.new.items ≡ inputs.old.items) }
+    ensures knows { OnOk result (core.new ≡ core_after core.old (cons_option input.now [])) }
+    ensures holds { OnOk result ((s : Summary) (decided : List Decision) (l : List Input) (flying : ℕ) → core.old.known ≡ after core.old.me s l → Holds core.old.me outbox.old s decided l flying
+        → Holds core.old.me outbox.new s decided (l ++ cons_option input.now []) flying) }
+    ensures err { OnErr result ((inputs.new.items ≡ inputs.old.items) × (core.new ≡ core.old)) }
+    ensures same { OnErr result ((me flying : ℕ) (s : Summary) (decided : List Decision) (l : List Input) → Holds me outbox.old s decided l flying → Holds me outbox.new s decided l flying) }
 {
     match input {
         Some(input) => accept_one(core, inputs, outbox, input),
@@ -72,14 +72,13 @@ fn accept_one(
     outbox: &mut Outbox,
     input: &Input,
 ) -> Result<(), AllocError>
-    requires stands { CoreStandsFor core.old inputs.old.items }
-    requires free { refusal_by (member_of core.old) inputs.old.items input.now ≡ None }
+    requires { Refuses core.old input.now None }
     ensures inputs { OnOk result (inputs.new.items ≡ inputs.old.items ++ input.now ∷ []) }
-    ensures stands { CoreStandsFor core.new inputs.new.items }
-    ensures member { (core.new.me ≡ core.old.me) × (core.new.size ≡ core.old.size) × (core.new.capacity ≡ core.old.capacity) }
-    ensures holds { (durable flying : ℕ) → durable ≤ length inputs.old.items → Holds core.old.me outbox.old inputs.old.items durable flying
-        → Holds core.old.me outbox.new inputs.new.items durable flying }
-    ensures err { OnErr result (inputs.new.items ≡ inputs.old.items) }
+    ensures steps { OnOk result (core.new ≡ record core.old { known = stepped core.old.me core.old.known input.now; used = core.old.used + cost input.now }) }
+    ensures holds { OnOk result ((s : Summary) (decided : List Decision) (l : List Input) (flying : ℕ) → core.old.known ≡ after core.old.me s l → Holds core.old.me outbox.old s decided l flying
+        → Holds core.old.me outbox.new s decided (l ++ input.now ∷ []) flying) }
+    ensures err { OnErr result ((inputs.new.items ≡ inputs.old.items) × (core.new ≡ core.old)) }
+    ensures same { OnErr result ((me flying : ℕ) (s : Summary) (decided : List Decision) (l : List Input) → Holds me outbox.old s decided l flying → Holds me outbox.new s decided l flying) }
 {
     inputs.reserve(1)?;
     outbox.accept(core, input)?;
@@ -95,12 +94,12 @@ pub(super) fn prepare(
     end: usize,
 ) -> Result<Batch, Refusal>
     requires some { start < end }
-    requires few { end ≤ start + 64 }
+    requires few { end ≤ start + BATCH_INPUTS }
     requires within { end ≤ length inputs.now }
     ensures batch { IfOk result (λ batch. batch_shown batch ≡ numbered node start (take (end - start) (drop start inputs.now))) }
-    ensures holds { OnOk result ((me : ℕ) → Holds me outbox.old inputs.now start start → Holds me outbox.new inputs.now start end) }
+    ensures holds { OnOk result ((me : ℕ) (s : Summary) (decided : List Decision) (l : List Input) → Holds me outbox.old s decided l 0 → Holds me outbox.new s decided l (end - start)) }
     ensures refusal { IfErr result (λ refusal. refusal ≡ Refusal.OutOfMemory) }
-    ensures err { OnErr result ((me : ℕ) → Holds me outbox.old inputs.now start start → Holds me outbox.new inputs.now start start) }
+    ensures err { OnErr result ((me : ℕ) (s : Summary) (decided : List Decision) (l : List Input) → Holds me outbox.old s decided l 0 → Holds me outbox.new s decided l 0) }
 {
     if outbox.load((end - start) as u32).is_err() {
         return Err(Refusal::OutOfMemory);

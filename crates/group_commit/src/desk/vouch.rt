@@ -1,12 +1,15 @@
 //! Whether a desk's history gives a reply that was released.
 ghost use Rattle.std.specs.Prelude.{◌≡◌, ◌≤◌, List, length, true, false, MatchOption, IfOk, IfErr};
 ghost use Rattle.ring_records.specs.declared.input.Input.{Input};
-ghost use Rattle.ring_records.specs.Member.{member, IsHistory, answer_by};
-ghost use Rattle.node_core.specs.Core.{CoreStandsFor, member_of};
+ghost use Rattle.ring_records.specs.Admission.{fresh};
+ghost use Rattle.ring_records.specs.Member.{member, answer_by};
+ghost use Rattle.ring_records.specs.Summary.{empty};
+ghost use Rattle.node_core.specs.Core.{member_of};
+ghost use Rattle.group_commit.specs.Opening.{opened_core, core_after, IsKnownLawful, IsOf};
 ghost use Rattle.group_commit.specs.Vouch.{Accepts, IsInput};
 
 use crate::desk::Desk;
-use crate::judge::judge;
+use crate::judge::{acceptance, judge};
 use crate::ticket::Stub;
 use node_core::NodeCore;
 use ring_records::{Input, NodeNo, Refusal, Reply, Request};
@@ -30,7 +33,7 @@ impl Desk {
         }
         let alloc = *self.inputs.allocator();
         let before = &self.inputs[..stub.number as usize];
-        match core_after(alloc, self.node, self.n, self.capacity, before) {
+        match core_of(alloc, self.node, self.n, self.capacity, before) {
             Ok(core) => Ok(gives(&core, stub)),
             Err(_) => Err(Refusal::OutOfMemory),
         }
@@ -39,8 +42,8 @@ impl Desk {
 
 // Whether a core that stands for as many inputs as the stub's number gives the stub's reply and accepts nothing.
 fn gives(core: &NodeCore, stub: &Stub) -> bool
-    ensures yes { (h : List Input) → CoreStandsFor core.now h → length h ≡ stub.now.answer.number → result ≡ true → stub.now.answer ≡ answer_by (member_of core.now) h stub.now.question }
-    ensures no { (h : List Input) → CoreStandsFor core.now h → length h ≡ stub.now.answer.number → result ≡ false → stub.now.answer ≡ answer_by (member_of core.now) h stub.now.question → ⊥ }
+    ensures yes { (h : List Input) → IsOf core.now fresh h → length h ≡ stub.now.answer.number → result ≡ true → stub.now.answer ≡ answer_by (member_of core.now) h stub.now.question }
+    ensures no { (h : List Input) → IsOf core.now fresh h → length h ≡ stub.now.answer.number → result ≡ false → stub.now.answer ≡ answer_by (member_of core.now) h stub.now.question → ⊥ }
 {
     let (reply, input) = judge(core, &stub.question);
     reply == stub.reply && input.is_none()
@@ -56,31 +59,25 @@ fn is_input(inputs: &[Input], number: u64, input: &Input) -> bool
 }
 
 // The input of the request, where the reply accepts it.
-#[tactic(auto, unfolding(ring_records::specs::Answer::input_of, crate::specs::Vouch::acceptance))]
 fn accepted(question: &Request, reply: &Reply) -> Option<Input>
     ensures { MatchOption result ((x : Input) → Accepts question.now reply.now x → ⊥) (λ x. Accepts question.now reply.now x) }
 {
-    match (*question, *reply) {
-        (Request::Stand(key, bid), Reply::Stood) => Some(Input::Stand { key, bid }),
-        (Request::Take(no, msg), Reply::Taken) => Some(Input::Take { no, msg }),
-        (Request::Acked(upto), Reply::Acked) => Some(Input::Acked { upto }),
+    match question.input() {
+        Some(input) if *reply == acceptance(&input) => Some(input),
         _ => None,
     }
 }
 
 // The core of a node that accepted these inputs.
-fn core_after(
+fn core_of(
     alloc: Global,
     node: NodeNo,
     n: u8,
     capacity: u32,
     inputs: &[Input],
 ) -> Result<NodeCore, AllocError>
-    requires { IsHistory (member node n capacity) inputs.now }
-    ensures stands { IfOk result (λ core. CoreStandsFor core inputs.now) }
-    ensures me { IfOk result (λ core. core.me ≡ node) }
-    ensures ring { IfOk result (λ core. core.size ≡ n) }
-    ensures capacity { IfOk result (λ core. core.capacity ≡ capacity) }
+    requires { IsKnownLawful (opened_core (member node n capacity) empty 0) inputs.now }
+    ensures { IfOk result (λ core. core ≡ core_after (opened_core (member node n capacity) empty 0) inputs.now) }
 {
     let mut core = NodeCore::new(alloc, node, n, capacity);
     for i in 0..inputs.len() {

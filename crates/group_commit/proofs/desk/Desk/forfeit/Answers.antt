@@ -11,10 +11,7 @@ invariant_of-self c =
     let d = c.self.inside in
     let i = c.self.invariant in
     record {
-      stands = i.stands;
-      me = i.me;
-      ring = i.ring;
-      bytes = i.bytes;
+      knows = i.knows;
       in_order = i.in_order;
       accepted = i.accepted;
       lawful = i.lawful;

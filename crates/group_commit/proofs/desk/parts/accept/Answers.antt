@@ -1,14 +1,14 @@
-use Rattle.std.proofs.Common.{rules, ◌≡◌, List, None, sym, subst}
+use Rattle.std.proofs.Common.{◌≡◌, ◌++◌, ℕ, List, [], Option, OnOk, sym, subst}
+use Rattle.std.specs.List.{cons_option}
+use Rattle.ring_records.specs.declared.decision.Decision.{Decision}
 use Rattle.ring_records.specs.declared.input.Input.{Input}
-use Rattle.ring_records.specs.Member.{IsHistory, refusal_by}
-use Rattle.node_core.specs.Core.{member_of}
-use Rattle.group_commit.proofs.Opening.{lawful_next, ok_then}
+use Rattle.ring_records.specs.declared.summary.Summary.{Summary}
+use Rattle.ring_records.specs.Known.{after}
+use Rattle.group_commit.specs.Outbox.{Holds}
 use Rattle.group_commit.proofs.desk.parts.accept.Goals as goal
 
-pub returns-in-Some-clause-lawful : goal.returns-in-Some-clause-lawful
-returns-in-Some-clause-lawful c =
-    let core = c.args.core.now in
-    let h = c.args.inputs.now.items in
-    let x = c.in-Some.input in
-    let free : refusal_by (member_of core) h x ≡ None = search rules in
-    ok_then c.accept_one.result (λ more lawful. subst (λ (l : List Input). IsHistory (member_of core) l) (sym more) (lawful_next core.me core.size core.capacity h x lawful free)) c.accept_one.ensures.inputs
+pub returns-in-Some-clause-holds : goal.returns-in-Some-clause-holds
+returns-in-Some-clause-holds c =
+    let me = c.args.core.now.me in
+    subst (λ (o : Option Input). OnOk c.accept_one.result ((s : Summary) (decided : List Decision) (l : List Input) (flying : ℕ) → c.args.core.now.known ≡ after me s l → Holds me c.args.outbox.now s decided l flying
+    → Holds me c.accept_one.new.outbox s decided (l ++ cons_option o []) flying)) (sym c.in-Some.is) c.accept_one.ensures.holds

@@ -1,32 +1,41 @@
-use Rattle.std.proofs.Common.{rules, ◌≡◌, inr, List, [], ◌∷◌, ◌++◌, ◌≤◌, true, false, is_err, is_ok, length, take, refl, sym, subst, ◌∙◌}
+use Rattle.std.proofs.Common.{rules, ◌≡◌, ◌+◌, ◌++◌, inr, List, [], ◌≤◌, true, false, is_err, is_ok, length, None, Some, refl, sym, subst, ap, ◌∙◌, append-nil}
 use Rattle.std.proofs.lemmas.List.{take_all}
 use Rattle.std.proofs.lemmas.Option.{slice_get_read}
+use Rattle.ring_records.specs.declared.decision.Decision.{Decision}
 use Rattle.ring_records.specs.declared.input.Input.{Input}
-use Rattle.ring_records.proofs.Admission.{refusal-admitted}
-use Rattle.ring_records.specs.Admission.{fresh}
-use Rattle.ring_records.specs.Member.{IsHistory}
+use Rattle.ring_records.specs.declared.summary.Summary.{Summary}
+use Rattle.ring_records.specs.Admission.{cost}
+use Rattle.ring_records.specs.Known.{Objects, stepped, after}
+use Rattle.ring_records.specs.Lists.{EachAfter}
 use Rattle.ring_records.proofs.LookBack.{IsItem}
-use Rattle.node_core.specs.Core.{CoreStandsFor, Refuses, member_of}
-use Rattle.group_commit.proofs.Opening.{opens_none, opens_next, brought, judged, on_ok, why, why_not}
-use Rattle.group_commit.specs.Outbox.{Holds}
-use Rattle.group_commit.proofs.Settling.{holds_grown}
+use Rattle.node_core.specs.Brought.{brought}
+use Rattle.node_core.specs.Core.{CoreView, Refuses}
+use Rattle.group_commit.specs.Opening.{core_after, IsKnownLawful}
+use Rattle.group_commit.specs.Outbox.{brought_after, told, Holds}
+use Rattle.group_commit.proofs.Opening.{objects_none, core-none, core-item, lawful-item, why, why_not, on_ok}
+use Rattle.group_commit.proofs.Settling.{told-item}
 use Rattle.group_commit.proofs.desk.parts.replay.Goals as goal
 
 pub loop-i-init : goal.loop-i-init
-loop-i-init c =
-    let core = c.args.core.now in
-    (opens_none core core.me core.size core.capacity c.args.inputs.now refl refl refl c.requires.fresh, c.requires.empty)
+unfolding EachAfter brought_after
+loop-i-init c = (core-none c.args.core.now, tt, λ decided holds. subst (λ ds. Holds c.args.core.now.me c.args.outbox.now c.args.core.now.known ds [] 0) (sym (append-nil decided)) holds)
 
 pub returns-then-is_err-clause-refusal : goal.returns-then-is_err-clause-refusal
 returns-then-is_err-clause-refusal c =
-    let core = c.args.core.now in
     let x = c.index-inputs-i.result in
-    let says = judged c.loop-i.core core.me core.size core.capacity c.args.inputs.now c.loop-i.i x _ c.loop-i.invariant.0 c.admit.ensures.known in
     let refused : is_err c.admit.result ≡ true = search rules in
     let because = why c.admit.result refused in
     let here : IsItem c.args.inputs.now c.loop-i.i x = record { within = c.loop-i-test.true; is = c.index-inputs-i.is } in
     let there = slice_get_read c.args.inputs.now (length c.args.inputs.now) c.loop-i.i x refl here.within here.is in
-    inr (record { index = c.loop-i.i; is = refl; before = c.loop-i.invariant.0.lawful; input = x; there = there; refused_for = because.0; because = sym says ∙ because.1 })
+    inr (record {
+      index = c.loop-i.i;
+      is = refl;
+      before = c.loop-i.invariant.1;
+      input = x;
+      there = there;
+      refused_for = because.0;
+      because = subst (λ (core : CoreView). Refuses core x (Some because.0)) c.loop-i.invariant.0 (subst (Refuses c.loop-i.core x) because.1 c.admit.ensures.value);
+    })
 
 pub apply-requires : goal.apply-requires
 apply-requires c =
@@ -35,44 +44,56 @@ apply-requires c =
 
 pub add-requires : goal.add-requires
 add-requires c =
-    let core = c.args.core.now in
-    let x = c.index-inputs-i.result in
-    let h = take c.loop-i.i c.args.inputs.now in
-    let opens = c.loop-i.invariant.0 in
+    let first = c.args.core.now in
     let accepted : is_err c.admit.result ≡ false = search rules in
-    let free = sym (judged c.loop-i.core core.me core.size core.capacity c.args.inputs.now c.loop-i.i x _ opens c.admit.ensures.known) ∙ why_not c.admit.result accepted in
-    let allowed = (refusal-admitted core.me core.size core.capacity fresh h x free).allowed in
-    let brings = brought c.loop-i.core core.me core.size core.capacity c.args.inputs.now c.loop-i.i x c.in-Ok.effects opens c.in-Ok.ensures.carry c.in-Ok.ensures.decided in
-    record { allowed = (core.me, core.size, h, c.loop-i.invariant.1, allowed, brings) }
+    let free = subst (Refuses c.loop-i.core c.index-inputs-i.result) (why_not c.admit.result accepted) c.admit.ensures.value in
+    let is = c.loop-i.invariant.0 in
+    record {
+      free = (
+        first.me,
+        first.size,
+        c.loop-i.core.known,
+        _,
+        c.loop-i.invariant.2 c.requires.0 c.requires.1,
+        subst (λ n. Objects n c.loop-i.core.known c.index-inputs-i.result None) (λ i. (is i).size) (objects_none c.loop-i.core c.index-inputs-i.result free),
+        c.in-Ok.ensures.brings ∙ ap (λ me. brought me c.loop-i.core.known c.index-inputs-i.result) (λ i. (is i).me),
+      );
+    }
 
 pub loop-i-preserved : goal.loop-i-preserved
 loop-i-preserved c =
-    let core = c.args.core.now in
+    let first = c.args.core.now in
     let x = c.index-inputs-i.result in
-    let h = take c.loop-i.i c.args.inputs.now in
-    let opens = c.loop-i.invariant.0 in
-    let accepted : is_err c.admit.result ≡ false = search rules in
-    let free = sym (judged c.loop-i.core core.me core.size core.capacity c.args.inputs.now c.loop-i.i x _ opens c.admit.ensures.known) ∙ why_not c.admit.result accepted in
-    let allowed = (refusal-admitted core.me core.size core.capacity fresh h x free).allowed in
-    let brings = brought c.loop-i.core core.me core.size core.capacity c.args.inputs.now c.loop-i.i x c.in-Ok.effects opens c.in-Ok.ensures.carry c.in-Ok.ensures.decided in
     let here : IsItem c.args.inputs.now c.loop-i.i x = record { within = c.loop-i-test.true; is = c.index-inputs-i.is } in
-    let stands : (h : List Input) → CoreStandsFor c.loop-i.core h → CoreStandsFor c.apply.new.self (h ++ x ∷ []) = search rules in
-    let added : is_ok c.add.result ≡ true = search rules in
-    let holds = on_ok c.add.result added c.add.ensures.holds in (
-      opens_next c.loop-i.core c.apply.new.self core.me core.size core.capacity c.args.inputs.now c.loop-i.i x opens here free stands c.apply.ensures.me c.apply.ensures.ring c.apply.ensures.capacity,
-      holds_grown core.me c.add.new.self c.args.inputs.now c.loop-i.i x here (holds core.me core.size h c.loop-i.invariant.1 allowed brings),
+    let accepted : is_err c.admit.result ≡ false = search rules in
+    let free = subst (Refuses c.loop-i.core x) (why_not c.admit.result accepted) c.admit.ensures.value in
+    let is = c.loop-i.invariant.0 in
+    let steps : c.apply.new.self ≡ record c.loop-i.core { known = stepped c.loop-i.core.me c.loop-i.core.known x; used = c.loop-i.core.used + cost x } = search rules in
+    let brings = c.in-Ok.ensures.brings ∙ ap (λ me. brought me c.loop-i.core.known x) (λ i. (is i).me) in
+    let added : is_ok c.add.result ≡ true = search rules in (
+      core-item first c.loop-i.core c.apply.new.self c.args.inputs.now c.loop-i.i x is here steps,
+      lawful-item first c.loop-i.core c.args.inputs.now c.loop-i.i x is here c.loop-i.invariant.1 free,
+      λ decided holds.
+          subst (λ (p : Summary × List Decision). Holds first.me c.add.new.self p.0 p.1 [] 0)
+          (λ i. (
+            (ap (λ me. stepped me c.loop-i.core.known x) (λ j. (sym is j).me) ∙ (λ j. (sym steps j).known)) i,
+            told-item first.me first.known c.args.inputs.now c.loop-i.i x c.in-Ok.effects decided here (brings ∙ ap (λ s. brought first.me s x) (λ j. (is j).known)) i,
+          ))
+          (on_ok c.add.result added c.add.ensures.holds first.me first.size c.loop-i.core.known _ (c.loop-i.invariant.2 decided holds)
+          (subst (λ n. Objects n c.loop-i.core.known x None) (λ i. (is i).size) (objects_none c.loop-i.core x free)) brings),
     )
 
 pub returns : goal.returns
 returns c =
-    let core = c.args.core.now in
-    let opens = c.loop-i.invariant.0 in
+    let first = c.args.core.now in
     let within : length c.args.inputs.now ≤ c.loop-i.i = search rules in
     let all = take_all c.loop-i.i c.args.inputs.now within in
     record {
-      stands = subst (λ (l : List Input). CoreStandsFor c.loop-i.core l) all opens.stands;
-      member = (opens.me_is, opens.ring_is, opens.capacity_is);
-      lawful = subst (λ (l : List Input). IsHistory (member_of core) l) all opens.lawful;
-      holds = subst (λ (l : List Input). Holds core.me c.loop-i.outbox l (length l) (length l)) all c.loop-i.invariant.1;
+      knows = c.loop-i.invariant.0 ∙ ap (core_after first) all;
+      lawful = subst (IsKnownLawful first) all c.loop-i.invariant.1;
+      holds = λ decided holds.
+          subst (λ (p : Summary × List Input). Holds first.me c.loop-i.outbox p.0 (decided ++ told (brought_after first.me first.known p.1)) [] 0)
+          (λ i. (((λ j. (c.loop-i.invariant.0 j).known) ∙ ap (after first.me first.known) all) i, all i))
+          (c.loop-i.invariant.2 decided holds);
       refusal = tt;
     }

@@ -1,9 +1,12 @@
-use Rattle.std.proofs.Common.{length, take}
-use Rattle.group_commit.specs.Outbox.{Holds}
-use Rattle.group_commit.proofs.Opening.{Opens}
+use Rattle.std.proofs.Common.{◌≡◌, ◌++◌, List, [], take}
+use Rattle.ring_records.specs.declared.decision.Decision.{Decision}
+use Rattle.group_commit.specs.Opening.{core_after, IsKnownLawful}
+use Rattle.group_commit.specs.Outbox.{brought_after, told, Holds}
 use Rattle.group_commit.proofs.desk.parts.replay.Given as goal
 
 abbrev pub invariant-loop-i : goal.invariant-loop-i
 invariant-loop-i l =
-    Opens l.core l.fn.core.me l.fn.core.size l.fn.core.capacity l.inputs l.i
-    × Holds l.fn.core.me l.outbox (take l.i l.inputs) (length (take l.i l.inputs)) (length (take l.i l.inputs))
+    (l.core ≡ core_after l.fn.core (take l.i l.inputs))
+    × IsKnownLawful l.fn.core (take l.i l.inputs)
+    × ((decided : List Decision) → Holds l.fn.core.me l.fn.outbox l.fn.core.known decided [] 0
+    → Holds l.fn.core.me l.outbox l.core.known (decided ++ told (brought_after l.fn.core.me l.fn.core.known (take l.i l.inputs))) [] 0)

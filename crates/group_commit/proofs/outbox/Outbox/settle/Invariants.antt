@@ -1,9 +1,14 @@
-use Rattle.std.proofs.Common.{ℕ}
-use Rattle.ring_records.specs.Member.{member, IsHistory}
-use Rattle.group_commit.specs.Outbox.{IsBlank, Holds}
+use Rattle.std.proofs.Common.{ℕ, List, ◌++◌, length, take}
+use Rattle.ring_records.specs.declared.decision.Decision.{Decision}
+use Rattle.ring_records.specs.declared.input.Input.{Input}
+use Rattle.ring_records.specs.declared.summary.Summary.{Summary}
+use Rattle.ring_records.specs.Known.{after}
+use Rattle.group_commit.specs.Outbox.{AreFree, Holds, Keeps, told}
 use Rattle.group_commit.proofs.Settling.{Settles}
 use Rattle.group_commit.proofs.outbox.Outbox.settle.Given as goal
 
 abbrev pub invariant-loop-i : goal.invariant-loop-i
-invariant-loop-i l = IsBlank l.self.landing × ((me n capacity : ℕ) → Holds me l.fn.self l.fn.inputs l.fn.start l.fn.end → IsHistory (member me n capacity) l.fn.inputs
-    → Settles me l.self.released l.self.waiting.items l.landed l.inputs l.start l.end l.i)
+invariant-loop-i l =
+    Settles l.self l.landed l.fn.self.waiting.items (length l.inputs) l.i
+    × ((me n : ℕ) (s : Summary) (decided : List Decision) (rest : List Input) → Holds me l.fn.self s decided (l.inputs ++ rest) (length l.inputs) → AreFree me n s l.inputs
+    → Keeps l.self.released (after me s (take l.i l.inputs)) (decided ++ told (take l.i l.fn.self.waiting.items)))

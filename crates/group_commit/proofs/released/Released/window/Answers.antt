@@ -1,7 +1,7 @@
-use Rattle.std.proofs.Common.{rules, ◌≡◌, ◌+◌, ◌-◌, ◌≤◌, length, ap, arith}
-use Rattle.neighbour_link.specs.Outlink.{sent_count}
+use Rattle.std.proofs.Common.{rules, ◌≡◌, ◌-◌, ◌≤◌, ◌∙◌, length, ap, take_all, arith}
+use Rattle.ring_records.specs.Release.{numbered}
 use Rattle.ring_records.proofs.LookBack.{IsItem}
-use Rattle.group_commit.proofs.Releases.{numbered-item, window_is}
+use Rattle.group_commit.proofs.Releases.{numbered-item}
 use Rattle.group_commit.proofs.released.Released.window.Goals as goal
 
 pub loop-index-init : goal.loop-index-init
@@ -13,7 +13,10 @@ loop-index-preserved c =
     numbered-item (c.sent.result - length c.window-messages.result.now) c.window-messages.result.now c.loop-index.index c.index-messages-index.result c.loop-index.packets.items c.push.new.self.items here c.loop-index.invariant c.in_ok-push.ensures.items
 
 pub returns : goal.returns
-returns c = λ me h keeps.
+returns c =
     let all : length c.window-messages.result.now ≤ c.loop-index.index = search rules in
-    let last : c.sent.result - length c.window-messages.result.now + length c.window-messages.result.now ≡ sent_count c.args.self.now.link.link = (let sum = c.sent.ensures.value in let same = ap length c.window-messages.ensures.value in omega (arith, sum, same)) in
-    window_is me c.args.self.now h c.window-messages.result.now (c.sent.result - length c.window-messages.result.now) c.loop-index.index c.loop-index.packets.items keeps c.window-messages.ensures.value last all c.loop-index.invariant
+    let sent = c.sent.ensures.value in
+    let count = ap length c.window-messages.ensures.value in
+    let first : c.sent.result - length c.window-messages.result.now ≡ c.args.self.now.link.link.credited = omega (arith, sent, count) in
+    c.loop-index.invariant ∙ ap (numbered (c.sent.result - length c.window-messages.result.now)) (take_all c.loop-index.index c.window-messages.result.now all)
+    ∙ (λ i. numbered (first i) (c.window-messages.ensures.value i))
