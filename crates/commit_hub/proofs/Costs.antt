@@ -4,10 +4,11 @@ use Rattle.std.proofs.Math.Seq.{take-add}
 use Rattle.std.proofs.lemmas.List.Sums.{sum_by-take-drop}
 use Rattle.ring_records.specs.declared.input.Input.{Input}
 use Rattle.ring_records.specs.Admission.{fresh, used, cost, Fits, IsAdmitted, IsLawful}
-use Rattle.ring_records.specs.Answer.{NodeState, IsNodeState, launched, durable_in, flown_in, flying_in}
+use Rattle.ring_records.specs.States.{NodeState, IsNodeState, IsPlain, launched, durable_in, flown_in, flying_in}
 use Rattle.ring_records.specs.Member.{member, used_by, IsHistory}
 use Rattle.ring_records.proofs.Counts.{used-push, used-each}
 use Rattle.ring_records.proofs.Lists.{along}
+use Rattle.ring_records.proofs.States.{plain-counts}
 use Rattle.gated_journal.proofs.Rest.{used-joined}
 
 fits_next : (me n capacity : ℕ) (h : List Input) (x : Input) → IsAdmitted me n capacity fresh h x → used_by h ≤ capacity → used_by (h ++ x ∷ []) ≤ capacity
@@ -37,5 +38,5 @@ flown_costs s counts = ap used_by (sym (flown s counts)) ∙ used-joined (durabl
 pub flown_count : (s : NodeState) → IsNodeState s → s.flying ≡ s.durable + length (flying_in s)
 flown_count s counts = omega (arith, counts.durable, counts.flying, length-take (s.flying - s.durable) (drop s.durable s.inputs), length-drop s.durable s.inputs)
 
-pub launched_counts : (s : NodeState) → IsNodeState s → IsNodeState (launched s)
-launched_counts s counts = record { durable = omega (arith, counts.durable, counts.flying); flying = omega arith }
+pub launched_counts : (s : NodeState) → IsPlain s → IsNodeState s → IsNodeState (launched s)
+launched_counts s plain counts = plain-counts (launched s) (record { base = plain.base; none = plain.none }) (omega (arith, counts.durable, counts.flying)) (omega arith)

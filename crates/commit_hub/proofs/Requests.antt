@@ -7,9 +7,11 @@ use Rattle.ring_records.specs.declared.input.Input.{Input}
 use Rattle.ring_records.specs.declared.refusal.Refusal.{Refusal}
 use Rattle.ring_records.specs.declared.refusal.Refusal.TheVariants as refused
 use Rattle.ring_records.specs.declared.request.Request.{Request}
-use Rattle.ring_records.specs.Admission.{fresh}
-use Rattle.ring_records.specs.Answer.{NodeState, IsNodeState, input_of, if_free, if_input, gained, durable_in}
-use Rattle.ring_records.specs.Member.{member, refusal_by, gained_by}
+use Rattle.ring_records.specs.declared.base.Base.{Base}
+use Rattle.ring_records.specs.Admission.{refusal}
+use Rattle.ring_records.specs.Answer.{input_of, if_free, if_input, gained}
+use Rattle.ring_records.specs.States.{NodeState, IsNodeState, launched_base, gained_by, durable_in}
+use Rattle.ring_records.specs.Member.{Member}
 use Rattle.ring_records.specs.Message.{is_outside}
 use Rattle.ring_records.proofs.Lists.{none≢some}
 use Rattle.group_commit.specs.Desk.{DeskView, submitted, objection}
@@ -23,7 +25,7 @@ durable_stays s more counts = take-append-le s.durable s.inputs more (omega (ari
 pub grows : (q : Request) (old new : DeskView) → new ≡ submitted q old → length old.state.inputs ≤ length new.state.inputs
 grows q old new next =
     let m = old.member in
-    let more = gained_by m old.state.inputs q in
+    let more = gained_by m old.state q in
     let long = ap (λ (d : DeskView). length d.state.inputs) next in
     omega (arith, long, length-append old.state.inputs more)
 
@@ -33,21 +35,21 @@ free_few : (o : Option Refusal) (x : Input) → length (if_free o x) ≤ 1
 free_few None x = omega arith
 free_few (Some why) x = omega arith
 
-input_few : (me n capacity : ℕ) (h : List Input) (o : Option Input) → length (if_input me n capacity fresh h o) ≤ 1
-input_few me n capacity h None = omega arith
-input_few me n capacity h (Some x) = free_few (refusal_by (member me n capacity) h x) x
+input_few : (me n capacity : ℕ) (base : Base) (h : List Input) (o : Option Input) → length (if_input me n capacity base h o) ≤ 1
+input_few me n capacity base h None = omega arith
+input_few me n capacity base h (Some x) = free_few (refusal me n capacity base h x) x
 
-gained_few : (me n capacity : ℕ) (h : List Input) (q : Request) → length (gained_by (member me n capacity) h q) ≤ 1
+gained_few : (m : Member) (s : NodeState) (q : Request) → length (gained_by m s q) ≤ 1
 unfolding gained
-gained_few me n capacity h q = input_few me n capacity h (input_of q)
+gained_few m s q = input_few m.node m.n m.capacity (launched_base s) s.inputs (input_of q)
 
 -- what is counted with it grows by as much
 pub one_more : (q : Request) (old new : DeskView) (before after : ℕ) → new ≡ submitted q old → after + length old.state.inputs ≡ before + length new.state.inputs → (before ≤ after) × (after ≤ before + 1)
 one_more q old new before after next counted =
     let m = old.member in
-    let more = gained_by m old.state.inputs q in
+    let more = gained_by m old.state q in
     let long : length new.state.inputs ≡ length old.state.inputs + length more = ap (λ (d : DeskView). length d.state.inputs) next ∙ length-append old.state.inputs more in
-    let few = gained_few m.node m.n m.capacity old.state.inputs q in
+    let few = gained_few m old.state q in
     (omega (arith, counted, long), omega (arith, counted, long, few))
 
 -- ---- a request that gets no ticket

@@ -1,14 +1,17 @@
 -- What a hub's calls tell without the state under its lock.
-use Rattle.std.specs.Prelude.{ℕ, ◌≡◌, ◌⊎◌, true, false, List, ◌++◌, length}
+use Rattle.std.specs.Prelude.{ℕ, ◌≡◌, ◌⊎◌, Bool, true, false, List, ◌++◌, length}
 use Rattle.ring_records.specs.declared.input.Input.{Input}
 use Rattle.ring_records.specs.declared.packet.Packet.{Packet}
 use Rattle.ring_records.specs.declared.refusal.Refusal.{Refusal}
 use Rattle.ring_records.specs.declared.refusal.Refusal.TheVariants as refused
 use Rattle.ring_records.specs.declared.request.Request.{Request}
-use Rattle.ring_records.specs.Member.{Member, IsHistory}
+use Rattle.ring_records.specs.History.{stands}
+use Rattle.ring_records.specs.Member.{Member, used_by, IsHistory}
 use Rattle.ring_records.specs.Message.{is_outside}
 use Rattle.ring_records.specs.Release.{packets, decisions, window}
+use Rattle.ring_records.specs.States.{NodeState, IsNodeState, shown_in}
 use Rattle.group_commit.specs.declared.landed.Landed.{Landed}
+use Rattle.commit_hub.specs.declared.look.Look.{Look}
 
 -- Why a node of a ring of n gives no ticket for the request: it is closed or has failed; the message is of no node of
 -- the ring; or else all numbers of tickets were given, or a growth was refused.
@@ -31,3 +34,21 @@ pub record IsWindow (member : Member) (list : List Packet) : Type 0 where
   pub history : List Input
   pub lawful : IsHistory member history
   pub packets : list ≡ window member.node history
+
+-- what is shown of a node in this state, where it takes requests or takes none
+abbrev pub look_of : Member → NodeState → Bool → Look
+look_of member s is_open = record {
+  shown = shown_in member.node s;
+  used = used_by s.inputs;
+  capacity = member.capacity;
+  stands = stands s.inputs;
+  is_open = is_open;
+}
+
+-- this is what is shown of the node with some lawful history, of which some inputs are durable
+pub record IsLook (member : Member) (look : Look) : Type 0 where
+  pub state : NodeState
+  pub lawful : IsHistory member state.inputs
+  pub counts : IsNodeState state
+  pub is_open : Bool
+  pub is : look ≡ look_of member state is_open

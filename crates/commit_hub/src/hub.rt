@@ -1,7 +1,7 @@
 //! One lock round a desk, for many appenders and one flusher.
 ghost use Rattle.std.specs.Prelude.{◌≡◌, ◌+◌, ◌≤◌, ◌⊎◌, length, map, false, IfOk, IfErr, IfSome, IsOk, OnOk, OnErr};
 ghost use Rattle.std.specs.List.{sum_by};
-ghost use Rattle.ring_records.specs.Answer.{durable_in};
+ghost use Rattle.ring_records.specs.States.{durable_in};
 ghost use Rattle.ring_records.specs.Member.{used_by, IsHistory};
 ghost use Rattle.ring_records.specs.Message.{is_outside};
 ghost use Rattle.gated_journal.specs.Batch.{shown as batch_shown, landed as receipted, lost};
@@ -9,11 +9,12 @@ ghost use Rattle.group_commit.specs.Desk.{IsAnswer};
 ghost use Rattle.group_commit.specs.Ticket.{shown};
 ghost use Rattle.commit_hub.specs.Holders.{count_of, durable_of, costs_of};
 ghost use Rattle.commit_hub.specs.Pages.{ForAccepted, ForDurable, ForCosts, IsWhole};
-ghost use Rattle.commit_hub.specs.Told.{IsUnasked, IsBrought, IsWindow};
+ghost use Rattle.commit_hub.specs.Told.{IsUnasked, IsBrought, IsLook, IsWindow};
 
 use crate::blanks::Blanks;
 use crate::ledgers::{Node, Whole};
 use crate::locked::Locked;
+use crate::look::Look;
 use crate::share::{Share, Tie};
 use crate::waking::{Bells, Guarded};
 use gated_journal::{Batch, Receipt, Spoiled};
@@ -223,6 +224,13 @@ impl<A: Node, D: Whole, C: Whole> Hub<A, D, C> {
         ensures { IfOk result (λ packets. IsWindow A.member packets.items) }
     {
         self.guarded.lock(rt).locked.window()
+    }
+
+    /// What the node shows at some moment within the call: plain counts, copied under one hold of the lock.
+    pub fn look<R: Wait>(&self, rt: &R) -> Look
+        ensures { IsLook A.member result }
+    {
+        self.guarded.lock(rt).locked.look()
     }
 
     /// Ends the hub and the shares, and gives its desk, where the shares count all inputs that were accepted through

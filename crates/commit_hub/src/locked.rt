@@ -1,19 +1,21 @@
 //! What lies under a hub's lock: its desk, and the books of its ledgers.
 ghost use Rattle.std.specs.Prelude.{◌≡◌, ◌≢◌, ◌+◌, ◌-◌, ◌≤◌, ◌<◌, ◌⊎◌, ◌||◌, ◌&&◌, not, nat_eq, nat_le, ℕ, true, false, length, Some, None, IfOk, IfErr, IfSome, IfNone, OnOk, OnErr};
-ghost use Rattle.ring_records.specs.Answer.{Answered, IsNodeState, durable_in, flying_in};
+ghost use Rattle.ring_records.specs.Answer.{Answered};
+ghost use Rattle.ring_records.specs.States.{IsNodeState, IsPlain, durable_in, flying_in};
 ghost use Rattle.ring_records.specs.Member.{used_by, IsHistory};
-ghost use Rattle.ring_records.specs.Props.{IsHistory-prop};
+ghost use Rattle.ring_records.specs.Props.{IsHistory-prop, IsNodeState-prop, IsPlain-prop};
 ghost use Rattle.ring_records.specs.Release.{packets, decisions, window};
 ghost use Rattle.gated_journal.specs.Batch.{shown as batch_shown, landed as receipted, lost, numbered};
 ghost use Rattle.group_commit.specs.Desk.{answered, ticket_for, submitted, ended, launched, landed, objection, launch_objection, IsAnswer, IsHere, IsSealed, IsFlying};
 ghost use Rattle.group_commit.specs.Ticket.{shown};
 ghost use Rattle.commit_hub.specs.Holders.{count_of, durable_of, costs_of};
 ghost use Rattle.commit_hub.specs.Pages.{places_of, ForAccepted, ForDurable, ForCosts, IsWhole};
-ghost use Rattle.commit_hub.specs.Props.{member-prop, state-prop};
-ghost use Rattle.commit_hub.specs.Told.{IsBrought, IsWindow};
+ghost use Rattle.commit_hub.specs.Props.{member-prop};
+ghost use Rattle.commit_hub.specs.Told.{IsBrought, IsLook, IsWindow, look_of};
 
 use crate::blanks::Blanks;
 use crate::ledgers::{Node, Whole};
+use crate::look::Look;
 use crate::places::Places;
 use crate::share::{Share, Tie};
 use crate::used::used_of;
@@ -41,7 +43,8 @@ pub(crate) struct Locked<A: Node, D: Whole, C: Whole> {
     pub(crate) costs: Book<C>,
     ghost of: { shared.desk.member ≡ A.member } by { member-prop shared.desk.member A.member },
     ghost lawful: { IsHistory shared.desk.member shared.desk.state.inputs } by { IsHistory-prop shared.desk.member shared.desk.state.inputs },
-    ghost counts: { IsNodeState shared.desk.state } by { state-prop shared.desk.state },
+    ghost counts: { IsNodeState shared.desk.state } by { IsNodeState-prop shared.desk.state },
+    ghost plain: { IsPlain shared.desk.state } by { IsPlain-prop shared.desk.state },
     ghost counted: { accepted.total ≡ length shared.desk.state.inputs },
     ghost first_is: { (first.parts ≡ 1) × (first.amount ≡ opened) × (opened ≡ A.opened) },
     ghost spare_is: { (spare.parts ≡ left) × (spare.amount ≡ 0) },
@@ -286,12 +289,26 @@ impl<A: Node, D: Whole, C: Whole> Locked<A, D, C> {
         self.shared.desk.window()
     }
 
+    /// What the desk shows.
+    pub(crate) fn look(&self) -> Look
+        ensures counts { result ≡ look_of A.member self.now.shared.desk.state (not (self.now.shared.desk.closed || self.now.shared.desk.failed)) }
+        ensures lawful { IsLook A.member result }
+    {
+        let desk = &self.shared.desk;
+        Look {
+            shown: desk.shown(),
+            used: desk.used(),
+            capacity: desk.capacity(),
+            stands: desk.stands(),
+            is_open: desk.is_open(),
+        }
+    }
+
     /// Whether there is nothing to launch yet: all inputs are durable, and more may come.
     pub(crate) fn is_idle(&self) -> bool
         ensures { result ≡ (nat_eq self.now.shared.desk.state.durable (length self.now.shared.desk.state.inputs) && not (self.now.shared.desk.closed || self.now.shared.desk.failed)) }
     {
-        self.shared.desk.durable() == self.shared.desk.history().len() as u64
-            && self.shared.desk.is_open()
+        self.shared.desk.durable() == self.shared.desk.accepted() && self.shared.desk.is_open()
     }
 
     /// Whether so many inputs are durable once the next batch lands, as far as is known: they fly, or nothing flies

@@ -8,7 +8,7 @@ use crate::ends::{abandons, closes, fails, settles_some};
 use crate::rows::{journal_of, new_desk, request};
 use commit_hub::{Blanks, Hub, Node, Tie, Whole};
 use group_commit::{Desk, Ticket};
-use ring_records::Refusal;
+use ring_records::{Refusal, Shown};
 use std::alloc::AllocGlobal;
 use std::marker::Brand;
 use std::process::Abort;
@@ -105,6 +105,22 @@ fn answers<A: Node, D: Whole, C: Whole, R: Wait + Abort>(rt: &R, hub: &Hub<A, D,
         Err(refusal) => assert!(rt; refusal == Refusal::BadNumber),
     }
     assert!(rt; share.count() == 3);
+    shows_three(rt, hub);
+}
+
+/// An open hub shows a node that stood, took a message of 29 bytes and heard of a credit, none of it durable.
+fn shows_three<A: Node, D: Whole, C: Whole, R: Wait + Abort>(rt: &R, hub: &Hub<A, D, C>) {
+    let look = hub.look(rt);
+    let shown = Shown {
+        inputs: 3,
+        durable: 0,
+        sent: 1,
+        taken: 1,
+        credit: 1,
+    };
+    assert!(rt; look.shown == shown);
+    assert!(rt; look.used == 20 + 29 + 16 && look.capacity == 4096);
+    assert!(rt; look.stands == 1 && look.is_open);
 }
 
 /// A ticket is forfeited while requests are taken: it is refused, and ends.

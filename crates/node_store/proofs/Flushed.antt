@@ -7,16 +7,17 @@ use Rattle.disk_model.specs.Disk.{Disk, MayLeave}
 use Rattle.ring_records.specs.declared.input.Input.{Input}
 use Rattle.ring_records.specs.declared.refusal.Refusal.{Refusal}
 use Rattle.ring_records.specs.Admission.{fresh, used, cost, Fits, IsAdmitted, IsLawful}
-use Rattle.ring_records.specs.Answer.{NodeState, launched, durable_in, flown_in, flying_in}
 use Rattle.ring_records.specs.History.{taken}
 use Rattle.ring_records.specs.Lists.{found_after}
 use Rattle.ring_records.specs.Member.{Member, member, used_by, IsHistory}
+use Rattle.ring_records.specs.States.{NodeState, IsPlain, launched, landed, durable_in, flown_in, flying_in}
 use Rattle.ring_records.proofs.Counts.{used-push, used-each}
 use Rattle.ring_records.proofs.Lists.{along}
 use Rattle.gated_journal.specs.declared.batch.Batch.{Batch}
 use Rattle.gated_journal.specs.Batch.{Numbered, numbered, shown}
 use Rattle.gated_journal.specs.Reading.{ReadsAs, AllReadAs, ReadsAsOneOf}
 use Rattle.gated_journal.proofs.Rest.{used-joined}
+use Rattle.ring_records.proofs.States.{plain-counts, plain-landed}
 use Rattle.gated_journal.proofs.Results.{of_some}
 use Rattle.group_commit.specs.Desk.{DeskView}
 use Rattle.group_commit.specs.Desk as desks
@@ -84,6 +85,9 @@ module _ (desk : DeskView) (journal : Member) (disk : Disk) (spoiled : Bool) (le
   abbrev s : NodeState
   s = desk.state
 
+  launched_plain : IsPlain (launched s)
+  launched_plain = record { base = stands.plain.base; none = stands.plain.none }
+
   ahead : s.durable ≤ (launched s).flying
   ahead = omega (arith, stands.counts.durable, stands.counts.flying)
 
@@ -107,8 +111,10 @@ module _ (desk : DeskView) (journal : Member) (disk : Disk) (spoiled : Bool) (le
       → len' ≡ len + length batch → room' ≡ room - used_by batch → Stands (desks.landed (desks.launched desk)) journal' disk' spoiled' len' room'
   lands journal' disk' spoiled' len' room' same read unspoiled longer less =
       let ready = stands.ready works in
+      let plain = plain-landed (launched s) launched_plain in
       record {
-        counts = record { durable = omega arith; flying = omega arith };
+        counts = plain-counts (landed (launched s)) plain (omega arith) (omega arith);
+        plain = plain;
         lawful = stands.lawful;
         named = same ∙ stands.named;
         holds = λ image left. inl (subst (λ m. ReadsAs m image (flown_in (launched s))) (sym same) (subst (λ l. ReadsAs journal image l) whole (read image left)));
@@ -126,7 +132,8 @@ module _ (desk : DeskView) (journal : Member) (disk : Disk) (spoiled : Bool) (le
   pub breaks : (journal' : Member) (disk' : Disk) (spoiled' : Bool) (len' room' : ℕ) → journal' ≡ journal
       → ((image : List ℕ) → MayLeave disk' image → ReadsAsOneOf journal (durable_in s) (durable_in s ++ batch) image) → Stands (record (desks.launched desk) { failed = true }) journal' disk' spoiled' len' room'
   breaks journal' disk' spoiled' len' room' same read = record {
-    counts = record { durable = ahead; flying = omega arith };
+    counts = plain-counts (launched s) launched_plain ahead (omega arith);
+    plain = launched_plain;
     lawful = stands.lawful;
     named = same ∙ stands.named;
     holds = λ image left. subst (λ m. ReadsOnce m (durable_in s) (flown_in (launched s)) image) (sym same) (once image (read image left));

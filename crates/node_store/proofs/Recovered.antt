@@ -7,9 +7,9 @@ use Rattle.ring_records.specs.declared.input.Input.{Input}
 use Rattle.ring_records.specs.declared.refusal.Refusal.{Refusal}
 use Rattle.ring_records.specs.declared.refusal.Refusal.TheVariants.{OutOfMemory}
 use Rattle.ring_records.specs.Admission.{fresh, IsAdmitted, IsLawful}
-use Rattle.ring_records.specs.Answer.{NodeState, durable_in, flown_in, left_by}
 use Rattle.ring_records.specs.Lists.{EachAfter}
 use Rattle.ring_records.specs.Member.{Member, member, IsHistory}
+use Rattle.ring_records.specs.States.{NodeState, durable_in, flown_in, left_by}
 use Rattle.ring_records.proofs.Admission.{admitted-free}
 use Rattle.ring_records.proofs.Growth.{EachAfter-at, EachAfter-take}
 use Rattle.ring_records.proofs.Lists.{none≢some}
@@ -25,18 +25,18 @@ use Rattle.node_store.specs.State.{Holds}
 
 -- what an image reads as that a stop may leave
 pub kept_by : (header other : Member) (s : NodeState) (image : List ℕ) (inputs : List Input) → ReadsAsOneOf header (durable_in s) (flown_in s) image → ReadsAs other image inputs
-    → (other ≡ header) × ((keep : Bool) × (inputs ≡ left_by keep s))
+    → (other ≡ header) × ((keep : Bool) × (inputs ≡ (left_by keep s).inputs))
 kept_by header other s image inputs (inl old) read = (header_unique other header image read.at.head old.at.head, (false, unique_inputs other header image inputs (durable_in s) read old))
 kept_by header other s image inputs (inr new) read = (header_unique other header image read.at.head new.at.head, (true, unique_inputs other header image inputs (flown_in s) read new))
 
-left_reads : (header : Member) (s : NodeState) (image : List ℕ) (keep : Bool) → ReadsAs header image (left_by keep s) → ReadsAsOneOf header (durable_in s) (flown_in s) image
+left_reads : (header : Member) (s : NodeState) (image : List ℕ) (keep : Bool) → ReadsAs header image (left_by keep s).inputs → ReadsAsOneOf header (durable_in s) (flown_in s) image
 left_reads header s image false read = inl read
 left_reads header s image true read = inr read
 
 -- ---- what is lawful
 
 -- what a stop leaves of a lawful history is lawful
-pub left_lawful : (me n capacity : ℕ) (s : NodeState) (keep : Bool) → IsHistory (member me n capacity) s.inputs → IsHistory (member me n capacity) (left_by keep s)
+pub left_lawful : (me n capacity : ℕ) (s : NodeState) (keep : Bool) → IsHistory (member me n capacity) s.inputs → IsHistory (member me n capacity) (left_by keep s).inputs
 unfolding IsLawful
 left_lawful me n capacity s false lawful = EachAfter-take (IsAdmitted me n capacity fresh) s.durable s.inputs lawful
 left_lawful me n capacity s true lawful = EachAfter-take (IsAdmitted me n capacity fresh) s.flying s.inputs lawful
@@ -70,7 +70,7 @@ same_image old new (inl same) = ap (λ (disk : Disk). disk.image) same
 same_image old new (inr is) = ap (λ (disk : Disk). disk.image) is
 
 -- what is read stands in every image
-all_hold : (header : Member) (s : NodeState) (disk : Disk) (keep : Bool) → AllReadAs header disk (left_by keep s) → Holds header disk s
+all_hold : (header : Member) (s : NodeState) (disk : Disk) (keep : Bool) → AllReadAs header disk (left_by keep s).inputs → Holds header disk s
 all_hold header s disk keep all = λ image left. left_reads header s image keep (all image left)
 
 some_list : (header : Member) (old new : List Input) (image : List ℕ) → ReadsAsOneOf header old new image → (inputs : List Input) × ReadsAs header image inputs
@@ -86,13 +86,13 @@ no_fault node n capacity s before now image why read un =
     (⊎_elim (λ short. inl short.2) (λ unread. absurd (not_read node n image why (member node n capacity) found.0 unread found.1 refl refl))) un.cause
 
 -- what a journal holds that a stop left is lawful
-pub lawful_again : (me n capacity found : ℕ) (s : NodeState) (keep : Bool) (inputs : List Input) → found ≡ capacity → inputs ≡ left_by keep s → IsHistory (member me n capacity) s.inputs → IsHistory (member me n found) inputs
+pub lawful_again : (me n capacity found : ℕ) (s : NodeState) (keep : Bool) (inputs : List Input) → found ≡ capacity → inputs ≡ (left_by keep s).inputs → IsHistory (member me n capacity) s.inputs → IsHistory (member me n found) inputs
 lawful_again me n capacity found s keep inputs capacity_is is lawful =
     subst (λ (k : ℕ). IsHistory (member me n k) inputs) (sym capacity_is) (subst (λ (l : List Input). IsHistory (member me n capacity) l) (sym is) (left_lawful me n capacity s keep lawful))
 
-pub holds_again : (header other : Member) (s : NodeState) (disk : Disk) (keep : Bool) (inputs : List Input) → other ≡ header → inputs ≡ left_by keep s → AllReadAs other disk inputs → Holds header disk s
+pub holds_again : (header other : Member) (s : NodeState) (disk : Disk) (keep : Bool) (inputs : List Input) → other ≡ header → inputs ≡ (left_by keep s).inputs → AllReadAs other disk inputs → Holds header disk s
 holds_again header other s disk keep inputs same is all =
-    all_hold header s disk keep (subst (λ (h : Member). AllReadAs h disk (left_by keep s)) same (subst (λ (l : List Input). AllReadAs other disk l) is all))
+    all_hold header s disk keep (subst (λ (h : Member). AllReadAs h disk (left_by keep s).inputs) same (subst (λ (l : List Input). AllReadAs other disk l) is all))
 
 -- ---- what it stands for
 

@@ -5,31 +5,22 @@ use Rattle.disk_model.specs.Disk.{Disk, MayLeave}
 use Rattle.ring_records.specs.declared.input.Input.{Input}
 use Rattle.ring_records.specs.declared.refusal.Refusal.{Refusal}
 use Rattle.ring_records.specs.declared.request.Request.{Request}
-use Rattle.ring_records.specs.Admission.{fresh, used, IsAdmitted, IsLawful}
-use Rattle.ring_records.specs.Answer.{gained, input_of, if_free, if_input, durable_in, flown_in}
-use Rattle.ring_records.proofs.Admission.{refusal-admitted}
+use Rattle.ring_records.specs.declared.base.Base.{Base}
+use Rattle.ring_records.specs.Admission.{fresh, used, IsLawful}
+use Rattle.ring_records.specs.Answer.{gained}
 use Rattle.ring_records.specs.Lists.{EachAfter}
-use Rattle.ring_records.specs.Member.{Member, member, used_by, IsHistory, refusal_by, gained_by}
-use Rattle.ring_records.proofs.Lists.{EachAfter-push}
+use Rattle.ring_records.specs.Member.{Member, member, used_by, IsHistory}
+use Rattle.ring_records.specs.States.{NodeState, IsPlain, durable_in, flown_in, gained_by, opened, asked}
+use Rattle.ring_records.proofs.States.{plain-base, plain-counts, lawful-gained}
 use Rattle.gated_journal.specs.Reading.{AllReadAs, ReadsAsOneOf}
 use Rattle.group_commit.specs.Desk.{DeskView, new_desk, submitted, ended, IsUnlawful}
 use Rattle.node_store.specs.State.{IsLeft, Stands}
 
 -- ---- the history
 
-lawful_more : (me n capacity : ℕ) (h : List Input) (x : Input) (against : Option Refusal) → refusal_by (member me n capacity) h x ≡ against → IsHistory (member me n capacity) h → IsHistory (member me n capacity) (h ++ if_free against x)
-unfolding IsLawful
-lawful_more me n capacity h x None free lawful = EachAfter-push (IsAdmitted me n capacity fresh) [] h x lawful (refusal-admitted me n capacity fresh h x free)
-lawful_more me n capacity h x (Some cause) refused lawful = subst (λ (l : List Input). IsHistory (member me n capacity) l) (sym (append-nil h)) lawful
-
-lawful_by : (me n capacity : ℕ) (h : List Input) (x : Option Input) → IsHistory (member me n capacity) h → IsHistory (member me n capacity) (h ++ if_input me n capacity fresh h x)
-lawful_by me n capacity h None lawful = subst (λ (l : List Input). IsHistory (member me n capacity) l) (sym (append-nil h)) lawful
-lawful_by me n capacity h (Some x) lawful = lawful_more me n capacity h x (refusal_by (member me n capacity) h x) refl lawful
-
 -- a lawful history stays lawful
-pub lawful_asked : (me n capacity : ℕ) (h : List Input) (q : Request) → IsHistory (member me n capacity) h → IsHistory (member me n capacity) (h ++ gained_by (member me n capacity) h q)
-unfolding gained
-lawful_asked me n capacity h q lawful = lawful_by me n capacity h (input_of q) lawful
+pub lawful_asked : (m : Member) (s : NodeState) (q : Request) → IsPlain s → IsHistory m s.inputs → IsHistory m (s.inputs ++ gained_by m s q)
+lawful_asked m s q plain lawful = subst (λ (b : Base). IsHistory m (s.inputs ++ gained m.node m.n m.capacity b s.inputs q)) (sym (plain-base s plain)) (lawful-gained m.node m.n m.capacity fresh s.inputs q lawful)
 
 -- ---- the desk
 
@@ -47,13 +38,15 @@ module _ (desk : DeskView) (journal : Member) (disk : Disk) (spoiled : Bool) (le
   asks q stands =
       let m = desk.member in
       let s = desk.state in
-      let more = gained_by m s.inputs q in
+      let more = gained_by m s q in
+      let plain : IsPlain (asked m s q) = record { base = stands.plain.base; none = stands.plain.none } in
       let bound : s.durable ≤ length s.inputs = omega (arith, stands.counts.durable, stands.counts.flying) in
       let durable : take s.durable (s.inputs ++ more) ≡ take s.durable s.inputs = take-append-le s.durable s.inputs more bound in
       let flown : take s.flying (s.inputs ++ more) ≡ take s.flying s.inputs = take-append-le s.flying s.inputs more stands.counts.flying in
       record {
-        counts = record { durable = stands.counts.durable; flying = omega (arith, stands.counts.flying, length-append s.inputs more) };
-        lawful = lawful_asked m.node m.n m.capacity s.inputs q stands.lawful;
+        counts = plain-counts (asked m s q) plain stands.counts.durable (omega (arith, stands.counts.flying, length-append s.inputs more));
+        plain = plain;
+        lawful = lawful_asked m s q stands.plain stands.lawful;
         named = stands.named;
         holds = rw (durable, flown) stands.holds;
         ready = λ works. let r = stands.ready works in record { idle = r.idle; works = r.works; count = r.count; left = rw durable r.left };
@@ -61,10 +54,10 @@ module _ (desk : DeskView) (journal : Member) (disk : Disk) (spoiled : Bool) (le
 
   -- a ticket that ends, and a node that is closed
   pub ends : (own : ℕ) → Stands desk journal disk spoiled len room → Stands (ended own desk) journal disk spoiled len room
-  ends own stands = record { counts = stands.counts; lawful = stands.lawful; named = stands.named; holds = stands.holds; ready = stands.ready }
+  ends own stands = record { counts = stands.counts; plain = stands.plain; lawful = stands.lawful; named = stands.named; holds = stands.holds; ready = stands.ready }
 
   pub closes : Stands desk journal disk spoiled len room → Stands (record desk { closed = true }) journal disk spoiled len room
-  closes stands = record { counts = stands.counts; lawful = stands.lawful; named = stands.named; holds = stands.holds; ready = stands.ready }
+  closes stands = record { counts = stands.counts; plain = stands.plain; lawful = stands.lawful; named = stands.named; holds = stands.holds; ready = stands.ready }
 
 -- a node that is opened
 pub opens : (member journal : Member) (run : ℕ) (inputs : List Input) (disk : Disk) (spoiled : Bool) (len room : ℕ) → journal ≡ member
@@ -72,8 +65,10 @@ pub opens : (member journal : Member) (run : ℕ) (inputs : List Input) (disk : 
     → Stands (new_desk member run inputs) journal disk spoiled len room
 opens member journal run inputs disk spoiled len room named lawful all works count left =
     let whole : take (length inputs) inputs ≡ inputs = take_all (length inputs) inputs (omega arith) in
+    let plain : IsPlain (opened fresh inputs) = record { base = refl; none = refl } in
     record {
-      counts = record { durable = omega arith; flying = omega arith };
+      counts = plain-counts (opened fresh inputs) plain (omega arith) (omega arith);
+      plain = plain;
       lawful = lawful;
       named = named;
       holds = rw whole (λ image may. inl (all image may));

@@ -1,6 +1,6 @@
 -- What a node shows: its desk, and its journal's device.
 use Rattle.disk_model.specs.declared.device.Device.{Ghosts}
-use Rattle.ring_records.specs.Answer.{NodeState}
+use Rattle.ring_records.specs.States.{NodeState}
 use Rattle.gated_journal.specs.Journal as journal
 use Rattle.group_commit.specs.Desk.{DeskView}
 use Rattle.node_store.specs.declared.node.Node.{Node}

@@ -2,12 +2,11 @@
 use Rattle.std.specs.Prelude.{◌≢◌, ℕ, Bool, List}
 use Rattle.std.proofs.Common.{inl, inr}
 use Rattle.std.proofs.Props.{props}
-use Rattle.std.specs.Coded.{le_prop}
 use Rattle.disk_model.specs.Disk.{Disk}
 use Rattle.ring_records.specs.declared.input.Input.{Input}
-use Rattle.ring_records.specs.Answer.{NodeState, durable_in, flown_in}
 use Rattle.ring_records.specs.Member.{Member}
-use Rattle.ring_records.specs.Props.{IsHistory-prop}
+use Rattle.ring_records.specs.Props.{IsHistory-prop, IsNodeState-prop, IsPlain-prop}
+use Rattle.ring_records.specs.States.{NodeState, durable_in, flown_in}
 use Rattle.gated_journal.proofs.Once.{ReadsAs-prop}
 use Rattle.gated_journal.proofs.Unique.{unique_inputs}
 use Rattle.group_commit.specs.Desk.{DeskView}
@@ -39,7 +38,8 @@ Stands-prop desk journal disk spoiled len room p q =
     let s = desk.state in
     let member_set : IsSet Member = hlevel props in
     λ i. record {
-      counts = record { durable = le_prop p.counts.durable q.counts.durable i; flying = le_prop p.counts.flying q.counts.flying i };
+      counts = IsNodeState-prop s p.counts q.counts i;
+      plain = IsPlain-prop s p.plain q.plain i;
       lawful = IsHistory-prop desk.member s.inputs p.lawful q.lawful i;
       named = member_set _ _ p.named q.named i;
       holds = λ image left. ReadsOnce-prop journal (durable_in s) (flown_in s) image (p.holds image left) (q.holds image left) i;

@@ -2,8 +2,8 @@
 use Rattle.std.specs.Prelude.{◌≡◌, ◌≢◌, ◌⊎◌, ◌-◌, ℕ, Bool, false, List}
 use Rattle.disk_model.specs.Disk.{Disk, MayLeave}
 use Rattle.ring_records.specs.declared.input.Input.{Input}
-use Rattle.ring_records.specs.Answer.{NodeState, IsNodeState, durable_in, flown_in}
 use Rattle.ring_records.specs.Member.{Member, member, used_by, IsHistory}
+use Rattle.ring_records.specs.States.{NodeState, IsNodeState, IsPlain, durable_in, flown_in}
 use Rattle.gated_journal.specs.Reading.{ReadsAs, ReadsAsOneOf}
 use Rattle.group_commit.specs.Desk.{DeskView}
 
@@ -34,9 +34,11 @@ pub record IsReady (capacity : ℕ) (s : NodeState) (spoiled : Bool) (len room :
   pub count : len ≡ s.durable
   pub left : room ≡ capacity - used_by (durable_in s)
 
--- the desk's history is lawful, the journal is the desk's and holds it, and is ready while the desk has not failed
+-- The desk's history is lawful, and none of it is summarised; the journal is the desk's and holds it, and is ready while the
+-- desk has not failed.
 pub record Stands (desk : DeskView) (journal : Member) (disk : Disk) (spoiled : Bool) (len room : ℕ) : Type 0 where
   pub counts : IsNodeState desk.state
+  pub plain : IsPlain desk.state
   pub lawful : IsHistory desk.member desk.state.inputs
   pub named : journal ≡ desk.member
   pub holds : (image : List ℕ) → MayLeave disk image → ReadsOnce journal (durable_in desk.state) (flown_in desk.state) image

@@ -1,11 +1,12 @@
 ghost use Rattle.std.specs.Prelude.{◌≡◌, ◌+◌, ◌-◌, ◌⊎◌, ◌||◌, ◌<◌, ◌≤◌, ℕ, Bool, [], length, not, true, false, None, Some, IfOk, IfErr, OnOk, OnErr};
 ghost use Rattle.disk_model.specs.Disk.{MayLeave, LeavesOnly, Reaches, synced};
-ghost use Rattle.ring_records.specs.Answer.{Answered, NodeState, durable_in, flying_in, left_by};
+ghost use Rattle.ring_records.specs.Answer.{Answered};
 ghost use Rattle.ring_records.specs.Member.{member, used_by, IsHistory};
 ghost use Rattle.ring_records.specs.Release.{packets, decisions};
+ghost use Rattle.ring_records.specs.States.{NodeState, durable_in, flying_in, left_by};
 ghost use Rattle.gated_journal.specs.Batch.{landed as receipted, lost};
 ghost use Rattle.gated_journal.specs.Journal as journals;
-ghost use Rattle.gated_journal.specs.Reading.{is_header, ReadsAs, AllReadAs};
+ghost use Rattle.gated_journal.specs.Reading.{device_size, is_header, ReadsAs, AllReadAs};
 ghost use Rattle.gated_journal.specs.Unread.{IsFault, IsUnread};
 ghost use Rattle.group_commit.specs.Desk.{new_desk, answered, ticket_for, submitted, ended, launched, landed, objection, IsHere, IsSealed, IsFlying};
 ghost use Rattle.node_store.specs.Props.{Stands-prop};
@@ -92,13 +93,13 @@ impl<D: Device> Node<D> {
         // A node that was stopped stands again for its durable inputs, or also for those that flew. It is refused only
         // where the device fails or memory is not found, and then the device holds what it held.
         ensures recovery { (capacity : ℕ) (s : NodeState) → IsHistory (member node n capacity) s.inputs → Holds (member node n capacity) (D.disk device) s
-            → IfOk result (λ made. (keep : Bool) × (desk_of made ≡ new_desk (member node n capacity) run (left_by keep s))) }
+            → IfOk result (λ made. (keep : Bool) × (desk_of made ≡ new_desk (member node n capacity) run (left_by keep s).inputs)) }
         ensures recovery_err { (capacity : ℕ) (s : NodeState) → IsHistory (member node n capacity) s.inputs → Holds (member node n capacity) (D.disk device) s
             → IfErr result (λ e. ((e.1 ≡ Refusal.OutOfMemory) ⊎ IsFault (D.count device) (D.count e.0) e.1) × Holds (member node n capacity) (D.disk e.0) s) }
 
         // The same of what is read alone, whatever a stop may leave: of a file that was just opened no more is known.
         ensures image { (capacity : ℕ) (s : NodeState) → IsLeft (member node n capacity) s (D.disk device).image
-            → IfOk result (λ made. (keep : Bool) × (desk_of made ≡ new_desk (member node n capacity) run (left_by keep s))) }
+            → IfOk result (λ made. (keep : Bool) × (desk_of made ≡ new_desk (member node n capacity) run (left_by keep s).inputs)) }
         ensures image_err { (capacity : ℕ) (s : NodeState) → IsLeft (member node n capacity) s (D.disk device).image
             → IfErr result (λ e. ((e.1 ≡ Refusal.OutOfMemory) ⊎ IsFault (D.count device) (D.count e.0) e.1) × ((D.disk e.0).image ≡ (D.disk device).image)) }
 
@@ -241,7 +242,7 @@ impl<D: Device> Node<D> {
         ensures cause { IfErr result (λ why. (desk_of self.old).failed ≡ false → IsFault (D.count (device_of self.old)) (D.count (device_of self.new)) why ⊎ (why ≡ Refusal.OutOfMemory)) }
         ensures fault { IfErr result (λ why. IsFault (D.count (device_of self.old)) (D.count (device_of self.new)) why → desk_of self.new ≡ record (launched (desk_of self.old)) { failed = true }) }
         ensures same { IfErr result (λ why. (why ≡ Refusal.Failed) ⊎ (why ≡ Refusal.OutOfMemory) → (desk_of self.new ≡ desk_of self.old) × (device_of self.new ≡ device_of self.old)) }
-        ensures in_reach { Reaches (D.reach (device_of self.old)) (17 + (desk_of self.old).member.capacity)
+        ensures in_reach { Reaches (D.reach (device_of self.old)) (device_size (desk_of self.old).member.capacity)
             → IfErr result (λ why. (why ≡ Refusal.Failed) ⊎ (why ≡ Refusal.OutOfMemory)) }
 
         // A stop at any moment leaves the inputs that were durable, or also those that flew then.

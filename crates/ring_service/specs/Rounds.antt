@@ -2,6 +2,7 @@
 use Rattle.std.specs.Prelude.{ℕ, ◌≡◌, ◌<◌, ◌≤◌, ◌⊎◌, Bool, true, List, ◌++◌, length}
 use Rattle.disk_model.specs.Disk.{Disk, LeavesOnly}
 use Rattle.ring_records.specs.declared.input.Input.{Input}
+use Rattle.ring_records.specs.declared.limits.TheConstants.{BATCH_INPUTS}
 use Rattle.ring_records.specs.declared.refusal.Refusal.{Refusal}
 use Rattle.ring_records.specs.declared.refusal.Refusal.TheVariants as refused
 use Rattle.ring_records.specs.Member.{Member, member}
@@ -21,7 +22,7 @@ pub record IsRound (member : Member) (before after : Disk) (first : ℕ) (landed
 -- A stop at any moment of a round leaves the journal's list, or this with the inputs of one batch behind it.
 pub record IsStopped {V : Type 0} (clock : V → ℕ) (left_since : V → ℕ → List ℕ → Type 0) (old new : V) (member : Member) (list : List Input) : Type 0 where
   pub inputs : List Input
-  pub few : length inputs ≤ 64
+  pub few : length inputs ≤ BATCH_INPUTS
   pub any_moment : LeavesOnly clock left_since old new (ReadsAsOneOf member list (list ++ inputs))
 
 -- a batch was committed to a journal that had so many inputs, or the device failed with it

@@ -2,6 +2,7 @@
 use Rattle.std.specs.Prelude.{ℕ, ℤ, pos, negsuc, List, Bool, true, nat_le, ◌&&◌, ◌||◌, ◌-◌, if◌then◌else◌, Option, Some, None, Result, Ok, Err, ok_or, option_and_then, length, codes, bytes_eq}
 use Rattle.std.specs.List.{list_all}
 use Rattle.toml.specs.Data.{Data, Members, no_members, member, get_member, as_integer, as_str}
+use Rattle.ring_records.specs.declared.limits.TheConstants.{GREATEST_CAPACITY, LEAST_CAPACITY}
 use Rattle.ring_service.specs.declared.start_fault.Setting.{Setting}
 use Rattle.ring_service.specs.declared.start_fault.Setting.TheVariants as setting
 use Rattle.ring_service.specs.declared.start_fault.StartFault.{StartFault}
@@ -58,7 +59,7 @@ path_in ms = present setting.Dir path_of (get_member (codes "dir") ms)
 
 abbrev pub capacity_at : Option Data → Result ℕ StartFault
 capacity_at None = Ok 65536
-capacity_at (Some value) = number_of setting.Capacity 4096 1048576 value
+capacity_at (Some value) = number_of setting.Capacity LEAST_CAPACITY GREATEST_CAPACITY value
 
 abbrev pub capacity_in : Members → Result ℕ StartFault
 capacity_in ms = capacity_at (get_member (codes "capacity") ms)

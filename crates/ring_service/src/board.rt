@@ -1,6 +1,6 @@
 //! The board of a node that is opened.
 ghost use Rattle.std.specs.Prelude.{◌≡◌, ◌≤◌, [], IfOk, IfErr};
-ghost use Rattle.ring_records.specs.Answer.{durable_in};
+ghost use Rattle.ring_records.specs.States.{durable_in};
 ghost use Rattle.ring_records.specs.Release.{AreLeaders};
 ghost use Rattle.decision_board.specs.Boards.{published, pending};
 

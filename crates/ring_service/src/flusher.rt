@@ -6,7 +6,7 @@ ghost use Rattle.ring_records.specs.Member.{used_by};
 ghost use Rattle.disk_model.specs.Disk.{LeavesOnly, Reaches};
 ghost use Rattle.gated_journal.specs.Batch.{shown};
 ghost use Rattle.gated_journal.specs.Journal.{device_of, member_of, len_of, room_of, is_spoiled};
-ghost use Rattle.gated_journal.specs.Reading.{AllReadAs, ReadsAsOneOf};
+ghost use Rattle.gated_journal.specs.Reading.{device_size, AllReadAs, ReadsAsOneOf};
 ghost use Rattle.gated_journal.specs.Unread.{IsFault};
 ghost use Rattle.decision_board.specs.Boards.{published, pending};
 ghost use Rattle.commit_hub.specs.Holders.{durable_of, costs_of};
@@ -21,7 +21,7 @@ use decision_board::{Board, Naming};
 use disk_model::Device;
 use gated_journal::{Batch, Journal};
 use group_commit::Landed;
-use ring_records::{Decision, Refusal};
+use ring_records::{BATCH_INPUTS, Decision, Refusal};
 use std::alloc::Global;
 use std::collections::VecDeque;
 use std::sync::Wait;
@@ -98,7 +98,7 @@ impl<V: Device, J: Naming, A: Node, D: Whole, C: Whole> Flusher<V, J, A, D, C> {
         ensures spoiled { IfErr result (λ why. IsFault (V.count (device_in self.old)) (V.count (device_in self.new)) why → is_spoiled (journal_of self.new) ≡ true) }
         ensures foreign { IfErr result (λ why. why ≡ Refusal.Foreign → IsSpent (len_of (journal_of self.old)) (len_of (journal_of self.new)) (is_spoiled (journal_of self.new))) }
         ensures same { OnErr result (told_to self.new ≡ told_to self.old) }
-        ensures in_reach { Reaches (V.reach (device_in self.old)) (17 + A.member.capacity) → IfErr result (λ why. IsIdle why ⊎ (why ≡ Refusal.Foreign)) }
+        ensures in_reach { Reaches (V.reach (device_in self.old)) (device_size A.member.capacity) → IfErr result (λ why. IsIdle why ⊎ (why ≡ Refusal.Foreign)) }
 
         // It ends where a batch did not land, and answers 9 then.
         ensures ends { IfErr result (λ why. IsIdle why ⊎ (has_ended self.new ≡ true)) }
@@ -120,8 +120,8 @@ impl<V: Device, J: Naming, A: Node, D: Whole, C: Whole> Flusher<V, J, A, D, C> {
             is_published,
             has_ended,
         } = self;
-        // A batch has at most 64 inputs, and each makes one leader known at most.
-        if owed.reserve(64).is_err() {
+        // Each input of a batch makes one leader known at most.
+        if owed.reserve(BATCH_INPUTS).is_err() {
             return Err(Refusal::OutOfMemory);
         }
         match hub.launch(rt, tie) {
@@ -188,7 +188,7 @@ fn settle<V: Device, A: Node, D: Whole, C: Whole, R: Wait>(
     requires room { room_of journal.old ≡ A.member.capacity - costs_of tie.old }
     ensures count { IfOk result (λ landed. landed.count ≡ length (shown batch).inputs) }
     ensures brought { IfOk result (λ landed. IsBrought A.member (len_of journal.old) (shown batch).inputs landed) }
-    ensures few { IfOk result (λ landed. length landed.decisions.items ≤ 64) }
+    ensures few { IfOk result (λ landed. length landed.decisions.items ≤ BATCH_INPUTS) }
     ensures durable { OnOk result ((list : List Input) → AllReadAs A.member (V.disk (device_of journal.old)) list
         → AllReadAs A.member (V.disk (device_of journal.new)) (list ++ (shown batch).inputs)) }
     ensures ready { OnOk result (is_spoiled journal.new ≡ false) }
@@ -198,7 +198,7 @@ fn settle<V: Device, A: Node, D: Whole, C: Whole, R: Wait>(
     ensures refusal { IfErr result (λ why. IsFault (V.count (device_of journal.old)) (V.count (device_of journal.new)) why ⊎ (why ≡ Refusal.Foreign)) }
     ensures spoiled { IfErr result (λ why. IsFault (V.count (device_of journal.old)) (V.count (device_of journal.new)) why → is_spoiled journal.new ≡ true) }
     ensures foreign { IfErr result (λ why. why ≡ Refusal.Foreign → IsSpent (len_of journal.old) (len_of journal.new) (is_spoiled journal.new)) }
-    ensures in_reach { Reaches (V.reach (device_of journal.old)) (17 + A.member.capacity) → IfErr result (λ why. why ≡ Refusal.Foreign) }
+    ensures in_reach { Reaches (V.reach (device_of journal.old)) (device_size A.member.capacity) → IfErr result (λ why. why ≡ Refusal.Foreign) }
     ensures any_moment { (list : List Input) → AllReadAs (member_of journal.old) (V.disk (device_of journal.old)) list
         → LeavesOnly V.clock V.left_since (device_of journal.old) (device_of journal.new) (ReadsAsOneOf (member_of journal.old) list (list ++ (shown batch).inputs)) }
 {

@@ -19,4 +19,4 @@ pub use gate::Gate;
 pub use service::HubService;
 pub use settings::{Settings, read_settings};
 pub use start_fault::{Setting, StartFault};
-pub use words::{Words, read_words};
+pub use words::{VERSION, Words, read_words};

@@ -2,12 +2,14 @@
 ghost use Rattle.std.specs.Prelude.{◌≡◌, ◌+◌, ◌≤◌, ◌⊎◌, Ok, Err, Some, None, IfOk, IfErr, IfSome, IfNone, IsTrue, option_map, ok_or, codes, string_bytes};
 ghost use Rattle.std.specs.List.{list_all};
 ghost use Rattle.std.specs.BTreeMap.{keys};
+ghost use Rattle.ring_records.specs.declared.limits.TheConstants.{GREATEST_CAPACITY, LEAST_CAPACITY};
 ghost use Rattle.toml.specs.Parse.{parse_document};
 ghost use Rattle.toml.specs.Data.{get_member};
 ghost use Rattle.toml.specs.View.{view, table_view};
 ghost use Rattle.ring_service.specs.Settings.{Read, setting_text, told_by, settings_in, number_of, number_in, path_of, path_in, capacity_in, in_range, is_path, is_printed, is_setting, knows_all};
 
 use crate::start_fault::{Setting, StartFault};
+use ring_records::{GREATEST_CAPACITY, LEAST_CAPACITY};
 use std::alloc::Global;
 use toml::{Table, Value};
 
@@ -24,7 +26,7 @@ pub struct Settings {
     pub capacity: u32,
     ghost nodes_range: { (2 ≤ nodes) × (nodes ≤ 16) },
     ghost port_range: { (1 ≤ port) × (port + nodes ≤ 65536) },
-    ghost capacity_range: { (4096 ≤ capacity) × (capacity ≤ 1048576) },
+    ghost capacity_range: { (LEAST_CAPACITY ≤ capacity) × (capacity ≤ GREATEST_CAPACITY) },
 }
 
 // The capacity where none is set, in bytes.
@@ -72,7 +74,7 @@ struct Told<'a> {
     capacity: u32,
     ghost nodes_range: { (2 ≤ nodes) × (nodes ≤ 16) },
     ghost port_range: { (1 ≤ port) × (port + nodes ≤ 65536) },
-    ghost capacity_range: { (4096 ≤ capacity) × (capacity ≤ 1048576) },
+    ghost capacity_range: { (LEAST_CAPACITY ≤ capacity) × (capacity ≤ GREATEST_CAPACITY) },
 }
 
 fn settings_of(table: &Table) -> Result<Told<'_>, StartFault>
@@ -97,11 +99,11 @@ fn settings_of(table: &Table) -> Result<Told<'_>, StartFault>
 /// The capacity that is set, or the one where none is.
 fn capacity(table: &Table) -> Result<u32, StartFault>
     ensures value { result ≡ capacity_in (table_view table.now) }
-    ensures range { IfOk result (λ n. (4096 ≤ n) × (n ≤ 1048576)) }
+    ensures range { IfOk result (λ n. (LEAST_CAPACITY ≤ n) × (n ≤ GREATEST_CAPACITY)) }
 {
     match found(table, Setting::Capacity) {
         None => Ok(CAPACITY),
-        Some(value) => number_at(value, Setting::Capacity, 4096, 1_048_576),
+        Some(value) => number_at(value, Setting::Capacity, LEAST_CAPACITY, GREATEST_CAPACITY),
     }
 }
 

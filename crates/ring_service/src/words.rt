@@ -1,5 +1,5 @@
 //! The words of `ringd`.
-ghost use Rattle.std.specs.Prelude.{◌≡◌, ◌≤◌, false, Option, Some, None, IfOk, IfSome, map, codes, unwrap_or};
+ghost use Rattle.std.specs.Prelude.{◌≡◌, ◌≤◌, ◌||◌, false, nat_le, is_none, Option, Some, None, IfOk, IfSome, map, codes, unwrap_or};
 ghost use Rattle.clap.specs.Words.{app_of, first_value, found_of, one_text, rule_of, with_rule};
 ghost use Rattle.ring_service.specs.Words.{AreTold, Flag, IsIn, IsMatched, IsSaid};
 ghost use Rattle.ring_service.specs.Words.{always_rule, flag_rule, number_rule, ringd_app, settings_rule};
@@ -7,6 +7,9 @@ ghost use Rattle.ring_service.specs.Words.{always_rule, flag_rule, number_rule, 
 use clap::error::ErrorKind;
 use clap::{Arg, ArgAction, ArgMatches, Command, Error, value_parser};
 use std::alloc::{AllocError, Global};
+
+/// The version of the program.
+pub const VERSION: &str = "0.1.0";
 
 /// What the words ask.
 #[derive(Clone, Copy, Debug, PartialEq, Eq)]
@@ -25,14 +28,18 @@ pub struct Words<'a> {
     pub doors: u32,
     /// How many seconds a session may go without a whole line or a whole answer, up to 86,400; 0 is for ever.
     pub idle: u32,
+    /// The port of 127.0.0.1 at which an operator is told of the ring, 1 to 65,535. It takes the place of a door: there
+    /// are at most 31 beside it.
+    pub status: Option<u16>,
 }
 
 /// Reads words, of which the first is the program's name: `[--settings PATH] [--serve K | --always] [--existing]
-/// [--fail-stop] [--doors S] [--idle SECONDS]`. Refused with what is to be printed, and the status.
+/// [--fail-stop] [--doors S] [--idle SECONDS] [--status PORT]`. Refused with what is to be printed, and the status.
 pub fn read_words<'a>(alloc: Global, words: &'a [&'a str]) -> Result<Words<'a>, Error>
     ensures told { IfOk result (λ w. AreTold (map (λ word. word.now) words.now) w) }
     ensures range { IfOk result (λ w. IfSome w.serve (IsIn 1 1000)) }
     ensures doors { IfOk result (λ w. IsIn 1 32 w.doors) }
+    ensures port { IfOk result (λ w. IfSome w.status (λ port. (1 ≤ port) × (w.doors ≤ 31))) }
 {
     let mut command = command(alloc)?;
     let matches = command.try_get_matches_from_mut(words)?;
@@ -50,6 +57,7 @@ fn settings_arg<'a>(alloc: Global) -> Arg<'a>
     Arg::new(alloc, "settings")
         .long("settings")
         .value_name("PATH")
+        .help_heading("Ring")
         .help("Reads the settings from this file; - is standard input")
         .default_value("-")
 }
@@ -62,6 +70,7 @@ fn serve_arg<'a>(alloc: Global) -> Arg<'a>
     Arg::new(alloc, "serve")
         .long("serve")
         .value_name("K")
+        .help_heading("Sessions")
         .help(
             "Serves K sessions at each node, at all its doors together, 1 to 1000, and ends; the settings alone are \
              shown without this and --always",
@@ -76,6 +85,7 @@ fn always_arg<'a>(alloc: Global) -> Result<Arg<'a>, AllocError>
 {
     Arg::new(alloc, "always")
         .long("always")
+        .help_heading("Sessions")
         .help("Serves sessions without end, in place of --serve")
         .action(ArgAction::SetTrue)
         .conflicts_with("serve")
@@ -88,6 +98,7 @@ fn existing_arg<'a>(alloc: Global) -> Arg<'a>
 {
     Arg::new(alloc, "existing")
         .long("existing")
+        .help_heading("Ring")
         .help("Makes no node: each has to be there")
         .action(ArgAction::SetTrue)
 }
@@ -99,6 +110,7 @@ fn fail_stop_arg<'a>(alloc: Global) -> Arg<'a>
 {
     Arg::new(alloc, "fail-stop")
         .long("fail-stop")
+        .help_heading("Ring")
         .help("Ends with status 1 where a node fails; a start goes on")
         .action(ArgAction::SetTrue)
 }
@@ -111,6 +123,7 @@ fn doors_arg<'a>(alloc: Global) -> Arg<'a>
     Arg::new(alloc, "doors")
         .long("doors")
         .value_name("S")
+        .help_heading("Sessions")
         .help("Serves S sessions side by side at each node, 1 to 32; 1 where it is not said")
         .value_parser(value_parser!(u32).range(1..=32))
 }
@@ -123,11 +136,28 @@ fn idle_arg<'a>(alloc: Global) -> Arg<'a>
     Arg::new(alloc, "idle")
         .long("idle")
         .value_name("SECONDS")
+        .help_heading("Sessions")
         .help(
             "Ends a session that has sent no whole line, or taken no whole answer, for so long, 0 to 86400; 0, for \
              never, where it is not said",
         )
         .value_parser(value_parser!(u32).range(0..=86_400))
+}
+
+/// `--status PORT`
+fn status_arg<'a>(alloc: Global) -> Arg<'a>
+    ensures rule { rule_of result ≡ number_rule (codes "status") 1 65535 }
+    ensures local { result.global ≡ false }
+{
+    Arg::new(alloc, "status")
+        .long("status")
+        .value_name("PORT")
+        .help_heading("Status")
+        .help(
+            "Tells of the ring by HTTP at this port of 127.0.0.1, 1 to 65535: /health, /status, /metrics, /leaders; \
+             with 31 doors at most",
+        )
+        .value_parser(value_parser!(u32).range(1..=65_535))
 }
 
 /// The command with one more argument.
@@ -142,7 +172,7 @@ fn with_arg<'a>(command: Command<'a>, arg: Arg<'a>) -> Result<Command<'a>, Alloc
 fn command<'a>(alloc: Global) -> Result<Command<'a>, AllocError>
     ensures { IfOk result (λ command. app_of command ≡ ringd_app) }
 {
-    let named = Command::new(alloc, "ringd").about(
+    let named = Command::new(alloc, "ringd").version(VERSION).about(
         "A ring of durable nodes on 127.0.0.1 that elect a leader for each group and term",
     );
     let command = with_arg(named, settings_arg(alloc))?;
@@ -151,7 +181,8 @@ fn command<'a>(alloc: Global) -> Result<Command<'a>, AllocError>
     let command = with_arg(command, existing_arg(alloc))?;
     let command = with_arg(command, fail_stop_arg(alloc))?;
     let command = with_arg(command, doors_arg(alloc))?;
-    with_arg(command, idle_arg(alloc))
+    let command = with_arg(command, idle_arg(alloc))?;
+    with_arg(command, status_arg(alloc))
 }
 
 /// The number that is matched to a word. Refused where what is matched is no number in this range, which the word's
@@ -171,6 +202,24 @@ fn number(
     }
 }
 
+/// The port that is matched to `--status`.
+fn port(matches: &ArgMatches<'_>) -> Result<Option<u16>, ErrorKind>
+    ensures matched { IfOk result (IsMatched 1 65535 (one_text (found_of matches.now) (codes "status"))) }
+    ensures range { IfOk result (λ port. IfSome port (IsIn 1 65535)) }
+{
+    match number(matches, "status", 1, 65_535)? {
+        Some(port) => Ok(Some(port as u16)),
+        None => Ok(None),
+    }
+}
+
+/// Whether the doors leave a place for who tells of the ring, where that is asked for.
+fn have_place(doors: u32, status: Option<u16>) -> bool
+    ensures { result ≡ (is_none status || nat_le doors 31) }
+{
+    status.is_none() || doors <= 31
+}
+
 /// What is matched.
 fn words_of<'a>(matches: &ArgMatches<'a>) -> Result<Words<'a>, ErrorKind>
     ensures settings { IfOk result (λ w. w.settings.now ≡ unwrap_or (first_value (found_of matches.now) (codes "settings")) (codes "-")) }
@@ -182,6 +231,8 @@ fn words_of<'a>(matches: &ArgMatches<'a>) -> Result<Words<'a>, ErrorKind>
     ensures idle { IfOk result (λ w. IsSaid 0 86400 0 (one_text (found_of matches.now) (codes "idle")) w.idle) }
     ensures range { IfOk result (λ w. IfSome w.serve (IsIn 1 1000)) }
     ensures side_by_side { IfOk result (λ w. IsIn 1 32 w.doors) }
+    ensures status { IfOk result (λ w. IsMatched 1 65535 (one_text (found_of matches.now) (codes "status")) w.status) }
+    ensures port { IfOk result (λ w. IfSome w.status (λ port. (1 ≤ port) × (w.doors ≤ 31))) }
 {
     let settings = match matches.get_str("settings") {
         Some(path) => path,
@@ -190,13 +241,19 @@ fn words_of<'a>(matches: &ArgMatches<'a>) -> Result<Words<'a>, ErrorKind>
     let serve = number(matches, "serve", 1, 1000)?;
     let doors = number(matches, "doors", 1, 32)?;
     let idle = number(matches, "idle", 0, 86_400)?;
+    let status = port(matches)?;
+    let doors = doors.unwrap_or(1);
+    if !have_place(doors, status) {
+        return Err(ErrorKind::ValueValidation);
+    }
     Ok(Words {
         settings,
         serve,
         always: matches.get_flag("always"),
         existing: matches.get_flag("existing"),
         fail_stop: matches.get_flag("fail-stop"),
-        doors: doors.unwrap_or(1),
+        doors,
         idle: idle.unwrap_or(0),
+        status,
     })
 }

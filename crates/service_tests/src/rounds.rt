@@ -1,6 +1,6 @@
 // Rounds by calls: the one thread that the tests have is appender and flusher in turn.
 ghost use Rattle.std.specs.Prelude.{◌≡◌, ◌-◌, false, length};
-ghost use Rattle.ring_records.specs.Answer.{durable_in};
+ghost use Rattle.ring_records.specs.States.{durable_in};
 ghost use Rattle.ring_records.specs.Member.{used_by};
 ghost use Rattle.gated_journal.specs.Journal.{member_of, len_of, room_of, is_spoiled};
 ghost use Rattle.commit_hub.specs.Pages.{ForAccepted, ForDurable, ForCosts, IsWhole};

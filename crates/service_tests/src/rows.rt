@@ -1,6 +1,6 @@
 // What nodes are given and give. All numbers and names of rows are in their ranges.
 ghost use Rattle.std.specs.Prelude.{◌≡◌, ◌-◌, false};
-ghost use Rattle.ring_records.specs.Answer.{durable_in};
+ghost use Rattle.ring_records.specs.States.{durable_in};
 ghost use Rattle.ring_records.specs.Member.{used_by};
 ghost use Rattle.gated_journal.specs.Journal.{member_of, len_of, room_of, is_spoiled};
 

@@ -103,7 +103,7 @@ fn words(rt: HostRuntime) {
         Ok(words) => {
             assert!(rt; words.settings == "-" && words.serve == None && !words.always);
             assert!(rt; !words.existing && !words.fail_stop);
-            assert_eq!(rt; (words.doors, words.idle), (1, 0));
+            assert_eq!(rt; (words.doors, words.idle, words.status), (1, 0, None));
         }
         Err(_) => panic!(rt; "refused"),
     }
@@ -134,6 +134,10 @@ fn words(rt: HostRuntime) {
         }
         Err(_) => panic!(rt; "refused"),
     }
+    match read_words(rt.alloc(), &["ringd", "--status", "65535", "--doors=31"]) {
+        Ok(words) => assert_eq!(rt; (words.doors, words.status), (31, Some(65_535))),
+        Err(_) => panic!(rt; "refused"),
+    }
     for bad in [
         "--serve=0",
         "--serve=1001",
@@ -144,6 +148,8 @@ fn words(rt: HostRuntime) {
         "--doors=33",
         "--idle=-1",
         "--idle=86401",
+        "--status=0",
+        "--status=65536",
         "--always=1",
         "--other",
         "x",
@@ -157,8 +163,14 @@ fn words(rt: HostRuntime) {
         Ok(_) => panic!(rt; "taken"),
         Err(error) => assert!(rt; error.exit_code() == 2 && error.use_stderr()),
     }
-    match read_words(rt.alloc(), &["ringd", "--help"]) {
+    match read_words(rt.alloc(), &["ringd", "--status=1", "--doors=32"]) {
         Ok(_) => panic!(rt; "taken"),
-        Err(error) => assert!(rt; error.exit_code() == 0 && !error.use_stderr()),
+        Err(error) => assert!(rt; error.exit_code() == 2 && error.use_stderr()),
+    }
+    for asks in ["--help", "--version"] {
+        match read_words(rt.alloc(), &["ringd", asks]) {
+            Ok(_) => panic!(rt; "taken"),
+            Err(error) => assert!(rt; error.exit_code() == 0 && !error.use_stderr()),
+        }
     }
 }

@@ -8,31 +8,33 @@ use Rattle.ring_records.specs.declared.input.Input.{Input}
 use Rattle.ring_records.specs.declared.refusal.Refusal.{Refusal}
 use Rattle.ring_records.specs.declared.refusal.Refusal.TheVariants.{BadNumber, Failed, Limit}
 use Rattle.ring_records.specs.declared.request.Request.{Request}
-use Rattle.ring_records.specs.Admission.{fresh}
+use Rattle.ring_records.specs.declared.base.Base.{Base}
+use Rattle.ring_records.specs.Admission.{refusal}
 use Rattle.group_commit.specs.Desk.{DeskView, kept_at, IsHere}
 use Rattle.group_commit.specs.Ticket.{TicketView}
-use Rattle.ring_records.specs.Answer.{Answered, NodeState, input_of, gained, if_free, if_input}
-use Rattle.ring_records.specs.Member.{member, refusal_by, gained_by, asked_by}
+use Rattle.ring_records.specs.Answer.{Answered, input_of, gained, if_free, if_input}
+use Rattle.ring_records.specs.Member.{Member}
+use Rattle.ring_records.specs.States.{NodeState, launched_base, gained_by, asked}
 
 one_if_free : (o : Option Refusal) (x : Input) → length (if_free o x) ≤ 1
 one_if_free None x = omega arith
 one_if_free (Some r) x = omega arith
 
-one_if_input : (me n capacity : ℕ) (h : List Input) (o : Option Input) → length (if_input me n capacity fresh h o) ≤ 1
-one_if_input me n capacity h None = omega arith
-one_if_input me n capacity h (Some x) = one_if_free (refusal_by (member me n capacity) h x) x
+one_if_input : (me n capacity : ℕ) (base : Base) (h : List Input) (o : Option Input) → length (if_input me n capacity base h o) ≤ 1
+one_if_input me n capacity base h None = omega arith
+one_if_input me n capacity base h (Some x) = one_if_free (refusal me n capacity base h x) x
 
-one_gained : (me n capacity : ℕ) (h : List Input) (q : Request) → length (gained_by (member me n capacity) h q) ≤ 1
+one_gained : (m : Member) (s : NodeState) (q : Request) → length (gained_by m s q) ≤ 1
 unfolding gained
-one_gained me n capacity h q = one_if_input me n capacity h (input_of q)
+one_gained m s q = one_if_input m.node m.n m.capacity (launched_base s) s.inputs (input_of q)
 
 -- where nothing waited, at most one input waits behind a request
-pub one_waits : (me n capacity : ℕ) (s t : NodeState) (q : Request) → t ≡ asked_by (member me n capacity) s q → length s.inputs ≡ s.durable → length t.inputs ≤ t.durable + 1
-one_waits me n capacity s t q e durable =
-    let one = one_gained me n capacity s.inputs q in
+pub one_waits : (m : Member) (s t : NodeState) (q : Request) → t ≡ asked m s q → length s.inputs ≡ s.durable → length t.inputs ≤ t.durable + 1
+one_waits m s t q e durable =
+    let one = one_gained m s q in
     let inputs = ap (λ v. length v.inputs) e in
     let same = ap (λ v. v.durable) e in
-    omega (arith, one, inputs, same, durable, length-append s.inputs (gained_by (member me n capacity) s.inputs q))
+    omega (arith, one, inputs, same, durable, length-append s.inputs (gained_by m s q))
 
 -- no number of a ticket is left
 no_number : (b : Bool) (why : Refusal) → (if b then Some Limit else None) ≡ Some why → (why ≡ Limit) × (b ≡ true)

@@ -5,7 +5,7 @@ use Rattle.gated_journal.specs.Unread.{IsFault}
 use Rattle.group_commit.specs.Desk.{answered, submitted}
 use Rattle.node_store.specs.Node.{desk_of, state_of, device_of}
 use Rattle.node_store.specs.declared.node.Node.{Node}
-use Rattle.ring_records.specs.Answer.{opened}
+use Rattle.ring_records.specs.States.{opened}
 use Rattle.ring_records.specs.declared.input.Input.{Input}
 use Rattle.ring_records.specs.declared.refusal.Refusal.{Refusal}
 use Rattle.ring_records.specs.declared.refusal.Refusal.TheVariants as refused
@@ -43,7 +43,7 @@ module _ {D : Type 0} {g : Ghosts D} where
   pub record IsReplied (s : SoloService D g) (q : Request) (reply : Reply) (t : SoloService D g) : Type 0 where
     pub works : has_failed s ≡ false
     pub is : reply ≡ reply_to s q
-    pub next : state_of t.node ≡ opened (history_with s q)
+    pub next : state_of t.node ≡ opened (state_of s.node).base (history_with s q)
     pub same : IsSame s t
     pub goes_on : has_failed t ≡ false
 

@@ -5,7 +5,8 @@ ghost use Rattle.gated_journal.specs.Unread.{IsFault};
 ghost use Rattle.group_commit.specs.Desk.{ended, IsHere};
 ghost use Rattle.group_commit.specs.Ticket.{shown};
 ghost use Rattle.node_store.specs.Node as nodes;
-ghost use Rattle.ring_records.specs.Answer.{Answered, opened};
+ghost use Rattle.ring_records.specs.Answer.{Answered};
+ghost use Rattle.ring_records.specs.States.{is_idle, opened};
 ghost use Rattle.ring_records.specs.Message.{is_outside};
 
 use crate::Service;
@@ -21,7 +22,8 @@ use std::mem::replace;
 pub struct SoloService<D: Device> {
     node: Node<D>,
     unanswered: Option<Ticket>,
-    ghost idle: { ForNone unanswered ((length (nodes.state_of node).inputs ≡ (nodes.state_of node).durable) × ((nodes.state_of node).flying ≡ (nodes.state_of node).durable)) },
+    ghost durable: { ForNone unanswered (length (nodes.state_of node).inputs ≡ (nodes.state_of node).durable) },
+    ghost idle: { ForNone unanswered (is_idle (nodes.state_of node) ≡ true) },
     ghost open: { ForNone unanswered (((nodes.desk_of node).closed ≡ false) × ((nodes.desk_of node).failed ≡ false)) },
     ghost held: { ForSome unanswered (λ ticket. ∥ ((kept : Answered) × IsHere (nodes.desk_of node) (shown ticket) kept) ∥₁) },
 }
@@ -33,7 +35,7 @@ impl<D: Device> SoloService<D> {
     /// recovered.
     pub fn new(node: Node<D>) -> SoloService<D>
         requires open { ((nodes.desk_of node).closed ≡ false) × ((nodes.desk_of node).failed ≡ false) }
-        requires durable { nodes.state_of node ≡ opened (nodes.state_of node).inputs }
+        requires durable { nodes.state_of node ≡ opened (nodes.state_of node).base (nodes.state_of node).inputs }
         ensures node { node_of result ≡ node }
         ensures works { has_failed result ≡ false }
     {
@@ -97,16 +99,16 @@ impl<D: Device> Service for SoloService<D> {
 fn waits<D: Device>(node: &Node<D>) -> bool
     ensures { result ≡ nat_lt (nodes.state_of node.now).durable (length (nodes.state_of node.now).inputs) }
 {
-    node.durable() < node.history().len() as u64
+    node.desk().waits()
 }
 
 // Makes what waits durable, which is one input at most.
 fn settle<D: Device>(node: &mut Node<D>) -> Result<(), Refusal>
     requires one { length (nodes.state_of node.old).inputs ≤ (nodes.state_of node.old).durable + 1 }
     requires durable { (nodes.state_of node.old).durable ≤ length (nodes.state_of node.old).inputs }
-    requires idle { (nodes.state_of node.old).flying ≡ (nodes.state_of node.old).durable }
+    requires idle { is_idle (nodes.state_of node.old) ≡ true }
     requires works { (nodes.desk_of node.old).failed ≡ false }
-    ensures next { OnOk result (nodes.desk_of node.new ≡ record (nodes.desk_of node.old) { state = opened (nodes.state_of node.old).inputs }) }
+    ensures next { OnOk result (nodes.desk_of node.new ≡ record (nodes.desk_of node.old) { state = opened (nodes.state_of node.old).base (nodes.state_of node.old).inputs }) }
     ensures stays { nodes.desk_of node.new ≡ record (nodes.desk_of node.old) { state = nodes.state_of node.new; failed = (nodes.desk_of node.new).failed } }
     ensures inputs { OnErr result ((nodes.state_of node.new).inputs ≡ (nodes.state_of node.old).inputs) }
     ensures cause { IfErr result (λ why. IsFault (D.count (nodes.device_of node.old)) (D.count (nodes.device_of node.new)) why ⊎ (why ≡ Refusal.OutOfMemory)) }

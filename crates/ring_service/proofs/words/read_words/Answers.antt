@@ -14,4 +14,5 @@ returns-in-Ok-clause-told c = record {
   fail_stop = rw c.in-Ok.is at c.words_of.ensures.fail_stop;
   side_by_side = rw c.in-Ok.is at c.words_of.ensures.doors;
   silence = rw c.in-Ok.is at c.words_of.ensures.idle;
+  told_at = rw c.in-Ok.is at c.words_of.ensures.status;
 }

@@ -1,6 +1,7 @@
 use Rattle.std.proofs.Common.{rules, ◌≡◌, ◌-◌, ◌≤◌, length, take, drop, sym, ap, ◌∙◌, subst, arith}
-use Rattle.ring_records.specs.Answer.{durable_in, flying_in, flown_in}
+use Rattle.ring_records.specs.States.{durable_in, flying_in, flown_in}
 use Rattle.ring_records.specs.Member.{Member, used_by, IsHistory}
+use Rattle.gated_journal.specs.Batch.{landed as receipted}
 use Rattle.group_commit.specs.Desk.{DeskView, landed}
 use Rattle.commit_hub.specs.Holders.{durable_of}
 use Rattle.commit_hub.specs.Told.{IsBrought}
@@ -34,6 +35,7 @@ invariant_of-self-in-Ok g c =
       of = ap (λ (d : DeskView). d.member) next ∙ old.of;
       lawful = subst (λ (d : DeskView). IsHistory d.member d.state.inputs) (sym next) old.lawful;
       counts = c.history.ensures.counts;
+      plain = c.history.ensures.plain;
       counted = old.counted ∙ sym (ap (λ (d : DeskView). length d.state.inputs) next);
       first_is = old.first_is;
       spare_is = old.spare_is;
@@ -45,5 +47,5 @@ pub returns-in-Ok-clause-brought : goal.returns-in-Ok-clause-brought
 returns-in-Ok-clause-brought g c =
     let old = c.args.self.now in
     let first : durable_of c.args.tie.now ≡ old.shared.desk.state.durable = search rules in
-    subst (λ (m : Member). IsBrought m (durable_of c.args.tie.now) c.args.receipt.inputs.items c.in-Ok.landed) old.of
+    subst (λ (m : Member). IsBrought m (durable_of c.args.tie.now) (receipted c.args.receipt).inputs c.in-Ok.landed) old.of
     (brings old.shared.desk.member old.shared.desk.state _ _ c.in-Ok.landed old.lawful old.counts first c.in-Ok.ensures.flying.inputs c.in-Ok.ensures.packets c.in-Ok.ensures.decisions)

@@ -1,6 +1,6 @@
 use Rattle.std.proofs.Common.{◌≡◌, ◌∙◌, ◌-◌, true, sym, subst, ap, ◌++◌}
 use Rattle.disk_model.proofs.Moments.{started, weaken, now}
-use Rattle.ring_records.specs.Answer.{NodeState, launched, durable_in, flying_in}
+use Rattle.ring_records.specs.States.{NodeState, launched, durable_in, flying_in}
 use Rattle.ring_records.specs.Release.{packets, decisions}
 use Rattle.gated_journal.specs.Journal as journals
 use Rattle.gated_journal.specs.Reading.{AllReadAs, ReadsAsOneOf}

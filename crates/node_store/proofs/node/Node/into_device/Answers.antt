@@ -1,5 +1,5 @@
 use Rattle.std.proofs.Common.{refl, subst, sym}
-use Rattle.ring_records.specs.Answer.{durable_in}
+use Rattle.ring_records.specs.States.{durable_in}
 use Rattle.gated_journal.specs.Reading.{AllReadAs}
 use Rattle.node_store.proofs.Flushed.{durable_all}
 use Rattle.node_store.proofs.node.Node.into_device.Goals as goal

@@ -1,7 +1,7 @@
 use Rattle.std.proofs.Common.{◌≡◌, ◌-◌, ⊎_elim, inl, inr, sym, ap, ◌∙◌, subst, arith}
 use Rattle.disk_model.specs.Disk.{Disk}
-use Rattle.ring_records.specs.Answer.{left_by}
 use Rattle.ring_records.specs.Member.{member, used_by}
+use Rattle.ring_records.specs.States.{left_by}
 use Rattle.gated_journal.specs.Journal as journals
 use Rattle.gated_journal.specs.Reading.{ReadsAs, AllReadAs}
 use Rattle.gated_journal.specs.Unread.{IsFault}
@@ -76,7 +76,7 @@ returns-in-Ok-open-clause-recovery g c = λ capacity s lawful holds.
     let image = (g.D.Device.disk c.args.device).image in
     let found = kept_by (member c.args.node c.args.n capacity) (journals.member_of c.in-Ok.journal) s image c.in-Ok.inputs.items (holds image (g.met.D.Device.may_stay c.args.device)) c.in-Ok.ensures.reads in
     let capacity_is : c.capacity.result ≡ capacity = capacity_again c.capacity.result (journals.member_of c.in-Ok.journal) (member c.args.node c.args.n capacity) c.capacity.ensures.value found.0 in
-    (found.1.0, made_again c.in-Ok-open.desk c.args.node c.args.n c.capacity.result capacity c.args.run c.in-Ok.inputs.items (left_by found.1.0 s) c.in-Ok-open.ensures.desk capacity_is found.1.1)
+    (found.1.0, made_again c.in-Ok-open.desk c.args.node c.args.n c.capacity.result capacity c.args.run c.in-Ok.inputs.items (left_by found.1.0 s).inputs c.in-Ok-open.ensures.desk capacity_is found.1.1)
 
 pub returns-in-Err-open-clause-recovery_err : goal.returns-in-Err-open-clause-recovery_err
 returns-in-Err-open-clause-recovery_err g c = λ capacity s lawful holds.
@@ -97,7 +97,7 @@ returns-in-Ok-open-clause-image g c = λ capacity s left.
     let image = (g.D.Device.disk c.args.device).image in
     let found = kept_by (member c.args.node c.args.n capacity) (journals.member_of c.in-Ok.journal) s image c.in-Ok.inputs.items left.reads c.in-Ok.ensures.reads in
     let capacity_is : c.capacity.result ≡ capacity = capacity_again c.capacity.result (journals.member_of c.in-Ok.journal) (member c.args.node c.args.n capacity) c.capacity.ensures.value found.0 in
-    (found.1.0, made_again c.in-Ok-open.desk c.args.node c.args.n c.capacity.result capacity c.args.run c.in-Ok.inputs.items (left_by found.1.0 s) c.in-Ok-open.ensures.desk capacity_is found.1.1)
+    (found.1.0, made_again c.in-Ok-open.desk c.args.node c.args.n c.capacity.result capacity c.args.run c.in-Ok.inputs.items (left_by found.1.0 s).inputs c.in-Ok-open.ensures.desk capacity_is found.1.1)
 
 pub returns-in-Err-open-clause-image_err : goal.returns-in-Err-open-clause-image_err
 returns-in-Err-open-clause-image_err g c = λ capacity s left.

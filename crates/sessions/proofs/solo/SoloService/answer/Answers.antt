@@ -2,7 +2,7 @@ use Rattle.std.proofs.Common.{inl, inr, sym, ap, subst, ◌∙◌, length, arith
 use Rattle.std.proofs.lemmas.Option.{same_Some}
 use Rattle.group_commit.specs.Desk.{DeskView, answered, IsHere}
 use Rattle.group_commit.specs.Ticket.{TicketView, shown}
-use Rattle.ring_records.specs.Answer.{opened}
+use Rattle.ring_records.specs.States.{opened}
 use Rattle.sessions.proofs.Asked.{one_waits, no_ticket, still_here, none_of}
 use Rattle.sessions.proofs.solo.SoloService.answer.Goals as goal
 
@@ -24,7 +24,7 @@ returns-in-Err g c =
 pub settle-requires-clause-one : goal.settle-requires-clause-one
 settle-requires-clause-one g c =
     let works = sym c.is_some.ensures ∙ c.if-is_some.false in
-    one_waits _ _ _ _ _ c.args.question (ap (λ (d : DeskView). d.state) c.in-Ok.ensures.next) (c.args.self.now.idle (none_of _ works)).0
+    one_waits _ _ _ c.args.question (ap (λ (d : DeskView). d.state) c.in-Ok.ensures.next) (c.args.self.now.durable (none_of _ works))
 
 pub release-requires : goal.release-requires
 release-requires g c =
@@ -47,7 +47,7 @@ returns-in-Ok-settle g c =
     record {
       works = works;
       is = c.release.ensures.reply (answered old c.args.question) (still_here _ _ _ _ settled.stays told.here);
-      next = ap (λ (d : DeskView). d.state) c.release.ensures.next ∙ ap (λ (d : DeskView). d.state) settled.next ∙ ap (λ (d : DeskView). opened d.state.inputs) told.next;
+      next = ap (λ (d : DeskView). d.state) c.release.ensures.next ∙ ap (λ (d : DeskView). d.state) settled.next ∙ ap (λ (d : DeskView). opened d.state.base d.state.inputs) told.next;
       same = record {
         member = ap (λ (d : DeskView). d.member) c.release.ensures.next ∙ ap (λ (d : DeskView). d.member) settled.next ∙ ap (λ (d : DeskView). d.member) told.next;
         run = ap (λ (d : DeskView). d.run) c.release.ensures.next ∙ ap (λ (d : DeskView). d.run) settled.next ∙ ap (λ (d : DeskView). d.run) told.next;
