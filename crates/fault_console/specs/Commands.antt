@@ -3,6 +3,7 @@ use Rattle.std.specs.Prelude.{ℕ, Bool, true, false, ◌||◌, ◌&&◌, List, 
 use Rattle.std.specs.List.{list_all}
 use Rattle.disk_model.specs.declared.memory.Tear.TheVariants.{Old, New, Fill}
 use Rattle.line_words.specs.Forms.{Fixed, Number, Name, Form, bid, term}
+use Rattle.ring_records.specs.declared.limits.TheConstants.{GREATEST_CAPACITY, LEAST_CAPACITY}
 use Rattle.ring_records.specs.declared.key.Key.{Key}
 use Rattle.ring_records.specs.declared.request.Request.{Request}
 use Rattle.ring_records.specs.declared.request.Request.TheVariants.{Stand, Who, Latest}
@@ -30,7 +31,7 @@ shapes =
     let nodes = Number 2 16 in
     let eager = Fixed (codes "eager") in
     let lazy = Fixed (codes "lazy") in
-    let capacity = Number 4096 1048576 in
+    let capacity = Number LEAST_CAPACITY GREATEST_CAPACITY in
     (ring ∷ nodes ∷ [], λ n. shape true n default_capacity)
     ∷ (ring ∷ nodes ∷ eager ∷ [], λ n. shape true n default_capacity)
     ∷ (ring ∷ nodes ∷ lazy ∷ [], λ n. shape false n default_capacity)

@@ -4,9 +4,8 @@ use Rattle.std.specs.Io.KnownBytes.{Appends}
 use Rattle.std.specs.Fmt.{decimal}
 use Rattle.std.specs.List.{list_any}
 use Rattle.ring_records.specs.Admission.{where_so}
-use Rattle.ring_records.specs.Emission.{sent}
-use Rattle.ring_records.specs.History.{taken, credit}
 use Rattle.ring_records.specs.Lists.{or_else}
+use Rattle.ring_records.specs.States.{shown_in}
 use Rattle.ring_records.specs.Texts.{reply_text, refusal_text, shown_text}
 use Rattle.ring_records.specs.declared.refusal.Refusal.{Refusal}
 use Rattle.ring_records.specs.declared.refusal.Refusal.TheVariants.{Failed}
@@ -92,9 +91,7 @@ lines_told (Stop node call tear) o = reopened_lines node o
 -- ---- what a world shows of a node
 
 abbrev pub shown_at : State → ℕ → Shown
-shown_at w node =
-    let v = state_after w.ring.size w.ring.capacity w.ring.events node in
-    record { inputs = length v.inputs; durable = v.durable; sent = length (sent node v.inputs); taken = length (taken v.inputs); credit = credit v.inputs }
+shown_at w node = shown_in node (state_after w.ring.size w.ring.capacity w.ring.events node)
 
 -- why it shows none
 abbrev pub unshown : State → ℕ → Option Refusal
@@ -165,8 +162,8 @@ pub record IsCut (script bytes : List ℕ) : Type 0 where
   pub prints : MayPrint None (lines_of script) out ring
   pub front : IsFront bytes (text_of out)
 
--- All that the first n lines of the script may print. The next line is the one at which memory was refused. However it
--- goes on from there, it prints a line or more: so n is the greatest number of lines that the text of this run shows.
+-- The bytes are all that the first n lines of the script may print, and n is as great as it can be: the line after them, at
+-- which memory was refused, prints a line or more, whatever it does.
 pub record IsUpTo (script bytes : List ℕ) : Type 0 where
   pub short : length script ≤ 1000000
   pub n : ℕ

@@ -7,7 +7,7 @@ ghost use Rattle.fault_console.specs.Commands.{commands, shapes, is_silent};
 
 use disk_model::Tear;
 use line_words::{read_bid, read_group, read_number, read_term, read_words};
-use ring_records::{Key, NodeNo, Refusal, Request};
+use ring_records::{GREATEST_CAPACITY, Key, LEAST_CAPACITY, NodeNo, Refusal, Request};
 use ring_world::Event;
 use std::alloc::{AllocError, Global};
 
@@ -97,7 +97,7 @@ fn ring_of_four(verb: &[u8], n: &[u8], mode: &[u8], capacity: &[u8]) -> Result<R
         return Err(Refusal::BadLine);
     }
     let nodes = read_nodes(n)?;
-    let capacity = read_number(capacity, 4_096, 1_048_576)? as u32;
+    let capacity = read_number(capacity, LEAST_CAPACITY as u64, GREATEST_CAPACITY as u64)? as u32;
     Ok(RingShape {
         nodes,
         eager,

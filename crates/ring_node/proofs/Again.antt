@@ -10,8 +10,8 @@ use Rattle.ring_records.specs.declared.input.Input.{Input}
 use Rattle.ring_records.specs.declared.input.Input.TheVariants.{Stand, Take, Acked}
 use Rattle.ring_records.specs.declared.msg.Msg.{Msg}
 use Rattle.ring_records.specs.Admission.{fresh, IsAdmitted, IsInTurn, IsLawful}
-use Rattle.ring_records.specs.Answer.{NodeState, launched, left_by}
-use Rattle.ring_records.specs.Answer as answers
+use Rattle.ring_records.specs.States.{NodeState, launched, left_by}
+use Rattle.ring_records.specs.States as states
 use Rattle.ring_records.specs.Emission.{sent, emit}
 use Rattle.ring_records.specs.History.{upto_of, credit}
 use Rattle.ring_records.specs.Lists.{found_after}
@@ -90,7 +90,7 @@ module _ (me k : ℕ) (h : List Input) (messages : List Msg) (is : messages ≡ 
       omega (arith, credited)
 
 -- the first inputs of those that a stop leaves are the durable ones
-pub left_first : (s : NodeState) (keep : Bool) → s.durable ≤ s.flying → take s.durable (left_by keep s) ≡ answers.durable_in s
+pub left_first : (s : NodeState) (keep : Bool) → s.durable ≤ s.flying → take s.durable (left_by keep s).inputs ≡ states.durable_in s
 left_first s true flies = take-take s.durable s.flying s.inputs flies
 left_first s false flies = take-take s.durable s.durable s.inputs (omega arith)
 
@@ -158,18 +158,18 @@ module _ (m : Member) (desk : DeskView) (reach : Reach) (queue : List HeldView) 
 
   -- ---- a crash
 
-  either : (keep : Bool) → left_by keep desk.state ≡ durable_in v
+  either : (keep : Bool) → (left_by keep desk.state).inputs ≡ durable_in v
   either true = ap (λ k. take k desk.state.inputs) here.served.idle
   either false = refl
 
-  module _ (run : ℕ) (keep : Bool) (desk' : DeskView) (queue' : List HeldView) (opened : desk' ≡ new_desk m run (left_by keep desk.state)) (none : queue' ≡ []) where
+  module _ (run : ℕ) (keep : Bool) (desk' : DeskView) (queue' : List HeldView) (opened : desk' ≡ new_desk m run (left_by keep desk.state).inputs) (none : queue' ≡ []) where
     -- its durable inputs sent what they sent before
     pub crashed_again : (reach' : Reach) → Reaches reach' (17 + m.capacity) → IsRingNode m desk' reach' queue' messages
     crashed_again reach' reaches =
-        opens_again run (left_by keep desk.state) desk' queue' opened none reach' messages (left_lawful m.node m.n m.capacity desk.state keep lawful_here) reaches (here.sends ∙ ap (sent m.node) (sym (either keep)))
+        opens_again run (left_by keep desk.state).inputs desk' queue' opened none reach' messages (left_lawful m.node m.n m.capacity desk.state keep lawful_here) reaches (here.sends ∙ ap (sent m.node) (sym (either keep)))
 
     pub crashed_shown : view_with desk' queue' ≡ restarted (durable_in v) v
-    crashed_shown = shown_again run (left_by keep desk.state) desk' queue' opened none ∙ ap (λ (l : List Input). restarted l v) (either keep)
+    crashed_shown = shown_again run (left_by keep desk.state).inputs desk' queue' opened none ∙ ap (λ (l : List Input). restarted l v) (either keep)
 
   -- ---- a stop
 
@@ -177,32 +177,32 @@ module _ (m : Member) (desk : DeskView) (reach : Reach) (queue : List HeldView) 
   flies = let within = here.served.within in omega arith
 
   -- the count of the inputs tells whether it has the batch
-  told : (keep : Bool) → v.durable < length v.inputs → nat_lt v.durable (length (left_by keep (launched desk.state))) ≡ keep
+  told : (keep : Bool) → v.durable < length v.inputs → nat_lt v.durable (length (left_by keep (launched desk.state)).inputs) ≡ keep
   told true waits = let long = length-take (launched desk.state).flying desk.state.inputs in grind (arith, nat_tests)
   told false waits = let long = length-take desk.state.durable desk.state.inputs in grind (arith, nat_tests)
 
-  by_state : (keep : Bool) → left_by keep (launched desk.state) ≡ left keep v
+  by_state : (keep : Bool) → (left_by keep (launched desk.state)).inputs ≡ left keep v
   by_state true = refl
   by_state false = refl
 
-  lawful_left : (keep : Bool) → IsHistory m (left_by keep (launched desk.state))
+  lawful_left : (keep : Bool) → IsHistory m (left_by keep (launched desk.state)).inputs
   lawful_left keep = left_lawful m.node m.n m.capacity (launched desk.state) keep lawful_here
 
   -- no more is credited by what is left
-  few_credits : (keep : Bool) → is_credited v ≡ true → credit (left_by keep (launched desk.state)) ≤ length messages
+  few_credits : (keep : Bool) → is_credited v ≡ true → credit (left_by keep (launched desk.state)).inputs ≤ length messages
   few_credits keep credited =
-      let all : credit desk.state.inputs ≤ length (sent desk.member.node (answers.durable_in desk.state)) = grind (arith, nat_tests, credited) in
-      let same : length messages ≡ length (sent desk.member.node (answers.durable_in desk.state)) = ap length (here.sends ∙ ap (λ (k : Member). sent k.node (answers.durable_in desk.state)) (sym here.is)) in
+      let all : credit desk.state.inputs ≤ length (sent desk.member.node (states.durable_in desk.state)) = grind (arith, nat_tests, credited) in
+      let same : length messages ≡ length (sent desk.member.node (states.durable_in desk.state)) = ap length (here.sends ∙ ap (λ (k : Member). sent k.node (states.durable_in desk.state)) (sym here.is)) in
       let front = fronts keep in
       omega arith
     where
-      fronts : (keep : Bool) → credit (left_by keep (launched desk.state)) ≤ credit desk.state.inputs
+      fronts : (keep : Bool) → credit (left_by keep (launched desk.state)).inputs ≤ credit desk.state.inputs
       fronts true = credit_front m.node m.n m.capacity desk.state.inputs lawful_here (launched desk.state).flying
       fronts false = credit_front m.node m.n m.capacity desk.state.inputs lawful_here desk.state.durable
 
-  module _ (run : ℕ) (keep : Bool) (desk' : DeskView) (opened : desk' ≡ new_desk m run (left_by keep (launched desk.state))) where
+  module _ (run : ℕ) (keep : Bool) (desk' : DeskView) (opened : desk' ≡ new_desk m run (left_by keep (launched desk.state)).inputs) where
     abbrev inputs : List Input
-    inputs = left_by keep (launched desk.state)
+    inputs = (left_by keep (launched desk.state)).inputs
 
     inputs_are : desk'.state.inputs ≡ inputs
     inputs_are = ap (λ (d : DeskView). d.state.inputs) opened

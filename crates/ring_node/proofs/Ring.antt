@@ -7,10 +7,10 @@ use Rattle.ring_records.specs.declared.input.Input.{Input}
 use Rattle.ring_records.specs.declared.msg.Msg.{Msg}
 use Rattle.ring_records.specs.declared.packet.Packet.{Packet}
 use Rattle.ring_records.specs.declared.request.Request.{Request}
-use Rattle.ring_records.specs.Answer.{launched, flying_in}
-use Rattle.ring_records.specs.Answer as answers
+use Rattle.ring_records.specs.States.{gained_by, launched, flying_in}
+use Rattle.ring_records.specs.States as states
 use Rattle.ring_records.specs.Emission.{sent}
-use Rattle.ring_records.specs.Member.{Member, IsHistory, gained_by}
+use Rattle.ring_records.specs.Member.{Member, IsHistory}
 use Rattle.ring_records.specs.Release.{packets}
 use Rattle.gated_journal.specs.Reading.{is_header}
 use Rattle.group_commit.specs.Desk as desks
@@ -47,7 +47,7 @@ module _ (m : Member) (desk : DeskView) (reach : Reach) (queue : List HeldView) 
     range = here.range;
     is = here.is;
     served = serving.gives desk reach queue here.served q h is;
-    sends = here.sends ∙ ap (sent m.node) (sym (serving.durable_more desk reach queue here.served (gained_by desk.member desk.state.inputs q)));
+    sends = here.sends ∙ ap (sent m.node) (sym (serving.durable_more desk reach queue here.served (gained_by desk.member desk.state q)));
     inside = here.inside;
   }
 
@@ -62,14 +62,14 @@ module _ (m : Member) (desk : DeskView) (reach : Reach) (queue : List HeldView) 
   }
 
   -- a batch landed, with these packets
-  module _ (found : List Packet) (is : found ≡ packets desk.member.node (answers.durable_in desk.state) (flying_in (launched desk.state))) where
-    carried : carried_in found ≡ carried_in (packets m.node (answers.durable_in desk.state) (flying_in (launched desk.state)))
-    carried = ap carried_in is ∙ ap (λ (k : Member). carried_in (packets k.node (answers.durable_in desk.state) (flying_in (launched desk.state)))) here.is
+  module _ (found : List Packet) (is : found ≡ packets desk.member.node (states.durable_in desk.state) (flying_in (launched desk.state))) where
+    carried : carried_in found ≡ carried_in (packets m.node (states.durable_in desk.state) (flying_in (launched desk.state)))
+    carried = ap carried_in is ∙ ap (λ (k : Member). carried_in (packets k.node (states.durable_in desk.state) (flying_in (launched desk.state)))) here.is
 
     pub few : length (carried_in found) ≤ 64
     few = let b = batch-few m.node desk.state here.served.within in let same = ap length carried in omega arith
 
-    after : messages ++ carried_in found ≡ sent m.node (answers.durable_in (desks.landed (desks.launched desk)).state)
+    after : messages ++ carried_in found ≡ sent m.node (states.durable_in (desks.landed (desks.launched desk)).state)
     after = (λ i. here.sends i ++ carried i) ∙ sent-batch m.node desk.state here.served.within
 
     lawful_here : IsHistory m desk.state.inputs

@@ -11,7 +11,7 @@ use Rattle.ring_records.specs.declared.msg.Msg.{Msg}
 use Rattle.ring_records.specs.declared.packet.Packet.{Packet}
 use Rattle.ring_records.specs.declared.packet.Packet.TheVariants.{Carry}
 use Rattle.ring_records.specs.Admission.{fresh, IsAdmitted, IsInTurn, IsLawful}
-use Rattle.ring_records.specs.Answer.{NodeState, launched, flying_in}
+use Rattle.ring_records.specs.States.{NodeState, launched, flying_in}
 use Rattle.ring_records.specs.Emission.{emit, sent, carry}
 use Rattle.ring_records.specs.History.{message_of, taken}
 use Rattle.ring_records.specs.Lists.{found_after}

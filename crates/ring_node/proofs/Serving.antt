@@ -14,16 +14,18 @@ use Rattle.disk_model.specs.declared.memory.MemDevice.{MemDevice}
 use Rattle.gated_journal.specs.Reading.{ReadsAsOneOf}
 use Rattle.gated_journal.specs.Unread.{header_at, IsFault, IsUnread}
 use Rattle.node_store.specs.Recovery.{IsNotLawful}
-use Rattle.ring_records.specs.Answer as answers
+use Rattle.ring_records.specs.States as states
 use Rattle.ring_records.specs.Lists.{EachAfter}
-use Rattle.ring_records.specs.Answer.{Answered, NodeState, launched, landed}
+use Rattle.ring_records.specs.Answer.{Answered, gained, answered}
+use Rattle.ring_records.specs.States.{NodeState, gained_by, launched, landed}
 use Rattle.ring_records.specs.Message.{is_outside}
 use Rattle.ring_records.specs.declared.refusal.Refusal.{Refusal}
 use Rattle.ring_records.specs.declared.refusal.Refusal.TheVariants.{Device, Failed, OutOfMemory}
-use Rattle.ring_records.specs.Member.{Member, member, IsHistory, gained_by}
+use Rattle.ring_records.specs.Member.{Member, member, IsHistory}
 use Rattle.group_commit.specs.Desk as desks
 use Rattle.group_commit.specs.Desk.{DeskView, new_desk, ticket_for, submitted, ended, objection, kept_at, IsHere, IsSealed}
 use Rattle.group_commit.specs.Ticket.{TicketView}
+use Rattle.ring_records.proofs.States.{plain-base, plain-landed}
 use Rattle.node_store.proofs.Standing.{lawful_asked}
 use Rattle.ring_node.specs.Node.{new_node, asked_with, restarted}
 use Rattle.ring_node.specs.Open.{is_due}
@@ -51,6 +53,7 @@ starts node n capacity run inputs reach lawful reaches = record {
   takes = refl;
   works = refl;
   idle = refl;
+  plain = record { base = refl; none = refl };
   within = omega arith;
   lawful = lawful;
   held = held_none node run (length inputs);
@@ -72,11 +75,11 @@ none_lawful me n capacity = tt
 -- ---- a node that is stopped
 
 -- whether the batch landed or flies for good, the images read as what was launched
-pub stopped : (header : Member) (s t : NodeState) (image : List ℕ) → (t ≡ launched s) ⊎ (t ≡ landed (launched s)) → ReadsAsOneOf header (answers.durable_in t) (answers.flown_in t) image
-    → ReadsAsOneOf header (answers.durable_in (launched s)) (answers.flown_in (launched s)) image
-stopped header s t image (inl e) read = subst (λ (u : NodeState). ReadsAsOneOf header (answers.durable_in u) (answers.flown_in u) image) e read
+pub stopped : (header : Member) (s t : NodeState) (image : List ℕ) → (t ≡ launched s) ⊎ (t ≡ landed (launched s)) → ReadsAsOneOf header (states.durable_in t) (states.flown_in t) image
+    → ReadsAsOneOf header (states.durable_in (launched s)) (states.flown_in (launched s)) image
+stopped header s t image (inl e) read = subst (λ (u : NodeState). ReadsAsOneOf header (states.durable_in u) (states.flown_in u) image) e read
 stopped header s t image (inr e) read =
-    let all = subst (λ (u : NodeState). ReadsAsOneOf header (answers.durable_in u) (answers.flown_in u) image) e read in
+    let all = subst (λ (u : NodeState). ReadsAsOneOf header (states.durable_in u) (states.flown_in u) image) e read in
     ⊎_elim (λ old. inr old) (λ new. inr new) all
 
 -- ---- the oldest ticket
@@ -128,7 +131,7 @@ module _ (desk : DeskView) (reach : Reach) (queue : List HeldView) (here : IsSer
     gives =
         let m = desk.member in
         let s = desk.state in
-        let more = gained_by m s.inputs q in
+        let more = gained_by m s q in
         let a = desks.answered desk q in
         let long = length-append s.inputs more in
         let within = here.within in
@@ -136,8 +139,9 @@ module _ (desk : DeskView) (reach : Reach) (queue : List HeldView) (here : IsSer
           takes = here.takes;
           works = here.works;
           idle = here.idle;
+          plain = record { base = here.plain.base; none = here.plain.none };
           within = omega arith;
-          lawful = lawful_asked m.node m.n m.capacity s.inputs q here.lawful;
+          lawful = lawful_asked m s q here.plain here.lawful;
           held = held_more m.node desk.run 0 (length s.inputs) (length (s.inputs ++ more)) desk.issued a h desk.tickets queue is (omega arith) (omega arith) here.held;
           reaches = here.reaches;
         }
@@ -146,7 +150,13 @@ module _ (desk : DeskView) (reach : Reach) (queue : List HeldView) (here : IsSer
     unfolding asked_with
     gives_shown =
         let shown = shown_more desk.member.node desk.run 0 (length desk.state.inputs) desk.issued (desks.answered desk q) h desk.tickets queue here.held in
-        λ i. record (view_with (submitted q desk) (queue ++ h ∷ [])) { held = shown i }
+        let m = desk.member in
+        let base = plain-base desk.state here.plain in
+        (λ i. record (view_with (submitted q desk) (queue ++ h ∷ [])) { held = shown i })
+        ∙ (λ i. record (view_with (submitted q desk) (queue ++ h ∷ [])) {
+          inputs = desk.state.inputs ++ gained m.node m.n m.capacity (base i) desk.state.inputs q;
+          held = shown_with desk.tickets queue ++ record { serial = h.serial; kept = answered m.node m.n m.capacity (base i) desk.state.inputs q } ∷ [];
+        })
 
   -- its durable inputs stay
   pub durable_more : (more : List Input) → take desk.state.durable (desk.state.inputs ++ more) ≡ take desk.state.durable desk.state.inputs
@@ -158,6 +168,7 @@ module _ (desk : DeskView) (reach : Reach) (queue : List HeldView) (here : IsSer
     takes = here.takes;
     works = here.works;
     idle = refl;
+    plain = plain-landed (launched desk.state) (record { base = here.plain.base; none = here.plain.none });
     within = omega arith;
     lawful = here.lawful;
     held = here.held;
@@ -175,6 +186,7 @@ module _ (desk : DeskView) (reach : Reach) (queue : List HeldView) (here : IsSer
       takes = here.takes;
       works = here.works;
       idle = here.idle;
+      plain = here.plain;
       within = here.within;
       lawful = here.lawful;
       held = others_held desk 0 (length desk.state.inputs) queue here.held h rest is;

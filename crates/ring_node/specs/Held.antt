@@ -1,17 +1,18 @@
 -- A node at work with its open tickets, and the messages that it sent.
-use Rattle.std.specs.Prelude.{ℕ, ◌≡◌, ◌+◌, ◌≤◌, true, false, List, [], ◌∷◌, length, Option}
+use Rattle.std.specs.Prelude.{ℕ, ◌≡◌, ◌≤◌, true, false, List, [], ◌∷◌, length, Option}
 use Rattle.disk_model.specs.Disk.{Reach, Reaches}
 use Rattle.disk_model.specs.FuseDevice as fuse
 use Rattle.disk_model.specs.MemDevice as memory
 use Rattle.disk_model.specs.declared.fuse.FuseDevice.{FuseDevice}
 use Rattle.disk_model.specs.declared.memory.MemDevice.{MemDevice}
 use Rattle.ring_records.specs.declared.msg.Msg.{Msg}
-use Rattle.ring_records.specs.Answer.{Answered, durable_in}
+use Rattle.ring_records.specs.Answer.{Answered}
+use Rattle.ring_records.specs.States.{IsPlain, durable_in}
 use Rattle.ring_records.specs.Emission.{sent}
 use Rattle.ring_records.specs.Message.{candidate_of}
 use Rattle.std.specs.List.{Contains}
 use Rattle.ring_records.specs.Member.{Member, IsHistory}
-use Rattle.gated_journal.specs.Reading.{is_header}
+use Rattle.gated_journal.specs.Reading.{device_size, is_header}
 use Rattle.group_commit.specs.Desk.{DeskView}
 use Rattle.group_commit.specs.Ticket.{TicketView, ticket_with}
 use Rattle.ring_node.specs.Node.{NodeView}
@@ -29,8 +30,8 @@ abbrev pub MatchFirst : (HeldView → Type 0) → List HeldView → Type 0
 MatchFirst P [] = Unit {0}
 MatchFirst P (h ∷ hs) = P h
 
--- The queue has the tickets of this node and opening, in order, and no other. Their replies rest on no fewer inputs each
--- than the one before, from so many inputs up to so many.
+-- The queue has just these tickets of this node and opening, in their order, one for one. The first rests on at least
+-- `from` inputs, each on no fewer than the one before it, and the last on at most `to`: so those that are due come first.
 unfoldable pub AreHeld : ℕ → ℕ → ℕ → ℕ → List (ℕ × Answered) → List HeldView → Type 0
 AreHeld node run from to [] [] = from ≤ to
 AreHeld node run from to [] (h ∷ queue) = ⊥
@@ -41,7 +42,7 @@ AreHeld node run from to (t ∷ tickets) (h ∷ queue) = record {
   others : AreHeld node run t.1.answer.number to tickets queue;
 }
 
--- each ticket with its number in the ring, and what is kept for it
+-- the open tickets: what is kept for each, with the number that the ring gave it
 unfoldable pub shown_with : List (ℕ × Answered) → List HeldView → List Open
 shown_with [] queue = []
 shown_with (t ∷ tickets) [] = []
@@ -62,16 +63,17 @@ view_with desk queue = record {
 abbrev pub reach_of : FuseDevice MemDevice → Reach
 reach_of device = fuse.reach_of memory.reach_of device
 
--- It takes requests, nothing flies, its open tickets are these, and its device is reliable to the journal's end: no fuse
--- was armed.
+-- It takes requests, nothing flies, none of its inputs is summarised, its open tickets are these, and its device is reliable
+-- to the journal's end: no fuse was armed.
 pub record IsServed (desk : DeskView) (reach : Reach) (queue : List HeldView) : Type 0 where
   pub takes : desk.closed ≡ false
   pub works : desk.failed ≡ false
   pub idle : desk.state.flying ≡ desk.state.durable
+  pub plain : IsPlain desk.state
   pub within : desk.state.durable ≤ length desk.state.inputs
   pub lawful : IsHistory desk.member desk.state.inputs
   pub held : AreHeld desk.member.node desk.run 0 (length desk.state.inputs) desk.tickets queue
-  pub reaches : Reaches reach (17 + desk.member.capacity)
+  pub reaches : Reaches reach (device_size desk.member.capacity)
 
 -- ---- a node of the ring
 

@@ -2,10 +2,10 @@
 use Rattle.std.specs.Prelude.{ℕ, ◌+◌, Bool, nat_le, List, [], ◌∷◌, ◌++◌, length, take, Option}
 use Rattle.ring_records.specs.declared.input.Input.{Input}
 use Rattle.ring_records.specs.declared.request.Request.{Request}
-use Rattle.ring_records.specs.Answer.{NodeState, launched, left_by}
+use Rattle.ring_records.specs.States.{NodeState, gained_by, answered_by, plain, launched, left_by}
 use Rattle.ring_records.specs.Emission.{sent}
 use Rattle.ring_records.specs.History.{credit}
-use Rattle.ring_records.specs.Member.{Member, member, gained_by, answered_by}
+use Rattle.ring_records.specs.Member.{Member, member}
 use Rattle.ring_node.specs.Open.{Open}
 
 -- which node it is, of how large a ring, and its capacity; the inputs that it accepted, and how many of them are
@@ -20,9 +20,9 @@ pub record NodeView : Type 0 where
 abbrev pub new_node : ℕ → ℕ → ℕ → NodeView
 new_node me n capacity = record { member = member me n capacity; inputs = []; durable = 0; held = []; issued = 0 }
 
--- V, d and f
+-- V, d and f: none of V is summarised
 abbrev pub state_of : NodeView → NodeState
-state_of v = record { inputs = v.inputs; durable = v.durable; flying = v.durable }
+state_of v = plain v.inputs v.durable v.durable
 
 -- its durable inputs
 abbrev pub durable_in : NodeView → List Input
@@ -31,11 +31,11 @@ durable_in v = take v.durable v.inputs
 -- ---- requests
 
 abbrev pub ticket_of : Option ℕ → NodeView → Request → Open
-ticket_of serial v q = record { serial = serial; kept = answered_by v.member v.inputs q }
+ticket_of serial v q = record { serial = serial; kept = answered_by v.member (state_of v) q }
 
 -- after it is asked: its ticket is open
 unfoldable pub asked_with : Option ℕ → Request → NodeView → NodeView
-asked_with serial q v = record v { inputs = v.inputs ++ gained_by v.member v.inputs q; held = v.held ++ ticket_of serial v q ∷ []; issued = v.issued + 1 }
+asked_with serial q v = record v { inputs = v.inputs ++ gained_by v.member (state_of v) q; held = v.held ++ ticket_of serial v q ∷ []; issued = v.issued + 1 }
 
 -- ---- batches
 
@@ -59,4 +59,4 @@ restarted inputs v = record v { inputs = inputs; durable = length inputs; held =
 
 -- the inputs that a stop within a flush leaves: with the batch, or without
 abbrev pub left : Bool → NodeView → List Input
-left keeps_flying v = left_by keeps_flying (launched (state_of v))
+left keeps_flying v = (left_by keeps_flying (launched (state_of v))).inputs

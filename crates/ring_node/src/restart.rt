@@ -1,10 +1,11 @@
 // A node that loses its memory, and is opened again from its device.
+ghost use Rattle.gated_journal.specs.Reading.{device_size};
 ghost use Rattle.std.specs.Prelude.{◌≡◌, ◌⊎◌, ◌+◌, ◌≤◌, ◌<◌, ℕ, length, Bool, true, false, take, IfOk, OnOk};
 ghost use Rattle.std.specs.List.{filter_map};
 ghost use Rattle.disk_model.specs.Disk.{Reaches};
 ghost use Rattle.disk_model.specs.FuseDevice.{inner_of};
 ghost use Rattle.disk_model.specs.MemDevice.{disk_of, limit_of};
-ghost use Rattle.ring_records.specs.Answer.{NodeState, launched, landed, left_by};
+ghost use Rattle.ring_records.specs.States.{NodeState, launched, landed, left_by};
 ghost use Rattle.ring_records.specs.Emission.{sent};
 ghost use Rattle.ring_records.specs.History.{credit};
 ghost use Rattle.ring_records.specs.Member.{member, IsHistory};
@@ -159,11 +160,11 @@ fn reopened(
     capacity: u32,
     run: u64,
 ) -> Result<Node<Disk>, AllocError>
-    requires long { 17 + capacity ≤ limit_of device }
+    requires long { device_size capacity ≤ limit_of device }
     requires holds { (s : NodeState) × IsHistory (member me n capacity) s.inputs × Holds (member me n capacity) (disk_of device) s }
     ensures desk { IfOk result (λ node. (s : NodeState) → IsHistory (member me n capacity) s.inputs → Holds (member me n capacity) (disk_of device) s
-        → (keep : Bool) × (nodes.desk_of node ≡ new_desk (member me n capacity) run (left_by keep s))) }
-    ensures reaches { IfOk result (λ node. Reaches (reach_of (nodes.device_of node)) (17 + capacity)) }
+        → (keep : Bool) × (nodes.desk_of node ≡ new_desk (member me n capacity) run (left_by keep s).inputs)) }
+    ensures reaches { IfOk result (λ node. Reaches (reach_of (nodes.device_of node)) (device_size capacity)) }
 {
     match Node::recover(alloc, FuseDevice::idle(device), me, n, run) {
         Ok(node) => Ok(node),

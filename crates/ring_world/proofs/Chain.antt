@@ -6,7 +6,7 @@
 -- the candidate of every other node, and two leaders of different nodes would beat each other.
 --
 -- All of it is told of the run's end, where each node still has the bid for the key, or none, that the token met.
-use Rattle.std.proofs.Common.{ℕ, zero, suc, ◌-◌, ◌≡◌, ◌≢◌, ◌≤◌, ◌<◌, true, List, Option, Some, refl, sym, ap, ◌∙◌, subst, inl, inr, arith}
+use Rattle.std.proofs.Common.{ℕ, zero, suc, ◌-◌, ◌++◌, ◌≡◌, ◌≢◌, ◌≤◌, ◌<◌, true, List, Option, Some, refl, sym, ap, ◌∙◌, subst, inl, inr, arith}
 use Rattle.std.specs.List.{Contains}
 use Rattle.std.proofs.lemmas.Bool.{cases_eq}
 use Rattle.ring_records.specs.declared.candidate.Candidate.{Candidate}
@@ -16,13 +16,14 @@ use Rattle.ring_records.specs.declared.key.Key.{Key}
 use Rattle.ring_records.specs.declared.msg.Msg.{Msg}
 use Rattle.ring_records.specs.declared.msg.Msg.TheVariants.{Token, Elected}
 use Rattle.ring_records.specs.Emission.{is_below, sent}
-use Rattle.ring_records.specs.History.{taken, stood}
-use Rattle.ring_records.specs.Leader.{leader}
+use Rattle.ring_records.specs.History.{taken, first_stand}
+use Rattle.ring_records.specs.Leader.{first_leader}
 use Rattle.ring_records.specs.Message.{candidate_of}
 use Rattle.ring_records.specs.Order.{is_less}
 use Rattle.ring_records.specs.Place.{before}
 use Rattle.ring_records.specs.Ring.{part, IsLegal}
-use Rattle.ring_records.proofs.Growth.{leader-kept}
+use Rattle.ring_records.proofs.Growth.{first_leader-kept}
+use Rattle.ring_records.proofs.History.{leader-shown}
 use Rattle.ring_records.proofs.Keys.{is_less-one_way}
 use Rattle.ring_records.proofs.OneKey.{KeyFacts, allowed_facts, IsKnownBy, IsPassedBy}
 use Rattle.ring_records.proofs.Parts.{IsNode, Parts, legal_parts}
@@ -31,13 +32,29 @@ use Rattle.ring_world.specs.Agreement.{IsKnown}
 
 -- the candidate of node k, if it has one for the key, is less than c
 abbrev IsBeaten : List (ℕ × Input) → Key → Candidate → ℕ → Type 0
-IsBeaten run key c k = is_below (stood (part run k) key) k c ≡ true
+IsBeaten run key c k = is_below (first_stand (part run k) key) k c ≡ true
 
 -- what is so of a candidate whose token came home
 pub record HasWon (n : ℕ) (run : List (ℕ × Input)) (key : Key) (c : Candidate) : Type 0 where
   pub node : IsNode n c.node
-  pub stands : stood (part run c.node) key ≡ Some c.bid
+  pub stands : first_stand (part run c.node) key ≡ Some c.bid
   pub beaten : (k : ℕ) → IsNode n k → (k ≡ c.node → ⊥) → IsBeaten run key c k
+
+-- c is the first leader that the part of some node shows for the key
+pub record IsShown (run : List (ℕ × Input)) (key : Key) (c : Candidate) : Type 0 where
+  pub node : ℕ
+  pub shows : first_leader node (part run node) key ≡ Some c
+
+-- what the first inputs of a part show, all of it shows
+pub shown_by : (run : List (ℕ × Input)) (key : Key) (c : Candidate) (i : ℕ) (inputs rest : List Input) → inputs ++ rest ≡ part run i → first_leader i inputs key ≡ Some c → IsShown run key c
+shown_by run key c i inputs rest front shows = record {
+  node = i;
+  shows = subst (λ (h : List Input). first_leader i h key ≡ Some c) front (first_leader-kept i inputs rest key c shows);
+}
+
+-- a leader that is known is shown
+pub known_shown : (run : List (ℕ × Input)) (key : Key) (c : Candidate) → IsKnown run key c → IsShown run key c
+known_shown run key c k = shown_by run key c k.node k.inputs k.rest k.front (leader-shown k.node k.inputs key c k.leads)
 
 -- ---- one token, and the message that tells of it
 
@@ -47,12 +64,14 @@ module _ (n : ℕ) (run : List (ℕ × Input)) (parts : Parts n run) (key : Key)
 
   -- the token that a node took was sent by the node before it
   came : (d : ℕ) → d < n → Contains (taken (part run (ahead n c.node (suc d)))) (Token key c) → IsPassedBy (ahead n c.node d) key (part run (ahead n c.node d)) c
-  came d h t = (facts (ahead n c.node d)).tokens c (subst (λ k. Contains (sent k (part run k)) (Token key c)) (before-ahead n c.node d origin.low origin.high h) (parts.linked (ahead n c.node (suc d)) (Token key c) t))
+  came d h t =
+      (facts (ahead n c.node d)).tokens c (subst (λ k. Contains (sent k (part run k)) (Token key c)) (before-ahead n c.node d origin.low origin.high h) (parts.linked (ahead n c.node (suc d)) (Token key c) t))
 
   -- a token that was taken d + 1 places behind its node met no candidate as great at the places between
-  met : (d : ℕ) → d < n → Contains (taken (part run (ahead n c.node (suc d)))) (Token key c) → record { stood : stood (part run c.node) key ≡ Some c.bid; beaten : (e : ℕ) → 1 ≤ e → e ≤ d → IsBeaten run key c (ahead n c.node e) }
+  met : (d : ℕ) → d < n → Contains (taken (part run (ahead n c.node (suc d)))) (Token key c)
+      → record { stood : first_stand (part run c.node) key ≡ Some c.bid; beaten : (e : ℕ) → 1 ≤ e → e ≤ d → IsBeaten run key c (ahead n c.node e) }
   met zero h t = elim (came zero h t) [
-    | inl p ↦ record { stood = subst (λ k. stood (part run k) key ≡ Some c.bid) (ahead-start n c.node origin.high) p.1; beaten = λ e l u. absurd (omega arith) }
+    | inl p ↦ record { stood = subst (λ k. first_stand (part run k) key ≡ Some c.bid) (ahead-start n c.node origin.high) p.1; beaten = λ e l u. absurd (omega arith) }
     | inr p ↦ absurd (p.0 (sym (ahead-start n c.node origin.high)))
   ]
   met (suc d) h t = elim (came (suc d) h t) [
@@ -112,23 +131,22 @@ took i key h c (inl p) = (Token key c, p.1, refl)
 took i key h c (inr p) = (Elected key c, p.1, refl)
 
 module _ (n : ℕ) (run : List (ℕ × Input)) (parts : Parts n run) (key : Key) where
-  won : (c : Candidate) → IsKnown run key c → HasWon n run key c
+  won : (c : Candidate) → IsShown run key c → HasWon n run key c
   won c k =
-      let leads = subst (λ (h : List Input). leader k.node h key ≡ Some c) k.front (leader-kept k.node k.inputs k.rest key c k.leads) in
-      let cause = (allowed_facts k.node n key (part run k.node) (parts.allowed k.node)).leads c leads in
+      let cause = (allowed_facts k.node n key (part run k.node) (parts.allowed k.node)).leads c k.shows in
       let t = took k.node key (part run k.node) c cause in
       let origin : IsNode n c.node = subst (λ (d : Candidate). IsNode n d.node) t.2 (parts.origin (before n k.node) t.0 (parts.linked k.node t.0 t.1)) in
       home n run parts key c origin (known n run parts key c origin k.node (parts.takers k.node t.0 t.1) cause)
 
   -- another candidate that stands is less
-  lesser : (c d : Candidate) → HasWon n run key c → stood (part run d.node) key ≡ Some d.bid → IsNode n d.node → (d.node ≡ c.node → ⊥) → is_less d c ≡ true
+  lesser : (c d : Candidate) → HasWon n run key c → first_stand (part run d.node) key ≡ Some d.bid → IsNode n d.node → (d.node ≡ c.node → ⊥) → is_less d c ≡ true
   unfolding is_below
   lesser c d w s node ne = subst (λ o. is_below o d.node c ≡ true) s (w.beaten d.node node ne)
 
   -- a node stands with one bid
-  one_bid : (c d : Candidate) → stood (part run c.node) key ≡ Some c.bid → stood (part run d.node) key ≡ Some d.bid → c.node ≡ d.node → c ≡ d
+  one_bid : (c d : Candidate) → first_stand (part run c.node) key ≡ Some c.bid → first_stand (part run d.node) key ≡ Some d.bid → c.node ≡ d.node → c ≡ d
   one_bid c d s t e =
-      let both : ◌≡◌ {A = Option ℕ} (Some c.bid) (Some d.bid) = sym s ∙ (ap (λ k. stood (part run k) key) e ∙ t) in
+      let both : ◌≡◌ {A = Option ℕ} (Some c.bid) (Some d.bid) = sym s ∙ (ap (λ k. first_stand (part run k) key) e ∙ t) in
       let bids : c.bid ≡ d.bid = cc in
       λ i. record { bid = bids i; node = e i }
 
@@ -138,18 +156,18 @@ module _ (n : ℕ) (run : List (ℕ × Input)) (parts : Parts n run) (key : Key)
     | inr ne ↦ absurd (is_less-one_way c d (lesser d c w v.stands v.node ne) (lesser c d v w.stands w.node (λ q. ne (sym q))))
   ]
 
-pub agree : (n : ℕ) (run : List (ℕ × Input)) (key : Key) (c d : Candidate) → IsLegal n run → IsKnown run key c → IsKnown run key d → c ≡ d
+pub agree : (n : ℕ) (run : List (ℕ × Input)) (key : Key) (c d : Candidate) → IsLegal n run → IsShown run key c → IsShown run key d → c ≡ d
 agree n run key c d legal j k =
     let parts = legal_parts n run legal in
     one_winner n run parts key c d (won n run parts key c j) (won n run parts key d k)
 
-pub stands : (n : ℕ) (run : List (ℕ × Input)) (key : Key) (c : Candidate) → IsLegal n run → IsKnown run key c → Contains run (c.node, Stand key c.bid)
+pub stands : (n : ℕ) (run : List (ℕ × Input)) (key : Key) (c : Candidate) → IsLegal n run → IsShown run key c → Contains run (c.node, Stand key c.bid)
 stands n run key c legal k =
     let parts = legal_parts n run legal in
     let w = won n run parts key c k in
     parts.in_run c.node (Stand key c.bid) ((allowed_facts c.node n key (part run c.node) (parts.allowed c.node)).stood_in c.bid w.stands)
 
-pub greatest : (n : ℕ) (run : List (ℕ × Input)) (key : Key) (c d : Candidate) → IsLegal n run → IsKnown run key c → Contains run (d.node, Stand key d.bid) → d ≢ c → is_less d c ≡ true
+pub greatest : (n : ℕ) (run : List (ℕ × Input)) (key : Key) (c d : Candidate) → IsLegal n run → IsShown run key c → Contains run (d.node, Stand key d.bid) → d ≢ c → is_less d c ≡ true
 greatest n run key c d legal k s ne =
     let parts = legal_parts n run legal in
     let w = won n run parts key c k in

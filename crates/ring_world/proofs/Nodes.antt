@@ -7,11 +7,10 @@ use Rattle.std.proofs.lemmas.List.{length-append, length-set, get_or-set_same, g
 use Rattle.std.proofs.lemmas.List.Elements.{Contains-push, Contains-push_cases, Contains-append_left}
 use Rattle.ring_records.specs.declared.request.Request.{Request}
 use Rattle.ring_records.specs.Admission.{fresh}
-use Rattle.ring_records.specs.Member as history
 use Rattle.ring_records.specs.Member.{member}
 use Rattle.ring_records.specs.States.{NodeState, is_idle, answered_by, opened, asked, launched, landed, left_by}
 use Rattle.ring_records.proofs.Leader.{Contains-nil}
-use Rattle.ring_node.specs.Node.{NodeView, new_node, durable_in, ticket_of, asked_with, flushed, restarted, left}
+use Rattle.ring_node.specs.Node.{NodeView, new_node, state_of, durable_in, ticket_of, asked_with, flushed, restarted, left}
 use Rattle.ring_node.specs.Open.{Open, due, is_due}
 use Rattle.ring_world.specs.Events.{Replied, Action, Submit, Launch, Land, Crash, Process, act, process, IsDelivered, IsReleasable, May, MayHappen}
 use Rattle.ring_world.specs.Ring.{release_of}
@@ -67,7 +66,7 @@ module _ (n capacity : ℕ) (events : List (ℕ × Action)) (nodes : List NodeVi
     abbrev submission : Request → List (ℕ × Action)
     submission q = (i, Submit q) ∷ []
 
-    pub answered_same : (q : Request) → history.answered_by v.member v.inputs q ≡ answered_by (member i n capacity) p.state q
+    pub answered_same : (q : Request) → answered_by v.member (state_of v) q ≡ answered_by (member i n capacity) p.state q
     answered_same q t = answered_by (mine.is t) (mine.state t) q
 
     asked_here : (serial : Option ℕ) (q : Request) → ShowsNode n capacity (events ++ submission q) i (asked_with serial q v)

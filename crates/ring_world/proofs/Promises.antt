@@ -13,19 +13,19 @@ use Rattle.ring_records.specs.declared.request.Request.{Request}
 use Rattle.ring_records.specs.declared.request.Request.TheVariants as ask
 use Rattle.ring_records.specs.Answer.{Answer, reply}
 use Rattle.ring_records.specs.Fitting.{RingFits}
-use Rattle.ring_records.specs.Leader.{leader, latest}
+use Rattle.ring_records.specs.Leader.{first_leader, leader, latest}
 use Rattle.ring_records.specs.Lists.{joined_after}
 use Rattle.ring_records.specs.Order.{is_less}
 use Rattle.ring_records.specs.Ring.{part, IsLegal}
 use Rattle.ring_records.specs.States.{NodeState, IsNodeState, durable_in}
-use Rattle.ring_records.proofs.Growth.{leader-kept, EachAfter-front, EachAfter-at, take-less}
+use Rattle.ring_records.proofs.Growth.{first_leader-kept, EachAfter-front, EachAfter-at, take-less}
+use Rattle.ring_records.proofs.History.{leader-shown}
 use Rattle.ring_records.proofs.Leader.{Contains-nil, Contains-cons_cases, latest-leads}
 use Rattle.ring_records.proofs.Lists.{none≢some, joined_after-append}
-use Rattle.ring_world.specs.Agreement.{IsKnown}
 use Rattle.ring_world.specs.Committed.{committed_by, committed}
 use Rattle.ring_world.specs.Events.{Thing, Replied, Sent, Shown, Rests, Action, Release, state_after, IsDurable, process, IsReleasable, May, MayHappen, IsSchedule}
 use Rattle.ring_world.specs.Released.{IsKept, named_by, named, IsAnnounced}
-use Rattle.ring_world.proofs.Chain.{agree, stands, greatest}
+use Rattle.ring_world.proofs.Chain.{IsShown, shown_by, agree, stands, greatest}
 use Rattle.ring_world.proofs.Credits.{link_fits}
 use Rattle.ring_world.proofs.Runs.{part-append}
 use Rattle.ring_world.proofs.Schedules.{Holds, schedule_holds}
@@ -102,17 +102,19 @@ prefix_kept n capacity early late i t s =
 pub committed_legal : (n capacity : ℕ) (events : List (ℕ × Action)) → IsSchedule n capacity events → IsLegal n (committed n capacity events)
 committed_legal n capacity events s = (schedule_holds n capacity events s).legal
 
-pub committed_parts : (n capacity : ℕ) (events : List (ℕ × Action)) (i : ℕ) → IsSchedule n capacity events → part (committed n capacity events) i ≡ take (state_after n capacity events i).durable (state_after n capacity events i).inputs
+pub committed_parts : (n capacity : ℕ) (events : List (ℕ × Action)) (i : ℕ) → IsSchedule n capacity events
+    → part (committed n capacity events) i ≡ take (state_after n capacity events i).durable (state_after n capacity events i).inputs
 committed_parts n capacity events i s = (schedule_holds n capacity events s).parts i
 
 -- what is durable in a schedule fits
 pub ring_fits : (n capacity : ℕ) (events : List (ℕ × Action)) → IsSchedule n capacity events → RingFits n (λ i. durable_in (state_after n capacity events i))
 ring_fits n capacity events s =
-    let known : (i : ℕ) (key : Key) (c : Candidate) → leader i (durable_in (state_after n capacity events i)) key ≡ Some c → IsKnown (committed n capacity events) key c =
-    λ i key c leads. record { node = i; inputs = durable_in (state_after n capacity events i); rest = []; front = append-nil _ ∙ sym (committed_parts n capacity events i s); leads = leads } in
+    let shown : (i : ℕ) (key : Key) (c : Candidate) → leader i (durable_in (state_after n capacity events i)) key ≡ Some c → IsShown (committed n capacity events) key c =
+    λ i key c leads. shown_by (committed n capacity events) key c i (durable_in (state_after n capacity events i)) [] (append-nil _ ∙ sym (committed_parts n capacity events i s))
+    (leader-shown i (durable_in (state_after n capacity events i)) key c leads) in
     record {
       links = λ i low high. link_fits n capacity events s i low high;
-      leaders = λ i j low high low_j high_j key c d one other. agree n (committed n capacity events) key c d (committed_legal n capacity events s) (known i key c one) (known j key d other);
+      leaders = λ i j low high low_j high_j key c d one other. agree n (committed n capacity events) key c d (committed_legal n capacity events s) (shown i key c one) (shown j key d other);
     }
 
 -- ---- answers that name a leader
@@ -146,39 +148,39 @@ reply-leads me n capacity base h (ask.Stand asked bid) key c e = none≢some (ke
 reply-leads me n capacity base h (ask.Take msg_no msg) key c e = none≢some (key, c) e
 reply-leads me n capacity base h (ask.Acked upto) key c e = none≢some (key, c) e
 
--- the inputs that a thing rests on show the leader that it names
-rests-leads : (me n capacity : ℕ) (h : List Input) (t : Thing) (key : Key) (c : Candidate) → Rests me n capacity h t → named t ≡ Some (key, c) → leader me h key ≡ Some c
+-- The inputs that a thing rests on show the leader that it names. A reply was given by the first of them.
+rests-shows : (me n capacity : ℕ) (h : List Input) (t : Thing) (key : Key) (c : Candidate) → Rests me n capacity h t → named t ≡ Some (key, c) → first_leader me h key ≡ Some c
 unfolding Rests named
-rests-leads me n capacity h (Replied a) key c r e =
+rests-shows me n capacity h (Replied a) key c r e =
     let answers = r.1.answers in
     let said = reply-leads me n capacity r.1.base (take answers.before h) a.question key c (ap (named_by a.question) (sym (ap (λ (b : Answer). b.reply) answers.same)) ∙ e) in
-    subst (λ g. leader me g key ≡ Some c) (take-append-drop answers.before h) (leader-kept me (take answers.before h) (drop answers.before h) key c said)
-rests-leads me n capacity h (Sent packet) key c r e = none≢some (key, c) e
-rests-leads me n capacity h (Shown asked d) key c r e =
+    let shown = leader-shown me (take answers.before h) key c said in
+    subst (λ g. first_leader me g key ≡ Some c) (take-append-drop answers.before h) (first_leader-kept me (take answers.before h) (drop answers.before h) key c shown)
+rests-shows me n capacity h (Sent packet) key c r e = none≢some (key, c) e
+rests-shows me n capacity h (Shown asked d) key c r e =
     let both = same_Some (asked, d) (key, c) e in
-    ap (leader me h) (sym (ap (λ (w : Key × Candidate). w.0) both)) ∙ (r ∙ ap (λ (w : Key × Candidate). Some w.1) both)
+    ap (first_leader me h) (sym (ap (λ (w : Key × Candidate). w.0) both)) ∙ (leader-shown me h asked d r ∙ ap (λ (w : Key × Candidate). Some w.1) both)
 
--- a leader that was announced is known in the run
-announced-known : (n capacity : ℕ) (events : List (ℕ × Action)) (key : Key) (c : Candidate) → IsSchedule n capacity events → IsAnnounced events key c → IsKnown (committed n capacity events) key c
-announced-known n capacity events key c s a =
+-- a leader that was announced is shown in the run
+announced-shown : (n capacity : ℕ) (events : List (ℕ × Action)) (key : Key) (c : Candidate) → IsSchedule n capacity events → IsAnnounced events key c → IsShown (committed n capacity events) key c
+announced-shown n capacity events key c s a =
     let at = split_at events (a.node, Release a.thing) a.released in
     let now = state_after n capacity events a.node in
     let kept : IsKept a.node n capacity a.thing (state_after n capacity at.0 a.node) now =
     subst (λ es. IsKept a.node n capacity a.thing (state_after n capacity at.0 a.node) (state_after n capacity es a.node)) (sym at.2)
     (prefix_kept n capacity at.0 at.1 a.node a.thing (subst (IsSchedule n capacity) at.2 s)) in
-    record {
-      node = a.node;
-      inputs = take kept.number now.inputs;
-      rest = drop kept.number (take now.durable now.inputs);
-      front = take-less kept.number now.durable now.inputs kept.is_durable ∙ sym (committed_parts n capacity events a.node s);
-      leads = rests-leads a.node n capacity (take kept.number now.inputs) a.thing key c (subst (λ h. Rests a.node n capacity h a.thing) (sym kept.same) kept.rested.rests) a.names;
-    }
+    shown_by (committed n capacity events) key c a.node (take kept.number now.inputs) (drop kept.number (take now.durable now.inputs))
+    (take-less kept.number now.durable now.inputs kept.is_durable ∙ sym (committed_parts n capacity events a.node s))
+    (rests-shows a.node n capacity (take kept.number now.inputs) a.thing key c (subst (λ h. Rests a.node n capacity h a.thing) (sym kept.same) kept.rested.rests) a.names)
 
 pub one_leader : (n capacity : ℕ) (events : List (ℕ × Action)) (key : Key) (c d : Candidate) → IsSchedule n capacity events → IsAnnounced events key c → IsAnnounced events key d → c ≡ d
-one_leader n capacity events key c d s a b = agree n (committed n capacity events) key c d (committed_legal n capacity events s) (announced-known n capacity events key c s a) (announced-known n capacity events key d s b)
+one_leader n capacity events key c d s a b =
+    agree n (committed n capacity events) key c d (committed_legal n capacity events s) (announced-shown n capacity events key c s a) (announced-shown n capacity events key d s b)
 
-pub leader_stands : (n capacity : ℕ) (events : List (ℕ × Action)) (key : Key) (c : Candidate) → IsSchedule n capacity events → IsAnnounced events key c → Contains (committed n capacity events) (c.node, Stand key c.bid)
-leader_stands n capacity events key c s a = stands n (committed n capacity events) key c (committed_legal n capacity events s) (announced-known n capacity events key c s a)
+pub leader_stands : (n capacity : ℕ) (events : List (ℕ × Action)) (key : Key) (c : Candidate) → IsSchedule n capacity events → IsAnnounced events key c
+    → Contains (committed n capacity events) (c.node, Stand key c.bid)
+leader_stands n capacity events key c s a = stands n (committed n capacity events) key c (committed_legal n capacity events s) (announced-shown n capacity events key c s a)
 
-pub leader_greatest : (n capacity : ℕ) (events : List (ℕ × Action)) (key : Key) (c d : Candidate) → IsSchedule n capacity events → IsAnnounced events key c → Contains (committed n capacity events) (d.node, Stand key d.bid) → d ≢ c → is_less d c ≡ true
-leader_greatest n capacity events key c d s a = greatest n (committed n capacity events) key c d (committed_legal n capacity events s) (announced-known n capacity events key c s a)
+pub leader_greatest : (n capacity : ℕ) (events : List (ℕ × Action)) (key : Key) (c d : Candidate) → IsSchedule n capacity events → IsAnnounced events key c
+    → Contains (committed n capacity events) (d.node, Stand key d.bid) → d ≢ c → is_less d c ≡ true
+leader_greatest n capacity events key c d s a = greatest n (committed n capacity events) key c d (committed_legal n capacity events s) (announced-shown n capacity events key c s a)

@@ -27,7 +27,7 @@ pub data Thing : Type 0 where
   Sent : Packet → Thing
   Shown : Key → Candidate → Thing
 
--- the first inputs of h, so many of them, give the answer; room was counted from what an area may stand for after them
+-- At some point of h the answer was given, with room counted from what an area may stand for there.
 pub record WasAnswered (me n capacity : ℕ) (h : List Input) (a : Answered) : Type 0 where
   pub base : Base
   pub answers : Answers me n capacity base h a.question a.answer
@@ -40,7 +40,7 @@ Rests me n capacity h (Replied a) = (a.answer.number ≡ length h) × WasAnswere
 Rests me n capacity h (Sent packet) = PacketRests me h packet
 Rests me n capacity h (Shown key c) = leader me h key ≡ Some c
 
--- the thing rests on the first inputs of h, so many of them
+-- The thing rests on the first `number` inputs of h.
 pub record RestsOn (me n capacity : ℕ) (h : List Input) (number : ℕ) (thing : Thing) : Type 0 where
   pub within : number ≤ length h
   pub rests : Rests me n capacity (take number h) thing
@@ -101,7 +101,7 @@ IsDelivered n events i (ask.Acked upto) = Contains events (after n i, Release (S
 IsDelivered n events i (ask.Who key) = Unit {0}
 IsDelivered n events i (ask.Latest group) = Unit {0}
 
--- the thing rests on inputs that are durable
+-- The thing rests on first inputs of the node, `number` of them, and they are durable.
 pub record IsDurable (i n capacity : ℕ) (s : NodeState) (thing : Thing) : Type 0 where
   pub number : ℕ
   pub durable : number ≤ s.durable

@@ -102,21 +102,23 @@ replies i w = filter_map reply_of (due_at w i)
 
 -- ---- what an event releases, and the ring after it
 
+-- a part of an event: the replies that it releases, and the ring after it
 abbrev pub Part : Type 0
 Part = List (ℕ × Reply) × RingView
 
+-- what is due at node i is released
 abbrev pub released : ℕ → RingView → Part
 released i w = (replies i w, settled i w)
 
--- one part and then another
+-- One part, and the next one in the ring that it leaves: the replies of both, in turn, and the ring after the second.
 abbrev pub and_then : Part → (RingView → Part) → Part
 and_then first next = (first.0 ++ (next first.1).0, (next first.1).1)
 
--- Launch, Land and Release at node i
+-- A round at node i: a batch is launched and lands, where something waits; then what is due is released.
 abbrev pub round : ℕ → RingView → Part
 round i w = released i (landed i w)
 
--- rounds until nothing waits, so many at most
+-- Rounds at node i until nothing waits there, so many at most.
 unfoldable pub rounds : ℕ → ℕ → RingView → Part
 rounds zero i w = ([], w)
 rounds (suc most) i w = if waits w i then and_then (round i w) (rounds most i) else ([], w)
@@ -199,20 +201,24 @@ ready w = first (filter_map (next_of w) (range_with_len 1 w.size))
 abbrev pub next_delivery : RingView → Option (ℕ × Request)
 next_delivery w = if is_full w then None else ready w
 
--- One delivery of a sweep, whose ticket has no number: whether the node accepts it, and the ring afterwards.
+-- A sweep delivers what is ready, one message after the other, until nothing is ready, no event may be added, or a node
+-- does not accept what it is brought.
+
+-- One delivery of a sweep, whose ticket has no number: whether the node accepts it, so that its inputs are more than
+-- before, and the ring afterwards.
 unfoldable pub swept_one : ℕ → Request → RingView → Bool × RingView
 swept_one i q w = let t = (brought None i q w).1 in (nat_lt (length (node_at w i).inputs) (length (node_at t i).inputs), t)
 
--- one delivery more
+-- one more was accepted
 abbrev pub counted : ℕ × RingView → ℕ × RingView
 counted swept = (swept.0 + 1, swept.1)
 
--- After a delivery that was accepted come the others; one that was refused ends the sweep.
+-- After a delivery that was accepted come the others, and it counts as one more; one that was refused ends the sweep.
 abbrev pub swept_on : (RingView → ℕ × RingView) → Bool × RingView → ℕ × RingView
 swept_on others (true, w) = counted (others w)
 swept_on others (false, w) = (0, w)
 
--- There is a next delivery, or nothing is ready and the sweep ends.
+-- The next delivery is made, and the others follow; where there is none the sweep ends.
 abbrev pub swept_with : (RingView → ℕ × RingView) → RingView → Option (ℕ × Request) → ℕ × RingView
 swept_with others w None = (0, w)
 swept_with others w (Some delivery) = swept_on others (swept_one delivery.0 delivery.1 w)

@@ -1,16 +1,10 @@
 -- What a ring keeps to: its nodes are those that its events reach.
-use Rattle.std.specs.Prelude.{ℕ, zero, suc, ◌≡◌, ◌+◌, ◌<◌, ◌≤◌, Bool, false, nat_lt, if◌then◌else◌, List, [], ◌∷◌, ◌++◌, length, slice_index_or, None}
+use Rattle.std.specs.Prelude.{ℕ, zero, suc, ◌≡◌, ◌+◌, ◌<◌, ◌≤◌, Bool, false, nat_lt, if◌then◌else◌, List, [], ◌∷◌, ◌++◌, length, slice_index_or}
 use Rattle.std.specs.List.{All, Contains}
-use Rattle.ring_records.specs.Admission.{fresh}
 use Rattle.ring_records.specs.Member.{member}
-use Rattle.ring_records.specs.States.{NodeState}
-use Rattle.ring_node.specs.Node.{NodeView, new_node}
+use Rattle.ring_node.specs.Node.{NodeView, new_node, state_of}
 use Rattle.ring_node.specs.Open.{Open, due, sealed}
 use Rattle.ring_world.specs.Events.{Action, Launch, Land, process, state_after, IsSchedule}
-
--- its state: nothing flies between its calls, and it makes no checkpoint
-abbrev pub state_of : NodeView → NodeState
-state_of v = record { inputs = v.inputs; durable = v.durable; flying = v.durable; base = fresh; checkpoint = None }
 
 -- the open tickets of a node
 abbrev pub held_of : NodeView → List Open

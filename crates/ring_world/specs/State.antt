@@ -1,5 +1,6 @@
 -- What a world is seen as.
 use Rattle.std.specs.Prelude.{ℕ, Bool, nat_le, ◌&&◌}
+use Rattle.ring_records.specs.declared.limits.TheConstants.{GREATEST_CAPACITY, LEAST_CAPACITY}
 use Rattle.ring_world.specs.Ring.{RingView, new_ring}
 
 -- its ring and what happened to it, and how many ticket numbers are taken
@@ -11,6 +12,6 @@ pub record State : Type 0 where
 abbrev pub opened : ℕ → Bool → ℕ → State
 opened size eager capacity = record { ring = new_ring size eager capacity; tickets = 0 }
 
--- a ring has 2 to 16 nodes, and a capacity from 4,096 to 1,048,576 bytes
+-- a ring has 2 to 16 nodes, and a capacity that a journal may have
 abbrev pub is_ring : ℕ → ℕ → Bool
-is_ring size capacity = nat_le 2 size && (nat_le size 16 && (nat_le 4096 capacity && nat_le capacity 1048576))
+is_ring size capacity = nat_le 2 size && (nat_le size 16 && (nat_le LEAST_CAPACITY capacity && nat_le capacity GREATEST_CAPACITY))

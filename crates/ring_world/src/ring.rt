@@ -1,10 +1,10 @@
 // A ring of durable nodes in memory, and what happened to it.
 ghost use Rattle.std.specs.Prelude.{◌≡◌, ◌≤◌, [], length, true, false, OnOk, IfOk, IfSome};
-ghost use Rattle.ring_records.specs.History.{credit as credit_of, taken as taken_in};
-ghost use Rattle.ring_records.specs.Emission.{sent as sent_by};
+ghost use Rattle.ring_records.specs.History.{taken as taken_in};
 ghost use Rattle.ring_records.specs.Member.{member};
 ghost use Rattle.ring_records.specs.Message.{candidate_of};
 ghost use Rattle.ring_records.specs.Order.{is_msg};
+ghost use Rattle.ring_records.specs.States.{shown_in};
 ghost use Rattle.ring_world.specs.Events.{IsSchedule};
 ghost use Rattle.ring_world.specs.Shows.{new_nodes};
 ghost use Rattle.ring_world.specs.State.{is_ring};
@@ -13,7 +13,7 @@ use crate::happened::Happened;
 use disk_model::Tear;
 use group_commit::Desk;
 use ring_node::RingNode;
-use ring_records::{Msg, NodeNo, Packet, Reply, Request};
+use ring_records::{Msg, NodeNo, Packet, Reply, Request, Shown};
 use std::alloc::{AllocError, Global};
 use std::marker::Model;
 
@@ -170,7 +170,7 @@ impl Ring {
         requires inside { node ≤ self.now.size }
         ensures { result ≡ length (node_at self.now node).inputs }
     {
-        self.desk(node).history().len() as u64
+        self.desk(node).accepted()
     }
 
     /// How many of them are durable.
@@ -182,15 +182,6 @@ impl Ring {
         self.desk(node).durable()
     }
 
-    /// How many messages they sent.
-    pub fn sent(&self, node: NodeNo) -> u64
-        requires works { self.now.failed ≡ false }
-        requires inside { node ≤ self.now.size }
-        ensures { result ≡ length (sent_by node (node_at self.now node).inputs) }
-    {
-        self.desk(node).sent()
-    }
-
     /// How many messages they took.
     pub fn taken(&self, node: NodeNo) -> u64
         requires works { self.now.failed ≡ false }
@@ -200,13 +191,13 @@ impl Ring {
         self.desk(node).taken()
     }
 
-    /// The last credit among them.
-    pub fn credit(&self, node: NodeNo) -> u64
+    /// What the node shows.
+    pub fn shown(&self, node: NodeNo) -> Shown
         requires works { self.now.failed ≡ false }
         requires inside { node ≤ self.now.size }
-        ensures { result ≡ credit_of (node_at self.now node).inputs }
+        ensures { result ≡ shown_in node (node_at self.now node) }
     {
-        self.desk(node).credit()
+        self.desk(node).shown()
     }
 
     /// Whether inputs of the node are not durable yet.

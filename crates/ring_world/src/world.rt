@@ -17,7 +17,7 @@ use crate::laws;
 use crate::outcome::Outcome;
 use crate::ring::Ring;
 use disk_model::Tear;
-use ring_records::{NodeNo, Refusal, Reply, Request, Shown};
+use ring_records::{GREATEST_CAPACITY, LEAST_CAPACITY, NodeNo, Refusal, Reply, Request, Shown};
 use std::alloc::{AllocError, Global};
 use std::marker::Model;
 
@@ -53,7 +53,7 @@ impl World {
         ensures accepted { OnOk result (is_ring n capacity ≡ true) }
         ensures refused { IfErr result (λ refusal. MatchBool (is_ring n capacity) (refusal ≡ Refusal.OutOfMemory) (refusal ≡ Refusal.BadNumber)) }
     {
-        if n < 2 || n > 16 || capacity < 4_096 || capacity > 1_048_576 {
+        if n < 2 || n > 16 || capacity < LEAST_CAPACITY || capacity > GREATEST_CAPACITY {
             return Err(Refusal::BadNumber);
         }
         match Ring::new(alloc, n, eager, capacity) {
@@ -146,13 +146,7 @@ impl World {
         if node.number() > self.size() {
             return Err(Refusal::BadNumber);
         }
-        Ok(Shown {
-            inputs: self.ring.count(node),
-            durable: self.ring.durable(node),
-            sent: self.ring.sent(node),
-            taken: self.ring.taken(node),
-            credit: self.ring.credit(node),
-        })
+        Ok(self.ring.shown(node))
     }
 
     #[tactic(auto, unfolding(crate::specs::Step::refusal_of, crate::specs::Step::objection_to, crate::specs::Step::stepped, crate::specs::Step::is_lasting))]

@@ -177,8 +177,7 @@ fn land(node: &mut RingNode, events: &mut Vec<Happened>, number: NodeNo) -> Resu
     ensures count { IfOk result (λ count. count ≡ flown node.old - node.old.durable) }
     ensures err { OnErr result (events.new.items ≡ events.old.items) }
 {
-    let desk = node.desk();
-    let waits = desk.durable() < desk.history().len() as u64;
+    let waits = node.desk().waits();
     let count = node.flush()?;
     if waits {
         events.push_reserved(Happened::launched(number));

@@ -2,7 +2,7 @@ use Rattle.std.proofs.Common.{◌≡◌, ◌+◌, ap, sym, subst}
 use Rattle.disk_model.specs.Disk.{Disk, Reach, Reaches}
 use Rattle.disk_model.specs.FuseDevice.{inner_of}
 use Rattle.disk_model.specs.MemDevice.{disk_of}
-use Rattle.ring_records.specs.Answer.{NodeState}
+use Rattle.ring_records.specs.States.{NodeState}
 use Rattle.ring_records.specs.Member.{member}
 use Rattle.node_store.specs.Node as nodes
 use Rattle.node_store.specs.State.{Holds}

@@ -1,8 +1,8 @@
 use Rattle.std.proofs.Common.{◌≡◌, ◌⊎◌, ℕ, List, length, inl, inr, ap, sym, subst, ◌∙◌, ⊎_elim}
 use Rattle.disk_model.specs.Disk.{Disk, MayLeave}
 use Rattle.ring_records.specs.declared.input.Input.{Input}
-use Rattle.ring_records.specs.Answer as answers
-use Rattle.ring_records.specs.Answer.{launched, landed}
+use Rattle.ring_records.specs.States as states
+use Rattle.ring_records.specs.States.{launched, landed}
 use Rattle.ring_records.specs.Member.{Member, IsHistory}
 use Rattle.gated_journal.specs.Reading.{ReadsAsOneOf}
 use Rattle.group_commit.specs.Desk.{DeskView}
@@ -37,7 +37,7 @@ returns-clause-holds c = λ image left.
     let later = c.flush_or_fail-flown.new.node.desk in
     let before = subst (λ (d : Disk). MayLeave d image) c.crash.ensures.disk left in
     let read = c.closed-device.ensures.holds image before in
-    let named = subst (λ (m : Member). ReadsAsOneOf m (answers.durable_in later.state) (answers.flown_in later.state) image) (member_is (goal.at.returns-clause-holds c).After-flush_or_fail-flown) read in
+    let named = subst (λ (m : Member). ReadsAsOneOf m (states.durable_in later.state) (states.flown_in later.state) image) (member_is (goal.at.returns-clause-holds c).After-flush_or_fail-flown) read in
     let state : (later.state ≡ launched desk.state) ⊎ (later.state ≡ landed (launched desk.state)) =
     ⊎_elim (λ flies. inl (flies ∙ ap (λ (d : DeskView). launched d.state) c.arm.ensures.desk)) (λ lands. inr (lands ∙ ap (λ (d : DeskView). landed (launched d.state)) c.arm.ensures.desk)) c.in_ok-flown.ensures.state in
     stopped desk.member desk.state later.state image state named

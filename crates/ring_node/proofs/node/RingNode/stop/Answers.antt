@@ -1,7 +1,7 @@
 use Rattle.std.proofs.Common.{ℕ, ◌≡◌, ◌+◌, ◌≤◌, ◌<◌, true, List, length, take, nat_lt, ap, subst, sym, ◌∙◌}
 use Rattle.std.specs.List.{filter_map}
 use Rattle.disk_model.specs.MemDevice.{disk_of}
-use Rattle.ring_records.specs.Answer.{launched}
+use Rattle.ring_records.specs.States.{launched}
 use Rattle.ring_records.specs.Emission.{sent}
 use Rattle.ring_records.specs.History.{credit}
 use Rattle.ring_records.specs.Member.{Member, member}
