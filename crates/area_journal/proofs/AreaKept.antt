@@ -1,0 +1,67 @@
+-- What stays of an area, and of the frames in it, where an image changes in one range alone.
+use Rattle.std.proofs.Common.{◌≡◌, ℕ, ◌+◌, ◌-◌, ◌<◌, ◌≤◌, List, length, take, drop, get_or, sym, ◌∙◌, ap, subst, arith, length-take, length-drop}
+use Rattle.ring_records.specs.declared.input.Input.{Input}
+use Rattle.ring_records.specs.Snapshot.{Spells, snapshot_len}
+use Rattle.area_journal.specs.Frames.{ReadsTo}
+use Rattle.area_journal.specs.Areas.{epoch_at, size_at, snapshot_at, Counts, HasBase}
+use Rattle.area_journal.specs.Reading.{Reading}
+use Rattle.area_journal.proofs.Behind.{inside, still, gate_closed}
+use Rattle.area_journal.proofs.Kept.{SameBytes, fewer, byte_same, number_same, part_same}
+
+-- frames up to their closed gate
+pub frames_kept : (offset : ℕ) (image other : List ℕ) (inputs : List Input) (gate_at : ℕ) → ReadsTo offset image inputs gate_at → gate_at < length other → SameBytes offset (gate_at + 1 - offset) image other → ReadsTo offset other inputs gate_at
+frames_kept offset image other inputs gate_at r in_other same =
+    let gate : get_or other gate_at 0 ≡ get_or image gate_at 0 = byte_same offset (gate_at + 1 - offset) image other gate_at (omega (arith, r.ends)) (omega (arith, r.ends)) same in
+    still offset image other inputs gate_at r (fewer offset (gate_at + 1 - offset) offset (gate_at - offset) image other (omega arith) (omega (arith, r.ends)) same) in_other
+    (λ is_open. gate_closed offset image inputs gate_at r (sym gate ∙ is_open))
+
+-- the head of an area and its snapshot
+pub base_kept : (n start : ℕ) (image other : List ℕ) (r : Reading) (offset : ℕ) → HasBase n start image r offset → offset ≤ length other → SameBytes (start + 1) (offset - (start + 1)) image other → HasBase n start other r offset
+base_kept n start image other r offset has in_other same =
+    let size = size_at start image in
+    let behind = offset - (start + 1) in
+    let size_same : size_at start other ≡ size = number_same 4 (start + 10) image other (fewer (start + 1) behind (start + 10) 4 image other (omega arith) (omega (arith, has.offset_is)) same) in
+    let epoch_same : epoch_at start other ≡ epoch_at start image = number_same 8 (start + 2) image other (fewer (start + 1) behind (start + 2) 8 image other (omega arith) (omega (arith, has.offset_is)) same) in
+    let part : take size (drop (start + 14) other) ≡ snapshot_at start image =
+    part_same (start + 14) size image other (omega (arith, has.offset_is, has.there)) (omega (arith, has.offset_is, in_other))
+    (fewer (start + 1) behind (start + 14) size image other (omega arith) (omega (arith, has.offset_is)) same) in
+    let snapshot_same : snapshot_at start other ≡ snapshot_at start image = ap (λ (k : ℕ). take k (drop (start + 14) other)) size_same ∙ part in
+    record {
+      layout = has.layout ∙ sym (byte_same (start + 1) behind image other (start + 1) (omega arith) (omega (arith, has.offset_is)) same);
+      known = has.known;
+      epoch = has.epoch ∙ sym epoch_same;
+      small = has.small;
+      offset_is = has.offset_is ∙ ap (λ (k : ℕ). start + 14 + k) (sym size_same);
+      there = in_other;
+      snapshot = subst (λ (bytes : List ℕ). Spells n bytes r.base) (sym snapshot_same) has.snapshot;
+    }
+
+-- it says nothing of the inputs
+pub base_behind : (n start : ℕ) (image : List ℕ) (r : Reading) (inputs : List Input) (offset : ℕ) → HasBase n start image r offset → HasBase n start image (record r { inputs = inputs }) offset
+base_behind n start image r inputs offset has =
+    record { layout = has.layout; known = has.known; epoch = has.epoch; small = has.small; offset_is = has.offset_is; there = has.there; snapshot = has.snapshot }
+
+-- whether an area counts, and in which epoch
+pub counts_kept : (start : ℕ) (image other : List ℕ) → SameBytes start 10 image other → Counts start other → Counts start image
+counts_kept start image other same counts = record {
+  gate = sym (byte_same start 10 image other start (omega arith) (omega arith) same) ∙ counts.gate;
+  known = sym (byte_same start 10 image other (start + 1) (omega arith) (omega arith) same) ∙ counts.known;
+}
+
+pub older_kept : (start : ℕ) (image other : List ℕ) (epoch : ℕ) → SameBytes start 10 image other → (Counts start image → epoch_at start image < epoch) → Counts start other → epoch_at start other < epoch
+older_kept start image other epoch same older counts =
+    let epoch_same = number_same 8 (start + 2) image other (fewer start 10 (start + 2) 8 image other (omega arith) (omega arith) same) in
+    subst (λ (e : ℕ). e < epoch) (sym epoch_same) (older (counts_kept start image other same counts))
+
+-- ---- where things lie
+
+-- the frames begin behind the head, and end behind where they begin
+pub low : (n start : ℕ) (image : List ℕ) (r : Reading) (offset gate_at : ℕ) → HasBase n start image r offset → ReadsTo offset image r.inputs gate_at → (start + 14 ≤ offset) × (offset ≤ gate_at) × (gate_at < length image)
+low n start image r offset gate_at base frames = (omega (arith, base.offset_is), omega (arith, frames.ends), inside offset image r.inputs gate_at frames)
+
+-- they begin behind the snapshot
+pub behind_snapshot : (n start : ℕ) (image : List ℕ) (r : Reading) (offset : ℕ) → HasBase n start image r offset → offset ≡ start + 14 + snapshot_len r.base
+behind_snapshot n start image r offset base =
+    let size = size_at start image in
+    let long : length (snapshot_at start image) ≡ size = omega (arith, length-take size (drop (start + 14) image), length-drop (start + 14) image, base.offset_is, base.there) in
+    omega (arith, ap length base.snapshot.is, long, base.offset_is)

@@ -1,0 +1,168 @@
+-- An image reads as one reading in one way only.
+use Rattle.std.proofs.Common.{◌≡◌, ◌≢◌, ℕ, ◌+◌, List, [], ◌∷◌, ◌++◌, length, drop, get_or, ap}
+use Rattle.std.proofs.Math.Path.{Σ_path, to_path_p}
+use Rattle.std.proofs.Props.{props}
+use Rattle.std.specs.Coded.{le_prop, Unit-prop, ×_prop}
+use Rattle.ring_records.specs.declared.input.Input.{Input}
+use Rattle.ring_records.specs.declared.candidate.Candidate.{Candidate}
+use Rattle.ring_records.specs.declared.key.Key.{Key}
+use Rattle.ring_records.specs.declared.key_state.KeyState.{KeyState}
+use Rattle.ring_records.specs.declared.msg.Msg.{Msg}
+use Rattle.ring_records.specs.declared.summary.Summary.{Summary}
+use Rattle.ring_records.specs.Member.{Member}
+use Rattle.ring_records.specs.Message.{key_of}
+use Rattle.ring_records.specs.Snapshot.{IsCandidateOf, IsStateOf, IsMessageOf, IsSound, Spells}
+use Rattle.area_journal.specs.Areas.{AreAreas, HasBase, ReadsAt, ReadsAs}
+use Rattle.area_journal.specs.Frames.{frames, joined, AreBatches, ReadsTo}
+use Rattle.area_journal.specs.Props.{key_prop, candidate_prop, IsBatch-prop}
+use Rattle.area_journal.specs.Reading.{Reading, HasHeader}
+use Rattle.area_journal.proofs.AreaAlone.{alone}
+use Rattle.area_journal.proofs.Unique.{parts-unique}
+
+Inputs-set : IsSet (List Input)
+Inputs-set = hlevel props
+
+AreBatches-prop : (batches : List (List Input)) → IsProp (AreBatches batches)
+AreBatches-prop [] = Unit-prop
+AreBatches-prop (batch ∷ batches) = ×_prop (IsBatch-prop batch) (AreBatches-prop batches)
+
+-- a value with a fact that has one proof at most
+with_fact : {A : Type 0} {B : A → Type 0} → ((x : A) → IsProp (B x)) → (u v : (x : A) × B x) → u.0 ≡ v.0 → u ≡ v
+with_fact {B = B} once u v same = Σ_path same (to_path_p (λ i. B (same i)) (once v.0 _ v.1))
+
+-- the batches, the gate and what is after it
+abbrev Parts : Type 0
+Parts = List (List Input) × (ℕ × List ℕ)
+
+module _ (offset : ℕ) (image : List ℕ) (inputs : List Input) (gate_at : ℕ) where
+  record Facts (parts : Parts) : Type 0 where
+    whole : drop offset image ≡ frames parts.0 ++ parts.1.0 ∷ parts.1.1
+    sized : AreBatches parts.0
+    closed : parts.1.0 ≢ 1
+    same : inputs ≡ joined parts.0
+    ends : gate_at ≡ offset + length (frames parts.0)
+
+  Facts-prop : (parts : Parts) → IsProp (Facts parts)
+  Facts-prop parts p q =
+      let closed_prop : IsProp (parts.1.0 ≢ 1) = hlevel props in
+      let bytes_set : IsSet (List ℕ) = hlevel props in
+      let ends_prop : IsProp (gate_at ≡ offset + length (frames parts.0)) = hlevel props in
+      λ i. record {
+        whole = bytes_set _ _ p.whole q.whole i;
+        sized = AreBatches-prop parts.0 p.sized q.sized i;
+        closed = closed_prop p.closed q.closed i;
+        same = Inputs-set _ _ p.same q.same i;
+        ends = ends_prop p.ends q.ends i;
+      }
+
+  abbrev parts_of : ReadsTo offset image inputs gate_at → (parts : Parts) × Facts parts
+  parts_of r = ((r.batches, (r.gate, r.after)), record { whole = r.whole; sized = r.sized; closed = r.closed; same = r.same; ends = r.ends })
+
+  abbrev reads_by : ((parts : Parts) × Facts parts) → ReadsTo offset image inputs gate_at
+  reads_by r = record { batches = r.0.0; gate = r.0.1.0; after = r.0.1.1; whole = r.1.whole; sized = r.1.sized; closed = r.1.closed; same = r.1.same; ends = r.1.ends }
+
+  pub ReadsTo-prop : IsProp (ReadsTo offset image inputs gate_at)
+  ReadsTo-prop p q =
+      let same = parts-unique offset image inputs inputs gate_at gate_at p q in
+      let gate : p.gate ≡ q.gate = ap (λ (l : List ℕ). get_or l 0 0) same.1 in
+      let after : p.after ≡ q.after = ap (drop 1) same.1 in
+      let parts : ◌≡◌ {A = Parts} (p.batches, (p.gate, p.after)) (q.batches, (q.gate, q.after)) = λ i. (same.0 i, (gate i, after i)) in
+      ap reads_by (with_fact Facts-prop (parts_of p) (parts_of q) parts)
+
+-- ---- a snapshot
+
+Numbers-set : IsSet ℕ
+Numbers-set = hlevel props
+
+Bytes-set : IsSet (List ℕ)
+Bytes-set = hlevel props
+
+Key-set : IsSet Key
+Key-set = hlevel props
+
+IsCandidateOf-prop : (n : ℕ) (c : Candidate) → IsProp (IsCandidateOf n c)
+IsCandidateOf-prop n c p q i = record { in_range = candidate_prop c p.in_range q.in_range i; in_ring = le_prop p.in_ring q.in_ring i }
+
+IsStateOf-prop : (n : ℕ) (key : Key) (s : KeyState) → IsProp (IsStateOf n key s)
+IsStateOf-prop n key s p q i = record {
+  own = Key-set _ _ p.own q.own i;
+  named = key_prop key p.named q.named i;
+  bid = λ bid is. le_prop (p.bid bid is) (q.bid bid is) i;
+  led = λ c is. IsCandidateOf-prop n c (p.led c is) (q.led c is) i;
+}
+
+IsMessageOf-prop : (n : ℕ) (msg : Msg) → IsProp (IsMessageOf n msg)
+IsMessageOf-prop n msg p q i = record { named = key_prop (key_of msg) p.named q.named i; candidate = IsCandidateOf-prop n _ p.candidate q.candidate i }
+
+IsSound-prop : (n : ℕ) (s : Summary) → IsProp (IsSound n s)
+IsSound-prop n s p q i = record {
+  inputs = le_prop p.inputs q.inputs i;
+  acts = le_prop p.acts q.acts i;
+  sent = le_prop p.sent q.sent i;
+  credit = le_prop p.credit q.credit i;
+  window = Numbers-set _ _ p.window q.window i;
+  few = le_prop p.few q.few i;
+  stands = Numbers-set _ _ p.stands q.stands i;
+  states = λ key state is. IsStateOf-prop n key state (p.states key state is) (q.states key state is) i;
+  messages = λ msg there. IsMessageOf-prop n msg (p.messages msg there) (q.messages msg there) i;
+}
+
+Spells-prop : (n : ℕ) (bytes : List ℕ) (s : Summary) → IsProp (Spells n bytes s)
+Spells-prop n bytes s p q i = record { is = Bytes-set _ _ p.is q.is i; sound = IsSound-prop n s p.sound q.sound i; few_keys = le_prop p.few_keys q.few_keys i }
+
+-- ---- a journal
+
+HasHeader-prop : (header : Member) (image : List ℕ) → IsProp (HasHeader header image)
+HasHeader-prop header image p q i = record {
+  marked = Bytes-set _ _ p.marked q.marked i;
+  node = Numbers-set _ _ p.node q.node i;
+  n = Numbers-set _ _ p.n q.n i;
+  capacity = Numbers-set _ _ p.capacity q.capacity i;
+  from = le_prop p.from q.from i;
+  to = le_prop p.to q.to i;
+  blank = Numbers-set _ _ p.blank q.blank i;
+}
+
+AreAreas-prop : (capacity start other : ℕ) → IsProp (AreAreas capacity start other)
+AreAreas-prop capacity start other p q i = record { both = Numbers-set _ _ p.both q.both i; one = λ ne. Numbers-set _ _ (p.one ne) (q.one ne) i }
+
+HasBase-prop : (n start : ℕ) (image : List ℕ) (r : Reading) (offset : ℕ) → IsProp (HasBase n start image r offset)
+HasBase-prop n start image r offset p q i = record {
+  layout = Numbers-set _ _ p.layout q.layout i;
+  known = Numbers-set _ _ p.known q.known i;
+  epoch = Numbers-set _ _ p.epoch q.epoch i;
+  small = le_prop p.small q.small i;
+  offset_is = Numbers-set _ _ p.offset_is q.offset_is i;
+  there = le_prop p.there q.there i;
+  snapshot = Spells-prop n _ r.base p.snapshot q.snapshot i;
+}
+
+-- where an image is read: the area in use, the other one, the frames, and their closed gate
+abbrev Places : Type 0
+Places = ℕ × (ℕ × (ℕ × ℕ))
+
+module _ (header : Member) (image : List ℕ) (r : Reading) where
+  abbrev ReadsIn : Places → Type 0
+  ReadsIn p = ReadsAt header image r p.0 p.1.0 p.1.1.0 p.1.1.1
+
+  ReadsIn-prop : (places : Places) → IsProp (ReadsIn places)
+  ReadsIn-prop places p q i = record {
+    head = HasHeader-prop header image p.head q.head i;
+    areas = AreAreas-prop header.capacity places.0 places.1.0 p.areas q.areas i;
+    gate = Numbers-set _ _ p.gate q.gate i;
+    base = HasBase-prop header.n places.0 image r places.1.1.0 p.base q.base i;
+    older = λ counts. le_prop (p.older counts) (q.older counts) i;
+    frames = ReadsTo-prop places.1.1.0 image r.inputs places.1.1.1 p.frames q.frames i;
+    within = le_prop p.within q.within i;
+  }
+
+  abbrev read_in : ((places : Places) × ReadsIn places) → ReadsAs header image r
+  read_in read = record { start = read.0.0; other = read.0.1.0; offset = read.0.1.1.0; gate_at = read.0.1.1.1; at = read.1 }
+
+  pub ReadsAs-prop : IsProp (ReadsAs header image r)
+  ReadsAs-prop p q =
+      let same = alone header image r r p.start q.start p.other q.other p.offset q.offset p.gate_at q.gate_at p.at q.at in
+      let here : Places = (p.start, (p.other, (p.offset, p.gate_at))) in
+      let there : Places = (q.start, (q.other, (q.offset, q.gate_at))) in
+      let places : here ≡ there = λ i. (same.start_is i, (same.other_is i, (same.offset_is i, same.gate_is i))) in
+      ap read_in (with_fact ReadsIn-prop (here, p.at) (there, q.at) places)

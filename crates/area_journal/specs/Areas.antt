@@ -1,0 +1,148 @@
+-- The two areas of a journal, and what an image reads as by the one that is read (layout 2). An area is a gate, a layout,
+-- an epoch, the length of a snapshot, the snapshot, and frames behind it.
+use Rattle.std.specs.Prelude.{◌≡◌, ◌≢◌, ◌⊎◌, ◌+◌, ◌^◌, ◌<◌, ◌≤◌, ℕ, Bool, true, false, if◌then◌else◌, List, [], ◌∷◌, ◌++◌, length, take, drop, slice_index}
+use Rattle.std.specs.Int.{w32, w64, to_be_bytes}
+use Rattle.disk_model.specs.Disk.{Disk, MayLeave, IsSynced}
+use Rattle.ring_records.specs.declared.summary.Summary.{Summary}
+use Rattle.ring_records.specs.Member.{Member}
+use Rattle.ring_records.specs.Snapshot.{Spells, snapshot_of, snapshot_len}
+use Rattle.ring_records.specs.Summary.{empty}
+use Rattle.area_journal.specs.Frames.{ReadsTo}
+use Rattle.area_journal.specs.Reading.{Reading, used_in, count_in, number_at, mark, HasHeader}
+
+-- ---- an area
+
+-- area A begins behind the header, area B where A ends at the latest
+abbrev pub area_a : ℕ
+area_a = 16
+
+abbrev pub area_b : ℕ → ℕ
+area_b capacity = 31 + capacity
+
+-- the one of them, and the other
+pub record AreAreas (capacity start other : ℕ) : Type 0 where
+  pub both : start + other ≡ area_a + area_b capacity
+  pub one : start ≢ area_a → other ≡ area_a
+
+-- the layout that is written
+abbrev pub newest : ℕ
+newest = 2
+
+-- how long an area is before its snapshot
+abbrev pub head_len : ℕ
+head_len = 14
+
+abbrev pub layout_at : ℕ → List ℕ → ℕ
+layout_at start image = slice_index image (start + 1)
+
+abbrev pub epoch_at : ℕ → List ℕ → ℕ
+epoch_at start image = number_at 8 (start + 2) image
+
+-- how long its snapshot is
+abbrev pub size_at : ℕ → List ℕ → ℕ
+size_at start image = number_at 4 (start + 10) image
+
+-- where its frames begin
+abbrev pub frames_of : ℕ → List ℕ → ℕ
+frames_of start image = start + head_len + size_at start image
+
+-- its snapshot
+abbrev pub snapshot_at : ℕ → List ℕ → List ℕ
+snapshot_at start image = take (size_at start image) (drop (start + head_len) image)
+
+-- the area counts: its gate is there and open, and its layout is known
+pub record Counts (start : ℕ) (image : List ℕ) : Type 0 where
+  pub gate : slice_index image start ≡ 1
+  pub known : layout_at start image ≡ newest
+
+-- Behind the gate at `start` stand the layout, the epoch and the snapshot of r, for a ring of n, and its frames begin at
+-- `offset`.
+pub record HasBase (n start : ℕ) (image : List ℕ) (r : Reading) (offset : ℕ) : Type 0 where
+  pub layout : r.layout ≡ layout_at start image
+  pub known : r.layout ≡ newest
+  pub epoch : r.epoch ≡ epoch_at start image
+  pub small : r.epoch < 2 ^ 40
+  pub offset_is : offset ≡ frames_of start image
+  pub there : offset ≤ length image
+  pub snapshot : Spells n (snapshot_at start image) r.base
+
+-- the bytes behind the gate of an area without frames, and its closed gate
+abbrev pub new_area : ℕ → ℕ → Summary → List ℕ
+new_area layout epoch s = layout ∷ to_be_bytes w64 epoch ++ to_be_bytes w32 (snapshot_len s) ++ snapshot_of s ++ 0 ∷ []
+
+-- the same with zeros in place of the layout and the epoch
+abbrev pub blank_area : Summary → List ℕ
+blank_area s = 0 ∷ 0 ∷ 0 ∷ 0 ∷ 0 ∷ 0 ∷ 0 ∷ 0 ∷ 0 ∷ to_be_bytes w32 (snapshot_len s) ++ snapshot_of s ++ 0 ∷ []
+
+-- ---- the area that is read
+
+-- a device without inputs: a header, and area A
+abbrev pub new_areas : Member → List ℕ
+new_areas header = mark ++ header.node ∷ header.n ∷ to_be_bytes w32 header.capacity ++ 0 ∷ 0 ∷ 1 ∷ new_area newest 1 empty
+
+-- The image has this header and reads as r: of the area at `start`, whose gate is open, with frames from `offset` on and
+-- the closed gate at `gate_at`. The other area does not count, or its epoch is less.
+pub record ReadsAt (header : Member) (image : List ℕ) (r : Reading) (start other offset gate_at : ℕ) : Type 0 where
+  pub head : HasHeader header image
+  pub areas : AreAreas header.capacity start other
+  pub gate : slice_index image start ≡ 1
+  pub base : HasBase header.n start image r offset
+  pub older : Counts other image → epoch_at other image < r.epoch
+  pub frames : ReadsTo offset image r.inputs gate_at
+  pub within : gate_at ≤ start + head_len + header.capacity
+
+-- *Reading*: the image reads as r
+pub record ReadsAs (header : Member) (image : List ℕ) (r : Reading) : Type 0 where
+  pub start : ℕ
+  pub other : ℕ
+  pub offset : ℕ
+  pub gate_at : ℕ
+  pub at : ReadsAt header image r start other offset gate_at
+
+-- every image that a stop may leave reads as r
+abbrev pub AllReadAs : Member → Disk → Reading → Type 0
+AllReadAs header disk r = (image : List ℕ) → MayLeave disk image → ReadsAs header image r
+
+-- the image reads as the one or as the other
+abbrev pub ReadsAsOneOf : Member → Reading → Reading → List ℕ → Type 0
+ReadsAsOneOf header old new image = ReadsAs header image old ⊎ ReadsAs header image new
+
+-- a moment of the opening of the other area: what was read before is read, or that area, whose closed gate is at `next`
+abbrev pub ReadsAtOneOf : Member → Reading → ℕ → ℕ → ℕ → ℕ → Reading → ℕ → List ℕ → Type 0
+ReadsAtOneOf header old start other offset gate_at new next image = ReadsAt header image old start other offset gate_at ⊎ ReadsAt header image new other start next next
+
+-- ---- the area that is not in use
+
+-- What is known of its gate: it is there and closed, or it is open if it is there.
+pub record IsGate (is_closed : Bool) (other : ℕ) (image : List ℕ) : Type 0 where
+  pub shut : is_closed ≡ true → (other < length image) × (slice_index image other ≢ 1)
+  pub not_shut : is_closed ≡ false → other < length image → slice_index image other ≡ 1
+
+-- where a checkpoint writes its first 0: to the gate, or behind one that is closed already
+abbrev pub first_write : Bool → ℕ → ℕ
+first_write is_closed other = if is_closed then other + 1 else other
+
+-- behind its gate stands all of a new area, which is read once the gate is open
+pub record IsStaged (n other : ℕ) (image : List ℕ) (r : Reading) (offset : ℕ) : Type 0 where
+  pub there : other < length image
+  pub base : HasBase n other image r offset
+  pub frames : ReadsTo offset image r.inputs offset
+
+-- The other area may be replaced by that of s in this epoch: the image is read at these places in a lesser one, and the
+-- snapshot is sound and fits the capacity.
+pub record MayReplace (header : Member) (image : List ℕ) (old : Reading) (start other offset gate_at : ℕ) (is_closed : Bool) (epoch : ℕ) (s : Summary) : Type 0 where
+  pub reads : ReadsAt header image old start other offset gate_at
+  pub gate : IsGate is_closed other image
+  pub newer : old.epoch < epoch
+  pub small : epoch < 2 ^ 40
+  pub spells : Spells header.n (snapshot_of s) s
+  pub fits : snapshot_len s ≤ header.capacity
+
+-- ---- at rest
+
+-- Nothing waits for a sync, the other gate is known, and the image is read at these places, as so many inputs that use so
+-- much of the capacity, in this epoch.
+pub record IsInUse (header : Member) (disk : Disk) (start other offset gate_at : ℕ) (is_closed : Bool) (epoch count used : ℕ) : Type 0 where
+  pub synced : IsSynced disk
+  pub gate : IsGate is_closed other disk.image
+  pub reads : ∥ ((r : Reading) × (ReadsAt header disk.image r start other offset gate_at × ((r.epoch ≡ epoch) × ((count_in r ≡ count) × (used_in r ≡ used))))) ∥₁

@@ -1,0 +1,54 @@
+-- What a batch, a checkpoint, a receipt and a spoiled batch show.
+use Rattle.std.specs.Prelude.{ℕ, Bool, ◌&&◌, nat_le, if◌then◌else◌, List, Option, None}
+use Rattle.ring_records.specs.declared.input.Input.{Input}
+use Rattle.ring_records.specs.declared.refusal.Refusal.{Refusal}
+use Rattle.ring_records.specs.declared.refusal.Refusal.TheVariants as refused
+use Rattle.ring_records.specs.declared.summary.Summary.{Summary}
+use Rattle.area_journal.specs.declared.batch.Batch.{Batch}
+use Rattle.area_journal.specs.declared.checkpoint.Checkpoint.{Checkpoint}
+use Rattle.area_journal.specs.declared.flown.Flown.{Flown}
+use Rattle.area_journal.specs.declared.spent.Receipt.{Receipt}
+use Rattle.area_journal.specs.declared.spent.Spoiled.{Spoiled}
+
+-- what they all keep: the node, the number of inputs before it, and the inputs; and how long the snapshot is that stands
+-- for all inputs up to these, where they are not those of a batch
+pub record Numbered : Type 0 where
+  pub node : ℕ
+  pub first : ℕ
+  pub inputs : List Input
+  pub snapshot : Option ℕ
+
+abbrev pub numbered_with : ℕ → ℕ → List Input → Option ℕ → Numbered
+numbered_with node first inputs snapshot = record { node = node; first = first; inputs = inputs; snapshot = snapshot }
+
+-- those of a batch
+abbrev pub numbered : ℕ → ℕ → List Input → Numbered
+numbered node first inputs = numbered_with node first inputs None
+
+abbrev pub kept_in : Flown → Numbered
+kept_in flown = numbered_with flown.node flown.first flown.inputs.items flown.snapshot
+
+abbrev pub shown : Batch → Numbered
+shown batch = numbered batch.node batch.first batch.inputs.items
+
+abbrev pub landed : Receipt → Numbered
+landed receipt = kept_in receipt.flown
+
+abbrev pub lost : Spoiled → Numbered
+lost spoiled = kept_in spoiled.flown
+
+-- those that a checkpoint takes to the device, with the length of its snapshot
+abbrev pub numbered_by : Checkpoint → Numbered
+numbered_by checkpoint = kept_in checkpoint.flown
+
+-- the summary that it makes durable
+abbrev pub base_by : Checkpoint → Summary
+base_by checkpoint = checkpoint.base
+
+-- how many inputs a batch may have
+abbrev pub is_size : ℕ → Bool
+is_size n = nat_le 1 n && nat_le n 64
+
+-- why there is no batch of so many inputs
+abbrev pub batch_refusal : ℕ → Refusal
+batch_refusal n = if is_size n then refused.OutOfMemory else refused.BadNumber

@@ -1,0 +1,55 @@
+-- Which of the two areas is read, and what the parts of the reader find of it.
+use Rattle.std.specs.Prelude.{◌≡◌, ◌⊎◌, ◌^◌, ◌<◌, ◌≤◌, ℕ, List, length, slice_index}
+use Rattle.area_journal.specs.Areas.{newest, area_a, area_b, AreAreas, layout_at, epoch_at, size_at, frames_of, Counts, IsGate}
+use Rattle.area_journal.specs.Reading.{Reading}
+use Rattle.area_journal.specs.declared.area.Area.{Area}
+use Rattle.area_journal.specs.declared.area.Area.TheVariants.{A, B}
+use Rattle.area_journal.specs.declared.area.Chosen.{Chosen}
+use Rattle.area_journal.specs.declared.area.Head.{Head}
+use Rattle.area_journal.specs.declared.contents.Contents.{Contents}
+
+-- ---- the choice
+
+-- this area is read and not the other
+pub record IsChosen (start other : ℕ) (image : List ℕ) : Type 0 where
+  pub counts : Counts start image
+  pub older : Counts other image → epoch_at other image < epoch_at start image
+
+-- none is read: neither counts, or both do in one epoch
+abbrev pub IsUnchosen : ℕ → List ℕ → Type 0
+IsUnchosen capacity image =
+    ((Counts area_a image → ⊥) × (Counts (area_b capacity) image → ⊥))
+    ⊎ (Counts area_a image × Counts (area_b capacity) image × (epoch_at area_a image ≡ epoch_at (area_b capacity) image))
+
+-- the offset of an area, and that of the other one
+abbrev pub start_of : ℕ → Area → ℕ
+start_of capacity A = area_a
+start_of capacity B = area_b capacity
+
+abbrev pub other_of : ℕ → Area → ℕ
+other_of capacity A = area_b capacity
+other_of capacity B = area_a
+
+-- ---- what is found
+
+-- the head of the area at `start`; bytes that are not there count as zero
+pub record IsHeadOf (head : Head) (start : ℕ) (image : List ℕ) : Type 0 where
+  pub gate : head.gate ≡ slice_index image start
+  pub layout : head.layout ≡ layout_at start image
+  pub epoch : head.epoch ≡ epoch_at start image
+  pub size : head.size ≡ size_at start image
+
+-- this area is read, its head is whole, and the gate of the other is known
+pub record IsUsed (capacity : ℕ) (image : List ℕ) (chosen : Chosen) : Type 0 where
+  pub areas : AreAreas capacity chosen.start chosen.other
+  pub area : IsChosen chosen.start chosen.other image
+  pub epoch : chosen.epoch ≡ epoch_at chosen.start image
+  pub small : chosen.epoch < 2 ^ 40
+  pub offset : chosen.offset ≡ frames_of chosen.start image
+  pub there : chosen.offset ≤ length image
+  pub near : chosen.offset < 2 ^ 40
+  pub gate : IsGate chosen.is_closed chosen.other image
+
+-- what the area that was chosen is read as
+abbrev pub reading_of : Chosen → Contents → Reading
+reading_of chosen found = record { layout = newest; epoch = chosen.epoch; base = found.base; inputs = found.inputs.items }

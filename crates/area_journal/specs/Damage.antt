@@ -1,0 +1,81 @@
+-- Why no area of an image is read: the first fault, with its offset.
+use Rattle.std.specs.Prelude.{◌≡◌, ◌⊎◌, ◌+◌, ◌^◌, ◌<◌, ◌≤◌, ℕ, List, [], ◌∷◌, ◌++◌, length, drop}
+use Rattle.ring_records.specs.declared.input.Input.{Input}
+use Rattle.ring_records.specs.declared.refusal.Refusal.{Refusal}
+use Rattle.ring_records.specs.declared.refusal.Refusal.TheVariants.{Damaged, OutOfMemory}
+use Rattle.ring_records.specs.declared.summary.Summary.{Summary}
+use Rattle.ring_records.specs.Snapshot.{Spells}
+use Rattle.area_journal.specs.Areas.{area_a, head_len, AreAreas, epoch_at, frames_of, snapshot_at, HasBase}
+use Rattle.area_journal.specs.Choose.{IsChosen, IsUnchosen}
+use Rattle.area_journal.specs.Frames.{body, frames, joined, IsBatch, AreBatches, ReadsTo}
+use Rattle.area_journal.specs.Reading.{Reading}
+
+-- ---- the frames
+
+-- from this offset on there are frames of these inputs, up to `gate_at`
+pub record ReadsUpTo (offset : ℕ) (image : List ℕ) (inputs : List Input) (gate_at : ℕ) : Type 0 where
+  pub batches : List (List Input)
+  pub whole : drop offset image ≡ frames batches ++ drop gate_at image
+  pub sized : AreBatches batches
+  pub same : inputs ≡ joined batches
+  pub ends : gate_at ≡ offset + length (frames batches)
+
+-- no frame stands at the head of these bytes
+abbrev pub NoFrame : List ℕ → Type 0
+NoFrame tail = (batch : List Input) (rest : List ℕ) → IsBatch batch → tail ≡ body batch ++ rest → ⊥
+
+-- There are frames up to `gate_at`, and there no byte, or an open gate with no frame behind it.
+pub record IsDamagedAt (offset : ℕ) (image : List ℕ) (gate_at : ℕ) : Type 0 where
+  pub inputs : List Input
+  pub up_to : ReadsUpTo offset image inputs gate_at
+  pub broken : (drop gate_at image ≡ []) ⊎ ((tail : List ℕ) × ((drop gate_at image ≡ 1 ∷ tail) × NoFrame tail))
+
+-- the refusal says where they are damaged
+pub record IsBroken (offset : ℕ) (image : List ℕ) (refusal : Refusal) : Type 0 where
+  pub gate_at : ℕ
+  pub is : refusal ≡ Damaged gate_at
+  pub damaged : IsDamagedAt offset image gate_at
+
+-- ---- the areas
+
+-- the bytes of the area are short, its epoch is too great, or its snapshot is of no summary of a ring of n
+abbrev pub IsHeadBroken : ℕ → ℕ → List ℕ → Type 0
+IsHeadBroken n start image =
+    (length image < frames_of start image)
+    ⊎ ((2 ^ 40 ≤ epoch_at start image) ⊎ ((s : Summary) → Spells n (snapshot_at start image) s → ⊥))
+
+-- frames from this offset on end behind this bound
+pub record GoesPast (bound offset : ℕ) (image : List ℕ) : Type 0 where
+  pub inputs : List Input
+  pub gate_at : ℕ
+  pub frames : ReadsTo offset image inputs gate_at
+  pub past : bound < gate_at
+
+-- the head of the area is whole, and its frames are broken or take more than the capacity
+pub record AreFramesBroken (n capacity start : ℕ) (image : List ℕ) (refusal : Refusal) : Type 0 where
+  pub reading : Reading
+  pub offset : ℕ
+  pub base : HasBase n start image reading offset
+  pub cause : IsBroken offset image refusal ⊎ ((refusal ≡ Damaged start) × GoesPast (start + head_len + capacity) offset image)
+
+-- the area that is read is broken, in its head or in its frames
+pub record IsAreaBroken (n capacity : ℕ) (image : List ℕ) (refusal : Refusal) : Type 0 where
+  pub start : ℕ
+  pub other : ℕ
+  pub areas : AreAreas capacity start other
+  pub area : IsChosen start other image
+  pub cause : ((refusal ≡ Damaged start) × IsHeadBroken n start image) ⊎ AreFramesBroken n capacity start image refusal
+
+-- no area is read, or the one that is read is broken
+pub record AreAreasUnread (n capacity : ℕ) (image : List ℕ) (refusal : Refusal) : Type 0 where
+  pub cause : ((refusal ≡ Damaged area_a) × IsUnchosen capacity image) ⊎ IsAreaBroken n capacity image refusal
+
+-- the snapshot of the area at `start` gives no summary: its bytes are of none, or there is no memory for it
+pub record IsBaseless (n : ℕ) (bytes : List ℕ) (start : ℕ) (refusal : Refusal) : Type 0 where
+  pub cause : (refusal ≡ OutOfMemory) ⊎ ((refusal ≡ Damaged start) × ((s : Summary) → Spells n bytes s → ⊥))
+
+-- the area at `start` gives nothing: its snapshot gives none, or its frames, which begin at `offset`, are broken behind
+-- one that does, or there is no memory for them
+pub record IsContentless (n start offset : ℕ) (image : List ℕ) (refusal : Refusal) : Type 0 where
+  pub cause : IsBaseless n (snapshot_at start image) start refusal
+      ⊎ ((refusal ≡ OutOfMemory) ⊎ ((s : Summary) × (Spells n (snapshot_at start image) s × IsBroken offset image refusal)))

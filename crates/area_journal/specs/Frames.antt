@@ -1,0 +1,72 @@
+-- Frames of inputs, and what is read behind an offset. Numbers are big-endian.
+use Rattle.std.specs.Prelude.{◌≡◌, ◌≢◌, ◌⊎◌, ◌+◌, ◌≤◌, ℕ, List, [], ◌∷◌, ◌++◌, length, drop}
+use Rattle.std.specs.Int.{w16, w32, to_be_bytes}
+use Rattle.std.specs.List.{sum_by}
+use Rattle.disk_model.specs.Disk.{Changes}
+use Rattle.ring_records.specs.declared.input.Input.{Input}
+use Rattle.ring_records.specs.Admission.{cost}
+use Rattle.ring_records.specs.Record.{HasRecord, record_of}
+
+-- ---- how frames are spelled
+
+-- the records of the inputs, one behind the other
+abbrev pub records : List Input → List ℕ
+records [] = []
+records (x ∷ inputs) = record_of x ++ records inputs
+
+-- a frame behind its gate: count, length, records
+abbrev pub body : List Input → List ℕ
+body inputs = to_be_bytes w16 (length inputs) ++ (to_be_bytes w32 (length (records inputs)) ++ records inputs)
+
+-- a frame of each batch, behind an open gate
+abbrev pub frames : List (List Input) → List ℕ
+frames [] = []
+frames (batch ∷ batches) = 1 ∷ (body batch ++ frames batches)
+
+abbrev pub HaveRecords : List Input → Type 0
+HaveRecords [] = Unit {0}
+HaveRecords (x ∷ inputs) = HasRecord x × HaveRecords inputs
+
+-- 1 to 64 inputs that have records
+pub record IsBatch (inputs : List Input) : Type 0 where
+  pub some : 1 ≤ length inputs
+  pub few : length inputs ≤ 64
+  pub have : HaveRecords inputs
+
+abbrev pub AreBatches : List (List Input) → Type 0
+AreBatches [] = Unit {0}
+AreBatches (batch ∷ batches) = IsBatch batch × AreBatches batches
+
+-- the bytes of a capacity that the inputs take
+abbrev pub costs_of : List Input → ℕ
+costs_of inputs = sum_by cost inputs
+
+-- all inputs, in order
+abbrev pub joined : List (List Input) → List Input
+joined [] = []
+joined (batch ∷ batches) = batch ++ joined batches
+
+-- the bytes are the batch's frame behind its gate, and the next gate, which is closed
+pub record IsFrame (batch : List Input) (bytes : List ℕ) : Type 0 where
+  pub is_batch : IsBatch batch
+  pub bytes_are : bytes ≡ body batch ++ 0 ∷ []
+
+-- ---- how they are read
+
+-- From this offset on there are frames of these inputs, and then, at `gate_at`, one byte that is not 1: a closed gate.
+-- Nothing is said of the bytes before the offset, nor of those behind the gate.
+pub record ReadsTo (offset : ℕ) (image : List ℕ) (inputs : List Input) (gate_at : ℕ) : Type 0 where
+  pub batches : List (List Input)
+  pub gate : ℕ
+  pub after : List ℕ
+  pub whole : drop offset image ≡ frames batches ++ gate ∷ after
+  pub sized : AreBatches batches
+  pub closed : gate ≢ 1
+  pub same : inputs ≡ joined batches
+  pub ends : gate_at ≡ offset + length (frames batches)
+
+-- A moment of a commit of n bytes behind the gate at this offset: the frames have the batch or not, and no byte outside
+-- the gate and the n bytes behind it has changed.
+pub record Appends (offset : ℕ) (inputs batch : List Input) (gate_at n : ℕ) (old new : List ℕ) : Type 0 where
+  pub frames : ReadsTo offset new inputs gate_at ⊎ ReadsTo offset new (inputs ++ batch) (gate_at + n)
+  pub changes : Changes gate_at (1 + n) old new

@@ -1,0 +1,10 @@
+pub mod Areas
+pub mod Batch
+pub mod Choose
+pub mod Damage
+pub mod Frames
+pub mod Journal
+pub mod Props
+pub mod Reading
+pub mod Scan
+pub mod Unread

@@ -1,0 +1,32 @@
+-- That each fact of a batch has one proof at most.
+use Rattle.std.specs.Prelude.{ℕ, List, [], ◌∷◌}
+use Rattle.std.specs.Coded.{Coded-set, coded_bool, coded_list, coded_ℕ, le_prop, Unit-prop, ×_prop}
+use Rattle.ring_records.specs.declared.candidate.Candidate.{Candidate}
+use Rattle.ring_records.specs.declared.input.Input.{Input}
+use Rattle.ring_records.specs.declared.input.Input.TheVariants.{Stand, Take, Acked}
+use Rattle.ring_records.specs.declared.key.Key.{Key}
+use Rattle.ring_records.specs.Message.{key_of, candidate_of}
+use Rattle.ring_records.specs.Record.{IsKeyInRange, IsCandidateInRange, HasRecord}
+use Rattle.area_journal.specs.Frames.{HaveRecords, IsBatch, IsFrame}
+
+pub key_prop : (key : Key) → IsProp (IsKeyInRange key)
+key_prop key p q i = record { name = Coded-set coded_bool _ _ p.name q.name i; from = le_prop p.from q.from i; to = le_prop p.to q.to i }
+
+pub candidate_prop : (c : Candidate) → IsProp (IsCandidateInRange c)
+candidate_prop c p q i = record { bid = le_prop p.bid q.bid i; from = le_prop p.from q.from i; to = le_prop p.to q.to i }
+
+pub HasRecord-prop : (x : Input) → IsProp (HasRecord x)
+unfolding HasRecord
+HasRecord-prop (Stand key bid) p q i = (key_prop key p.0 q.0 i, le_prop p.1 q.1 i)
+HasRecord-prop (Take msg_no msg) p q i = (le_prop p.0 q.0 i, key_prop (key_of msg) p.1 q.1 i, candidate_prop (candidate_of msg) p.2 q.2 i)
+HasRecord-prop (Acked upto) p q i = le_prop p q i
+
+pub HaveRecords-prop : (inputs : List Input) → IsProp (HaveRecords inputs)
+HaveRecords-prop [] = Unit-prop
+HaveRecords-prop (x ∷ inputs) = ×_prop (HasRecord-prop x) (HaveRecords-prop inputs)
+
+pub IsBatch-prop : (inputs : List Input) → IsProp (IsBatch inputs)
+IsBatch-prop inputs p q i = record { some = le_prop p.some q.some i; few = le_prop p.few q.few i; have = HaveRecords-prop inputs p.have q.have i }
+
+pub IsFrame-prop : (inputs : List Input) (bytes : List ℕ) → IsProp (IsFrame inputs bytes)
+IsFrame-prop inputs bytes p q i = record { is_batch = IsBatch-prop inputs p.is_batch q.is_batch i; bytes_are = Coded-set (coded_list coded_ℕ) _ _ p.bytes_are q.bytes_are i }

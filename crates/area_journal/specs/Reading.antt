@@ -1,0 +1,71 @@
+-- What an image of a journal reads as, and the header that it begins with.
+use Rattle.std.specs.Prelude.{◌≡◌, ◌+◌, ◌*◌, ◌≤◌, ℕ, zero, suc, Bool, nat_le, ◌&&◌, List, [], ◌++◌, length, take, slice_index, codes}
+use Rattle.ring_records.specs.declared.input.Input.{Input}
+use Rattle.ring_records.specs.declared.summary.Summary.{Summary}
+use Rattle.ring_records.specs.Admission.{area_bytes}
+use Rattle.ring_records.specs.Member.{Member}
+use Rattle.ring_records.specs.Summary.{summary}
+use Rattle.area_journal.specs.Frames.{costs_of}
+use Rattle.area_journal.specs.declared.opening.Opening.{Opening}
+
+-- ---- what is read
+
+-- The layout and the epoch of the area in use, the summary of its snapshot, and the inputs of the frames behind that.
+pub record Reading : Type 0 where
+  pub layout : ℕ
+  pub epoch : ℕ
+  pub base : Summary
+  pub inputs : List Input
+
+abbrev pub with_more : Reading → List Input → Reading
+with_more r batch = record r { inputs = r.inputs ++ batch }
+
+-- an area without frames
+abbrev pub fresh_area : ℕ → ℕ → Summary → Reading
+fresh_area layout epoch base = record { layout = layout; epoch = epoch; base = base; inputs = [] }
+
+-- what a journal was opened with
+abbrev pub reading_of_opening : Opening → Reading
+reading_of_opening o = record { layout = o.layout; epoch = o.epoch; base = o.base; inputs = o.inputs.items }
+
+-- how many bytes of the capacity are used: by the snapshot, and by the inputs behind it
+abbrev pub used_in : Reading → ℕ
+used_in r = area_bytes r.layout r.base + costs_of r.inputs
+
+-- how many inputs there are, those that are summarised among them
+abbrev pub count_in : Reading → ℕ
+count_in r = r.base.inputs + length r.inputs
+
+-- it stands for the inputs h of node `me`: the summary is that of the first of them, and its inputs are the rest
+pub record StandsFor (me : ℕ) (r : Reading) (h : List Input) : Type 0 where
+  pub before : List Input
+  pub base : r.base ≡ summary me before
+  pub joined : h ≡ before ++ r.inputs
+
+-- ---- the header
+
+-- k bytes from this offset on as one number; bytes that are not there count as zero
+abbrev pub number_at : ℕ → ℕ → List ℕ → ℕ
+number_at zero off image = 0
+number_at (suc k) off image = number_at k off image * 256 + slice_index image (off + k)
+
+-- what a header names, the node, the ring's size and the capacity, is in its range
+abbrev pub is_header : Member → Bool
+is_header header = nat_le 2 header.n && (nat_le header.n 16 && (nat_le header.node header.n && (nat_le 4096 header.capacity && nat_le header.capacity 1048576)))
+
+-- the mark of a journal with two areas, and that of one with none
+abbrev pub mark : List ℕ
+mark = codes "CRJRNL02"
+
+abbrev pub old_mark : List ℕ
+old_mark = codes "CRJRNL01"
+
+-- the image begins with the mark and this header, whose capacity is in its range
+pub record HasHeader (header : Member) (image : List ℕ) : Type 0 where
+  pub marked : take 8 image ≡ mark
+  pub node : slice_index image 8 ≡ header.node
+  pub n : slice_index image 9 ≡ header.n
+  pub capacity : number_at 4 10 image ≡ header.capacity
+  pub from : 4096 ≤ header.capacity
+  pub to : header.capacity ≤ 1048576
+  pub blank : number_at 2 14 image ≡ 0

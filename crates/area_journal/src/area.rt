@@ -1,0 +1,194 @@
+//! The heads of a journal's two areas, and which of them is read.
+ghost use Rattle.std.specs.Prelude.{◌≡◌, ◌+◌, ◌≤◌, ◌<◌, ◌^◌, ◌⊎◌, ℕ, List, length, Decides, MatchOption, IfOk, IfErr, OnOk};
+ghost use Rattle.disk_model.specs.Disk.{MayLeave, IsPart, LeavesOnly, Reaches, IsInReach};
+ghost use Rattle.area_journal.specs.Areas.{area_a, area_b, AreAreas, Counts};
+ghost use Rattle.area_journal.specs.Choose.{IsHeadOf, IsChosen, IsUnchosen, IsUsed, start_of, other_of};
+ghost use Rattle.area_journal.specs.Damage.{AreAreasUnread};
+ghost use Rattle.area_journal.specs.Unread.{IsFault};
+
+use crate::layout::{AREA_A, area_b};
+use crate::read::read_part;
+use disk_model::Device;
+use ring_records::Refusal;
+
+/// What an area begins with: its gate, its layout, its epoch, and how long its snapshot is.
+#[derive(Clone, Copy)]
+pub(crate) struct Head {
+    gate: u8,
+    layout: u8,
+    epoch: u64,
+    size: u32,
+}
+
+/// The area that is read.
+#[derive(Clone, Copy)]
+pub(crate) struct Chosen {
+    pub(crate) start: u64,
+    // where the other one begins, and whether its gate is there and closed
+    pub(crate) other: u64,
+    pub(crate) is_closed: bool,
+    pub(crate) epoch: u64,
+    // where its frames begin
+    pub(crate) offset: u64,
+}
+
+// One of the two areas.
+#[derive(Clone, Copy, Debug, PartialEq, Eq)]
+enum Area {
+    A,
+    B,
+}
+
+fn head_in(bytes: &[u8; 14]) -> Head
+    ensures { IsHeadOf result 0 bytes.now }
+{
+    let b = bytes;
+    Head {
+        gate: b[0],
+        layout: b[1],
+        epoch: u64::from_be_bytes([b[2], b[3], b[4], b[5], b[6], b[7], b[8], b[9]]),
+        size: u32::from_be_bytes([b[10], b[11], b[12], b[13]]),
+    }
+}
+
+impl Head {
+    // Whether its area counts: the gate is there and open, and the layout is known.
+    fn counts(&self) -> bool
+        ensures { (start : ℕ) (image : List ℕ) → IsHeadOf self.now start image → Decides result (Counts start image) }
+    {
+        self.gate == 1 && self.layout == 2
+    }
+}
+
+// Which area is read; of two that count it is that of the greater epoch. None where neither counts, or both do in one
+// epoch.
+fn choose(a: &Head, b: &Head) -> Option<Area>
+    ensures { (capacity : ℕ) (image : List ℕ) → IsHeadOf a.now area_a image → IsHeadOf b.now (area_b capacity) image
+        → MatchOption result (IsUnchosen capacity image) (λ area. IsChosen (start_of capacity area) (other_of capacity area) image) }
+{
+    match (a.counts(), b.counts()) {
+        (false, false) => None,
+        (true, false) => Some(Area::A),
+        (false, true) => Some(Area::B),
+        (true, true) => {
+            if a.epoch == b.epoch {
+                None
+            } else if b.epoch < a.epoch {
+                Some(Area::A)
+            } else {
+                Some(Area::B)
+            }
+        }
+    }
+}
+
+// The area at `start`, where its head is whole.
+fn take_area(head: &Head, start: u64, over: &Head, other: u64, size: u64) -> Result<Chosen, Refusal>
+    requires small { start < 2 ^ 34 }
+    ensures used { IfOk result (λ chosen. (capacity : ℕ) (image : List ℕ) → length image ≡ size → AreAreas capacity start other → IsChosen start other image
+        → IsHeadOf head.now start image → IsHeadOf over.now other image → IsUsed capacity image chosen) }
+    ensures broken { IfErr result (λ refusal. (n capacity : ℕ) (image : List ℕ) → length image ≡ size → AreAreas capacity start other → IsChosen start other image
+        → IsHeadOf head.now start image → AreAreasUnread n capacity image refusal) }
+{
+    let offset = start + 14 + u64::from(head.size);
+    if head.epoch >= 1 << 40 || size < offset {
+        return Err(Refusal::Damaged(start));
+    }
+    Ok(Chosen {
+        start,
+        other,
+        is_closed: other < size && over.gate != 1,
+        epoch: head.epoch,
+        offset,
+    })
+}
+
+// The area that is read of an image of this size with these heads.
+fn pick(a: &Head, b: &Head, capacity: u32, size: u64) -> Result<Chosen, Refusal>
+    ensures used { IfOk result (λ chosen. (image : List ℕ) → length image ≡ size → IsHeadOf a.now area_a image → IsHeadOf b.now (area_b capacity) image
+        → IsUsed capacity image chosen) }
+    ensures broken { IfErr result (λ refusal. (n : ℕ) (image : List ℕ) → length image ≡ size → IsHeadOf a.now area_a image → IsHeadOf b.now (area_b capacity) image
+        → AreAreasUnread n capacity image refusal) }
+{
+    match choose(a, b) {
+        None => Err(Refusal::Damaged(AREA_A)),
+        Some(Area::A) => take_area(a, AREA_A, b, area_b(capacity), size),
+        Some(Area::B) => take_area(b, area_b(capacity), a, AREA_A, size),
+    }
+}
+
+// Reads the first bytes of the area at `start`. Those that the device does not have are 0, and are not asked for.
+fn head_bytes<D: Device>(device: &mut D, start: u64) -> Result<[u8; 14], Refusal>
+    ensures part { IfOk result (λ bytes. IsPart start bytes (D.disk device.old).image) }
+    ensures disk { D.disk device.new ≡ D.disk device.old }
+    ensures any_moment { LeavesOnly D.clock D.left_since device.old device.new (MayLeave (D.disk device.old)) }
+    ensures fault { IfErr result (λ refusal. IsFault (D.count device.old) (D.count device.new) refusal) }
+    ensures later { D.count device.old ≤ D.count device.new }
+    ensures same { OnOk result (D.count device.new ≡ D.count device.old) }
+    ensures reach { IsInReach (length (D.disk device.old).image) (D.reach device.old) (D.reach device.new) result }
+{
+    let mut bytes = [0; 14];
+    let size = device.size();
+    if start < size {
+        let there = (size - start).min(14) as usize;
+        if let Err(refusal) = read_part(device, start, &mut bytes[..there]) {
+            return Err(refusal);
+        }
+    }
+    Ok(bytes)
+}
+
+// Reads the head of the area at `start`.
+fn read_head<D: Device>(device: &mut D, start: u64) -> Result<Head, Refusal>
+    ensures head { IfOk result (λ head. IsHeadOf head start (D.disk device.old).image) }
+    ensures disk { D.disk device.new ≡ D.disk device.old }
+    ensures any_moment { LeavesOnly D.clock D.left_since device.old device.new (MayLeave (D.disk device.old)) }
+    ensures fault { IfErr result (λ refusal. IsFault (D.count device.old) (D.count device.new) refusal) }
+    ensures later { D.count device.old ≤ D.count device.new }
+    ensures same { OnOk result (D.count device.new ≡ D.count device.old) }
+    ensures reach { IsInReach (length (D.disk device.old).image) (D.reach device.old) (D.reach device.new) result }
+{
+    match head_bytes(device, start) {
+        Ok(bytes) => Ok(head_in(&bytes)),
+        Err(refusal) => Err(refusal),
+    }
+}
+
+// Reads the heads of both areas.
+fn read_heads<D: Device>(device: &mut D, capacity: u32) -> Result<(Head, Head), Refusal>
+    ensures a { IfOk result (λ heads. IsHeadOf heads.0 area_a (D.disk device.old).image) }
+    ensures b { IfOk result (λ heads. IsHeadOf heads.1 (area_b capacity) (D.disk device.old).image) }
+    ensures disk { D.disk device.new ≡ D.disk device.old }
+    ensures any_moment { LeavesOnly D.clock D.left_since device.old device.new (MayLeave (D.disk device.old)) }
+    ensures fault { IfErr result (λ refusal. IsFault (D.count device.old) (D.count device.new) refusal) }
+    ensures later { D.count device.old ≤ D.count device.new }
+    ensures same { OnOk result (D.count device.new ≡ D.count device.old) }
+    ensures reach { IsInReach (length (D.disk device.old).image) (D.reach device.old) (D.reach device.new) result }
+{
+    match read_head(device, AREA_A) {
+        Err(refusal) => Err(refusal),
+        Ok(a) => match read_head(device, area_b(capacity)) {
+            Err(refusal) => Err(refusal),
+            Ok(b) => Ok((a, b)),
+        },
+    }
+}
+
+/// Reads the heads of both areas: the one that is read. Refused as 15; as 16 with the offset of area A where none is,
+/// and with that of the area where its head is broken.
+pub(crate) fn choose_area<D: Device>(device: &mut D, capacity: u32) -> Result<Chosen, Refusal>
+    ensures used { IfOk result (λ chosen. IsUsed capacity (D.disk device.old).image chosen) }
+    ensures disk { D.disk device.new ≡ D.disk device.old }
+    ensures any_moment { LeavesOnly D.clock D.left_since device.old device.new (MayLeave (D.disk device.old)) }
+    ensures refusal { IfErr result (λ refusal. IsFault (D.count device.old) (D.count device.new) refusal ⊎ ((n : ℕ) → AreAreasUnread n capacity (D.disk device.old).image refusal)) }
+    ensures later { D.count device.old ≤ D.count device.new }
+    ensures same { OnOk result (D.count device.new ≡ D.count device.old) }
+    ensures first { IfErr result (λ refusal. IsFault (D.count device.old) (D.count device.new) refusal ⊎ (D.count device.new ≡ D.count device.old)) }
+    ensures works { Reaches (D.reach device.old) (length (D.disk device.old).image) → IfErr result (λ refusal. (n : ℕ) → AreAreasUnread n capacity (D.disk device.old).image refusal) }
+    ensures reach { D.reach device.new ≡ D.reach device.old }
+{
+    match read_heads(device, capacity) {
+        Err(refusal) => Err(refusal),
+        Ok((a, b)) => pick(&a, &b, capacity, device.size()),
+    }
+}

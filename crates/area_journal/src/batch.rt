@@ -1,0 +1,81 @@
+//! Inputs that become durable together.
+ghost use Rattle.std.specs.Prelude.{◌≡◌, ◌≤◌, ◌*◌, true, length, IfOk, IfErr, OnOk};
+ghost use Rattle.area_journal.specs.Frames.{IsFrame, costs_of};
+ghost use Rattle.area_journal.specs.Props.{IsFrame-prop};
+
+use crate::spell::{cost_of, spell};
+use ring_records::{Input, NodeNo, Refusal};
+use std::alloc::Global;
+
+/// 1 to 64 inputs of a node, already spelled. It must be spent: only `commit` ends it.
+pub struct Batch {
+    pub(crate) node: NodeNo,
+    pub(crate) first: u64,
+    pub(crate) inputs: Vec<Input>,
+    pub(crate) cost: u32,
+    pub(crate) bytes: Vec<u8>,
+    ghost framed: { IsFrame inputs.items bytes.items } by { IsFrame-prop inputs.items bytes.items },
+    ghost counted: { cost ≡ costs_of inputs.items },
+    ghost small: { cost ≤ 42 * 64 },
+}
+
+impl Batch {
+    ghost use Rattle.area_journal.specs.Batch.{is_size, batch_refusal, numbered, shown};
+
+    /// The inputs of this node from number `first` on, counted from 0. Refused as 2 where there are not 1 to 64 of
+    /// them, and as 8.
+    pub fn new(alloc: Global, node: NodeNo, first: u64, inputs: &[Input]) -> Result<Batch, Refusal>
+        ensures value { IfOk result (λ batch. shown batch ≡ numbered node first inputs.now) }
+        ensures size { OnOk result (is_size (length inputs.now) ≡ true) }
+        ensures bound { OnOk result (costs_of inputs.now ≤ 42 * 64) }
+        ensures refusal { IfErr result (λ refusal. refusal ≡ batch_refusal (length inputs.now)) }
+    {
+        if inputs.is_empty() || inputs.len() > 64 {
+            return Err(Refusal::BadNumber);
+        }
+        let Ok(bytes) = spell(alloc, inputs) else {
+            return Err(Refusal::OutOfMemory);
+        };
+        let Ok(kept) = inputs.to_vec(alloc) else {
+            return Err(Refusal::OutOfMemory);
+        };
+        let cost = cost_of(inputs);
+        Ok(Batch {
+            node,
+            first,
+            inputs: kept,
+            cost,
+            bytes,
+        })
+    }
+
+    /// The node whose inputs they are.
+    pub fn node(&self) -> NodeNo
+        ensures { result ≡ (shown self.now).node }
+    {
+        self.node
+    }
+
+    /// The number of the first of its inputs, counted from 0.
+    pub fn first(&self) -> u64
+        ensures { result ≡ (shown self.now).first }
+    {
+        self.first
+    }
+
+    /// Its inputs, 1 to 64.
+    pub fn inputs(&self) -> &[Input]
+        ensures value { result.now ≡ (shown self.now).inputs }
+        ensures size { is_size (length result.now) ≡ true }
+    {
+        &self.inputs
+    }
+
+    /// The bytes of the capacity that they take, at most 2,688.
+    pub fn cost(&self) -> u32
+        ensures value { result ≡ costs_of (shown self.now).inputs }
+        ensures bound { result ≤ 42 * 64 }
+    {
+        self.cost
+    }
+}

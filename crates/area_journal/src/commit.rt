@@ -1,0 +1,26 @@
+//! The four device calls of a commit.
+ghost use Rattle.std.specs.Prelude.{◌≡◌, ◌+◌, ◌++◌, ◌<◌, ◌^◌, ℕ, List, length, OnOk};
+ghost use Rattle.disk_model.specs.Disk.{IsSynced, Changes, LeavesOnly, HasCause, IsInReach};
+ghost use Rattle.ring_records.specs.declared.input.Input.{Input};
+ghost use Rattle.area_journal.specs.Frames.{IsFrame, ReadsTo, Appends};
+
+use disk_model::{Device, DeviceFault, write_through};
+
+/// Writes a frame behind the closed gate at `gate_at`, and opens the gate once the frame is stable.
+pub(crate) fn append<D: Device>(
+    device: &mut D,
+    gate_at: u64,
+    bytes: &[u8],
+) -> Result<(), DeviceFault>
+    requires fits { gate_at + 1 + length bytes.now < 2 ^ 64 }
+    ensures any_moment { (offset : ℕ) (inputs batch : List Input) → IsSynced (D.disk device.old) → ReadsTo offset (D.disk device.old).image inputs gate_at → IsFrame batch bytes.now
+        → LeavesOnly D.clock D.left_since device.old device.new (Appends offset inputs batch gate_at (length bytes.now) (D.disk device.old).image) }
+    ensures done { OnOk result ((offset : ℕ) (inputs batch : List Input) → IsSynced (D.disk device.old) → ReadsTo offset (D.disk device.old).image inputs gate_at → IsFrame batch bytes.now
+        → ReadsTo offset (D.disk device.new).image (inputs ++ batch) (gate_at + length bytes.now) × Changes gate_at (1 + length bytes.now) (D.disk device.old).image (D.disk device.new).image) }
+    ensures synced { OnOk result (IsSynced (D.disk device.new)) }
+    ensures cause { HasCause (D.count device.old) (D.count device.new) result }
+    ensures reach { IsInReach (gate_at + 1 + length bytes.now) (D.reach device.old) (D.reach device.new) result }
+{
+    write_through(device, gate_at + 1, bytes)?;
+    write_through(device, gate_at, &[1])
+}

@@ -1,0 +1,382 @@
+ghost use Rattle.std.specs.Prelude.{◌≡◌, ◌+◌, ◌-◌, ◌*◌, ◌⊎◌, ◌<◌, ◌≤◌, ◌^◌, ℕ, List, true, false, length, min, is_err, IfOk, IfErr, OnOk, OnErr, IsOk};
+ghost use Rattle.disk_model.specs.Disk.{MayLeave, LeavesOnly, HasCause, Reaches, synced};
+ghost use Rattle.ring_records.specs.Member.{member};
+ghost use Rattle.ring_records.specs.Snapshot.{IsSound, snapshot_len};
+ghost use Rattle.ring_records.specs.Summary.{empty};
+ghost use Rattle.area_journal.specs.Areas.{newest, head_len, AreAreas, ReadsAs, AllReadAs, ReadsAsOneOf, IsInUse};
+ghost use Rattle.area_journal.specs.Frames.{costs_of};
+ghost use Rattle.area_journal.specs.Reading.{Reading, with_more, fresh_area, reading_of_opening, count_in, used_in, is_header};
+ghost use Rattle.area_journal.specs.Unread.{IsFault, IsUnread, IsUnopened};
+
+use crate::area::Chosen;
+use crate::checkpoint::number;
+use crate::commit::append;
+use crate::contents::Contents;
+use crate::flown::Flown;
+use crate::format::lay_out;
+use crate::layout::{AREA_A, LAYOUT, area_b, is_header};
+use crate::open::{Opened, open};
+use crate::replace::replace_area;
+use crate::spell::used_of;
+use crate::{Batch, Checkpoint, Opening, Receipt, Spoiled};
+use disk_model::{Device, FuseDevice};
+use ring_records::{NodeNo, Refusal, summary_len};
+use std::alloc::Global;
+
+/// The durable inputs of one node, on a device of its own.
+#[derive(Drop)]
+pub struct Journal<D: Device> {
+    pub(crate) device: D,
+    node: NodeNo,
+    n: u8,
+    capacity: u32,
+    // the area in use, and where its closed gate is
+    area: Chosen,
+    gate_at: u64,
+    count: u64,
+    used: u64,
+    is_spoiled: bool,
+    ghost settled: { is_spoiled ≡ false
+        → IsInUse (member node n capacity) (D.disk device) area.start area.other area.offset gate_at area.is_closed area.epoch count used },
+    ghost areas: { AreAreas capacity area.start area.other },
+    ghost within: { gate_at ≤ area.start + head_len + used },
+    ghost counted: { count ≤ 2 ^ 56 + used },
+    ghost least: { 4096 ≤ capacity },
+    ghost small: { capacity ≤ 1048576 },
+}
+
+impl<D: Device> Journal<D> {
+    ghost use Rattle.area_journal.specs.Batch.{shown, numbered_by, base_by, landed, lost};
+    ghost use Rattle.area_journal.specs.Journal.{device_of, member_of, len_of, room_of, epoch_of, is_spoiled};
+
+    /// A journal without inputs: one write and one sync, and between them a write of one byte that closes area B, where
+    /// the device goes that far. Refused as 2 where `n` is not 2 to 16, `node` is above it, or the capacity is not 4,096 to 1,048,576
+    /// bytes, and as 15.
+    pub fn format(device: D, node: NodeNo, n: u8, capacity: u32) -> Result<Journal<D>, (D, Refusal)>
+        ensures empty { IfOk result (λ journal. AllReadAs (member node n capacity) (D.disk (device_of journal)) (fresh_area newest 1 empty)) }
+        ensures header { IfOk result (λ journal. member_of journal ≡ member node n capacity) }
+        ensures ready { IfOk result (λ journal. is_spoiled journal ≡ false) }
+        ensures len { IfOk result (λ journal. len_of journal ≡ 0) }
+        ensures room { IfOk result (λ journal. room_of journal ≡ capacity - 38) }
+        ensures epoch { IfOk result (λ journal. epoch_of journal ≡ 1) }
+        ensures range { OnOk result (is_header (member node n capacity) ≡ true) }
+        ensures same { IfOk result (λ journal. D.count (device_of journal) ≡ D.count device) }
+
+        // Refused as 2, the device is as it was; as 15, the device failed.
+        ensures number { IfErr result (λ e. is_header (member node n capacity) ≡ false → (e.1 ≡ Refusal.BadNumber) × (e.0 ≡ device)) }
+        ensures fault { IfErr result (λ e. is_header (member node n capacity) ≡ true → (e.1 ≡ Refusal.Device (D.count e.0)) × (min (D.count device + 1) (2 ^ 64 - 1) ≤ D.count e.0)) }
+        ensures works { is_header (member node n capacity) ≡ true → Reaches (D.reach device) (46 + 2 * capacity) → IsOk result }
+        ensures reach { IfOk result (λ journal. D.reach (device_of journal) ≡ D.reach device) }
+    {
+        if !is_header(node, n, capacity) {
+            return Err((device, Refusal::BadNumber));
+        }
+        let mut device = device;
+        match lay_out(&mut device, node, n, capacity) {
+            Ok(is_closed) => {
+                let area = Chosen {
+                    start: AREA_A,
+                    other: area_b(capacity),
+                    is_closed,
+                    epoch: 1,
+                    offset: 68,
+                };
+                Ok(Journal {
+                    device,
+                    node,
+                    n,
+                    capacity,
+                    area,
+                    gate_at: 68,
+                    count: 0,
+                    used: 38,
+                    is_spoiled: false,
+                })
+            }
+            Err(_) => {
+                let failures = device.failures();
+                Err((device, Refusal::Device(failures)))
+            }
+        }
+    }
+
+    /// The journal that a device holds, which it makes stable first, and what its area in use holds. What was committed
+    /// is there, and of a batch that a stop came upon all or nothing. Refused as 15; as 17 where there is no header; as 18
+    /// where it is that of a journal without areas; as 19 where it names another node or ring size; as 16 with the offset
+    /// of what is damaged; and as 8.
+    pub fn reopen(
+        alloc: Global,
+        device: D,
+        node: NodeNo,
+        n: u8,
+    ) -> Result<(Journal<D>, Opening), (D, Refusal)>
+        // What is read stood there at the start, and stands in every image that a stop may leave afterwards.
+        ensures reads { IfOk result (λ r. ReadsAs (member_of r.0) (D.disk device).image (reading_of_opening r.1)) }
+        ensures durable { IfOk result (λ r. AllReadAs (member_of r.0) (D.disk (device_of r.0)) (reading_of_opening r.1)) }
+        ensures header { IfOk result (λ r. ((member_of r.0).node ≡ node) × ((member_of r.0).n ≡ n)) }
+        ensures ready { IfOk result (λ r. is_spoiled r.0 ≡ false) }
+        ensures len { IfOk result (λ r. len_of r.0 ≡ count_in (reading_of_opening r.1)) }
+        ensures room { IfOk result (λ r. room_of r.0 ≡ (member_of r.0).capacity - used_in (reading_of_opening r.1)) }
+        ensures epoch { IfOk result (λ r. epoch_of r.0 ≡ r.1.epoch) }
+        ensures sound { IfOk result (λ r. IsSound n r.1.base) }
+
+        // A refusal has its cause. While the device works it is the image's, or want of memory.
+        ensures refusal { IfErr result (λ e. IsUnopened node n (D.count device) (D.count e.0) (D.disk device).image e.1) }
+        ensures works { Reaches (D.reach device) (length (D.disk device).image) → IfErr result (λ e. (e.1 ≡ Refusal.OutOfMemory) ⊎ IsUnread node n (D.disk device).image e.1) }
+
+        // No call failed where it is opened. A call that failed is told before all else.
+        ensures same { IfOk result (λ r. D.count (device_of r.0) ≡ D.count device) }
+        ensures first { IfErr result (λ e. IsFault (D.count device) (D.count e.0) e.1 ⊎ (D.count e.0 ≡ D.count device)) }
+
+        // The device is synced, and nothing else is done to it. What is told of an image is told of a synced one.
+        ensures disk { IfOk result (λ r. D.disk (device_of r.0) ≡ synced (D.disk device)) }
+        ensures kept { IfErr result (λ e. (D.disk e.0 ≡ D.disk device) ⊎ (D.disk e.0 ≡ synced (D.disk device))) }
+        ensures stable { IfErr result (λ e. IsFault (D.count device) (D.count e.0) e.1 ⊎ (D.disk e.0 ≡ synced (D.disk device))) }
+
+        // A stop at any moment leaves what it might have left at the start.
+        ensures any_moment { IfOk result (λ r. LeavesOnly D.clock D.left_since device (device_of r.0) (MayLeave (D.disk device))) }
+        ensures any_moment_err { IfErr result (λ e. LeavesOnly D.clock D.left_since device e.0 (MayLeave (D.disk device))) }
+        ensures reach { IfOk result (λ r. D.reach (device_of r.0) ≡ D.reach device) }
+        ensures reach_err { IfErr result (λ e. D.reach e.0 ≡ D.reach device) }
+    {
+        let mut device = device;
+        match open(alloc, &mut device, node, n) {
+            Err(refusal) => Err((device, refusal)),
+            Ok(
+                Opened {
+                    capacity,
+                    area,
+                    contents,
+                },
+            ) => {
+                let Contents {
+                    base,
+                    inputs,
+                    gate_at,
+                } = contents;
+                let journal = Journal {
+                    device,
+                    node,
+                    n,
+                    capacity,
+                    area,
+                    gate_at,
+                    count: base.inputs + inputs.len() as u64,
+                    used: summary_len(&base) + used_of(&inputs),
+                    is_spoiled: false,
+                };
+                let opening = Opening {
+                    layout: LAYOUT,
+                    epoch: area.epoch,
+                    base,
+                    inputs,
+                };
+                Ok((journal, opening))
+            }
+        }
+    }
+
+    /// The node whose inputs it holds.
+    pub fn node(&self) -> NodeNo
+        ensures { result ≡ (member_of self.now).node }
+    {
+        self.node
+    }
+
+    /// The bytes that its snapshot and its inputs may take, the inputs by their costs, 4,096 to 1,048,576.
+    pub fn capacity(&self) -> u32
+        ensures value { result ≡ (member_of self.now).capacity }
+        ensures from { 4096 ≤ result }
+        ensures to { result ≤ 1048576 }
+    {
+        self.capacity
+    }
+
+    /// How many inputs it holds, those that are summarised among them.
+    pub fn len(&self) -> u64
+        ensures value { result ≡ len_of self.now }
+        ensures reading { is_spoiled self.now ≡ false → (r : Reading) → AllReadAs (member_of self.now) (D.disk (device_of self.now)) r → result ≡ count_in r }
+    {
+        self.count
+    }
+
+    /// How many bytes of the capacity are left.
+    pub fn room(&self) -> u32
+        ensures value { result ≡ room_of self.now }
+        ensures reading { is_spoiled self.now ≡ false → (r : Reading) → AllReadAs (member_of self.now) (D.disk (device_of self.now)) r
+            → result ≡ (member_of self.now).capacity - used_in r }
+    {
+        u64::from(self.capacity).saturating_sub(self.used) as u32
+    }
+
+    /// The epoch of its area in use, below 2^40: each checkpoint raises it by 1.
+    pub fn epoch(&self) -> u64
+        ensures value { result ≡ epoch_of self.now }
+        ensures reading { is_spoiled self.now ≡ false → (r : Reading) → AllReadAs (member_of self.now) (D.disk (device_of self.now)) r → result ≡ r.epoch }
+    {
+        self.area.epoch
+    }
+
+    /// Whether the device has failed in a `commit` or a `checkpoint`: then it may hold what was to become durable or not,
+    /// and nothing more is committed.
+    pub fn is_spoiled(&self) -> bool
+        ensures { result ≡ is_spoiled self.now }
+    {
+        self.is_spoiled
+    }
+
+    /// How many calls of its device have failed.
+    pub fn failures(&self) -> u64
+        ensures { result ≡ D.count (device_of self.now) }
+    {
+        self.device.failures()
+    }
+
+    /// Ends the journal, and gives its device.
+    pub fn into_device(self) -> D
+        ensures { result ≡ device_of self }
+    {
+        let Journal {
+            device,
+            node: _,
+            n: _,
+            capacity: _,
+            area: _,
+            gate_at: _,
+            count: _,
+            used: _,
+            is_spoiled: _,
+        } = self;
+        device
+    }
+
+    /// Makes a batch durable, whole, by four device calls. At `Err` the device failed, and the journal is spoiled.
+    pub fn commit(&mut self, batch: Batch) -> Result<Receipt, Spoiled>
+        requires ready { is_spoiled self.old ≡ false }
+        requires node { (shown batch).node ≡ (member_of self.old).node }
+        requires first { (shown batch).first ≡ len_of self.old }
+        requires room { costs_of (shown batch).inputs ≤ room_of self.old }
+
+        // A stop at any moment of the call leaves what was read before it, with the whole batch or without.
+        ensures any_moment { (r : Reading) → AllReadAs (member_of self.old) (D.disk (device_of self.old)) r
+            → LeavesOnly D.clock D.left_since (device_of self.old) (device_of self.new) (ReadsAsOneOf (member_of self.old) r (with_more r (shown batch).inputs)) }
+
+        // At `Ok` the batch is durable.
+        ensures durable { OnOk result ((r : Reading) → AllReadAs (member_of self.old) (D.disk (device_of self.old)) r
+            → AllReadAs (member_of self.old) (D.disk (device_of self.new)) (with_more r (shown batch).inputs)) }
+        ensures spoils { is_spoiled self.new ≡ is_err result }
+        ensures cause { HasCause (D.count (device_of self.old)) (D.count (device_of self.new)) result }
+        ensures works { Reaches (D.reach (device_of self.old)) (46 + 2 * (member_of self.old).capacity) → IsOk result }
+        ensures reach { D.reach (device_of self.new) ≡ D.reach (device_of self.old) }
+        ensures receipt { IfOk result (λ receipt. landed receipt ≡ shown batch) }
+        ensures spoiled { IfErr result (λ spoiled. lost spoiled ≡ shown batch) }
+        ensures header { member_of self.new ≡ member_of self.old }
+        ensures len { OnOk result (len_of self.new ≡ len_of self.old + length (shown batch).inputs) }
+        ensures kept { OnErr result ((len_of self.new ≡ len_of self.old) × (room_of self.new ≡ room_of self.old)) }
+        ensures left { OnOk result (room_of self.new ≡ room_of self.old - costs_of (shown batch).inputs) }
+        ensures epoch { epoch_of self.new ≡ epoch_of self.old }
+    {
+        let Batch {
+            node,
+            first,
+            inputs,
+            cost,
+            bytes,
+        } = batch;
+        self.is_spoiled = true;
+        let more = inputs.len() as u64;
+        let flown = Flown {
+            node,
+            first,
+            inputs,
+            snapshot: None,
+        };
+        match append(&mut self.device, self.gate_at, &bytes) {
+            Ok(()) => {
+                self.gate_at += bytes.len() as u64;
+                self.count += more;
+                self.used += u64::from(cost);
+                self.is_spoiled = false;
+                Ok(Receipt { flown })
+            }
+            Err(_) => Err(Spoiled { flown }),
+        }
+    }
+
+    /// Makes a summary of all inputs durable in place of what the area in use holds, by six device calls. It takes no
+    /// memory. At `Err` the device failed, and the journal is spoiled.
+    pub fn checkpoint(&mut self, checkpoint: Checkpoint) -> Result<Receipt, Spoiled>
+        requires ready { is_spoiled self.old ≡ false }
+        requires node { (numbered_by checkpoint).node ≡ (member_of self.old).node }
+        requires first { (numbered_by checkpoint).first ≡ len_of self.old }
+        requires fits { snapshot_len (base_by checkpoint) ≤ (member_of self.old).capacity }
+        requires sound { IsSound (member_of self.old).n (base_by checkpoint) }
+        requires epoch { epoch_of self.old + 1 < 2 ^ 40 }
+
+        // A stop at any moment of the call leaves what was read before it, or the summary and no inputs behind it.
+        ensures any_moment { (r : Reading) → AllReadAs (member_of self.old) (D.disk (device_of self.old)) r
+            → LeavesOnly D.clock D.left_since (device_of self.old) (device_of self.new) (ReadsAsOneOf (member_of self.old) r (fresh_area newest (epoch_of self.old + 1) (base_by checkpoint))) }
+
+        // At `Ok` the summary is durable.
+        ensures durable { OnOk result ((r : Reading) → AllReadAs (member_of self.old) (D.disk (device_of self.old)) r
+            → AllReadAs (member_of self.old) (D.disk (device_of self.new)) (fresh_area newest (epoch_of self.old + 1) (base_by checkpoint))) }
+        ensures spoils { is_spoiled self.new ≡ is_err result }
+        ensures cause { HasCause (D.count (device_of self.old)) (D.count (device_of self.new)) result }
+        ensures works { Reaches (D.reach (device_of self.old)) (46 + 2 * (member_of self.old).capacity) → IsOk result }
+        ensures reach { D.reach (device_of self.new) ≡ D.reach (device_of self.old) }
+        ensures receipt { IfOk result (λ receipt. landed receipt ≡ numbered_by checkpoint) }
+        ensures spoiled { IfErr result (λ spoiled. lost spoiled ≡ numbered_by checkpoint) }
+        ensures header { member_of self.new ≡ member_of self.old }
+        ensures len { OnOk result (len_of self.new ≡ (base_by checkpoint).inputs) }
+        ensures room { OnOk result (room_of self.new ≡ (member_of self.old).capacity - snapshot_len (base_by checkpoint)) }
+        ensures next { OnOk result (epoch_of self.new ≡ epoch_of self.old + 1) }
+        ensures kept { OnErr result ((len_of self.new ≡ len_of self.old) × (room_of self.new ≡ room_of self.old) × (epoch_of self.new ≡ epoch_of self.old)) }
+    {
+        let Checkpoint { flown, base, bytes } = checkpoint;
+        let mut bytes = bytes;
+        let area = self.area;
+        let epoch = area.epoch + 1;
+        number(&mut bytes, epoch);
+        self.is_spoiled = true;
+        match replace_area(&mut self.device, area.other, area.is_closed, &bytes) {
+            Ok(()) => {
+                let used = summary_len(&base);
+                let offset = area.other + 14 + used;
+                self.area = Chosen {
+                    start: area.other,
+                    other: area.start,
+                    is_closed: false,
+                    epoch,
+                    offset,
+                };
+                self.gate_at = offset;
+                self.count = base.inputs;
+                self.used = used;
+                self.is_spoiled = false;
+                Ok(Receipt { flown })
+            }
+            Err(_) => Err(Spoiled { flown }),
+        }
+    }
+}
+
+impl<D: Device> Journal<FuseDevice<D>> {
+    ghost use Rattle.disk_model.specs.Fuse.{planned};
+    ghost use Rattle.disk_model.specs.FuseDevice.{inner_of, will_fail, own_faults};
+    ghost use Rattle.area_journal.specs.Journal.{device_of, member_of, len_of, room_of, epoch_of, is_spoiled};
+
+    /// Sets the device's fuse anew: from now on `after` of its calls pass, and then the next fails if `once`, else all
+    /// later ones.
+    pub fn arm(&mut self, after: u64, once: bool)
+        ensures fuse { (k : ℕ) → will_fail (device_of self.new) k ≡ planned after once k }
+        ensures inner { inner_of (device_of self.new) ≡ inner_of (device_of self.old) }
+        ensures faults { own_faults (device_of self.new) ≡ own_faults (device_of self.old) }
+        ensures header { member_of self.new ≡ member_of self.old }
+        ensures len { len_of self.new ≡ len_of self.old }
+        ensures room { room_of self.new ≡ room_of self.old }
+        ensures epoch { epoch_of self.new ≡ epoch_of self.old }
+        ensures spoiled { is_spoiled self.new ≡ is_spoiled self.old }
+    {
+        self.device.arm(after, once);
+    }
+}

@@ -1,0 +1,36 @@
+//! Where a journal lies on its device.
+ghost use Rattle.std.specs.Prelude.{◌≡◌, ◌+◌, ◌*◌};
+ghost use Rattle.ring_records.specs.Member.{member};
+ghost use Rattle.area_journal.specs.Areas.{area_b};
+ghost use Rattle.area_journal.specs.Reading.{is_header};
+
+use ring_records::NodeNo;
+
+/// The layout of the areas that are written, and the only one that is read.
+pub(crate) const LAYOUT: u8 = 2;
+
+/// The offset of area A: it stands behind the header.
+pub(crate) const AREA_A: u64 = 16;
+
+/// The offset of area B: it stands where area A ends at the latest.
+pub(crate) fn area_b(capacity: u32) -> u64
+    ensures { result ≡ area_b capacity }
+{
+    31 + u64::from(capacity)
+}
+
+/// Whether a journal may have this header: of a ring of 2 to 16 nodes, a node of it, and a capacity of 4,096 to
+/// 1,048,576 bytes.
+pub fn is_header(node: NodeNo, n: u8, capacity: u32) -> bool
+    ensures { result ≡ is_header (member node n capacity) }
+{
+    2 <= n && n <= 16 && node.number() <= n && 4096 <= capacity && capacity <= 1_048_576
+}
+
+/// How many bytes of a device a journal of this capacity may come to use: its header and two areas. Each of these has 14
+/// bytes of its own before the capacity, and a gate behind it.
+pub fn device_size(capacity: u32) -> u64
+    ensures { result ≡ 46 + 2 * capacity }
+{
+    area_b(capacity) + 15 + u64::from(capacity)
+}

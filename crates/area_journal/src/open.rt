@@ -1,0 +1,131 @@
+//! What a device holds, read from its start.
+ghost use Rattle.std.specs.Prelude.{◌≡◌, ◌≤◌, ◌⊎◌, ℕ, List, Ok, Err, length, IfOk, IfErr, OnOk, OnErr};
+ghost use Rattle.disk_model.specs.Disk.{MayLeave, IsSynced, LeavesOnly, Reaches, IsInReach, synced};
+ghost use Rattle.ring_records.specs.declared.refusal.Refusal.TheVariants.{OutOfMemory};
+ghost use Rattle.ring_records.specs.Member.{member};
+ghost use Rattle.area_journal.specs.Areas.{ReadsAt, IsGate};
+ghost use Rattle.area_journal.specs.Choose.{reading_of};
+ghost use Rattle.area_journal.specs.Frames.{ReadsTo};
+ghost use Rattle.area_journal.specs.Unread.{head_at, header_at, IsFault, IsUnread, IsUnopened};
+
+use crate::area::Chosen;
+use crate::contents::{Contents, read_areas};
+use crate::read::read_part;
+use disk_model::Device;
+use ring_records::{NodeNo, Refusal};
+use std::alloc::Global;
+
+/// What is found on a device.
+#[derive(Drop)]
+pub(crate) struct Opened {
+    pub(crate) capacity: u32,
+    pub(crate) area: Chosen,
+    pub(crate) contents: Contents,
+}
+
+// Makes what a read gives stable.
+fn settle<D: Device>(device: &mut D) -> Result<(), Refusal>
+    ensures synced { OnOk result (IsSynced (D.disk device.new)) }
+    ensures disk { OnOk result (D.disk device.new ≡ synced (D.disk device.old)) }
+    ensures failed { OnErr result (D.disk device.new ≡ D.disk device.old) }
+    ensures image { (D.disk device.new).image ≡ (D.disk device.old).image }
+    ensures stays { (image : List ℕ) → MayLeave (D.disk device.new) image → MayLeave (D.disk device.old) image }
+    ensures any_moment { LeavesOnly D.clock D.left_since device.old device.new (MayLeave (D.disk device.old)) }
+    ensures fault { IfErr result (λ refusal. IsFault (D.count device.old) (D.count device.new) refusal) }
+    ensures later { D.count device.old ≤ D.count device.new }
+    ensures same { OnOk result (D.count device.new ≡ D.count device.old) }
+    ensures reach { IsInReach 0 (D.reach device.old) (D.reach device.new) result }
+{
+    match device.sync() {
+        Ok(()) => Ok(()),
+        Err(_) => Err(Refusal::Device(device.failures())),
+    }
+}
+
+// The capacity that a header names.
+fn capacity_of(head: &[u8; 16], node: NodeNo, n: u8) -> Result<u32, Refusal>
+    ensures { result ≡ head_at node n head.now }
+{
+    if !head.starts_with(b"CRJRNL02") {
+        if head.starts_with(b"CRJRNL01") {
+            return Err(Refusal::OldLayout(1));
+        }
+        return Err(Refusal::NotFormatted);
+    }
+    if !(head[8] == node.number() && head[9] == n) {
+        return Err(Refusal::WrongNode);
+    }
+    let capacity = u32::from_be_bytes([head[10], head[11], head[12], head[13]]);
+    if !(4096 <= capacity && capacity <= 1_048_576) {
+        return Err(Refusal::Damaged(10));
+    }
+    if u16::from_be_bytes([head[14], head[15]]) != 0 {
+        return Err(Refusal::Damaged(14));
+    }
+    Ok(capacity)
+}
+
+// Makes the device stable, and reads its header: the capacity.
+fn read_header<D: Device>(device: &mut D, node: NodeNo, n: u8) -> Result<u32, Refusal>
+    ensures header { IfOk result (λ capacity. header_at node n (D.disk device.old).image ≡ Ok capacity) }
+    ensures synced { OnOk result (IsSynced (D.disk device.new)) }
+    ensures disk { OnOk result (D.disk device.new ≡ synced (D.disk device.old)) }
+    ensures kept { (D.disk device.new ≡ D.disk device.old) ⊎ (D.disk device.new ≡ synced (D.disk device.old)) }
+    ensures stable { IfErr result (λ refusal. IsFault (D.count device.old) (D.count device.new) refusal ⊎ (D.disk device.new ≡ synced (D.disk device.old))) }
+    ensures image { (D.disk device.new).image ≡ (D.disk device.old).image }
+    ensures stays { (image : List ℕ) → MayLeave (D.disk device.new) image → MayLeave (D.disk device.old) image }
+    ensures any_moment { LeavesOnly D.clock D.left_since device.old device.new (MayLeave (D.disk device.old)) }
+    ensures refusal { IfErr result (λ refusal. IsFault (D.count device.old) (D.count device.new) refusal ⊎ (header_at node n (D.disk device.old).image ≡ Err refusal)) }
+    ensures later { D.count device.old ≤ D.count device.new }
+    ensures same { OnOk result (D.count device.new ≡ D.count device.old) }
+    ensures first { IfErr result (λ refusal. IsFault (D.count device.old) (D.count device.new) refusal ⊎ (D.count device.new ≡ D.count device.old)) }
+    ensures works { Reaches (D.reach device.old) (length (D.disk device.old).image) → IfErr result (λ refusal. header_at node n (D.disk device.old).image ≡ Err refusal) }
+    ensures reach { D.reach device.new ≡ D.reach device.old }
+{
+    if let Err(refusal) = settle(device) {
+        return Err(refusal);
+    }
+    if device.size() < 17 {
+        return Err(Refusal::NotFormatted);
+    }
+    let mut head = [0; 16];
+    if let Err(refusal) = read_part(device, 0, &mut head) {
+        return Err(refusal);
+    }
+    capacity_of(&head, node, n)
+}
+
+/// Makes the device stable, and reads the whole of it: the journal of this node of a ring of `n`.
+pub(crate) fn open<D: Device>(
+    alloc: Global,
+    device: &mut D,
+    node: NodeNo,
+    n: u8,
+) -> Result<Opened, Refusal>
+    ensures reads { IfOk result (λ opened. ReadsAt (member node n opened.capacity) (D.disk device.old).image (reading_of opened.area opened.contents)
+        opened.area.start opened.area.other opened.area.offset opened.contents.gate_at) }
+    ensures gate { IfOk result (λ opened. IsGate opened.area.is_closed opened.area.other (D.disk device.old).image) }
+    ensures synced { OnOk result (IsSynced (D.disk device.new)) }
+    ensures disk { OnOk result (D.disk device.new ≡ synced (D.disk device.old)) }
+    ensures kept { (D.disk device.new ≡ D.disk device.old) ⊎ (D.disk device.new ≡ synced (D.disk device.old)) }
+    ensures stable { IfErr result (λ refusal. IsFault (D.count device.old) (D.count device.new) refusal ⊎ (D.disk device.new ≡ synced (D.disk device.old))) }
+    ensures same { OnOk result (D.count device.new ≡ D.count device.old) }
+    ensures first { IfErr result (λ refusal. IsFault (D.count device.old) (D.count device.new) refusal ⊎ (D.count device.new ≡ D.count device.old)) }
+    ensures image { (D.disk device.new).image ≡ (D.disk device.old).image }
+    ensures any_moment { LeavesOnly D.clock D.left_since device.old device.new (MayLeave (D.disk device.old)) }
+    ensures refusal { IfErr result (λ refusal. IsUnopened node n (D.count device.old) (D.count device.new) (D.disk device.old).image refusal) }
+    ensures works { Reaches (D.reach device.old) (length (D.disk device.old).image) → IfErr result (λ refusal. (refusal ≡ OutOfMemory) ⊎ IsUnread node n (D.disk device.old).image refusal) }
+    ensures reach { D.reach device.new ≡ D.reach device.old }
+{
+    match read_header(device, node, n) {
+        Err(refusal) => Err(refusal),
+        Ok(capacity) => match read_areas(alloc, device, n, capacity) {
+            Err(refusal) => Err(refusal),
+            Ok((area, contents)) => Ok(Opened {
+                capacity,
+                area,
+                contents,
+            }),
+        },
+    }
+}

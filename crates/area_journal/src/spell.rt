@@ -1,0 +1,68 @@
+//! A frame's bytes.
+ghost use Rattle.std.specs.Prelude.{◌≡◌, ◌≤◌, ◌+◌, ◌*◌, ◌^◌, ◌<◌, ◌++◌, ◌∷◌, [], length, IfOk, OnOk};
+ghost use Rattle.ring_records.specs.Record.{AreBytes, HasRecord, record_of};
+ghost use Rattle.area_journal.specs.Frames.{IsFrame, records, costs_of};
+
+use ring_records::{Input, write_record};
+use std::alloc::{AllocError, Global};
+
+/// The bytes of the capacity that the inputs take together.
+pub(crate) fn cost_of(inputs: &[Input]) -> u32
+    requires { length inputs.now ≤ 64 }
+    ensures value { result ≡ costs_of inputs.now }
+    ensures records { result ≡ length (records inputs.now) + 7 * length inputs.now }
+    ensures bound { result ≤ 42 * 64 }
+{
+    let mut cost = 0;
+    for input in inputs {
+        cost += input.cost();
+    }
+    cost
+}
+
+/// The bytes of a capacity that the inputs of an area take.
+pub(crate) fn used_of(inputs: &[Input]) -> u64
+    requires { costs_of inputs.now < 2 ^ 64 }
+    ensures { result ≡ costs_of inputs.now }
+{
+    let mut used = 0;
+    for input in inputs {
+        used += u64::from(input.cost());
+    }
+    used
+}
+
+fn push_text(bytes: &mut Vec<u8>, text: &[u8]) -> Result<(), AllocError>
+    ensures items { OnOk result (bytes.new.items ≡ bytes.old.items ++ text.now) }
+    ensures range { AreBytes text.now }
+{
+    bytes.extend_from_slice(text)
+}
+
+// Writes the input's record behind the bytes.
+fn push_record(bytes: &mut Vec<u8>, input: &Input) -> Result<(), AllocError>
+    ensures record { OnOk result (bytes.new.items ≡ bytes.old.items ++ record_of input.now) }
+    ensures has { HasRecord input.now }
+{
+    let mut record = [0; 35];
+    let size = write_record(input, &mut record);
+    push_text(bytes, &record[..size])
+}
+
+/// The frame of the inputs behind its gate, and the next gate, which is closed.
+pub(crate) fn spell(alloc: Global, inputs: &[Input]) -> Result<Vec<u8>, AllocError>
+    requires some { 1 ≤ length inputs.now }
+    requires few { length inputs.now ≤ 64 }
+    ensures { IfOk result (λ bytes. IsFrame inputs.now bytes.items) }
+{
+    let count = inputs.len() as u16;
+    let len = cost_of(inputs) - 7 * u32::from(count);
+    let mut bytes = Vec::new(alloc);
+    bytes.extend_from_slice(&count.to_be_bytes())?;
+    bytes.extend_from_slice(&len.to_be_bytes())?;
+    for input in inputs {
+        push_record(&mut bytes, input)?;
+    }
+    bytes.push(0)?;
+    Ok(bytes)
+}
