@@ -1,0 +1,192 @@
+-- What lands at a desk: what its inputs that flew bring, by what was known before them.
+use Rattle.std.proofs.Common.{◌≡◌, ℕ, ◌+◌, ◌-◌, ◌≤◌, List, [], ◌∷◌, ◌++◌, length, take, drop, refl, sym, ap, ◌∙◌, subst, append_assoc, arith, None}
+use Rattle.std.proofs.Math.Seq.{take-add}
+use Rattle.std.proofs.lemmas.Bool.{lt-ltb, le-ltb}
+use Rattle.std.proofs.lemmas.List.{length-append, length-take-le, length-drop, drop-drop, take-append-drop, take-append-le, drop-append-le, take_all, drop_all}
+use Rattle.std.proofs.lemmas.List.Elements.{filter_map-append}
+use Rattle.std.proofs.lemmas.List.Sums.{fold-append}
+use Rattle.std.specs.Prelude.{if◌then◌else◌}
+use Rattle.ring_records.specs.declared.base.Base.{Base}
+use Rattle.ring_records.specs.declared.decision.Decision.{Decision}
+use Rattle.ring_records.specs.declared.input.Input.{Input}
+use Rattle.ring_records.specs.declared.msg.Msg.{Msg}
+use Rattle.ring_records.specs.declared.packet.Packet.{Packet}
+use Rattle.ring_records.specs.declared.packet.Packet.TheVariants.{Credit}
+use Rattle.ring_records.specs.declared.summary.Summary.{Summary}
+use Rattle.ring_records.specs.Admission.{IsAllowed, IsAdmitted, IsLawful}
+use Rattle.ring_records.specs.Emission.{sent, carry}
+use Rattle.ring_records.specs.History.{taken, credit}
+use Rattle.ring_records.specs.Known.{Objects, stepped, after}
+use Rattle.ring_records.specs.Leader.{decided}
+use Rattle.ring_records.specs.Lists.{found_after, EachAfter}
+use Rattle.ring_records.specs.Member.{Member}
+use Rattle.ring_records.specs.Release.{carries, credit_where, credits, packets, decisions}
+use Rattle.ring_records.specs.Summary.{summary}
+use Rattle.ring_records.proofs.Growth.{taken-append, EachAfter-take}
+use Rattle.ring_records.proofs.Known.{credit-sent}
+use Rattle.node_core.specs.declared.effects.Effects.{Effects}
+use Rattle.area_desk.specs.declared.outbox.Outbox.{Outbox}
+use Rattle.area_desk.specs.Kept.{HoldsFor, decisions_since}
+use Rattle.area_desk.specs.Past.{IsPast, moved}
+use Rattle.area_desk.specs.Opening.{opened_core, core_after, IsOpenTo, IsKnownLawful}
+use Rattle.area_desk.specs.Outbox.{AreFree, brought_after, carried, told, leaders_in, credit_since, Holds}
+use Rattle.area_desk.proofs.Opening.{objects_none, free-part, EachAfter-behind, EachAfter-from}
+use Rattle.area_desk.proofs.Past.{Follows, follows, desk_follows-take, found-known}
+use Rattle.area_desk.proofs.Settling.{brought-append, length-brought}
+
+-- ---- the inputs that fly
+
+-- those from one number to another
+abbrev pub part : ℕ → ℕ → List Input → List Input
+part start end inputs = take (end - start) (drop start inputs)
+
+part-rest : (start end : ℕ) (inputs : List Input) → start ≤ end → drop start inputs ≡ part start end inputs ++ drop end inputs
+part-rest start end inputs within =
+    let sum : end - start + start ≡ end = omega arith in
+    sym (take-append-drop (end - start) (drop start inputs)) ∙ ap (λ l. part start end inputs ++ l) (drop-drop (end - start) start inputs ∙ ap (λ n. drop n inputs) (omega (arith, sum)))
+
+part-joins : (start end : ℕ) (inputs : List Input) → start ≤ end → take start inputs ++ part start end inputs ≡ take end inputs
+part-joins start end inputs within =
+    let sum : start + (end - start) ≡ end = omega arith in
+    sym (take-add start (end - start) inputs) ∙ ap (λ n. take n inputs) sum
+
+pub part-length : (start end : ℕ) (inputs : List Input) → end ≤ length inputs → length (part start end inputs) ≡ end - start
+part-length start end inputs within =
+    let left = length-drop start inputs in
+    length-take-le (end - start) (drop start inputs) (omega (arith, left))
+
+-- so they are the first of those that wait
+pub flies : (me start end : ℕ) (outbox : Outbox) (opening : Summary) (inputs : List Input) → start ≤ end → end ≤ length inputs → HoldsFor me outbox opening (take start inputs) (drop start inputs) (end - start)
+    → Holds me outbox (after me opening (take start inputs)) (decisions_since me opening (take start inputs)) (part start end inputs ++ drop end inputs) (length (part start end inputs))
+flies me start end outbox opening inputs within all holds =
+    subst (λ (p : List Input × ℕ). Holds me outbox (after me opening (take start inputs)) (decisions_since me opening (take start inputs)) p.0 p.1)
+    (λ i. (part-rest start end inputs within i, sym (part-length start end inputs all) i)) holds
+
+-- and nothing is against them
+pub free : (m : Member) (bytes start end : ℕ) (opening : Summary) (inputs : List Input) → start ≤ end → IsKnownLawful (opened_core m opening bytes) inputs → AreFree m.node m.n (after m.node opening (take start inputs)) (part start end inputs)
+free m bytes start end opening inputs within lawful =
+    free-part (opened_core m opening bytes) (take start inputs) (part start end inputs) (drop end inputs)
+    (subst (IsKnownLawful (opened_core m opening bytes)) (sym (take-append-drop start inputs) ∙ ap (λ l. take start inputs ++ l) (part-rest start end inputs within)) lawful)
+
+-- nor against the first of them
+pub free-first : (m : Member) (bytes k : ℕ) (opening : Summary) (inputs : List Input) → IsKnownLawful (opened_core m opening bytes) inputs → AreFree m.node m.n opening (take k inputs)
+free-first m bytes k opening inputs lawful =
+    let first = opened_core m opening bytes in
+    EachAfter-from (IsOpenTo first) (λ before x. Objects m.n (after m.node opening before) x None) [] (λ before x free. objects_none (core_after first before) x free) [] (take k inputs)
+    (EachAfter-take (IsOpenTo first) k inputs lawful)
+
+-- what they bring stood first
+pub brought-part : (me : ℕ) (s : Summary) (l rest : List Input) (waiting : List Effects) → waiting ≡ brought_after me s (l ++ rest) → take (length l) waiting ≡ brought_after me s l
+brought-part me s l rest waiting is =
+    let count = length-brought me s l in
+    let size : length l ≡ length (brought_after me s l) = sym count in
+    ap (take (length l)) (is ∙ brought-append me s l rest)
+    ∙ (take-append-le (length l) (brought_after me s l) (brought_after me (after me s l) rest) (omega (arith, count))
+    ∙ take_all (length l) (brought_after me s l) (omega (arith, count)))
+
+-- the desk once they are durable
+pub lands : (me start end : ℕ) (new : Outbox) (opening : Summary) (inputs : List Input) (all : List Decision) (waiting : List Effects) → start ≤ end → waiting ≡ brought_after me (after me opening (take start inputs)) (drop start inputs)
+    → all ≡ told (take (length (part start end inputs)) waiting)
+    → Holds me new (after me (after me opening (take start inputs)) (part start end inputs)) (decisions_since me opening (take start inputs) ++ all) (drop end inputs) 0
+    → HoldsFor me new opening (take end inputs) (drop end inputs) (end - end)
+lands me start end new opening inputs all waiting within waits are holds =
+    let s = after me opening (take start inputs) in
+    let l = part start end inputs in
+    let joined = part-joins start end inputs within in
+    let none : 0 ≡ end - end = omega arith in
+    let brings = brought-part me s l (drop end inputs) waiting (waits ∙ ap (brought_after me s) (part-rest start end inputs within)) in
+    let known = sym (fold-append (stepped me) opening (take start inputs) l) ∙ ap (after me opening) joined in
+    let front = told (brought_after me opening (take start inputs)) in
+    let grown = ap (λ ds. front ++ ds) (are ∙ ap told brings)
+    ∙ (sym (filter_map-append (λ (e : Effects). e.decided) (brought_after me opening (take start inputs)) (brought_after me s l))
+    ∙ (ap told (sym (brought-append me opening (take start inputs) l)) ∙ ap (λ k. told (brought_after me opening k)) joined)) in
+    let more = append_assoc (leaders_in opening) front all ∙ ap (λ ds. leaders_in opening ++ ds) grown in
+    subst (λ (p : (Summary × List Decision) × ℕ). Holds me new p.0.0 p.0.1 (drop end inputs) p.1) (λ i. ((known i, more i), none i)) holds
+
+-- all of them are durable
+pub whole_holds : (me count : ℕ) (outbox : Outbox) (opening : Summary) (inputs : List Input) → count ≡ length inputs → Holds me outbox (after me opening inputs) (decisions_since me opening inputs) [] 0 → HoldsFor me outbox opening (take count inputs) (drop count inputs) (count - count)
+whole_holds me count outbox opening inputs all holds =
+    let none : 0 ≡ count - count = omega arith in
+    subst (λ (p : (List Input × List Input) × ℕ). HoldsFor me outbox opening p.0.0 p.0.1 p.1)
+    (λ i. ((sym (take_all count inputs (omega (arith, all))) i, sym (drop_all count inputs (omega (arith, all))) i), none i)) holds
+
+-- more inputs wait behind them
+pub waits_more : (me k : ℕ) (outbox : Outbox) (opening : Summary) (inputs more : List Input) (durable : ℕ) → durable ≤ length inputs → Holds me outbox (after me opening (take durable inputs)) (decisions_since me opening (take durable inputs)) (drop durable inputs ++ more) k
+    → HoldsFor me outbox opening (take durable (inputs ++ more)) (drop durable (inputs ++ more)) k
+waits_more me k outbox opening inputs more durable within holds =
+    subst (λ (p : List Input × List Input). HoldsFor me outbox opening p.0 p.1 k) (λ i. (sym (take-append-le durable inputs more within) i, sym (drop-append-le durable inputs more within) i)) holds
+
+-- ---- by the history
+
+credit_by : (before : ℕ) (msgs : List Msg) → credit_since before (before + length msgs) ≡ credit_where msgs (before + length msgs)
+credit_by before [] = ap (λ b. if b then Credit (before + 0) ∷ [] else []) (le-ltb before (before + 0) (omega arith))
+credit_by before (msg ∷ msgs) = ap (λ b. if b then Credit (before + length (msg ∷ msgs)) ∷ [] else []) (lt-ltb before (before + length (msg ∷ msgs)) (omega arith))
+
+credits-known : (h l : List Input) → credit_since (length (taken h)) (length (taken (h ++ l))) ≡ credits h l
+unfolding credits
+credits-known h l =
+    let count : length (taken (h ++ l)) ≡ length (taken h) + length (taken l) = ap length (taken-append h l) ∙ length-append (taken h) (taken l) in
+    ap (credit_since (length (taken h))) count ∙ (credit_by (length (taken h)) (taken l) ∙ ap (credit_where (taken l)) (sym count))
+
+-- these are the packets and the decisions of inputs that are allowed after h
+pub packets-known : (me n : ℕ) (s t : Summary) (h l : List Input) → s ≡ summary me h → t ≡ summary me (h ++ l) → credit h ≤ length (sent me h) → EachAfter (IsAllowed me n) h l
+    → carried (brought_after me s l) ++ credit_since s.taken t.taken ≡ packets me h l
+unfolding packets carries
+packets-known me n s t h l knows knows_now within allowed = λ i.
+    found-known (λ (e : Effects). e.carry) (carry me) me n (λ g x. refl) s h l knows within allowed i
+    ++ ((λ j. credit_since ((knows j).taken) ((knows_now j).taken)) ∙ credits-known h l) i
+
+pub decisions-known : (me n : ℕ) (s : Summary) (h l : List Input) → s ≡ summary me h → credit h ≤ length (sent me h) → EachAfter (IsAllowed me n) h l → told (brought_after me s l) ≡ decisions me h l
+unfolding decisions
+decisions-known me n s h l knows within allowed = found-known (λ (e : Effects). e.decided) (decided me) me n (λ g x. refl) s h l knows within allowed
+
+-- ---- of a node with a past
+
+-- the first inputs of a desk, so many of them, follow the past as well
+pub follows-take : (m : Member) (opening : Summary) (base : Base) (past inputs : List Input) (k : ℕ) → Follows m opening base past [] → IsKnownLawful (opened_core m opening base.bytes) inputs → Follows m opening base past (take k inputs)
+follows-take m opening base past inputs k from lawful = follows m opening base past (take k inputs) from (EachAfter-take (IsOpenTo (opened_core m opening base.bytes)) k inputs lawful)
+
+-- those that fly are allowed after the durable ones
+pub allowed-part : (m : Member) (base : Base) (h l : List Input) → IsLawful m.node m.n m.capacity base (h ++ l) → EachAfter (IsAllowed m.node m.n) h l
+unfolding IsLawful
+allowed-part m base h l lawful =
+    EachAfter-from (IsAdmitted m.node m.n m.capacity base) (IsAllowed m.node m.n) [] (λ before x admitted. admitted.allowed) h l
+    (EachAfter-behind (IsAdmitted m.node m.n m.capacity base) [] h l lawful)
+
+-- what is handed out
+pub landed_packets : (m : Member) (opening : Summary) (base : Base) (past inputs : List Input) (start end : ℕ) (waiting : List Effects) (l : List Input) (before now : ℕ) (all : List Packet) → Follows m opening base past [] → IsKnownLawful (opened_core m opening base.bytes) inputs → start ≤ end
+    → waiting ≡ brought_after m.node (after m.node opening (take start inputs)) (drop start inputs) → l ≡ part start end inputs → before ≡ (after m.node opening (take start inputs)).taken → now ≡ (after m.node opening (take end inputs)).taken
+    → all ≡ carried (take (length l) waiting) ++ credit_since before now → all ≡ packets m.node (past ++ take start inputs) (part start end inputs)
+landed_packets m opening base past inputs start end waiting l before now all from lawful within waits flown taken_before taken_now is =
+    let s = after m.node opening (take start inputs) in
+    let f = follows-take m opening base past inputs start from lawful in
+    let g = follows-take m opening base past inputs end from lawful in
+    let joined = append_assoc past (take start inputs) (part start end inputs) ∙ ap (λ k. past ++ k) (part-joins start end inputs within) in
+    let brings = ap (λ k. take (length k) waiting) flown ∙ brought-part m.node s (part start end inputs) (drop end inputs) waiting (waits ∙ ap (brought_after m.node s) (part-rest start end inputs within)) in
+    is
+    ∙ ((λ i. carried (brings i) ++ credit_since (taken_before i) (taken_now i))
+    ∙ packets-known m.node m.n s (after m.node opening (take end inputs)) (past ++ take start inputs) (part start end inputs) f.of.knows (g.of.knows ∙ ap (summary m.node) (sym joined)) f.credit
+    (allowed-part m base (past ++ take start inputs) (part start end inputs) (subst (IsLawful m.node m.n m.capacity base) (sym joined) g.lawful)))
+
+pub landed_decisions : (m : Member) (opening : Summary) (base : Base) (past inputs : List Input) (start end : ℕ) (waiting : List Effects) (l : List Input) (all : List Decision) → Follows m opening base past [] → IsKnownLawful (opened_core m opening base.bytes) inputs → start ≤ end
+    → waiting ≡ brought_after m.node (after m.node opening (take start inputs)) (drop start inputs) → l ≡ part start end inputs
+    → all ≡ told (take (length l) waiting) → all ≡ decisions m.node (past ++ take start inputs) (part start end inputs)
+landed_decisions m opening base past inputs start end waiting l all from lawful within waits flown is =
+    let s = after m.node opening (take start inputs) in
+    let f = follows-take m opening base past inputs start from lawful in
+    let g = follows-take m opening base past inputs end from lawful in
+    let joined = append_assoc past (take start inputs) (part start end inputs) ∙ ap (λ k. past ++ k) (part-joins start end inputs within) in
+    let brings = ap (λ k. take (length k) waiting) flown ∙ brought-part m.node s (part start end inputs) (drop end inputs) waiting (waits ∙ ap (brought_after m.node s) (part-rest start end inputs within)) in
+    is
+    ∙ (ap told brings
+    ∙ decisions-known m.node m.n s (past ++ take start inputs) (part start end inputs) f.of.knows f.credit
+    (allowed-part m base (past ++ take start inputs) (part start end inputs) (subst (IsLawful m.node m.n m.capacity base) (sym joined) g.lawful)))
+
+-- the decisions of what was known at first, and of the first inputs since
+pub told-since : (m : Member) (opening : Summary) (base : Base) (past inputs : List Input) (k : ℕ) → base.inputs ≡ 0 → IsPast m opening past → IsKnownLawful (opened_core m opening base.bytes) inputs
+    → decisions_since m.node opening (take k inputs) ≡ leaders_in opening ++ found_after (decided m.node) past (take k inputs)
+told-since m opening base past inputs k none is lawful =
+    let f = desk_follows-take m opening base past inputs k none is lawful in
+    ap (λ ds. leaders_in opening ++ ds)
+    (found-known (λ (e : Effects). e.decided) (decided m.node) m.node m.n (λ g x. refl) opening past (take k inputs) is.summed (credit-sent m.node m.n past is.allowed)
+    (allowed-part m (moved (length past) base) past (take k inputs) f.lawful))

@@ -1,0 +1,10 @@
+pub mod Numbers
+pub mod Replies
+pub mod Releases
+pub mod Settling
+pub mod Opening
+pub mod Past
+pub mod Landing
+pub mod Leaders
+pub mod New
+pub mod Vouching

@@ -1,0 +1,37 @@
+use Rattle.std.proofs.Common.{ℕ, List, length, nat_eq, ap, ◌∙◌, sym, subst}
+use Rattle.std.specs.Map.{lookup}
+use Rattle.ring_records.specs.Answer.{Answered}
+use Rattle.ring_records.specs.Member.{member}
+use Rattle.area_desk.specs.Desk.{DeskKept, IsAnswer, first_base}
+use Rattle.area_desk.specs.Past.{IsPast, moved}
+use Rattle.ring_records.specs.declared.input.Input.{Input}
+use Rattle.area_desk.specs.Kept.{AreBelow, AreAnswers}
+use Rattle.area_desk.specs.Ticket.{answered_with}
+use Rattle.area_desk.proofs.Numbers.{below_without}
+use Rattle.area_desk.proofs.Replies.{answers_without, answers_at}
+use Rattle.area_desk.proofs.desk.Desk.redeem.Goals as goal
+
+pub invariant_of-self : goal.invariant_of-self
+invariant_of-self c =
+    let d = c.self.inside in
+    let i = c.self.invariant in
+    record {
+      sound = i.sound;
+      knows = i.knows;
+      in_order = i.in_order;
+      accepted = i.accepted;
+      lawful = i.lawful;
+      holds = i.holds;
+      given = subst (λ (ts : List (ℕ × Answered)). AreBelow c.self.inside.issued ts) (sym c.take_back.ensures) (below_without _ _ _ i.given);
+      answers = subst (λ (ts : List (ℕ × Answered)). AreAnswers (member d.node d.n d.capacity) d.base (first_base d.layout d.epoch d.base) ts) (sym c.take_back.ensures) (answers_without (member d.node d.n d.capacity) d.base (first_base d.layout d.epoch d.base) c.args.ticket.own d.tickets.entries i.answers);
+    }
+
+pub returns-clause-answer : goal.returns-clause-answer
+returns-clause-answer c =
+    let d = c.self.inside in
+    let m = member d.node d.n d.capacity in
+    let own = c.args.ticket.own in
+    let kept = answered_with c.args.ticket.question c.in-Some.reply c.in-Some.number in
+    let here = ap (λ (v : DeskKept). lookup (nat_eq own) v.view.tickets) c.self.view_is ∙ c.in-Some.ensures.own in
+    subst (λ (v : DeskKept). (past : List Input) → IsPast v.view.member v.opening past → IsAnswer v.view.member (moved (length past) v.view.state.base) past kept) c.self.view_is
+    (answers_at m d.base (first_base d.layout d.epoch d.base) own kept d.tickets.entries c.self.invariant.answers here)

@@ -1,0 +1,16 @@
+use Rattle.std.proofs.Common.{rules, ◌≡◌, length, ℕ, List, true, is_ok}
+use Rattle.ring_records.specs.declared.decision.Decision.{Decision}
+use Rattle.ring_records.specs.declared.input.Input.{Input}
+use Rattle.ring_records.specs.declared.summary.Summary.{Summary}
+use Rattle.area_desk.specs.Outbox.{Holds}
+use Rattle.area_desk.proofs.Opening.{on_ok, when_err}
+use Rattle.area_desk.proofs.Settling.{holds_still}
+use Rattle.area_desk.proofs.desk.parts.prepare.Goals as goal
+
+pub returns-clause-err : goal.returns-clause-err
+returns-clause-err c =
+    let loaded : is_ok c.load.result ≡ true = search rules in
+    let holds = on_ok c.load.result loaded c.load.ensures.holds in
+    let still : (me : ℕ) (s : Summary) (decided : List Decision) (l : List Input) → Holds me c.args.outbox.now s decided l 0 → Holds me c.load.new.self s decided l 0 =
+    λ me s decided l none. holds_still me (length c.args.inputs.now) c.load.new.self s decided l (holds me s decided l none) in
+    when_err c.new.result still

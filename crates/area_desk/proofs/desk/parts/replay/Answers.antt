@@ -1,0 +1,99 @@
+use Rattle.std.proofs.Common.{rules, ◌≡◌, ◌+◌, ◌++◌, inr, List, [], ◌≤◌, true, false, is_err, is_ok, length, None, Some, refl, sym, subst, ap, ◌∙◌, append-nil}
+use Rattle.std.proofs.lemmas.List.{take_all}
+use Rattle.std.proofs.lemmas.Option.{slice_get_read}
+use Rattle.ring_records.specs.declared.decision.Decision.{Decision}
+use Rattle.ring_records.specs.declared.input.Input.{Input}
+use Rattle.ring_records.specs.declared.summary.Summary.{Summary}
+use Rattle.ring_records.specs.Admission.{cost}
+use Rattle.ring_records.specs.Known.{Objects, stepped, after}
+use Rattle.ring_records.specs.Lists.{EachAfter}
+use Rattle.ring_records.proofs.LookBack.{IsItem}
+use Rattle.node_core.specs.Brought.{brought}
+use Rattle.node_core.specs.Core.{CoreView, Refuses}
+use Rattle.area_desk.specs.Opening.{core_after, IsKnownLawful}
+use Rattle.area_desk.specs.Outbox.{brought_after, told, Holds}
+use Rattle.area_desk.proofs.Opening.{objects_none, core-none, core-item, lawful-item, why, why_not, on_ok}
+use Rattle.area_desk.proofs.Settling.{told-item}
+use Rattle.area_desk.proofs.desk.parts.replay.Goals as goal
+
+pub loop-i-init : goal.loop-i-init
+unfolding EachAfter brought_after
+loop-i-init c = (core-none c.args.core.now, tt, λ decided holds. subst (λ ds. Holds c.args.core.now.me c.args.outbox.now c.args.core.now.known ds [] 0) (sym (append-nil decided)) holds)
+
+pub returns-then-is_err-clause-refusal : goal.returns-then-is_err-clause-refusal
+returns-then-is_err-clause-refusal c =
+    let x = c.index-inputs-i.result in
+    let refused : is_err c.admit.result ≡ true = search rules in
+    let because = why c.admit.result refused in
+    let here : IsItem c.args.inputs.now c.loop-i.i x = record { within = c.loop-i-test.true; is = c.index-inputs-i.is } in
+    let there = slice_get_read c.args.inputs.now (length c.args.inputs.now) c.loop-i.i x refl here.within here.is in
+    inr (record {
+      index = c.loop-i.i;
+      is = refl;
+      before = c.loop-i.invariant.1;
+      input = x;
+      there = there;
+      refused_for = because.0;
+      because = subst (λ (core : CoreView). Refuses core x (Some because.0)) c.loop-i.invariant.0 (subst (Refuses c.loop-i.core x) because.1 c.admit.ensures.value);
+    })
+
+pub apply-requires : goal.apply-requires
+apply-requires c =
+    let accepted : is_err c.admit.result ≡ false = search rules in
+    subst (Refuses c.loop-i.core c.index-inputs-i.result) (why_not c.admit.result accepted) c.admit.ensures.value
+
+pub add-requires : goal.add-requires
+add-requires c =
+    let first = c.args.core.now in
+    let accepted : is_err c.admit.result ≡ false = search rules in
+    let free = subst (Refuses c.loop-i.core c.index-inputs-i.result) (why_not c.admit.result accepted) c.admit.ensures.value in
+    let is = c.loop-i.invariant.0 in
+    record {
+      free = (
+        first.me,
+        first.size,
+        c.loop-i.core.known,
+        _,
+        c.loop-i.invariant.2 c.requires.0 c.requires.1,
+        subst (λ n. Objects n c.loop-i.core.known c.index-inputs-i.result None) (λ i. (is i).size) (objects_none c.loop-i.core c.index-inputs-i.result free),
+        c.in-Ok.ensures.brings ∙ ap (λ me. brought me c.loop-i.core.known c.index-inputs-i.result) (λ i. (is i).me),
+      );
+    }
+
+pub loop-i-preserved : goal.loop-i-preserved
+loop-i-preserved c =
+    let first = c.args.core.now in
+    let x = c.index-inputs-i.result in
+    let here : IsItem c.args.inputs.now c.loop-i.i x = record { within = c.loop-i-test.true; is = c.index-inputs-i.is } in
+    let accepted : is_err c.admit.result ≡ false = search rules in
+    let free = subst (Refuses c.loop-i.core x) (why_not c.admit.result accepted) c.admit.ensures.value in
+    let is = c.loop-i.invariant.0 in
+    let steps : c.apply.new.self ≡ record c.loop-i.core { known = stepped c.loop-i.core.me c.loop-i.core.known x; used = c.loop-i.core.used + cost x } = search rules in
+    let brings = c.in-Ok.ensures.brings ∙ ap (λ me. brought me c.loop-i.core.known x) (λ i. (is i).me) in
+    let added : is_ok c.add.result ≡ true = search rules in (
+      core-item first c.loop-i.core c.apply.new.self c.args.inputs.now c.loop-i.i x is here steps,
+      lawful-item first c.loop-i.core c.args.inputs.now c.loop-i.i x is here c.loop-i.invariant.1 free,
+      λ decided holds.
+          subst (λ (p : Summary × List Decision). Holds first.me c.add.new.self p.0 p.1 [] 0)
+          (λ i. (
+            (ap (λ me. stepped me c.loop-i.core.known x) (λ j. (sym is j).me) ∙ (λ j. (sym steps j).known)) i,
+            told-item first.me first.known c.args.inputs.now c.loop-i.i x c.in-Ok.effects decided here (brings ∙ ap (λ s. brought first.me s x) (λ j. (is j).known)) i,
+          ))
+          (on_ok c.add.result added c.add.ensures.holds first.me first.size c.loop-i.core.known _ (c.loop-i.invariant.2 decided holds)
+          (subst (λ n. Objects n c.loop-i.core.known x None) (λ i. (is i).size) (objects_none c.loop-i.core x free)) brings),
+    )
+
+pub returns : goal.returns
+returns c =
+    let first = c.args.core.now in
+    let within : length c.args.inputs.now ≤ c.loop-i.i = search rules in
+    let all = take_all c.loop-i.i c.args.inputs.now within in
+    record {
+      knows = c.loop-i.invariant.0 ∙ ap (core_after first) all;
+      lawful = subst (IsKnownLawful first) all c.loop-i.invariant.1;
+      holds = λ decided holds.
+          subst (λ (p : Summary × List Input). Holds first.me c.loop-i.outbox p.0 (decided ++ told (brought_after first.me first.known p.1)) [] 0)
+          (λ i. (((λ j. (c.loop-i.invariant.0 j).known) ∙ ap (after first.me first.known) all) i, all i))
+          (c.loop-i.invariant.2 decided holds);
+      refusal = tt;
+    }

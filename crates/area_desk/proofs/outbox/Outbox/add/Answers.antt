@@ -1,0 +1,12 @@
+use Rattle.std.proofs.Common.{rules, refl}
+use Rattle.area_desk.proofs.Settling.{holds_next}
+use Rattle.area_desk.proofs.outbox.Outbox.add.Goals as goal
+
+pub add-requires-clause-free : goal.add-requires-clause-free
+add-requires-clause-free c = let a = c.requires.free in (a.0, a.1, a.2, a.3, c.reserve.ensures.keeps a.2 a.3 a.4.released, a.5, a.6)
+
+pub returns : goal.returns
+returns c = record {
+  holds = λ me n s decided holds free brings.
+      holds_next me c.args.self.now _ s _ decided _ holds refl refl (c.add.ensures.keeps me n s decided (c.reserve.ensures.keeps s decided holds.released) free brings) (c.add.ensures.room 0 (search rules));
+}

@@ -1,0 +1,159 @@
+-- What a desk is seen as, what its calls make of it, and why they are refused.
+use Rattle.std.specs.Prelude.{ℕ, ◌≡◌, ◌<◌, ◌^◌, ◌⊎◌, ◌+◌, Bool, false, ◌||◌, if◌then◌else◌, List, [], ◌∷◌, ◌++◌, length, nat_eq, nat_le, Option, Some, None}
+use Rattle.std.specs.List.{cons_option}
+use Rattle.std.specs.Map.{lookup, remove_entry}
+use Rattle.ring_records.specs.declared.base.Base.{Base}
+use Rattle.ring_records.specs.declared.input.Input.{Input}
+use Rattle.ring_records.specs.declared.refusal.Refusal.{Refusal}
+use Rattle.ring_records.specs.declared.refusal.Refusal.TheVariants as refused
+use Rattle.ring_records.specs.declared.request.Request.{Request}
+use Rattle.ring_records.specs.declared.summary.Summary.{Summary}
+use Rattle.ring_records.specs.Admission.{area_bytes, base_of, IsLawful}
+use Rattle.ring_records.specs.Answer as answers
+use Rattle.ring_records.specs.Answer.{Answered}
+use Rattle.ring_records.specs.Member.{Member}
+use Rattle.ring_records.specs.States as states
+use Rattle.ring_records.specs.States.{NodeState, is_idle, opened, flying_in, answered_by, gained_by}
+use Rattle.ring_records.specs.Message.{is_outside}
+use Rattle.area_journal.specs.Reading.{Reading}
+use Rattle.area_journal.specs.Batch.{Numbered}
+use Rattle.node_core.specs.Core.{CoreView}
+use Rattle.area_desk.specs.Opening.{opened_core}
+use Rattle.area_desk.specs.Past.{IsPast, shifted}
+use Rattle.area_desk.specs.Ticket.{TicketView, ticket_with}
+
+-- Whose it is, and which opening of its node; what the node accepted, and how much of that is durable or flies; what is
+-- kept for each open ticket, by the ticket's own number, in the order in which they were given; how many were given; and
+-- whether it is closed, and whether it has failed.
+pub record DeskView : Type 0 where
+  pub member : Member
+  pub run : ℕ
+  pub state : NodeState
+  pub tickets : List (ℕ × Answered)
+  pub issued : ℕ
+  pub closed : Bool
+  pub failed : Bool
+
+-- What a desk keeps: the summary that it was opened with, and what it shows of the inputs since. Its counts begin there.
+pub record DeskKept : Type 0 where
+  pub opening : Summary
+  pub view : DeskView
+
+-- what an area of this layout and epoch stands for, which begins with the summary, before the first input since
+abbrev pub first_base : ℕ → ℕ → Summary → Base
+first_base layout epoch opening = record (base_of layout epoch opening) { inputs = 0 }
+
+-- just opened
+abbrev pub new_desk : Member → ℕ → Reading → DeskKept
+new_desk member run r = record {
+  opening = r.base;
+  view = record { member = member; run = run; state = opened (first_base r.layout r.epoch r.base) r.inputs; tickets = []; issued = 0; closed = false; failed = false };
+}
+
+-- the core of the node before the first input since
+abbrev pub core_of : Member → Reading → CoreView
+core_of member r = opened_core member r.base (area_bytes r.layout r.base)
+
+-- what it shows of its whole history, where this is its past
+abbrev pub seen : List Input → DeskKept → DeskView
+seen past desk = record desk.view { state = shifted past desk.view.state }
+
+-- what it answers to a request
+abbrev pub answered : DeskView → Request → Answered
+answered desk q = answered_by desk.member desk.state q
+
+-- the ticket that it gives for a request
+abbrev pub ticket_for : Request → DeskView → TicketView
+ticket_for q desk = ticket_with desk.member.node desk.run desk.issued (answered desk q)
+
+-- what is kept for the open ticket of this number
+abbrev pub kept_at : DeskView → ℕ → Option Answered
+kept_at desk own = lookup (nat_eq own) desk.tickets
+
+-- an open ticket of this desk has the ticket's node, opening, own number and request, and this is kept for it
+pub record IsHere (desk : DeskView) (ticket : TicketView) (kept : Answered) : Type 0 where
+  pub node : ticket.node ≡ desk.member.node
+  pub run : ticket.run ≡ desk.run
+  pub own : kept_at desk ticket.own ≡ Some kept
+  pub question : kept.question ≡ ticket.question
+
+-- ---- what its calls make of it
+
+-- it gave a ticket for the request
+abbrev pub submitted : Request → DeskView → DeskView
+submitted q desk = record desk {
+  state = states.asked desk.member desk.state q;
+  tickets = desk.tickets ++ (desk.issued, answered desk q) ∷ [];
+  issued = desk.issued + 1;
+}
+
+-- what is kept for a new ticket, and the input that is accepted, if there is one
+abbrev pub with_ticket : Answered → Option Input → DeskView → DeskView
+with_ticket given more desk = record desk {
+  state = record desk.state { inputs = desk.state.inputs ++ cons_option more [] };
+  tickets = desk.tickets ++ (desk.issued, given) ∷ [];
+  issued = desk.issued + 1;
+}
+
+-- It gave this ticket for the request: what it keeps for it is its answer, and it accepted what the history gains.
+pub record IsSubmitted (q : Request) (old new : DeskKept) (ticket : TicketView) : Type 0 where
+  pub given : Answered
+  pub more : Option Input
+  pub ticket_is : ticket ≡ ticket_with old.view.member.node old.view.run old.view.issued given
+  pub question : given.question ≡ q
+  pub number : given.answer.number ≡ old.opening.inputs + length (old.view.state.inputs ++ cons_option more [])
+  pub next : new ≡ record old { view = with_ticket given more old.view }
+  pub here : IsHere new.view ticket given
+  pub answer : (past : List Input) → IsPast old.view.member old.opening past → (given ≡ answered (seen past old) q) × (cons_option more [] ≡ gained_by old.view.member (seen past old).state q)
+
+-- the ticket of this number ended
+abbrev pub ended : ℕ → DeskView → DeskView
+ended own desk = record desk { tickets = remove_entry (nat_eq own) desk.tickets }
+
+-- a batch flies
+abbrev pub launched : DeskView → DeskView
+launched desk = record desk { state = states.launched desk.state }
+
+-- what flies is durable
+abbrev pub landed : DeskView → DeskView
+landed desk = record desk { state = states.landed desk.state }
+
+-- ---- refusals
+
+-- why no ticket is given, before memory is asked for: the desk takes none, the message is of no node of the ring, or all
+-- numbers of tickets were given
+abbrev pub objection : DeskView → Request → Option Refusal
+objection desk q =
+    if desk.closed || desk.failed then Some refused.Failed
+    else (if is_outside desk.member.n q then Some refused.BadNumber
+    else (if nat_le (2 ^ 60) desk.issued then Some refused.Limit
+    else None))
+
+-- why nothing is launched, before memory is asked for
+abbrev pub launch_objection : DeskView → Option Refusal
+launch_objection desk =
+    if desk.failed then Some refused.Failed
+    else (if is_idle desk.state then None
+    else Some refused.Busy)
+
+-- ---- replies
+
+-- a node with some lawful history behind its past, with room counted from the base, gives this answer to the request
+pub record IsAnswer (member : Member) (base : Base) (past : List Input) (a : Answered) : Type 0 where
+  pub since : List Input
+  pub lawful : IsLawful member.node member.n member.capacity base (past ++ since)
+  pub gives : a ≡ answers.answered member.node member.n member.capacity base (past ++ since) a.question
+
+-- why its reply is not released: no such ticket is open here, or the reply rests on inputs that are not durable
+pub record IsSealed (desk : DeskKept) (ticket : TicketView) (why : Refusal) : Type 0 where
+  pub cause : ((why ≡ refused.Foreign) × ((kept : Answered) → IsHere desk.view ticket kept → ⊥))
+      ⊎ ((kept : Answered) × IsHere desk.view ticket kept × (desk.opening.inputs + desk.view.state.durable < kept.answer.number) × (why ≡ (if desk.view.failed then refused.Failed else refused.Early)))
+
+-- ---- batches
+
+-- these are the node's inputs that fly, numbered in the whole history, and a batch
+pub record IsFlying (desk : DeskKept) (batch : Numbered) : Type 0 where
+  pub node : batch.node ≡ desk.view.member.node
+  pub first : batch.first ≡ desk.opening.inputs + desk.view.state.durable
+  pub inputs : batch.inputs ≡ flying_in desk.view.state
+  pub snapshot : batch.snapshot ≡ None

@@ -1,0 +1,68 @@
+-- What a desk knows: by the summary that it was opened with, and by its inputs since. That summary may be that of no history.
+use Rattle.std.specs.Prelude.{ℕ, ◌≡◌, ◌+◌, ◌≤◌, List, [], length, take, slice_get, Option, Some, None}
+use Rattle.std.specs.List.{cons_option, sum_by}
+use Rattle.ring_records.specs.declared.base.Base.{Base}
+use Rattle.ring_records.specs.declared.candidate.Candidate.{Candidate}
+use Rattle.ring_records.specs.declared.input.Input.{Input}
+use Rattle.ring_records.specs.declared.input.Input.TheVariants.{Stand, Take, Acked}
+use Rattle.ring_records.specs.declared.refusal.Refusal.{Refusal}
+use Rattle.ring_records.specs.declared.refusal.Refusal.TheVariants as refused
+use Rattle.ring_records.specs.declared.reply.Reply.{Reply}
+use Rattle.ring_records.specs.declared.reply.Reply.TheVariants as say
+use Rattle.ring_records.specs.declared.request.Request.{Request}
+use Rattle.ring_records.specs.declared.request.Request.TheVariants as ask
+use Rattle.ring_records.specs.declared.summary.Summary.{Summary}
+use Rattle.ring_records.specs.Admission.{cost, used}
+use Rattle.ring_records.specs.Answer.{if_free, unless}
+use Rattle.ring_records.specs.Known.{after, known_of, leader_of, leads_in}
+use Rattle.ring_records.specs.Leader.{IsLatest}
+use Rattle.ring_records.specs.Lists.{EachAfter}
+use Rattle.ring_records.specs.Member.{Member}
+use Rattle.ring_records.specs.Summary.{summary}
+use Rattle.node_core.specs.Core.{CoreView, Refuses}
+
+-- the core of a node that knows this, where it takes so many bytes of the capacity
+abbrev pub opened_core : Member → Summary → ℕ → CoreView
+opened_core m opening bytes = record { me = m.node; size = m.n; capacity = m.capacity; known = opening; used = bytes }
+
+-- the core once it has accepted these inputs
+abbrev pub core_after : CoreView → List Input → CoreView
+core_after core l = record core { known = after core.me core.known l; used = core.used + sum_by cost l }
+
+-- it refuses the input for nothing, once it has accepted those before it
+abbrev pub IsOpenTo : CoreView → List Input → Input → Type 0
+IsOpenTo core before x = Refuses (core_after core before) x None
+
+-- it may accept these inputs, in this order
+abbrev pub IsKnownLawful : CoreView → List Input → Type 0
+IsKnownLawful core l = EachAfter (IsOpenTo core) [] l
+
+-- the refusal names the first of these inputs that it refuses after those before it
+pub record IsUnlawful (core : CoreView) (inputs : List Input) (why : Refusal) : Type 0 where
+  pub index : ℕ
+  pub is : why ≡ refused.Unlawful index
+  pub before : IsKnownLawful core (take index inputs)
+  pub input : Input
+  pub there : slice_get inputs index ≡ Some input
+  pub refused_for : Refusal
+  pub because : Refuses (core_after core (take index inputs)) input (Some refused_for)
+
+-- it knows what the history h of its node says, with room counted from the base
+pub record IsOf (core : CoreView) (base : Base) (h : List Input) : Type 0 where
+  pub knows : core.known ≡ summary core.me h
+  pub bytes : core.used ≡ used base h
+  pub within : base.inputs ≤ length h
+
+-- ---- what a core answers
+
+-- to an input, to which the good reply is this: the reply, and the input where it is accepted
+abbrev pub IsWeighed : CoreView → Input → Reply → Reply → Option Input → Type 0
+IsWeighed core x good reply more = (o : Option Refusal) × Refuses core x o × (reply ≡ unless o good) × (cons_option more [] ≡ if_free o x)
+
+-- to a request: the reply, and the input that it accepts
+abbrev pub Replies : CoreView → Request → Reply → Option Input → Type 0
+Replies core (ask.Stand key bid) reply more = IsWeighed core (Stand key bid) say.Stood reply more
+Replies core (ask.Take msg_no msg) reply more = IsWeighed core (Take msg_no msg) say.Taken reply more
+Replies core (ask.Acked upto) reply more = IsWeighed core (Acked upto) say.Acked reply more
+Replies core (ask.Who key) reply more = (reply ≡ say.Leader (leader_of (known_of core.known key))) × (more ≡ None)
+Replies core (ask.Latest group) reply more = (led : Option (ℕ × Candidate)) × IsLatest (leads_in core.known group) led × (reply ≡ say.Latest led) × (more ≡ None)

@@ -1,0 +1,87 @@
+-- What an outbox holds, where a node knows s by its durable inputs.
+use Rattle.std.specs.Prelude.{ℕ, ◌≡◌, ◌+◌, ◌<◌, ◌≤◌, nat_lt, if◌then◌else◌, List, [], ◌∷◌, Option, None, vec_len, vec_capacity}
+use Rattle.std.specs.FinMap as map
+use Rattle.std.specs.List.{filter_map}
+use Rattle.std.specs.Option.{option_map}
+use Rattle.ring_records.specs.declared.decision.Decision.{Decision}
+use Rattle.ring_records.specs.declared.input.Input.{Input}
+use Rattle.ring_records.specs.declared.key_state.KeyState.{KeyState}
+use Rattle.ring_records.specs.declared.packet.Packet.{Packet}
+use Rattle.ring_records.specs.declared.packet.Packet.TheVariants.{Credit}
+use Rattle.ring_records.specs.declared.summary.Summary.{Summary}
+use Rattle.ring_records.specs.Known.{Objects, stepped, after}
+use Rattle.ring_records.specs.Lists.{EachAfter}
+use Rattle.neighbour_link.specs.Outlink.{sent_count}
+use Rattle.node_core.specs.Brought.{brought}
+use Rattle.node_core.specs.declared.effects.Effects.{Effects}
+use Rattle.area_desk.specs.declared.landed.Landed.{Landed}
+use Rattle.area_desk.specs.declared.outbox.Outbox.{Outbox}
+use Rattle.area_desk.specs.declared.released.Released.{Released}
+
+-- ---- what inputs bring
+
+-- nothing is against each of these inputs after those before it, where node me of a ring of n knows s before the first
+abbrev pub AreFree : ℕ → ℕ → Summary → List Input → Type 0
+AreFree me n s l = EachAfter (λ before x. Objects n (after me s before) x None) [] l
+
+-- what each of the inputs l brings in turn, where node me knows s before the first
+unfoldable pub brought_after : ℕ → Summary → List Input → List Effects
+brought_after me s [] = []
+brought_after me s (x ∷ l) = brought me s x ∷ brought_after me (stepped me s x) l
+
+-- the decision of each key with a leader that a node knows, in order of key
+abbrev pub led : KeyState → Option Decision
+led state = option_map (λ c. record { key = state.key; leader = c }) state.leader
+
+abbrev pub leaders_in : Summary → List Decision
+leaders_in s = filter_map led (map.values s.keys)
+
+-- the messages among it
+abbrev pub carried : List Effects → List Packet
+carried effects = filter_map (λ (e : Effects). e.carry) effects
+
+-- the decisions among it
+abbrev pub told : List Effects → List Decision
+told effects = filter_map (λ (e : Effects). e.decided) effects
+
+-- one credit of all messages that are taken now, where more are than before
+abbrev pub credit_since : ℕ → ℕ → List Packet
+credit_since before now = if nat_lt before now then Credit now ∷ [] else []
+
+-- ---- what is kept
+
+-- it has what a node that knows s may release, with these decisions
+pub record Keeps (released : Released) (s : Summary) (decided : List Decision) : Type 0 where
+  pub credited : released.link.link.credited ≡ s.credit
+  pub window : released.link.link.window ≡ s.window
+  pub sent : sent_count released.link.link ≡ s.sent
+  pub taken : released.taken ≡ s.taken
+  pub decisions : released.decisions.items ≡ decided
+  -- no more was sent, and no more was taken, than there were inputs
+  pub sent_few : s.sent ≤ s.inputs
+  pub taken_few : s.taken ≤ s.inputs
+
+-- so many inputs more take no memory
+pub record HasRoom (released : Released) (count : ℕ) : Type 0 where
+  pub messages : count ≤ released.link.room
+  pub decisions : vec_len released.decisions + count ≤ vec_capacity released.decisions
+
+-- what so many inputs bring takes no memory
+pub record IsReady (landed : Landed) (count : ℕ) : Type 0 where
+  pub packets : vec_len landed.packets + (count + 1) ≤ vec_capacity landed.packets
+  pub decisions : vec_len landed.decisions + count ≤ vec_capacity landed.decisions
+
+-- nothing landed yet
+pub record IsBlank (landed : Landed) : Type 0 where
+  pub packets : landed.packets.items ≡ []
+  pub decisions : landed.decisions.items ≡ []
+
+-- It has what the durable inputs, by which node me knows s, let it release, with these decisions, and what each input of l
+-- brings, which wait behind them. So many of these fly, and land without memory.
+pub record Holds (me : ℕ) (outbox : Outbox) (s : Summary) (decided : List Decision) (l : List Input) (flying : ℕ) : Type 0 where
+  pub released : Keeps outbox.released s decided
+  pub waiting : outbox.waiting.items ≡ brought_after me s l
+  pub room : HasRoom outbox.released flying
+  pub blank : IsBlank outbox.landing
+  pub ready : 0 < flying → IsReady outbox.landing flying
+  pub count : 0 < flying → outbox.landing.count ≡ flying

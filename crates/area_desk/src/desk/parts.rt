@@ -1,0 +1,107 @@
+// What a desk has its core and its outbox do.
+ghost use Rattle.std.specs.Prelude.{◌≡◌, ◌+◌, ◌-◌, ◌++◌, ◌∷◌, ◌≤◌, ◌<◌, ◌⊎◌, ℕ, List, [], None, length, take, drop, IfSome, IfOk, IfErr, OnOk, OnErr};
+ghost use Rattle.std.specs.List.{cons_option};
+ghost use Rattle.ring_records.specs.declared.decision.Decision.{Decision};
+ghost use Rattle.ring_records.specs.declared.input.Input.{Input};
+ghost use Rattle.ring_records.specs.declared.summary.Summary.{Summary};
+ghost use Rattle.ring_records.specs.Admission.{cost};
+ghost use Rattle.ring_records.specs.Known.{after, stepped};
+ghost use Rattle.area_journal.specs.Batch.{shown as batch_shown, numbered};
+ghost use Rattle.node_core.specs.Core.{Refuses};
+ghost use Rattle.area_desk.specs.Opening.{core_after, IsKnownLawful, IsUnlawful};
+ghost use Rattle.area_desk.specs.Outbox.{brought_after, told, Holds};
+
+use crate::outbox::Outbox;
+use area_journal::Batch;
+use node_core::NodeCore;
+use ring_records::{Input, NodeNo, Refusal};
+use std::alloc::AllocError;
+
+// Has a core and an outbox take the inputs of a node since its opening, all of them durable.
+pub(super) fn replay(
+    core: &mut NodeCore,
+    outbox: &mut Outbox,
+    inputs: &[Input],
+) -> Result<(), Refusal>
+    requires { (decided : List Decision) × Holds core.old.me outbox.old core.old.known decided [] 0 }
+    ensures knows { OnOk result (core.new ≡ core_after core.old inputs.now) }
+    ensures lawful { OnOk result (IsKnownLawful core.old inputs.now) }
+    ensures holds { OnOk result ((decided : List Decision) → Holds core.old.me outbox.old core.old.known decided [] 0
+        → Holds core.old.me outbox.new (after core.old.me core.old.known inputs.now) (decided ++ told (brought_after core.old.me core.old.known inputs.now)) [] 0) }
+    ensures refusal { IfErr result (λ refusal. (refusal ≡ Refusal.OutOfMemory) ⊎ IsUnlawful core.old inputs.now refusal) }
+{
+    for i in 0..inputs.len() {
+        let input = inputs[i];
+        if core.admit(&input).is_err() {
+            return Err(Refusal::Unlawful(i as u64));
+        }
+        let Ok(effects) = core.apply(input) else {
+            return Err(Refusal::OutOfMemory);
+        };
+        if outbox.add(&input, &effects).is_err() {
+            return Err(Refusal::OutOfMemory);
+        }
+    }
+    Ok(())
+}
+
+// Accepts an input that the core admits, if there is one. An `Err` changes nothing.
+pub(super) fn accept(
+    core: &mut NodeCore,
+    inputs: &mut Vec<Input>,
+    outbox: &mut Outbox,
+    input: &Option<Input>,
+) -> Result<(), AllocError>
+    requires { IfSome input.now (λ x. Refuses core.old x None) }
+    ensures inputs { OnOk result (inputs.new.items ≡ inputs.old.items ++ cons_option input.now []) }
+    ensures knows { OnOk result (core.new ≡ core_after core.old (cons_option input.now [])) }
+    ensures holds { OnOk result ((s : Summary) (decided : List Decision) (l : List Input) (flying : ℕ) → core.old.known ≡ after core.old.me s l → Holds core.old.me outbox.old s decided l flying
+        → Holds core.old.me outbox.new s decided (l ++ cons_option input.now []) flying) }
+    ensures err { OnErr result ((inputs.new.items ≡ inputs.old.items) × (core.new ≡ core.old)) }
+    ensures same { OnErr result ((me flying : ℕ) (s : Summary) (decided : List Decision) (l : List Input) → Holds me outbox.old s decided l flying → Holds me outbox.new s decided l flying) }
+{
+    match input {
+        Some(input) => accept_one(core, inputs, outbox, input),
+        None => Ok(()),
+    }
+}
+
+fn accept_one(
+    core: &mut NodeCore,
+    inputs: &mut Vec<Input>,
+    outbox: &mut Outbox,
+    input: &Input,
+) -> Result<(), AllocError>
+    requires { Refuses core.old input.now None }
+    ensures inputs { OnOk result (inputs.new.items ≡ inputs.old.items ++ input.now ∷ []) }
+    ensures steps { OnOk result (core.new ≡ record core.old { known = stepped core.old.me core.old.known input.now; used = core.old.used + cost input.now }) }
+    ensures holds { OnOk result ((s : Summary) (decided : List Decision) (l : List Input) (flying : ℕ) → core.old.known ≡ after core.old.me s l → Holds core.old.me outbox.old s decided l flying
+        → Holds core.old.me outbox.new s decided (l ++ input.now ∷ []) flying) }
+    ensures err { OnErr result ((inputs.new.items ≡ inputs.old.items) × (core.new ≡ core.old)) }
+    ensures same { OnErr result ((me flying : ℕ) (s : Summary) (decided : List Decision) (l : List Input) → Holds me outbox.old s decided l flying → Holds me outbox.new s decided l flying) }
+{
+    inputs.reserve(1)?;
+    outbox.accept(core, input)?;
+    inputs.extend_from_slice(&[*input])
+}
+
+// These inputs, of which the first has this number, as a batch, and the memory for what they bring, so that they may fly.
+pub(super) fn prepare(
+    outbox: &mut Outbox,
+    node: NodeNo,
+    first: u64,
+    inputs: &[Input],
+) -> Result<Batch, Refusal>
+    requires some { 0 < length inputs.now }
+    requires few { length inputs.now ≤ 64 }
+    ensures batch { IfOk result (λ batch. batch_shown batch ≡ numbered node first inputs.now) }
+    ensures holds { OnOk result ((me : ℕ) (s : Summary) (decided : List Decision) (l : List Input) → Holds me outbox.old s decided l 0 → Holds me outbox.new s decided l (length inputs.now)) }
+    ensures refusal { IfErr result (λ refusal. refusal ≡ Refusal.OutOfMemory) }
+    ensures err { OnErr result ((me : ℕ) (s : Summary) (decided : List Decision) (l : List Input) → Holds me outbox.old s decided l 0 → Holds me outbox.new s decided l 0) }
+{
+    if outbox.load(inputs.len() as u32).is_err() {
+        return Err(Refusal::OutOfMemory);
+    }
+    let alloc = *outbox.waiting.allocator();
+    Batch::new(alloc, node, first, inputs)
+}
