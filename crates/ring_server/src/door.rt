@@ -1,11 +1,12 @@
 //! A node's doors.
-use crate::client_stream::{ClientReader, ClientWriter, part};
 use crate::links::Links;
 use crate::site::Doors;
 use crate::start_latch::StartLatch;
+use client_stream::{ClientReader, ClientWriter, next_client, part};
 use commit_hub::{Hub, Node, Share, Whole};
 use decision_board::{Board, BoardReader, Naming};
 use ring_service::HubService;
+use ring_watch::{Tally, TallyWriter};
 use sessions::{Service, serve};
 use std::alloc::Global;
 use std::io::BufReader;
@@ -67,23 +68,6 @@ fn send_what_may_miss<A: Node, D: Whole, C: Whole, R: Wait + Clock>(
     }
 }
 
-/// For how many milliseconds a door waits at most before it asks for a client again.
-const LONGEST_PAUSE: u64 = 1_000;
-
-/// The next client. Where none is to be had, as for want of a descriptor, it is asked again after a pause, twice as long
-/// each time.
-fn next_client<R: Wait + Clock>(rt: &R, listener: &TcpListener) -> Option<TcpStream> {
-    let mut pause = 1u64;
-    for _ in rt.forever() {
-        match listener.accept() {
-            Ok((stream, _)) => return Some(stream),
-            Err(_) => rt.sleep(Duration::from_millis(pause)),
-        }
-        pause = pause.saturating_mul(2).min(LONGEST_PAUSE);
-    }
-    None
-}
-
 /// What the doors of a node share: where clients come, and how many sessions are begun and how many doors are not done.
 #[derive(Drop)]
 pub(crate) struct Front {
@@ -117,12 +101,13 @@ impl Front {
     }
 }
 
-/// Serves a client to its session's end, however it ends.
+/// Serves a client to its session's end, however it ends, and counts the refusals that it is told.
 fn serve_client<S: Service, R: Wait + Clock>(
     rt: &R,
     alloc: Global,
     stream: &TcpStream,
     idle: Option<Duration>,
+    tally: &Tally,
     service: &mut S,
 ) {
     let _ = stream.set_nodelay(true);
@@ -130,12 +115,8 @@ fn serve_client<S: Service, R: Wait + Clock>(
         return;
     };
     if let Ok(mut lines) = BufReader::new(alloc, reader) {
-        let _ = serve(
-            alloc,
-            &mut lines,
-            &mut ClientWriter::new(rt, stream, idle),
-            service,
-        );
+        let mut answers = TallyWriter::new(ClientWriter::new(rt, stream, idle), tally);
+        let _ = serve(alloc, &mut lines, &mut answers, service);
     }
     part(rt, stream);
 }
@@ -163,8 +144,10 @@ pub(crate) fn serve_door<'a, J: Naming, A: Node, D: Whole, C: Whole, R: Wait + C
         let Some(stream) = next_client(rt, &front.listener) else {
             break;
         };
-        serve_client(rt, alloc, &stream, front.idle, &mut service);
+        links.tally.begin_session();
+        serve_client(rt, alloc, &stream, front.idle, links.tally, &mut service);
         drop(stream);
+        links.tally.end_session();
         send_what_may_miss(rt, hub, links);
     }
     let (share, _reader, _last) = service.into_parts();

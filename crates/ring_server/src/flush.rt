@@ -23,6 +23,7 @@ pub(crate) fn flush_all<V: Device, J: Naming, A: Node, D: Whole, C: Whole, R: Wa
     for _ in rt.forever() {
         match flusher.flush_round(rt, hub, &mut ()) {
             Ok(Some(landed)) => {
+                links.tally.count_batch();
                 for packet in &landed.packets {
                     links.send(rt, *packet);
                 }

@@ -1,9 +1,9 @@
-//! A ring of durable nodes that serve clients over sockets: each node in three threads, with its journal in a file.
+//! A ring of durable nodes that serve clients over sockets: each node in threads of its own, with its journal in a file.
 //!
 //! `start` is the program `ringd` over readers and writers. docs/ARCHITECTURE.md tells who waits for whom.
 #![tactic(auto)]
 
-mod client_stream;
+mod clerk;
 mod credits;
 mod door;
 mod flush;
@@ -19,6 +19,7 @@ mod repeats;
 mod ring;
 mod ringd;
 mod run_fault;
+mod shared;
 mod site;
 mod start_latch;
 mod unopened;

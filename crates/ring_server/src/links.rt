@@ -5,6 +5,7 @@ use crate::post::Post;
 use crate::repeats::Repeats;
 use crate::watch::Watch;
 use ring_records::{NodeNo, Packet};
+use ring_watch::{Reception, Tally};
 use std::sync::atomic::{AtomicU64, Ordering};
 use std::sync::{Mutex, Wait};
 use std::time::{Clock, Instant};
@@ -29,13 +30,15 @@ impl Successor {
     }
 }
 
-/// What a node's threads send by and leave word at: its place in the ring, the letterboxes, what it knows of its
-/// successor, and the watch.
+/// What a node's threads send by, leave word at and count by: its place in the ring, the letterboxes, what it knows of
+/// its successor, the watch, its tally, and where clerks are asked, if they are.
 #[derive(Clone, Copy)]
 pub(crate) struct Links<'a> {
     pub(crate) post: &'a Post,
     pub(crate) watch: &'a Watch,
     pub(crate) successor: &'a Successor,
+    pub(crate) tally: &'a Tally,
+    pub(crate) reception: Option<&'a Reception>,
     pub(crate) node: NodeNo,
     pub(crate) nodes: u8,
     ghost inside: { (node ≤ nodes) × (nodes ≤ 16) },
@@ -108,5 +111,12 @@ impl Links<'_> {
     /// The node's door is done.
     pub(crate) fn leave<R: Wait>(&self, rt: &R) {
         self.post.leave(rt);
+    }
+
+    /// The node's clerk is asked nothing more.
+    pub(crate) fn dismiss<R: Wait>(&self, rt: &R) {
+        if let Some(reception) = self.reception {
+            reception.dismiss(rt, self.node);
+        }
     }
 }

@@ -1,6 +1,6 @@
 //! Whether the nodes of a ring are of one time.
 ghost use Rattle.std.specs.Prelude.{ℕ, ◌≡◌, ◌<◌, ◌≤◌, ◌+◌, ◌↔◌, IsTrue, false, length, OnOk, IfErr, IfSome, IfNone};
-ghost use Rattle.ring_records.specs.Answer.{durable_in};
+ghost use Rattle.ring_records.specs.States.{durable_in};
 ghost use Rattle.ring_records.specs.Fitting.{LinkFits, LeadersFit, RingFits};
 ghost use Rattle.ring_records.specs.Place.{after};
 ghost use Rattle.ring_server.specs.Fits.{number_of, IsInOrder, history, Agrees, Differs, IsCause, IsMemory};

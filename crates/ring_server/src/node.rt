@@ -1,18 +1,18 @@
-//! One node in its threads: its flusher, its inbox and its doors.
+//! One node in its threads: its flusher, its inbox and its doors, and its clerk where it may be asked.
 ghost use Rattle.std.specs.Prelude.{◌≡◌, ◌+◌, ◌-◌, ◌≤◌, false, length};
 ghost use denote.Param.Send.{IsSend};
 ghost use Rattle.commit_hub.specs.Pages.{places_of, ForAccepted, ForDurable, ForCosts, IsWhole};
 
+use crate::clerk::{Clerk, serve_clerk, take_clerk};
 use crate::door::{Front, Seat, send_window, serve_door, take_seats};
 use crate::flush::flush_all;
 use crate::inbox::take_all;
 use crate::links::{Links, Successor};
 use crate::open_node::OpenNode;
-use crate::post::Post;
 use crate::run_fault::RunFault;
+use crate::shared::Shared;
 use crate::site::{Doors, Site};
 use crate::start_latch::StartLatch;
-use crate::watch::Watch;
 use commit_hub::{Hub, Node, Share, Whole};
 use crossbeam_channel::Receiver;
 use decision_board::Naming;
@@ -20,13 +20,14 @@ use disk_model::Device;
 use group_commit::Desk;
 use ring_records::{Packet, Shown};
 use ring_service::{Flusher, opened_board};
+use ring_watch::Tally;
 use std::alloc::{AllocError, Global};
 use std::net::TcpListener;
 use std::sync::Wait;
 use std::thread::{JoinHandle, Threads, scope, scope_env};
 use std::time::Clock;
 
-/// What the inbox and the doors of a node take with them.
+/// What the inbox, the doors and the clerk of a node take with them.
 #[derive(Drop)]
 struct Ends<J: Naming, A: Node> {
     inbox: Receiver<Packet>,
@@ -34,6 +35,7 @@ struct Ends<J: Naming, A: Node> {
     listener: TcpListener,
     seats: Vec<Seat<J, A>>,
     doors: Doors,
+    clerk: Option<Clerk<J>>,
 }
 
 /// Runs a node until the last door of the ring is done, and shows what it holds then. `None` where its device failed: the
@@ -46,7 +48,7 @@ pub(crate) fn serve_node<
     C: Whole + Send + Sync,
     V: Device + Send + Drop,
     R: Threads + Wait + Clock + Sync,
->(rt: &R, site: Site<V>, post: &Post, watch: &Watch, latch: &StartLatch) -> Option<Shown>
+>(rt: &R, site: Site<V>, shared: &Shared) -> Option<Shown>
     requires member { site.opened.desk.member ≡ A.member }
     requires opened { length site.opened.desk.state.inputs ≡ A.opened }
     requires history { site.history ≡ J.book }
@@ -60,24 +62,33 @@ pub(crate) fn serve_node<
         inbox,
         listener,
         doors,
+        asked,
+        readers,
         blanks,
         history,
     } = site;
+    let latch = &shared.latch;
     let OpenNode {
         node,
         nodes,
         desk,
         journal,
     } = opened;
+    let Ok(tally) = Tally::new(alloc) else {
+        latch.tell(rt, Err(RunFault::Memory(AllocError)));
+        return None;
+    };
     let successor = Successor::new();
     let links = Links {
-        post,
-        watch,
+        post: &shared.post,
+        watch: &shared.watch,
         successor: &successor,
+        tally: &tally,
+        reception: shared.reception(),
         node,
         nodes,
     };
-    let Ok(board) = opened_board::<J>(alloc, history, &desk, doors.count as usize) else {
+    let Ok(board) = opened_board::<J>(alloc, history, &desk, readers as usize) else {
         latch.tell(rt, Err(RunFault::Memory(AllocError)));
         return None;
     };
@@ -86,15 +97,17 @@ pub(crate) fn serve_node<
         hub.enter(rt),
         take_seats(rt, alloc, &hub, &board, doors.count),
     );
+    let clerk = take_clerk(&board, asked, port_of(&listener), doors.count);
     let mut flusher = Flusher::new(alloc, journal, board, tie);
-    let shares = match (share, seats) {
-        (Ok(share), Some(seats)) => {
+    let shares = match (share, seats, clerk) {
+        (Ok(share), Some(seats), Ok(clerk)) => {
             let ends = Ends {
                 inbox,
                 share,
                 listener,
                 seats,
                 doors,
+                clerk,
             };
             run_threads(rt, alloc, &hub, &mut flusher, ends, &links, latch)
         }
@@ -115,6 +128,14 @@ pub(crate) fn serve_node<
     }
 }
 
+/// The port where clients come, 0 where the system does not tell it.
+fn port_of(listener: &TcpListener) -> u16 {
+    match listener.local_addr() {
+        Ok(address) => address.port(),
+        Err(_) => 0,
+    }
+}
+
 /// Room for the doors' threads, and for the shares that come back.
 fn reserve<A: Node>(
     handles: &mut Vec<JoinHandle<Share<A>>>,
@@ -126,8 +147,8 @@ fn reserve<A: Node>(
     Ok(())
 }
 
-/// Runs the inbox once all are let go, and closes the hub behind it: the doors are done by then. Where the ring does not
-/// start, nothing is taken.
+/// Runs the inbox once all are let go, and closes the hub behind it and dismisses the clerk: the doors are done by then.
+/// Where the ring does not start, nothing is taken.
 fn serve_inbox<A: Node, D: Whole, C: Whole, R: Wait + Clock>(
     rt: &R,
     alloc: Global,
@@ -143,10 +164,11 @@ fn serve_inbox<A: Node, D: Whole, C: Whole, R: Wait + Clock>(
         share
     };
     hub.close(rt);
+    links.dismiss(rt);
     share
 }
 
-/// Starts the inbox and the doors in threads, tells the latch, and flushes here once all are let go. Gives the shares
+/// Starts the inbox, the doors and the clerk in threads, tells the latch, and flushes here once all are let go. Gives the shares
 /// back, or `None` where the ring did not start or the flusher did not come to its end.
 fn run_threads<
     J: Naming + Send + Sync,
@@ -172,6 +194,7 @@ fn run_threads<
         listener,
         seats,
         doors,
+        clerk,
     } = ends;
     let inbox = &inbox;
     let front = Front::new(listener, doors);
@@ -204,6 +227,14 @@ fn run_threads<
                         }
                     }
                     Err(_) => outcome = Err(RunFault::Thread),
+                }
+            }
+            if let Some(clerk) = clerk {
+                if scope
+                    .spawn(move || serve_clerk(rt, alloc, hub, clerk, links, latch))
+                    .is_err()
+                {
+                    outcome = Err(RunFault::Thread);
                 }
             }
             // No message of this run may come to the successor before these.

@@ -1,6 +1,6 @@
 //! A node that is ready to be shared.
 ghost use Rattle.std.specs.Prelude.{◌≡◌, ◌≤◌, ◌-◌, ◌||◌, false, length};
-ghost use Rattle.ring_records.specs.Answer.{durable_in};
+ghost use Rattle.ring_records.specs.States.{durable_in};
 ghost use Rattle.ring_records.specs.Member.{used_by};
 ghost use Rattle.gated_journal.specs.Journal.{member_of, len_of, room_of, is_spoiled};
 ghost use Rattle.node_store.specs.Node.{desk_of, state_of};

@@ -66,12 +66,17 @@ impl Post {
         }
     }
 
+    /// How many messages wait at the node.
+    pub fn waiting(&self, node: NodeNo) -> u64 {
+        match self.letterbox(node) {
+            Some(letterbox) => letterbox.waiting.load(Ordering::SeqCst),
+            None => 0,
+        }
+    }
+
     /// Whether messages wait at the node.
     pub fn waits_at(&self, node: NodeNo) -> bool {
-        match self.letterbox(node) {
-            Some(letterbox) => letterbox.waiting.load(Ordering::SeqCst) > 0,
-            None => false,
-        }
+        self.waiting(node) > 0
     }
 
     /// The door of one node is done, which each node says once. After the last one every letterbox is closed.

@@ -2,14 +2,17 @@
 use crate::node::serve_node;
 use crate::post::Post;
 use crate::run_fault::RunFault;
+use crate::shared::Shared;
 use crate::site::Site;
 use crate::start_latch::StartLatch;
 use crate::watch::{News, Watch};
 use disk_model::Device;
 use ring_records::{NodeNo, Shown};
+use ring_watch::StatusPort;
 use std::alloc::{AllocError, Global};
 use std::io::Write;
 use std::marker::Brand;
+use std::net::{Net, TcpStream};
 use std::sync::{Arc, Wait};
 use std::thread;
 use std::thread::{JoinHandle, Threads};
@@ -22,11 +25,9 @@ type Ends = Result<Vec<Option<Shown>>, AllocError>;
 fn one_node<V: Device + Send + Drop, R: Threads + Wait + Clock + Sync>(
     rt: &R,
     site: Site<V>,
-    post: &Post,
-    watch: &Watch,
-    latch: &StartLatch,
+    shared: &Shared,
 ) -> Option<Shown> {
-    serve_node::<Brand, Brand, Brand, Brand, V, R>(rt, site, post, watch, latch)
+    serve_node::<Brand, Brand, Brand, Brand, V, R>(rt, site, shared)
 }
 
 /// Runs this node of the ring. However it fails, it is told.
@@ -34,13 +35,11 @@ fn watched_node<V: Device + Send + Drop, R: Threads + Wait + Clock + Sync>(
     rt: &R,
     node: NodeNo,
     site: Site<V>,
-    post: &Post,
-    watch: &Watch,
-    latch: &StartLatch,
+    shared: &Shared,
 ) -> Option<Shown> {
-    let end = one_node(rt, site, post, watch, latch);
+    let end = one_node(rt, site, shared);
     if end.is_none() {
-        watch.fail(rt, node);
+        shared.watch.fail(rt, node);
     }
     end
 }
@@ -50,9 +49,7 @@ fn run_nodes<V: Device + Send + Drop, R: Threads + Wait + Clock + Sync>(
     rt: &R,
     alloc: Global,
     sites: Vec<Site<V>>,
-    post: &Post,
-    watch: &Watch,
-    latch: &StartLatch,
+    shared: &Shared,
 ) -> Ends {
     let mut handles: Vec<Option<JoinHandle<Option<Shown>>>> = Vec::with_capacity(
         alloc,
@@ -63,10 +60,10 @@ fn run_nodes<V: Device + Send + Drop, R: Threads + Wait + Clock + Sync>(
         for site in sites {
             let node = site.node();
             let started = scope
-                .spawn(move || watched_node(rt, node, site, post, watch, latch))
+                .spawn(move || watched_node(rt, node, site, shared))
                 .ok();
             if started.is_none() {
-                latch.tell(rt, Err(RunFault::Thread));
+                shared.latch.tell(rt, Err(RunFault::Thread));
             }
             if let Err(refused) = handles.push(started) {
                 drop(refused);
@@ -83,14 +80,22 @@ fn run_nodes<V: Device + Send + Drop, R: Threads + Wait + Clock + Sync>(
     Ok(ends)
 }
 
-/// Prints `serving` once all threads of all nodes are there, and lets them go: to serve, or to end where one is missing
-/// or the line is not taken.
-fn let_go<R: Wait, O: Write>(rt: &R, latch: &StartLatch, out: &mut O) -> Result<(), RunFault> {
-    let mut outcome = latch.wait_for_nodes(rt);
+/// Prints `serving` once all threads of all nodes are there, and those that tell of the ring, and lets them go: to serve,
+/// or to end where one is missing or the line is not taken.
+fn let_go<R: Threads + Wait + Clock + Send + Copy + 'static, O: Write>(
+    rt: &R,
+    alloc: Global,
+    shared: &Shared,
+    out: &mut O,
+) -> Result<(), RunFault> {
+    let mut outcome = shared.latch.wait_for_nodes(rt);
+    if outcome.is_ok() {
+        outcome = shared.open_status(rt, alloc);
+    }
     if outcome.is_ok() && (writeln!(out, "serving").is_err() || out.flush().is_err()) {
         outcome = Err(RunFault::Output);
     }
-    latch.open(rt, outcome.is_ok());
+    shared.latch.open(rt, outcome.is_ok());
     outcome
 }
 
@@ -137,12 +142,13 @@ fn print_ends<O: Write>(out: &mut O, ends: &[Option<Shown>]) -> Result<u8, RunFa
 
 /// Serves with all nodes of a ring until the last door is done, and gives the status: 0, or 1 where a node failed.
 /// Prints `serving` first, and at the end for each node in order what it holds, to `out`; that a node has failed or is
-/// full once it is, to `err`. With `fail_stop` it ends with the first node that fails, and leaves the threads of the
-/// ring to the end of the program. Refused where memory or a thread is wanting, or `out` does not take a line; but for
-/// the last line no thread goes on then.
+/// full once it is, to `err`. Meanwhile it tells of the ring at the port of `status`, where there is one: the nodes have
+/// clerks then. With `fail_stop` it ends with the first node that fails, and leaves the threads of the ring to the end of
+/// the program. Refused where memory or a thread is wanting, or `out` does not take a line; but for the last line no
+/// thread of a node goes on then, and none of the port beyond the client that it serves.
 pub fn serve_ring<
     V: Device + Send + Drop + 'static,
-    R: Threads + Wait + Clock + Sync + Send + Copy + 'static,
+    R: Threads + Wait + Clock + Sync + Send + Copy + 'static + Net<Stream = TcpStream>,
     O: Write,
     E: Write,
 >(
@@ -150,32 +156,45 @@ pub fn serve_ring<
     alloc: Global,
     sites: Vec<Site<V>>,
     post: Post,
+    status: Option<StatusPort>,
     fail_stop: bool,
     out: &mut O,
     err: &mut E,
 ) -> Result<u8, RunFault> {
-    let latch = Arc::new(alloc, StartLatch::new(sites.len()))?;
-    let watch = Arc::new(alloc, Watch::new())?;
-    let (their_latch, their_watch) = (Arc::try_clone(&latch)?, Arc::try_clone(&watch)?);
+    let status = match status {
+        Some(status) => Some(Arc::new(alloc, status)?),
+        None => None,
+    };
+    let shared = Shared {
+        post,
+        watch: Watch::new(),
+        latch: StartLatch::new(sites.len()),
+        status,
+    };
+    let shared = Arc::new(alloc, shared)?;
+    let theirs = Arc::try_clone(&shared)?;
     let own = *rt;
     let ring = thread::spawn(rt, move || {
-        let ends = run_nodes(&own, alloc, sites, &post, &their_watch, &their_latch);
+        let ends = run_nodes(&own, alloc, sites, &theirs);
         if let Err(fault) = &ends {
-            their_latch.fail(&own, RunFault::Memory(*fault));
+            theirs.latch.fail(&own, RunFault::Memory(*fault));
         }
-        their_watch.end(&own);
+        theirs.watch.end(&own);
         ends
     });
     let ring = match ring {
         Ok(ring) => ring,
         Err(_) => return Err(RunFault::Thread),
     };
-    if let Err(fault) = let_go(rt, &latch, out) {
+    if let Err(fault) = let_go(rt, alloc, &shared, out) {
+        shared.end_status(rt);
         let _ = ring.join(rt);
         return Err(fault);
     }
-    if tell_of_nodes(rt, &watch, fail_stop, err) {
+    if tell_of_nodes(rt, &shared.watch, fail_stop, err) {
         return Ok(1);
     }
-    print_ends(out, &ring.join(rt)?)
+    let ends = ring.join(rt)?;
+    shared.end_status(rt);
+    print_ends(out, &ends)
 }

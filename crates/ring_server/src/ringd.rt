@@ -12,9 +12,11 @@ use crate::ring::serve_ring;
 use crate::run_fault::RunFault;
 use crate::site::{Doors, Site};
 use crate::unopened::Unopened;
+use crossbeam_channel::Receiver;
 use disk_model::FileDevice;
 use ring_records::{NodeNo, Refusal};
-use ring_service::{Settings, Words, read_settings, read_words};
+use ring_service::{Settings, VERSION, Words, read_settings, read_words};
+use ring_watch::{Facts, Inquiry, Reception, StatusPort};
 use std::alloc::{AllocError, Global};
 use std::fs::File;
 use std::io::{ErrorKind, Read, Write};
@@ -178,12 +180,14 @@ where
     };
     let opened = open_ring(rt, alloc, &folder, settings, words.existing)?;
     let listeners = listen(rt, alloc, settings)?;
+    let (status, clerks) = listen_for_questions(rt, alloc, settings, words.status)?;
     let (post, inboxes) = Post::new(alloc, settings.nodes)?;
+    let mut clerks = clerks.into_iter();
     let mut sites = Vec::new(alloc);
     for ((opened, inbox), listener) in opened.into_iter().zip(inboxes).zip(listeners) {
-        sites.push(Site::new(alloc, opened, inbox, listener, doors))?;
+        sites.push(Site::new(alloc, opened, inbox, listener, doors, clerks.next()))?;
     }
-    serve_ring(rt, alloc, sites, post, words.fail_stop, out, err)
+    serve_ring(rt, alloc, sites, post, status, words.fail_stop, out, err)
 }
 
 /// All nodes of the ring, which fit. Each has to be there already where they were all made once, or where `existing`
@@ -276,4 +280,30 @@ fn listen<R: Net<Listener = TcpListener, Stream = TcpStream>>(
         }
     }
     Ok(listeners)
+}
+
+/// The port at which an operator is told of the ring, and what the clerks of its nodes are asked, in their order; none
+/// where no port is said.
+fn listen_for_questions<R: Clock + Net<Listener = TcpListener, Stream = TcpStream>>(
+    rt: &R,
+    alloc: Global,
+    settings: &Settings,
+    port: Option<u16>,
+) -> Result<(Option<StatusPort>, Vec<Receiver<Inquiry>>), RunFault> {
+    let Some(port) = port else {
+        return Ok((None, Vec::new(alloc)));
+    };
+    let Ok(listener) = TcpListener::bind(rt, (Ipv4Addr::LOCALHOST, port)) else {
+        return Err(RunFault::Port(port));
+    };
+    let facts = Facts {
+        version: VERSION,
+        dir: String::from_str(alloc, settings.dir.as_str())?,
+        started: match rt.since_1970() {
+            Ok(now) => now.as_secs(),
+            Err(_) => 0,
+        },
+    };
+    let (reception, clerks) = Reception::new(alloc, settings.nodes)?;
+    Ok((Some(StatusPort::new(listener, facts, reception)), clerks))
 }

@@ -8,6 +8,7 @@ use crossbeam_channel::Receiver;
 use decision_board::Opened;
 use disk_model::Device;
 use ring_records::{NodeNo, Packet};
+use ring_watch::Inquiry;
 use std::alloc::Global;
 use std::net::TcpListener;
 use std::time::Duration;
@@ -42,7 +43,8 @@ impl Doors {
     }
 }
 
-/// A node with its letterbox, its listener, how its doors serve, and what its ledgers begin with.
+/// A node with its letterbox, its listener, how its doors serve, what its clerk is asked, where it has one, how many read
+/// its board, and what its ledgers begin with.
 #[derive(Drop)]
 pub struct Site<V: Device> {
     pub(crate) alloc: Global,
@@ -50,26 +52,34 @@ pub struct Site<V: Device> {
     pub(crate) inbox: Receiver<Packet>,
     pub(crate) listener: TcpListener,
     pub(crate) doors: Doors,
+    pub(crate) asked: Option<Receiver<Inquiry>>,
+    pub(crate) readers: u32,
     pub(crate) blanks: Blanks,
     pub(crate) history: Opened,
     ghost places: { places_of blanks ≡ doors.count + 1 },
+    ghost few: { (1 ≤ readers) × (readers ≤ 32) },
 }
 
 impl<V: Device> Site<V> {
-    /// Of a node that was opened.
+    /// Of a node that was opened. It has a clerk where that may be asked and has a place: a board has 32, of which each
+    /// door takes one.
     pub fn new(
         alloc: Global,
         opened: OpenNode<V>,
         inbox: Receiver<Packet>,
         listener: TcpListener,
         doors: Doors,
+        asked: Option<Receiver<Inquiry>>,
     ) -> Site<V> {
+        let asked = if doors.count < 32 { asked } else { None };
         Site {
             alloc,
             opened,
             inbox,
             listener,
             doors,
+            readers: doors.count + u32::from(asked.is_some()),
+            asked,
             blanks: Blanks::new(doors.count + 1),
             history: Opened::new(),
         }

@@ -1,10 +1,23 @@
 -- Whether each node takes what it should.
-use Rattle.std.specs.Prelude.{ℕ, Bool, true, false, if◌then◌else◌, List, [], ◌++◌, codes}
+use Rattle.std.specs.Prelude.{ℕ, ◌+◌, ◌-◌, nat_lt, nat_le, Bool, true, false, not, if◌then◌else◌, List, [], ◌++◌, codes}
 use Rattle.std.specs.Fmt.{decimal}
 use Rattle.std.specs.List.{flat_map, list_all}
+use Rattle.ring_status.specs.declared.holding.Holding.{Holding}
 use Rattle.ring_status.specs.declared.values.Condition.{Condition}
 use Rattle.ring_status.specs.declared.values.Condition.TheVariants.{Well, Limit, Full, Failed}
 use Rattle.ring_status.specs.declared.values.NodeStatus.{NodeStatus}
+
+-- What a node takes that holds so much: nothing where it takes no requests; a Stand or a message takes 42 bytes at most,
+-- and a node takes 1,024 Stands at most.
+abbrev pub condition_of : Holding → Bool → Condition
+condition_of held is_open =
+    if not is_open then Failed
+    else (if nat_lt held.capacity (held.used + 42) then Full
+    else (if nat_le 1024 held.stands then Limit
+    else Well))
+
+abbrev pub stands_left : Holding → ℕ
+stands_left held = 1024 - held.stands
 
 abbrev pub takes : Condition → Bool
 takes Well = true

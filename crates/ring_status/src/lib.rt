@@ -9,6 +9,7 @@
 
 mod answer;
 mod health;
+mod holding;
 mod json;
 mod metric;
 mod metrics;
@@ -19,6 +20,7 @@ mod values;
 
 pub use answer::{Content, answer_text};
 pub use health::{are_well, health_text};
+pub use holding::Holding;
 pub use json::{latest_json, leaders_json, status_json};
 pub use metric::Metric;
 pub use metrics::metrics_text;

@@ -1,0 +1,181 @@
+//! The clerk's thread: what an operator is told of a node.
+use crate::links::Links;
+use crate::start_latch::StartLatch;
+use commit_hub::{Hub, Node, Whole};
+use crossbeam_channel::{Receiver, Sender};
+use decision_board::{Board, BoardReader, Naming};
+use ring_records::{Decision, GroupName, Key, Refusal};
+use ring_status::{Holding, NodeStatus};
+use ring_watch::{Inquiry, Page};
+use std::alloc::{AllocError, Global};
+use std::sync::Wait;
+
+/// How many groups a page has at most.
+const GROUPS: usize = 1_000;
+
+/// What a clerk answers by: what it is asked, its reader of the board, and the port and the number of the node's doors.
+#[derive(Drop)]
+pub(crate) struct Clerk<J: Naming> {
+    asked: Receiver<Inquiry>,
+    reader: BoardReader<J>,
+    port: u16,
+    doors: u32,
+}
+
+/// A clerk of a node whose doors are these, where it may be asked. Refused where the board has no place.
+pub(crate) fn take_clerk<J: Naming>(
+    board: &Board<J>,
+    asked: Option<Receiver<Inquiry>>,
+    port: u16,
+    doors: u32,
+) -> Result<Option<Clerk<J>>, Refusal> {
+    let Some(asked) = asked else {
+        return Ok(None);
+    };
+    match board.reader() {
+        Ok(reader) => Ok(Some(Clerk {
+            asked,
+            reader,
+            port,
+            doors,
+        })),
+        Err(refusal) => Err(refusal),
+    }
+}
+
+/// What is told of the node. The hub's lock is held once, while counts are copied.
+fn status<A: Node, D: Whole, C: Whole, R: Wait>(
+    rt: &R,
+    alloc: Global,
+    hub: &Hub<A, D, C>,
+    port: u16,
+    doors: u32,
+    links: &Links<'_>,
+) -> Result<NodeStatus, AllocError> {
+    let look = hub.look(rt);
+    let held = Holding {
+        used: look.used,
+        capacity: u64::from(look.capacity),
+        stands: u64::from(look.stands),
+    };
+    let tally = links.tally;
+    Ok(NodeStatus {
+        node: links.node,
+        port,
+        condition: held.condition(look.is_open),
+        shown: look.shown,
+        used: held.used,
+        capacity: held.capacity,
+        stands: held.stands,
+        stands_left: held.stands_left(),
+        batches: tally.batches(),
+        syncs: tally.syncs(),
+        refusals: tally.refusals(alloc)?,
+        sessions: tally.sessions(),
+        doors: u64::from(doors),
+        busy: tally.busy(),
+        letters: links.post.waiting(links.node),
+    })
+}
+
+/// Adds a leader, and gives its group.
+fn add(leads: &mut Vec<Decision>, lead: &Decision) -> Result<GroupName, AllocError> {
+    leads.extend_from_slice(&[*lead])?;
+    Ok(lead.key.group)
+}
+
+/// The first groups behind this one, in order of name, or `None` where the board has ended or memory is wanting.
+fn page<J: Naming>(
+    alloc: Global,
+    reader: &mut BoardReader<J>,
+    after: Option<GroupName>,
+) -> Option<Page> {
+    let mut leads = Vec::new(alloc);
+    let mut last = after;
+    for _ in 0..GROUPS {
+        let Ok(next) = reader.next_group(last) else {
+            return None;
+        };
+        let Some(lead) = next else {
+            return Some(Page { leads, more: false });
+        };
+        match add(&mut leads, &lead) {
+            Ok(group) => last = Some(group),
+            Err(_) => return None,
+        }
+    }
+    match reader.next_group(last) {
+        Ok(next) => Some(Page {
+            leads,
+            more: next.is_some(),
+        }),
+        Err(_) => None,
+    }
+}
+
+/// The latest leader of the group, where there is one, or `None` where the board has ended.
+fn latest<J: Naming>(reader: &mut BoardReader<J>, group: GroupName) -> Option<Option<Decision>> {
+    match reader.latest(&group) {
+        Ok(Some((term, leader))) => Some(Some(Decision {
+            key: Key { group, term },
+            leader,
+        })),
+        Ok(None) => Some(None),
+        Err(_) => None,
+    }
+}
+
+/// Sends an answer back, where there is one.
+fn send_back<T: Drop, R: Wait>(rt: &R, back: &Sender<T>, answer: Option<T>) {
+    if let Some(answer) = answer {
+        let _ = back.send(rt, answer);
+    }
+}
+
+impl<J: Naming> Clerk<J> {
+    /// Answers what is asked. Where there is no answer, who asks finds none to come.
+    fn answer<A: Node, D: Whole, C: Whole, R: Wait>(
+        &mut self,
+        rt: &R,
+        alloc: Global,
+        hub: &Hub<A, D, C>,
+        inquiry: Inquiry,
+        links: &Links<'_>,
+    ) {
+        match inquiry {
+            Inquiry::Status(back) => {
+                let answer = status(rt, alloc, hub, self.port, self.doors, links).ok();
+                send_back(rt, &back, answer);
+            }
+            Inquiry::Page(after, back) => {
+                let answer = page(alloc, &mut self.reader, after);
+                send_back(rt, &back, answer);
+            }
+            Inquiry::Latest(group, back) => {
+                let answer = latest(&mut self.reader, group);
+                send_back(rt, &back, answer);
+            }
+        }
+    }
+}
+
+/// Answers what the clerk is asked, until it is dismissed. Who asks waits for no sync, and the node for no clerk.
+pub(crate) fn serve_clerk<J: Naming, A: Node, D: Whole, C: Whole, R: Wait>(
+    rt: &R,
+    alloc: Global,
+    hub: &Hub<A, D, C>,
+    clerk: Clerk<J>,
+    links: &Links<'_>,
+    latch: &StartLatch,
+) {
+    let mut clerk = clerk;
+    if !latch.wait(rt) {
+        return;
+    }
+    for _ in rt.forever() {
+        match clerk.asked.recv(rt) {
+            Ok(inquiry) => clerk.answer(rt, alloc, hub, inquiry, links),
+            Err(_) => break,
+        }
+    }
+}

@@ -1,0 +1,46 @@
+// What a node holds, and what that says of what it takes.
+ghost use Rattle.std.specs.Prelude.{◌≡◌, ◌-◌};
+ghost use Rattle.ring_status.specs.Health.{condition_of, stands_left};
+
+use crate::values::Condition;
+
+/// The most Stands of a node.
+const STANDS: u64 = 1_024;
+
+/// The most bytes of the capacity that a Stand or a message takes.
+const MOST: u64 = 42;
+
+/// What a node holds of what it may hold.
+#[derive(Clone, Copy, Debug, PartialEq, Eq)]
+pub struct Holding {
+    /// How many bytes of its capacity its inputs take.
+    pub used: u64,
+    /// How many bytes of inputs it takes.
+    pub capacity: u64,
+    /// How many Stands it has taken.
+    pub stands: u64,
+}
+
+impl Holding {
+    /// What a node takes that holds so much, and that takes requests or takes none.
+    pub fn condition(&self, is_open: bool) -> Condition
+        ensures { result ≡ condition_of self.now is_open }
+    {
+        if !is_open {
+            Condition::Failed
+        } else if self.used > self.capacity || self.capacity - self.used < MOST {
+            Condition::Full
+        } else if self.stands >= STANDS {
+            Condition::Limit
+        } else {
+            Condition::Well
+        }
+    }
+
+    /// How many more Stands it may take.
+    pub fn stands_left(&self) -> u64
+        ensures { result ≡ stands_left self.now }
+    {
+        STANDS.saturating_sub(self.stands)
+    }
+}

@@ -1,0 +1,17 @@
+//! What an operator is told of a ring while it serves: what the threads of a node count, how a node's clerk is asked, and
+//! the port at which it is told over HTTP.
+//!
+//! The answers themselves are those of `ring_status`. Of bytes over sockets no clause speaks.
+#![tactic(auto)]
+
+mod exchange;
+mod pages;
+mod reception;
+mod status_port;
+mod tally;
+mod tally_writer;
+
+pub use reception::{Inquiry, Page, Reception};
+pub use status_port::{Facts, StatusPort};
+pub use tally::Tally;
+pub use tally_writer::TallyWriter;

@@ -1,0 +1,148 @@
+//! What is told for each target.
+use crate::reception::{Page, Reception};
+use crate::status_port::Facts;
+use client_stream::Deadline;
+use ring_records::{GroupName, NodeNo};
+use ring_status::{
+    Content, NodeStatus, RingStatus, Status, Target, are_well, health_text, latest_json,
+    leaders_json, metrics_text, status_json,
+};
+use std::alloc::{AllocError, Global};
+use std::sync::Wait;
+use std::time::Clock;
+
+/// A body, what it is, and how the request is answered.
+#[derive(Drop)]
+pub(crate) struct Body {
+    pub(crate) status: Status,
+    pub(crate) content: Content,
+    pub(crate) text: String,
+}
+
+/// A text where memory was had for it.
+fn had(text: Result<String, AllocError>) -> Result<String, Status> {
+    text.map_err(|_| Status::Unavailable)
+}
+
+/// What is told of each node, in their order. Refused where one of them does not answer.
+fn statuses<R: Wait + Clock>(
+    rt: &R,
+    alloc: Global,
+    reception: &Reception,
+    deadline: Deadline,
+) -> Result<Vec<NodeStatus>, Status> {
+    let mut nodes = Vec::new(alloc);
+    for number in 1..=16u8 {
+        if usize::from(number) > reception.nodes() {
+            break;
+        }
+        let Ok(node) = NodeNo::new(number) else {
+            break;
+        };
+        let Some(status) = reception.status(rt, alloc, node, deadline) else {
+            return Err(Status::Unavailable);
+        };
+        if nodes.push(status).is_err() {
+            return Err(Status::Unavailable);
+        }
+    }
+    Ok(nodes)
+}
+
+fn health(alloc: Global, nodes: &[NodeStatus]) -> Result<Body, Status> {
+    let status = if are_well(nodes) {
+        Status::Found
+    } else {
+        Status::Unavailable
+    };
+    Ok(Body {
+        status,
+        content: Content::Text,
+        text: had(health_text(alloc, nodes))?,
+    })
+}
+
+fn ring<'a>(facts: &'a Facts, nodes: &'a [NodeStatus]) -> RingStatus<'a> {
+    RingStatus {
+        version: facts.version,
+        dir: facts.dir.as_str(),
+        started: facts.started,
+        nodes,
+    }
+}
+
+fn found(content: Content, text: Result<String, AllocError>) -> Result<Body, Status> {
+    Ok(Body {
+        status: Status::Found,
+        content,
+        text: had(text)?,
+    })
+}
+
+/// A page of the groups behind this one.
+fn page<R: Wait + Clock>(
+    rt: &R,
+    alloc: Global,
+    reception: &Reception,
+    node: NodeNo,
+    after: Option<GroupName>,
+    deadline: Deadline,
+) -> Result<Body, Status> {
+    match reception.page(rt, alloc, node, after, deadline) {
+        Some(Page { leads, more }) => {
+            found(Content::Json, leaders_json(alloc, node, &leads, more))
+        }
+        None => Err(Status::Unavailable),
+    }
+}
+
+/// The latest leader of the group.
+fn latest<R: Wait + Clock>(
+    rt: &R,
+    alloc: Global,
+    reception: &Reception,
+    node: NodeNo,
+    group: GroupName,
+    deadline: Deadline,
+) -> Result<Body, Status> {
+    match reception.latest(rt, alloc, node, group, deadline) {
+        Some(Some(lead)) => found(Content::Json, latest_json(alloc, node, &lead)),
+        Some(None) => Err(Status::NotFound),
+        None => Err(Status::Unavailable),
+    }
+}
+
+/// Whether the ring has the node.
+fn has(reception: &Reception, node: NodeNo) -> bool {
+    usize::from(node.number()) <= reception.nodes()
+}
+
+/// What is told for the target. Refused as 404 where the ring has no such node or the group no leader, and as 503 where a
+/// node does not answer in time, or memory is wanting.
+pub(crate) fn body_of<R: Wait + Clock>(
+    rt: &R,
+    alloc: Global,
+    facts: &Facts,
+    reception: &Reception,
+    target: Target,
+    deadline: Deadline,
+) -> Result<Body, Status> {
+    match target {
+        Target::Health => health(alloc, &statuses(rt, alloc, reception, deadline)?),
+        Target::Status => {
+            let nodes = statuses(rt, alloc, reception, deadline)?;
+            found(Content::Json, status_json(alloc, &ring(facts, &nodes)))
+        }
+        Target::Metrics => {
+            let nodes = statuses(rt, alloc, reception, deadline)?;
+            found(Content::Metrics, metrics_text(alloc, &ring(facts, &nodes)))
+        }
+        Target::Leaders(node, after) if has(reception, node) => {
+            page(rt, alloc, reception, node, after, deadline)
+        }
+        Target::LeaderOf(node, group) if has(reception, node) => {
+            latest(rt, alloc, reception, node, group, deadline)
+        }
+        _ => Err(Status::NotFound),
+    }
+}

@@ -1,0 +1,135 @@
+//! Where the clerks of a ring's nodes are asked.
+use client_stream::Deadline;
+use crossbeam_channel::{Receiver, Sender, bounded, unbounded};
+use ring_records::{Decision, GroupName, NodeNo};
+use ring_status::NodeStatus;
+use std::alloc::{AllocError, Global};
+use std::sync::{Mutex, Wait};
+use std::time::Clock;
+
+/// Groups with their latest leaders, in order of name, and whether there are more behind them.
+#[derive(Drop)]
+pub struct Page {
+    pub leads: Vec<Decision>,
+    pub more: bool,
+}
+
+/// What a node's clerk is asked, with where the answer goes. Where it has none, it lets go of that.
+#[derive(Drop)]
+pub enum Inquiry {
+    /// What is told of the node.
+    Status(Sender<NodeStatus>),
+    /// The groups behind this one, by the node's board.
+    Page(Option<GroupName>, Sender<Page>),
+    /// The latest leader of the group, by the node's board.
+    Latest(GroupName, Sender<Option<Decision>>),
+}
+
+/// Where the clerks of a ring's nodes are asked, until each of them is dismissed.
+#[derive(Drop)]
+pub struct Reception {
+    clerks: Vec<Mutex<Option<Sender<Inquiry>>>>,
+}
+
+impl Reception {
+    /// With a clerk for each of so many nodes, and what each of them is asked, in order of node.
+    pub fn new(
+        alloc: Global,
+        nodes: u8,
+    ) -> Result<(Reception, Vec<Receiver<Inquiry>>), AllocError> {
+        let mut clerks = Vec::with_capacity(alloc, usize::from(nodes))?;
+        let mut asked = Vec::with_capacity(alloc, usize::from(nodes))?;
+        for _ in 0..nodes {
+            let (sender, receiver) = unbounded(alloc)?;
+            clerks.push(Mutex::new(Some(sender)))?;
+            asked.push(receiver)?;
+        }
+        Ok((Reception { clerks }, asked))
+    }
+
+    /// How many nodes the ring has.
+    pub fn nodes(&self) -> usize {
+        self.clerks.len()
+    }
+
+    fn clerk(&self, node: NodeNo) -> Option<&Mutex<Option<Sender<Inquiry>>>> {
+        self.clerks.get(usize::from(node.number()) - 1)
+    }
+
+    /// Whether the inquiry was left with the node's clerk.
+    fn leave<R: Wait>(&self, rt: &R, node: NodeNo, inquiry: Inquiry) -> bool {
+        let Some(clerk) = self.clerk(node) else {
+            return false;
+        };
+        match clerk.lock(rt).as_ref() {
+            Some(sender) => sender.send(rt, inquiry).is_ok(),
+            None => false,
+        }
+    }
+
+    /// What is told of the node, or `None` where no answer comes in time, or memory is wanting.
+    pub fn status<R: Wait + Clock>(
+        &self,
+        rt: &R,
+        alloc: Global,
+        node: NodeNo,
+        deadline: Deadline,
+    ) -> Option<NodeStatus> {
+        let (sender, receiver) = bounded(alloc, 1).ok()?;
+        if !self.leave(rt, node, Inquiry::Status(sender)) {
+            return None;
+        }
+        answer(rt, &receiver, deadline)
+    }
+
+    /// The groups behind this one by the node's board, or `None` as for `status`.
+    pub fn page<R: Wait + Clock>(
+        &self,
+        rt: &R,
+        alloc: Global,
+        node: NodeNo,
+        after: Option<GroupName>,
+        deadline: Deadline,
+    ) -> Option<Page> {
+        let (sender, receiver) = bounded(alloc, 1).ok()?;
+        if !self.leave(rt, node, Inquiry::Page(after, sender)) {
+            return None;
+        }
+        answer(rt, &receiver, deadline)
+    }
+
+    /// The latest leader of the group by the node's board, where there is one, or `None` as for `status`.
+    pub fn latest<R: Wait + Clock>(
+        &self,
+        rt: &R,
+        alloc: Global,
+        node: NodeNo,
+        group: GroupName,
+        deadline: Deadline,
+    ) -> Option<Option<Decision>> {
+        let (sender, receiver) = bounded(alloc, 1).ok()?;
+        if !self.leave(rt, node, Inquiry::Latest(group, sender)) {
+            return None;
+        }
+        answer(rt, &receiver, deadline)
+    }
+
+    /// The node's clerk is asked nothing more, and ends.
+    pub fn dismiss<R: Wait>(&self, rt: &R, node: NodeNo) {
+        if let Some(clerk) = self.clerk(node) {
+            *clerk.lock(rt) = None;
+        }
+    }
+}
+
+/// What comes before the deadline.
+fn answer<R: Wait + Clock, T: Drop>(
+    rt: &R,
+    receiver: &Receiver<T>,
+    deadline: Deadline,
+) -> Option<T> {
+    match deadline.left(rt).ok()? {
+        Some(left) => receiver.recv_timeout(rt, left).ok(),
+        None => receiver.recv(rt).ok(),
+    }
+}

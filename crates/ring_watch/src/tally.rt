@@ -1,0 +1,95 @@
+//! What the threads of a node count.
+use ring_status::RefusalCount;
+use std::alloc::{AllocError, Global};
+use std::sync::atomic::{AtomicU64, Ordering};
+
+/// The greatest number of a refusal.
+const REFUSALS: u8 = 25;
+
+/// A batch is written with a sync behind its frame, and one behind its gate.
+const SYNCS: u64 = 2;
+
+/// What the threads of a node count since the start. It is read while they count, so two numbers of it may be of two
+/// moments.
+#[derive(Drop)]
+pub struct Tally {
+    batches: AtomicU64,
+    sessions: AtomicU64,
+    busy: AtomicU64,
+    // by their numbers, from 1 on
+    refusals: Vec<AtomicU64>,
+}
+
+impl Tally {
+    /// Of a node that has done nothing yet.
+    pub fn new(alloc: Global) -> Result<Tally, AllocError> {
+        let mut refusals = Vec::with_capacity(alloc, usize::from(REFUSALS))?;
+        for _ in 0..REFUSALS {
+            refusals.push(AtomicU64::new(0))?;
+        }
+        Ok(Tally {
+            batches: AtomicU64::new(0),
+            sessions: AtomicU64::new(0),
+            busy: AtomicU64::new(0),
+            refusals,
+        })
+    }
+
+    /// A batch is durable.
+    pub fn count_batch(&self) {
+        self.batches.fetch_add(1, Ordering::SeqCst);
+    }
+
+    /// A session begins at one of the doors.
+    pub fn begin_session(&self) {
+        self.sessions.fetch_add(1, Ordering::SeqCst);
+        self.busy.fetch_add(1, Ordering::SeqCst);
+    }
+
+    /// It has ended. Its door calls this once for each that it began.
+    pub fn end_session(&self) {
+        self.busy.fetch_sub(1, Ordering::SeqCst);
+    }
+
+    /// A client was told the refusal of this number.
+    pub fn count_refusal(&self, number: u8) {
+        let place = usize::from(number.saturating_sub(1));
+        if let Some(count) = self.refusals.get(place) {
+            count.fetch_add(1, Ordering::SeqCst);
+        }
+    }
+
+    /// How many batches are durable.
+    pub fn batches(&self) -> u64 {
+        self.batches.load(Ordering::SeqCst)
+    }
+
+    /// How many syncs these took.
+    pub fn syncs(&self) -> u64 {
+        self.batches().saturating_mul(SYNCS)
+    }
+
+    /// How many sessions were begun.
+    pub fn sessions(&self) -> u64 {
+        self.sessions.load(Ordering::SeqCst)
+    }
+
+    /// How many of them have not ended.
+    pub fn busy(&self) -> u64 {
+        self.busy.load(Ordering::SeqCst)
+    }
+
+    /// The refusals that clients were told, in order of their numbers; those that none was told are left out.
+    pub fn refusals(&self, alloc: Global) -> Result<Vec<RefusalCount>, AllocError> {
+        let mut told = Vec::new(alloc);
+        let mut number = 0u8;
+        for count in &self.refusals {
+            number = number.saturating_add(1);
+            let count = count.load(Ordering::SeqCst);
+            if count > 0 {
+                told.push(RefusalCount { number, count })?;
+            }
+        }
+        Ok(told)
+    }
+}
