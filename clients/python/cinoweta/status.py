@@ -8,8 +8,10 @@ from .errors import NoAnswer, WrongRing
 
 # More is read of no answer, in bytes.
 LONGEST = 1 << 20
-# What is told first of a node.
+# What is shown first of a node.
 FIRST = ["node", "port", "state"]
+# What stands before the number of a refusal.
+REFUSALS = "refusals."
 
 
 def ask(port: int, path: str, seconds: float) -> tuple[int, str]:
@@ -47,24 +49,23 @@ def status(port: int, seconds: float = 5.0) -> dict[str, Any]:
 
 
 def table(told: dict[str, Any]) -> str:
-    """The same for people: what is told of the ring, then a row for each value, with a column for each node. Refusals
-    that never came are left out."""
+    """The same for people: what is told of the ring, then a row for each value, with a column for each node."""
     lines = [f"{name} {shown(name, value)}" for name, value in told.items() if not isinstance(value, (list, dict))]
     nodes = [flatten(node) for node in told.get("nodes", [])]
-    names = list(dict.fromkeys(name for node in nodes for name in node))
-    rows = [(name, [node.get(name, "-") for node in nodes]) for name in sorted(names, key=place)]
-    rows = [(name, cells) for name, cells in rows if "." not in name or set(cells) - {"0", "-"}]
+    names = sorted(dict.fromkeys(name for node in nodes for name in node), key=place)
+    rows = [(name, [node.get(name, "0" if REFUSALS in name else "-") for node in nodes]) for name in names]
     wide = max([len(name) for name, _ in rows], default=0)
     widths = [max(map(len, column)) for column in zip(*(cells for _, cells in rows))]
     lines += [f"{name:<{wide}}  {'  '.join(map(str.rjust, cells, widths))}" for name, cells in rows]
     return "\n".join(lines)
 
 
-def place(name: str) -> tuple[int, str, int]:
-    """Which node it is stands first, and refusals stand last, by their numbers."""
-    head, _, number = name.partition(".")
-    first = FIRST.index(name) if name in FIRST else len(FIRST)
-    return (first + bool(number), head, int(number) if number.isdecimal() else 0)
+def place(name: str) -> tuple[int, int]:
+    """Which node it is stands first, and refusals stand last, by their numbers; all else stays in its order."""
+    if name in FIRST:
+        return FIRST.index(name), 0
+    number = name.rpartition(".")[2] if REFUSALS in name else ""
+    return len(FIRST) + bool(number), int(number) if number.isdecimal() else 0
 
 
 def shown(name: str, value: Any) -> str:
@@ -73,9 +74,15 @@ def shown(name: str, value: Any) -> str:
     return time.strftime("%Y-%m-%dT%H:%M:%SZ", time.gmtime(value)) if is_time else str(value)
 
 
-def flatten(node: dict[str, Any], before: str = "") -> dict[str, str]:
-    """The values of a node, and those of the objects in it, as `refusals.7`."""
-    flat: dict[str, str] = {}
-    for name, value in node.items():
-        flat |= flatten(value, f"{before}{name}.") if isinstance(value, dict) else {before + name: str(value)}
-    return flat
+def flatten(value: Any, name: str = "") -> dict[str, str]:
+    """The values of a node, and those of the objects in it, as `journal.inputs`; of refusals the counts, by number, as
+    `sessions.refusals.7`."""
+    if isinstance(value, dict) and value.keys() == {"count", "number"}:
+        return {f"{name}.{value['number']}": str(value["count"])}
+    if isinstance(value, dict):
+        parts = [flatten(part, f"{name}.{key}" if name else key) for key, part in value.items()]
+    elif isinstance(value, list):
+        parts = [flatten(part, name) for part in value]
+    else:
+        return {name: str(value)}
+    return {key: text for part in parts for key, text in part.items()}

@@ -37,8 +37,9 @@ class Served:
         settings = f"{self.folder}/ring.toml"
         text = f'nodes = 3\ndir = "{self.folder}/ring"\nport = {self.first}\ncapacity = {self.capacity}\n'
         pathlib.Path(settings).write_text(text, encoding="ascii")
-        self.process = subprocess.Popen([str(RINGD), "--settings", settings, "--always", *self.words],
-                                        stdout=subprocess.PIPE, stderr=subprocess.DEVNULL, text=True)
+        words = ["--settings", settings, "--always", "--status", str(self.status), *self.words]
+        self.process = subprocess.Popen([str(RINGD), *words], stdout=subprocess.PIPE, stderr=subprocess.DEVNULL,
+                                        text=True)
         return "serving\n" in iter(self.process.stdout.readline, "")
 
     def kill(self) -> None:
@@ -49,6 +50,11 @@ class Served:
     def end(self) -> None:
         self.kill()
         shutil.rmtree(self.folder, ignore_errors=True)
+
+    @property
+    def status(self) -> int:
+        """The port where it tells of itself."""
+        return self.first + 3
 
     @property
     def ports(self) -> str:

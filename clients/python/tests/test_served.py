@@ -112,6 +112,24 @@ class CommandTest(ServedTest):
         self.assertEqual(json.loads(self.told("--json", "stand", "red", "1", "5", "--node", "9")[1]).keys(), {"error"})
         self.assertEqual(json.loads(self.told("--json", "latest", "A")[1])["refusal"], 1)
 
+    def test_status(self) -> None:
+        port = str(self.served.status)
+        self.assertEqual(self.told("stand", "RED", "5", "10")[0], 11)
+        self.assertEqual(self.told("stand", "red", "5", "10")[0], 0)
+        code, text = self.told("status", "--port", port)
+        lines = text.splitlines()
+        self.assertEqual((code, lines[0]), (0, "well"))
+        self.assertIn(f"dir {self.served.folder}/ring", lines)
+        self.assertRegex(text, r"\nnode +1 +2 +3\n")
+        self.assertRegex(text, r"\nport +{0} +{1} +{2}\n".format(*range(self.served.first, self.served.first + 3)))
+        self.assertRegex(text, r"\nstands.taken +1 +0 +0\n")
+        self.assertRegex(text, r"\nsessions.refusals.1 +1 +0 +0\n")
+        told = json.loads(self.told("--json", "status", "--port", port)[1])
+        self.assertEqual((told["health"], len(told["nodes"]), told["nodes"][2]["state"]), ([], 3, "well"))
+        self.served.kill()
+        self.assertEqual(self.told("status", "--port", port)[0], 3)
+        self.served.start()
+
     def test_wrong_words(self) -> None:
         for words in (["stand", "red"], ["lock", "red"], ["latest", "red", "--", "true"], ["what"], [],
                       ["--ring", "7101", "latest", "red"], ["campaign", "red", "--rank", "1000"]):

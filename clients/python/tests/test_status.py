@@ -6,8 +6,10 @@ import unittest
 
 from cinoweta import NoAnswer, WrongRing, status
 
-NODES = [{"refusals": {"15": 4, "3": node, "7": 0}, "inputs": 20 + node, "node": node, "port": 7100 + node,
-          "stands": 10 + node, "state": state} for node, state in ((1, "well"), (2, "failed"))]
+NODES = [{"journal": {"batches": 3, "inputs": 20 + node}, "node": node, "port": 7100 + node,
+          "sessions": {"begun": 5, "refusals": refusals}, "stands": {"left": 1000, "taken": 10 + node}, "state": state}
+         for node, state, refusals in ((1, "well", []), (2, "failed", [{"count": 4, "number": 15},
+                                                                       {"count": 2, "number": 3}]))]
 TOLD = {"version": "0.1.0", "nodes": NODES, "dir": "ring-state", "started": 1700000000}
 
 
@@ -51,13 +53,16 @@ class StatusTest(unittest.TestCase):
             "version 0.1.0",
             "dir ring-state",
             "started 2023-11-14T22:13:20Z",
-            "node            1       2",
-            "port         7101    7102",
-            "state        well  failed",
-            "inputs         21      22",
-            "stands         11      12",
-            "refusals.3      1       2",
-            "refusals.15     4       4",
+            "node                     1       2",
+            "port                  7101    7102",
+            "state                 well  failed",
+            "journal.batches          3       3",
+            "journal.inputs          21      22",
+            "sessions.begun           5       5",
+            "stands.left           1000    1000",
+            "stands.taken            11      12",
+            "sessions.refusals.3      0       2",
+            "sessions.refusals.15     0       4",
         ])
 
 

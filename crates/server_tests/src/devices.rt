@@ -6,6 +6,7 @@ use disk_model::{FuseDevice, MemDevice};
 use node_store::Node;
 use ring_records::{Bid, GroupName, Key, NodeNo, Refusal, Request, Term};
 use ring_server::{Doors, OpenNode, Post, Site, serve_ring};
+use ring_watch::{Facts, Reception, StatusPort};
 use std::alloc::AllocGlobal;
 use std::io;
 use std::io::Write;
@@ -18,7 +19,8 @@ use std::thread::Threads;
 use std::time::Clock;
 
 /// How three nodes are served: from the port behind this one on, with so many bytes of capacity, for so many sessions
-/// each. Node 1 stood so often before, for `red`; node 2's device fails after so many calls.
+/// each. Node 1 stood so often before, for `red`; node 2's device fails after so many calls. An operator is told at the
+/// port of `status`.
 #[derive(Clone, Copy)]
 pub struct Served {
     pub port: u16,
@@ -27,6 +29,7 @@ pub struct Served {
     pub stood: u32,
     pub fails_after: u64,
     pub fail_stop: bool,
+    pub status: Option<u16>,
 }
 
 /// Standard error, of which another thread sees how long it is.
@@ -123,6 +126,21 @@ fn site_of<R: Abort + AllocGlobal + Net<Listener = TcpListener, Stream = TcpStre
     Some((opened(rt, node, served)?, listener))
 }
 
+/// The port where an operator is told of them.
+fn port_of<R: AllocGlobal + Net<Listener = TcpListener, Stream = TcpStream>>(
+    rt: &R,
+    served: Served,
+    reception: Reception,
+) -> Option<StatusPort> {
+    let listener = TcpListener::bind(rt, (Ipv4Addr::LOCALHOST, served.status?)).ok()?;
+    let facts = Facts {
+        version: "0",
+        dir: String::new(rt.alloc()),
+        started: 0,
+    };
+    Some(StatusPort::new(listener, facts, reception))
+}
+
 /// Serves the three nodes, and gives the status and what was printed, to standard error last; how long that is stands
 /// in `len` meanwhile.
 pub fn serve_three<
@@ -144,17 +162,31 @@ pub fn serve_three<
         len,
     };
     let (post, inboxes) = Post::new(alloc, 3).ok()?;
+    let (reception, clerks) = Reception::new(alloc, 3).ok()?;
+    let told = port_of(rt, served, reception);
+    let mut clerks = clerks.into_iter();
     let mut sites = Vec::new(alloc);
     let mut number = 0u8;
     for inbox in inboxes {
         number = number.saturating_add(1);
         let (opened, listener) = site_of(rt, number, served)?;
         let doors = Doors::new(1, served.sessions, 0);
+        let asked = if told.is_some() { clerks.next() } else { None };
         sites
-            .push(Site::new(alloc, opened, inbox, listener, doors))
+            .push(Site::new(alloc, opened, inbox, listener, doors, asked))
             .ok()?;
     }
-    let status = serve_ring(rt, alloc, sites, post, served.fail_stop, &mut out, &mut err).ok()?;
+    let status = serve_ring(
+        rt,
+        alloc,
+        sites,
+        post,
+        told,
+        served.fail_stop,
+        &mut out,
+        &mut err,
+    )
+    .ok()?;
     let Seen { text, len: _ } = err;
     Some((status, out, text))
 }

@@ -14,6 +14,8 @@ mod elections;
 #[cfg(test)]
 mod folders;
 #[cfg(test)]
+mod http;
+#[cfg(test)]
 mod news;
 #[cfg(test)]
 mod programs;
@@ -21,3 +23,5 @@ mod programs;
 mod refusals;
 #[cfg(test)]
 mod sessions_ends;
+#[cfg(test)]
+mod status;

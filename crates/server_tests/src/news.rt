@@ -32,6 +32,7 @@ fn one_node_of_three_fails_and_the_others_serve(rt: HostRuntime) {
         stood: 0,
         fails_after: 40,
         fail_stop: false,
+        status: None,
     };
     let len = AtomicU64::new(0);
     let (rt, seen) = (&rt, &len);
@@ -65,6 +66,7 @@ fn the_first_failure_is_the_end(rt: HostRuntime) {
         stood: 0,
         fails_after: 40,
         fail_stop: true,
+        status: None,
     };
     let len = AtomicU64::new(0);
     let (rt, seen) = (&rt, &len);
@@ -107,6 +109,7 @@ fn a_full_node_is_told_once(rt: HostRuntime) {
         stood: 0,
         fails_after: u64::MAX,
         fail_stop: false,
+        status: None,
     };
     let len = AtomicU64::new(0);
     let (rt, seen) = (&rt, &len);
@@ -141,6 +144,7 @@ fn the_window_of_a_start_goes_first(rt: HostRuntime) {
         stood: 300,
         fails_after: u64::MAX,
         fail_stop: false,
+        status: None,
     };
     let len = AtomicU64::new(0);
     let (rt, seen) = (&rt, &len);

@@ -91,6 +91,12 @@ where
 fn words(rt: HostRuntime) {
     let help = ["ringd", "--help"];
     told(&rt, &help, 0);
+    let version = ["ringd", "--version"];
+    let (status, out, _) = run(&rt, &version, b"");
+    assert_eq!(rt; status, 0);
+    assert!(rt; out.as_slice() == b"ringd 0.1.0\n".as_slice());
+    let place = ["ringd", "--always", "--status", "1", "--doors", "32"];
+    told(&rt, &place, 2);
     let none = ["ringd", "--serve", "0"];
     told(&rt, &none, 2);
     let many = ["ringd", "--serve", "1001"];
