@@ -1,6 +1,7 @@
 # run: an example, before any proof. test: the names in the documents, and the merge gate. wrong_bodies: the wrong bodies that the gate does not try, of CRATES or of all.
 # bin/NAME: a proved program. bench: the times of ringctl and of the works of bench.
 # ringd: bin/ringd. serve: runs ringd on examples/ring.toml, unproved where bin/ringd is not built.
+# install: bin/ringd, its man page and its unit file, under PREFIX, below DESTDIR.
 # fencing: a leader that is paused and wakes late is turned away, over bin/ringd.
 # clients: the tests of the clients, over bin/ringd.
 # picture: the run of SCRIPT by ringctl, drawn as text and, to the file SVG, as SVG. pictures: the tests of that, and the pictures of the docs, over bin/ringctl.
@@ -9,7 +10,7 @@
 # threads: bin/ringd where the system grants too few threads; as root.
 # load: bin/ringd under load; LOAD has further words of bench/load.py.
 .PHONY: run test wrong_bodies bench clean always
-.PHONY: ringd serve fencing clients picture pictures kills load short threads
+.PHONY: ringd install serve fencing clients picture pictures kills load short threads
 
 run:
 	@bench/try.sh examples/first_election.ring
@@ -30,6 +31,16 @@ bin/%: always
 	cp crates/$*/out/$* $@
 
 ringd: bin/ringd
+
+PREFIX ?= /usr/local
+
+# What was proved and linked is installed, and nothing is built: this may be run as another user.
+install:
+	@test -x bin/ringd || { echo "make install: bin/ringd is not there: make ringd builds it" >&2; exit 1; }
+	install -D -m 755 bin/ringd $(DESTDIR)$(PREFIX)/bin/ringd
+	@mkdir -p $(DESTDIR)$(PREFIX)/share/man/man8 $(DESTDIR)$(PREFIX)/lib/systemd/system
+	docs/man.py > $(DESTDIR)$(PREFIX)/share/man/man8/ringd.8
+	sed 's|/usr/local/bin|$(PREFIX)/bin|' examples/ringd.service > $(DESTDIR)$(PREFIX)/lib/systemd/system/ringd.service
 
 serve:
 	@bench/serve.sh
