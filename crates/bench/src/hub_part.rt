@@ -1,7 +1,7 @@
 // Hubs over new nodes, whose appenders stand and wait for the reply, in threads of their own beside one flusher.
 ghost use Rattle.std.specs.Prelude.{◌≡◌, ◌-◌, ◌≤◌, false, length};
 ghost use Rattle.gated_journal.specs.Journal.{member_of, len_of, room_of, is_spoiled};
-ghost use Rattle.ring_records.specs.Answer.{durable_in};
+ghost use Rattle.ring_records.specs.States.{durable_in};
 ghost use Rattle.ring_records.specs.Member.{used_by};
 ghost use Rattle.commit_hub.specs.Pages.{places_of, ForAccepted, ForDurable, ForCosts, IsWhole};
 
