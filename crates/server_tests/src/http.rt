@@ -22,12 +22,10 @@ pub fn answer_to<R: Net<Stream = TcpStream> + Clock + AllocGlobal>(
 
 /// Whether the text stands somewhere in the bytes.
 pub fn has(bytes: &[u8], text: &[u8]) -> bool {
-    let mut rest = bytes;
-    while !rest.is_empty() {
-        if rest.starts_with(text) {
+    for start in 0..bytes.len() {
+        if bytes[start..].starts_with(text) {
             return true;
         }
-        rest = &rest[1..];
     }
     false
 }
