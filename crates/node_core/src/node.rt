@@ -48,18 +48,19 @@ impl Model for NodeCore {
 }
 
 impl NodeCore {
-    /// Node `node` of a ring of `n` nodes, with a capacity in bytes, that has accepted nothing.
+    /// Node `node` of a ring of `n` nodes, with a capacity in bytes, that has accepted nothing. The snapshot of that takes
+    /// 38 of them.
     pub fn new(alloc: Global, node: NodeNo, n: u8, capacity: u32) -> NodeCore
         ensures me { result.me ≡ node }
         ensures ring { result.size ≡ n }
         ensures capacity { result.capacity ≡ capacity }
-        ensures value { (result.known ≡ summed.empty) × (result.used ≡ 0) }
+        ensures value { (result.known ≡ summed.empty) × (result.used ≡ 38) }
         ensures empty { CoreStandsFor result [] }
     {
         NodeCore {
             core: FreeCore::new(alloc, node, n),
             capacity,
-            used: 0,
+            used: 38,
             snapshot: 38,
         }
     }

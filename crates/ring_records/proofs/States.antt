@@ -8,7 +8,7 @@ use Rattle.ring_records.specs.declared.base.Base.{Base}
 use Rattle.ring_records.specs.declared.input.Input.{Input}
 use Rattle.ring_records.specs.declared.refusal.Refusal.{Refusal}
 use Rattle.ring_records.specs.declared.request.Request.{Request}
-use Rattle.ring_records.specs.Admission.{base_of, fresh, refusal, Fits, IsBaseOf, IsAdmitted, IsLawful}
+use Rattle.ring_records.specs.Admission.{base_of, fresh, newest, refusal, Fits, IsBaseOf, IsAdmitted, IsLawful}
 use Rattle.ring_records.specs.Answer.{input_of, if_free, if_input, gained}
 use Rattle.ring_records.specs.Lists.{EachAfter}
 use Rattle.ring_records.specs.Member.{Member}
@@ -17,12 +17,13 @@ use Rattle.ring_records.specs.Summary.{summary}
 use Rattle.ring_records.proofs.Admission.{refusal-admitted}
 use Rattle.ring_records.proofs.Growth.{EachAfter-take}
 use Rattle.ring_records.proofs.Lists.{EachAfter-push, none≢some}
+use Rattle.ring_records.proofs.Sound.{summary-none}
 
 -- ---- bases
 
 -- that of a new node stands for no input of whatever history
 pub base-fresh : (me : ℕ) (h : List Input) → IsBaseOf me fresh h
-base-fresh me h = record { within = omega arith; is = refl }
+base-fresh me h = record { within = omega arith; is = ap (base_of newest 1) (sym (summary-none me)) }
 
 -- a base of two histories that begin alike so far
 base-same : (me : ℕ) (b : Base) (g h : List Input) → b.inputs ≤ length h → take b.inputs h ≡ take b.inputs g → IsBaseOf me b g → IsBaseOf me b h

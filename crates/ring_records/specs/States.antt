@@ -8,7 +8,7 @@ use Rattle.ring_records.specs.declared.refusal.Refusal.{Refusal}
 use Rattle.ring_records.specs.declared.reply.Reply.{Reply}
 use Rattle.ring_records.specs.declared.request.Request.{Request}
 use Rattle.ring_records.specs.declared.shown.Shown.{Shown}
-use Rattle.ring_records.specs.Admission.{base_of, fresh, refusal, IsBaseOf, IsLawful}
+use Rattle.ring_records.specs.Admission.{base_of, fresh, newest, refusal, IsBaseOf, IsLawful}
 use Rattle.ring_records.specs.Answer.{Answer, Answered, gained, reply, answer, answered}
 use Rattle.ring_records.specs.Emission.{sent}
 use Rattle.ring_records.specs.History.{taken, credit}
@@ -104,7 +104,7 @@ launched s = record s { flying = min (s.durable + BATCH_INPUTS) (length s.inputs
 
 -- what the next area of node me stands for, behind this one, where all of h is summarised
 abbrev pub next_base : ℕ → Base → List Input → Base
-next_base me b h = base_of 2 (b.epoch + 1) (summary me h)
+next_base me b h = base_of newest (b.epoch + 1) (summary me h)
 
 -- all its inputs fly, as a checkpoint
 abbrev pub launched_all : ℕ → NodeState → NodeState

@@ -17,15 +17,15 @@ pub struct Base {
 }
 
 impl Base {
-    /// That of a new node: no input is summarised.
+    /// That of a new node: the snapshot of its first area, of 38 bytes, stands for no input.
     pub const fn fresh() -> Base
         ensures { result ≡ admission.fresh }
     {
         Base {
-            layout: 1,
-            epoch: 0,
+            layout: 2,
+            epoch: 1,
             inputs: 0,
-            bytes: 0,
+            bytes: 38,
         }
     }
 }

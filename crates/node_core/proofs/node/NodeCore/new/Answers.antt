@@ -1,7 +1,7 @@
-use Rattle.std.proofs.Common.{◌≡◌, ◌≤◌, refl, sym, ap, ◌∙◌, subst, arith}
-use Rattle.ring_records.specs.Admission.{used}
+use Rattle.std.proofs.Common.{◌≡◌, ◌≤◌, [], sym, ap, ◌∙◌, subst, arith}
 use Rattle.ring_records.specs.Snapshot.{snapshot_len}
 use Rattle.ring_records.specs.Summary.{empty}
+use Rattle.ring_records.proofs.Counts.{used-each}
 use Rattle.ring_records.proofs.Snapshots.{length-empty}
 use Rattle.ring_records.proofs.Sound.{summary-none}
 use Rattle.node_core.specs.Core.{FreeView}
@@ -14,8 +14,7 @@ invariant_of-result c =
     record { exact = sym len; within = subst (λ s. s.credit ≤ s.sent) (sym same) (omega arith); short = omega arith }
 
 pub returns-clause-empty : goal.returns-clause-empty
-unfolding used
 returns-clause-empty c = record {
   knows = ap (λ (v : FreeView). v.known) c.new.ensures ∙ sym (summary-none c.new.result.me);
-  bytes = refl;
+  bytes = sym (used-each []);
 }

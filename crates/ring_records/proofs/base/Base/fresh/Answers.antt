@@ -1,0 +1,7 @@
+use Rattle.std.proofs.Common.{ℕ, sym, ap}
+use Rattle.ring_records.specs.declared.base.Base.{Base}
+use Rattle.ring_records.proofs.Snapshots.{length-empty}
+use Rattle.ring_records.proofs.base.Base.fresh.Goals as goal
+
+pub returns : goal.returns
+returns c = ap (λ (k : ℕ). record { layout = 2; epoch = 1; inputs = 0; bytes = k }) (sym length-empty)
