@@ -4,12 +4,13 @@ use Rattle.std.proofs.lemmas.Bool.{cases_eq}
 use Rattle.ring_records.specs.Member.{Member}
 use Rattle.ring_records.proofs.SnapshotWhole.{one-spelled}
 use Rattle.gated_journal.specs.Frames.{ReadsTo}
-use Rattle.gated_journal.specs.Areas.{Reading, area_mark, epoch_at, snapshot_at, Counts, ReadsByAreaAt, ReadsByArea}
+use Rattle.gated_journal.specs.Areas.{epoch_at, snapshot_at, Counts, ReadsAt, ReadsAs}
+use Rattle.gated_journal.specs.Reading.{Reading}
 use Rattle.gated_journal.proofs.AreaBeside.{where_are}
-use Rattle.gated_journal.proofs.Unique.{unique, marked_unique}
+use Rattle.gated_journal.proofs.Unique.{unique, header_unique}
 
 -- an area that is read counts
-pub counts : (header : Member) (image : List ℕ) (r : Reading) (start other offset gate_at : ℕ) → ReadsByAreaAt header image r start other offset gate_at → Counts start image
+pub counts : (header : Member) (image : List ℕ) (r : Reading) (start other offset gate_at : ℕ) → ReadsAt header image r start other offset gate_at → Counts start image
 counts header image r start other offset gate_at read = record { gate = read.gate; known = sym read.base.layout ∙ read.base.known }
 
 -- what is read, and where
@@ -21,8 +22,8 @@ pub record SameReading (r s : Reading) (start start2 other other2 offset offset2
   pub gate_is : gate_at ≡ gate_at2
 
 -- of two different areas only one is read
-never_both : (header : Member) (image : List ℕ) (r s : Reading) (start start2 other other2 offset offset2 gate_at gate_at2 : ℕ) → other ≡ start2 → other2 ≡ start → ReadsByAreaAt header image r start other offset gate_at
-    → ReadsByAreaAt header image s start2 other2 offset2 gate_at2 → ⊥
+never_both : (header : Member) (image : List ℕ) (r s : Reading) (start start2 other other2 offset offset2 gate_at gate_at2 : ℕ) → other ≡ start2 → other2 ≡ start → ReadsAt header image r start other offset gate_at
+    → ReadsAt header image s start2 other2 offset2 gate_at2 → ⊥
 never_both header image r s start start2 other other2 offset offset2 gate_at gate_at2 first second one two =
     let less : epoch_at other2 image < s.epoch = two.older (subst (λ (p : ℕ). Counts p image) (sym second) (counts header image r start other offset gate_at one)) in
     let more : epoch_at other image < r.epoch = one.older (subst (λ (p : ℕ). Counts p image) (sym first) (counts header image s start2 other2 offset2 gate_at2 two)) in
@@ -31,8 +32,8 @@ never_both header image r s start start2 other other2 offset offset2 gate_at gat
     omega (arith, less, more, here, there)
 
 -- one area is read in one way
-same_area : (header : Member) (image : List ℕ) (r s : Reading) (start other other2 offset offset2 gate_at gate_at2 : ℕ) → ReadsByAreaAt header image r start other offset gate_at
-    → ReadsByAreaAt header image s start other2 offset2 gate_at2 → SameReading r s start start other other2 offset offset2 gate_at gate_at2
+same_area : (header : Member) (image : List ℕ) (r s : Reading) (start other other2 offset offset2 gate_at gate_at2 : ℕ) → ReadsAt header image r start other offset gate_at
+    → ReadsAt header image s start other2 offset2 gate_at2 → SameReading r s start start other other2 offset offset2 gate_at gate_at2
 same_area header image r s start other other2 offset offset2 gate_at gate_at2 one two =
     let offset_is : offset ≡ offset2 = one.base.offset_is ∙ sym two.base.offset_is in
     let both = unique offset image r.inputs s.inputs gate_at gate_at2 one.frames (subst (λ (p : ℕ). ReadsTo p image s.inputs gate_at2) (sym offset_is) two.frames) in
@@ -47,12 +48,12 @@ same_area header image r s start other other2 offset offset2 gate_at gate_at2 on
       gate_is = both.1;
     }
 
-pub alone : (header : Member) (image : List ℕ) (r s : Reading) (start start2 other other2 offset offset2 gate_at gate_at2 : ℕ) → ReadsByAreaAt header image r start other offset gate_at
-    → ReadsByAreaAt header image s start2 other2 offset2 gate_at2 → SameReading r s start start2 other other2 offset offset2 gate_at gate_at2
+pub alone : (header : Member) (image : List ℕ) (r s : Reading) (start start2 other other2 offset offset2 gate_at gate_at2 : ℕ) → ReadsAt header image r start other offset gate_at
+    → ReadsAt header image s start2 other2 offset2 gate_at2 → SameReading r s start start2 other other2 offset offset2 gate_at gate_at2
 alone header image r s start start2 other other2 offset offset2 gate_at gate_at2 one two =
     ⊎_elim
     (λ (same : start ≡ start2). subst (λ (p : ℕ). SameReading r s start p other other2 offset offset2 gate_at gate_at2) same
-    (same_area header image r s start other other2 offset offset2 gate_at gate_at2 one (subst (λ (p : ℕ). ReadsByAreaAt header image s p other2 offset2 gate_at2) (sym same) two)))
+    (same_area header image r s start other other2 offset offset2 gate_at gate_at2 one (subst (λ (p : ℕ). ReadsAt header image s p other2 offset2 gate_at2) (sym same) two)))
     (λ ne. absurd (apart ne)) (cases_eq start start2)
   where
     cross : other ≡ start2 → other2 ≡ start → ⊥
@@ -67,10 +68,10 @@ alone header image r s start start2 other other2 offset offset2 gate_at gate_at2
         (λ (d : (start2 ≡ 31 + header.capacity) × (other2 ≡ 16)). ne (b.0 ∙ sym d.0)) (where_are header.capacity start2 other2 two.areas))
         (where_are header.capacity start other one.areas)
 
-pub one_header : (header other : Member) (image : List ℕ) (r s : Reading) → ReadsByArea header image r → ReadsByArea other image s → header ≡ other
-one_header header other image r s one two = marked_unique area_mark area_mark header other image one.at.head two.at.head
+pub one_header : (header other : Member) (image : List ℕ) (r s : Reading) → ReadsAs header image r → ReadsAs other image s → header ≡ other
+one_header header other image r s one two = header_unique header other image one.at.head two.at.head
 
-pub one_reading : (header other : Member) (image : List ℕ) (r s : Reading) → ReadsByArea header image r → ReadsByArea other image s → r ≡ s
+pub one_reading : (header other : Member) (image : List ℕ) (r s : Reading) → ReadsAs header image r → ReadsAs other image s → r ≡ s
 one_reading header other image r s one two =
-    let here : ReadsByArea header image s = subst (λ (m : Member). ReadsByArea m image s) (sym (one_header header other image r s one two)) two in
+    let here : ReadsAs header image s = subst (λ (m : Member). ReadsAs m image s) (sym (one_header header other image r s one two)) two in
     (alone header image r s one.start here.start one.other here.other one.offset here.offset one.gate_at here.gate_at one.at here.at).reading

@@ -5,7 +5,8 @@ use Rattle.disk_model.specs.Disk.{Changes}
 use Rattle.ring_records.specs.declared.input.Input.{Input}
 use Rattle.ring_records.specs.Member.{Member}
 use Rattle.gated_journal.specs.Frames.{ReadsTo}
-use Rattle.gated_journal.specs.Areas.{Reading, area_mark, AreAreas, epoch_at, Counts, ReadsByAreaAt, IsGate}
+use Rattle.gated_journal.specs.Areas.{AreAreas, epoch_at, Counts, ReadsAt, IsGate}
+use Rattle.gated_journal.specs.Reading.{Reading}
 use Rattle.gated_journal.proofs.AreaKept.{frames_kept, base_kept, base_behind, older_kept, low}
 use Rattle.gated_journal.proofs.Kept.{SameBytes, kept, fewer, byte_same, header_kept}
 
@@ -17,10 +18,13 @@ pub where_are : (capacity start other : ℕ) → AreAreas capacity start other �
 where_are capacity start other is =
     ⊎_elim (λ (e : start ≡ 16). inl (e, omega (arith, is.both, e))) (λ ne. let o = is.one ne in inr (omega (arith, is.both, o), o)) (cases_eq start 16)
 
+pub start_low : (capacity start other : ℕ) → AreAreas capacity start other → start ≤ 31 + capacity
+start_low capacity start other is = ⊎_elim (λ (a : (start ≡ 16) × (other ≡ 31 + capacity)). omega (arith, a.0)) (λ (b : (start ≡ 31 + capacity) × (other ≡ 16)). omega (arith, b.0)) (where_are capacity start other is)
+
 pub swapped : (capacity start other : ℕ) → AreAreas capacity start other → AreAreas capacity other start
 swapped capacity start other is = record { both = omega (arith, is.both); one = λ ne. ⊎_elim (λ (e : start ≡ 16). e) (λ other_ne. absurd (ne (is.one other_ne))) (cases_eq start 16) }
 
-module _ (header : Member) (image new : List ℕ) (r : Reading) (start other offset gate_at : ℕ) (read : ReadsByAreaAt header image r start other offset gate_at) where
+module _ (header : Member) (image new : List ℕ) (r : Reading) (start other offset gate_at : ℕ) (read : ReadsAt header image r start other offset gate_at) where
   abbrev capacity : ℕ
   capacity = header.capacity
 
@@ -40,12 +44,12 @@ module _ (header : Member) (image new : List ℕ) (r : Reading) (start other off
         (⊎_elim (λ (a : (start ≡ 16) × (other ≡ 31 + capacity)). inr (omega (arith, a.0, a.1, fits))) (λ (b : (start ≡ 31 + capacity) × (other ≡ 16)). inl (omega (arith, b.0, b.1, p), omega (arith, b.0, b.1, p))) at)
 
     -- a commit: other frames, which begin at the same offset
-    pub grown : (inputs : List Input) (end : ℕ) → ReadsTo offset new inputs end → end ≤ start + 14 + capacity → ReadsByAreaAt header new (record r { inputs = inputs }) start other offset end
+    pub grown : (inputs : List Input) (end : ℕ) → ReadsTo offset new inputs end → end ≤ start + 14 + capacity → ReadsAt header new (record r { inputs = inputs }) start other offset end
     grown inputs end frames within =
         let p = places in
         let front : SameBytes start (gate_at - start) image new = kept gate_at n start (gate_at - start) image new changes (inl (omega (arith, p), omega (arith, p))) in
         record {
-          head = header_kept area_mark header gate_at n image new (⊎_elim (λ (a : (start ≡ 16) × (other ≡ 31 + capacity)). omega (arith, a.0, p)) (λ (b : (start ≡ 31 + capacity) × (other ≡ 16)). omega (arith, b.0, p)) at)
+          head = header_kept header gate_at n image new (⊎_elim (λ (a : (start ≡ 16) × (other ≡ 31 + capacity)). omega (arith, a.0, p)) (λ (b : (start ≡ 31 + capacity) × (other ≡ 16)). omega (arith, b.0, p)) at)
               (⊎_elim (λ (a : (start ≡ 16) × (other ≡ 31 + capacity)). omega (arith, a.0, p)) (λ (b : (start ≡ 31 + capacity) × (other ≡ 16)). omega (arith, b.0, p)) at) changes read.head;
           areas = read.areas;
           gate = byte_same start (gate_at - start) image new start (omega arith) (omega (arith, p)) front ∙ read.gate;
@@ -67,7 +71,7 @@ module _ (header : Member) (image new : List ℕ) (r : Reading) (start other off
         }
 
   -- a change of n bytes within the other area: what is read stays, where that does not come to count
-  pub beside : (off n : ℕ) → Changes off n image new → other ≤ off → off + n ≤ other + 15 + capacity → (Counts other new → epoch_at other new < r.epoch) → ReadsByAreaAt header new r start other offset gate_at
+  pub beside : (off n : ℕ) → Changes off n image new → other ≤ off → off + n ≤ other + 15 + capacity → (Counts other new → epoch_at other new < r.epoch) → ReadsAt header new r start other offset gate_at
   beside off n changes above below older =
       let p = places in
       let high : 16 ≤ off = ⊎_elim (λ (a : (start ≡ 16) × (other ≡ 31 + capacity)). omega (arith, a.1, above)) (λ (b : (start ≡ 31 + capacity) × (other ≡ 16)). omega (arith, b.1, above)) at in
@@ -75,7 +79,7 @@ module _ (header : Member) (image new : List ℕ) (r : Reading) (start other off
       kept off n start (gate_at + 1 - start) image new changes
       (⊎_elim (λ (a : (start ≡ 16) × (other ≡ 31 + capacity)). inl (omega (arith, a.0, a.1, read.within, above, p), omega (arith, p))) (λ (b : (start ≡ 31 + capacity) × (other ≡ 16)). inr (omega (arith, b.0, b.1, below))) at) in
       record {
-        head = header_kept area_mark header off n image new high (⊎_elim (λ (a : (start ≡ 16) × (other ≡ 31 + capacity)). omega (arith, a.0, p)) (λ (b : (start ≡ 31 + capacity) × (other ≡ 16)). omega (arith, b.0, p)) at) changes read.head;
+        head = header_kept header off n image new high (⊎_elim (λ (a : (start ≡ 16) × (other ≡ 31 + capacity)). omega (arith, a.0, p)) (λ (b : (start ≡ 31 + capacity) × (other ≡ 16)). omega (arith, b.0, p)) at) changes read.head;
         areas = read.areas;
         gate = byte_same start (gate_at + 1 - start) image new start (omega arith) (omega (arith, p)) all ∙ read.gate;
         base = base_kept header.n start image new r offset read.base (omega (arith, p, changes.no_shorter)) (fewer start (gate_at + 1 - start) (start + 1) (offset - (start + 1)) image new (omega arith) (omega (arith, p)) all);

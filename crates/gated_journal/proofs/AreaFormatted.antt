@@ -8,6 +8,7 @@ use Rattle.std.specs.Int.{w32, w64, to_be_bytes}
 use Rattle.std.specs.List.{flat_map}
 use Rattle.disk_model.specs.Disk.{Puts}
 use Rattle.ring_records.specs.declared.key_state.KeyState.{KeyState}
+use Rattle.ring_records.specs.Admission.{newest}
 use Rattle.ring_records.specs.KeyOrder.{key_cmp}
 use Rattle.ring_records.specs.Member.{Member}
 use Rattle.ring_records.specs.Snapshot.{Spells, snapshot_of, counts_bytes, state_bytes}
@@ -15,8 +16,8 @@ use Rattle.ring_records.specs.Summary.{empty}
 use Rattle.ring_records.proofs.Snapshots.{length-empty}
 use Rattle.ring_records.proofs.Sound.{sound-empty}
 use Rattle.ring_records.proofs.StatesInOrder.{len-values}
-use Rattle.gated_journal.specs.Areas.{area_mark, newest, new_areas, fresh_area, Counts, ReadsByAreaAt, IsGate, IsStaged}
-use Rattle.gated_journal.specs.Reading.{number_at}
+use Rattle.gated_journal.specs.Areas.{new_areas, Counts, ReadsAt, IsGate, IsStaged}
+use Rattle.gated_journal.specs.Reading.{mark, fresh_area, number_at}
 use Rattle.gated_journal.proofs.AreaStaged.{staged, length-new_area}
 use Rattle.gated_journal.proofs.Kept.{put_behind, take_same}
 use Rattle.gated_journal.proofs.Results.{not_both}
@@ -31,9 +32,9 @@ snapshot-empty =
     λ i. counts_bytes empty (none i) ++ flat_map state_bytes (keys i) ++ []
 
 -- each byte of a new device
-pub bytes-new_areas : (header : Member) → new_areas header ≡ area_mark ++ header.node ∷ header.n ∷ to_be_bytes w32 header.capacity ++ 0 ∷ 0 ∷ 1 ∷ 2 ∷ to_be_bytes w64 1 ++ to_be_bytes w32 38 ++ replicate {A = ℕ} 39 0
+pub bytes-new_areas : (header : Member) → new_areas header ≡ mark ++ header.node ∷ header.n ∷ to_be_bytes w32 header.capacity ++ 0 ∷ 0 ∷ 1 ∷ 2 ∷ to_be_bytes w64 1 ++ to_be_bytes w32 38 ++ replicate {A = ℕ} 39 0
 bytes-new_areas header =
-    ap (λ (l : List ℕ). area_mark ++ header.node ∷ header.n ∷ to_be_bytes w32 header.capacity ++ 0 ∷ 0 ∷ 1 ∷ 2 ∷ to_be_bytes w64 1 ++ to_be_bytes w32 (length l) ++ l ++ 0 ∷ []) snapshot-empty
+    ap (λ (l : List ℕ). mark ++ header.node ∷ header.n ∷ to_be_bytes w32 header.capacity ++ 0 ∷ 0 ∷ 1 ∷ 2 ∷ to_be_bytes w64 1 ++ to_be_bytes w32 (length l) ++ l ++ 0 ∷ []) snapshot-empty
 
 -- how many bytes that is
 pub length-new_areas : (header : Member) → length (new_areas header) ≡ 69
@@ -47,7 +48,7 @@ module _ (header : Member) (new rest : List ℕ) (from : 4096 ≤ header.capacit
       subst (λ (k : ℕ). IsStaged header.n 16 new (fresh_area newest 1 empty) (30 + k)) length-empty
       (staged 16 1 empty rest new (ap (λ (l : List ℕ). drop 17 l) whole) (omega arith) (omega (arith, length-empty)) header.n spells)
 
-  pub laid : ReadsByAreaAt header new (fresh_area newest 1 empty) 16 (31 + header.capacity) 68 68
+  pub laid : ReadsAt header new (fresh_area newest 1 empty) 16 (31 + header.capacity) 68 68
   laid =
       let same : get_or new 16 0 ≡ 1 = ap (λ (l : List ℕ). get_or l 16 0) whole in
       record {
@@ -75,7 +76,7 @@ module _ (header : Member) (old new : List ℕ) (from : 4096 ≤ header.capacity
   few : length new ≤ 31 + header.capacity
   few = let long = length-new_areas header in omega (arith, put.size (omega (arith, long)), long, short, from)
 
-  pub laid_short : ReadsByAreaAt header new (fresh_area newest 1 empty) 16 (31 + header.capacity) 68 68
+  pub laid_short : ReadsAt header new (fresh_area newest 1 empty) 16 (31 + header.capacity) 68 68
   laid_short =
       laid header new (drop (0 + length (new_areas header)) new) from to (put_behind 0 (new_areas header) old new (omega (arith, length-new_areas header)) put)
       (λ c. let past : get_or new (31 + header.capacity) 0 ≡ 0 = get_or_past new (31 + header.capacity) 0 few in omega (arith, c.gate, past))
@@ -99,7 +100,7 @@ module _ (header : Member) (old mid new : List ℕ) (from : 4096 ≤ header.capa
       (λ i lt. close.others i (inl (omega (arith, lt, from))) ∙ ap (λ (k : ℕ). get_or mid k 0) (sym (zero-add i)) ∙ put.here i (omega (arith, lt, long))) in
       sym (take-append-drop 69 new) ∙ ap (λ (l : List ℕ). l ++ drop 69 new) (first ∙ take_all 69 bytes (omega (arith, long)))
 
-  pub laid_long : ReadsByAreaAt header new (fresh_area newest 1 empty) 16 (31 + header.capacity) 68 68
+  pub laid_long : ReadsAt header new (fresh_area newest 1 empty) 16 (31 + header.capacity) 68 68
   laid_long = laid header new (drop 69 new) from to whole (λ c. omega (arith, c.gate, is_zero))
 
   pub gate_long : IsGate true (31 + header.capacity) new

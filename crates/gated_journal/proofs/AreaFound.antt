@@ -1,16 +1,18 @@
 -- What is found in the area that was chosen, and what is wrong with it.
-use Rattle.std.proofs.Common.{◌≡◌, ◌⊎◌, inl, inr, ⊎_elim, ℕ, ◌+◌, ◌<◌, List, [], refl, sym}
+use Rattle.std.proofs.Common.{◌≡◌, ◌⊎◌, inl, inr, ⊎_elim, ℕ, ◌+◌, ◌<◌, ◌≤◌, List, [], refl, sym, subst}
 use Rattle.ring_records.specs.declared.input.Input.{Input}
 use Rattle.ring_records.specs.declared.refusal.Refusal.{Refusal}
 use Rattle.ring_records.specs.declared.refusal.Refusal.TheVariants.{Damaged, OutOfMemory}
 use Rattle.ring_records.specs.declared.summary.Summary.{Summary}
+use Rattle.ring_records.specs.Admission.{newest}
+use Rattle.ring_records.specs.Member.{Member}
 use Rattle.ring_records.specs.Snapshot.{Spells}
-use Rattle.gated_journal.specs.Areas.{newest, fresh_area, snapshot_at, HasBase}
+use Rattle.gated_journal.specs.Areas.{epoch_at, snapshot_at, HasBase, ReadsAt}
 use Rattle.gated_journal.specs.Choose.{IsUsed}
-use Rattle.gated_journal.specs.Damage.{IsBaseless, IsContentless, AreAreasUnread}
+use Rattle.gated_journal.specs.Damage.{IsBroken, IsBaseless, IsContentless, AreAreasUnread}
 use Rattle.gated_journal.specs.Frames.{ReadsTo}
-use Rattle.gated_journal.specs.Unread.{IsBroken}
 use Rattle.gated_journal.specs.declared.area.Chosen.{Chosen}
+use Rattle.gated_journal.specs.Reading.{Reading, fresh_area, HasHeader}
 
 module _ (n capacity : ℕ) (image : List ℕ) (chosen : Chosen) (used : IsUsed capacity image chosen) where
   -- its snapshot is read
@@ -60,3 +62,16 @@ module _ (n capacity : ℕ) (image : List ℕ) (chosen : Chosen) (used : IsUsed 
       });
     });
   }
+
+-- the area is read, where the image has a header
+pub area_found : (header : Member) (image : List ℕ) (chosen : Chosen) (r : Reading) (gate_at : ℕ) → HasHeader header image → IsUsed header.capacity image chosen → HasBase header.n chosen.start image r chosen.offset
+    → ReadsTo chosen.offset image r.inputs gate_at → gate_at ≤ chosen.start + 14 + header.capacity → ReadsAt header image r chosen.start chosen.other chosen.offset gate_at
+area_found header image chosen r gate_at head used base frames within = record {
+  head = head;
+  areas = used.areas;
+  gate = used.area.counts.gate;
+  base = base;
+  older = λ counts. subst (λ (k : ℕ). epoch_at chosen.other image < k) (sym base.epoch) (used.area.older counts);
+  frames = frames;
+  within = within;
+}

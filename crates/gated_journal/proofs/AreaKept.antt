@@ -1,9 +1,10 @@
 -- What stays of an area, and of the frames in it, where an image changes in one range alone.
-use Rattle.std.proofs.Common.{◌≡◌, ℕ, ◌+◌, ◌-◌, ◌<◌, ◌≤◌, List, length, take, drop, get_or, sym, ◌∙◌, ap, subst, arith}
+use Rattle.std.proofs.Common.{◌≡◌, ℕ, ◌+◌, ◌-◌, ◌<◌, ◌≤◌, List, length, take, drop, get_or, sym, ◌∙◌, ap, subst, arith, length-take, length-drop}
 use Rattle.ring_records.specs.declared.input.Input.{Input}
-use Rattle.ring_records.specs.Snapshot.{Spells}
+use Rattle.ring_records.specs.Snapshot.{Spells, snapshot_len}
 use Rattle.gated_journal.specs.Frames.{ReadsTo}
-use Rattle.gated_journal.specs.Areas.{Reading, epoch_at, size_at, snapshot_at, Counts, HasBase}
+use Rattle.gated_journal.specs.Areas.{epoch_at, size_at, snapshot_at, Counts, HasBase}
+use Rattle.gated_journal.specs.Reading.{Reading}
 use Rattle.gated_journal.proofs.Behind.{inside, still, gate_closed}
 use Rattle.gated_journal.proofs.Kept.{SameBytes, fewer, byte_same, number_same, part_same}
 
@@ -57,3 +58,10 @@ older_kept start image other epoch same older counts =
 -- the frames begin behind the head, and end behind where they begin
 pub low : (n start : ℕ) (image : List ℕ) (r : Reading) (offset gate_at : ℕ) → HasBase n start image r offset → ReadsTo offset image r.inputs gate_at → (start + 14 ≤ offset) × (offset ≤ gate_at) × (gate_at < length image)
 low n start image r offset gate_at base frames = (omega (arith, base.offset_is), omega (arith, frames.ends), inside offset image r.inputs gate_at frames)
+
+-- they begin behind the snapshot
+pub behind_snapshot : (n start : ℕ) (image : List ℕ) (r : Reading) (offset : ℕ) → HasBase n start image r offset → offset ≡ start + 14 + snapshot_len r.base
+behind_snapshot n start image r offset base =
+    let size = size_at start image in
+    let long : length (snapshot_at start image) ≡ size = omega (arith, length-take size (drop (start + 14) image), length-drop (start + 14) image, base.offset_is, base.there) in
+    omega (arith, ap length base.snapshot.is, long, base.offset_is)

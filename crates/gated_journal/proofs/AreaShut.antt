@@ -5,15 +5,16 @@ use Rattle.std.proofs.lemmas.List.{get_or_past}
 use Rattle.disk_model.specs.Disk.{Changes, Puts}
 use Rattle.disk_model.proofs.Changed.{byte_below, byte_above}
 use Rattle.ring_records.specs.Member.{Member}
-use Rattle.gated_journal.specs.Areas.{Reading, area_mark, epoch_at, ReadsByAreaAt, IsGate, IsStaged, first_write}
+use Rattle.gated_journal.specs.Areas.{epoch_at, ReadsAt, IsGate, IsStaged, first_write}
+use Rattle.gated_journal.specs.Reading.{Reading}
 use Rattle.gated_journal.proofs.AreaBeside.{InOrder, where_are, swapped, beside}
 use Rattle.gated_journal.proofs.AreaKept.{frames_kept, base_kept, older_kept, low}
 use Rattle.gated_journal.proofs.Kept.{SameBytes, kept, header_kept}
 use Rattle.gated_journal.proofs.Results.{not_both}
 
 -- while the other area is closed it does not come to count in an epoch of its own
-pub closing : (is_closed : Bool) (header : Member) (image new : List ℕ) (r : Reading) (start other offset gate_at : ℕ) → ReadsByAreaAt header image r start other offset gate_at → IsGate is_closed other image
-    → Changes (first_write is_closed other) 1 image new → ReadsByAreaAt header new r start other offset gate_at
+pub closing : (is_closed : Bool) (header : Member) (image new : List ℕ) (r : Reading) (start other offset gate_at : ℕ) → ReadsAt header image r start other offset gate_at → IsGate is_closed other image
+    → Changes (first_write is_closed other) 1 image new → ReadsAt header new r start other offset gate_at
 closing true header image new r start other offset gate_at read gate changes =
     let shut = gate.shut refl in
     let same : get_or new other 0 ≡ get_or image other 0 = byte_below (other + 1) 1 image new changes other (omega arith) shut.0 in
@@ -49,15 +50,15 @@ closed_then false other image new gate put =
     record { shut = λ c. (omega (arith, put.size (omega arith)), λ is. omega (arith, is, zero_there)); not_shut = λ no. not_both no }
 
 -- while the new area is written behind the closed gate
-pub writing : (header : Member) (image new : List ℕ) (r : Reading) (start other offset gate_at n : ℕ) → ReadsByAreaAt header image r start other offset gate_at → IsGate true other image
-    → Changes (other + 1) n image new → n ≤ 14 + header.capacity → ReadsByAreaAt header new r start other offset gate_at
+pub writing : (header : Member) (image new : List ℕ) (r : Reading) (start other offset gate_at n : ℕ) → ReadsAt header image r start other offset gate_at → IsGate true other image
+    → Changes (other + 1) n image new → n ≤ 14 + header.capacity → ReadsAt header new r start other offset gate_at
 writing header image new r start other offset gate_at n read gate changes fits =
     let shut = gate.shut refl in
     let same : get_or new other 0 ≡ get_or image other 0 = byte_below (other + 1) n image new changes other (omega arith) shut.0 in
     beside header image new r start other offset gate_at read (other + 1) n changes (omega arith) (omega (arith, fits)) (λ c. absurd (shut.1 (sym same ∙ c.gate)))
 
 -- while the gate is opened: what was read before is read, or the new area
-module _ (header : Member) (image new : List ℕ) (old r : Reading) (start other offset gate_at next : ℕ) (read : ReadsByAreaAt header image old start other offset gate_at) (stage : IsStaged header.n other image r next)
+module _ (header : Member) (image new : List ℕ) (old r : Reading) (start other offset gate_at next : ℕ) (read : ReadsAt header image old start other offset gate_at) (stage : IsStaged header.n other image r next)
     (fits : next ≤ other + 14 + header.capacity) (newer : old.epoch < r.epoch) (changes : Changes other 1 image new) where
   at : InOrder header.capacity start other
   at = where_are header.capacity start other read.areas
@@ -65,10 +66,10 @@ module _ (header : Member) (image new : List ℕ) (old r : Reading) (start other
   places : (start + 14 ≤ offset) × (offset ≤ gate_at) × (gate_at < length image)
   places = low header.n start image old offset gate_at read.base read.frames
 
-  pub still_old : get_or new other 0 ≢ 1 → ReadsByAreaAt header new old start other offset gate_at
+  pub still_old : get_or new other 0 ≢ 1 → ReadsAt header new old start other offset gate_at
   still_old shut = beside header image new old start other offset gate_at read other 1 changes (omega arith) (omega arith) (λ c. absurd (shut c.gate))
 
-  pub now_new : get_or new other 0 ≡ 1 → ReadsByAreaAt header new r other start next next
+  pub now_new : get_or new other 0 ≡ 1 → ReadsAt header new r other start next next
   now_new is_open =
       let p = places in
       let q = low header.n other image r next next stage.base stage.frames in
@@ -77,7 +78,7 @@ module _ (header : Member) (image new : List ℕ) (old r : Reading) (start other
       (⊎_elim (λ (a : (start ≡ 16) × (other ≡ 31 + header.capacity)). inl (omega (arith, a.0, a.1, read.head.from), omega (arith, p))) (λ (b : (start ≡ 31 + header.capacity) × (other ≡ 16)). inr (omega (arith, b.0, b.1))) at) in
       let epoch_is : epoch_at start image ≡ old.epoch = sym read.base.epoch in
       record {
-        head = header_kept area_mark header other 1 image new (⊎_elim (λ (a : (start ≡ 16) × (other ≡ 31 + header.capacity)). omega (arith, a.1)) (λ (b : (start ≡ 31 + header.capacity) × (other ≡ 16)). omega (arith, b.1)) at)
+        head = header_kept header other 1 image new (⊎_elim (λ (a : (start ≡ 16) × (other ≡ 31 + header.capacity)). omega (arith, a.1)) (λ (b : (start ≡ 31 + header.capacity) × (other ≡ 16)). omega (arith, b.1)) at)
             (⊎_elim (λ (a : (start ≡ 16) × (other ≡ 31 + header.capacity)). omega (arith, a.0, p)) (λ (b : (start ≡ 31 + header.capacity) × (other ≡ 16)). omega (arith, b.0, p)) at) changes read.head;
         areas = swapped header.capacity start other read.areas;
         gate = is_open;

@@ -1,12 +1,14 @@
 -- A new area, as it stands behind its gate.
-use Rattle.std.proofs.Common.{◌≡◌, ℕ, zero, suc, ◌+◌, ◌*◌, ◌^◌, ◌<◌, ◌≤◌, List, [], ◌∷◌, ◌++◌, length, take, drop, get_or, refl, sym, ◌∙◌, ap, subst, arith, append_assoc, length-append, length-drop}
+use Rattle.std.proofs.Common.{◌≡◌, ℕ, zero, suc, ◌+◌, ◌*◌, ◌^◌, ◌<◌, ◌≤◌, List, [], ◌∷◌, ◌++◌, length, take, drop, get_or, set, refl, sym, ◌∙◌, ap, subst, arith, append_assoc, length-append, length-drop}
 use Rattle.std.proofs.lemmas.List.{take_at, drop_at, drop-drop, get_or-drop}
 use Rattle.std.proofs.lemmas.Nat.{from_be_bytes-to_be_bytes_4, from_be_bytes-to_be_bytes_8}
+use Rattle.std.specs.Int.{w64, to_be_bytes}
 use Rattle.disk_model.specs.Disk.{Puts}
 use Rattle.ring_records.specs.declared.summary.Summary.{Summary}
+use Rattle.ring_records.specs.Admission.{newest}
 use Rattle.ring_records.specs.Snapshot.{Spells, snapshot_of, snapshot_len}
-use Rattle.gated_journal.specs.Areas.{fresh_area, layout_at, epoch_at, size_at, snapshot_at, newest, new_area, IsStaged}
-use Rattle.gated_journal.specs.Reading.{number_at}
+use Rattle.gated_journal.specs.Areas.{layout_at, epoch_at, size_at, snapshot_at, new_area, blank_area, IsStaged}
+use Rattle.gated_journal.specs.Reading.{fresh_area, number_at}
 use Rattle.gated_journal.proofs.Kept.{put_behind}
 
 -- a number behind an offset
@@ -71,3 +73,15 @@ staged_by n other epoch s old new small short spells put =
 -- how long an area without frames is behind its gate
 pub length-new_area : (layout epoch : ℕ) (s : Summary) → length (new_area layout epoch s) ≡ 14 + snapshot_len s
 length-new_area layout epoch s = omega (arith, length-append (snapshot_of s) (0 ∷ []))
+
+-- the layout and the epoch are written in front of a blank area
+pub numbered : (s : Summary) (epoch : ℕ) (bytes whole part behind : List ℕ) (n : ℕ) → bytes ≡ blank_area s → n ≡ length bytes → whole ≡ set bytes 0 2 → part ≡ to_be_bytes w64 epoch
+    → take n ((take 1 whole ++ (part ++ drop 8 (drop 1 whole))) ++ behind) ≡ new_area newest epoch s
+numbered s epoch bytes whole part behind n bytes_are n_is whole_is part_is =
+    let whole_now : whole ≡ set (blank_area s) 0 2 = whole_is ∙ ap (λ (l : List ℕ). set l 0 2) bytes_are in
+    let all : take 1 whole ++ (part ++ drop 8 (drop 1 whole)) ≡ new_area newest epoch s = λ i. take 1 (whole_now i) ++ (part_is i ++ drop 8 (drop 1 (whole_now i))) in
+    let long : n ≡ length (new_area newest epoch s) = omega (arith, n_is, ap length bytes_are, length-append (snapshot_of s) (0 ∷ [])) in
+    ap (λ (l : List ℕ). take n (l ++ behind)) all ∙ take_at (new_area newest epoch s) behind n (sym long)
+
+pub length-blank_area : (s : Summary) → length (blank_area s) ≡ 14 + snapshot_len s
+length-blank_area s = omega (arith, length-append (snapshot_of s) (0 ∷ []))

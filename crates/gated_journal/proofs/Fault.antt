@@ -1,32 +1,150 @@
 -- An image has one reading or one fault.
-use Rattle.std.proofs.Common.{◌≡◌, ◌⊎◌, inl, inr, ℕ, ◌≤◌, List, length, Ok, Err, sym, ◌∙◌, ap, arith}
-use Rattle.ring_records.specs.declared.input.Input.{Input}
+use Rattle.std.proofs.Common.{◌≡◌, ◌⊎◌, inl, inr, ⊎_elim, ℕ, ◌+◌, ◌≤◌, ◌<◌, List, length, Ok, Err, sym, ◌∙◌, ap, subst, arith}
 use Rattle.ring_records.specs.declared.refusal.Refusal.{Refusal}
 use Rattle.ring_records.specs.declared.refusal.Refusal.TheVariants.{Damaged}
 use Rattle.ring_records.specs.Member.{Member}
-use Rattle.gated_journal.specs.Reading.{ReadsAs}
-use Rattle.gated_journal.specs.Unread.{header_at, IsBroken, IsUnread}
-use Rattle.gated_journal.proofs.Behind.{inside}
-use Rattle.gated_journal.proofs.Head.{header_again}
-use Rattle.gated_journal.proofs.Unique.{not_both, damaged_once}
+use Rattle.gated_journal.specs.Areas.{AreAreas, epoch_at, Counts, HasBase, ReadsAt, ReadsAs}
+use Rattle.gated_journal.specs.Choose.{IsChosen, IsUnchosen}
+use Rattle.gated_journal.specs.Damage.{IsBroken, IsHeadBroken, GoesPast, AreFramesBroken, IsAreaBroken, AreAreasUnread}
+use Rattle.gated_journal.specs.Frames.{ReadsTo}
+use Rattle.gated_journal.specs.Reading.{Reading}
+use Rattle.gated_journal.specs.Unread.{header_at, IsUnread}
+use Rattle.gated_journal.proofs.AreaAlone.{counts}
+use Rattle.gated_journal.proofs.AreaBeside.{where_are}
+use Rattle.gated_journal.proofs.AreaKept.{low}
+use Rattle.gated_journal.proofs.Head.{header_again, same_ok}
+use Rattle.gated_journal.proofs.Unique.{unique, not_both, damaged_once}
 
-pub not_read : (node n : ℕ) (image : List ℕ) (refusal : Refusal) (header : Member) (inputs : List Input) → IsUnread node n image refusal → ReadsAs header image inputs → header.node ≡ node → header.n ≡ n → ⊥
-not_read node n image refusal header inputs unread read node_is n_is =
+-- ---- which area is read
+
+-- the area that an image reads by is chosen
+chosen : (header : Member) (image : List ℕ) (r : Reading) (start other offset gate_at : ℕ) → ReadsAt header image r start other offset gate_at → IsChosen start other image
+chosen header image r start other offset gate_at read =
+    record { counts = counts header image r start other offset gate_at read; older = λ there. subst (λ (k : ℕ). epoch_at other image < k) read.base.epoch (read.older there) }
+
+-- none other is
+one_chosen : (capacity : ℕ) (image : List ℕ) (start other start2 other2 : ℕ) → AreAreas capacity start other → AreAreas capacity start2 other2 → IsChosen start other image → IsChosen start2 other2 image → start ≡ start2
+one_chosen capacity image start other start2 other2 one two here there =
+    ⊎_elim
+    (λ (a : (start ≡ 16) × (other ≡ 31 + capacity)). ⊎_elim (λ (c : (start2 ≡ 16) × (other2 ≡ 31 + capacity)). a.0 ∙ sym c.0)
+    (λ (d : (start2 ≡ 31 + capacity) × (other2 ≡ 16)). absurd (apart (a.1 ∙ sym d.0) (d.1 ∙ sym a.0))) (where_are capacity start2 other2 two))
+    (λ (b : (start ≡ 31 + capacity) × (other ≡ 16)). ⊎_elim (λ (c : (start2 ≡ 16) × (other2 ≡ 31 + capacity)). absurd (apart (b.1 ∙ sym c.0) (c.1 ∙ sym b.0)))
+    (λ (d : (start2 ≡ 31 + capacity) × (other2 ≡ 16)). b.0 ∙ sym d.0) (where_are capacity start2 other2 two))
+    (where_are capacity start other one)
+  where
+    apart : other ≡ start2 → other2 ≡ start → ⊥
+    apart first second =
+        let less : epoch_at other image < epoch_at start image = here.older (subst (λ (k : ℕ). Counts k image) (sym first) there.counts) in
+        let more : epoch_at other2 image < epoch_at start2 image = there.older (subst (λ (k : ℕ). Counts k image) (sym second) here.counts) in
+        omega (arith, less, more, ap (λ (k : ℕ). epoch_at k image) first, ap (λ (k : ℕ). epoch_at k image) second)
+
+-- and it is not so that none is
+not_unchosen : (capacity : ℕ) (image : List ℕ) (start other : ℕ) → AreAreas capacity start other → IsChosen start other image → IsUnchosen capacity image → ⊥
+not_unchosen capacity image start other areas here (inl neither) =
+    ⊎_elim (λ (a : (start ≡ 16) × (other ≡ 31 + capacity)). neither.0 (subst (λ (k : ℕ). Counts k image) a.0 here.counts))
+    (λ (b : (start ≡ 31 + capacity) × (other ≡ 16)). neither.1 (subst (λ (k : ℕ). Counts k image) b.0 here.counts)) (where_are capacity start other areas)
+not_unchosen capacity image start other areas here (inr both) =
+    ⊎_elim
+    (λ (a : (start ≡ 16) × (other ≡ 31 + capacity)).
+    let less = here.older (subst (λ (k : ℕ). Counts k image) (sym a.1) both.1) in
+    omega (arith, less, ap (λ (k : ℕ). epoch_at k image) a.0, ap (λ (k : ℕ). epoch_at k image) a.1, both.2))
+    (λ (b : (start ≡ 31 + capacity) × (other ≡ 16)).
+    let less = here.older (subst (λ (k : ℕ). Counts k image) (sym b.1) both.0) in
+    omega (arith, less, ap (λ (k : ℕ). epoch_at k image) b.0, ap (λ (k : ℕ). epoch_at k image) b.1, both.2)) (where_are capacity start other areas)
+
+-- ---- what is wrong with it
+
+-- a head that is whole is not broken
+head_whole : (n start : ℕ) (image : List ℕ) (r : Reading) (offset : ℕ) → HasBase n start image r offset → IsHeadBroken n start image → ⊥
+head_whole n start image r offset base (inl short) = omega (arith, short, base.offset_is, base.there)
+head_whole n start image r offset base (inr (inl great)) = omega (arith, great, base.epoch, base.small)
+head_whole n start image r offset base (inr (inr none)) = none r.base base.snapshot
+
+-- what the frames of an area are broken by
+abbrev AreBroken : ℕ → ℕ → ℕ → List ℕ → Refusal → Type 0
+AreBroken bound start offset image refusal = IsBroken offset image refusal ⊎ ((refusal ≡ Damaged start) × GoesPast bound offset image)
+
+-- frames that end within the bound are not
+frames_whole : (bound start offset : ℕ) (image : List ℕ) (r : Reading) (gate_at : ℕ) (refusal : Refusal) → ReadsTo offset image r.inputs gate_at → gate_at ≤ bound → AreBroken bound start offset image refusal → ⊥
+frames_whole bound start offset image r gate_at refusal read within (inl broken) = not_both offset image r.inputs gate_at broken.gate_at read broken.damaged
+frames_whole bound start offset image r gate_at refusal read within (inr past) =
+    let same = (unique offset image r.inputs past.1.inputs gate_at past.1.gate_at read past.1.frames).1 in omega (arith, same, within, past.1.past)
+
+-- and others are so in one way
+frames_once : (bound start offset : ℕ) (image : List ℕ) (refusal other : Refusal) → AreBroken bound start offset image refusal → AreBroken bound start offset image other → refusal ≡ other
+frames_once bound start offset image refusal other (inl a) (inl b) = a.is ∙ ap Damaged (damaged_once offset image a.gate_at b.gate_at a.damaged b.damaged) ∙ sym b.is
+frames_once bound start offset image refusal other (inl a) (inr b) = absurd (not_both offset image b.1.inputs b.1.gate_at a.gate_at b.1.frames a.damaged)
+frames_once bound start offset image refusal other (inr a) (inl b) = absurd (not_both offset image a.1.inputs a.1.gate_at b.gate_at a.1.frames b.damaged)
+frames_once bound start offset image refusal other (inr a) (inr b) = a.0 ∙ sym b.0
+
+-- the frames begin at one place
+begins : (n start : ℕ) (image : List ℕ) (r s : Reading) (offset offset2 : ℕ) → HasBase n start image r offset → HasBase n start image s offset2 → offset ≡ offset2
+begins n start image r s offset offset2 one two = one.offset_is ∙ sym two.offset_is
+
+-- ---- the areas
+
+areas_read : (header : Member) (image : List ℕ) (r : Reading) (start other offset gate_at : ℕ) (refusal : Refusal) → ReadsAt header image r start other offset gate_at → AreAreasUnread header.n header.capacity image refusal → ⊥
+areas_read header image r start other offset gate_at refusal read unread =
+    ⊎_elim (λ (none : (refusal ≡ Damaged 16) × IsUnchosen header.capacity image). not_unchosen header.capacity image start other read.areas here none.1) broken unread.cause
+  where
+    here : IsChosen start other image
+    here = chosen header image r start other offset gate_at read
+
+    at_start : (k : ℕ) → k ≡ start → ((refusal ≡ Damaged k) × IsHeadBroken header.n k image) ⊎ AreFramesBroken header.n header.capacity k image refusal → ⊥
+    at_start k same (inl head) = head_whole header.n start image r offset read.base (subst (λ (p : ℕ). IsHeadBroken header.n p image) same head.1)
+    at_start k same (inr frames) =
+        let base : HasBase header.n start image frames.reading frames.offset = subst (λ (p : ℕ). HasBase header.n p image frames.reading frames.offset) same frames.base in
+        let cause : AreBroken (start + 14 + header.capacity) start frames.offset image refusal = subst (λ (p : ℕ). AreBroken (p + 14 + header.capacity) p frames.offset image refusal) same frames.cause in
+        frames_whole (start + 14 + header.capacity) start offset image r gate_at refusal read.frames read.within
+        (subst (λ (p : ℕ). AreBroken (start + 14 + header.capacity) start p image refusal) (begins header.n start image frames.reading r frames.offset offset base read.base) cause)
+
+    broken : IsAreaBroken header.n header.capacity image refusal → ⊥
+    broken b = at_start b.start (one_chosen header.capacity image b.start b.other start other b.areas read.areas b.area here) b.cause
+
+areas_once : (n capacity : ℕ) (image : List ℕ) (refusal other : Refusal) → AreAreasUnread n capacity image refusal → AreAreasUnread n capacity image other → refusal ≡ other
+areas_once n capacity image refusal other one two = both one.cause two.cause
+  where
+    Cause : Refusal → ℕ → Type 0
+    Cause why start = ((why ≡ Damaged start) × IsHeadBroken n start image) ⊎ AreFramesBroken n capacity start image why
+
+    in_area : (start : ℕ) → Cause refusal start → Cause other start → refusal ≡ other
+    in_area start (inl a) (inl b) = a.0 ∙ sym b.0
+    in_area start (inl a) (inr b) = absurd (head_whole n start image b.reading b.offset b.base a.1)
+    in_area start (inr a) (inl b) = absurd (head_whole n start image a.reading a.offset a.base b.1)
+    in_area start (inr a) (inr b) =
+        frames_once (start + 14 + capacity) start a.offset image refusal other a.cause
+        (subst (λ (p : ℕ). AreBroken (start + 14 + capacity) start p image other) (begins n start image b.reading a.reading b.offset a.offset b.base a.base) b.cause)
+
+    both : ((refusal ≡ Damaged 16) × IsUnchosen capacity image) ⊎ IsAreaBroken n capacity image refusal → ((other ≡ Damaged 16) × IsUnchosen capacity image) ⊎ IsAreaBroken n capacity image other → refusal ≡ other
+    both (inl a) (inl b) = a.0 ∙ sym b.0
+    both (inl a) (inr b) = absurd (not_unchosen capacity image b.start b.other b.areas b.area a.1)
+    both (inr a) (inl b) = absurd (not_unchosen capacity image a.start a.other a.areas a.area b.1)
+    both (inr a) (inr b) = in_area a.start a.cause (subst (Cause other) (one_chosen capacity image b.start b.other a.start a.other b.areas a.areas b.area a.area) b.cause)
+
+-- ---- the whole image
+
+pub not_read : (node n : ℕ) (image : List ℕ) (refusal : Refusal) (header : Member) (r : Reading) → IsUnread node n image refusal → ReadsAs header image r → header.node ≡ node → header.n ≡ n → ⊥
+not_read node n image refusal header r unread read node_is n_is =
     let at = read.at in
-    let long : 17 ≤ length image = omega (arith, at.frames.ends, inside 16 image inputs read.gate_at at.frames) in
+    let p = low header.n read.start image r read.offset read.gate_at at.base at.frames in
+    let long : 17 ≤ length image =
+    ⊎_elim (λ (a : (read.start ≡ 16) × (read.other ≡ 31 + header.capacity)). omega (arith, a.0, p)) (λ (b : (read.start ≡ 31 + header.capacity) × (read.other ≡ 16)). omega (arith, b.0, p)) (where_are header.capacity read.start read.other at.areas) in
     let found : header_at node n image ≡ Ok header.capacity = (λ i. header_at (sym node_is i) (sym n_is i) image) ∙ header_again header image long at.head in
     apart unread.cause found
   where
-    apart : (header_at node n image ≡ Err refusal) ⊎ ((capacity : ℕ) × (header_at node n image ≡ Ok capacity) × IsBroken 16 image refusal) → header_at node n image ≡ Ok header.capacity → ⊥
+    apart : (header_at node n image ≡ Err refusal) ⊎ ((capacity : ℕ) × (header_at node n image ≡ Ok capacity) × AreAreasUnread n capacity image refusal) → header_at node n image ≡ Ok header.capacity → ⊥
     apart (inl fault) found = let same = sym fault ∙ found in cc
-    apart (inr broken) found = not_both 16 image inputs read.gate_at broken.2.gate_at read.at.frames broken.2.damaged
+    apart (inr broken) found =
+        let capacity_is : broken.0 ≡ header.capacity = same_ok broken.0 header.capacity (sym broken.1 ∙ found) in
+        areas_read header image r read.start read.other read.offset read.gate_at refusal read.at
+        (subst (λ (k : ℕ). AreAreasUnread k header.capacity image refusal) (sym n_is) (subst (λ (k : ℕ). AreAreasUnread n k image refusal) capacity_is broken.2))
 
 pub one_fault : (node n : ℕ) (image : List ℕ) (refusal other : Refusal) → IsUnread node n image refusal → IsUnread node n image other → refusal ≡ other
 one_fault node n image refusal other one two = both one.cause two.cause
   where
-    both : (header_at node n image ≡ Err refusal) ⊎ ((capacity : ℕ) × (header_at node n image ≡ Ok capacity) × IsBroken 16 image refusal)
-        → (header_at node n image ≡ Err other) ⊎ ((capacity : ℕ) × (header_at node n image ≡ Ok capacity) × IsBroken 16 image other) → refusal ≡ other
+    both : (header_at node n image ≡ Err refusal) ⊎ ((capacity : ℕ) × (header_at node n image ≡ Ok capacity) × AreAreasUnread n capacity image refusal)
+        → (header_at node n image ≡ Err other) ⊎ ((capacity : ℕ) × (header_at node n image ≡ Ok capacity) × AreAreasUnread n capacity image other) → refusal ≡ other
     both (inl a) (inl b) = let same = sym a ∙ b in cc
     both (inl a) (inr b) = let same = sym a ∙ b.1 in absurd cc
     both (inr a) (inl b) = let same = sym a.1 ∙ b in absurd cc
-    both (inr a) (inr b) = a.2.is ∙ ap Damaged (damaged_once 16 image a.2.gate_at b.2.gate_at a.2.damaged b.2.damaged) ∙ sym b.2.is
+    both (inr a) (inr b) = areas_once n a.0 image refusal other a.2 (subst (λ (k : ℕ). AreAreasUnread n k image other) (same_ok b.0 a.0 (sym b.1 ∙ a.1)) b.2)

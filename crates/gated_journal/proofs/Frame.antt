@@ -4,7 +4,7 @@ use Rattle.std.proofs.lemmas.List.{drop_at, drop_more, drop-drop}
 use Rattle.ring_records.specs.declared.input.Input.{Input}
 use Rattle.gated_journal.specs.Frames.{body, frames}
 use Rattle.gated_journal.specs.Scan.{TakesFrame}
-use Rattle.gated_journal.specs.Unread.{NoFrame, ReadsUpTo, IsDamagedAt}
+use Rattle.gated_journal.specs.Damage.{NoFrame, ReadsUpTo, IsDamagedAt}
 use Rattle.gated_journal.proofs.Behind.{frames-push, length-frames-push, joined-push, sized-push}
 
 -- one frame more

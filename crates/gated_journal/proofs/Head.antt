@@ -5,9 +5,9 @@ use Rattle.std.proofs.lemmas.Bool.{and_parts, eqb-true, eq-eqb, le-leb, leb-true
 use Rattle.std.proofs.lemmas.Slice.Eq.{bytes_eq-Decides}
 use Rattle.disk_model.specs.Disk.{IsPart}
 use Rattle.ring_records.specs.declared.refusal.Refusal.{Refusal}
-use Rattle.ring_records.specs.declared.refusal.Refusal.TheVariants.{NotFormatted, WrongNode, Damaged}
+use Rattle.ring_records.specs.declared.refusal.Refusal.TheVariants.{NotFormatted, OldLayout, WrongNode, Damaged}
 use Rattle.ring_records.specs.Member.{Member, member}
-use Rattle.gated_journal.specs.Reading.{number_at, mark, HasHeader}
+use Rattle.gated_journal.specs.Reading.{number_at, mark, old_mark, HasHeader}
 use Rattle.gated_journal.proofs.Kept.{take_same}
 use Rattle.gated_journal.specs.Unread.{head_at, header_at}
 
@@ -27,16 +27,16 @@ is_not : (b : Bool) → not b ≡ false → b ≡ true
 is_not true e = refl
 is_not false e = absurd cc
 
-abbrev as_ok : ℕ → Result ℕ Refusal
+abbrev pub as_ok : ℕ → Result ℕ Refusal
 as_ok x = Ok x
 
-same_ok : (x y : ℕ) → as_ok x ≡ as_ok y → x ≡ y
+pub same_ok : (x y : ℕ) → as_ok x ≡ as_ok y → x ≡ y
 same_ok x y e = cc
 
 pub header_found : (node n capacity : ℕ) (image : List ℕ) → header_at node n image ≡ Ok capacity → (17 ≤ length image) × HasHeader (member node n capacity) image
 header_found node n capacity image e =
     let a = passed (ltb (length image) 17) NotFormatted (head_at node n image) capacity e in
-    let b = passed (not (bytes_eq (take 8 image) mark)) NotFormatted _ capacity a.1 in
+    let b = passed (not (bytes_eq (take 8 image) mark)) (cond (bytes_eq (take 8 image) old_mark) (OldLayout 1) NotFormatted) _ capacity a.1 in
     let d = passed (not (eqb (get_or image 8 0) node && eqb (get_or image 9 0) n)) WrongNode _ capacity b.1 in
     let f = passed (not (leb 4096 (number_at 4 10 image) && leb (number_at 4 10 image) 1048576)) (Damaged 10) _ capacity d.1 in
     let h = passed (not (eqb (number_at 2 14 image) 0)) (Damaged 14) (Ok (number_at 4 10 image)) capacity f.1 in

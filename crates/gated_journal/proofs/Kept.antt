@@ -4,7 +4,7 @@ use Rattle.std.proofs.lemmas.List.{drop-drop, ext_get_or, get_or-take, get_or-dr
 use Rattle.ring_records.specs.Member.{Member}
 use Rattle.disk_model.specs.Disk.{Changes, Puts}
 use Rattle.disk_model.proofs.Changed.{byte_below, byte_above}
-use Rattle.gated_journal.specs.Reading.{number_at, HasMarkedHeader}
+use Rattle.gated_journal.specs.Reading.{number_at, HasHeader}
 
 -- k bytes from start on are the same
 pub record SameBytes (start k : ℕ) (old new : List ℕ) : Type 0 where
@@ -62,8 +62,8 @@ put_behind off bytes old new some put =
     sym (take-append-drop n (drop off new)) ∙ ap (λ (l : List ℕ). l ++ drop n (drop off new)) here ∙ ap (λ (l : List ℕ). bytes ++ l) (drop-drop n off new)
 
 -- a change behind the header leaves it
-pub header_kept : (layout_mark : List ℕ) (header : Member) (off n : ℕ) (old new : List ℕ) → 16 ≤ off → 16 ≤ length old → Changes off n old new → HasMarkedHeader layout_mark header old → HasMarkedHeader layout_mark header new
-header_kept layout_mark header off n old new behind long change head =
+pub header_kept : (header : Member) (off n : ℕ) (old new : List ℕ) → 16 ≤ off → 16 ≤ length old → Changes off n old new → HasHeader header old → HasHeader header new
+header_kept header off n old new behind long change head =
     let same : SameBytes 0 16 old new = kept off n 0 16 old new change (inl (omega (arith, behind), omega (arith, long))) in
     let in_new : 16 ≤ length new = omega (arith, long, change.no_shorter) in
     record {

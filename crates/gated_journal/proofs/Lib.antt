@@ -8,13 +8,13 @@ pub mod AreaRest
 pub mod AreaShut
 pub mod AreaStaged
 pub mod Behind
+pub mod Costs
 pub mod Fault
 pub mod Frame
 pub mod Head
 pub mod Heads
 pub mod Kept
 pub mod Once
-pub mod Rest
 pub mod Results
 pub mod Shift
 pub mod Spelled

@@ -1,14 +1,23 @@
--- An image reads as a list in one way only.
+-- An image reads as one reading in one way only.
 use Rattle.std.proofs.Common.{◌≡◌, ◌≢◌, ℕ, ◌+◌, List, [], ◌∷◌, ◌++◌, length, drop, get_or, ap}
 use Rattle.std.proofs.Math.Path.{Σ_path, to_path_p}
 use Rattle.std.proofs.Props.{props}
 use Rattle.std.specs.Coded.{le_prop, Unit-prop, ×_prop}
 use Rattle.ring_records.specs.declared.input.Input.{Input}
+use Rattle.ring_records.specs.declared.candidate.Candidate.{Candidate}
+use Rattle.ring_records.specs.declared.key.Key.{Key}
+use Rattle.ring_records.specs.declared.key_state.KeyState.{KeyState}
+use Rattle.ring_records.specs.declared.msg.Msg.{Msg}
+use Rattle.ring_records.specs.declared.summary.Summary.{Summary}
 use Rattle.ring_records.specs.Member.{Member}
+use Rattle.ring_records.specs.Message.{key_of}
+use Rattle.ring_records.specs.Snapshot.{IsCandidateOf, IsStateOf, IsMessageOf, IsSound, Spells}
+use Rattle.gated_journal.specs.Areas.{AreAreas, HasBase, ReadsAt, ReadsAs}
 use Rattle.gated_journal.specs.Frames.{frames, joined, AreBatches, ReadsTo}
-use Rattle.gated_journal.specs.Props.{IsBatch-prop}
-use Rattle.gated_journal.specs.Reading.{HasHeader, ReadsAt, ReadsAs}
-use Rattle.gated_journal.proofs.Unique.{parts-unique, unique}
+use Rattle.gated_journal.specs.Props.{key_prop, candidate_prop, IsBatch-prop}
+use Rattle.gated_journal.specs.Reading.{Reading, HasHeader}
+use Rattle.gated_journal.proofs.AreaAlone.{alone}
+use Rattle.gated_journal.proofs.Unique.{parts-unique}
 
 Inputs-set : IsSet (List Input)
 Inputs-set = hlevel props
@@ -60,25 +69,100 @@ module _ (offset : ℕ) (image : List ℕ) (inputs : List Input) (gate_at : ℕ)
       let parts : ◌≡◌ {A = Parts} (p.batches, (p.gate, p.after)) (q.batches, (q.gate, q.after)) = λ i. (same.0 i, (gate i, after i)) in
       ap reads_by (with_fact Facts-prop (parts_of p) (parts_of q) parts)
 
+-- ---- a snapshot
+
+Numbers-set : IsSet ℕ
+Numbers-set = hlevel props
+
+Bytes-set : IsSet (List ℕ)
+Bytes-set = hlevel props
+
+Key-set : IsSet Key
+Key-set = hlevel props
+
+IsCandidateOf-prop : (n : ℕ) (c : Candidate) → IsProp (IsCandidateOf n c)
+IsCandidateOf-prop n c p q i = record { in_range = candidate_prop c p.in_range q.in_range i; in_ring = le_prop p.in_ring q.in_ring i }
+
+IsStateOf-prop : (n : ℕ) (key : Key) (s : KeyState) → IsProp (IsStateOf n key s)
+IsStateOf-prop n key s p q i = record {
+  own = Key-set _ _ p.own q.own i;
+  named = key_prop key p.named q.named i;
+  bid = λ bid is. le_prop (p.bid bid is) (q.bid bid is) i;
+  led = λ c is. IsCandidateOf-prop n c (p.led c is) (q.led c is) i;
+}
+
+IsMessageOf-prop : (n : ℕ) (msg : Msg) → IsProp (IsMessageOf n msg)
+IsMessageOf-prop n msg p q i = record { named = key_prop (key_of msg) p.named q.named i; candidate = IsCandidateOf-prop n _ p.candidate q.candidate i }
+
+IsSound-prop : (n : ℕ) (s : Summary) → IsProp (IsSound n s)
+IsSound-prop n s p q i = record {
+  inputs = le_prop p.inputs q.inputs i;
+  acts = le_prop p.acts q.acts i;
+  sent = le_prop p.sent q.sent i;
+  credit = le_prop p.credit q.credit i;
+  window = Numbers-set _ _ p.window q.window i;
+  few = le_prop p.few q.few i;
+  stands = Numbers-set _ _ p.stands q.stands i;
+  states = λ key state is. IsStateOf-prop n key state (p.states key state is) (q.states key state is) i;
+  messages = λ msg there. IsMessageOf-prop n msg (p.messages msg there) (q.messages msg there) i;
+}
+
+Spells-prop : (n : ℕ) (bytes : List ℕ) (s : Summary) → IsProp (Spells n bytes s)
+Spells-prop n bytes s p q i = record { is = Bytes-set _ _ p.is q.is i; sound = IsSound-prop n s p.sound q.sound i; few_keys = le_prop p.few_keys q.few_keys i }
+
+-- ---- a journal
+
 HasHeader-prop : (header : Member) (image : List ℕ) → IsProp (HasHeader header image)
-HasHeader-prop header image p q =
-    let bytes_set : IsSet (List ℕ) = hlevel props in
-    let number_set : IsSet ℕ = hlevel props in
-    λ i. record {
-      marked = bytes_set _ _ p.marked q.marked i;
-      node = number_set _ _ p.node q.node i;
-      n = number_set _ _ p.n q.n i;
-      capacity = number_set _ _ p.capacity q.capacity i;
-      from = le_prop p.from q.from i;
-      to = le_prop p.to q.to i;
-      blank = number_set _ _ p.blank q.blank i;
-    }
+HasHeader-prop header image p q i = record {
+  marked = Bytes-set _ _ p.marked q.marked i;
+  node = Numbers-set _ _ p.node q.node i;
+  n = Numbers-set _ _ p.n q.n i;
+  capacity = Numbers-set _ _ p.capacity q.capacity i;
+  from = le_prop p.from q.from i;
+  to = le_prop p.to q.to i;
+  blank = Numbers-set _ _ p.blank q.blank i;
+}
 
-ReadsAt-prop : (header : Member) (image : List ℕ) (inputs : List Input) (gate_at : ℕ) → IsProp (ReadsAt header image inputs gate_at)
-ReadsAt-prop header image inputs gate_at p q i = record { head = HasHeader-prop header image p.head q.head i; frames = ReadsTo-prop 16 image inputs gate_at p.frames q.frames i }
+AreAreas-prop : (capacity start other : ℕ) → IsProp (AreAreas capacity start other)
+AreAreas-prop capacity start other p q i = record { both = Numbers-set _ _ p.both q.both i; one = λ ne. Numbers-set _ _ (p.one ne) (q.one ne) i }
 
-pub ReadsAs-prop : (header : Member) (image : List ℕ) (inputs : List Input) → IsProp (ReadsAs header image inputs)
-ReadsAs-prop header image inputs p q =
-    let gate_at : p.gate_at ≡ q.gate_at = (unique 16 image inputs inputs p.gate_at q.gate_at p.at.frames q.at.frames).1 in
-    ap (λ (r : (gate_at : ℕ) × ReadsAt header image inputs gate_at). record { gate_at = r.0; at = r.1 })
-    (with_fact (ReadsAt-prop header image inputs) (p.gate_at, p.at) (q.gate_at, q.at) gate_at)
+HasBase-prop : (n start : ℕ) (image : List ℕ) (r : Reading) (offset : ℕ) → IsProp (HasBase n start image r offset)
+HasBase-prop n start image r offset p q i = record {
+  layout = Numbers-set _ _ p.layout q.layout i;
+  known = Numbers-set _ _ p.known q.known i;
+  epoch = Numbers-set _ _ p.epoch q.epoch i;
+  small = le_prop p.small q.small i;
+  offset_is = Numbers-set _ _ p.offset_is q.offset_is i;
+  there = le_prop p.there q.there i;
+  snapshot = Spells-prop n _ r.base p.snapshot q.snapshot i;
+}
+
+-- where an image is read: the area in use, the other one, the frames, and their closed gate
+abbrev Places : Type 0
+Places = ℕ × (ℕ × (ℕ × ℕ))
+
+module _ (header : Member) (image : List ℕ) (r : Reading) where
+  abbrev ReadsIn : Places → Type 0
+  ReadsIn p = ReadsAt header image r p.0 p.1.0 p.1.1.0 p.1.1.1
+
+  ReadsIn-prop : (places : Places) → IsProp (ReadsIn places)
+  ReadsIn-prop places p q i = record {
+    head = HasHeader-prop header image p.head q.head i;
+    areas = AreAreas-prop header.capacity places.0 places.1.0 p.areas q.areas i;
+    gate = Numbers-set _ _ p.gate q.gate i;
+    base = HasBase-prop header.n places.0 image r places.1.1.0 p.base q.base i;
+    older = λ counts. le_prop (p.older counts) (q.older counts) i;
+    frames = ReadsTo-prop places.1.1.0 image r.inputs places.1.1.1 p.frames q.frames i;
+    within = le_prop p.within q.within i;
+  }
+
+  abbrev read_in : ((places : Places) × ReadsIn places) → ReadsAs header image r
+  read_in read = record { start = read.0.0; other = read.0.1.0; offset = read.0.1.1.0; gate_at = read.0.1.1.1; at = read.1 }
+
+  pub ReadsAs-prop : IsProp (ReadsAs header image r)
+  ReadsAs-prop p q =
+      let same = alone header image r r p.start q.start p.other q.other p.offset q.offset p.gate_at q.gate_at p.at q.at in
+      let here : Places = (p.start, (p.other, (p.offset, p.gate_at))) in
+      let there : Places = (q.start, (q.other, (q.offset, q.gate_at))) in
+      let places : here ≡ there = λ i. (same.start_is i, (same.other_is i, (same.offset_is i, same.gate_is i))) in
+      ap read_in (with_fact ReadsIn-prop (here, p.at) (there, q.at) places)

@@ -5,7 +5,7 @@ use Rattle.disk_model.specs.Disk.{IsPart}
 use Rattle.disk_model.proofs.Images.{part_within}
 use Rattle.ring_records.specs.declared.input.Input.{Input}
 use Rattle.gated_journal.specs.Frames.{frames, ReadsTo}
-use Rattle.gated_journal.specs.Unread.{IsDamagedAt}
+use Rattle.gated_journal.specs.Damage.{IsDamagedAt}
 
 -- what was read up to the image's end
 pub behind : (offset : ℕ) (bytes image : List ℕ) → IsPart offset bytes image → offset + length bytes ≡ length image → bytes ≡ drop offset image

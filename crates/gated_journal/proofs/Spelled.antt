@@ -2,10 +2,9 @@
 use Rattle.std.proofs.Common.{◌≡◌, ℕ, ◌+◌, ◌*◌, ◌≤◌, List, [], ◌∷◌, ◌++◌, length, take, Ok, refl, sym, ◌∙◌, ap, subst, arith, append_assoc, length-append}
 use Rattle.std.proofs.lemmas.List.{append-nil}
 use Rattle.ring_records.specs.declared.input.Input.{Input}
-use Rattle.ring_records.specs.Admission.{used, cost}
-use Rattle.ring_records.specs.Member.{used_by}
+use Rattle.ring_records.specs.Admission.{cost, costs_of}
 use Rattle.ring_records.specs.Record.{AreBytes, HasRecord, record_of, record_read}
-use Rattle.ring_records.proofs.Counts.{used-push}
+use Rattle.ring_records.proofs.Counts.{costs-joined}
 use Rattle.ring_records.proofs.LookBack.{IsItem, take-item}
 use Rattle.ring_records.proofs.Records.{cost-record, record-found}
 use Rattle.gated_journal.specs.Frames.{records, HaveRecords}
@@ -20,19 +19,18 @@ have-push (y ∷ inputs) x have has = (have.0, have-push inputs x have.1 has)
 
 -- the sum of the costs of these inputs, by which they are longer than their records, and its bound
 pub record Sums (inputs : List Input) (sum count : ℕ) : Type 0 where
-  pub same : sum ≡ used_by inputs
+  pub same : sum ≡ costs_of inputs
   pub parts : sum ≡ length (records inputs) + 7 * count
   pub few : sum ≤ 42 * count
 
 pub sums-none : Sums [] 0 0
-unfolding used
 sums-none = record { same = refl; parts = refl; few = omega arith }
 
 pub sums-item : (inputs : List Input) (i : ℕ) (x : Input) (sum more : ℕ) → IsItem inputs i x → Sums (take i inputs) sum i → more ≡ cost x → more ≤ 42 → Sums (take (i + 1) inputs) (sum + more) (i + 1)
 sums-item inputs i x sum more here sums is small =
     let pushed : take (i + 1) inputs ≡ take i inputs ++ x ∷ [] = take-item inputs i x here in
     subst (λ (l : List Input). Sums l (sum + more) (i + 1)) (sym pushed) (record {
-      same = omega (arith, sums.same, is, used-push (take i inputs) x);
+      same = omega (arith, sums.same, is, costs-joined (take i inputs) (x ∷ []));
       parts = omega (arith, sums.parts, is, cost-record x, ap length (records-push (take i inputs) x), length-append (records (take i inputs)) (record_of x));
       few = omega (arith, sums.few, small);
     })

@@ -1,4 +1,4 @@
--- No image reads as two lists.
+-- No frames are read in two ways, and no image has two headers.
 use Rattle.std.proofs.Common.{◌≡◌, ◌≢◌, ◌⊎◌, inl, inr, ℕ, ◌+◌, ◌%◌, ◌≤◌, List, [], ◌∷◌, ◌++◌, length, drop, refl, sym, ◌∙◌, ap, arith, append_assoc}
 use Rattle.std.proofs.lemmas.List.{append_cancel_left}
 use Rattle.ring_records.specs.declared.input.Input.{Input}
@@ -6,8 +6,8 @@ use Rattle.ring_records.specs.Member.{Member}
 use Rattle.ring_records.specs.Record.{record_of}
 use Rattle.ring_records.proofs.Records.{records-apart}
 use Rattle.gated_journal.specs.Frames.{records, body, frames, joined, HaveRecords, IsBatch, AreBatches, ReadsTo}
-use Rattle.gated_journal.specs.Reading.{HasMarkedHeader, HasHeader, mark, ReadsAs}
-use Rattle.gated_journal.specs.Unread.{NoFrame, IsDamagedAt}
+use Rattle.gated_journal.specs.Reading.{HasHeader}
+use Rattle.gated_journal.specs.Damage.{NoFrame, IsDamagedAt}
 
 records-unique : (b c : List Input) (r s : List ℕ) → HaveRecords b → HaveRecords c → length b ≡ length c → records b ++ r ≡ records c ++ s → (b ≡ c) × (r ≡ s)
 records-unique [] [] r s hb hc long e = (refl, e)
@@ -85,15 +85,10 @@ damaged_once offset image at other one two =
     (sym one.up_to.whole ∙ two.up_to.whole)).0 in
     one.up_to.ends ∙ ap (λ (bs : List (List Input)). offset + length (frames bs)) same ∙ sym two.up_to.ends
 
-pub unique_inputs : (header other : Member) (image : List ℕ) (inputs more : List Input) → ReadsAs header image inputs → ReadsAs other image more → inputs ≡ more
-unique_inputs header other image inputs more one two = (unique 16 image inputs more one.gate_at two.gate_at one.at.frames two.at.frames).0
-
-pub marked_unique : (one_mark other_mark : List ℕ) (header other : Member) (image : List ℕ) → HasMarkedHeader one_mark header image → HasMarkedHeader other_mark other image → header ≡ other
-marked_unique one_mark other_mark header other image one two =
+-- nor under two headers
+pub header_unique : (header other : Member) (image : List ℕ) → HasHeader header image → HasHeader other image → header ≡ other
+header_unique header other image one two =
     let node : header.node ≡ other.node = sym one.node ∙ two.node in
     let n : header.n ≡ other.n = sym one.n ∙ two.n in
     let capacity : header.capacity ≡ other.capacity = sym one.capacity ∙ two.capacity in
     λ i. record { node = node i; n = n i; capacity = capacity i }
-
-pub header_unique : (header other : Member) (image : List ℕ) → HasHeader header image → HasHeader other image → header ≡ other
-header_unique header other image one two = marked_unique mark mark header other image one two

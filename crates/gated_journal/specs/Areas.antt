@@ -1,48 +1,15 @@
--- Two areas of a journal, of which one is read, and what an image reads as then (layout 2). An area is a gate, a layout,
+-- The two areas of a journal, and what an image reads as by the one that is read (layout 2). An area is a gate, a layout,
 -- an epoch, the length of a snapshot, the snapshot, and frames behind it.
-use Rattle.std.specs.Prelude.{◌≡◌, ◌≢◌, ◌⊎◌, ◌+◌, ◌^◌, ◌<◌, ◌≤◌, ℕ, Bool, true, false, if◌then◌else◌, List, [], ◌∷◌, ◌++◌, length, take, drop, slice_index, codes}
+use Rattle.std.specs.Prelude.{◌≡◌, ◌≢◌, ◌⊎◌, ◌+◌, ◌^◌, ◌<◌, ◌≤◌, ℕ, Bool, true, false, if◌then◌else◌, List, [], ◌∷◌, ◌++◌, length, take, drop, slice_index}
 use Rattle.std.specs.Int.{w32, w64, to_be_bytes}
-use Rattle.std.specs.List.{sum_by}
 use Rattle.disk_model.specs.Disk.{Disk, MayLeave, IsSynced}
-use Rattle.ring_records.specs.declared.input.Input.{Input}
 use Rattle.ring_records.specs.declared.summary.Summary.{Summary}
-use Rattle.ring_records.specs.Admission.{cost, area_bytes}
+use Rattle.ring_records.specs.Admission.{newest}
 use Rattle.ring_records.specs.Member.{Member}
 use Rattle.ring_records.specs.Snapshot.{Spells, snapshot_of, snapshot_len}
-use Rattle.ring_records.specs.Summary.{summary, empty}
+use Rattle.ring_records.specs.Summary.{empty}
 use Rattle.gated_journal.specs.Frames.{ReadsTo}
-use Rattle.gated_journal.specs.Reading.{number_at, HasMarkedHeader}
-
--- ---- what is read
-
--- what an image reads as: the layout and the epoch of the area in use, the summary of its snapshot, and the inputs of
--- the frames behind that
-pub record Reading : Type 0 where
-  pub layout : ℕ
-  pub epoch : ℕ
-  pub base : Summary
-  pub inputs : List Input
-
-abbrev pub with_more : Reading → List Input → Reading
-with_more r batch = record r { inputs = r.inputs ++ batch }
-
--- an area without frames
-abbrev pub fresh_area : ℕ → ℕ → Summary → Reading
-fresh_area layout epoch base = record { layout = layout; epoch = epoch; base = base; inputs = [] }
-
--- how many bytes of the capacity are used: by the snapshot, and by the inputs behind it
-abbrev pub used_in : Reading → ℕ
-used_in r = area_bytes r.layout r.base + sum_by cost r.inputs
-
--- how many inputs there are, those that are summarised among them
-abbrev pub count_in : Reading → ℕ
-count_in r = r.base.inputs + length r.inputs
-
--- it stands for the inputs h of node `me`: the summary is that of the first of them, and its inputs are the rest
-pub record StandsFor (me : ℕ) (r : Reading) (h : List Input) : Type 0 where
-  pub before : List Input
-  pub base : r.base ≡ summary me before
-  pub joined : h ≡ before ++ r.inputs
+use Rattle.gated_journal.specs.Reading.{Reading, used_in, count_in, number_at, mark, HasHeader}
 
 -- ---- an area
 
@@ -57,10 +24,6 @@ area_b capacity = 31 + capacity
 pub record AreAreas (capacity start other : ℕ) : Type 0 where
   pub both : start + other ≡ area_a + area_b capacity
   pub one : start ≢ area_a → other ≡ area_a
-
--- the layout that is written
-abbrev pub newest : ℕ
-newest = 2
 
 -- how long an area is before its snapshot
 abbrev pub head_len : ℕ
@@ -104,19 +67,20 @@ pub record HasBase (n start : ℕ) (image : List ℕ) (r : Reading) (offset : �
 abbrev pub new_area : ℕ → ℕ → Summary → List ℕ
 new_area layout epoch s = layout ∷ to_be_bytes w64 epoch ++ to_be_bytes w32 (snapshot_len s) ++ snapshot_of s ++ 0 ∷ []
 
--- ---- the area that is read
+-- the same with zeros in place of the layout and the epoch
+abbrev pub blank_area : Summary → List ℕ
+blank_area s = 0 ∷ 0 ∷ 0 ∷ 0 ∷ 0 ∷ 0 ∷ 0 ∷ 0 ∷ 0 ∷ to_be_bytes w32 (snapshot_len s) ++ snapshot_of s ++ 0 ∷ []
 
-abbrev pub area_mark : List ℕ
-area_mark = codes "CRJRNL02"
+-- ---- the area that is read
 
 -- a device without inputs: a header, and area A
 abbrev pub new_areas : Member → List ℕ
-new_areas header = area_mark ++ header.node ∷ header.n ∷ to_be_bytes w32 header.capacity ++ 0 ∷ 0 ∷ 1 ∷ new_area newest 1 empty
+new_areas header = mark ++ header.node ∷ header.n ∷ to_be_bytes w32 header.capacity ++ 0 ∷ 0 ∷ 1 ∷ new_area newest 1 empty
 
 -- The image has this header and reads as r: of the area at `start`, whose gate is open, with frames from `offset` on and
 -- the closed gate at `gate_at`. The other area does not count, or its epoch is less.
-pub record ReadsByAreaAt (header : Member) (image : List ℕ) (r : Reading) (start other offset gate_at : ℕ) : Type 0 where
-  pub head : HasMarkedHeader area_mark header image
+pub record ReadsAt (header : Member) (image : List ℕ) (r : Reading) (start other offset gate_at : ℕ) : Type 0 where
+  pub head : HasHeader header image
   pub areas : AreAreas header.capacity start other
   pub gate : slice_index image start ≡ 1
   pub base : HasBase header.n start image r offset
@@ -125,24 +89,24 @@ pub record ReadsByAreaAt (header : Member) (image : List ℕ) (r : Reading) (sta
   pub within : gate_at ≤ start + head_len + header.capacity
 
 -- *Reading*: the image reads as r
-pub record ReadsByArea (header : Member) (image : List ℕ) (r : Reading) : Type 0 where
+pub record ReadsAs (header : Member) (image : List ℕ) (r : Reading) : Type 0 where
   pub start : ℕ
   pub other : ℕ
   pub offset : ℕ
   pub gate_at : ℕ
-  pub at : ReadsByAreaAt header image r start other offset gate_at
+  pub at : ReadsAt header image r start other offset gate_at
 
 -- every image that a stop may leave reads as r
-abbrev pub AllReadByArea : Member → Disk → Reading → Type 0
-AllReadByArea header disk r = (image : List ℕ) → MayLeave disk image → ReadsByArea header image r
+abbrev pub AllReadAs : Member → Disk → Reading → Type 0
+AllReadAs header disk r = (image : List ℕ) → MayLeave disk image → ReadsAs header image r
 
 -- the image reads as the one or as the other
-abbrev pub ReadsByAreaAsOneOf : Member → Reading → Reading → List ℕ → Type 0
-ReadsByAreaAsOneOf header old new image = ReadsByArea header image old ⊎ ReadsByArea header image new
+abbrev pub ReadsAsOneOf : Member → Reading → Reading → List ℕ → Type 0
+ReadsAsOneOf header old new image = ReadsAs header image old ⊎ ReadsAs header image new
 
 -- a moment of the opening of the other area: what was read before is read, or that area, whose closed gate is at `next`
-abbrev pub ReadsByAreaAtOneOf : Member → Reading → ℕ → ℕ → ℕ → ℕ → Reading → ℕ → List ℕ → Type 0
-ReadsByAreaAtOneOf header old start other offset gate_at new next image = ReadsByAreaAt header image old start other offset gate_at ⊎ ReadsByAreaAt header image new other start next next
+abbrev pub ReadsAtOneOf : Member → Reading → ℕ → ℕ → ℕ → ℕ → Reading → ℕ → List ℕ → Type 0
+ReadsAtOneOf header old start other offset gate_at new next image = ReadsAt header image old start other offset gate_at ⊎ ReadsAt header image new other start next next
 
 -- ---- the area that is not in use
 
@@ -164,7 +128,7 @@ pub record IsStaged (n other : ℕ) (image : List ℕ) (r : Reading) (offset : �
 -- The other area may be replaced by that of s in this epoch: the image is read at these places in a lesser one, and the
 -- snapshot is sound and fits the capacity.
 pub record MayReplace (header : Member) (image : List ℕ) (old : Reading) (start other offset gate_at : ℕ) (is_closed : Bool) (epoch : ℕ) (s : Summary) : Type 0 where
-  pub reads : ReadsByAreaAt header image old start other offset gate_at
+  pub reads : ReadsAt header image old start other offset gate_at
   pub gate : IsGate is_closed other image
   pub newer : old.epoch < epoch
   pub small : epoch < 2 ^ 40
@@ -178,4 +142,4 @@ pub record MayReplace (header : Member) (image : List ℕ) (old : Reading) (star
 pub record IsInUse (header : Member) (disk : Disk) (start other offset gate_at : ℕ) (is_closed : Bool) (epoch count used : ℕ) : Type 0 where
   pub synced : IsSynced disk
   pub gate : IsGate is_closed other disk.image
-  pub reads : ∥ ((r : Reading) × (ReadsByAreaAt header disk.image r start other offset gate_at × ((r.epoch ≡ epoch) × ((count_in r ≡ count) × (used_in r ≡ used))))) ∥₁
+  pub reads : ∥ ((r : Reading) × (ReadsAt header disk.image r start other offset gate_at × ((r.epoch ≡ epoch) × ((count_in r ≡ count) × (used_in r ≡ used))))) ∥₁

@@ -1,10 +1,12 @@
--- What a batch, a receipt and a spoiled batch show.
+-- What a batch, a checkpoint, a receipt and a spoiled batch show.
 use Rattle.std.specs.Prelude.{ℕ, Bool, ◌&&◌, nat_le, if◌then◌else◌, List, Option, None}
 use Rattle.ring_records.specs.declared.input.Input.{Input}
 use Rattle.ring_records.specs.declared.limits.TheConstants.{BATCH_INPUTS}
 use Rattle.ring_records.specs.declared.refusal.Refusal.{Refusal}
 use Rattle.ring_records.specs.declared.refusal.Refusal.TheVariants as refused
+use Rattle.ring_records.specs.declared.summary.Summary.{Summary}
 use Rattle.gated_journal.specs.declared.batch.Batch.{Batch}
+use Rattle.gated_journal.specs.declared.checkpoint.Checkpoint.{Checkpoint}
 use Rattle.gated_journal.specs.declared.flown.Flown.{Flown}
 use Rattle.gated_journal.specs.declared.spent.Receipt.{Receipt}
 use Rattle.gated_journal.specs.declared.spent.Spoiled.{Spoiled}
@@ -35,6 +37,14 @@ landed receipt = kept_in receipt.flown
 
 abbrev pub lost : Spoiled → Numbered
 lost spoiled = kept_in spoiled.flown
+
+-- those that a checkpoint takes to the device, with the length of its snapshot
+abbrev pub numbered_by : Checkpoint → Numbered
+numbered_by checkpoint = kept_in checkpoint.flown
+
+-- the summary that it makes durable
+abbrev pub base_by : Checkpoint → Summary
+base_by checkpoint = checkpoint.base
 
 -- how many inputs a batch may have
 abbrev pub is_size : ℕ → Bool

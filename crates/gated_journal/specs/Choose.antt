@@ -1,6 +1,8 @@
 -- Which of the two areas is read, and what the parts of the reader find of it.
 use Rattle.std.specs.Prelude.{◌≡◌, ◌⊎◌, ◌^◌, ◌<◌, ◌≤◌, ℕ, List, length, slice_index}
-use Rattle.gated_journal.specs.Areas.{Reading, newest, area_a, area_b, AreAreas, layout_at, epoch_at, size_at, frames_of, Counts, IsGate}
+use Rattle.ring_records.specs.Admission.{newest}
+use Rattle.gated_journal.specs.Areas.{area_a, area_b, AreAreas, layout_at, epoch_at, size_at, frames_of, Counts, IsGate}
+use Rattle.gated_journal.specs.Reading.{Reading}
 use Rattle.gated_journal.specs.declared.area.Area.{Area}
 use Rattle.gated_journal.specs.declared.area.Area.TheVariants.{A, B}
 use Rattle.gated_journal.specs.declared.area.Chosen.{Chosen}

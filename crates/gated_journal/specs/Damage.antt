@@ -1,14 +1,42 @@
 -- Why no area of an image is read: the first fault, with its offset.
-use Rattle.std.specs.Prelude.{◌≡◌, ◌⊎◌, ◌+◌, ◌^◌, ◌<◌, ◌≤◌, ℕ, List, length}
+use Rattle.std.specs.Prelude.{◌≡◌, ◌⊎◌, ◌+◌, ◌^◌, ◌<◌, ◌≤◌, ℕ, List, [], ◌∷◌, ◌++◌, length, drop}
 use Rattle.ring_records.specs.declared.input.Input.{Input}
 use Rattle.ring_records.specs.declared.refusal.Refusal.{Refusal}
 use Rattle.ring_records.specs.declared.refusal.Refusal.TheVariants.{Damaged, OutOfMemory}
 use Rattle.ring_records.specs.declared.summary.Summary.{Summary}
 use Rattle.ring_records.specs.Snapshot.{Spells}
-use Rattle.gated_journal.specs.Areas.{Reading, area_a, head_len, AreAreas, epoch_at, frames_of, snapshot_at, HasBase}
+use Rattle.gated_journal.specs.Areas.{area_a, head_len, AreAreas, epoch_at, frames_of, snapshot_at, HasBase}
 use Rattle.gated_journal.specs.Choose.{IsChosen, IsUnchosen}
-use Rattle.gated_journal.specs.Frames.{ReadsTo}
-use Rattle.gated_journal.specs.Unread.{IsBroken}
+use Rattle.gated_journal.specs.Frames.{body, frames, joined, IsBatch, AreBatches, ReadsTo}
+use Rattle.gated_journal.specs.Reading.{Reading}
+
+-- ---- the frames
+
+-- from this offset on there are frames of these inputs, up to `gate_at`
+pub record ReadsUpTo (offset : ℕ) (image : List ℕ) (inputs : List Input) (gate_at : ℕ) : Type 0 where
+  pub batches : List (List Input)
+  pub whole : drop offset image ≡ frames batches ++ drop gate_at image
+  pub sized : AreBatches batches
+  pub same : inputs ≡ joined batches
+  pub ends : gate_at ≡ offset + length (frames batches)
+
+-- no frame stands at the head of these bytes
+abbrev pub NoFrame : List ℕ → Type 0
+NoFrame tail = (batch : List Input) (rest : List ℕ) → IsBatch batch → tail ≡ body batch ++ rest → ⊥
+
+-- There are frames up to `gate_at`, and there no byte, or an open gate with no frame behind it.
+pub record IsDamagedAt (offset : ℕ) (image : List ℕ) (gate_at : ℕ) : Type 0 where
+  pub inputs : List Input
+  pub up_to : ReadsUpTo offset image inputs gate_at
+  pub broken : (drop gate_at image ≡ []) ⊎ ((tail : List ℕ) × ((drop gate_at image ≡ 1 ∷ tail) × NoFrame tail))
+
+-- the refusal says where they are damaged
+pub record IsBroken (offset : ℕ) (image : List ℕ) (refusal : Refusal) : Type 0 where
+  pub gate_at : ℕ
+  pub is : refusal ≡ Damaged gate_at
+  pub damaged : IsDamagedAt offset image gate_at
+
+-- ---- the areas
 
 -- the bytes of the area are short, its epoch is too great, or its snapshot is of no summary of a ring of n
 abbrev pub IsHeadBroken : ℕ → ℕ → List ℕ → Type 0

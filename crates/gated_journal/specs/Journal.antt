@@ -11,9 +11,13 @@ module _ {D : Type 0} {g : Ghosts D} where
   abbrev pub member_of : Journal D g → Member
   member_of journal = member journal.node journal.n journal.capacity
 
-  -- how many inputs it holds
+  -- how many inputs it holds, those that are summarised among them
   abbrev pub len_of : Journal D g → ℕ
   len_of journal = journal.count
+
+  -- the epoch of its area in use
+  abbrev pub epoch_of : Journal D g → ℕ
+  epoch_of journal = journal.area.epoch
 
   -- how many bytes of the capacity are left
   abbrev pub room_of : Journal D g → ℕ

@@ -1,11 +1,48 @@
--- What an image of a journal reads as (layout 1).
-use Rattle.std.specs.Prelude.{◌≡◌, ◌⊎◌, ◌+◌, ◌*◌, ◌≤◌, ℕ, zero, suc, Bool, nat_le, ◌&&◌, List, take, slice_index, codes, ◌++◌, ◌∷◌, [], length}
-use Rattle.std.specs.Int.{w32, to_be_bytes}
-use Rattle.disk_model.specs.Disk.{Disk, MayLeave, IsSynced}
+-- What an image of a journal reads as, and the header that it begins with.
+use Rattle.std.specs.Prelude.{◌≡◌, ◌+◌, ◌*◌, ◌≤◌, ℕ, zero, suc, Bool, nat_le, ◌&&◌, List, [], ◌++◌, length, take, slice_index, codes}
 use Rattle.ring_records.specs.declared.input.Input.{Input}
 use Rattle.ring_records.specs.declared.limits.TheConstants.{GREATEST_CAPACITY, LEAST_CAPACITY}
-use Rattle.ring_records.specs.Member.{Member, used_by}
-use Rattle.gated_journal.specs.Frames.{ReadsTo}
+use Rattle.ring_records.specs.declared.summary.Summary.{Summary}
+use Rattle.ring_records.specs.Admission.{area_bytes, costs_of}
+use Rattle.ring_records.specs.Member.{Member}
+use Rattle.ring_records.specs.Summary.{summary}
+use Rattle.gated_journal.specs.declared.opening.Opening.{Opening}
+
+-- ---- what is read
+
+-- The layout and the epoch of the area in use, the summary of its snapshot, and the inputs of the frames behind that.
+pub record Reading : Type 0 where
+  pub layout : ℕ
+  pub epoch : ℕ
+  pub base : Summary
+  pub inputs : List Input
+
+abbrev pub with_more : Reading → List Input → Reading
+with_more r batch = record r { inputs = r.inputs ++ batch }
+
+-- an area without frames
+abbrev pub fresh_area : ℕ → ℕ → Summary → Reading
+fresh_area layout epoch base = record { layout = layout; epoch = epoch; base = base; inputs = [] }
+
+-- what a journal was opened with
+abbrev pub reading_of_opening : Opening → Reading
+reading_of_opening o = record { layout = o.layout; epoch = o.epoch; base = o.base; inputs = o.inputs.items }
+
+-- how many bytes of the capacity are used: by the snapshot, and by the inputs behind it
+abbrev pub used_in : Reading → ℕ
+used_in r = area_bytes r.layout r.base + costs_of r.inputs
+
+-- how many inputs there are, those that are summarised among them
+abbrev pub count_in : Reading → ℕ
+count_in r = r.base.inputs + length r.inputs
+
+-- it stands for the inputs h of node `me`: the summary is that of the first of them, and its inputs are the rest
+pub record StandsFor (me : ℕ) (r : Reading) (h : List Input) : Type 0 where
+  pub before : List Input
+  pub base : r.base ≡ summary me before
+  pub joined : h ≡ before ++ r.inputs
+
+-- ---- the header
 
 -- k bytes from this offset on as one number; bytes that are not there count as zero
 abbrev pub number_at : ℕ → ℕ → List ℕ → ℕ
@@ -16,54 +53,23 @@ number_at (suc k) off image = number_at k off image * 256 + slice_index image (o
 abbrev pub is_header : Member → Bool
 is_header header = nat_le 2 header.n && (nat_le header.n 16 && (nat_le header.node header.n && (nat_le LEAST_CAPACITY header.capacity && nat_le header.capacity GREATEST_CAPACITY)))
 
-abbrev pub mark : List ℕ
-mark = codes "CRJRNL01"
-
--- a header, and a closed gate
-abbrev pub new_image : Member → List ℕ
-new_image header = mark ++ header.node ∷ header.n ∷ to_be_bytes w32 header.capacity ++ 0 ∷ 0 ∷ 0 ∷ []
-
--- how many bytes of a device a journal of this capacity may come to use: its header, its frames, and a gate
+-- the bytes of a device that a journal of this capacity may come to use: its header, and two areas
 abbrev pub device_size : ℕ → ℕ
-device_size capacity = 17 + capacity
+device_size capacity = 46 + 2 * capacity
 
--- the image begins with this mark and this header, whose capacity is in its range
-pub record HasMarkedHeader (layout_mark : List ℕ) (header : Member) (image : List ℕ) : Type 0 where
-  pub marked : take 8 image ≡ layout_mark
+-- the mark of a journal with two areas, and that of one with none
+abbrev pub mark : List ℕ
+mark = codes "CRJRNL02"
+
+abbrev pub old_mark : List ℕ
+old_mark = codes "CRJRNL01"
+
+-- the image begins with the mark and this header, whose capacity is in its range
+pub record HasHeader (header : Member) (image : List ℕ) : Type 0 where
+  pub marked : take 8 image ≡ mark
   pub node : slice_index image 8 ≡ header.node
   pub n : slice_index image 9 ≡ header.n
   pub capacity : number_at 4 10 image ≡ header.capacity
   pub from : LEAST_CAPACITY ≤ header.capacity
   pub to : header.capacity ≤ GREATEST_CAPACITY
   pub blank : number_at 2 14 image ≡ 0
-
-abbrev pub HasHeader : Member → List ℕ → Type 0
-HasHeader header image = HasMarkedHeader mark header image
-
--- where the frames begin: behind the header
-abbrev pub frames_at : ℕ
-frames_at = 16
-
--- the image has this header, frames of these inputs behind it, and the closed gate at this offset
-pub record ReadsAt (header : Member) (image : List ℕ) (inputs : List Input) (gate_at : ℕ) : Type 0 where
-  pub head : HasHeader header image
-  pub frames : ReadsTo frames_at image inputs gate_at
-
--- *Reading*: the image reads as these inputs
-pub record ReadsAs (header : Member) (image : List ℕ) (inputs : List Input) : Type 0 where
-  pub gate_at : ℕ
-  pub at : ReadsAt header image inputs gate_at
-
--- Nothing waits for a sync, and the image reads as so many inputs that take so many bytes of the capacity, with the
--- closed gate at this offset.
-pub record IsAtRest (header : Member) (disk : Disk) (gate_at count sum : ℕ) : Type 0 where
-  pub synced : IsSynced disk
-  pub reads : ∥ ((inputs : List Input) × (ReadsAt header disk.image inputs gate_at × ((length inputs ≡ count) × (used_by inputs ≡ sum)))) ∥₁
-
--- every image that a stop may leave reads as these inputs
-abbrev pub AllReadAs : Member → Disk → List Input → Type 0
-AllReadAs header disk inputs = (image : List ℕ) → MayLeave disk image → ReadsAs header image inputs
-
--- the image reads as the one list or as the other
-abbrev pub ReadsAsOneOf : Member → List Input → List Input → List ℕ → Type 0
-ReadsAsOneOf header old new image = ReadsAs header image old ⊎ ReadsAs header image new

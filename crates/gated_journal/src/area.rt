@@ -7,7 +7,7 @@ ghost use Rattle.gated_journal.specs.Damage.{AreAreasUnread};
 ghost use Rattle.gated_journal.specs.Unread.{IsFault};
 
 use crate::layout::{AREA_A, area_b};
-use crate::open::read_part;
+use crate::read::read_part;
 use disk_model::Device;
 use ring_records::Refusal;
 

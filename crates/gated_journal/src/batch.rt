@@ -1,7 +1,7 @@
 //! Inputs that become durable together.
 ghost use Rattle.std.specs.Prelude.{◌≡◌, ◌≤◌, ◌*◌, true, length, IfOk, IfErr, OnOk};
 ghost use Rattle.ring_records.specs.declared.limits.TheConstants.{BATCH_INPUTS};
-ghost use Rattle.ring_records.specs.Member.{used_by};
+ghost use Rattle.ring_records.specs.Admission.{costs_of};
 ghost use Rattle.gated_journal.specs.Frames.{IsFrame};
 ghost use Rattle.gated_journal.specs.Props.{IsFrame-prop};
 
@@ -17,7 +17,7 @@ pub struct Batch {
     pub(crate) cost: u32,
     pub(crate) bytes: Vec<u8>,
     ghost framed: { IsFrame inputs.items bytes.items } by { IsFrame-prop inputs.items bytes.items },
-    ghost counted: { cost ≡ used_by inputs.items },
+    ghost counted: { cost ≡ costs_of inputs.items },
     ghost small: { cost ≤ 42 * BATCH_INPUTS },
 }
 
@@ -29,7 +29,7 @@ impl Batch {
     pub fn new(alloc: Global, node: NodeNo, first: u64, inputs: &[Input]) -> Result<Batch, Refusal>
         ensures value { IfOk result (λ batch. shown batch ≡ numbered node first inputs.now) }
         ensures size { OnOk result (is_size (length inputs.now) ≡ true) }
-        ensures bound { OnOk result (used_by inputs.now ≤ 42 * BATCH_INPUTS) }
+        ensures bound { OnOk result (costs_of inputs.now ≤ 42 * BATCH_INPUTS) }
         ensures refusal { IfErr result (λ refusal. refusal ≡ batch_refusal (length inputs.now)) }
     {
         if inputs.is_empty() || inputs.len() > BATCH_INPUTS {
@@ -75,7 +75,7 @@ impl Batch {
 
     /// The bytes of the capacity that they take, at most 2,688.
     pub fn cost(&self) -> u32
-        ensures value { result ≡ used_by (shown self.now).inputs }
+        ensures value { result ≡ costs_of (shown self.now).inputs }
         ensures bound { result ≤ 42 * BATCH_INPUTS }
     {
         self.cost

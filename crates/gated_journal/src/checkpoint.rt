@@ -1,80 +1,121 @@
-//! The six device calls of a checkpoint, and the bytes that it writes.
-ghost use Rattle.std.specs.Prelude.{◌≡◌, ◌+◌, ◌≤◌, ◌<◌, ◌^◌, ℕ, List, false, length, OnOk};
-ghost use Rattle.disk_model.specs.Disk.{IsSynced, LeavesOnly, HasCause, IsInReach};
+//! A summary that is to stand for all inputs so far.
+ghost use Rattle.std.specs.Prelude.{◌≡◌, ◌<◌, ◌≤◌, ◌^◌, Some, length, IfOk, IfErr};
+ghost use Rattle.std.specs.FinMap as map;
 ghost use Rattle.ring_records.specs.declared.summary.Summary.{Summary};
-ghost use Rattle.ring_records.specs.Member.{Member};
-ghost use Rattle.ring_records.specs.Snapshot.{Spells, snapshot_of, snapshot_len};
-ghost use Rattle.gated_journal.specs.Areas.{Reading, ReadsByAreaAt, ReadsByAreaAtOneOf, IsGate, IsStaged, MayReplace, fresh_area, new_area, newest, head_len};
+ghost use Rattle.ring_records.specs.Admission.{newest};
+ghost use Rattle.ring_records.specs.Snapshot.{snapshot_len};
+ghost use Rattle.gated_journal.specs.Areas.{new_area, blank_area};
 
-use disk_model::{Device, DeviceFault, write_through};
+use crate::flown::Flown;
+use crate::layout::LAYOUT;
+use ring_records::{Input, NodeNo, Refusal, Summary, summary_len, write_summary};
+use std::alloc::{AllocError, Global};
 
-/// Closes the area at `other`, which is not in use, and writes a new one behind its gate. A gate that is closed already
-/// is left alone, since a write over it might open what an earlier checkpoint has left there: the layout behind it is
-/// overwritten.
-pub(crate) fn write_area<D: Device>(
-    device: &mut D,
-    other: u64,
-    is_closed: bool,
-    bytes: &[u8],
-) -> Result<(), DeviceFault>
-    requires fits { other + 1 + length bytes.now < 2 ^ 64 }
-    requires some { 0 < length bytes.now }
-    // A stop at any moment of the call leaves what is read as it is.
-    ensures any_moment { (header : Member) (r : Reading) (start offset gate_at : ℕ) → IsSynced (D.disk device.old) → ReadsByAreaAt header (D.disk device.old).image r start other offset gate_at
-        → IsGate is_closed other (D.disk device.old).image → length bytes.now ≤ head_len + header.capacity
-        → LeavesOnly D.clock D.left_since device.old device.new (λ image. ReadsByAreaAt header image r start other offset gate_at) }
-    ensures done { OnOk result ((header : Member) (r : Reading) (start offset gate_at : ℕ) → ReadsByAreaAt header (D.disk device.old).image r start other offset gate_at
-        → IsGate is_closed other (D.disk device.old).image → length bytes.now ≤ head_len + header.capacity → ReadsByAreaAt header (D.disk device.new).image r start other offset gate_at) }
-
-    // At Ok the new area stands there, whole.
-    ensures staged { OnOk result ((n epoch : ℕ) (s : Summary) → bytes.now ≡ new_area newest epoch s → epoch < 2 ^ 40 → snapshot_len s < 2 ^ 32 → Spells n (snapshot_of s) s
-        → IsStaged n other (D.disk device.new).image (fresh_area newest epoch s) (other + head_len + snapshot_len s)) }
-    ensures synced { OnOk result (IsSynced (D.disk device.new)) }
-    ensures cause { HasCause (D.count device.old) (D.count device.new) result }
-    ensures reach { IsInReach (other + 1 + length bytes.now) (D.reach device.old) (D.reach device.new) result }
-{
-    let first = if is_closed { other + 1 } else { other };
-    write_through(device, first, &[0])?;
-    write_through(device, other + 1, bytes)
+/// A summary of all inputs so far, and those of them that are not durable yet, any number; already spelled. It must be
+/// spent: only `checkpoint` ends it.
+pub struct Checkpoint {
+    pub(crate) flown: Flown,
+    pub(crate) base: Summary,
+    pub(crate) bytes: Vec<u8>,
+    ghost framed: { bytes.items ≡ blank_area base },
+    ghost sized: { flown.snapshot ≡ Some (snapshot_len base) },
+    ghost short: { snapshot_len base < 2 ^ 32 },
+    ghost few_keys: { map.len base.keys < 2 ^ 32 },
 }
 
-/// Opens the area at `other`, which is the one that is read then.
-pub(crate) fn open_area<D: Device>(device: &mut D, other: u64) -> Result<(), DeviceFault>
-    // A stop at any moment of the call leaves what was read before, or the new area.
-    ensures any_moment { (header : Member) (old r : Reading) (start offset gate_at next : ℕ) → IsSynced (D.disk device.old) → ReadsByAreaAt header (D.disk device.old).image old start other offset gate_at
-        → IsStaged header.n other (D.disk device.old).image r next → next ≤ other + head_len + header.capacity → old.epoch < r.epoch
-        → LeavesOnly D.clock D.left_since device.old device.new (ReadsByAreaAtOneOf header old start other offset gate_at r next) }
-    ensures done { OnOk result ((header : Member) (old r : Reading) (start offset gate_at next : ℕ) → ReadsByAreaAt header (D.disk device.old).image old start other offset gate_at
-        → IsStaged header.n other (D.disk device.old).image r next → next ≤ other + head_len + header.capacity → old.epoch < r.epoch
-        → ReadsByAreaAt header (D.disk device.new).image r other start next next × IsGate false start (D.disk device.new).image) }
-    ensures synced { OnOk result (IsSynced (D.disk device.new)) }
-    ensures cause { HasCause (D.count device.old) (D.count device.new) result }
-    ensures reach { IsInReach (other + 1) (D.reach device.old) (D.reach device.new) result }
+// The bytes of an area without frames behind its gate, with zeros in place of the layout and the epoch.
+fn blank_area(alloc: Global, base: &Summary) -> Result<Vec<u8>, AllocError>
+    requires short { snapshot_len base.now < 2 ^ 32 }
+    requires few_keys { map.len base.now.keys < 2 ^ 32 }
+    ensures { IfOk result (λ bytes. bytes.items ≡ blank_area base.now) }
 {
-    write_through(device, other, &[1])
+    let snapshot = write_summary(alloc, base)?;
+    let size = snapshot.len() as u32;
+    let mut bytes = vec![in alloc; 0; 9]?;
+    bytes.extend_from_slice(&size.to_be_bytes())?;
+    bytes.extend_from_slice(&snapshot)?;
+    bytes.push(0)?;
+    Ok(bytes)
 }
 
-/// Replaces all that is read by the new area at `other`.
-pub(crate) fn replace_area<D: Device>(
-    device: &mut D,
-    other: u64,
-    is_closed: bool,
-    bytes: &[u8],
-) -> Result<(), DeviceFault>
-    requires fits { other + 1 + length bytes.now < 2 ^ 64 }
-    requires some { 0 < length bytes.now }
-    // A stop at any moment of the call leaves what was read before, or the new area.
-    ensures any_moment { (header : Member) (old : Reading) (start offset gate_at epoch : ℕ) (s : Summary) → IsSynced (D.disk device.old)
-        → MayReplace header (D.disk device.old).image old start other offset gate_at is_closed epoch s → bytes.now ≡ new_area newest epoch s
-        → LeavesOnly D.clock D.left_since device.old device.new (ReadsByAreaAtOneOf header old start other offset gate_at (fresh_area newest epoch s) (other + head_len + snapshot_len s)) }
-    ensures done { OnOk result ((header : Member) (old : Reading) (start offset gate_at epoch : ℕ) (s : Summary)
-        → MayReplace header (D.disk device.old).image old start other offset gate_at is_closed epoch s → bytes.now ≡ new_area newest epoch s
-        → ReadsByAreaAt header (D.disk device.new).image (fresh_area newest epoch s) other start (other + head_len + snapshot_len s) (other + head_len + snapshot_len s)
-        × IsGate false start (D.disk device.new).image) }
-    ensures synced { OnOk result (IsSynced (D.disk device.new)) }
-    ensures cause { HasCause (D.count device.old) (D.count device.new) result }
-    ensures reach { IsInReach (other + 1 + length bytes.now) (D.reach device.old) (D.reach device.new) result }
+/// Writes the layout and the epoch in front of an area's bytes.
+pub(crate) fn number(bytes: &mut Vec<u8>, epoch: u64)
+    requires { 9 ≤ length bytes.old.items }
+    ensures { (base : Summary) → bytes.old.items ≡ blank_area base → bytes.new.items ≡ new_area newest epoch base }
 {
-    write_area(device, other, is_closed, bytes)?;
-    open_area(device, other)
+    bytes[0] = LAYOUT;
+    bytes[1..9].copy_from_slice(&epoch.to_be_bytes());
+}
+
+impl Checkpoint {
+    ghost use Rattle.gated_journal.specs.Batch.{Numbered, numbered_with, numbered_by, base_by};
+
+    /// A summary that stands for all inputs of this node up to these, which are those from number `first` on, counted
+    /// from 0. Refused as 8.
+    pub fn new(
+        alloc: Global,
+        node: NodeNo,
+        first: u64,
+        inputs: &[Input],
+        base: Summary,
+    ) -> Result<Checkpoint, Refusal>
+        requires short { snapshot_len base < 2 ^ 32 }
+        requires few_keys { map.len base.keys < 2 ^ 32 }
+        ensures value { IfOk result (λ checkpoint. numbered_by checkpoint ≡ numbered_with node first inputs.now (Some (snapshot_len base))) }
+        ensures base { IfOk result (λ checkpoint. base_by checkpoint ≡ base) }
+        ensures refusal { IfErr result (λ refusal. refusal ≡ Refusal.OutOfMemory) }
+    {
+        let Ok(bytes) = blank_area(alloc, &base) else {
+            return Err(Refusal::OutOfMemory);
+        };
+        let Ok(kept) = inputs.to_vec(alloc) else {
+            return Err(Refusal::OutOfMemory);
+        };
+        let snapshot = summary_len(&base);
+        Ok(Checkpoint {
+            flown: Flown {
+                node,
+                first,
+                inputs: kept,
+                snapshot: Some(snapshot),
+            },
+            base,
+            bytes,
+        })
+    }
+
+    /// The node whose inputs they are.
+    pub fn node(&self) -> NodeNo
+        ensures { result ≡ (numbered_by self.now).node }
+    {
+        self.flown.node
+    }
+
+    /// The number of the first of its inputs, counted from 0.
+    pub fn first(&self) -> u64
+        ensures { result ≡ (numbered_by self.now).first }
+    {
+        self.flown.first
+    }
+
+    /// Its inputs: those that its summary stands for and that are not durable yet.
+    pub fn inputs(&self) -> &[Input]
+        ensures { result.now ≡ (numbered_by self.now).inputs }
+    {
+        &self.flown.inputs
+    }
+
+    /// What it says of all inputs up to these.
+    pub fn base(&self) -> &Summary
+        ensures { result.now ≡ base_by self.now }
+    {
+        &self.base
+    }
+
+    /// The bytes of the capacity that its snapshot takes.
+    pub fn cost(&self) -> u32
+        ensures { result ≡ snapshot_len (base_by self.now) }
+    {
+        summary_len(&self.base) as u32
+    }
 }

@@ -9,8 +9,8 @@ ghost use Rattle.gated_journal.specs.Damage.{IsBaseless, IsContentless, AreAreas
 ghost use Rattle.gated_journal.specs.Frames.{ReadsTo};
 ghost use Rattle.gated_journal.specs.Unread.{IsFault};
 
-use crate::area::Chosen;
-use crate::open::{read_frames, read_part};
+use crate::area::{Chosen, choose_area};
+use crate::read::{read_frames, read_part};
 use disk_model::Device;
 use ring_records::{Input, Refusal, Summary, read_summary};
 use std::alloc::{AllocFailed, Global};
@@ -156,5 +156,34 @@ pub(crate) fn read_area<D: Device>(
             }
             Ok(contents)
         }
+    }
+}
+
+/// Reads the area that is read of the two, with what it holds. Refused as `choose_area` and `read_area` are.
+pub(crate) fn read_areas<D: Device>(
+    alloc: Global,
+    device: &mut D,
+    n: u8,
+    capacity: u32,
+) -> Result<(Chosen, Contents), Refusal>
+    ensures used { IfOk result (λ r. IsUsed capacity (D.disk device.old).image r.0) }
+    ensures base { IfOk result (λ r. HasBase n r.0.start (D.disk device.old).image (reading_of r.0 r.1) r.0.offset) }
+    ensures frames { IfOk result (λ r. ReadsTo r.0.offset (D.disk device.old).image r.1.inputs.items r.1.gate_at) }
+    ensures within { IfOk result (λ r. r.1.gate_at ≤ r.0.start + head_len + capacity) }
+    ensures disk { D.disk device.new ≡ D.disk device.old }
+    ensures any_moment { LeavesOnly D.clock D.left_since device.old device.new (MayLeave (D.disk device.old)) }
+    ensures refusal { IfErr result (λ refusal. IsFault (D.count device.old) (D.count device.new) refusal ⊎ ((refusal ≡ OutOfMemory) ⊎ AreAreasUnread n capacity (D.disk device.old).image refusal)) }
+    ensures later { D.count device.old ≤ D.count device.new }
+    ensures same { OnOk result (D.count device.new ≡ D.count device.old) }
+    ensures first { IfErr result (λ refusal. IsFault (D.count device.old) (D.count device.new) refusal ⊎ (D.count device.new ≡ D.count device.old)) }
+    ensures works { Reaches (D.reach device.old) (length (D.disk device.old).image) → IfErr result (λ refusal. (refusal ≡ OutOfMemory) ⊎ AreAreasUnread n capacity (D.disk device.old).image refusal) }
+    ensures reach { D.reach device.new ≡ D.reach device.old }
+{
+    match choose_area(device, capacity) {
+        Err(refusal) => Err(refusal),
+        Ok(area) => match read_area(alloc, device, n, capacity, &area) {
+            Err(refusal) => Err(refusal),
+            Ok(contents) => Ok((area, contents)),
+        },
     }
 }

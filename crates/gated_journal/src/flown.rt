@@ -4,7 +4,8 @@ ghost use Rattle.ring_records.specs.declared.limits.TheConstants.{BATCH_INPUTS};
 
 use ring_records::{Input, NodeNo};
 
-// Inputs that flew to the device, and how long the snapshot before them is where a checkpoint took them there.
+// Inputs that flew to the device; and how long the snapshot is that stands for all up to them, where a checkpoint took
+// them there.
 pub(crate) struct Flown {
     pub(crate) node: NodeNo,
     pub(crate) first: u64,

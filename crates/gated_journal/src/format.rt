@@ -1,10 +1,11 @@
 //! A new device of two areas.
 ghost use Rattle.std.specs.Prelude.{◌≡◌, ◌+◌, ◌*◌, true, IfOk, OnOk};
 ghost use Rattle.disk_model.specs.Disk.{IsSynced, HasCause, IsInReach};
+ghost use Rattle.ring_records.specs.Admission.{newest};
 ghost use Rattle.ring_records.specs.Member.{member};
 ghost use Rattle.ring_records.specs.Summary.{empty};
-ghost use Rattle.gated_journal.specs.Areas.{area_a, area_b, newest, fresh_area, new_areas, ReadsByAreaAt, IsGate};
-ghost use Rattle.gated_journal.specs.Reading.{is_header};
+ghost use Rattle.gated_journal.specs.Areas.{area_a, area_b, new_areas, ReadsAt, IsGate};
+ghost use Rattle.gated_journal.specs.Reading.{device_size, fresh_area, is_header};
 
 use crate::layout::area_b;
 use disk_model::{Device, DeviceFault};
@@ -32,11 +33,11 @@ pub(crate) fn lay_out<D: Device>(
     capacity: u32,
 ) -> Result<bool, DeviceFault>
     requires range { is_header (member node n capacity) ≡ true }
-    ensures reads { OnOk result (ReadsByAreaAt (member node n capacity) (D.disk device.new).image (fresh_area newest 1 empty) area_a (area_b capacity) 68 68) }
+    ensures reads { OnOk result (ReadsAt (member node n capacity) (D.disk device.new).image (fresh_area newest 1 empty) area_a (area_b capacity) 68 68) }
     ensures gate { IfOk result (λ is_closed. IsGate is_closed (area_b capacity) (D.disk device.new).image) }
     ensures synced { OnOk result (IsSynced (D.disk device.new)) }
     ensures cause { HasCause (D.count device.old) (D.count device.new) result }
-    ensures reach { IsInReach (46 + 2 * capacity) (D.reach device.old) (D.reach device.new) result }
+    ensures reach { IsInReach (device_size capacity) (D.reach device.old) (D.reach device.new) result }
 {
     let second = area_b(capacity);
     let is_there = second < device.size();

@@ -1,19 +1,26 @@
-ghost use Rattle.std.specs.Prelude.{◌≡◌, ◌+◌, ◌++◌, ◌-◌, ◌⊎◌, ◌<◌, ◌≤◌, ◌^◌, ℕ, List, [], true, false, length, min, is_err, IfOk, IfErr, OnOk, OnErr, IsOk};
+ghost use Rattle.std.specs.Prelude.{◌≡◌, ◌+◌, ◌-◌, ◌*◌, ◌⊎◌, ◌<◌, ◌≤◌, ◌^◌, ℕ, List, true, false, length, min, is_err, IfOk, IfErr, OnOk, OnErr, IsOk};
 ghost use Rattle.disk_model.specs.Disk.{MayLeave, LeavesOnly, HasCause, Reaches, synced};
 ghost use Rattle.ring_records.specs.declared.limits.TheConstants.{GREATEST_CAPACITY, LEAST_CAPACITY};
-ghost use Rattle.ring_records.specs.declared.input.Input.{Input};
-ghost use Rattle.ring_records.specs.Admission.{used};
-ghost use Rattle.ring_records.specs.Member.{member, used_by};
-ghost use Rattle.gated_journal.specs.Reading.{device_size, is_header, frames_at, new_image, IsAtRest, ReadsAs, AllReadAs, ReadsAsOneOf};
+ghost use Rattle.ring_records.specs.Admission.{costs_of, newest};
+ghost use Rattle.ring_records.specs.Member.{member};
+ghost use Rattle.ring_records.specs.Snapshot.{IsSound, snapshot_len};
+ghost use Rattle.ring_records.specs.Summary.{empty};
+ghost use Rattle.gated_journal.specs.Areas.{head_len, AreAreas, ReadsAs, AllReadAs, ReadsAsOneOf, IsInUse};
+ghost use Rattle.gated_journal.specs.Reading.{Reading, device_size, with_more, fresh_area, reading_of_opening, count_in, used_in, is_header};
 ghost use Rattle.gated_journal.specs.Unread.{IsFault, IsUnread, IsUnopened};
 
+use crate::area::Chosen;
+use crate::checkpoint::number;
 use crate::commit::append;
+use crate::contents::Contents;
 use crate::flown::Flown;
-use crate::layout::{FRAMES, is_header};
+use crate::format::lay_out;
+use crate::layout::{AREA_A, LAYOUT, area_b, is_header};
 use crate::open::{Opened, open};
-use crate::{Batch, Receipt, Spoiled};
-use disk_model::{Device, FuseDevice, write_through};
-use ring_records::{GREATEST_CAPACITY, Input, LEAST_CAPACITY, NodeNo, Refusal, used_by};
+use crate::replace::replace_area;
+use crate::{Batch, Checkpoint, Opening, Receipt, Spoiled};
+use disk_model::{Device, FuseDevice};
+use ring_records::{NodeNo, Refusal, costs_of, summary_len};
 use std::alloc::Global;
 
 /// The durable inputs of one node, on a device of its own.
@@ -23,66 +30,69 @@ pub struct Journal<D: Device> {
     node: NodeNo,
     n: u8,
     capacity: u32,
-    // where the closed gate is
+    // the area in use, and where its closed gate is
+    area: Chosen,
     gate_at: u64,
     count: u64,
     used: u64,
     is_spoiled: bool,
-    ghost settled: { is_spoiled ≡ false → IsAtRest (member node n capacity) (D.disk device) gate_at count used },
-    ghost from: { frames_at ≤ gate_at },
-    ghost within: { gate_at ≤ frames_at + used },
-    ghost counted: { count ≤ used },
+    ghost settled: { is_spoiled ≡ false
+        → IsInUse (member node n capacity) (D.disk device) area.start area.other area.offset gate_at area.is_closed area.epoch count used },
+    ghost areas: { AreAreas capacity area.start area.other },
+    ghost within: { gate_at ≤ area.start + head_len + used },
+    ghost counted: { count ≤ 2 ^ 56 + used },
     ghost least: { LEAST_CAPACITY ≤ capacity },
     ghost small: { capacity ≤ GREATEST_CAPACITY },
 }
 
-// A header, and a closed gate.
-fn new_image(node: NodeNo, n: u8, capacity: u32) -> [u8; 17]
-    ensures { result ≡ new_image (member node n capacity) }
-{
-    let c = capacity.to_be_bytes();
-    let node = node.number();
-    [
-        b'C', b'R', b'J', b'R', b'N', b'L', b'0', b'1', node, n, c[0], c[1], c[2], c[3], 0, 0, 0,
-    ]
-}
-
 impl<D: Device> Journal<D> {
-    ghost use Rattle.gated_journal.specs.Batch.{shown, landed, lost};
-    ghost use Rattle.gated_journal.specs.Journal.{device_of, member_of, len_of, room_of, is_spoiled};
+    ghost use Rattle.gated_journal.specs.Batch.{shown, numbered_by, base_by, landed, lost};
+    ghost use Rattle.gated_journal.specs.Journal.{device_of, member_of, len_of, room_of, epoch_of, is_spoiled};
 
-    /// An empty journal: one write and one sync. Refused as 2 where `n` is not 2 to 16, `node` is above it, or the
-    /// capacity is not 4,096 to 1,048,576 bytes, and as 15.
+    /// A journal without inputs: one write and one sync, and between them a write of one byte that closes area B, where
+    /// the device goes that far. Refused as 2 where `n` is not 2 to 16, `node` is above it, or the capacity is not 4,096 to 1,048,576
+    /// bytes, and as 15.
     pub fn format(device: D, node: NodeNo, n: u8, capacity: u32) -> Result<Journal<D>, (D, Refusal)>
-        ensures empty { IfOk result (λ journal. AllReadAs (member node n capacity) (D.disk (device_of journal)) []) }
+        ensures empty { IfOk result (λ journal. AllReadAs (member node n capacity) (D.disk (device_of journal)) (fresh_area newest 1 empty)) }
         ensures header { IfOk result (λ journal. member_of journal ≡ member node n capacity) }
         ensures ready { IfOk result (λ journal. is_spoiled journal ≡ false) }
         ensures len { IfOk result (λ journal. len_of journal ≡ 0) }
-        ensures room { IfOk result (λ journal. room_of journal ≡ capacity) }
+        ensures room { IfOk result (λ journal. room_of journal ≡ capacity - 38) }
+        ensures epoch { IfOk result (λ journal. epoch_of journal ≡ 1) }
         ensures range { OnOk result (is_header (member node n capacity) ≡ true) }
         ensures same { IfOk result (λ journal. D.count (device_of journal) ≡ D.count device) }
 
         // Refused as 2, the device is as it was; as 15, the device failed.
         ensures number { IfErr result (λ e. is_header (member node n capacity) ≡ false → (e.1 ≡ Refusal.BadNumber) × (e.0 ≡ device)) }
         ensures fault { IfErr result (λ e. is_header (member node n capacity) ≡ true → (e.1 ≡ Refusal.Device (D.count e.0)) × (min (D.count device + 1) (2 ^ 64 - 1) ≤ D.count e.0)) }
-        ensures works { is_header (member node n capacity) ≡ true → Reaches (D.reach device) 17 → IsOk result }
+        ensures works { is_header (member node n capacity) ≡ true → Reaches (D.reach device) (device_size capacity) → IsOk result }
         ensures reach { IfOk result (λ journal. D.reach (device_of journal) ≡ D.reach device) }
     {
         if !is_header(node, n, capacity) {
             return Err((device, Refusal::BadNumber));
         }
         let mut device = device;
-        match write_through(&mut device, 0, &new_image(node, n, capacity)) {
-            Ok(()) => Ok(Journal {
-                device,
-                node,
-                n,
-                capacity,
-                gate_at: FRAMES,
-                count: 0,
-                used: 0,
-                is_spoiled: false,
-            }),
+        match lay_out(&mut device, node, n, capacity) {
+            Ok(is_closed) => {
+                let area = Chosen {
+                    start: AREA_A,
+                    other: area_b(capacity),
+                    is_closed,
+                    epoch: 1,
+                    offset: 68,
+                };
+                Ok(Journal {
+                    device,
+                    node,
+                    n,
+                    capacity,
+                    area,
+                    gate_at: 68,
+                    count: 0,
+                    used: 38,
+                    is_spoiled: false,
+                })
+            }
             Err(_) => {
                 let failures = device.failures();
                 Err((device, Refusal::Device(failures)))
@@ -90,22 +100,25 @@ impl<D: Device> Journal<D> {
         }
     }
 
-    /// The journal that a device holds, which it makes stable first, and its inputs. What was committed is there, and
-    /// of a batch that a stop came upon all or nothing. Refused as 15; as 17 where there is no header; as 19 where it
-    /// names another node or ring size; as 16 with the offset of what is damaged; and as 8.
+    /// The journal that a device holds, which it makes stable first, and what its area in use holds. What was committed
+    /// is there, and of a batch that a stop came upon all or nothing. Refused as 15; as 17 where there is no header; as 18
+    /// where it is that of a journal without areas; as 19 where it names another node or ring size; as 16 with the offset
+    /// of what is damaged; and as 8.
     pub fn reopen(
         alloc: Global,
         device: D,
         node: NodeNo,
         n: u8,
-    ) -> Result<(Journal<D>, Vec<Input>), (D, Refusal)>
+    ) -> Result<(Journal<D>, Opening), (D, Refusal)>
         // What is read stood there at the start, and stands in every image that a stop may leave afterwards.
-        ensures reads { IfOk result (λ r. ReadsAs (member_of r.0) (D.disk device).image r.1.items) }
-        ensures durable { IfOk result (λ r. AllReadAs (member_of r.0) (D.disk (device_of r.0)) r.1.items) }
+        ensures reads { IfOk result (λ r. ReadsAs (member_of r.0) (D.disk device).image (reading_of_opening r.1)) }
+        ensures durable { IfOk result (λ r. AllReadAs (member_of r.0) (D.disk (device_of r.0)) (reading_of_opening r.1)) }
         ensures header { IfOk result (λ r. ((member_of r.0).node ≡ node) × ((member_of r.0).n ≡ n)) }
         ensures ready { IfOk result (λ r. is_spoiled r.0 ≡ false) }
-        ensures len { IfOk result (λ r. len_of r.0 ≡ length r.1.items) }
-        ensures room { IfOk result (λ r. room_of r.0 ≡ (member_of r.0).capacity - used_by r.1.items) }
+        ensures len { IfOk result (λ r. len_of r.0 ≡ count_in (reading_of_opening r.1)) }
+        ensures room { IfOk result (λ r. room_of r.0 ≡ (member_of r.0).capacity - used_in (reading_of_opening r.1)) }
+        ensures epoch { IfOk result (λ r. epoch_of r.0 ≡ r.1.epoch) }
+        ensures sound { IfOk result (λ r. IsSound n r.1.base) }
 
         // A refusal has its cause. While the device works it is the image's, or want of memory.
         ensures refusal { IfErr result (λ e. IsUnopened node n (D.count device) (D.count e.0) (D.disk device).image e.1) }
@@ -132,21 +145,33 @@ impl<D: Device> Journal<D> {
             Ok(
                 Opened {
                     capacity,
-                    inputs,
-                    gate_at,
+                    area,
+                    contents,
                 },
             ) => {
+                let Contents {
+                    base,
+                    inputs,
+                    gate_at,
+                } = contents;
                 let journal = Journal {
                     device,
                     node,
                     n,
                     capacity,
+                    area,
                     gate_at,
-                    count: inputs.len() as u64,
-                    used: used_by(&inputs),
+                    count: base.inputs + inputs.len() as u64,
+                    used: summary_len(&base) + costs_of(&inputs),
                     is_spoiled: false,
                 };
-                Ok((journal, inputs))
+                let opening = Opening {
+                    layout: LAYOUT,
+                    epoch: area.epoch,
+                    base,
+                    inputs,
+                };
+                Ok((journal, opening))
             }
         }
     }
@@ -158,7 +183,7 @@ impl<D: Device> Journal<D> {
         self.node
     }
 
-    /// The bytes that its inputs may take by their costs, 4,096 to 1,048,576.
+    /// The bytes that its snapshot and its inputs may take, the inputs by their costs, 4,096 to 1,048,576.
     pub fn capacity(&self) -> u32
         ensures value { result ≡ (member_of self.now).capacity }
         ensures from { LEAST_CAPACITY ≤ result }
@@ -167,10 +192,10 @@ impl<D: Device> Journal<D> {
         self.capacity
     }
 
-    /// How many inputs it holds.
+    /// How many inputs it holds, those that are summarised among them.
     pub fn len(&self) -> u64
         ensures value { result ≡ len_of self.now }
-        ensures list { is_spoiled self.now ≡ false → (inputs : List Input) → AllReadAs (member_of self.now) (D.disk (device_of self.now)) inputs → result ≡ length inputs }
+        ensures reading { is_spoiled self.now ≡ false → (r : Reading) → AllReadAs (member_of self.now) (D.disk (device_of self.now)) r → result ≡ count_in r }
     {
         self.count
     }
@@ -178,13 +203,22 @@ impl<D: Device> Journal<D> {
     /// How many bytes of the capacity are left.
     pub fn room(&self) -> u32
         ensures value { result ≡ room_of self.now }
-        ensures list { is_spoiled self.now ≡ false → (inputs : List Input) → AllReadAs (member_of self.now) (D.disk (device_of self.now)) inputs
-            → result ≡ (member_of self.now).capacity - used_by inputs }
+        ensures reading { is_spoiled self.now ≡ false → (r : Reading) → AllReadAs (member_of self.now) (D.disk (device_of self.now)) r
+            → result ≡ (member_of self.now).capacity - used_in r }
     {
         u64::from(self.capacity).saturating_sub(self.used) as u32
     }
 
-    /// Whether the device has failed in a `commit`: then it may hold that batch or not, and nothing more is committed.
+    /// The epoch of its area in use, below 2^40: each checkpoint raises it by 1.
+    pub fn epoch(&self) -> u64
+        ensures value { result ≡ epoch_of self.now }
+        ensures reading { is_spoiled self.now ≡ false → (r : Reading) → AllReadAs (member_of self.now) (D.disk (device_of self.now)) r → result ≡ r.epoch }
+    {
+        self.area.epoch
+    }
+
+    /// Whether the device has failed in a `commit` or a `checkpoint`: then it may hold what was to become durable or not,
+    /// and nothing more is committed.
     pub fn is_spoiled(&self) -> bool
         ensures { result ≡ is_spoiled self.now }
     {
@@ -207,6 +241,7 @@ impl<D: Device> Journal<D> {
             node: _,
             n: _,
             capacity: _,
+            area: _,
             gate_at: _,
             count: _,
             used: _,
@@ -220,15 +255,15 @@ impl<D: Device> Journal<D> {
         requires ready { is_spoiled self.old ≡ false }
         requires node { (shown batch).node ≡ (member_of self.old).node }
         requires first { (shown batch).first ≡ len_of self.old }
-        requires room { used_by (shown batch).inputs ≤ room_of self.old }
+        requires room { costs_of (shown batch).inputs ≤ room_of self.old }
 
-        // A stop at any moment of the call leaves the inputs from before it, with the whole batch or without.
-        ensures any_moment { (inputs : List Input) → AllReadAs (member_of self.old) (D.disk (device_of self.old)) inputs
-            → LeavesOnly D.clock D.left_since (device_of self.old) (device_of self.new) (ReadsAsOneOf (member_of self.old) inputs (inputs ++ (shown batch).inputs)) }
+        // A stop at any moment of the call leaves what was read before it, with the whole batch or without.
+        ensures any_moment { (r : Reading) → AllReadAs (member_of self.old) (D.disk (device_of self.old)) r
+            → LeavesOnly D.clock D.left_since (device_of self.old) (device_of self.new) (ReadsAsOneOf (member_of self.old) r (with_more r (shown batch).inputs)) }
 
         // At `Ok` the batch is durable.
-        ensures durable { OnOk result ((inputs : List Input) → AllReadAs (member_of self.old) (D.disk (device_of self.old)) inputs
-            → AllReadAs (member_of self.old) (D.disk (device_of self.new)) (inputs ++ (shown batch).inputs)) }
+        ensures durable { OnOk result ((r : Reading) → AllReadAs (member_of self.old) (D.disk (device_of self.old)) r
+            → AllReadAs (member_of self.old) (D.disk (device_of self.new)) (with_more r (shown batch).inputs)) }
         ensures spoils { is_spoiled self.new ≡ is_err result }
         ensures cause { HasCause (D.count (device_of self.old)) (D.count (device_of self.new)) result }
         ensures works { Reaches (D.reach (device_of self.old)) (device_size (member_of self.old).capacity) → IsOk result }
@@ -238,7 +273,8 @@ impl<D: Device> Journal<D> {
         ensures header { member_of self.new ≡ member_of self.old }
         ensures len { OnOk result (len_of self.new ≡ len_of self.old + length (shown batch).inputs) }
         ensures kept { OnErr result ((len_of self.new ≡ len_of self.old) × (room_of self.new ≡ room_of self.old)) }
-        ensures left { OnOk result (room_of self.new ≡ room_of self.old - used_by (shown batch).inputs) }
+        ensures left { OnOk result (room_of self.new ≡ room_of self.old - costs_of (shown batch).inputs) }
+        ensures epoch { epoch_of self.new ≡ epoch_of self.old }
     {
         let Batch {
             node,
@@ -266,12 +302,68 @@ impl<D: Device> Journal<D> {
             Err(_) => Err(Spoiled { flown }),
         }
     }
+
+    /// Makes a summary of all inputs durable in place of what the area in use holds, by six device calls. It takes no
+    /// memory. At `Err` the device failed, and the journal is spoiled.
+    pub fn checkpoint(&mut self, checkpoint: Checkpoint) -> Result<Receipt, Spoiled>
+        requires ready { is_spoiled self.old ≡ false }
+        requires node { (numbered_by checkpoint).node ≡ (member_of self.old).node }
+        requires first { (numbered_by checkpoint).first ≡ len_of self.old }
+        requires fits { snapshot_len (base_by checkpoint) ≤ (member_of self.old).capacity }
+        requires sound { IsSound (member_of self.old).n (base_by checkpoint) }
+        requires epoch { epoch_of self.old + 1 < 2 ^ 40 }
+
+        // A stop at any moment of the call leaves what was read before it, or the summary and no inputs behind it.
+        ensures any_moment { (r : Reading) → AllReadAs (member_of self.old) (D.disk (device_of self.old)) r
+            → LeavesOnly D.clock D.left_since (device_of self.old) (device_of self.new) (ReadsAsOneOf (member_of self.old) r (fresh_area newest (epoch_of self.old + 1) (base_by checkpoint))) }
+
+        // At `Ok` the summary is durable.
+        ensures durable { OnOk result ((r : Reading) → AllReadAs (member_of self.old) (D.disk (device_of self.old)) r
+            → AllReadAs (member_of self.old) (D.disk (device_of self.new)) (fresh_area newest (epoch_of self.old + 1) (base_by checkpoint))) }
+        ensures spoils { is_spoiled self.new ≡ is_err result }
+        ensures cause { HasCause (D.count (device_of self.old)) (D.count (device_of self.new)) result }
+        ensures works { Reaches (D.reach (device_of self.old)) (device_size (member_of self.old).capacity) → IsOk result }
+        ensures reach { D.reach (device_of self.new) ≡ D.reach (device_of self.old) }
+        ensures receipt { IfOk result (λ receipt. landed receipt ≡ numbered_by checkpoint) }
+        ensures spoiled { IfErr result (λ spoiled. lost spoiled ≡ numbered_by checkpoint) }
+        ensures header { member_of self.new ≡ member_of self.old }
+        ensures len { OnOk result (len_of self.new ≡ (base_by checkpoint).inputs) }
+        ensures room { OnOk result (room_of self.new ≡ (member_of self.old).capacity - snapshot_len (base_by checkpoint)) }
+        ensures next { OnOk result (epoch_of self.new ≡ epoch_of self.old + 1) }
+        ensures kept { OnErr result ((len_of self.new ≡ len_of self.old) × (room_of self.new ≡ room_of self.old) × (epoch_of self.new ≡ epoch_of self.old)) }
+    {
+        let Checkpoint { flown, base, bytes } = checkpoint;
+        let mut bytes = bytes;
+        let area = self.area;
+        let epoch = area.epoch + 1;
+        number(&mut bytes, epoch);
+        self.is_spoiled = true;
+        match replace_area(&mut self.device, area.other, area.is_closed, &bytes) {
+            Ok(()) => {
+                let used = summary_len(&base);
+                let offset = area.other + 14 + used;
+                self.area = Chosen {
+                    start: area.other,
+                    other: area.start,
+                    is_closed: false,
+                    epoch,
+                    offset,
+                };
+                self.gate_at = offset;
+                self.count = base.inputs;
+                self.used = used;
+                self.is_spoiled = false;
+                Ok(Receipt { flown })
+            }
+            Err(_) => Err(Spoiled { flown }),
+        }
+    }
 }
 
 impl<D: Device> Journal<FuseDevice<D>> {
     ghost use Rattle.disk_model.specs.Fuse.{planned};
     ghost use Rattle.disk_model.specs.FuseDevice.{inner_of, will_fail, own_faults};
-    ghost use Rattle.gated_journal.specs.Journal.{device_of, member_of, len_of, room_of, is_spoiled};
+    ghost use Rattle.gated_journal.specs.Journal.{device_of, member_of, len_of, room_of, epoch_of, is_spoiled};
 
     /// Sets the device's fuse anew: from now on `after` of its calls pass, and then the next fails if `once`, else all
     /// later ones.
@@ -282,6 +374,7 @@ impl<D: Device> Journal<FuseDevice<D>> {
         ensures header { member_of self.new ≡ member_of self.old }
         ensures len { len_of self.new ≡ len_of self.old }
         ensures room { room_of self.new ≡ room_of self.old }
+        ensures epoch { epoch_of self.new ≡ epoch_of self.old }
         ensures spoiled { is_spoiled self.new ≡ is_spoiled self.old }
     {
         self.device.arm(after, once);

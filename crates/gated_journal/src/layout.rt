@@ -1,15 +1,15 @@
 //! Where a journal lies on its device.
-ghost use Rattle.std.specs.Prelude.{◌≡◌, ◌+◌};
+ghost use Rattle.std.specs.Prelude.{◌≡◌};
 ghost use Rattle.ring_records.specs.Member.{member};
 ghost use Rattle.gated_journal.specs.Areas.{area_b};
-ghost use Rattle.gated_journal.specs.Reading.{is_header, device_size};
+ghost use Rattle.gated_journal.specs.Reading.{device_size, is_header};
 
 use ring_records::{GREATEST_CAPACITY, LEAST_CAPACITY, NodeNo};
 
-/// The offset of the frames of a journal of layout 1: they stand behind its header.
-pub(crate) const FRAMES: u64 = 16;
+/// The layout of the areas that are written, and the only one that is read.
+pub(crate) const LAYOUT: u8 = 2;
 
-/// The offset of area A of a journal with two areas: it stands behind the header.
+/// The offset of area A: it stands behind the header.
 pub(crate) const AREA_A: u64 = 16;
 
 /// The offset of area B: it stands where area A ends at the latest.
@@ -31,9 +31,10 @@ pub fn is_header(node: NodeNo, n: u8, capacity: u32) -> bool
         && capacity <= GREATEST_CAPACITY
 }
 
-/// How many bytes of a device a journal of this capacity may come to use: its header, its frames, and a gate.
+/// How many bytes of a device a journal of this capacity may come to use: its header and two areas. Each of these has 14
+/// bytes of its own before the capacity, and a gate behind it.
 pub fn device_size(capacity: u32) -> u64
     ensures { result ≡ device_size capacity }
 {
-    FRAMES + u64::from(capacity) + 1
+    area_b(capacity) + 15 + u64::from(capacity)
 }

@@ -1,26 +1,26 @@
 //! What a device holds, read from its start.
-ghost use Rattle.std.specs.Prelude.{◌≡◌, ◌+◌, ◌≤◌, ◌<◌, ◌^◌, ◌⊎◌, ℕ, List, Ok, Err, length, IfOk, IfErr, OnOk, OnErr};
-ghost use Rattle.disk_model.specs.Disk.{MayLeave, IsSynced, IsPart, LeavesOnly, Reaches, IsInReach, synced};
+ghost use Rattle.std.specs.Prelude.{◌≡◌, ◌≤◌, ◌⊎◌, ℕ, List, Ok, Err, length, IfOk, IfErr, OnOk, OnErr};
+ghost use Rattle.disk_model.specs.Disk.{MayLeave, IsSynced, LeavesOnly, Reaches, IsInReach, synced};
 ghost use Rattle.ring_records.specs.declared.refusal.Refusal.TheVariants.{OutOfMemory};
 ghost use Rattle.ring_records.specs.Member.{member};
+ghost use Rattle.gated_journal.specs.Areas.{ReadsAt, IsGate};
+ghost use Rattle.gated_journal.specs.Choose.{reading_of};
 ghost use Rattle.gated_journal.specs.Frames.{ReadsTo};
-ghost use Rattle.gated_journal.specs.Reading.{ReadsAt};
-ghost use Rattle.gated_journal.specs.Unread.{head_at, header_at, IsFault, IsBroken, IsUnread, IsUnopened};
+ghost use Rattle.gated_journal.specs.Unread.{head_at, header_at, IsFault, IsUnread, IsUnopened};
 
-use crate::layout::FRAMES;
-use crate::scan::{Unread, scan};
+use crate::area::Chosen;
+use crate::contents::{Contents, read_areas};
+use crate::read::read_part;
 use disk_model::Device;
-use ring_records::{GREATEST_CAPACITY, Input, LEAST_CAPACITY, NodeNo, Refusal};
-use std::alloc::{AllocFailed, Global};
+use ring_records::{GREATEST_CAPACITY, LEAST_CAPACITY, NodeNo, Refusal};
+use std::alloc::Global;
 
-/// What a journal is opened with.
+/// What is found on a device.
 #[derive(Drop)]
 pub(crate) struct Opened {
     pub(crate) capacity: u32,
-    pub(crate) inputs: Vec<Input>,
-    // where the closed gate is
-    pub(crate) gate_at: u64,
-    ghost small: { gate_at < 2 ^ 63 + 16 },
+    pub(crate) area: Chosen,
+    pub(crate) contents: Contents,
 }
 
 // Makes what a read gives stable.
@@ -42,27 +42,14 @@ fn settle<D: Device>(device: &mut D) -> Result<(), Refusal>
     }
 }
 
-/// Reads the bytes from `off` on.
-pub(crate) fn read_part<D: Device>(device: &mut D, off: u64, buf: &mut [u8]) -> Result<(), Refusal>
-    ensures part { OnOk result (IsPart off buf.new (D.disk device.old).image) }
-    ensures disk { D.disk device.new ≡ D.disk device.old }
-    ensures any_moment { LeavesOnly D.clock D.left_since device.old device.new (MayLeave (D.disk device.old)) }
-    ensures fault { IfErr result (λ refusal. IsFault (D.count device.old) (D.count device.new) refusal) }
-    ensures later { D.count device.old ≤ D.count device.new }
-    ensures same { OnOk result (D.count device.new ≡ D.count device.old) }
-    ensures reach { IsInReach (off + length buf.old) (D.reach device.old) (D.reach device.new) result }
-{
-    match device.read_at(off, buf) {
-        Ok(()) => Ok(()),
-        Err(_) => Err(Refusal::Device(device.failures())),
-    }
-}
-
 // The capacity that a header names.
 fn capacity_of(head: &[u8; 16], node: NodeNo, n: u8) -> Result<u32, Refusal>
     ensures { result ≡ head_at node n head.now }
 {
-    if !head.starts_with(b"CRJRNL01") {
+    if !head.starts_with(b"CRJRNL02") {
+        if head.starts_with(b"CRJRNL01") {
+            return Err(Refusal::OldLayout(1));
+        }
         return Err(Refusal::NotFormatted);
     }
     if !(head[8] == node.number() && head[9] == n) {
@@ -108,39 +95,6 @@ fn read_header<D: Device>(device: &mut D, node: NodeNo, n: u8) -> Result<u32, Re
     capacity_of(&head, node, n)
 }
 
-/// Reads the frames from `from` on: their inputs, and the offset of the closed gate.
-pub(crate) fn read_frames<D: Device>(
-    alloc: Global,
-    device: &mut D,
-    from: u64,
-) -> Result<(Vec<Input>, u64), Refusal>
-    requires long { from ≤ length (D.disk device.old).image }
-    requires near { from < 2 ^ 40 }
-    ensures frames { IfOk result (λ read. ReadsTo from (D.disk device.old).image read.0.items read.1) }
-    ensures small { IfOk result (λ read. read.1 < 2 ^ 63 + from) }
-    ensures disk { D.disk device.new ≡ D.disk device.old }
-    ensures any_moment { LeavesOnly D.clock D.left_since device.old device.new (MayLeave (D.disk device.old)) }
-    ensures refusal { IfErr result (λ refusal. IsFault (D.count device.old) (D.count device.new) refusal ⊎ ((refusal ≡ OutOfMemory) ⊎ IsBroken from (D.disk device.old).image refusal)) }
-    ensures later { D.count device.old ≤ D.count device.new }
-    ensures same { OnOk result (D.count device.new ≡ D.count device.old) }
-    ensures first { IfErr result (λ refusal. IsFault (D.count device.old) (D.count device.new) refusal ⊎ (D.count device.new ≡ D.count device.old)) }
-    ensures works { Reaches (D.reach device.old) (length (D.disk device.old).image) → IfErr result (λ refusal. (refusal ≡ OutOfMemory) ⊎ IsBroken from (D.disk device.old).image refusal) }
-    ensures reach { D.reach device.new ≡ D.reach device.old }
-{
-    let size = device.size() as usize;
-    let Ok(mut bytes) = vec![in alloc; 0; size - from as usize] else {
-        return Err(Refusal::OutOfMemory);
-    };
-    if let Err(refusal) = read_part(device, from, &mut bytes) {
-        return Err(refusal);
-    }
-    match scan(alloc, &bytes) {
-        Ok((inputs, gate_at)) => Ok((inputs, from + gate_at)),
-        Err(Unread::Damaged(gate_at)) => Err(Refusal::Damaged(from + gate_at)),
-        Err(Unread::Memory) => Err(Refusal::OutOfMemory),
-    }
-}
-
 /// Makes the device stable, and reads the whole of it: the journal of this node of a ring of `n`.
 pub(crate) fn open<D: Device>(
     alloc: Global,
@@ -148,7 +102,9 @@ pub(crate) fn open<D: Device>(
     node: NodeNo,
     n: u8,
 ) -> Result<Opened, Refusal>
-    ensures reads { IfOk result (λ opened. ReadsAt (member node n opened.capacity) (D.disk device.old).image opened.inputs.items opened.gate_at) }
+    ensures reads { IfOk result (λ opened. ReadsAt (member node n opened.capacity) (D.disk device.old).image (reading_of opened.area opened.contents)
+        opened.area.start opened.area.other opened.area.offset opened.contents.gate_at) }
+    ensures gate { IfOk result (λ opened. IsGate opened.area.is_closed opened.area.other (D.disk device.old).image) }
     ensures synced { OnOk result (IsSynced (D.disk device.new)) }
     ensures disk { OnOk result (D.disk device.new ≡ synced (D.disk device.old)) }
     ensures kept { (D.disk device.new ≡ D.disk device.old) ⊎ (D.disk device.new ≡ synced (D.disk device.old)) }
@@ -163,12 +119,12 @@ pub(crate) fn open<D: Device>(
 {
     match read_header(device, node, n) {
         Err(refusal) => Err(refusal),
-        Ok(capacity) => match read_frames(alloc, device, FRAMES) {
+        Ok(capacity) => match read_areas(alloc, device, n, capacity) {
             Err(refusal) => Err(refusal),
-            Ok((inputs, gate_at)) => Ok(Opened {
+            Ok((area, contents)) => Ok(Opened {
                 capacity,
-                inputs,
-                gate_at,
+                area,
+                contents,
             }),
         },
     }

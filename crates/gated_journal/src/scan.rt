@@ -4,7 +4,7 @@ ghost use Rattle.std.specs.Int.{w16, w32, to_be_bytes};
 ghost use Rattle.ring_records.specs.declared.input.Input.{Input};
 ghost use Rattle.gated_journal.specs.Frames.{records, body, IsBatch, HaveRecords, ReadsTo};
 ghost use Rattle.gated_journal.specs.Scan.{HasHead, TakesRecords, TakesFrame};
-ghost use Rattle.gated_journal.specs.Unread.{NoFrame, IsDamagedAt};
+ghost use Rattle.gated_journal.specs.Damage.{NoFrame, IsDamagedAt};
 
 use ring_records::{BATCH_INPUTS, Input, read_record};
 use std::alloc::{AllocError, AllocFailed, Global};

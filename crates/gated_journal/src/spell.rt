@@ -1,7 +1,7 @@
 //! A frame's bytes.
-ghost use Rattle.std.specs.Prelude.{◌≡◌, ◌≤◌, ◌+◌, ◌*◌, ◌++◌, ◌∷◌, [], length, IfOk, OnOk};
-ghost use Rattle.ring_records.specs.Admission.{used};
-ghost use Rattle.ring_records.specs.Member.{used_by};
+ghost use Rattle.std.specs.Prelude.{◌≡◌, ◌≤◌, ◌+◌, ◌*◌, ◌^◌, ◌<◌, ◌++◌, ◌∷◌, [], length, IfOk, OnOk};
+ghost use Rattle.ring_records.specs.declared.limits.TheConstants.{BATCH_INPUTS};
+ghost use Rattle.ring_records.specs.Admission.{costs_of};
 ghost use Rattle.ring_records.specs.Record.{AreBytes, HasRecord, record_of};
 ghost use Rattle.gated_journal.specs.Frames.{IsFrame, records};
 
@@ -11,7 +11,7 @@ use std::alloc::{AllocError, Global};
 /// The bytes of the capacity that the inputs take together.
 pub(crate) fn cost_of(inputs: &[Input]) -> u32
     requires { length inputs.now ≤ BATCH_INPUTS }
-    ensures value { result ≡ used_by inputs.now }
+    ensures value { result ≡ costs_of inputs.now }
     ensures records { result ≡ length (records inputs.now) + 7 * length inputs.now }
     ensures bound { result ≤ 42 * BATCH_INPUTS }
 {

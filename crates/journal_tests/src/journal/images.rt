@@ -1,149 +1,152 @@
-// Each fault of an image, with its offset, and which of two comes first.
+// Each fault of an image, with its offset, and which of two comes first; and which of two areas is read.
 use super::*;
+use ring_records::Refusal::{Damaged, NotFormatted, OldLayout, WrongNode};
+use test_rows::Note::Token;
 
-/// Bytes of row `one_commit` that are changed, and the fault.
-struct Row {
-    changes: &'static [(usize, u8)],
-    refusal: Refusal,
-}
+/// Bytes that are changed, and how many inputs are read then in which epoch, or the fault.
+type Row = (&'static [(u64, u8)], Result<(u64, u64), Refusal>);
 
-const ROWS: [Row; 21] = [
+/// Changes of row `one_commit`.
+const ONE_AREA: [Row; 43] = [
     // The mark, the node, the ring's size.
-    Row {
-        changes: &[(0, b'c')],
-        refusal: Refusal::NotFormatted,
-    },
-    Row {
-        changes: &[(7, b'2')],
-        refusal: Refusal::NotFormatted,
-    },
-    Row {
-        changes: &[(8, 2)],
-        refusal: Refusal::WrongNode,
-    },
-    Row {
-        changes: &[(9, 4)],
-        refusal: Refusal::WrongNode,
-    },
+    (&[(0, b'c')], Err(NotFormatted)),
+    (&[(7, b'1')], Err(OldLayout(1))),
+    (&[(7, b'3')], Err(NotFormatted)),
+    (&[(8, 2)], Err(WrongNode)),
+    (&[(9, 4)], Err(WrongNode)),
     // A capacity of 4,095 and of 1,048,577, and the blank bytes.
-    Row {
-        changes: &[(12, 0x0F), (13, 0xFF)],
-        refusal: Refusal::Damaged(10),
-    },
-    Row {
-        changes: &[(11, 0x10), (12, 0), (13, 1)],
-        refusal: Refusal::Damaged(10),
-    },
-    Row {
-        changes: &[(14, 1)],
-        refusal: Refusal::Damaged(14),
-    },
-    Row {
-        changes: &[(15, 1)],
-        refusal: Refusal::Damaged(14),
-    },
-    // Counts of 0, 2, 65 and 257.
-    Row {
-        changes: &[(18, 0)],
-        refusal: Refusal::Damaged(16),
-    },
-    Row {
-        changes: &[(18, 2)],
-        refusal: Refusal::Damaged(16),
-    },
-    Row {
-        changes: &[(18, 65)],
-        refusal: Refusal::Damaged(16),
-    },
-    Row {
-        changes: &[(17, 1)],
-        refusal: Refusal::Damaged(16),
-    },
+    (&[(12, 0x0F), (13, 0xFF)], Err(Damaged(10))),
+    (&[(11, 0x10), (12, 0), (13, 1)], Err(Damaged(10))),
+    (&[(14, 1)], Err(Damaged(14))),
+    (&[(15, 1)], Err(Damaged(14))),
+    // The gate and the layout of the area.
+    (&[(16, 0)], Err(Damaged(16))),
+    (&[(16, 2)], Err(Damaged(16))),
+    (&[(17, 1)], Err(Damaged(16))),
+    (&[(17, 3)], Err(Damaged(16))),
+    // Epochs of 0, 2^39, 2^40 and 2^56.
+    (&[(25, 0)], Ok((1, 0))),
+    (&[(21, 0x80), (25, 0)], Ok((1, 1 << 39))),
+    (&[(20, 1)], Err(Damaged(16))),
+    (&[(18, 1)], Err(Damaged(16))),
+    // A size one too small, one too large, all there is, one more, and far too large.
+    (&[(29, 37)], Err(Damaged(16))),
+    (&[(29, 39)], Err(Damaged(16))),
+    (&[(29, 59)], Err(Damaged(16))),
+    (&[(29, 60)], Err(Damaged(16))),
+    (&[(26, 255)], Err(Damaged(16))),
+    // A snapshot of one input, of a Take among none, of a key that is not there.
+    (&[(37, 1)], Ok((2, 1))),
+    (&[(45, 1)], Err(Damaged(16))),
+    (&[(67, 1)], Err(Damaged(16))),
+    // A first gate that is closed by another byte; counts of 0, 2, 65 and 257.
+    (&[(68, 7)], Ok((0, 1))),
+    (&[(70, 0)], Err(Damaged(68))),
+    (&[(70, 2)], Err(Damaged(68))),
+    (&[(70, 65)], Err(Damaged(68))),
+    (&[(69, 1)], Err(Damaged(68))),
     // A length one too small, one too large, and far too large.
-    Row {
-        changes: &[(22, 12)],
-        refusal: Refusal::Damaged(16),
-    },
-    Row {
-        changes: &[(22, 14)],
-        refusal: Refusal::Damaged(16),
-    },
-    Row {
-        changes: &[(19, 1)],
-        refusal: Refusal::Damaged(16),
-    },
-    // A record's kind, name and term.
-    Row {
-        changes: &[(23, 5)],
-        refusal: Refusal::Damaged(16),
-    },
-    Row {
-        changes: &[(25, b'R')],
-        refusal: Refusal::Damaged(16),
-    },
-    Row {
-        changes: &[(31, 0)],
-        refusal: Refusal::Damaged(16),
-    },
+    (&[(74, 12)], Err(Damaged(68))),
+    (&[(74, 14)], Err(Damaged(68))),
+    (&[(71, 1)], Err(Damaged(68))),
+    // A record's kind, name and term; and a next gate with nothing behind it.
+    (&[(75, 5)], Err(Damaged(68))),
+    (&[(77, b'R')], Err(Damaged(68))),
+    (&[(83, 0)], Err(Damaged(68))),
+    (&[(88, 1)], Err(Damaged(88))),
     // Two faults: the first one.
-    Row {
-        changes: &[(0, 0), (8, 2)],
-        refusal: Refusal::NotFormatted,
-    },
-    Row {
-        changes: &[(8, 2), (12, 0)],
-        refusal: Refusal::WrongNode,
-    },
-    Row {
-        changes: &[(12, 0), (14, 1)],
-        refusal: Refusal::Damaged(10),
-    },
+    (&[(0, 0), (8, 2)], Err(NotFormatted)),
+    (&[(7, b'1'), (8, 2)], Err(OldLayout(1))),
+    (&[(8, 2), (12, 0)], Err(WrongNode)),
+    (&[(12, 0), (14, 1)], Err(Damaged(10))),
+    (&[(14, 1), (16, 0)], Err(Damaged(14))),
+    (&[(20, 1), (70, 0)], Err(Damaged(16))),
 ];
 
-/// Row `one_commit` with these changes has this fault.
-fn is_refused<R: Abort + AllocGlobal>(rt: &R, row: &Row) {
-    let mut image = COMMITTED;
-    for (place, byte) in row.changes {
-        assert!(rt; *place < image.len());
-        image[*place] = *byte;
+/// Changes of the same with area B behind it, which is read.
+const TWO_AREAS: [Row; 17] = [
+    // Area B in epoch 2, in A's epoch, and in an earlier one.
+    (&[], Ok((1, 2))),
+    (&[(4136, 1)], Err(Damaged(16))),
+    (&[(4136, 0)], Ok((1, 1))),
+    // One of them does not count, or none.
+    (&[(4127, 0)], Ok((1, 1))),
+    (&[(4127, 7)], Ok((1, 1))),
+    (&[(4128, 1)], Ok((1, 1))),
+    (&[(4128, 3)], Ok((1, 1))),
+    (&[(16, 0)], Ok((1, 2))),
+    (&[(17, 3), (4136, 0)], Ok((1, 0))),
+    (&[(16, 0), (4127, 0)], Err(Damaged(16))),
+    // The one that is read is broken: its epoch, its size, its snapshot, its first gate.
+    (&[(4131, 1)], Err(Damaged(4127))),
+    (&[(20, 1)], Err(Damaged(16))),
+    (&[(4140, 64)], Err(Damaged(4127))),
+    (&[(4140, 66)], Err(Damaged(4127))),
+    (&[(4205, 4)], Err(Damaged(4127))),
+    (&[(4206, 1)], Err(Damaged(4206))),
+    // The one that is not read is broken.
+    (&[(26, 255), (70, 0)], Ok((1, 2))),
+];
+
+/// With these changes the device is read so.
+fn is_read(rt: &(impl Abort + AllocGlobal), image: MemDevice, row: &Row) {
+    let mut device = image;
+    for (at, byte) in row.0 {
+        assert!(rt; device.write_at(*at, &[*byte]).is_ok());
     }
-    let found = reopened(rt.alloc(), &image, 1);
-    assert_eq!(rt; found.err(), Some(row.refusal));
+    assert_eq!(rt; found(rt.alloc(), device), row.1);
 }
 
 #[test]
-fn the_first_fault_is_told(rt: HostRuntime) -> Result<(), Fail> {
-    for row in &ROWS {
-        is_refused(&rt, row);
+fn each_image_has_its_answer(rt: HostRuntime) {
+    for row in &ONE_AREA {
+        is_read(&rt, device(&rt, &[(0, &COMMITTED)]), row);
     }
-    Ok(())
+    for row in &TWO_AREAS {
+        is_read(&rt, device(&rt, &[(0, &COMMITTED), (AREA_B, &SECOND)]), row);
+    }
+    // Bytes behind the closed gate mean nothing.
+    is_read(
+        &rt,
+        device(&rt, &[(0, &[1; 200]), (0, &COMMITTED)]),
+        &(&[], Ok((1, 1))),
+    );
 }
 
 #[test]
-fn bytes_behind_the_closed_gate_mean_nothing(rt: HostRuntime) -> Result<(), Fail> {
-    let mut image = [1; 60];
-    image[..37].copy_from_slice(&COMMITTED);
-    assert_eq!(rt; reopened(rt.alloc(), &image, 1)?.len(), 1);
-    Ok(())
+fn frames_end_within_the_capacity(rt: HostRuntime) {
+    // Two frames of 64 of the longest inputs: the closed gate is at 68 + 2 * 2,247, which is 30 behind 4,532.
+    let mut journal = formatted(&rt, device(&rt, &[]), 6000);
+    let longest = Op::Take(0, Token("abcdefghijklmnop", 1, 1, 1)).input();
+    let inputs = [longest.expect(&rt, "an input"); 64];
+    assert!(rt; commits(&rt, &mut journal, &inputs));
+    assert!(rt; commits(&rt, &mut journal, &inputs));
+    let mut ends = journal.into_device();
+    assert_eq!(rt; ends.size(), 4563);
+    let mut image = [0; 4563];
+    assert!(rt; ends.read_at(0, &mut image).is_ok());
+    for (capacity, read) in [
+        ([0x11, 0xB4], Ok((128, 1))),
+        ([0x11, 0xB3], Err(Damaged(16))),
+        ([0x10, 0], Err(Damaged(16))),
+    ] {
+        let device = device(&rt, &[(0, &image), (12, &capacity)]);
+        assert_eq!(rt; found(rt.alloc(), device), read);
+    }
 }
 
 #[test]
-fn a_device_that_fails_is_told(rt: HostRuntime) -> Result<(), Fail> {
-    // The calls are a sync, a read of the header and a read of the frames.
-    for after in 0..3 {
-        let mut inner = MemDevice::new(rt.alloc(), 64)?;
-        inner.write_at(0, &COMMITTED)?;
+fn a_device_that_fails_is_told(rt: HostRuntime) {
+    // The calls are a sync and reads of the header, of both heads, of the snapshot and of the frames.
+    for after in 0..6 {
+        let inner = device(&rt, &[(0, &COMMITTED), (AREA_B, &SECOND)]);
         let device = FuseDevice::new(inner, after, true);
-        match Journal::reopen(rt.alloc(), device, NodeNo::new(1)?, 3) {
-            Ok(_) => return Err(Refusal::Failed.into()),
+        match Journal::reopen(rt.alloc(), device, NodeNo::first(), 3) {
+            Ok(_) => panic!(rt; "no call failed"),
             Err((device, refusal)) => {
                 assert_eq!(rt; refusal, Refusal::Device(1));
-                match Journal::reopen(rt.alloc(), device, NodeNo::new(1)?, 3) {
-                    Ok((_journal, found)) => assert_eq!(rt; found.len(), 1),
-                    Err((_device, refusal)) => return Err(refusal.into()),
-                }
+                assert_eq!(rt; reopened(&rt, device).0.epoch(), 2);
             }
         }
     }
-    Ok(())
 }

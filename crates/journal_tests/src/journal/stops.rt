@@ -1,65 +1,138 @@
-// A stop at each of the four calls of a commit, with each tear: the list from before it, or with the whole batch. And how
-// many calls of the device there are.
+// A stop at each of the four calls of a commit, and at each of the six of a checkpoint, with each tear: what was there
+// before it, or all of it. And how many calls of the device there are.
 use super::*;
-use disk_model::Tear;
 
-/// How many inputs are found after a stop of the commit of a second input, at its call behind so many that passed.
-fn found<R: Abort + AllocGlobal>(rt: &R, passed: u64, tear: Tear) -> Result<usize, Fail> {
-    let mut journal = fresh(rt.alloc())?;
-    assert!(rt; commits(rt, &mut journal, &[stand()?])?);
+const TEARS: [Tear; 5] = [
+    Tear::Old,
+    Tear::New,
+    Tear::Fill(0),
+    Tear::Fill(1),
+    Tear::Fill(165),
+];
+
+/// Whether a tear leaves a gate of 1 where that was written over a closed one.
+fn opens(tear: Tear) -> bool {
+    tear == Tear::New || tear == Tear::Fill(1)
+}
+
+/// How many inputs are found after a stop of the commit of a second one, at its call behind so many that passed.
+fn of_commit<R: Abort + AllocGlobal>(rt: &R, passed: u64, tear: Tear) -> u64 {
+    let mut journal = fresh(rt);
+    assert!(rt; commits(rt, &mut journal, &[stand(rt)]));
     journal.arm(passed, false);
-    assert!(rt; !commits(rt, &mut journal, &[Input::Acked { upto: 1 }])?);
+    assert!(rt; !commits(rt, &mut journal, &[Input::Acked { upto: 1 }]));
     let mut device = journal.into_device().into_inner();
     device.crash(tear);
-    match Journal::reopen(rt.alloc(), device, NodeNo::new(1)?, 3) {
-        Ok((journal, inputs)) => {
-            assert_eq!(rt; journal.len(), inputs.len() as u64);
-            Ok(inputs.len())
-        }
-        Err((_device, refusal)) => Err(refusal.into()),
-    }
+    let (journal, opening) = reopened(rt, device);
+    assert_eq!(rt; journal.len(), opening.inputs.len() as u64);
+    journal.len()
 }
 
 #[test]
-fn a_commit_that_is_stopped_leaves_all_or_nothing(rt: HostRuntime) -> Result<(), Fail> {
+fn a_commit_that_is_stopped_leaves_all_or_nothing(rt: HostRuntime) {
     // The first call writes the frame and the second syncs it: the gate is closed. The third writes the gate and the
     // fourth syncs it: the batch is there where the tear leaves a gate of 1.
-    for (tear, at_the_gate) in [
-        (Tear::Old, 1),
-        (Tear::New, 2),
-        (Tear::Fill(0), 1),
-        (Tear::Fill(1), 2),
-        (Tear::Fill(165), 1),
-    ] {
-        assert_eq!(rt; found(&rt, 0, tear)?, 1);
-        assert_eq!(rt; found(&rt, 1, tear)?, 1);
-        assert_eq!(rt; found(&rt, 2, tear)?, at_the_gate);
-        assert_eq!(rt; found(&rt, 3, tear)?, at_the_gate);
-    }
-    Ok(())
-}
-
-#[test]
-fn a_commit_is_four_calls(rt: HostRuntime) -> Result<(), Fail> {
-    let mut journal = fresh(rt.alloc())?;
-    journal.arm(4, false);
-    assert!(rt; commits(&rt, &mut journal, &[stand()?])?);
-    assert!(rt; !commits(&rt, &mut journal, &[Input::Acked { upto: 1 }])?);
-    Ok(())
-}
-
-#[test]
-fn formatting_is_two_calls(rt: HostRuntime) -> Result<(), Fail> {
-    for (after, expected) in [
-        (0, Some(Refusal::Device(1))),
-        (1, Some(Refusal::Device(1))),
-        (2, None),
-    ] {
-        let device = FuseDevice::new(MemDevice::new(rt.alloc(), 17)?, after, true);
-        match Journal::format(device, NodeNo::new(1)?, 3, 4096) {
-            Ok(_journal) => assert_eq!(rt; expected, None),
-            Err((_device, refusal)) => assert_eq!(rt; expected, Some(refusal)),
+    for tear in TEARS {
+        for passed in 0..4 {
+            let count = if passed >= 2 && opens(tear) { 2 } else { 1 };
+            assert_eq!(rt; of_commit(&rt, passed, tear), count, "{passed}");
         }
     }
-    Ok(())
+}
+
+/// The device that is left where a checkpoint is stopped on it, at its call behind so many that passed.
+fn checkpoint_stopped<R: Abort + AllocGlobal>(
+    rt: &R,
+    image: MemDevice,
+    passed: u64,
+    tear: Tear,
+) -> MemDevice {
+    let (mut journal, _opening) = reopened(rt, FuseDevice::idle(image));
+    journal.arm(passed, false);
+    assert!(rt; !takes_checkpoint(rt, &mut journal, &[], &SECOND[14..79]));
+    let mut device = journal.into_device().into_inner();
+    device.crash(tear);
+    device
+}
+
+#[test]
+fn a_checkpoint_that_is_stopped_leaves_all_or_nothing(rt: HostRuntime) {
+    // Two calls close the area that is not in use, two write it behind its gate, and two open it. The device ends with
+    // the area in use, or has a closed area B already, with zeros behind its gate.
+    for last in [&[0_u8; 0][..], &[0; 81]] {
+        for tear in TEARS {
+            for passed in 0..6 {
+                let epoch = if passed >= 4 && opens(tear) { 2 } else { 1 };
+                let image = device(&rt, &[(0, &COMMITTED), (AREA_B, last)]);
+                let left = checkpoint_stopped(&rt, image, passed, tear);
+                assert_eq!(rt; found(rt.alloc(), left), Ok((1, epoch)), "{passed}");
+            }
+        }
+    }
+}
+
+#[test]
+fn each_write_of_a_checkpoint_has_its_bytes(rt: HostRuntime) {
+    // What stands in area B before and after each of its writes, by a tear that keeps none or all of it.
+    let mut closed = SECOND;
+    closed[0] = 0;
+    let rows: [(u64, Tear, &[u8]); 6] = [
+        (0, Tear::Old, &[]),
+        (0, Tear::New, &[0]),
+        (2, Tear::Old, &[0]),
+        (2, Tear::New, &closed),
+        (4, Tear::Old, &closed),
+        (4, Tear::New, &SECOND),
+    ];
+    for (passed, tear, wanted) in rows {
+        let image = device(&rt, &[(0, &COMMITTED)]);
+        let mut left = checkpoint_stopped(&rt, image, passed, tear);
+        let end = if wanted.is_empty() {
+            89
+        } else {
+            AREA_B + wanted.len() as u64
+        };
+        assert_eq!(rt; left.size(), end, "{passed}");
+        holds(&rt, &mut left, 0, &COMMITTED);
+        holds(&rt, &mut left, AREA_B, wanted);
+    }
+}
+
+#[test]
+fn a_stopped_checkpoint_is_not_opened_by_the_next(rt: HostRuntime) {
+    // The first one leaves a whole area behind a closed gate, which no tear of the next one's first write opens.
+    let image = device(&rt, &[(0, &COMMITTED)]);
+    let staged = checkpoint_stopped(&rt, image, 4, Tear::Old);
+    let mut left = checkpoint_stopped(&rt, staged, 0, Tear::Fill(1));
+    let mut closed = SECOND;
+    closed[..2].copy_from_slice(&[0, 1]);
+    holds(&rt, &mut left, AREA_B, &closed);
+    assert_eq!(rt; found(rt.alloc(), left), Ok((1, 1)));
+}
+
+#[test]
+fn a_commit_is_four_calls_and_a_checkpoint_six(rt: HostRuntime) {
+    let mut journal = fresh(&rt);
+    journal.arm(10, false);
+    assert!(rt; commits(&rt, &mut journal, &[stand(&rt)]));
+    assert!(rt; takes_checkpoint(&rt, &mut journal, &[], &SECOND[14..79]));
+    assert!(rt; !commits(&rt, &mut journal, &[Input::Acked { upto: 1 }]));
+}
+
+#[test]
+fn formatting_is_two_calls_or_three(rt: HostRuntime) {
+    // On a device with a byte where area B begins there is a third, which closes that area.
+    for (old, calls) in [(&[][..], 2), (&[1], 3)] {
+        for after in 0..4 {
+            let inner = device(&rt, &[(AREA_B, old)]);
+            let device = FuseDevice::new(inner, after, true);
+            match Journal::format(device, NodeNo::first(), 3, 4096) {
+                Ok(_journal) => assert!(rt; after >= calls),
+                Err((_device, refusal)) => {
+                    assert!(rt; after < calls);
+                    assert_eq!(rt; refusal, Refusal::Device(1));
+                }
+            }
+        }
+    }
 }

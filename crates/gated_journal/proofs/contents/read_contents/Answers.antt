@@ -1,7 +1,8 @@
 use Rattle.std.proofs.Common.{inl, inr, ⊎_elim, ℕ, length, subst, sym}
 use Rattle.disk_model.specs.Disk.{Disk, Reach, Reaches}
 use Rattle.gated_journal.specs.Frames.{ReadsTo}
-use Rattle.gated_journal.specs.Unread.{IsFault, IsBroken}
+use Rattle.gated_journal.specs.Unread.{IsFault}
+use Rattle.gated_journal.specs.Damage.{IsBroken}
 use Rattle.gated_journal.proofs.contents.read_contents.Goals as goal
 
 pub returns-in-Err-clause-refusal : goal.returns-in-Err-clause-refusal

@@ -1,11 +1,13 @@
 use Rattle.std.proofs.Common.{◌≡◌, ◌+◌, ℕ, List, [], ◌∷◌, Bool, nat_lt, sym, ap, subst, arith}
 use Rattle.std.proofs.lemmas.Bool.{lt-ltb, le-ltb}
 use Rattle.disk_model.specs.Disk.{Disk, Puts}
+use Rattle.ring_records.specs.Admission.{newest}
 use Rattle.ring_records.specs.Member.{member}
 use Rattle.ring_records.specs.Summary.{empty}
-use Rattle.gated_journal.specs.Areas.{newest, fresh_area, new_areas, ReadsByAreaAt, IsGate}
+use Rattle.gated_journal.specs.Areas.{new_areas, ReadsAt, IsGate}
+use Rattle.gated_journal.specs.Reading.{fresh_area}
 use Rattle.gated_journal.proofs.AreaFormatted.{laid_short, laid_long, gate_short, gate_long}
-use Rattle.gated_journal.proofs.Rest.{in_range}
+use Rattle.gated_journal.proofs.Costs.{in_range}
 use Rattle.gated_journal.proofs.format.lay_out.Goals as goal
 use Rattle.gated_journal.proofs.format.lay_out.Goals.{then-is_there+in_ok-write_at-2, else-is_there}
 
@@ -15,7 +17,7 @@ returns-clause-reads g c =
     let range = in_range header c.requires.range in
     let old = (g.D.Device.disk c.args.device.now).image in
     let mid = (g.D.Device.disk c.write_at.new.self).image in
-    let P = λ (image : List ℕ). ReadsByAreaAt header image (fresh_area newest 1 empty) 16 (31 + c.args.capacity) 68 68 in
+    let P = λ (image : List ℕ). ReadsAt header image (fresh_area newest 1 empty) 16 (31 + c.args.capacity) 68 68 in
     let same : (g.D.Device.disk c.sync.new.self).image ≡ (g.D.Device.disk c.if-is_there.device).image = ap (λ (d : Disk). d.image) c.in_ok-sync.ensures.synced in
     let put : Puts 0 (new_areas header) old mid = subst (λ (l : List ℕ). Puts 0 l old mid) c.new_areas.ensures c.in_ok-write_at.ensures.written in
     let reads : P (g.D.Device.disk c.if-is_there.device).image =

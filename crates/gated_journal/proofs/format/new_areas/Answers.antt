@@ -1,13 +1,13 @@
 use Rattle.std.proofs.Common.{ℕ, List, ◌∷◌, ◌++◌, get_or, replicate, sym, ◌∙◌}
 use Rattle.std.specs.Int.{w32, w64, to_be_bytes}
 use Rattle.ring_records.specs.Member.{member}
-use Rattle.gated_journal.specs.Areas.{area_mark}
 use Rattle.gated_journal.proofs.AreaFormatted.{bytes-new_areas}
 use Rattle.gated_journal.proofs.format.new_areas.Goals as goal
+use Rattle.gated_journal.specs.Reading.{mark}
 
 -- with the bytes of the capacity taken one by one
 abbrev spelled : ℕ → ℕ → List ℕ → List ℕ
-spelled node n b = area_mark ++ node ∷ n ∷ get_or b 0 0 ∷ get_or b 1 0 ∷ get_or b 2 0 ∷ get_or b 3 0 ∷ 0 ∷ 0 ∷ 1 ∷ 2 ∷ to_be_bytes w64 1 ++ to_be_bytes w32 38 ++ replicate {A = ℕ} 39 0
+spelled node n b = mark ++ node ∷ n ∷ get_or b 0 0 ∷ get_or b 1 0 ∷ get_or b 2 0 ∷ get_or b 3 0 ∷ 0 ∷ 0 ∷ 1 ∷ 2 ∷ to_be_bytes w64 1 ++ to_be_bytes w32 38 ++ replicate {A = ℕ} 39 0
 
 pub returns : goal.returns
 returns c =

@@ -1,23 +1,47 @@
-use Rattle.std.proofs.Common.{inl, inr, ⊎_elim, ℕ, List, subst}
-use Rattle.gated_journal.specs.Frames.{ReadsTo}
-use Rattle.gated_journal.specs.Unread.{IsFault, IsBroken, IsUnread}
+use Rattle.std.proofs.Common.{◌≡◌, inl, inr, ⊎_elim, ℕ, List, Ok, length, sym, subst}
+use Rattle.disk_model.specs.Disk.{Reach, Reaches}
+use Rattle.ring_records.specs.declared.refusal.Refusal.{Refusal}
+use Rattle.ring_records.specs.Member.{member}
+use Rattle.gated_journal.specs.Areas.{ReadsAt}
+use Rattle.gated_journal.specs.Choose.{reading_of}
+use Rattle.gated_journal.specs.Damage.{AreAreasUnread}
+use Rattle.gated_journal.specs.Reading.{HasHeader}
+use Rattle.gated_journal.specs.Unread.{header_at, IsFault, IsUnread}
+use Rattle.gated_journal.proofs.AreaFound.{area_found}
 use Rattle.gated_journal.proofs.Head.{header_found}
 use Rattle.gated_journal.proofs.open.open.Goals as goal
 
-pub returns-in-Ok-read_frames-clause-reads : goal.returns-in-Ok-read_frames-clause-reads
-returns-in-Ok-read_frames-clause-reads g c =
-    let old = g.D.Device.disk c.args.device.now in
-    let head = header_found c.args.node c.args.n c.in-Ok.capacity old.image c.in-Ok.ensures.header in
-    record { head = head.1; frames = subst (λ (l : List ℕ). ReadsTo 16 l c.in-Ok-read_frames.inputs.items c.in-Ok-read_frames.gate_at) c.read_header.ensures.image c.in-Ok-read_frames.ensures.frames }
+pub returns-in-Ok-read_areas-clause-reads : goal.returns-in-Ok-read_areas-clause-reads
+returns-in-Ok-read_areas-clause-reads g c =
+    let D = g.D.Device in
+    let header = member c.args.node c.args.n c.in-Ok.capacity in
+    let image = (D.disk c.read_header.new.device).image in
+    let head = header_found c.args.node c.args.n c.in-Ok.capacity (D.disk c.args.device.now).image c.in-Ok.ensures.header in
+    let here : HasHeader header image = subst (λ (l : List ℕ). HasHeader header l) (sym c.read_header.ensures.image) head.1 in
+    let f = c.in-Ok-read_areas in
+    let r = reading_of f.area f.contents in
+    subst (λ (l : List ℕ). ReadsAt header l r f.area.start f.area.other f.area.offset f.contents.gate_at) c.read_header.ensures.image
+    (area_found header image f.area r f.contents.gate_at here f.ensures.used f.ensures.base f.ensures.frames f.ensures.within)
 
-pub returns-in-Err-read_frames-clause-refusal : goal.returns-in-Err-read_frames-clause-refusal
-returns-in-Err-read_frames-clause-refusal g c =
-    let told = c.in-Err-read_frames.refusal in
-    let image = (g.D.Device.disk c.args.device.now).image in
-    let unread : IsBroken 16 image told → IsUnread c.args.node c.args.n image told = λ b. record { cause = inr (c.in-Ok.capacity, c.in-Ok.ensures.header, b) } in
+-- what is wrong with the areas is so of the device as it was
+broken : (node n capacity : ℕ) (image now : List ℕ) (told : Refusal) → header_at node n image ≡ Ok capacity → now ≡ image → AreAreasUnread n capacity now told → IsUnread node n image told
+broken node n capacity image now told header same unread = record { cause = inr (capacity, header, subst (λ (l : List ℕ). AreAreasUnread n capacity l told) same unread) }
+
+pub returns-in-Err-read_areas-clause-refusal : goal.returns-in-Err-read_areas-clause-refusal
+returns-in-Err-read_areas-clause-refusal g c =
+    let told = c.in-Err-read_areas.refusal in
     record {
       cause = ⊎_elim
-          (λ f. inl (subst (λ (k : ℕ). IsFault k (g.D.Device.count c.read_frames.new.device) told) c.in-Ok.ensures.same f))
-          (⊎_elim (λ m. inr (inl (c.in-Ok.capacity, c.in-Ok.ensures.header, m))) (λ b. inr (inr (unread (subst (λ (l : List ℕ). IsBroken 16 l told) c.read_header.ensures.image b)))))
-          c.in-Err-read_frames.ensures.refusal;
+          (λ f. inl (subst (λ (k : ℕ). IsFault k (g.D.Device.count c.read_areas.new.device) told) c.in-Ok.ensures.same f))
+          (⊎_elim (λ m. inr (inl (c.in-Ok.capacity, c.in-Ok.ensures.header, m))) (λ unread. inr (inr (broken _ _ _ _ _ told c.in-Ok.ensures.header c.read_header.ensures.image unread))))
+          c.in-Err-read_areas.ensures.refusal;
     }
+
+pub returns-in-Err-read_areas-clause-works : goal.returns-in-Err-read_areas-clause-works
+returns-in-Err-read_areas-clause-works g c = λ reach.
+    let D = g.D.Device in
+    let told = c.in-Err-read_areas.refusal in
+    let mid = c.read_header.new.device in
+    let there : Reaches (D.reach mid) (length (D.disk mid).image) =
+    subst (λ (l : List ℕ). Reaches (D.reach mid) (length l)) (sym c.read_header.ensures.image) (subst (λ (r : Reach). Reaches r (length (D.disk c.args.device.now).image)) (sym c.read_header.ensures.reach) reach) in
+    ⊎_elim (λ memory. inl memory) (λ unread. inr (broken _ _ _ _ _ told c.in-Ok.ensures.header c.read_header.ensures.image unread)) (c.in-Err-read_areas.ensures.works there)

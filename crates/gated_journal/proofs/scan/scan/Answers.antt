@@ -2,7 +2,7 @@ use Rattle.std.proofs.Common.{◌≡◌, ◌+◌, ◌∷◌, ℕ, List, length, 
 use Rattle.std.proofs.lemmas.List.{drop_more, take_rest}
 use Rattle.gated_journal.specs.Frames.{body}
 use Rattle.gated_journal.specs.Scan.{TakesFrame}
-use Rattle.gated_journal.specs.Unread.{IsDamagedAt}
+use Rattle.gated_journal.specs.Damage.{IsDamagedAt}
 use Rattle.gated_journal.proofs.Frame.{one_more, broken}
 use Rattle.gated_journal.proofs.Results.{of_some, of_none}
 use Rattle.gated_journal.proofs.scan.scan.Goals as goal

@@ -1,6 +1,6 @@
 use Rattle.std.proofs.Common.{◌∙◌, ap, length, arith}
 use Rattle.std.proofs.lemmas.List.{take_all}
-use Rattle.ring_records.specs.Member.{used_by}
+use Rattle.ring_records.specs.Admission.{costs_of}
 use Rattle.gated_journal.specs.Frames.{records}
 use Rattle.gated_journal.proofs.Spelled.{sums-none, sums-item}
 use Rattle.gated_journal.proofs.spell.cost_of.Goals as goal
@@ -15,7 +15,7 @@ pub loop-input-preserved : goal.loop-input-preserved
 loop-input-preserved c = sums-item _ _ _ _ _ (record { within = c.loop-input-test.true; is = c.input-item.is }) c.loop-input.invariant c.cost-cost.ensures.value c.cost-cost.ensures.range
 
 pub returns-clause-value : goal.returns-clause-value
-returns-clause-value c = c.loop-input.invariant.same ∙ ap used_by (take_all _ _ c.loop-input-test.false)
+returns-clause-value c = c.loop-input.invariant.same ∙ ap costs_of (take_all _ _ c.loop-input-test.false)
 
 pub returns-clause-records : goal.returns-clause-records
 returns-clause-records c =

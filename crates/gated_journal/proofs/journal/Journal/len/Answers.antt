@@ -1,5 +1,9 @@
-use Rattle.gated_journal.proofs.Rest.{counts}
+use Rattle.std.proofs.Common.{sym}
+use Rattle.gated_journal.proofs.AreaRest.{read_here}
 use Rattle.gated_journal.proofs.journal.Journal.len.Goals as goal
 
-pub returns-clause-list : goal.returns-clause-list
-returns-clause-list g c = λ ready inputs all. (counts _ _ c.args.self.now.gate_at _ _ inputs (c.args.self.now.settled ready) (g.met.D.Device.may_stay c.args.self.now.device) all).0
+pub returns-clause-reading : goal.returns-clause-reading
+returns-clause-reading g c = λ ready r all.
+    let j = c.args.self.now in
+    let a = j.area in
+    sym (read_here _ _ a.start a.other a.offset j.gate_at a.is_closed a.epoch j.count j.used r (j.settled ready) (g.met.D.Device.may_stay j.device) all).count_is

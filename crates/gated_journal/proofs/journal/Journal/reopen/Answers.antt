@@ -1,37 +1,67 @@
-use Rattle.std.proofs.Common.{rules, ◌≡◌, ℕ, List, length, sym, ◌∙◌, ap, subst, arith}
-use Rattle.ring_records.specs.Member.{member, used_by}
-use Rattle.gated_journal.specs.Reading.{ReadsAt, IsAtRest}
-use Rattle.gated_journal.proofs.Rest.{opens, all_read, rest_of}
+use Rattle.std.proofs.Common.{rules, ◌≡◌, ◌+◌, ℕ, List, length, sym, ◌∙◌, ap, subst, arith}
+use Rattle.ring_records.specs.Admission.{costs_of}
+use Rattle.ring_records.specs.Member.{member}
+use Rattle.ring_records.specs.Snapshot.{snapshot_len}
+use Rattle.gated_journal.specs.Areas.{ReadsAt, IsGate, IsInUse}
+use Rattle.gated_journal.specs.Choose.{reading_of}
+use Rattle.gated_journal.proofs.AreaBeside.{start_low}
+use Rattle.gated_journal.proofs.AreaKept.{behind_snapshot}
+use Rattle.gated_journal.proofs.AreaRest.{all_read, in_use}
+use Rattle.gated_journal.proofs.Costs.{costs}
 use Rattle.gated_journal.proofs.journal.Journal.reopen.Goals as goal
 
-pub used_by-requires : goal.used_by-requires
-used_by-requires g c =
-    let o = opens _ _ c.in-Ok.field-0.inputs.items c.in-Ok.field-0.gate_at c.in-Ok.ensures.reads in
-    omega (arith, ap used_by c.deref.ensures.value, o.bound, c.in-Ok.field-0.small)
+pub costs_of-requires : goal.costs_of-requires
+costs_of-requires g c =
+    let r = c.in-Ok.ensures.reads in
+    let o = costs _ _ c.in-Ok.field-0.contents.inputs.items c.in-Ok.field-0.contents.gate_at r.frames in
+    omega (arith, ap costs_of c.deref.ensures.value, o.bound, r.within, start_low _ _ _ r.areas, r.head.to)
+
+pub overflow_add-journal-in-Ok : goal.overflow_add-journal-in-Ok
+overflow_add-journal-in-Ok g c =
+    let f = c.in-Ok.field-0 in
+    let r = c.in-Ok.ensures.reads in
+    let o = costs _ _ f.contents.inputs.items f.contents.gate_at r.frames in
+    omega (arith, c.costs_of.ensures, ap costs_of c.deref.ensures.value, c.summary_len.ensures.range, o.bound, r.within, start_low _ _ _ r.areas, r.head.to)
 
 pub invariant_of-journal : goal.invariant_of-journal
 invariant_of-journal g c =
     let f = c.in-Ok.field-0 in
     let header = member c.args.node c.args.n f.capacity in
     let disk = g.D.Device.disk c.open.new.device in
-    let o = opens _ _ f.inputs.items f.gate_at c.in-Ok.ensures.reads in
-    let read : ReadsAt header disk.image f.inputs.items f.gate_at = subst (λ (l : List ℕ). ReadsAt header l f.inputs.items f.gate_at) (sym c.open.ensures.image) c.in-Ok.ensures.reads in
-    let rest = rest_of header disk f.inputs.items f.gate_at c.in-Ok.ensures.synced read in
-    let count : length f.inputs.items ≡ c.len.result = search rules in
-    let sum : used_by f.inputs.items ≡ c.used_by.result = sym (c.used_by.ensures ∙ ap used_by c.deref.ensures.value) in
+    let a = f.area in
+    let r = reading_of a f.contents in
+    let o = costs _ _ f.contents.inputs.items f.contents.gate_at c.in-Ok.ensures.reads.frames in
+    let read : ReadsAt header disk.image r a.start a.other a.offset f.contents.gate_at = subst (λ (l : List ℕ). ReadsAt header l r a.start a.other a.offset f.contents.gate_at) (sym c.open.ensures.image) c.in-Ok.ensures.reads in
+    let gate : IsGate a.is_closed a.other disk.image = subst (λ (l : List ℕ). IsGate a.is_closed a.other l) (sym c.open.ensures.image) c.in-Ok.ensures.gate in
+    let rest = in_use header disk r a.start a.other a.offset f.contents.gate_at a.is_closed c.in-Ok.ensures.synced gate read in
+    let count : length f.contents.inputs.items ≡ c.len.result = search rules in
+    let sum : costs_of f.contents.inputs.items ≡ c.costs_of.result = sym (c.costs_of.ensures ∙ ap costs_of c.deref.ensures.value) in
+    let bytes : snapshot_len f.contents.base ≡ c.summary_len.result = sym c.summary_len.ensures.value in
+    let behind = behind_snapshot c.args.n a.start disk.image r a.offset read.base in
     record {
-      settled = λ ready. subst (λ (k : ℕ). IsAtRest header disk f.gate_at k c.used_by.result) count (subst (λ (k : ℕ). IsAtRest header disk f.gate_at (length f.inputs.items) k) sum rest);
-      from = o.from;
-      within = omega (arith, o.within, sum);
-      counted = omega (arith, o.counted, sum, count);
+      settled = λ ready. subst (λ (k : ℕ). IsInUse header disk a.start a.other a.offset f.contents.gate_at a.is_closed a.epoch (f.contents.base.inputs + k) (c.summary_len.result + c.costs_of.result)) count
+          (subst (λ (k : ℕ). IsInUse header disk a.start a.other a.offset f.contents.gate_at a.is_closed a.epoch (f.contents.base.inputs + length f.contents.inputs.items) (c.summary_len.result + k)) sum
+          (subst (λ (k : ℕ). IsInUse header disk a.start a.other a.offset f.contents.gate_at a.is_closed a.epoch (f.contents.base.inputs + length f.contents.inputs.items) (k + costs_of f.contents.inputs.items)) bytes rest));
+      areas = read.areas;
+      within = omega (arith, o.within, behind, sum, bytes);
+      counted = omega (arith, o.counted, sum, count, read.base.snapshot.sound.inputs);
       least = read.head.from;
       small = read.head.to;
     }
+
+pub returns-in-Ok-clause-reads : goal.returns-in-Ok-clause-reads
+returns-in-Ok-clause-reads g c =
+    let f = c.in-Ok.field-0 in
+    record { start = f.area.start; other = f.area.other; offset = f.area.offset; gate_at = f.contents.gate_at; at = c.in-Ok.ensures.reads }
 
 pub returns-in-Ok-clause-durable : goal.returns-in-Ok-clause-durable
 returns-in-Ok-clause-durable g c =
     let f = c.in-Ok.field-0 in
     let header = member c.args.node c.args.n f.capacity in
     let disk = g.D.Device.disk c.open.new.device in
-    let read : ReadsAt header disk.image f.inputs.items f.gate_at = subst (λ (l : List ℕ). ReadsAt header l f.inputs.items f.gate_at) (sym c.open.ensures.image) c.in-Ok.ensures.reads in
-    all_read header disk f.inputs.items f.gate_at c.in-Ok.ensures.synced read
+    let a = f.area in
+    let r = reading_of a f.contents in
+    all_read header disk r a.start a.other a.offset f.contents.gate_at c.in-Ok.ensures.synced (subst (λ (l : List ℕ). ReadsAt header l r a.start a.other a.offset f.contents.gate_at) (sym c.open.ensures.image) c.in-Ok.ensures.reads)
+
+pub returns-in-Ok-clause-sound : goal.returns-in-Ok-clause-sound
+returns-in-Ok-clause-sound g c = c.in-Ok.ensures.reads.base.snapshot.sound

@@ -1,9 +1,0 @@
-use Rattle.std.proofs.Common.{List, sym, subst}
-use Rattle.std.specs.List.Sorted.{IsStrictlySortedBy}
-use Rattle.ring_records.specs.declared.key_state.KeyState.{KeyState}
-use Rattle.ring_records.specs.KeyStates.{by_state}
-use Rattle.area_journal.proofs.opening.Opening.fresh.Goals as goal
-
-pub from_sorted-requires : goal.from_sorted-requires
-unfolding IsStrictlySortedBy
-from_sorted-requires c = subst (λ (l : List KeyState). IsStrictlySortedBy by_state l) (sym c.new.ensures.items) tt
