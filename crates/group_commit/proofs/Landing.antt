@@ -1,36 +1,35 @@
 -- What lands at a desk: what its inputs that flew bring, by what was known before them.
-use Rattle.std.proofs.Common.{◌≡◌, ℕ, ◌+◌, ◌-◌, ◌≤◌, List, [], ◌∷◌, ◌++◌, length, take, drop, refl, sym, ap, ◌∙◌, subst, append_assoc, arith}
+use Rattle.std.proofs.Common.{◌≡◌, ℕ, ◌+◌, ◌-◌, ◌≤◌, List, [], ◌∷◌, ◌++◌, length, take, drop, refl, sym, ap, ◌∙◌, subst, append_assoc, arith, None}
 use Rattle.std.proofs.Math.Seq.{take-add}
 use Rattle.std.proofs.lemmas.Bool.{lt-ltb, le-ltb}
 use Rattle.std.proofs.lemmas.List.{length-append, length-take-le, length-drop, drop-drop, take-append-drop, take-append-le, drop-append-le, take_all, drop_all}
 use Rattle.std.proofs.lemmas.List.Elements.{filter_map-append}
 use Rattle.std.proofs.lemmas.List.Sums.{fold-append}
 use Rattle.std.specs.Prelude.{if◌then◌else◌}
-use Rattle.ring_records.specs.declared.base.Base.{Base}
 use Rattle.ring_records.specs.declared.decision.Decision.{Decision}
 use Rattle.ring_records.specs.declared.input.Input.{Input}
 use Rattle.ring_records.specs.declared.msg.Msg.{Msg}
 use Rattle.ring_records.specs.declared.packet.Packet.{Packet}
 use Rattle.ring_records.specs.declared.packet.Packet.TheVariants.{Credit}
 use Rattle.ring_records.specs.declared.summary.Summary.{Summary}
-use Rattle.ring_records.specs.Admission.{fresh, IsAllowed, IsAdmitted, IsLawful}
+use Rattle.ring_records.specs.Admission.{IsAllowed}
 use Rattle.ring_records.specs.Emission.{sent, carry}
 use Rattle.ring_records.specs.History.{taken, credit}
-use Rattle.ring_records.specs.Known.{stepped, after}
+use Rattle.ring_records.specs.Known.{Objects, stepped, after}
 use Rattle.ring_records.specs.Leader.{decided}
-use Rattle.ring_records.specs.Lists.{EachAfter}
+use Rattle.ring_records.specs.Lists.{found_after, EachAfter}
 use Rattle.ring_records.specs.Member.{Member}
 use Rattle.ring_records.specs.Release.{carries, credit_where, credits, packets, decisions}
-use Rattle.ring_records.specs.Summary.{summary, empty}
-use Rattle.ring_records.proofs.Sound.{summary-none}
+use Rattle.ring_records.specs.Summary.{summary}
 use Rattle.ring_records.proofs.Growth.{taken-append, EachAfter-take}
+use Rattle.ring_records.proofs.Known.{credit-sent}
 use Rattle.node_core.specs.declared.effects.Effects.{Effects}
 use Rattle.group_commit.specs.declared.outbox.Outbox.{Outbox}
-use Rattle.group_commit.specs.Kept.{HoldsFor}
-use Rattle.group_commit.specs.Opening.{opened_core, IsOpenTo, IsKnownLawful}
-use Rattle.group_commit.specs.Outbox.{AreFree, brought_after, carried, told, credit_since, Holds}
-use Rattle.group_commit.proofs.Opening.{free-part, EachAfter-behind, EachAfter-from}
-use Rattle.group_commit.proofs.Past.{Follows, follows, follows_none, found-known}
+use Rattle.group_commit.specs.Kept.{HoldsFor, decisions_since}
+use Rattle.group_commit.specs.Past.{IsPast}
+use Rattle.group_commit.specs.Outbox.{AreFree, brought_after, carried, told, leaders_in, credit_since, Holds}
+use Rattle.group_commit.proofs.Opening.{free-part, EachAfter-behind}
+use Rattle.group_commit.proofs.Past.{follows-take, found-known}
 use Rattle.group_commit.proofs.Settling.{brought-append, length-brought}
 
 -- ---- the inputs that fly
@@ -49,23 +48,27 @@ part-joins start end inputs within =
     let sum : start + (end - start) ≡ end = omega arith in
     sym (take-add start (end - start) inputs) ∙ ap (λ n. take n inputs) sum
 
-part-length : (start end : ℕ) (inputs : List Input) → end ≤ length inputs → length (part start end inputs) ≡ end - start
+pub part-length : (start end : ℕ) (inputs : List Input) → end ≤ length inputs → length (part start end inputs) ≡ end - start
 part-length start end inputs within =
     let left = length-drop start inputs in
     length-take-le (end - start) (drop start inputs) (omega (arith, left))
 
 -- so they are the first of those that wait
 pub flies : (me start end : ℕ) (outbox : Outbox) (opening : Summary) (inputs : List Input) → start ≤ end → end ≤ length inputs → HoldsFor me outbox opening (take start inputs) (drop start inputs) (end - start)
-    → Holds me outbox (after me opening (take start inputs)) (told (brought_after me opening (take start inputs))) (part start end inputs ++ drop end inputs) (length (part start end inputs))
+    → Holds me outbox (after me opening (take start inputs)) (decisions_since me opening (take start inputs)) (part start end inputs ++ drop end inputs) (length (part start end inputs))
 flies me start end outbox opening inputs within all holds =
-    subst (λ (p : List Input × ℕ). Holds me outbox (after me opening (take start inputs)) (told (brought_after me opening (take start inputs))) p.0 p.1)
+    subst (λ (p : List Input × ℕ). Holds me outbox (after me opening (take start inputs)) (decisions_since me opening (take start inputs)) p.0 p.1)
     (λ i. (part-rest start end inputs within i, sym (part-length start end inputs all) i)) holds
 
 -- and nothing is against them
-pub free : (m : Member) (bytes start end : ℕ) (opening : Summary) (inputs : List Input) → start ≤ end → IsKnownLawful (opened_core m opening bytes) inputs → AreFree m.node m.n (after m.node opening (take start inputs)) (part start end inputs)
-free m bytes start end opening inputs within lawful =
-    free-part (opened_core m opening bytes) (take start inputs) (part start end inputs) (drop end inputs)
-    (subst (IsKnownLawful (opened_core m opening bytes)) (sym (take-append-drop start inputs) ∙ ap (λ l. take start inputs ++ l) (part-rest start end inputs within)) lawful)
+pub free : (me n start end : ℕ) (opening : Summary) (inputs : List Input) → start ≤ end → AreFree me n opening inputs → AreFree me n (after me opening (take start inputs)) (part start end inputs)
+free me n start end opening inputs within each =
+    free-part me n opening (take start inputs) (part start end inputs) (drop end inputs)
+    (subst (AreFree me n opening) (sym (take-append-drop start inputs) ∙ ap (λ l. take start inputs ++ l) (part-rest start end inputs within)) each)
+
+-- nor against the first of them
+pub free-first : (me n k : ℕ) (opening : Summary) (inputs : List Input) → AreFree me n opening inputs → AreFree me n opening (take k inputs)
+free-first me n k opening inputs each = EachAfter-take (λ before x. Objects n (after me opening before) x None) k inputs each
 
 -- what they bring stood first
 pub brought-part : (me : ℕ) (s : Summary) (l rest : List Input) (waiting : List Effects) → waiting ≡ brought_after me s (l ++ rest) → take (length l) waiting ≡ brought_after me s l
@@ -79,7 +82,7 @@ brought-part me s l rest waiting is =
 -- the desk once they are durable
 pub lands : (me start end : ℕ) (new : Outbox) (opening : Summary) (inputs : List Input) (all : List Decision) (waiting : List Effects) → start ≤ end → waiting ≡ brought_after me (after me opening (take start inputs)) (drop start inputs)
     → all ≡ told (take (length (part start end inputs)) waiting)
-    → Holds me new (after me (after me opening (take start inputs)) (part start end inputs)) (told (brought_after me opening (take start inputs)) ++ all) (drop end inputs) 0
+    → Holds me new (after me (after me opening (take start inputs)) (part start end inputs)) (decisions_since me opening (take start inputs) ++ all) (drop end inputs) 0
     → HoldsFor me new opening (take end inputs) (drop end inputs) (end - end)
 lands me start end new opening inputs all waiting within waits are holds =
     let s = after me opening (take start inputs) in
@@ -88,20 +91,22 @@ lands me start end new opening inputs all waiting within waits are holds =
     let none : 0 ≡ end - end = omega arith in
     let brings = brought-part me s l (drop end inputs) waiting (waits ∙ ap (brought_after me s) (part-rest start end inputs within)) in
     let known = sym (fold-append (stepped me) opening (take start inputs) l) ∙ ap (after me opening) joined in
-    let more = ap (λ ds. told (brought_after me opening (take start inputs)) ++ ds) (are ∙ ap told brings)
+    let front = told (brought_after me opening (take start inputs)) in
+    let grown = ap (λ ds. front ++ ds) (are ∙ ap told brings)
     ∙ (sym (filter_map-append (λ (e : Effects). e.decided) (brought_after me opening (take start inputs)) (brought_after me s l))
     ∙ (ap told (sym (brought-append me opening (take start inputs) l)) ∙ ap (λ k. told (brought_after me opening k)) joined)) in
+    let more = append_assoc (leaders_in opening) front all ∙ ap (λ ds. leaders_in opening ++ ds) grown in
     subst (λ (p : (Summary × List Decision) × ℕ). Holds me new p.0.0 p.0.1 (drop end inputs) p.1) (λ i. ((known i, more i), none i)) holds
 
 -- all of them are durable
-pub whole_holds : (me count : ℕ) (outbox : Outbox) (opening : Summary) (inputs : List Input) → count ≡ length inputs → Holds me outbox (after me opening inputs) (told (brought_after me opening inputs)) [] 0 → HoldsFor me outbox opening (take count inputs) (drop count inputs) (count - count)
+pub whole_holds : (me count : ℕ) (outbox : Outbox) (opening : Summary) (inputs : List Input) → count ≡ length inputs → Holds me outbox (after me opening inputs) (decisions_since me opening inputs) [] 0 → HoldsFor me outbox opening (take count inputs) (drop count inputs) (count - count)
 whole_holds me count outbox opening inputs all holds =
     let none : 0 ≡ count - count = omega arith in
     subst (λ (p : (List Input × List Input) × ℕ). HoldsFor me outbox opening p.0.0 p.0.1 p.1)
     (λ i. ((sym (take_all count inputs (omega (arith, all))) i, sym (drop_all count inputs (omega (arith, all))) i), none i)) holds
 
 -- more inputs wait behind them
-pub waits_more : (me k : ℕ) (outbox : Outbox) (opening : Summary) (inputs more : List Input) (durable : ℕ) → durable ≤ length inputs → Holds me outbox (after me opening (take durable inputs)) (told (brought_after me opening (take durable inputs))) (drop durable inputs ++ more) k
+pub waits_more : (me k : ℕ) (outbox : Outbox) (opening : Summary) (inputs more : List Input) (durable : ℕ) → durable ≤ length inputs → Holds me outbox (after me opening (take durable inputs)) (decisions_since me opening (take durable inputs)) (drop durable inputs ++ more) k
     → HoldsFor me outbox opening (take durable (inputs ++ more)) (drop durable (inputs ++ more)) k
 waits_more me k outbox opening inputs more durable within holds =
     subst (λ (p : List Input × List Input). HoldsFor me outbox opening p.0 p.1 k) (λ i. (sym (take-append-le durable inputs more within) i, sym (drop-append-le durable inputs more within) i)) holds
@@ -132,48 +137,44 @@ decisions-known me n s h l knows within allowed = found-known (λ (e : Effects).
 
 -- ---- of a node with a past
 
--- the first inputs of a desk, so many of them, follow the past as well
-pub follows-take : (m : Member) (opening : Summary) (base : Base) (past inputs : List Input) (k : ℕ) → Follows m opening base past [] → IsKnownLawful (opened_core m opening base.bytes) inputs → Follows m opening base past (take k inputs)
-follows-take m opening base past inputs k from lawful = follows m opening base past (take k inputs) from (EachAfter-take (IsOpenTo (opened_core m opening base.bytes)) k inputs lawful)
-
 -- those that fly are allowed after the durable ones
-pub allowed-part : (m : Member) (base : Base) (h l : List Input) → IsLawful m.node m.n m.capacity base (h ++ l) → EachAfter (IsAllowed m.node m.n) h l
-unfolding IsLawful
-allowed-part m base h l lawful =
-    EachAfter-from (IsAdmitted m.node m.n m.capacity base) (IsAllowed m.node m.n) [] (λ before x admitted. admitted.allowed) h l
-    (EachAfter-behind (IsAdmitted m.node m.n m.capacity base) [] h l lawful)
+allowed-part : (m : Member) (h l : List Input) → EachAfter (IsAllowed m.node m.n) [] (h ++ l) → EachAfter (IsAllowed m.node m.n) h l
+allowed-part m h l each = EachAfter-behind (IsAllowed m.node m.n) [] h l each
 
 -- what is handed out
-pub landed_packets : (m : Member) (opening : Summary) (base : Base) (past inputs : List Input) (start end : ℕ) (waiting : List Effects) (l : List Input) (before now : ℕ) (all : List Packet) → Follows m opening base past [] → IsKnownLawful (opened_core m opening base.bytes) inputs → start ≤ end
+pub landed_packets : (m : Member) (opening : Summary) (past inputs : List Input) (start end : ℕ) (waiting : List Effects) (l : List Input) (before now : ℕ) (all : List Packet) → IsPast m opening past → AreFree m.node m.n opening inputs → start ≤ end
     → waiting ≡ brought_after m.node (after m.node opening (take start inputs)) (drop start inputs) → l ≡ part start end inputs → before ≡ (after m.node opening (take start inputs)).taken → now ≡ (after m.node opening (take end inputs)).taken
     → all ≡ carried (take (length l) waiting) ++ credit_since before now → all ≡ packets m.node (past ++ take start inputs) (part start end inputs)
-landed_packets m opening base past inputs start end waiting l before now all from lawful within waits flown taken_before taken_now is =
+landed_packets m opening past inputs start end waiting l before now all past_is each within waits flown taken_before taken_now is =
     let s = after m.node opening (take start inputs) in
-    let f = follows-take m opening base past inputs start from lawful in
-    let g = follows-take m opening base past inputs end from lawful in
+    let f = follows-take m opening past inputs start past_is each in
+    let g = follows-take m opening past inputs end past_is each in
     let joined = append_assoc past (take start inputs) (part start end inputs) ∙ ap (λ k. past ++ k) (part-joins start end inputs within) in
     let brings = ap (λ k. take (length k) waiting) flown ∙ brought-part m.node s (part start end inputs) (drop end inputs) waiting (waits ∙ ap (brought_after m.node s) (part-rest start end inputs within)) in
     is
     ∙ ((λ i. carried (brings i) ++ credit_since (taken_before i) (taken_now i))
-    ∙ packets-known m.node m.n s (after m.node opening (take end inputs)) (past ++ take start inputs) (part start end inputs) f.of.knows (g.of.knows ∙ ap (summary m.node) (sym joined)) f.credit
-    (allowed-part m base (past ++ take start inputs) (part start end inputs) (subst (IsLawful m.node m.n m.capacity base) (sym joined) g.lawful)))
+    ∙ packets-known m.node m.n s (after m.node opening (take end inputs)) (past ++ take start inputs) (part start end inputs) f.knows (g.knows ∙ ap (summary m.node) (sym joined)) f.credit
+    (allowed-part m (past ++ take start inputs) (part start end inputs) (subst (EachAfter (IsAllowed m.node m.n) []) (sym joined) g.allowed)))
 
-pub landed_decisions : (m : Member) (opening : Summary) (base : Base) (past inputs : List Input) (start end : ℕ) (waiting : List Effects) (l : List Input) (all : List Decision) → Follows m opening base past [] → IsKnownLawful (opened_core m opening base.bytes) inputs → start ≤ end
+pub landed_decisions : (m : Member) (opening : Summary) (past inputs : List Input) (start end : ℕ) (waiting : List Effects) (l : List Input) (all : List Decision) → IsPast m opening past → AreFree m.node m.n opening inputs → start ≤ end
     → waiting ≡ brought_after m.node (after m.node opening (take start inputs)) (drop start inputs) → l ≡ part start end inputs
     → all ≡ told (take (length l) waiting) → all ≡ decisions m.node (past ++ take start inputs) (part start end inputs)
-landed_decisions m opening base past inputs start end waiting l all from lawful within waits flown is =
+landed_decisions m opening past inputs start end waiting l all past_is each within waits flown is =
     let s = after m.node opening (take start inputs) in
-    let f = follows-take m opening base past inputs start from lawful in
-    let g = follows-take m opening base past inputs end from lawful in
+    let f = follows-take m opening past inputs start past_is each in
+    let g = follows-take m opening past inputs end past_is each in
     let joined = append_assoc past (take start inputs) (part start end inputs) ∙ ap (λ k. past ++ k) (part-joins start end inputs within) in
     let brings = ap (λ k. take (length k) waiting) flown ∙ brought-part m.node s (part start end inputs) (drop end inputs) waiting (waits ∙ ap (brought_after m.node s) (part-rest start end inputs within)) in
     is
     ∙ (ap told brings
-    ∙ decisions-known m.node m.n s (past ++ take start inputs) (part start end inputs) f.of.knows f.credit
-    (allowed-part m base (past ++ take start inputs) (part start end inputs) (subst (IsLawful m.node m.n m.capacity base) (sym joined) g.lawful)))
+    ∙ decisions-known m.node m.n s (past ++ take start inputs) (part start end inputs) f.knows f.credit
+    (allowed-part m (past ++ take start inputs) (part start end inputs) (subst (EachAfter (IsAllowed m.node m.n) []) (sym joined) g.allowed)))
 
--- the decisions of the first inputs of a node without a past
-pub all_decisions : (m : Member) (inputs : List Input) (k : ℕ) → IsKnownLawful (opened_core m empty 0) inputs → told (brought_after m.node empty (take k inputs)) ≡ decisions m.node [] (take k inputs)
-all_decisions m inputs k lawful =
-    decisions-known m.node m.n empty [] (take k inputs) (sym (summary-none m.node)) (follows_none m).credit
-    (allowed-part m fresh [] (take k inputs) (follows-take m empty fresh [] inputs k (follows_none m) lawful).lawful)
+-- the decisions of what was known at first, and of the first inputs since
+pub told-since : (m : Member) (opening : Summary) (past inputs : List Input) (k : ℕ) → IsPast m opening past → AreFree m.node m.n opening inputs
+    → decisions_since m.node opening (take k inputs) ≡ leaders_in opening ++ found_after (decided m.node) past (take k inputs)
+told-since m opening past inputs k is each =
+    let f = follows-take m opening past inputs k is each in
+    ap (λ ds. leaders_in opening ++ ds)
+    (found-known (λ (e : Effects). e.decided) (decided m.node) m.node m.n (λ g x. refl) opening past (take k inputs) is.summed (credit-sent m.node m.n past is.allowed)
+    (allowed-part m past (take k inputs) f.allowed))

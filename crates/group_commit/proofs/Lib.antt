@@ -4,5 +4,11 @@ pub mod Releases
 pub mod Settling
 pub mod Opening
 pub mod Past
+pub mod Since
+pub mod Seen
+pub mod Inside
+pub mod Checkpoints
 pub mod Landing
+pub mod Leaders
+pub mod New
 pub mod Vouching

@@ -1,9 +1,11 @@
 -- A core that knows what a history says refuses, answers and goes on as the history says.
-use Rattle.std.proofs.Common.{◌≡◌, ℕ, ◌+◌, ◌≤◌, ◌&&◌, List, [], ◌∷◌, ◌++◌, append_assoc, length, take, Option, Some, None, refl, sym, ap, ◌∙◌, subst, arith}
-use Rattle.std.specs.List.{cons_option, filter_map, sum_by}
-use Rattle.std.specs.Prelude.{nat_lt}
+use Rattle.std.proofs.Common.{◌≡◌, ℕ, ◌+◌, ◌-◌, ◌≤◌, ◌&&◌, List, [], ◌∷◌, ◌++◌, append_assoc, append-nil, length, take, drop, Option, Some, None, refl, sym, ap, ◌∙◌, subst, arith}
+use Rattle.std.specs.List.{cons_option, filter_map}
+use Rattle.std.specs.Option.{option_map}
+use Rattle.std.specs.Prelude.{nat_lt, unwrap_or}
 use Rattle.std.proofs.lemmas.Bool.{le-leb}
-use Rattle.std.proofs.lemmas.List.{length-append}
+use Rattle.std.proofs.Math.Seq.{take-add}
+use Rattle.std.proofs.lemmas.List.{length-append, length-take-le, take-append-le, take_all, drop-drop}
 use Rattle.ring_records.specs.declared.base.Base.{Base}
 use Rattle.ring_records.specs.declared.candidate.Candidate.{Candidate}
 use Rattle.ring_records.specs.declared.input.Input.{Input}
@@ -16,30 +18,32 @@ use Rattle.ring_records.specs.declared.reply.Reply.TheVariants as say
 use Rattle.ring_records.specs.declared.request.Request.{Request}
 use Rattle.ring_records.specs.declared.request.Request.TheVariants as ask
 use Rattle.ring_records.specs.declared.summary.Summary.{Summary}
-use Rattle.ring_records.specs.Admission.{fresh, cost, used, where_so, shortage, objection, refusal, IsAllowed, IsAdmitted, IsLawful}
-use Rattle.ring_records.specs.Answer.{input_of, if_free, unless, gained, reply}
+use Rattle.ring_records.specs.Admission.{area_bytes, base_of, cost, costs_of, used, where_so, shortage, objection, refusal, Fits, IsAllowed, IsAdmitted, IsBaseOf, IsLawful}
+use Rattle.ring_records.specs.Answer.{input_of, if_free, unless, gained, reply, answered}
 use Rattle.ring_records.specs.Emission.{sent, carry}
 use Rattle.ring_records.specs.History.{credit}
 use Rattle.ring_records.specs.Known.{Objects, known_of, leader_of, leads_in, stepped, after}
 use Rattle.ring_records.specs.Leader.{IsLatest, leader, latest, decided}
 use Rattle.ring_records.specs.Lists.{or_else, found_after, EachAfter}
 use Rattle.ring_records.specs.Member.{Member, used_by}
-use Rattle.ring_records.specs.Summary.{summary, empty}
-use Rattle.ring_records.proofs.Admission.{refusal-admitted}
-use Rattle.ring_records.proofs.Counts.{used-more}
+use Rattle.ring_records.specs.States.{NodeState, launched_base, durable_in, flying_in, answered_by, gained_by}
+use Rattle.ring_records.specs.Summary.{summary}
+use Rattle.ring_records.proofs.Admission.{objection-allowed}
 use Rattle.ring_records.proofs.Growth.{EachAfter-take}
-use Rattle.ring_records.proofs.Known.{leader-known, objects-known, stepped-known, credit-next}
+use Rattle.ring_records.proofs.Known.{leader-known, objects-known, stepped-known, credit-next, credit-sent}
 use Rattle.ring_records.proofs.Latest.{latest_is, latest_same, one_latest}
 use Rattle.ring_records.proofs.Lists.{along, EachAfter-push}
-use Rattle.ring_records.proofs.Sound.{summary-none}
 use Rattle.node_core.specs.Brought.{brought}
-use Rattle.node_core.specs.Core.{CoreView, CoreStandsFor, Refuses}
+use Rattle.node_core.specs.Core.{CoreView, Refuses}
 use Rattle.node_core.specs.declared.effects.Effects.{Effects}
 use Rattle.node_core.proofs.Histories.{carries, decides}
-use Rattle.group_commit.specs.Desk.{IsUnlawful}
-use Rattle.group_commit.specs.Opening.{opened_core, core_after, IsOpenTo, IsKnownLawful, IsKnownUnlawful, IsOf, Replies}
-use Rattle.group_commit.specs.Outbox.{brought_after}
-use Rattle.group_commit.proofs.Opening.{core-push}
+use Rattle.group_commit.specs.Opening.{IsOf, Replies}
+use Rattle.group_commit.specs.Past.{IsPast, moved, shifted}
+use Rattle.group_commit.specs.Since.{IsOpenSince, IsLawfulSince, IsAreaOf, IsKnownState, core_in}
+use Rattle.group_commit.specs.Ticket.{answered_with}
+use Rattle.group_commit.specs.Outbox.{AreFree, brought_after}
+use Rattle.group_commit.proofs.Opening.{EachAfter-from}
+use Rattle.group_commit.proofs.Settling.{after-push, drop-front}
 
 -- ---- what it refuses and answers
 
@@ -81,81 +85,171 @@ answers core base h (ask.Acked upto) given more of (o, refuses, says, gains) =
 answers core base h (ask.Who key) given more of (says, none) = (says ∙ ap say.Leader (leads core base h key of), ap (λ o. cons_option o []) none)
 answers core base h (ask.Latest group) given more of (led, is, says, none) = (says ∙ ap say.Latest (leads_last core base h group led of is), ap (λ o. cons_option o []) none)
 
+-- ---- parts of the whole history
+
+pub take-front : {A : Type 0} (xs ys : List A) → take (length xs) (xs ++ ys) ≡ xs
+take-front xs ys = take-append-le (length xs) xs ys (omega arith) ∙ take_all (length xs) xs (omega arith)
+
+pub durable-shifted : (past : List Input) (s : NodeState) → durable_in (shifted past s) ≡ past ++ durable_in s
+durable-shifted past s = take-add (length past) s.durable (past ++ s.inputs) ∙ (λ i. take-front past s.inputs i ++ take s.durable (drop-front past s.inputs i))
+
+pub flying-shifted : (past : List Input) (s : NodeState) → flying_in (shifted past s) ≡ flying_in s
+flying-shifted past s =
+    let count : length past + s.flying - (length past + s.durable) ≡ s.flying - s.durable = omega arith in
+    (λ i. take (count i) (drop (length past + s.durable) (past ++ s.inputs)))
+    ∙ ap (take (s.flying - s.durable)) (sym (drop-drop s.durable (length past) (past ++ s.inputs)) ∙ ap (drop s.durable) (drop-front past s.inputs))
+
+moved_launched : (k : ℕ) (b : Base) (o : Option Base) → moved k (unwrap_or o b) ≡ unwrap_or (option_map (moved k) o) (moved k b)
+moved_launched k b None = refl
+moved_launched k b (Some c) = refl
+
+-- the area from which room is counted
+pub launched-shifted : (past : List Input) (s : NodeState) → launched_base (shifted past s) ≡ moved (length past) (launched_base s)
+launched-shifted past s = sym (moved_launched (length past) s.base s.checkpoint)
+
 -- ---- as inputs are accepted
 
--- a core that knew the summary of a past goes on as the past with these inputs does
-pub record Follows (m : Member) (opening : Summary) (base : Base) (past l : List Input) : Type 0 where
-  pub of : IsOf (core_after (opened_core m opening base.bytes) l) base (past ++ l)
-  pub lawful : IsLawful m.node m.n m.capacity base (past ++ l)
+-- what is known since the opening goes on as the past with these inputs does
+pub record Follows (m : Member) (opening : Summary) (past l : List Input) : Type 0 where
+  pub knows : after m.node opening l ≡ summary m.node (past ++ l)
+  pub allowed : EachAfter (IsAllowed m.node m.n) [] (past ++ l)
   pub credit : credit (past ++ l) ≤ length (sent m.node (past ++ l))
 
-follows-push : (m : Member) (opening : Summary) (base : Base) (past l : List Input) (x : Input) → IsOpenTo (opened_core m opening base.bytes) l x → Follows m opening base past l → Follows m opening base past (l ++ x ∷ [])
-unfolding IsLawful
-follows-push m opening base past l x free follows =
-    let first = opened_core m opening base.bytes in
+follows-push : (m : Member) (opening : Summary) (past l : List Input) (x : Input) → Objects m.n (after m.node opening l) x None → Follows m opening past l → Follows m opening past (l ++ x ∷ [])
+follows-push m opening past l x free follows =
     let h = past ++ l in
-    let of = follows.of in
-    let admitted = refusal-admitted m.node m.n m.capacity base h x (sym (refused-is (core_after first l) base h x None of free)) in
-    let grown = length-append h (x ∷ []) in
-    let within = of.within in
-    let pushed : record (core_after first l) { known = stepped m.node (after m.node opening l) x; used = base.bytes + sum_by cost l + cost x } ≡ core_after first (l ++ x ∷ []) = core-push first (core_after first l) _ l x refl refl in
+    let none = objects-known m.node m.n h x None (subst (λ (s : Summary). Objects m.n s x None) follows.knows free) in
+    let allowed = objection-allowed m.node m.n h x (sym none) in
     let more = append_assoc past l (x ∷ []) in
     record {
-      of = subst (IsOf (core_after first (l ++ x ∷ [])) base) more (record {
-        knows = ap (λ (c : CoreView). c.known) (sym pushed) ∙ (ap (λ (s : Summary). stepped m.node s x) of.knows ∙ stepped-known m.node m.n h x admitted.allowed follows.credit);
-        bytes = ap (λ (c : CoreView). c.used) (sym pushed) ∙ (ap (λ n. n + cost x) of.bytes ∙ sym (used-more base h x of.within));
-        within = omega (arith, grown, within);
-      });
-      lawful = subst (λ (g : List Input). EachAfter (IsAdmitted m.node m.n m.capacity base) [] g) more (EachAfter-push (IsAdmitted m.node m.n m.capacity base) [] h x follows.lawful admitted);
-      credit = subst (λ (g : List Input). credit g ≤ length (sent m.node g)) more (credit-next m.node m.n h x admitted.allowed follows.credit);
+      knows = after-push m.node opening l x ∙ (ap (λ (s : Summary). stepped m.node s x) follows.knows ∙ (stepped-known m.node m.n h x allowed follows.credit ∙ ap (summary m.node) more));
+      allowed = subst (EachAfter (IsAllowed m.node m.n) []) more (EachAfter-push (IsAllowed m.node m.n) [] h x follows.allowed allowed);
+      credit = subst (λ (g : List Input). credit g ≤ length (sent m.node g)) more (credit-next m.node m.n h x allowed follows.credit);
     }
 
-pub follows : (m : Member) (opening : Summary) (base : Base) (past l : List Input) → Follows m opening base past [] → IsKnownLawful (opened_core m opening base.bytes) l → Follows m opening base past l
-follows m opening base past l from lawful =
-    along (IsOpenTo (opened_core m opening base.bytes)) (λ g. Follows m opening base past g) (λ g x free f. follows-push m opening base past g x free f) [] l lawful from
+follows_none : (m : Member) (opening : Summary) (past : List Input) → IsPast m opening past → Follows m opening past []
+follows_none m opening past is =
+    let whole = sym (append-nil past) in
+    record {
+      knows = is.summed ∙ ap (summary m.node) whole;
+      allowed = subst (EachAfter (IsAllowed m.node m.n) []) whole is.allowed;
+      credit = subst (λ (g : List Input). credit g ≤ length (sent m.node g)) whole (credit-sent m.node m.n past is.allowed);
+    }
 
--- a node without a past
-pub follows_none : (m : Member) → Follows m empty fresh [] []
-unfolding IsLawful EachAfter used credit
-follows_none m = record {
-  of = record { knows = sym (summary-none m.node); bytes = refl; within = omega arith };
-  lawful = tt;
-  credit = omega arith;
-}
+pub follows : (m : Member) (opening : Summary) (past l : List Input) → IsPast m opening past → AreFree m.node m.n opening l → Follows m opening past l
+follows m opening past l is free =
+    along (λ before x. Objects m.n (after m.node opening before) x None) (λ g. Follows m opening past g) (λ g x none f. follows-push m opening past g x none f) [] l free (follows_none m opening past is)
 
-pub follows_new : (m : Member) (l : List Input) → IsKnownLawful (opened_core m empty 0) l → Follows m empty fresh [] l
-follows_new m l lawful = follows m empty fresh [] l (follows_none m) lawful
+-- and so do the first of its inputs, so many of them
+pub follows-take : (m : Member) (opening : Summary) (past l : List Input) (k : ℕ) → IsPast m opening past → AreFree m.node m.n opening l → Follows m opening past (take k l)
+follows-take m opening past l k is free = follows m opening past (take k l) is (EachAfter-take (λ before x. Objects m.n (after m.node opening before) x None) k l free)
 
--- so the core of a desk without a past stands for its inputs
-pub stands : (m : Member) (core : CoreView) (l : List Input) → core ≡ core_after (opened_core m empty 0) l → IsKnownLawful (opened_core m empty 0) l → CoreStandsFor core l
-stands m core l is lawful =
-    let of = (follows_new m l lawful).of in
-    subst (λ (c : CoreView). CoreStandsFor c l) (sym is) (record { knows = of.knows; bytes = of.bytes })
+-- ---- with room counted from a base
 
--- so does the core of the first of them
-pub first_of : (m : Member) (inputs : List Input) (k : ℕ) (core : CoreView) → IsKnownLawful (opened_core m empty 0) inputs → core ≡ core_after (opened_core m empty 0) (take k inputs) → IsOf core fresh (take k inputs)
-first_of m inputs k core lawful is =
-    subst (λ (c : CoreView). IsOf c fresh (take k inputs)) (sym is) (follows_new m (take k inputs) (EachAfter-take (IsOpenTo (opened_core m empty 0)) k inputs lawful)).of
+-- the past counts for nothing
+pub used-moved : (base : Base) (past l : List Input) → used (moved (length past) base) (past ++ l) ≡ used base l
+unfolding used
+used-moved base past l =
+    ap (λ (g : List Input). base.bytes + costs_of g) (sym (drop-drop base.inputs (length past) (past ++ l)) ∙ ap (drop base.inputs) (drop-front past l))
+
+-- nothing is asked of what is summarised but that it was allowed
+allowed_within : (m : Member) (base : Base) (before l : List Input) → length before + length l ≤ base.inputs → EachAfter (IsAllowed m.node m.n) before l → EachAfter (IsAdmitted m.node m.n m.capacity base) before l
+unfolding EachAfter Fits
+allowed_within m base before [] within allowed = tt
+allowed_within m base before (x ∷ l) within allowed =
+    let grown = length-append before (x ∷ []) in
+    (record { allowed = allowed.0; fits = λ behind. absurd (omega (arith, within, behind)) }, allowed_within m base (before ++ x ∷ []) l (omega (arith, within, grown)) allowed.1)
+
+fits-moved : (m : Member) (base : Base) (past l : List Input) (x : Input) → Fits m.capacity base l x → Fits m.capacity (moved (length past) base) (past ++ l) x
+unfolding Fits
+fits-moved m base past l x fits = λ within.
+    let sum = length-append past l in
+    let room = fits (omega (arith, sum, within)) in
+    omega (arith, room, used-moved base past l)
+
+-- what it accepted follows its past, and is lawful behind it
+IsBehind : Member → Summary → Base → List Input → List Input → Type 0
+IsBehind m opening base past l = Follows m opening past l × IsLawful m.node m.n m.capacity (moved (length past) base) (past ++ l)
+
+behind-push : (m : Member) (opening : Summary) (base : Base) (past l : List Input) (x : Input) → IsOpenSince m opening base l x → IsBehind m opening base past l → IsBehind m opening base past (l ++ x ∷ [])
+unfolding IsLawful IsBehind
+behind-push m opening base past l x free (f, lawful) =
+    let h = past ++ l in
+    let c = moved (length past) base in
+    let none = objects-known m.node m.n h x None (subst (λ (s : Summary). Objects m.n s x None) f.knows free.free) in (
+      follows-push m opening past l x free.free f,
+      subst (EachAfter (IsAdmitted m.node m.n m.capacity c) []) (append_assoc past l (x ∷ []))
+          (EachAfter-push (IsAdmitted m.node m.n m.capacity c) [] h x lawful (record { allowed = objection-allowed m.node m.n h x (sym none); fits = fits-moved m base past l x free.fits })),
+    )
+
+pub lawful_past : (m : Member) (opening : Summary) (base : Base) (past l : List Input) → IsPast m opening past → IsLawfulSince m opening base l → IsLawful m.node m.n m.capacity (moved (length past) base) (past ++ l)
+unfolding IsLawful IsBehind
+lawful_past m opening base past l is lawful =
+    let c = moved (length past) base in
+    let size = ap length (append-nil past) in
+    let none : EachAfter (IsAllowed m.node m.n) [] (past ++ []) = subst (EachAfter (IsAllowed m.node m.n) []) (sym (append-nil past)) is.allowed in
+    (along (IsOpenSince m opening base) (IsBehind m opening base past) (λ g x free b. behind-push m opening base past g x free b) [] l lawful
+    (follows_none m opening past is, allowed_within m c [] (past ++ []) (omega (arith, size)) none)).1
+
+-- nothing is against what it accepted
+pub free_since : (m : Member) (opening : Summary) (base : Base) (l : List Input) → IsLawfulSince m opening base l → AreFree m.node m.n opening l
+free_since m opening base l lawful =
+    EachAfter-from (IsOpenSince m opening base) (λ before x. Objects m.n (after m.node opening before) x None) [] (λ before x free. free.free) [] l lawful
+
+-- an area of the inputs since is one of the whole history
+pub based_past : (m : Member) (opening : Summary) (base : Base) (past l : List Input) → IsPast m opening past → AreFree m.node m.n opening l → IsAreaOf m.node opening base l → IsBaseOf m.node (moved (length past) base) (past ++ l)
+based_past m opening base past l is free area =
+    let front = take base.inputs l in
+    let within = area.within in
+    let sum = length-append past l in
+    let size = length-append past front in
+    let count = length-take-le base.inputs l within in
+    let f = follows-take m opening past l base.inputs is free in
+    let joined : take (length past + base.inputs) (past ++ l) ≡ past ++ front =
+    take-add (length past) base.inputs (past ++ l) ∙ (λ i. take-front past l i ++ take base.inputs (drop-front past l i)) in
+    let inputs : length past + base.inputs ≡ length (past ++ front) = omega (arith, size, count) in
+    record {
+      within = omega (arith, within, sum);
+      is = (λ i. record { layout = base.layout; epoch = base.epoch; inputs = inputs i; bytes = (area.bytes ∙ ap (area_bytes base.layout) f.knows) i })
+          ∙ ap (λ (g : List Input). base_of base.layout base.epoch (summary m.node g)) (sym joined);
+    }
+
+-- ---- its core
+
+-- it knows what the whole history says, with room counted from the area that is in use then
+pub core_past : (m : Member) (opening : Summary) (past : List Input) (s : NodeState) → IsPast m opening past → IsKnownState m opening s → IsOf (core_in m opening s) (moved (length past) (launched_base s)) (past ++ s.inputs)
+core_past m opening past s is known =
+    let sum = length-append past s.inputs in
+    let within = known.next.within in
+    record {
+      knows = (follows m opening past s.inputs is (free_since m opening (launched_base s) s.inputs known.all)).knows;
+      bytes = sym (used-moved (launched_base s) past s.inputs);
+      within = omega (arith, within, sum);
+    }
+
+pub core_knows : (m : Member) (opening : Summary) (past : List Input) (s : NodeState) (core : CoreView) → IsPast m opening past → IsKnownState m opening s → core ≡ core_in m opening s → core.known ≡ summary m.node (past ++ s.inputs)
+core_knows m opening past s core is known knows = (λ i. (knows i).known) ∙ (core_past m opening past s is known).knows
+
+-- what is known by its durable inputs
+pub durable_knows : (m : Member) (opening : Summary) (past : List Input) (s : NodeState) → IsPast m opening past → IsKnownState m opening s → after m.node opening (durable_in s) ≡ summary m.node (durable_in (shifted past s))
+durable_knows m opening past s is known =
+    (follows-take m opening past s.inputs s.durable is (free_since m opening (launched_base s) s.inputs known.all)).knows ∙ ap (summary m.node) (sym (durable-shifted past s))
 
 -- what it answers
-pub replies-known : (m : Member) (opening : Summary) (base : Base) (past l : List Input) (core : CoreView) (q : Request) (given : Reply) (more : Option Input) → Follows m opening base past l → core ≡ core_after (opened_core m opening base.bytes) l → Replies core q given more
-    → (given ≡ reply m.node m.n m.capacity base (past ++ l) q) × (cons_option more [] ≡ gained m.node m.n m.capacity base (past ++ l) q)
-replies-known m opening base past l core q given more f is replies =
-    answers (core_after (opened_core m opening base.bytes) l) base (past ++ l) q given more f.of (subst (λ (c : CoreView). Replies c q given more) is replies)
-
--- the first input that is not admitted
-pub unlawful : (m : Member) (inputs : List Input) (why : Refusal) → IsKnownUnlawful (opened_core m empty 0) inputs why → IsUnlawful m inputs why
-unlawful m inputs why u =
-    let f = follows_new m (take u.index inputs) u.before in
-    record {
-      index = u.index;
-      is = u.is;
-      before = f.lawful;
-      input = u.input;
-      there = u.there;
-      refused_for = u.refused_for;
-      because = sym (refused-is (core_after (opened_core m empty 0) (take u.index inputs)) fresh (take u.index inputs) u.input (Some u.refused_for) f.of u.because);
-    }
+pub given_is : (m : Member) (opening : Summary) (past : List Input) (s : NodeState) (core : CoreView) (q : Request) (given : Reply) (more : Option Input) (number : ℕ) → IsPast m opening past
+    → IsKnownState m opening s → core ≡ core_in m opening s → Replies core q given more → number ≡ opening.inputs + length (s.inputs ++ cons_option more [])
+    → (answered_with q given number ≡ answered_by m (shifted past s) q) × (cons_option more [] ≡ gained_by m (shifted past s) q)
+given_is m opening past s core q given more number is known knows replies count =
+    let base = moved (length past) (launched_base s) in
+    let h = past ++ s.inputs in
+    let says = answers (core_in m opening s) base h q given more (core_past m opening past s is known) (subst (λ (c : CoreView). Replies c q given more) knows replies) in
+    let front : opening.inputs ≡ length past = λ i. (is.summed i).inputs in
+    let sum = length-append past (s.inputs ++ cons_option more []) in
+    let counted : number ≡ length (h ++ cons_option more []) = omega (arith, count, front, sum) ∙ ap length (sym (append_assoc past s.inputs (cons_option more []))) in
+    let whole = launched-shifted past s in (
+      (λ i. answered_with q (says.0 i) ((counted ∙ ap (λ k. length (h ++ k)) says.1) i)) ∙ ap (λ (b : Base). answered m.node m.n m.capacity b h q) (sym whole),
+      says.1 ∙ ap (λ (b : Base). gained m.node m.n m.capacity b h q) (sym whole),
+    )
 
 -- ---- what its inputs bring
 

@@ -8,7 +8,6 @@ use Rattle.ring_records.specs.declared.decision.Decision.{Decision}
 use Rattle.ring_records.specs.declared.input.Input.{Input}
 use Rattle.ring_records.specs.declared.summary.Summary.{Summary}
 use Rattle.ring_records.specs.Known.{Objects, stepped, after}
-use Rattle.ring_records.specs.Summary.{empty}
 use Rattle.ring_records.proofs.Growth.{EachAfter-at}
 use Rattle.ring_records.proofs.Lists.{filter_map-push}
 use Rattle.ring_records.proofs.LookBack.{IsItem, take-item, cut-item}
@@ -49,10 +48,10 @@ told-item me s l i x effects before here brings =
 
 -- ---- an outbox where nothing waits
 
-pub holds_none : (me : ℕ) (outbox : Outbox) → Keeps outbox.released empty [] → vec_len outbox.released.decisions ≤ vec_capacity outbox.released.decisions
-    → outbox.waiting.items ≡ [] → IsBlank outbox.landing → Holds me outbox empty [] [] 0
+pub holds_restored : (me : ℕ) (outbox : Outbox) (s : Summary) (decided : List Decision) → Keeps outbox.released s decided → vec_len outbox.released.decisions ≤ vec_capacity outbox.released.decisions
+    → outbox.waiting.items ≡ [] → IsBlank outbox.landing → Holds me outbox s decided [] 0
 unfolding brought_after
-holds_none me outbox keeps room none blank = record {
+holds_restored me outbox s decided keeps room none blank = record {
   released = keeps;
   waiting = none;
   room = record { messages = omega arith; decisions = omega (arith, room) };
@@ -123,7 +122,7 @@ split_at (suc i) (y ∷ xs) rest x e = let there = split_at i xs rest x e in (ap
 pub passes : {A : Type 0} (i : ℕ) (xs rest : List A) (x : A) → drop i xs ≡ x ∷ rest → (take (i + 1) xs ≡ take i xs ++ x ∷ []) × (drop (i + 1) xs ≡ rest)
 passes i xs rest x e = subst (λ k. (take k xs ≡ take i xs ++ x ∷ []) × (drop k xs ≡ rest)) (sym (add-one i)) (split_at i xs rest x e)
 
-drop-front : {A : Type 0} (xs ys : List A) → drop (length xs) (xs ++ ys) ≡ ys
+pub drop-front : {A : Type 0} (xs ys : List A) → drop (length xs) (xs ++ ys) ≡ ys
 drop-front [] ys = refl
 drop-front (x ∷ xs) ys = drop-front xs ys
 

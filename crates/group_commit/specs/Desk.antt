@@ -1,18 +1,29 @@
 -- What a desk is seen as, what its calls make of it, and why they are refused.
-use Rattle.std.specs.Prelude.{ℕ, ◌≡◌, ◌<◌, ◌^◌, ◌⊎◌, ◌+◌, Bool, false, ◌||◌, if◌then◌else◌, List, [], ◌∷◌, ◌++◌, take, nat_eq, nat_le, slice_get, Option, Some, None}
+use Rattle.std.specs.Prelude.{ℕ, ◌≡◌, ◌<◌, ◌^◌, ◌⊎◌, ◌+◌, ◌*◌, Bool, false, ◌&&◌, ◌||◌, if◌then◌else◌, List, [], ◌∷◌, ◌++◌, length, nat_eq, nat_le, nat_lt, Option, Some, None}
+use Rattle.std.specs.List.{cons_option}
 use Rattle.std.specs.Map.{lookup, remove_entry}
+use Rattle.std.specs.Option.{option_map}
+use Rattle.ring_records.specs.declared.base.Base.{Base}
 use Rattle.ring_records.specs.declared.input.Input.{Input}
 use Rattle.ring_records.specs.declared.refusal.Refusal.{Refusal}
 use Rattle.ring_records.specs.declared.refusal.Refusal.TheVariants as refused
 use Rattle.ring_records.specs.declared.request.Request.{Request}
-use Rattle.ring_records.specs.Admission.{fresh}
+use Rattle.ring_records.specs.declared.summary.Summary.{Summary}
+use Rattle.ring_records.specs.Admission.{area_bytes, base_of, newest, used, where_so, IsBaseOf, IsLawful}
 use Rattle.ring_records.specs.Answer as answers
 use Rattle.ring_records.specs.Answer.{Answered}
-use Rattle.ring_records.specs.Member.{Member, member, IsHistory, refusal_by}
+use Rattle.ring_records.specs.Known.{after}
+use Rattle.ring_records.specs.Lists.{or_else}
+use Rattle.ring_records.specs.Member.{Member}
 use Rattle.ring_records.specs.States as states
-use Rattle.ring_records.specs.States.{NodeState, is_idle, opened, flying_in, answered_by}
+use Rattle.ring_records.specs.States.{NodeState, is_idle, launched_base, opened, flying_in, answered_by, gained_by}
 use Rattle.ring_records.specs.Message.{is_outside}
+use Rattle.ring_records.specs.Snapshot.{snapshot_len}
+use Rattle.gated_journal.specs.Reading.{Reading}
 use Rattle.gated_journal.specs.Batch.{Numbered}
+use Rattle.node_core.specs.Core.{CoreView}
+use Rattle.group_commit.specs.Opening.{opened_core}
+use Rattle.group_commit.specs.Past.{IsPast, shifted}
 use Rattle.group_commit.specs.Ticket.{TicketView, ticket_with}
 
 -- Whose it is, and which opening of its node; what the node accepted, and how much of that is durable or flies; what is
@@ -27,9 +38,42 @@ pub record DeskView : Type 0 where
   pub closed : Bool
   pub failed : Bool
 
--- just opened with these inputs
-abbrev pub new_desk : Member → ℕ → List Input → DeskView
-new_desk member run inputs = record { member = member; run = run; state = opened fresh inputs; tickets = []; issued = 0; closed = false; failed = false }
+-- What a desk keeps: the summary that it was opened with, and what it shows of the inputs since. Its counts begin there.
+pub record DeskKept : Type 0 where
+  pub opening : Summary
+  pub view : DeskView
+
+-- what an area of this layout and epoch stands for, which begins with the summary, before the first input since
+abbrev pub first_base : ℕ → ℕ → Summary → Base
+first_base layout epoch opening = record (base_of layout epoch opening) { inputs = 0 }
+
+-- just opened
+abbrev pub new_desk : Member → ℕ → Reading → DeskKept
+new_desk member run r = record {
+  opening = r.base;
+  view = record { member = member; run = run; state = opened (first_base r.layout r.epoch r.base) r.inputs; tickets = []; issued = 0; closed = false; failed = false };
+}
+
+-- what its node knows once all that it accepted is durable
+abbrev pub known_all : DeskKept → Summary
+known_all desk = after desk.view.member.node desk.opening desk.view.state.inputs
+
+-- what the area behind the one in use stands for, where it begins with the summary of all that the node accepted
+abbrev pub next_area : DeskKept → Base
+next_area desk = record {
+  layout = newest;
+  epoch = desk.view.state.base.epoch + 1;
+  inputs = length desk.view.state.inputs;
+  bytes = snapshot_len (known_all desk);
+}
+
+-- the core of the node before the first input since
+abbrev pub core_of : Member → Reading → CoreView
+core_of member r = opened_core member r.base (area_bytes r.layout r.base)
+
+-- what it shows of its whole history, where this is its past
+abbrev pub seen : List Input → DeskKept → DeskView
+seen past desk = record desk.view { state = shifted past desk.view.state }
 
 -- what it answers to a request
 abbrev pub answered : DeskView → Request → Answered
@@ -38,6 +82,17 @@ answered desk q = answered_by desk.member desk.state q
 -- the ticket that it gives for a request
 abbrev pub ticket_for : Request → DeskView → TicketView
 ticket_for q desk = ticket_with desk.member.node desk.run desk.issued (answered desk q)
+
+-- what is kept for the open ticket of this number
+abbrev pub kept_at : DeskView → ℕ → Option Answered
+kept_at desk own = lookup (nat_eq own) desk.tickets
+
+-- an open ticket of this desk has the ticket's node, opening, own number and request, and this is kept for it
+pub record IsHere (desk : DeskView) (ticket : TicketView) (kept : Answered) : Type 0 where
+  pub node : ticket.node ≡ desk.member.node
+  pub run : ticket.run ≡ desk.run
+  pub own : kept_at desk ticket.own ≡ Some kept
+  pub question : kept.question ≡ ticket.question
 
 -- ---- what its calls make of it
 
@@ -49,6 +104,25 @@ submitted q desk = record desk {
   issued = desk.issued + 1;
 }
 
+-- what is kept for a new ticket, and the input that is accepted, if there is one
+abbrev pub with_ticket : Answered → Option Input → DeskView → DeskView
+with_ticket given more desk = record desk {
+  state = record desk.state { inputs = desk.state.inputs ++ cons_option more [] };
+  tickets = desk.tickets ++ (desk.issued, given) ∷ [];
+  issued = desk.issued + 1;
+}
+
+-- It gave this ticket for the request: what it keeps for it is its answer, and it accepted what the history gains.
+pub record IsSubmitted (q : Request) (old new : DeskKept) (ticket : TicketView) : Type 0 where
+  pub given : Answered
+  pub more : Option Input
+  pub ticket_is : ticket ≡ ticket_with old.view.member.node old.view.run old.view.issued given
+  pub question : given.question ≡ q
+  pub number : given.answer.number ≡ old.opening.inputs + length (old.view.state.inputs ++ cons_option more [])
+  pub next : new ≡ record old { view = with_ticket given more old.view }
+  pub here : IsHere new.view ticket given
+  pub answer : (past : List Input) → IsPast old.view.member old.opening past → (given ≡ answered (seen past old) q) × (cons_option more [] ≡ gained_by old.view.member (seen past old).state q)
+
 -- the ticket of this number ended
 abbrev pub ended : ℕ → DeskView → DeskView
 ended own desk = record desk { tickets = remove_entry (nat_eq own) desk.tickets }
@@ -57,7 +131,13 @@ ended own desk = record desk { tickets = remove_entry (nat_eq own) desk.tickets 
 abbrev pub launched : DeskView → DeskView
 launched desk = record desk { state = states.launched desk.state }
 
--- what flies is durable
+-- all its inputs fly, as a checkpoint
+abbrev pub launched_all : DeskKept → DeskView
+launched_all desk = record desk.view {
+  state = record desk.view.state { flying = length desk.view.state.inputs; checkpoint = Some (next_area desk) };
+}
+
+-- what flies is durable: a batch, or a checkpoint
 abbrev pub landed : DeskView → DeskView
 landed desk = record desk { state = states.landed desk.state }
 
@@ -72,52 +152,55 @@ objection desk q =
     else (if nat_le (2 ^ 60) desk.issued then Some refused.Limit
     else None))
 
--- the refusal names the first of these inputs that is not admitted after those before it
-pub record IsUnlawful (member : Member) (inputs : List Input) (why : Refusal) : Type 0 where
-  pub index : ℕ
-  pub is : why ≡ refused.Unlawful index
-  pub before : IsHistory member (take index inputs)
-  pub input : Input
-  pub there : slice_get inputs index ≡ Some input
-  pub refused_for : Refusal
-  pub because : refusal_by member (take index inputs) input ≡ Some refused_for
-
--- why nothing is launched, before memory is asked for
+-- why no batch is launched, before memory is asked for
 abbrev pub launch_objection : DeskView → Option Refusal
 launch_objection desk =
     if desk.failed then Some refused.Failed
     else (if is_idle desk.state then None
     else Some refused.Busy)
 
--- ---- tickets
+-- the areas that a journal may write are numbered below this
+abbrev pub epochs : ℕ
+epochs = 2 ^ 40
 
--- what is kept for the open ticket of this number
-abbrev pub kept_at : DeskView → ℕ → Option Answered
-kept_at desk own = lookup (nat_eq own) desk.tickets
+-- why no checkpoint is launched, before memory is asked for: as for a batch; or the journal wrote all areas that it may;
+-- or the snapshot is longer than the capacity
+abbrev pub checkpoint_objection : DeskKept → Option Refusal
+checkpoint_objection desk =
+    or_else (launch_objection desk.view)
+    (or_else (where_so (nat_le epochs (desk.view.state.base.epoch + 1)) refused.Limit)
+    (where_so (nat_lt desk.view.member.capacity (snapshot_len (known_all desk))) refused.Full))
 
--- an open ticket of this desk has the ticket's node, opening, own number and request, and this is kept for it
-pub record IsHere (desk : DeskView) (ticket : TicketView) (kept : Answered) : Type 0 where
-  pub node : ticket.node ≡ desk.member.node
-  pub run : ticket.run ≡ desk.run
-  pub own : kept_at desk ticket.own ≡ Some kept
-  pub question : kept.question ≡ ticket.question
+-- a checkpoint is worth its calls: more than half of the capacity is taken, the snapshot takes a quarter at most, and the
+-- journal may write one more area
+abbrev pub is_due : DeskKept → Bool
+is_due desk =
+    nat_lt desk.view.member.capacity (2 * used (launched_base desk.view.state) desk.view.state.inputs)
+    && (nat_le (4 * snapshot_len (known_all desk)) desk.view.member.capacity
+    && nat_lt ((launched_base desk.view.state).epoch + 1) epochs)
 
--- a node with some lawful history gives this answer to the request
-pub record IsAnswer (member : Member) (a : Answered) : Type 0 where
-  pub history : List Input
-  pub lawful : IsHistory member history
-  pub gives : a ≡ answers.answered member.node member.n member.capacity fresh history a.question
+-- ---- replies
+
+-- a node with some lawful history behind its past gives this answer to the request, with room counted from an area that
+-- stands for the first inputs of that history
+pub record IsAnswer (member : Member) (past : List Input) (a : Answered) : Type 0 where
+  pub base : Base
+  pub since : List Input
+  pub based : IsBaseOf member.node base (past ++ since)
+  pub lawful : IsLawful member.node member.n member.capacity base (past ++ since)
+  pub gives : a ≡ answers.answered member.node member.n member.capacity base (past ++ since) a.question
 
 -- why its reply is not released: no such ticket is open here, or the reply rests on inputs that are not durable
-pub record IsSealed (desk : DeskView) (ticket : TicketView) (why : Refusal) : Type 0 where
-  pub cause : ((why ≡ refused.Foreign) × ((kept : Answered) → IsHere desk ticket kept → ⊥))
-      ⊎ ((kept : Answered) × IsHere desk ticket kept × (desk.state.durable < kept.answer.number) × (why ≡ (if desk.failed then refused.Failed else refused.Early)))
+pub record IsSealed (desk : DeskKept) (ticket : TicketView) (why : Refusal) : Type 0 where
+  pub cause : ((why ≡ refused.Foreign) × ((kept : Answered) → IsHere desk.view ticket kept → ⊥))
+      ⊎ ((kept : Answered) × IsHere desk.view ticket kept × (desk.opening.inputs + desk.view.state.durable < kept.answer.number) × (why ≡ (if desk.view.failed then refused.Failed else refused.Early)))
 
--- ---- batches
+-- ---- what flies
 
--- these are the node's inputs that fly, and a batch
-pub record IsFlying (desk : DeskView) (batch : Numbered) : Type 0 where
-  pub node : batch.node ≡ desk.member.node
-  pub first : batch.first ≡ desk.state.durable
-  pub inputs : batch.inputs ≡ flying_in desk.state
-  pub snapshot : batch.snapshot ≡ None
+-- these are the node's inputs that fly, numbered in the whole history, as a batch, or as a checkpoint with a snapshot of
+-- this length
+pub record IsFlying (desk : DeskKept) (batch : Numbered) : Type 0 where
+  pub node : batch.node ≡ desk.view.member.node
+  pub first : batch.first ≡ desk.opening.inputs + desk.view.state.durable
+  pub inputs : batch.inputs ≡ flying_in desk.view.state
+  pub snapshot : batch.snapshot ≡ option_map (λ b. b.bytes) desk.view.state.checkpoint

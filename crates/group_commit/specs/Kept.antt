@@ -1,15 +1,21 @@
 -- What a desk keeps to.
-use Rattle.std.specs.Prelude.{ℕ, ◌≡◌, ◌-◌, ◌<◌, ◌≤◌, List, [], ◌∷◌, length, drop}
+use Rattle.std.specs.Prelude.{ℕ, ◌≡◌, ◌+◌, ◌-◌, ◌<◌, List, [], ◌∷◌, ◌++◌, drop, Option}
+use Rattle.std.specs.Option.{option_map}
+use Rattle.ring_records.specs.declared.base.Base.{Base}
+use Rattle.ring_records.specs.declared.decision.Decision.{Decision}
 use Rattle.ring_records.specs.declared.input.Input.{Input}
 use Rattle.ring_records.specs.declared.summary.Summary.{Summary}
+use Rattle.ring_records.specs.Admission.{newest}
 use Rattle.ring_records.specs.Answer.{Answered}
 use Rattle.ring_records.specs.Known.{after}
 use Rattle.ring_records.specs.Member.{Member}
+use Rattle.ring_records.specs.Snapshot.{IsSound}
 use Rattle.ring_records.specs.States.{NodeState, durable_in}
 use Rattle.node_core.specs.Core.{CoreView}
 use Rattle.group_commit.specs.Desk.{IsAnswer}
-use Rattle.group_commit.specs.Opening.{opened_core, core_after, IsKnownLawful}
-use Rattle.group_commit.specs.Outbox.{brought_after, told, Holds}
+use Rattle.group_commit.specs.Outbox.{brought_after, told, leaders_in, Holds}
+use Rattle.group_commit.specs.Past.{IsPast}
+use Rattle.group_commit.specs.Since.{IsKnownState, core_in}
 use Rattle.group_commit.specs.declared.outbox.Outbox.{Outbox}
 
 -- the number of each ticket is below this one
@@ -17,27 +23,41 @@ unfoldable pub AreBelow : ℕ → List (ℕ × Answered) → Type 0
 AreBelow number [] = Unit {0}
 AreBelow number (ticket ∷ tickets) = (ticket.0 < number) × AreBelow number tickets
 
--- each kept reply is one that a node with some lawful history gives
-unfoldable pub AreAnswers : Member → List (ℕ × Answered) → Type 0
-AreAnswers member [] = Unit {0}
-AreAnswers member (ticket ∷ tickets) = IsAnswer member ticket.1 × AreAnswers member tickets
+-- each kept reply is one that a node with some lawful history behind its past gives
+unfoldable pub AreAnswers : Member → Summary → List (ℕ × Answered) → Type 0
+AreAnswers member opening [] = Unit {0}
+AreAnswers member opening (ticket ∷ tickets) =
+    ((past : List Input) → IsPast member opening past → IsAnswer member past ticket.1) × AreAnswers member opening tickets
 
--- the core that it was opened with
-abbrev pub first_core : Member → Summary → NodeState → CoreView
-first_core m opening s = opened_core m opening s.base.bytes
+-- what the area behind this one stands for, which begins with a snapshot of so many inputs since the opening
+abbrev pub area_behind : Base → ℕ → ℕ → Base
+area_behind base inputs bytes = record { layout = newest; epoch = base.epoch + 1; inputs = inputs; bytes = bytes }
+
+-- the state of a desk of which, where a snapshot of this length is pending, all that flies does as a checkpoint
+abbrev pub state_with : Base → List Input → ℕ → ℕ → Option ℕ → NodeState
+state_with base inputs durable flying pending = record {
+  inputs = inputs;
+  durable = durable;
+  flying = flying;
+  base = base;
+  checkpoint = option_map (area_behind base flying) pending;
+}
+
+-- the decisions of what was known at first, and of these inputs since
+abbrev pub decisions_since : ℕ → Summary → List Input → List Decision
+decisions_since me opening l = leaders_in opening ++ told (brought_after me opening l)
 
 -- the outbox holds what node me may release, where these inputs are durable, and what those behind them bring
 abbrev pub HoldsFor : ℕ → Outbox → Summary → List Input → List Input → ℕ → Type 0
-HoldsFor me outbox opening durable rest flying = Holds me outbox (after me opening durable) (told (brought_after me opening durable)) rest flying
+HoldsFor me outbox opening durable rest flying = Holds me outbox (after me opening durable) (decisions_since me opening durable) rest flying
 
--- The core knows what the opening's summary and the inputs since say, and these may be accepted in turn; so many are
--- durable, and so many durable or flying; the outbox holds what they let the node release; no number of a ticket is given
--- twice; and what is kept for a ticket is an answer.
+-- The summary of the opening is sound. The state is one that its node may be in since, and the core is the node's in that
+-- state; the outbox holds what the durable inputs let the node release; no number of a ticket is given twice; and what is
+-- kept for a ticket is an answer.
 pub record IsDesk (core : CoreView) (outbox : Outbox) (m : Member) (opening : Summary) (s : NodeState) (tickets : List (ℕ × Answered)) (issued : ℕ) : Type 0 where
-  pub knows : core ≡ core_after (first_core m opening s) s.inputs
-  pub in_order : s.durable ≤ s.flying
-  pub accepted : s.flying ≤ length s.inputs
-  pub lawful : IsKnownLawful (first_core m opening s) s.inputs
+  pub sound : IsSound m.n opening
+  pub knows : core ≡ core_in m opening s
+  pub state : IsKnownState m opening s
   pub holds : HoldsFor m.node outbox opening (durable_in s) (drop s.durable s.inputs) (s.flying - s.durable)
   pub given : AreBelow issued tickets
-  pub answers : AreAnswers m tickets
+  pub answers : AreAnswers m opening tickets

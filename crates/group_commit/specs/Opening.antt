@@ -1,6 +1,6 @@
 -- What a desk knows: by the summary that it was opened with, and by its inputs since. That summary may be that of no history.
 use Rattle.std.specs.Prelude.{ℕ, ◌≡◌, ◌+◌, ◌≤◌, List, [], length, take, slice_get, Option, Some, None}
-use Rattle.std.specs.List.{cons_option, sum_by}
+use Rattle.std.specs.List.{cons_option}
 use Rattle.ring_records.specs.declared.base.Base.{Base}
 use Rattle.ring_records.specs.declared.candidate.Candidate.{Candidate}
 use Rattle.ring_records.specs.declared.input.Input.{Input}
@@ -12,7 +12,7 @@ use Rattle.ring_records.specs.declared.reply.Reply.TheVariants as say
 use Rattle.ring_records.specs.declared.request.Request.{Request}
 use Rattle.ring_records.specs.declared.request.Request.TheVariants as ask
 use Rattle.ring_records.specs.declared.summary.Summary.{Summary}
-use Rattle.ring_records.specs.Admission.{cost, used}
+use Rattle.ring_records.specs.Admission.{costs_of, used}
 use Rattle.ring_records.specs.Answer.{if_free, unless}
 use Rattle.ring_records.specs.Known.{after, known_of, leader_of, leads_in}
 use Rattle.ring_records.specs.Leader.{IsLatest}
@@ -27,7 +27,7 @@ opened_core m opening bytes = record { me = m.node; size = m.n; capacity = m.cap
 
 -- the core once it has accepted these inputs
 abbrev pub core_after : CoreView → List Input → CoreView
-core_after core l = record core { known = after core.me core.known l; used = core.used + sum_by cost l }
+core_after core l = record core { known = after core.me core.known l; used = core.used + costs_of l }
 
 -- it refuses the input for nothing, once it has accepted those before it
 abbrev pub IsOpenTo : CoreView → List Input → Input → Type 0
@@ -38,7 +38,7 @@ abbrev pub IsKnownLawful : CoreView → List Input → Type 0
 IsKnownLawful core l = EachAfter (IsOpenTo core) [] l
 
 -- the refusal names the first of these inputs that it refuses after those before it
-pub record IsKnownUnlawful (core : CoreView) (inputs : List Input) (why : Refusal) : Type 0 where
+pub record IsUnlawful (core : CoreView) (inputs : List Input) (why : Refusal) : Type 0 where
   pub index : ℕ
   pub is : why ≡ refused.Unlawful index
   pub before : IsKnownLawful core (take index inputs)

@@ -1,8 +1,11 @@
 -- What an outbox holds, where a node knows s by its durable inputs.
-use Rattle.std.specs.Prelude.{ℕ, ◌≡◌, ◌+◌, ◌<◌, ◌≤◌, nat_lt, if◌then◌else◌, List, [], ◌∷◌, None, vec_len, vec_capacity}
+use Rattle.std.specs.Prelude.{ℕ, ◌≡◌, ◌+◌, ◌<◌, ◌≤◌, nat_lt, if◌then◌else◌, List, [], ◌∷◌, Option, None, vec_len, vec_capacity}
+use Rattle.std.specs.FinMap as map
 use Rattle.std.specs.List.{filter_map}
+use Rattle.std.specs.Option.{option_map}
 use Rattle.ring_records.specs.declared.decision.Decision.{Decision}
 use Rattle.ring_records.specs.declared.input.Input.{Input}
+use Rattle.ring_records.specs.declared.key_state.KeyState.{KeyState}
 use Rattle.ring_records.specs.declared.packet.Packet.{Packet}
 use Rattle.ring_records.specs.declared.packet.Packet.TheVariants.{Credit}
 use Rattle.ring_records.specs.declared.summary.Summary.{Summary}
@@ -25,6 +28,13 @@ AreFree me n s l = EachAfter (λ before x. Objects n (after me s before) x None)
 unfoldable pub brought_after : ℕ → Summary → List Input → List Effects
 brought_after me s [] = []
 brought_after me s (x ∷ l) = brought me s x ∷ brought_after me (stepped me s x) l
+
+-- the decision of each key with a leader that a node knows, in order of key
+abbrev pub led : KeyState → Option Decision
+led state = option_map (λ c. record { key = state.key; leader = c }) state.leader
+
+abbrev pub leaders_in : Summary → List Decision
+leaders_in s = filter_map led (map.values s.keys)
 
 -- the messages among it
 abbrev pub carried : List Effects → List Packet

@@ -1,12 +1,20 @@
 -- Whether a node's history gives a reply that was released.
-use Rattle.std.specs.Prelude.{ℕ, ◌≡◌, ◌+◌, ◌≤◌, ◌⊎◌, List, take, slice_get, Some}
+use Rattle.std.specs.Prelude.{ℕ, ◌≡◌, ◌+◌, ◌<◌, ◌≤◌, ◌⊎◌, List, take, slice_get, Option, Some, None}
+use Rattle.ring_records.specs.declared.candidate.Candidate.{Candidate}
 use Rattle.ring_records.specs.declared.input.Input.{Input}
+use Rattle.ring_records.specs.declared.refusal.Refusal.{Refusal}
+use Rattle.ring_records.specs.declared.refusal.Refusal.TheVariants as refused
 use Rattle.ring_records.specs.declared.input.Input.TheVariants.{Stand, Take, Acked}
 use Rattle.ring_records.specs.declared.reply.Reply.{Reply}
 use Rattle.ring_records.specs.declared.reply.Reply.TheVariants as say
 use Rattle.ring_records.specs.declared.request.Request.{Request}
-use Rattle.ring_records.specs.Answer.{Answered, input_of}
-use Rattle.ring_records.specs.Member.{Member, answer_by}
+use Rattle.ring_records.specs.declared.request.Request.TheVariants as ask
+use Rattle.ring_records.specs.Admission.{fresh}
+use Rattle.ring_records.specs.Answer.{Answered, input_of, answer}
+use Rattle.ring_records.specs.Known.{Objects, known_of, leader_of, leads_in}
+use Rattle.ring_records.specs.Leader.{IsLatest}
+use Rattle.ring_records.specs.Member.{Member}
+use Rattle.node_core.specs.Core.{FreeView}
 use Rattle.ring_records.specs.States.{NodeState}
 
 -- the reply that says that the input is accepted
@@ -32,8 +40,26 @@ pub record IsAcceptance (inputs : List Input) (a : Answered) : Type 0 where
   pub accepts : Accepts a.question a.answer.reply input
   pub is_input : IsInput inputs a.answer.number input
 
--- The history gives this answer to the request, and as many inputs as its number are durable: the reply accepts the
--- last of them, or they give the answer.
-pub record IsVouched (member : Member) (s : NodeState) (a : Answered) : Type 0 where
+-- The history gives this answer to the request, and as many inputs as its number are durable: the reply accepts the last
+-- of them, or they give the answer. Of the first inputs, which are summarised, no more is known than what they say together.
+-- Room depends on where the journal's area began: so the answer is that of a node without room.
+pub record IsVouched (member : Member) (first : ℕ) (s : NodeState) (a : Answered) : Type 0 where
   pub durable : a.answer.number ≤ s.durable
-  pub gives : IsAcceptance s.inputs a ⊎ (a.answer ≡ answer_by member (take a.answer.number s.inputs) a.question)
+  pub from : first ≤ a.answer.number
+  pub gives : ((first < a.answer.number) × IsAcceptance s.inputs a)
+      ⊎ (a.answer ≡ answer member.node member.n 0 fresh (take a.answer.number s.inputs) a.question)
+
+-- ---- what a node without room replies
+
+-- why it refuses an input, where this is known against it
+abbrev pub refused_or_full : Option Refusal → Reply
+refused_or_full None = say.Refused refused.Full
+refused_or_full (Some refusal) = say.Refused refusal
+
+-- to a request, by what it knows
+abbrev pub RepliesFull : FreeView → Request → Reply → Type 0
+RepliesFull core (ask.Stand key bid) reply = (o : Option Refusal) × Objects core.size core.known (Stand key bid) o × (reply ≡ refused_or_full o)
+RepliesFull core (ask.Take msg_no msg) reply = (o : Option Refusal) × Objects core.size core.known (Take msg_no msg) o × (reply ≡ refused_or_full o)
+RepliesFull core (ask.Acked upto) reply = (o : Option Refusal) × Objects core.size core.known (Acked upto) o × (reply ≡ refused_or_full o)
+RepliesFull core (ask.Who key) reply = reply ≡ say.Leader (leader_of (known_of core.known key))
+RepliesFull core (ask.Latest group) reply = (led : Option (ℕ × Candidate)) × IsLatest (leads_in core.known group) led × (reply ≡ say.Latest led)

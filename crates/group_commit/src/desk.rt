@@ -1,20 +1,29 @@
 //! A node's inputs: which of them are durable, which fly, and the replies that wait for them.
-ghost use Rattle.std.specs.Prelude.{◌≡◌, ◌+◌, ◌-◌, ◌<◌, ◌++◌, ◌∷◌, ◌≤◌, ◌⊎◌, ◌||◌, ℕ, List, [], not, true, false, Some, None, length, IfSome, MatchOption, IfOk, IfErr, OnOk, OnErr};
+ghost use Rattle.std.specs.Prelude.{◌≡◌, ◌+◌, ◌-◌, ◌*◌, ◌<◌, ◌++◌, ◌∷◌, ◌≤◌, ◌⊎◌, ◌||◌, ℕ, List, [], not, true, false, Some, None, length, nat_lt, nat_le, IfSome, MatchOption, IfOk, IfErr, OnOk, OnErr};
 ghost use Rattle.std.specs.List.{cons_option};
+ghost use Rattle.ring_records.specs.declared.input.Input.{Input};
+ghost use Rattle.ring_records.specs.Admission.{area_bytes, used, newest, IsLawful};
 ghost use Rattle.ring_records.specs.Answer.{Answered};
-ghost use Rattle.ring_records.specs.Member.{member, IsHistory};
+ghost use Rattle.ring_records.specs.Member.{member};
 ghost use Rattle.ring_records.specs.Release.{packets, decisions, window};
-ghost use Rattle.ring_records.specs.States.{IsNodeState, IsPlain, durable_in, flying_in};
+ghost use Rattle.ring_records.specs.Snapshot.{IsSound, snapshot_len};
+ghost use Rattle.ring_records.specs.States as states;
+ghost use Rattle.ring_records.specs.States.{IsNodeState, IsLawfulState, launched_base, durable_in, flown_in, flying_in};
+ghost use Rattle.ring_records.specs.Summary.{summary};
+ghost use Rattle.node_core.specs.Core.{IsNodeOf};
+ghost use Rattle.group_commit.specs.Desk.{launched, landed};
 
-use crate::desk::parts::{accept, prepare, replay};
+use crate::desk::parts::{accept, prepare, replay, summarise};
 use crate::judge::judge;
 use crate::kept::{keep, kept_for, take_back};
 use crate::landed::Landed;
 use crate::outbox::Outbox;
 use crate::ticket::{Stub, Ticket};
-use gated_journal::{Batch, Receipt, Spoiled};
+use gated_journal::{Batch, Checkpoint, Opening, Receipt, Spoiled};
 use node_core::NodeCore;
-use ring_records::{BATCH_INPUTS, Input, NodeNo, Packet, Refusal, Reply, Request};
+use ring_records::{
+    BATCH_INPUTS, Input, NodeNo, Packet, Refusal, Reply, Request, Summary, summary_len,
+};
 use std::alloc::{AllocError, AllocFailed, Global};
 use std::collections::BTreeMap;
 use std::marker::Model;
@@ -22,17 +31,34 @@ use std::marker::Model;
 /// The most tickets of an opening.
 const TICKETS: u64 = 1 << 60;
 
-/// The desk of a node: it accepts inputs at once, and keeps each reply until the inputs that it rests on are durable.
+/// The areas of a journal are numbered below this.
+const EPOCHS: u64 = 1 << 40;
+
+/// The layout of the areas that are written.
+const LAYOUT: u8 = 2;
+
+/// The desk of a node: it accepts inputs at once, and keeps each reply until the inputs that it rests on are durable. It
+/// goes on from the summary that it was opened with, and counts the inputs that this stands for.
 #[derive(Drop)]
 pub struct Desk {
     node: NodeNo,
     n: u8,
     capacity: u32,
     run: u64,
+    // What it was opened with.
+    base: Summary,
     core: NodeCore,
+    // The inputs since; how many of them are durable, and how many durable or flying.
     inputs: Vec<Input>,
     durable: u64,
     flying: u64,
+    // The area of the journal that is in use: for how many inputs since it stands, and in how many bytes. How long the
+    // snapshot is of the checkpoint that flies, if one does.
+    layout: u8,
+    epoch: u64,
+    summarised: u64,
+    area: u64,
+    pending: Option<u64>,
     outbox: Outbox,
     tickets: BTreeMap<u64, Stub>,
     issued: u64,
@@ -41,49 +67,70 @@ pub struct Desk {
 }
 
 impl Model for Desk {
-    ghost use Rattle.group_commit.specs.Desk.{DeskView};
+    ghost use Rattle.group_commit.specs.Codes.{coded_desk};
+    ghost use Rattle.group_commit.specs.Desk.{DeskKept};
 
-    ghost Value = { DeskView };
+    ghost Value = { DeskKept };
+
+    ghost coded = { coded_desk };
 
     ghost use Rattle.ring_records.specs.Member.{member};
-    ghost use Rattle.ring_records.specs.States.{plain};
-    ghost use Rattle.ring_records.specs.Summary.{empty};
-    ghost use Rattle.group_commit.specs.Kept.{IsDesk};
+    ghost use Rattle.group_commit.specs.Kept.{IsDesk, state_with};
 
     ghost view = { λ d. record {
-      member = member d.node d.n d.capacity;
-      run = d.run;
-      state = plain d.inputs.items d.durable d.flying;
-      tickets = d.tickets.entries;
-      issued = d.issued;
-      closed = d.is_closed;
-      failed = d.is_failed;
+      opening = d.base;
+      view = record {
+        member = member d.node d.n d.capacity;
+        run = d.run;
+        state = state_with (record { layout = d.layout; epoch = d.epoch; inputs = d.summarised; bytes = d.area }) d.inputs.items d.durable d.flying d.pending;
+        tickets = d.tickets.entries;
+        issued = d.issued;
+        closed = d.is_closed;
+        failed = d.is_failed;
+      };
     } };
 
-    ghost invariant = { λ d. IsDesk d.core d.outbox (member d.node d.n d.capacity) empty (plain d.inputs.items d.durable d.flying) d.tickets.entries d.issued };
+    ghost invariant = { λ d. IsDesk d.core d.outbox (member d.node d.n d.capacity) d.base
+        (state_with (record { layout = d.layout; epoch = d.epoch; inputs = d.summarised; bytes = d.area }) d.inputs.items d.durable d.flying d.pending) d.tickets.entries d.issued };
 }
 
 impl Desk {
-    ghost use Rattle.group_commit.specs.Desk.{new_desk, answered, ticket_for, submitted, ended, launched, landed, objection, launch_objection, IsUnlawful, IsAnswer, IsHere, IsSealed, IsFlying};
-    ghost use Rattle.gated_journal.specs.Batch.{shown as batch_shown, landed as receipted, lost, numbered, numbered_with};
+    ghost use Rattle.group_commit.specs.Desk.{DeskKept, new_desk, core_of, known_all, seen, launched_all, ended, objection, launch_objection, checkpoint_objection, is_due, epochs, IsSubmitted, IsAnswer, IsHere, IsSealed, IsFlying};
+    ghost use Rattle.group_commit.specs.Opening.{IsKnownLawful, IsUnlawful};
+    ghost use Rattle.group_commit.specs.Past.{IsPast};
+    ghost use Rattle.gated_journal.specs.Reading.{reading_of_opening};
+    ghost use Rattle.gated_journal.specs.Batch.{shown as batch_shown, landed as receipted, lost, numbered, numbered_with, numbered_by, base_by};
     ghost use Rattle.group_commit.specs.Ticket.{shown, answered_with};
 
-    /// The desk of a node that holds these inputs, all of them durable. Refused as 24 with the number of the first
-    /// input, counted from 0, that is not admitted after those before it, and as 8.
+    /// The desk of a node whose journal holds this: the inputs that its summary stands for, and those since, all of them
+    /// durable. The caller sees that the summary is sound for a ring of `n`. Refused as 24 with the number of the first
+    /// input since, counted from 0, that is not admitted after those before it, and as 8.
     pub fn open(
         alloc: Global,
         node: NodeNo,
         n: u8,
         capacity: u32,
         run: u64,
-        inputs: Vec<Input>,
+        opening: Opening,
     ) -> Result<Desk, Refusal>
-        ensures desk { IfOk result (λ desk. desk ≡ new_desk (member node n capacity) run inputs.items) }
-        ensures lawful { OnOk result (IsHistory (member node n capacity) inputs.items) }
-        ensures refusal { IfErr result (λ refusal. (refusal ≡ Refusal.OutOfMemory) ⊎ IsUnlawful (member node n capacity) inputs.items refusal) }
+        requires { IsSound n opening.base }
+        ensures desk { IfOk result (λ desk. desk ≡ new_desk (member node n capacity) run (reading_of_opening opening)) }
+        ensures lawful { OnOk result (IsKnownLawful (core_of (member node n capacity) (reading_of_opening opening)) opening.inputs.items) }
+        ensures refusal { IfErr result (λ refusal. (refusal ≡ Refusal.OutOfMemory) ⊎ IsUnlawful (core_of (member node n capacity) (reading_of_opening opening)) opening.inputs.items refusal) }
     {
-        let mut core = NodeCore::new(alloc, node, n, capacity);
-        let mut outbox = Outbox::new(alloc);
+        let Opening {
+            layout,
+            epoch,
+            base,
+            inputs,
+        } = opening;
+        let taken = area_bytes(layout, &base);
+        let Ok(mut core) = NodeCore::restore(alloc, node, n, capacity, taken, &base) else {
+            return Err(Refusal::OutOfMemory);
+        };
+        let Ok(mut outbox) = Outbox::restore(alloc, n, &base) else {
+            return Err(Refusal::OutOfMemory);
+        };
         if let Err(refusal) = replay(&mut core, &mut outbox, &inputs) {
             return Err(refusal);
         }
@@ -93,10 +140,16 @@ impl Desk {
             n,
             capacity,
             run,
+            base,
             core,
             inputs,
             durable: count,
             flying: count,
+            layout,
+            epoch,
+            summarised: 0,
+            area: taken,
+            pending: None,
             outbox,
             tickets: BTreeMap::new(alloc),
             issued: 0,
@@ -109,18 +162,16 @@ impl Desk {
     /// where it is closed or has failed, as 2 where a Take's message is of no node of the ring, as 6 at 2^60 tickets,
     /// and as 8. Every other refusal is a reply.
     pub fn submit(&mut self, question: Request) -> Result<Ticket, Refusal>
-        ensures ticket { IfOk result (λ ticket. shown ticket ≡ ticket_for question self.old) }
-        ensures next { OnOk result (self.new ≡ submitted question self.old) }
-        ensures here { IfOk result (λ ticket. IsHere self.new (shown ticket) (answered self.old question)) }
-        ensures free { OnOk result (objection self.old question ≡ None) }
-        ensures refusal { IfErr result (λ refusal. (objection self.old question ≡ Some refusal) ⊎ ((objection self.old question ≡ None) × (refusal ≡ Refusal.OutOfMemory))) }
+        ensures submitted { IfOk result (λ ticket. IsSubmitted question self.old self.new (shown ticket)) }
+        ensures free { OnOk result (objection self.old.view question ≡ None) }
+        ensures refusal { IfErr result (λ refusal. (objection self.old.view question ≡ Some refusal) ⊎ ((objection self.old.view question ≡ None) × (refusal ≡ Refusal.OutOfMemory))) }
         ensures same { OnErr result (self.new ≡ self.old) }
     {
         if let Some(refusal) = self.objection(&question) {
             return Err(refusal);
         }
         let (reply, input) = judge(&self.core, &question);
-        let number = count_with(&self.inputs, &input);
+        let number = self.base.inputs + count_with(&self.inputs, &input);
         let own = self.issued;
         let kept = Stub {
             question,
@@ -148,11 +199,11 @@ impl Desk {
     /// 10 where no such ticket is open here; where an input that the reply rests on is not durable yet, as 9 on a desk
     /// that has failed and else as 11. Then the ticket comes back.
     pub fn redeem(&mut self, ticket: Ticket) -> Result<(Reply, Stub), (Ticket, Refusal)>
-        ensures released { IfOk result (λ r. IsHere self.old (shown ticket) r.1) }
+        ensures released { IfOk result (λ r. IsHere self.old.view (shown ticket) r.1) }
         ensures reply { IfOk result (λ r. r.0 ≡ r.1.answer.reply) }
-        ensures durable { IfOk result (λ r. r.1.answer.number ≤ self.old.state.durable) }
-        ensures answer { IfOk result (λ r. IsAnswer self.old.member r.1) }
-        ensures next { OnOk result (self.new ≡ ended (shown ticket).own self.old) }
+        ensures durable { IfOk result (λ r. r.1.answer.number ≤ self.old.opening.inputs + self.old.view.state.durable) }
+        ensures answer { IfOk result (λ r. (past : List Input) → IsPast self.old.view.member self.old.opening past → IsAnswer self.old.view.member past r.1) }
+        ensures next { OnOk result (self.new ≡ record self.old { view = ended (shown ticket).own self.old.view }) }
         ensures refusal { IfErr result (λ e. IsSealed self.old (shown ticket) e.1) }
         ensures back { IfErr result (λ e. shown e.0 ≡ shown ticket) }
         ensures same { OnErr result (self.new ≡ self.old) }
@@ -160,7 +211,7 @@ impl Desk {
         let Some((reply, number)) = self.found(&ticket) else {
             return Err((ticket, Refusal::Foreign));
         };
-        if number > self.durable {
+        if number > self.durable() {
             let refusal = if self.is_failed {
                 Refusal::Failed
             } else {
@@ -190,10 +241,10 @@ impl Desk {
     /// Ends a ticket with no reply, on a desk that is closed or has failed. Refused as 10 where no such ticket is open
     /// here, and the ticket comes back.
     pub fn forfeit(&mut self, ticket: Ticket) -> Result<(), (Ticket, Refusal)>
-        requires over { (self.old.closed || self.old.failed) ≡ true }
-        ensures here { OnOk result ((kept : Answered) × IsHere self.old (shown ticket) kept) }
-        ensures next { OnOk result (self.new ≡ ended (shown ticket).own self.old) }
-        ensures foreign { IfErr result (λ e. (e.1 ≡ Refusal.Foreign) × ((kept : Answered) → IsHere self.old (shown ticket) kept → ⊥)) }
+        requires over { (self.old.view.closed || self.old.view.failed) ≡ true }
+        ensures here { OnOk result ((kept : Answered) × IsHere self.old.view (shown ticket) kept) }
+        ensures next { OnOk result (self.new ≡ record self.old { view = ended (shown ticket).own self.old.view }) }
+        ensures foreign { IfErr result (λ e. (e.1 ≡ Refusal.Foreign) × ((kept : Answered) → IsHere self.old.view (shown ticket) kept → ⊥)) }
         ensures back { IfErr result (λ e. shown e.0 ≡ shown ticket) }
         ensures same { OnErr result (self.new ≡ self.old) }
     {
@@ -212,13 +263,14 @@ impl Desk {
     }
 
     /// The first inputs that wait, at most 64, as a batch to be made durable; they fly from then on. `None` exactly
-    /// where none waits. Refused as 9 where the desk has failed, as 12 where a batch is flying, and as 8.
+    /// where none waits. Refused as 9 where the desk has failed, as 12 where a batch or a checkpoint is flying, and as 8.
     pub fn launch(&mut self) -> Result<Option<Batch>, Refusal>
-        ensures batch { IfOk result (λ some. IfSome some (λ batch. batch_shown batch ≡ numbered self.old.member.node self.old.state.durable (flying_in self.new.state))) }
-        ensures none { IfOk result (λ some. MatchOption some (self.old.state.durable ≡ length self.old.state.inputs) (λ _. self.old.state.durable < length self.old.state.inputs)) }
-        ensures next { OnOk result (self.new ≡ launched self.old) }
-        ensures free { OnOk result (launch_objection self.old ≡ None) }
-        ensures refusal { IfErr result (λ refusal. (launch_objection self.old ≡ Some refusal) ⊎ ((launch_objection self.old ≡ None) × (refusal ≡ Refusal.OutOfMemory))) }
+        ensures batch { IfOk result (λ some. IfSome some (λ batch. batch_shown batch ≡ numbered self.old.view.member.node (self.old.opening.inputs + self.old.view.state.durable) (flying_in self.new.view.state))) }
+        ensures none { IfOk result (λ some. MatchOption some (self.old.view.state.durable ≡ length self.old.view.state.inputs) (λ _. self.old.view.state.durable < length self.old.view.state.inputs)) }
+        ensures fits { IfOk result (λ some. IfSome some (λ batch. used self.new.view.state.base (flown_in self.new.view.state) ≤ self.new.view.member.capacity)) }
+        ensures next { OnOk result (self.new ≡ record self.old { view = launched self.old.view }) }
+        ensures free { OnOk result (launch_objection self.old.view ≡ None) }
+        ensures refusal { IfErr result (λ refusal. (launch_objection self.old.view ≡ Some refusal) ⊎ ((launch_objection self.old.view ≡ None) × (refusal ≡ Refusal.OutOfMemory))) }
         ensures same { OnErr result (self.new ≡ self.old) }
     {
         if let Some(refusal) = self.launch_objection() {
@@ -229,7 +281,8 @@ impl Desk {
         if start == end {
             return Ok(None);
         }
-        match prepare(&mut self.outbox, self.node, &self.inputs, start, end) {
+        let first = self.durable();
+        match prepare(&mut self.outbox, self.node, first, &self.inputs[start..end]) {
             Ok(batch) => {
                 self.flying = end as u64;
                 Ok(Some(batch))
@@ -238,16 +291,70 @@ impl Desk {
         }
     }
 
-    /// The batch that flies is durable: what it lets the node release. It takes no memory. Refused as 10 where this is
-    /// not the receipt of that batch, or the desk has failed, and it comes back.
+    /// All inputs that wait, any number, with the summary that stands for these and all before them, as a checkpoint to be
+    /// made durable; they fly from then on, and room is counted from that summary. Refused as 9 where the desk has failed,
+    /// as 12 where a batch or a checkpoint is flying, as 6 where the journal may write no other area, as 7 where the
+    /// summary's snapshot is longer than the capacity, and as 8.
+    pub fn launch_checkpoint(&mut self) -> Result<Checkpoint, Refusal>
+        ensures checkpoint { IfOk result (λ made. numbered_by made ≡ numbered_with self.old.view.member.node (self.old.opening.inputs + self.old.view.state.durable) (flying_in self.new.view.state) (Some (snapshot_len (known_all self.old)))) }
+        ensures summary { IfOk result (λ made. base_by made ≡ known_all self.old) }
+        ensures known { IfOk result (λ made. (past : List Input) → IsPast self.old.view.member self.old.opening past → base_by made ≡ summary self.old.view.member.node (seen past self.old).state.inputs) }
+        ensures sound { IfOk result (λ made. IsNodeOf self.old.view.member.n self.old.view.member.node → IsSound self.old.view.member.n (base_by made)) }
+        ensures fits { IfOk result (λ made. snapshot_len (base_by made) ≤ self.old.view.member.capacity) }
+        ensures epoch { OnOk result (self.old.view.state.base.epoch + 1 < epochs) }
+        ensures next { OnOk result (self.new ≡ record self.old { view = launched_all self.old }) }
+        ensures lifted { OnOk result ((past : List Input) → IsPast self.old.view.member self.old.opening past
+            → seen past self.new ≡ record (seen past self.old) { state = states.launched_all self.old.view.member.node (seen past self.old).state }) }
+        ensures free { OnOk result (checkpoint_objection self.old ≡ None) }
+        ensures refusal { IfErr result (λ refusal. (checkpoint_objection self.old ≡ Some refusal) ⊎ ((checkpoint_objection self.old ≡ None) × (refusal ≡ Refusal.OutOfMemory))) }
+        ensures same { OnErr result (self.new ≡ self.old) }
+    {
+        if let Some(refusal) = self.checkpoint_objection() {
+            return Err(refusal);
+        }
+        let start = self.durable as usize;
+        let first = self.durable();
+        let length = self.core.summary_len();
+        match summarise(
+            &mut self.core,
+            &mut self.outbox,
+            self.node,
+            first,
+            &self.inputs[start..],
+        ) {
+            Ok(checkpoint) => {
+                self.flying = self.inputs.len() as u64;
+                self.pending = Some(length);
+                Ok(checkpoint)
+            }
+            Err(refusal) => Err(refusal),
+        }
+    }
+
+    /// Whether a checkpoint is worth its device calls: more than half of the capacity is taken, the snapshot of all
+    /// accepted inputs takes a quarter of it at most, and the journal may write another area.
+    pub fn due(&self) -> bool
+        ensures { result ≡ is_due self.now }
+    {
+        is_over_half(self.core.used(), self.capacity)
+            && is_quarter(self.core.summary_len(), self.capacity)
+            && self.has_epoch()
+    }
+
+    /// What flies is durable, a batch or a checkpoint: what it lets the node release. It takes no memory. Refused as 10
+    /// where this is not the receipt of what flies, or the desk has failed, and it comes back.
     pub fn land(&mut self, receipt: Receipt) -> Result<Landed, (Receipt, Refusal)>
         ensures flying { OnOk result (IsFlying self.old (receipted receipt)) }
-        ensures works { OnOk result (self.old.failed ≡ false) }
-        ensures count { IfOk result (λ landed. landed.count ≡ self.old.state.flying - self.old.state.durable) }
-        ensures packets { IfOk result (λ landed. landed.packets.items ≡ packets self.old.member.node (durable_in self.old.state) (flying_in self.old.state)) }
-        ensures decisions { IfOk result (λ landed. landed.decisions.items ≡ decisions self.old.member.node (durable_in self.old.state) (flying_in self.old.state)) }
-        ensures next { OnOk result (self.new ≡ landed self.old) }
-        ensures foreign { IfErr result (λ e. (e.1 ≡ Refusal.Foreign) × (IsFlying self.old (receipted receipt) → self.old.failed ≡ false → ⊥)) }
+        ensures works { OnOk result (self.old.view.failed ≡ false) }
+        ensures count { IfOk result (λ landed. landed.count ≡ self.old.view.state.flying - self.old.view.state.durable) }
+        ensures few { IfOk result (λ landed. length landed.decisions.items ≤ landed.count) }
+        ensures fits { OnOk result (used self.new.view.state.base (durable_in self.new.view.state) ≤ self.new.view.member.capacity) }
+        ensures packets { IfOk result (λ landed. (past : List Input) → IsPast self.old.view.member self.old.opening past
+            → landed.packets.items ≡ packets self.old.view.member.node (durable_in (seen past self.old).state) (flying_in (seen past self.old).state)) }
+        ensures decisions { IfOk result (λ landed. (past : List Input) → IsPast self.old.view.member self.old.opening past
+            → landed.decisions.items ≡ decisions self.old.view.member.node (durable_in (seen past self.old).state) (flying_in (seen past self.old).state)) }
+        ensures next { OnOk result (self.new ≡ record self.old { view = landed self.old.view }) }
+        ensures foreign { IfErr result (λ e. (e.1 ≡ Refusal.Foreign) × (IsFlying self.old (receipted receipt) → self.old.view.failed ≡ false → ⊥)) }
         ensures back { IfErr result (λ e. receipted e.0 ≡ receipted receipt) }
         ensures same { OnErr result (self.new ≡ self.old) }
     {
@@ -259,16 +366,23 @@ impl Desk {
         let _ = receipt.into_parts();
         let start = self.durable as usize;
         let end = self.flying as usize;
-        let landed = self.outbox.settle(&self.inputs[start..end]);
+        let landed = self.outbox.land(&self.inputs[start..end]);
         self.durable = self.flying;
+        if let Some(length) = self.pending {
+            self.layout = LAYOUT;
+            self.epoch += 1;
+            self.summarised = self.flying;
+            self.area = length;
+            self.pending = None;
+        }
         Ok(landed)
     }
 
-    /// The device failed with the batch that flies: nothing more is launched, nor becomes durable. Refused as 10 where
-    /// this is not that batch, and it comes back.
+    /// The device failed with what flies: nothing more is launched, nor becomes durable. Refused as 10 where this is not
+    /// what flies, and it comes back.
     pub fn fail(&mut self, spoiled: Spoiled) -> Result<(), (Spoiled, Refusal)>
         ensures flying { OnOk result (IsFlying self.old (lost spoiled)) }
-        ensures next { OnOk result (self.new ≡ record self.old { failed = true }) }
+        ensures next { OnOk result (self.new ≡ record self.old { view = record self.old.view { failed = true } }) }
         ensures foreign { IfErr result (λ e. (e.1 ≡ Refusal.Foreign) × (IsFlying self.old (lost spoiled) → ⊥)) }
         ensures back { IfErr result (λ e. lost e.0 ≡ lost spoiled) }
         ensures same { OnErr result (self.new ≡ self.old) }
@@ -284,31 +398,32 @@ impl Desk {
 
     /// Nothing more becomes durable, as after a failure of the device.
     pub fn abandon(&mut self)
-        ensures { self.new ≡ record self.old { failed = true } }
+        ensures { self.new ≡ record self.old { view = record self.old.view { failed = true } } }
     {
         self.is_failed = true;
     }
 
     /// Takes no more requests; all else goes on.
     pub fn close(&mut self)
-        ensures { self.new ≡ record self.old { closed = true } }
+        ensures { self.new ≡ record self.old { view = record self.old.view { closed = true } } }
     {
         self.is_closed = true;
     }
 
     /// The bytes of its journal that its inputs may take.
     pub fn capacity(&self) -> u32
-        ensures { result ≡ self.now.member.capacity }
+        ensures { result ≡ self.now.view.member.capacity }
     {
         self.capacity
     }
 
-    /// The inputs that it accepted, oldest first.
+    /// The inputs that it accepted since its opening, and those of the journal's frames before these, oldest first.
     pub fn history(&self) -> &[Input]
-        ensures inputs { result.now ≡ self.now.state.inputs }
-        ensures lawful { IsHistory self.now.member result.now }
-        ensures counts { IsNodeState self.now.state }
-        ensures plain { IsPlain self.now.state }
+        ensures inputs { result.now ≡ self.now.view.state.inputs }
+        ensures lawful { (past : List Input) → IsPast self.now.view.member self.now.opening past
+            → IsLawful self.now.view.member.node self.now.view.member.n self.now.view.member.capacity (launched_base (seen past self.now).state) (seen past self.now).state.inputs }
+        ensures state { (past : List Input) → IsPast self.now.view.member self.now.opening past → IsLawfulState self.now.view.member (seen past self.now).state }
+        ensures counts { IsNodeState self.now.view.state }
     {
         &self.inputs
     }
@@ -316,28 +431,29 @@ impl Desk {
     /// The messages of its durable inputs that the successor is not known to have taken, as Carry packets in order:
     /// those from the last durable credit on. They may be released again.
     pub fn window(&self) -> Result<Vec<Packet>, AllocError>
-        ensures { IfOk result (λ packets. packets.items ≡ window self.now.member.node (durable_in self.now.state)) }
+        ensures packets { IfOk result (λ packets. (past : List Input) → IsPast self.now.view.member self.now.opening past → packets.items ≡ window self.now.view.member.node (durable_in (seen past self.now).state)) }
+        ensures lawful { (past : List Input) → IsPast self.now.view.member self.now.opening past → IsLawfulState self.now.view.member (seen past self.now).state }
     {
         self.outbox.released.window(*self.inputs.allocator())
     }
 
     /// How many tickets are open: given, and neither redeemed nor forfeited.
     pub fn open_tickets(&self) -> usize
-        ensures { result ≡ length self.now.tickets }
+        ensures { result ≡ length self.now.view.tickets }
     {
         self.tickets.len()
     }
 
     /// Whether it takes requests: it was not closed and has not failed.
     pub fn is_open(&self) -> bool
-        ensures { result ≡ not (self.now.closed || self.now.failed) }
+        ensures { result ≡ not (self.now.view.closed || self.now.view.failed) }
     {
         !(self.is_closed || self.is_failed)
     }
 
     // The reply that is kept for the ticket, if it is open here, and how many inputs that rests on.
     fn found(&self, ticket: &Ticket) -> Option<(Reply, u64)>
-        ensures { MatchOption result ((kept : Answered) → IsHere self.now (shown ticket.now) kept → ⊥) (λ r. IsHere self.now (shown ticket.now) (answered_with ticket.now.question r.0 r.1)) }
+        ensures { MatchOption result ((kept : Answered) → IsHere self.now.view (shown ticket.now) kept → ⊥) (λ r. IsHere self.now.view (shown ticket.now) (answered_with ticket.now.question r.0 r.1)) }
     {
         if ticket.node != self.node || ticket.run != self.run {
             return None;
@@ -348,19 +464,21 @@ impl Desk {
         }
     }
 
-    // Whether these are the inputs that fly, and a batch.
+    // Whether these are the inputs that fly, as a batch, or as a checkpoint whose snapshot has this length.
     fn is_flying(&self, node: NodeNo, first: u64, inputs: &[Input], snapshot: Option<u64>) -> bool
         ensures yes { result ≡ true → IsFlying self.now (numbered_with node first inputs.now snapshot) }
         ensures no { result ≡ false → IsFlying self.now (numbered_with node first inputs.now snapshot) → ⊥ }
     {
         let flying = &self.inputs[self.durable as usize..self.flying as usize];
-        let is_batch = snapshot.is_none();
-        is_batch && node == self.node && first == self.durable && inputs == flying
+        is_same(&snapshot, &self.pending)
+            && node == self.node
+            && first == self.durable()
+            && inputs == flying
     }
 
     // Why no ticket is given.
     fn objection(&self, question: &Request) -> Option<Refusal>
-        ensures { result ≡ objection self.now question.now }
+        ensures { result ≡ objection self.now.view question.now }
     {
         if self.is_closed || self.is_failed {
             return Some(Refusal::Failed);
@@ -374,18 +492,79 @@ impl Desk {
         None
     }
 
-    // Why nothing is launched, before memory is asked for.
+    // Why no batch is launched, before memory is asked for.
     fn launch_objection(&self) -> Option<Refusal>
-        ensures { result ≡ launch_objection self.now }
+        ensures { result ≡ launch_objection self.now.view }
     {
         if self.is_failed {
             return Some(Refusal::Failed);
         }
-        if self.flying > self.durable {
+        if self.flying > self.durable || self.pending.is_some() {
             return Some(Refusal::Busy);
         }
         None
     }
+
+    // Why no checkpoint is launched, before memory is asked for.
+    fn checkpoint_objection(&self) -> Option<Refusal>
+        ensures { result ≡ checkpoint_objection self.now }
+    {
+        if let Some(refusal) = self.launch_objection() {
+            return Some(refusal);
+        }
+        if self.epoch >= EPOCHS - 1 {
+            return Some(Refusal::Limit);
+        }
+        if self.core.summary_len() > u64::from(self.capacity) {
+            return Some(Refusal::Full);
+        }
+        None
+    }
+
+    // Whether the journal may write another area, once what flies is durable.
+    fn has_epoch(&self) -> bool
+        ensures { result ≡ nat_lt ((launched_base self.now.view.state).epoch + 1) epochs }
+    {
+        match self.pending {
+            Some(_) => self.epoch < EPOCHS - 2,
+            None => self.epoch < EPOCHS - 1,
+        }
+    }
+}
+
+// Whether so many bytes are more than half of the capacity.
+fn is_over_half(used: u64, capacity: u32) -> bool
+    ensures { result ≡ nat_lt capacity (2 * used) }
+{
+    let capacity = u64::from(capacity);
+    used > capacity || used > capacity - used
+}
+
+// Whether so many bytes are a quarter of the capacity at most.
+fn is_quarter(length: u64, capacity: u32) -> bool
+    ensures { result ≡ nat_le (4 * length) capacity }
+{
+    let capacity = u64::from(capacity);
+    length <= capacity && 4 * length <= capacity
+}
+
+// Whether both are the same length, or none.
+fn is_same(a: &Option<u64>, b: &Option<u64>) -> bool
+    ensures yes { result ≡ true → a.now ≡ b.now }
+    ensures no { result ≡ false → a.now ≡ b.now → ⊥ }
+{
+    match (a, b) {
+        (Some(a), Some(b)) => *a == *b,
+        (None, None) => true,
+        _ => false,
+    }
+}
+
+// The bytes that an area of this layout has for the summary.
+fn area_bytes(layout: u8, base: &Summary) -> u64
+    ensures { result ≡ area_bytes layout base.now }
+{
+    if layout <= 1 { 0 } else { summary_len(base) }
 }
 
 // How many inputs there are with this one, if there is one.

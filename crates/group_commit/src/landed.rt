@@ -1,4 +1,4 @@
-// What a batch brought.
+// What a batch or a checkpoint brought.
 ghost use Rattle.std.specs.Prelude.{◌≡◌, ◌+◌, ◌++◌, ◌∷◌, ◌≤◌, ◌<◌, ℕ, [], IfOk, vec_len, vec_capacity};
 ghost use Rattle.std.specs.List.{cons_option};
 ghost use Rattle.ring_records.specs.declared.packet.Packet.TheVariants.{Credit};
@@ -8,10 +8,10 @@ use ring_records::{Decision, Packet};
 use std::alloc::{AllocError, Global};
 use std::mem::replace;
 
-/// What may be released once a batch is durable.
+/// What may be released once a batch or a checkpoint is durable.
 #[derive(Drop)]
 pub struct Landed {
-    /// How many inputs became durable, at most 64.
+    /// How many inputs became durable, at most 64 of a batch.
     pub count: u32,
     /// The messages that they send to the successor, as Carry packets in order, and then, where a message was taken,
     /// one Credit of all that were taken durably, to the predecessor.

@@ -5,6 +5,7 @@ mod desk;
 mod judge;
 mod kept;
 mod landed;
+pub mod laws;
 mod outbox;
 mod released;
 mod shared;

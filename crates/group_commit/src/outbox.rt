@@ -1,5 +1,5 @@
 // What a node may release, and what waits until it may be.
-ghost use Rattle.std.specs.Prelude.{◌≡◌, ◌+◌, ◌++◌, ◌∷◌, ◌<◌, ℕ, List, [], take, length, None, OnOk, OnErr};
+ghost use Rattle.std.specs.Prelude.{◌≡◌, ◌+◌, ◌++◌, ◌∷◌, ◌<◌, ℕ, List, [], take, length, None, IfOk, OnOk, OnErr};
 ghost use Rattle.std.specs.List.{cons_option};
 ghost use Rattle.std.specs.VecDeque.{deque_len, deque_capacity};
 ghost use Rattle.ring_records.specs.declared.decision.Decision.{Decision};
@@ -7,14 +7,14 @@ ghost use Rattle.ring_records.specs.declared.input.Input.{Input};
 ghost use Rattle.ring_records.specs.declared.summary.Summary.{Summary};
 ghost use Rattle.ring_records.specs.Admission.{cost};
 ghost use Rattle.ring_records.specs.Known.{Objects, stepped, after};
-ghost use Rattle.ring_records.specs.Summary.{empty};
+ghost use Rattle.ring_records.specs.Snapshot.{IsSound};
 ghost use Rattle.node_core.specs.Brought.{brought};
 ghost use Rattle.node_core.specs.Core.{Refuses};
 
 use crate::landed::Landed;
 use crate::released::Released;
 use node_core::{Effects, NodeCore};
-use ring_records::Input;
+use ring_records::{Input, Summary};
 use std::alloc::{AllocError, Global};
 use std::collections::VecDeque;
 use std::marker::Model;
@@ -43,17 +43,19 @@ pub(crate) struct Outbox {
 }
 
 impl Outbox {
-    ghost use Rattle.group_commit.specs.Outbox.{Holds, AreFree, carried, told, credit_since};
+    ghost use Rattle.group_commit.specs.Outbox.{Holds, AreFree, carried, told, credit_since, leaders_in};
 
-    /// That of no inputs.
-    pub(crate) fn new(alloc: Global) -> Outbox
-        ensures { (me : ℕ) → Holds me result empty [] [] 0 }
+    /// That of a node that knows this by its durable inputs. The caller sees that it is sound for a ring of `n`. The error is
+    /// that of the allocator.
+    pub(crate) fn restore(alloc: Global, n: u8, from: &Summary) -> Result<Outbox, AllocError>
+        requires { IsSound n from.now }
+        ensures { IfOk result (λ outbox. (me : ℕ) → Holds me outbox from.now (leaders_in from.now) [] 0) }
     {
-        Outbox {
-            released: Released::new(alloc),
+        Ok(Outbox {
+            released: Released::restore(alloc, n, from)?,
             waiting: VecDeque::new(alloc),
             landing: Landed::new(alloc),
-        }
+        })
     }
 
     /// Adds what a durable input lets the node release, where none waits.
@@ -98,8 +100,24 @@ impl Outbox {
         Ok(())
     }
 
-    /// Adds what these inputs bring, which flew and are durable now: the first of those that wait.
-    pub(crate) fn settle(&mut self, inputs: &[Input]) -> Landed
+    /// Adds what these inputs bring, which flew and are durable now: the first of those that wait. A checkpoint may have
+    /// none.
+    pub(crate) fn land(&mut self, inputs: &[Input]) -> Landed
+        requires holds { (me n : ℕ) × (s : Summary) × (decided : List Decision) × (rest : List Input) × Holds me self.old s decided (inputs.now ++ rest) (length inputs.now) × AreFree me n s inputs.now }
+        ensures count { result.count ≡ length inputs.now }
+        ensures packets { result.packets.items ≡ carried (take (length inputs.now) self.old.waiting.items) ++ credit_since self.old.released.taken self.new.released.taken }
+        ensures decisions { result.decisions.items ≡ told (take (length inputs.now) self.old.waiting.items) }
+        ensures holds { (me n : ℕ) (s : Summary) (decided : List Decision) (rest : List Input) → Holds me self.old s decided (inputs.now ++ rest) (length inputs.now) → AreFree me n s inputs.now
+            → Holds me self.new (after me s inputs.now) (decided ++ result.decisions.items) rest 0 }
+    {
+        if inputs.is_empty() {
+            return Landed::new(*self.waiting.allocator());
+        }
+        self.settle(inputs)
+    }
+
+    // Adds what these inputs bring, one at least.
+    fn settle(&mut self, inputs: &[Input]) -> Landed
         requires some { 0 < length inputs.now }
         requires holds { (me n : ℕ) × (s : Summary) × (decided : List Decision) × (rest : List Input) × Holds me self.old s decided (inputs.now ++ rest) (length inputs.now) × AreFree me n s inputs.now }
         ensures count { result.count ≡ length inputs.now }

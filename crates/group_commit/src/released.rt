@@ -1,6 +1,6 @@
 // What the durable inputs of a node let it release.
 ghost use Rattle.std.specs.Prelude.{◌≡◌, ◌+◌, ◌-◌, ◌++◌, ◌∷◌, ◌≤◌, ◌<◌, ◌^◌, ℕ, List, [], None, length, drop, Option, IfOk, OnOk, OnErr, vec_len, vec_capacity};
-ghost use Rattle.std.specs.List.{cons_option};
+ghost use Rattle.std.specs.List.{cons_option, filter_map};
 ghost use Rattle.std.specs.Option.{option_map};
 ghost use Rattle.ring_records.specs.declared.decision.Decision.{Decision};
 ghost use Rattle.ring_records.specs.declared.msg.Msg.{Msg};
@@ -8,14 +8,15 @@ ghost use Rattle.ring_records.specs.declared.packet.Packet.TheVariants.{Carry};
 ghost use Rattle.ring_records.specs.declared.summary.Summary.{Summary};
 ghost use Rattle.ring_records.specs.Known.{Objects, stepped};
 ghost use Rattle.ring_records.specs.Release.{numbered};
-ghost use Rattle.ring_records.specs.Summary.{empty};
+ghost use Rattle.ring_records.specs.Snapshot.{IsSound};
 ghost use Rattle.neighbour_link.specs.Outlink.{sent_count};
 ghost use Rattle.node_core.specs.Brought.{brought};
+ghost use Rattle.group_commit.specs.Outbox.{led};
 
 use crate::landed::push_decision;
 use neighbour_link::Outlink;
 use node_core::Effects;
-use ring_records::{Decision, Input, Packet};
+use ring_records::{Decision, Input, KeyState, Packet, Summary};
 use std::alloc::{AllocError, Global};
 
 /// What a node keeps of its durable inputs: the messages that the successor is not known to have taken, the leaders
@@ -28,17 +29,20 @@ pub(crate) struct Released {
 }
 
 impl Released {
-    ghost use Rattle.group_commit.specs.Outbox.{Keeps, HasRoom};
+    ghost use Rattle.group_commit.specs.Outbox.{Keeps, HasRoom, leaders_in};
 
-    /// That of no inputs.
-    pub(crate) fn new(alloc: Global) -> Released
-        ensures { Keeps result empty [] }
+    /// That of a node that knows this by its durable inputs. The caller sees that it is sound for a ring of `n`. The error is
+    /// that of the allocator.
+    pub(crate) fn restore(alloc: Global, n: u8, from: &Summary) -> Result<Released, AllocError>
+        requires { IsSound n from.now }
+        ensures { IfOk result (λ made. Keeps made from.now (leaders_in from.now)) }
     {
-        Released {
-            link: Outlink::new(alloc),
-            decisions: Vec::new(alloc),
-            taken: 0,
-        }
+        let _ring = n;
+        Ok(Released {
+            link: Outlink::restore(alloc, from.sent, from.window.as_slice())?,
+            decisions: leaders_of(alloc, from.keys.as_slice())?,
+            taken: from.taken,
+        })
     }
 
     /// Makes room for what so many inputs more let it release.
@@ -79,6 +83,30 @@ impl Released {
             Input::Take { .. } => self.taken += 1,
             Input::Acked { upto } => credit(&mut self.link, *upto),
         }
+    }
+}
+
+// A decision for each key with a leader.
+fn leaders_of(alloc: Global, states: &[KeyState]) -> Result<Vec<Decision>, AllocError>
+    ensures { IfOk result (λ made. made.items ≡ filter_map led states.now) }
+{
+    let mut decisions = Vec::with_capacity(alloc, states.len())?;
+    for state in states {
+        push_decision(&mut decisions, &decision_of(state));
+    }
+    Ok(decisions)
+}
+
+// The decision of a key, where it has a leader.
+fn decision_of(state: &KeyState) -> Option<Decision>
+    ensures { result ≡ led state.now }
+{
+    match state.leader {
+        Some(leader) => Some(Decision {
+            key: state.key,
+            leader,
+        }),
+        None => None,
     }
 }
 

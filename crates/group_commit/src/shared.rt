@@ -18,11 +18,11 @@ impl SharedDesk {
     /// Ends a ticket in every case, with no reply. Refused as 10 where no such ticket is open here, and while the desk
     /// takes requests, which then keeps the reply for good.
     pub fn forfeit(&mut self, ticket: Ticket) -> Result<(), Refusal>
-        ensures over { OnOk result ((self.old.desk.closed || self.old.desk.failed) ≡ true) }
-        ensures here { OnOk result ((kept : Answered) × IsHere self.old.desk (shown ticket) kept) }
-        ensures next { OnOk result (self.new.desk ≡ ended (shown ticket).own self.old.desk) }
+        ensures over { OnOk result ((self.old.desk.view.closed || self.old.desk.view.failed) ≡ true) }
+        ensures here { OnOk result ((kept : Answered) × IsHere self.old.desk.view (shown ticket) kept) }
+        ensures next { OnOk result (self.new.desk ≡ record self.old.desk { view = ended (shown ticket).own self.old.desk.view }) }
         ensures foreign { IfErr result (λ e. e ≡ Refusal.Foreign) }
-        ensures gone { OnErr result ((self.old.desk.closed || self.old.desk.failed) ≡ true → (kept : Answered) → IsHere self.old.desk (shown ticket) kept → ⊥) }
+        ensures gone { OnErr result ((self.old.desk.view.closed || self.old.desk.view.failed) ≡ true → (kept : Answered) → IsHere self.old.desk.view (shown ticket) kept → ⊥) }
         ensures same { OnErr result (self.new.desk ≡ self.old.desk) }
     {
         if self.desk.is_open() {

@@ -1,18 +1,19 @@
 // What a desk has its core and its outbox do.
-ghost use Rattle.std.specs.Prelude.{◌≡◌, ◌+◌, ◌-◌, ◌++◌, ◌∷◌, ◌≤◌, ◌<◌, ◌⊎◌, ℕ, List, [], None, length, take, drop, IfSome, IfOk, IfErr, OnOk, OnErr};
+ghost use Rattle.std.specs.Prelude.{◌≡◌, ◌+◌, ◌-◌, ◌^◌, ◌++◌, ◌∷◌, ◌≤◌, ◌<◌, ◌⊎◌, ℕ, List, [], Some, None, length, take, drop, IfSome, IfOk, IfErr, OnOk, OnErr};
 ghost use Rattle.std.specs.List.{cons_option};
 ghost use Rattle.ring_records.specs.declared.decision.Decision.{Decision};
 ghost use Rattle.ring_records.specs.declared.input.Input.{Input};
 ghost use Rattle.ring_records.specs.declared.summary.Summary.{Summary};
 ghost use Rattle.ring_records.specs.Admission.{cost};
 ghost use Rattle.ring_records.specs.Known.{after, stepped};
-ghost use Rattle.gated_journal.specs.Batch.{shown as batch_shown, numbered};
-ghost use Rattle.node_core.specs.Core.{Refuses};
-ghost use Rattle.group_commit.specs.Opening.{core_after, IsKnownLawful, IsKnownUnlawful};
+ghost use Rattle.ring_records.specs.Snapshot.{IsSound, snapshot_len};
+ghost use Rattle.gated_journal.specs.Batch.{shown as batch_shown, numbered, numbered_with, numbered_by, base_by};
+ghost use Rattle.node_core.specs.Core.{IsNodeOf, Refuses};
+ghost use Rattle.group_commit.specs.Opening.{core_after, IsKnownLawful, IsUnlawful};
 ghost use Rattle.group_commit.specs.Outbox.{brought_after, told, Holds};
 
 use crate::outbox::Outbox;
-use gated_journal::Batch;
+use gated_journal::{Batch, Checkpoint};
 use node_core::NodeCore;
 use ring_records::{BATCH_INPUTS, Input, NodeNo, Refusal};
 use std::alloc::AllocError;
@@ -28,7 +29,7 @@ pub(super) fn replay(
     ensures lawful { OnOk result (IsKnownLawful core.old inputs.now) }
     ensures holds { OnOk result ((decided : List Decision) → Holds core.old.me outbox.old core.old.known decided [] 0
         → Holds core.old.me outbox.new (after core.old.me core.old.known inputs.now) (decided ++ told (brought_after core.old.me core.old.known inputs.now)) [] 0) }
-    ensures refusal { IfErr result (λ refusal. (refusal ≡ Refusal.OutOfMemory) ⊎ IsKnownUnlawful core.old inputs.now refusal) }
+    ensures refusal { IfErr result (λ refusal. (refusal ≡ Refusal.OutOfMemory) ⊎ IsUnlawful core.old inputs.now refusal) }
 {
     for i in 0..inputs.len() {
         let input = inputs[i];
@@ -85,25 +86,60 @@ fn accept_one(
     inputs.extend_from_slice(&[*input])
 }
 
-// The inputs from `start` to below `end` as a batch, and the memory for what they bring, so that they may fly.
+// These inputs, of which the first has this number, as a batch, and the memory for what they bring, so that they may fly.
 pub(super) fn prepare(
     outbox: &mut Outbox,
     node: NodeNo,
+    first: u64,
     inputs: &[Input],
-    start: usize,
-    end: usize,
 ) -> Result<Batch, Refusal>
-    requires some { start < end }
-    requires few { end ≤ start + BATCH_INPUTS }
-    requires within { end ≤ length inputs.now }
-    ensures batch { IfOk result (λ batch. batch_shown batch ≡ numbered node start (take (end - start) (drop start inputs.now))) }
-    ensures holds { OnOk result ((me : ℕ) (s : Summary) (decided : List Decision) (l : List Input) → Holds me outbox.old s decided l 0 → Holds me outbox.new s decided l (end - start)) }
+    requires some { 0 < length inputs.now }
+    requires few { length inputs.now ≤ BATCH_INPUTS }
+    ensures batch { IfOk result (λ batch. batch_shown batch ≡ numbered node first inputs.now) }
+    ensures holds { OnOk result ((me : ℕ) (s : Summary) (decided : List Decision) (l : List Input) → Holds me outbox.old s decided l 0 → Holds me outbox.new s decided l (length inputs.now)) }
     ensures refusal { IfErr result (λ refusal. refusal ≡ Refusal.OutOfMemory) }
     ensures err { OnErr result ((me : ℕ) (s : Summary) (decided : List Decision) (l : List Input) → Holds me outbox.old s decided l 0 → Holds me outbox.new s decided l 0) }
 {
-    if outbox.load((end - start) as u32).is_err() {
+    if outbox.load(inputs.len() as u32).is_err() {
         return Err(Refusal::OutOfMemory);
     }
     let alloc = *outbox.waiting.allocator();
-    Batch::new(alloc, node, start as u64, &inputs[start..end])
+    Batch::new(alloc, node, first, inputs)
+}
+
+// These inputs, which are all that wait and of which the first has this number, as a checkpoint, and the memory for what they
+// bring, so that they may fly. All memory is taken before room is counted from the summary.
+pub(super) fn summarise(
+    core: &mut NodeCore,
+    outbox: &mut Outbox,
+    node: NodeNo,
+    first: u64,
+    inputs: &[Input],
+) -> Result<Checkpoint, Refusal>
+    requires few { length inputs.now < 2 ^ 32 }
+    requires short { snapshot_len core.old.known < 2 ^ 32 }
+    ensures checkpoint { IfOk result (λ made. numbered_by made ≡ numbered_with node first inputs.now (Some (snapshot_len core.old.known))) }
+    ensures summary { IfOk result (λ made. base_by made ≡ core.old.known) }
+    ensures sound { OnOk result (IsNodeOf core.old.size core.old.me → IsSound core.old.size core.old.known) }
+    ensures rebased { OnOk result (core.new ≡ record core.old { used = snapshot_len core.old.known }) }
+    ensures holds { OnOk result ((me : ℕ) (s : Summary) (decided : List Decision) (l : List Input) → Holds me outbox.old s decided l 0 → Holds me outbox.new s decided l (length inputs.now)) }
+    ensures refusal { IfErr result (λ refusal. refusal ≡ Refusal.OutOfMemory) }
+    ensures same { OnErr result (core.new ≡ core.old) }
+    ensures err { OnErr result ((me : ℕ) (s : Summary) (decided : List Decision) (l : List Input) → Holds me outbox.old s decided l 0 → Holds me outbox.new s decided l 0) }
+{
+    let count = inputs.len() as u32;
+    if outbox.load(count).is_err() {
+        return Err(Refusal::OutOfMemory);
+    }
+    let alloc = *outbox.waiting.allocator();
+    let Ok(from) = core.summary(alloc) else {
+        return Err(Refusal::OutOfMemory);
+    };
+    match Checkpoint::new(alloc, node, first, inputs, from) {
+        Ok(checkpoint) => {
+            core.rebase();
+            Ok(checkpoint)
+        }
+        Err(refusal) => Err(refusal),
+    }
 }

@@ -1,52 +1,71 @@
 //! Whether a desk's history gives a reply that was released.
-ghost use Rattle.std.specs.Prelude.{◌≡◌, ◌≤◌, List, length, true, false, MatchOption, IfOk, IfErr};
+ghost use Rattle.std.specs.Prelude.{◌≡◌, ◌≤◌, List, length, true, false, Option, None, MatchOption, IfOk, IfErr, OnOk};
 ghost use Rattle.ring_records.specs.declared.input.Input.{Input};
-ghost use Rattle.ring_records.specs.Admission.{fresh};
-ghost use Rattle.ring_records.specs.Member.{member, answer_by};
-ghost use Rattle.ring_records.specs.Summary.{empty};
-ghost use Rattle.node_core.specs.Core.{member_of};
-ghost use Rattle.group_commit.specs.Opening.{opened_core, core_after, IsKnownLawful, IsOf};
-ghost use Rattle.group_commit.specs.Vouch.{Accepts, IsInput};
+ghost use Rattle.ring_records.specs.declared.summary.Summary.{Summary};
+ghost use Rattle.ring_records.specs.Known.{Objects, after};
+ghost use Rattle.ring_records.specs.Snapshot.{IsSound};
+ghost use Rattle.group_commit.specs.Outbox.{AreFree};
+ghost use Rattle.group_commit.specs.Vouch.{Accepts, IsInput, RepliesFull, refused_or_full};
 
 use crate::desk::Desk;
-use crate::judge::{acceptance, judge};
+use crate::judge::acceptance;
 use crate::ticket::Stub;
-use node_core::NodeCore;
-use ring_records::{Input, NodeNo, Refusal, Reply, Request};
+use node_core::FreeCore;
+use ring_records::{Input, NodeNo, Refusal, Reply, Request, Summary};
 use std::alloc::{AllocError, Global};
 
 impl Desk {
+    ghost use Rattle.group_commit.specs.Desk.{seen};
+    ghost use Rattle.group_commit.specs.Past.{IsPast};
     ghost use Rattle.group_commit.specs.Vouch.{IsVouched};
 
     /// Whether its history gives the stub's reply to the stub's request at the stub's number k, and k inputs are
-    /// durable. Refused as 8. No other call looks back: this one takes the first k inputs again, in k log k steps.
+    /// durable. Where the summary of its opening stands for more than k inputs, or for k and the reply accepts an input, it
+    /// does not know. Refused as 8. No other call looks back: this one takes the inputs since its opening up to input k
+    /// again, in k log k steps.
     pub fn vouch(&self, stub: &Stub) -> Result<bool, Refusal>
-        ensures yes { IfOk result (λ b. b ≡ true → IsVouched self.now.member self.now.state stub.now) }
-        ensures no { IfOk result (λ b. b ≡ false → IsVouched self.now.member self.now.state stub.now → ⊥) }
+        ensures yes { IfOk result (λ b. b ≡ true → (past : List Input) → IsPast self.now.view.member self.now.opening past → IsVouched self.now.view.member self.now.opening.inputs (seen past self.now).state stub.now) }
+        ensures no { IfOk result (λ b. b ≡ false → (past : List Input) → IsPast self.now.view.member self.now.opening past → IsVouched self.now.view.member self.now.opening.inputs (seen past self.now).state stub.now → ⊥) }
         ensures refusal { IfErr result (λ e. e ≡ Refusal.OutOfMemory) }
     {
-        if stub.number > self.durable {
+        let first = self.base.inputs;
+        if stub.number < first || stub.number - first > self.durable {
             return Ok(false);
         }
+        let since = stub.number - first;
         if let Some(input) = accepted(&stub.question, &stub.reply) {
-            return Ok(is_input(&self.inputs, stub.number, &input));
+            return Ok(is_input(&self.inputs, since, &input));
         }
         let alloc = *self.inputs.allocator();
-        let before = &self.inputs[..stub.number as usize];
-        match core_of(alloc, self.node, self.n, self.capacity, before) {
-            Ok(core) => Ok(gives(&core, stub)),
+        let before = &self.inputs[..since as usize];
+        match core_of(alloc, self.node, self.n, &self.base, before) {
+            Ok(core) => Ok(reply_of(&core, &stub.question) == stub.reply),
             Err(_) => Err(Refusal::OutOfMemory),
         }
     }
 }
 
-// Whether a core that stands for as many inputs as the stub's number gives the stub's reply and accepts nothing.
-fn gives(core: &NodeCore, stub: &Stub) -> bool
-    ensures yes { (h : List Input) → IsOf core.now fresh h → length h ≡ stub.now.answer.number → result ≡ true → stub.now.answer ≡ answer_by (member_of core.now) h stub.now.question }
-    ensures no { (h : List Input) → IsOf core.now fresh h → length h ≡ stub.now.answer.number → result ≡ false → stub.now.answer ≡ answer_by (member_of core.now) h stub.now.question → ⊥ }
+// What a node with no room replies, which knows what the core knows.
+fn reply_of(core: &FreeCore, question: &Request) -> Reply
+    ensures { RepliesFull core.now question.now result }
 {
-    let (reply, input) = judge(core, &stub.question);
-    reply == stub.reply && input.is_none()
+    match *question {
+        Request::Stand(key, bid) => refused(core, &Input::Stand { key, bid }),
+        Request::Take(no, msg) => refused(core, &Input::Take { no, msg }),
+        Request::Acked(upto) => refused(core, &Input::Acked { upto }),
+        Request::Who(key) => Reply::Leader(core.who(&key)),
+        Request::Latest(group) => Reply::Latest(core.latest(&group)),
+    }
+}
+
+// Why it refuses the input: where nothing is known against it, for want of room.
+fn refused(core: &FreeCore, input: &Input) -> Reply
+    ensures { (o : Option Refusal) × Objects core.now.size core.now.known input.now o × (result ≡ refused_or_full o) }
+{
+    match core.objection(input) {
+        Some(refusal) => Reply::Refused(refusal),
+        None => Reply::Refused(Refusal::Full),
+    }
 }
 
 // Whether this is input `number` of these, counted from 1.
@@ -68,18 +87,19 @@ fn accepted(question: &Request, reply: &Reply) -> Option<Input>
     }
 }
 
-// The core of a node that accepted these inputs.
+// The core of a node that knew this and accepted these inputs, whatever room it had.
 fn core_of(
     alloc: Global,
     node: NodeNo,
     n: u8,
-    capacity: u32,
+    from: &Summary,
     inputs: &[Input],
-) -> Result<NodeCore, AllocError>
-    requires { IsKnownLawful (opened_core (member node n capacity) empty 0) inputs.now }
-    ensures { IfOk result (λ core. core ≡ core_after (opened_core (member node n capacity) empty 0) inputs.now) }
+) -> Result<FreeCore, AllocError>
+    requires sound { IsSound n from.now }
+    requires free { AreFree node n from.now inputs.now }
+    ensures { IfOk result (λ core. core ≡ record { me = node; size = n; known = after node from.now inputs.now }) }
 {
-    let mut core = NodeCore::new(alloc, node, n, capacity);
+    let mut core = FreeCore::restore(alloc, node, n, from)?;
     for i in 0..inputs.len() {
         match core.apply(inputs[i]) {
             Ok(_effects) => {}

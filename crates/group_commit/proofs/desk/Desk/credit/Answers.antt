@@ -1,11 +1,15 @@
-use Rattle.std.proofs.Common.{◌∙◌, ap}
+use Rattle.std.proofs.Common.{◌≡◌, ◌∙◌, List, subst}
+use Rattle.ring_records.specs.declared.input.Input.{Input}
 use Rattle.ring_records.specs.History.{credit}
-use Rattle.ring_records.specs.Member.{member}
-use Rattle.group_commit.specs.Desk.{DeskView}
-use Rattle.group_commit.proofs.Past.{stands}
+use Rattle.group_commit.specs.Desk.{DeskKept, seen}
+use Rattle.group_commit.specs.Past.{IsPast}
+use Rattle.group_commit.proofs.Inside.{member_in, state_in}
+use Rattle.group_commit.proofs.Past.{core_knows}
 use Rattle.group_commit.proofs.desk.Desk.credit.Goals as goal
 
 pub returns : goal.returns
 returns c =
     let d = c.self.inside in
-    c.credit.ensures.known d.inputs.items (stands (member d.node d.n d.capacity) d.core d.inputs.items c.self.invariant.knows c.self.invariant.lawful) ∙ ap (λ (v : DeskView). credit v.state.inputs) c.self.view_is
+    subst (λ (v : DeskKept). (past : List Input) → IsPast v.view.member v.opening past → c.credit.result ≡ credit (seen past v).state.inputs) c.self.view_is (λ past is.
+    let known = core_knows (member_in d) d.base past (state_in d) d.core is c.self.invariant.state c.self.invariant.knows in
+    c.credit.ensures.value ∙ (λ i. (known i).credit))

@@ -1,7 +1,7 @@
 use Rattle.std.proofs.Common.{ℕ, List, sym, subst}
 use Rattle.ring_records.specs.Answer.{Answered}
-use Rattle.ring_records.specs.Member.{member}
 use Rattle.group_commit.specs.Kept.{AreBelow, AreAnswers}
+use Rattle.group_commit.proofs.Inside.{member_in}
 use Rattle.group_commit.proofs.Numbers.{below_without}
 use Rattle.group_commit.proofs.Replies.{answers_without}
 use Rattle.group_commit.proofs.desk.Desk.forfeit.Goals as goal
@@ -11,11 +11,10 @@ invariant_of-self c =
     let d = c.self.inside in
     let i = c.self.invariant in
     record {
+      sound = i.sound;
       knows = i.knows;
-      in_order = i.in_order;
-      accepted = i.accepted;
-      lawful = i.lawful;
+      state = i.state;
       holds = i.holds;
       given = subst (λ (ts : List (ℕ × Answered)). AreBelow c.self.inside.issued ts) (sym c.take_back.ensures) (below_without _ _ _ i.given);
-      answers = subst (λ (ts : List (ℕ × Answered)). AreAnswers (member d.node d.n d.capacity) ts) (sym c.take_back.ensures) (answers_without (member d.node d.n d.capacity) c.args.ticket.own d.tickets.entries i.answers);
+      answers = subst (λ (ts : List (ℕ × Answered)). AreAnswers (member_in d) d.base ts) (sym c.take_back.ensures) (answers_without (member_in d) d.base c.args.ticket.own d.tickets.entries i.answers);
     }

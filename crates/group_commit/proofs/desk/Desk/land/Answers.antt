@@ -1,80 +1,147 @@
-use Rattle.std.proofs.Common.{◌≡◌, ◌-◌, ◌++◌, ◌∙◌, List, [], length, take, drop, ap, subst, arith}
+use Rattle.std.proofs.Common.{rules, ◌≡◌, ℕ, ◌<◌, ◌≤◌, ◌-◌, ◌++◌, ◌∙◌, List, length, take, drop, true, Option, Some, None, refl, ap, sym, subst, arith}
+use Rattle.std.specs.Option.{option_map}
+use Rattle.std.proofs.lemmas.List.{length-take}
+use Rattle.ring_records.specs.declared.base.Base.{Base}
 use Rattle.ring_records.specs.declared.input.Input.{Input}
-use Rattle.ring_records.specs.Admission.{fresh}
+use Rattle.ring_records.specs.declared.decision.Decision.{Decision}
+use Rattle.ring_records.specs.Admission.{used}
 use Rattle.ring_records.specs.Known.{after}
-use Rattle.ring_records.specs.Member.{member}
 use Rattle.ring_records.specs.Release.{packets, decisions}
-use Rattle.ring_records.specs.States.{durable_in, flying_in}
-use Rattle.ring_records.specs.Summary.{empty}
-use Rattle.group_commit.specs.Desk.{DeskView}
-use Rattle.group_commit.specs.Kept.{HoldsFor}
-use Rattle.group_commit.specs.Outbox.{AreFree, Holds, brought_after, told}
-use Rattle.group_commit.proofs.Landing.{part, flies, free, lands, landed_packets, landed_decisions}
-use Rattle.group_commit.proofs.Past.{follows_none}
+use Rattle.ring_records.specs.States.{launched_base, durable_in, flown_in, flying_in}
+use Rattle.ring_records.proofs.Counts.{length-filter_map}
+use Rattle.gated_journal.specs.Batch.{numbered_with}
+use Rattle.node_core.specs.declared.effects.Effects.{Effects}
+use Rattle.group_commit.specs.Desk.{DeskKept, IsFlying, seen}
+use Rattle.group_commit.specs.Kept.{IsDesk, HoldsFor, area_behind, decisions_since, state_with}
+use Rattle.group_commit.specs.Past.{IsPast}
+use Rattle.group_commit.specs.Outbox.{AreFree, Holds, told}
+use Rattle.group_commit.proofs.Checkpoints.{none_pending}
+use Rattle.group_commit.proofs.Inside.{member_in, area_in, state_in}
+use Rattle.group_commit.proofs.Landing.{part, part-length, flies, free, lands, landed_packets, landed_decisions}
+use Rattle.group_commit.proofs.Past.{free_since, durable-shifted, flying-shifted}
+use Rattle.group_commit.proofs.Since.{known_landed, flown_fit}
 use Rattle.group_commit.proofs.desk.Desk.land.Goals as goal
-use Rattle.group_commit.proofs.desk.Desk.land.Goals.{After-settle-landed}
+use Rattle.group_commit.proofs.desk.Desk.land.Goals.{After-land-landed, in-Some, in_default}
 
-pub settle-landed-requires-clause-holds : goal.settle-landed-requires-clause-holds
-settle-landed-requires-clause-holds c =
+pub land-landed-requires : goal.land-landed-requires
+land-landed-requires c =
     let d = c.self.inside in
     let i = c.self.invariant in
-    rw c.deref.ensures.value (
-      d.node,
-      d.n,
-      after d.node empty (take d.durable d.inputs.items),
-      told (brought_after d.node empty (take d.durable d.inputs.items)),
-      drop d.flying d.inputs.items,
-      flies d.node d.durable d.flying d.outbox empty d.inputs.items i.in_order i.accepted i.holds,
-      free (member d.node d.n d.capacity) 0 d.durable d.flying empty d.inputs.items i.in_order i.lawful,
-    )
+    record {
+      holds = rw c.deref.ensures.value (
+        d.node,
+        d.n,
+        after d.node d.base (take d.durable d.inputs.items),
+        decisions_since d.node d.base (take d.durable d.inputs.items),
+        drop d.flying d.inputs.items,
+        flies d.node d.durable d.flying d.outbox d.base d.inputs.items i.state.counts.durable i.state.counts.flying i.holds,
+        free d.node d.n d.durable d.flying d.base d.inputs.items i.state.counts.durable (free_since (member_in d) d.base (launched_base (state_in d)) d.inputs.items i.state.all),
+      );
+    }
 
 -- the inputs that flew
-flew : (c : After-settle-landed) → take (c.self.inside.flying - c.self.inside.durable) (drop c.self.inside.durable c.deref.result.now) ≡ part c.self.inside.durable c.self.inside.flying c.self.inside.inputs.items
+flew : (c : After-land-landed) → take (c.self.inside.flying - c.self.inside.durable) (drop c.self.inside.durable c.deref.result.now) ≡ part c.self.inside.durable c.self.inside.flying c.self.inside.inputs.items
 flew c = ap (part c.self.inside.durable c.self.inside.flying) c.deref.ensures.value
 
 -- the outbox once they are durable
-settled : (c : After-settle-landed) → HoldsFor c.self.inside.node c.settle-landed.new.self empty (take c.self.inside.flying c.self.inside.inputs.items) (drop c.self.inside.flying c.self.inside.inputs.items) (c.self.inside.flying - c.self.inside.flying)
+settled : (c : After-land-landed) → HoldsFor c.self.inside.node c.land-landed.new.self c.self.inside.base (take c.self.inside.flying c.self.inside.inputs.items) (drop c.self.inside.flying c.self.inside.inputs.items) (c.self.inside.flying - c.self.inside.flying)
 settled c =
     let d = c.self.inside in
     let i = c.self.invariant in
     let l = part d.durable d.flying d.inputs.items in
     let rest = drop d.flying d.inputs.items in
-    let s = after d.node empty (take d.durable d.inputs.items) in
-    let decided = told (brought_after d.node empty (take d.durable d.inputs.items)) in
-    let holds : Holds d.node d.outbox s decided (l ++ rest) (length l) → AreFree d.node d.n s l → Holds d.node c.settle-landed.new.self (after d.node s l) (decided ++ c.settle-landed.result.decisions.items) rest 0 =
-    subst (λ (k : List Input). Holds d.node d.outbox s decided (k ++ rest) (length k) → AreFree d.node d.n s k → Holds d.node c.settle-landed.new.self (after d.node s k) (decided ++ c.settle-landed.result.decisions.items) rest 0)
-    (flew c) (c.settle-landed.ensures.holds d.node d.n s decided rest) in
-    lands d.node d.durable d.flying c.settle-landed.new.self empty d.inputs.items c.settle-landed.result.decisions.items d.outbox.waiting.items i.in_order i.holds.waiting
-    (c.settle-landed.ensures.decisions ∙ ap (λ (k : List Input). told (take (length k) d.outbox.waiting.items)) (flew c))
-    (holds (flies d.node d.durable d.flying d.outbox empty d.inputs.items i.in_order i.accepted i.holds) (free (member d.node d.n d.capacity) 0 d.durable d.flying empty d.inputs.items i.in_order i.lawful))
+    let s = after d.node d.base (take d.durable d.inputs.items) in
+    let decided = decisions_since d.node d.base (take d.durable d.inputs.items) in
+    let holds : Holds d.node d.outbox s decided (l ++ rest) (length l) → AreFree d.node d.n s l → Holds d.node c.land-landed.new.self (after d.node s l) (decided ++ c.land-landed.result.decisions.items) rest 0 =
+    subst (λ (k : List Input). Holds d.node d.outbox s decided (k ++ rest) (length k) → AreFree d.node d.n s k → Holds d.node c.land-landed.new.self (after d.node s k) (decided ++ c.land-landed.result.decisions.items) rest 0)
+    (flew c) (c.land-landed.ensures.holds d.node d.n s decided rest) in
+    lands d.node d.durable d.flying c.land-landed.new.self d.base d.inputs.items c.land-landed.result.decisions.items d.outbox.waiting.items i.state.counts.durable i.holds.waiting
+    (c.land-landed.ensures.decisions ∙ ap (λ (k : List Input). told (take (length k) d.outbox.waiting.items)) (flew c))
+    (holds (flies d.node d.durable d.flying d.outbox d.base d.inputs.items i.state.counts.durable i.state.counts.flying i.holds) (free d.node d.n d.durable d.flying d.base d.inputs.items i.state.counts.durable (free_since (member_in d) d.base (launched_base (state_in d)) d.inputs.items i.state.all)))
+
+-- the desk then, where this is the area that is in use, and no other is pending
+landed_desk : (c : After-land-landed) (area : Base) (pending : Option ℕ) → launched_base (state_in c.self.inside) ≡ area → pending ≡ None
+    → IsDesk c.self.inside.core c.land-landed.new.self (member_in c.self.inside) c.self.inside.base (state_with area c.self.inside.inputs.items c.self.inside.flying c.self.inside.flying pending) c.self.inside.tickets.entries c.self.inside.issued
+landed_desk c area pending launched none =
+    let d = c.self.inside in
+    let i = c.self.invariant in
+    subst (λ (p : Base × Option ℕ). IsDesk d.core c.land-landed.new.self (member_in d) d.base (state_with p.0 d.inputs.items d.flying d.flying p.1) d.tickets.entries d.issued) (λ k. (launched k, sym none k))
+    (record {
+      sound = i.sound;
+      knows = i.knows;
+      state = known_landed (member_in d) d.base (state_in d) i.state;
+      holds = settled c;
+      given = i.given;
+      answers = i.answers;
+    })
 
 pub invariant_of-self : goal.invariant_of-self
 invariant_of-self c =
-    let i = c.self.invariant in
-    record {
-      knows = i.knows;
-      in_order = omega arith;
-      accepted = i.accepted;
-      lawful = i.lawful;
-      holds = settled (goal.at.invariant_of-self c).After-settle-landed;
-      given = i.given;
-      answers = i.answers;
-    }
+    let d = c.self.inside in
+    landed_desk (goal.at.invariant_of-self c).After-land-landed _ None (ap (λ o. launched_base (state_with (area_in d) d.inputs.items d.durable d.flying o)) c.in-Some.is) refl
+
+pub invariant_of-self-in_default : goal.invariant_of-self-in_default
+invariant_of-self-in_default c =
+    let d = c.self.inside in
+    landed_desk (goal.at.invariant_of-self-in_default c).After-land-landed (area_in d) d.pending (ap (λ o. launched_base (state_with (area_in d) d.inputs.items d.durable d.flying o)) c.in_default.is) c.in_default.is
+
+-- inputs make as many leaders known as they are, at most
+few : (count k : ℕ) (all : List Decision) (waiting : List Effects) → count ≡ k → all ≡ told (take k waiting) → length all ≤ count
+few count k all waiting same are = omega (arith, same, ap length are, length-filter_map (λ (e : Effects). e.decided) (take k waiting), length-take k waiting)
+
+pub returns-clause-few : goal.returns-clause-few
+returns-clause-few c = few _ _ _ c.self.inside.outbox.waiting.items c.land-landed.ensures.count c.land-landed.ensures.decisions
+
+-- an input flew, where no checkpoint did
+some_flew : (c : After-land-landed) → c.self.inside.pending ≡ None → c.self.inside.durable < c.self.inside.flying
+some_flew c none =
+    let d = c.self.inside in
+    let flies : c.is_flying-flies.result ≡ true = search rules in
+    let is = subst (λ (v : DeskKept). IsFlying v (numbered_with c.node.result c.first.result c.inputs.result.now c.snapshot-snapshot.result)) (sym c.self.view_is) (c.is_flying-flies.ensures.yes flies) in
+    let batch : c.args.receipt.flown.snapshot ≡ None = sym c.snapshot-snapshot.ensures ∙ (is.snapshot ∙ ap (λ o. option_map (λ (b : Base). b.bytes) (option_map (area_behind (area_in d) d.flying) o)) none) in
+    let one = c.args.receipt.flown.some batch in
+    let count = ap length (sym c.inputs.ensures.value ∙ is.inputs) ∙ part-length d.durable d.flying d.inputs.items c.self.invariant.state.counts.flying in
+    omega (arith, one, count)
+
+-- what is durable then fits
+fits_now : (c : After-land-landed) → used (launched_base (state_in c.self.inside)) (flown_in (state_in c.self.inside)) ≤ c.self.inside.capacity
+fits_now c =
+    let d = c.self.inside in
+    flown_fit (member_in d) d.base (state_in d) c.self.invariant.state
+    (λ none. some_flew c (none_pending (area_behind (area_in d) d.flying) d.pending none))
+
+pub returns-clause-fits : goal.returns-clause-fits
+returns-clause-fits c =
+    let d = c.self.inside in
+    let a = (goal.at.returns-clause-fits c).After-land-landed in
+    let fits : (o : Option ℕ) → d.pending ≡ o → used (launched_base (state_with (area_in d) d.inputs.items d.durable d.flying o)) (flown_in (state_in d)) ≤ d.capacity =
+    λ o e. subst (λ p. used (launched_base (state_with (area_in d) d.inputs.items d.durable d.flying p)) (flown_in (state_in d)) ≤ d.capacity) e (fits_now a) in
+    elim c.match-self.branch [
+      | in-Some w ↦ subst (λ (v : DeskKept). used v.view.state.base (durable_in v.view.state) ≤ v.view.member.capacity) (sym w.self-is) (fits (Some w.in-Some.length) w.in-Some.is)
+      | in_default w ↦ subst (λ (v : DeskKept). used v.view.state.base (durable_in v.view.state) ≤ v.view.member.capacity) (sym w.self-is) (fits None w.in_default.is)
+    ]
 
 pub returns-clause-packets : goal.returns-clause-packets
 returns-clause-packets c =
     let d = c.self.inside in
     let i = c.self.invariant in
-    let a = (goal.at.returns-clause-packets c).After-settle-landed in
-    let m = member d.node d.n d.capacity in
-    landed_packets m empty fresh [] d.inputs.items d.durable d.flying d.outbox.waiting.items _ _ _ _ (follows_none m) i.lawful i.in_order i.holds.waiting (flew a) i.holds.released.taken (settled a).released.taken c.settle-landed.ensures.packets
-    ∙ ap (λ (v : DeskView). packets v.member.node (durable_in v.state) (flying_in v.state)) c.self.view_is
+    let a = (goal.at.returns-clause-packets c).After-land-landed in
+    let m = member_in d in
+    let s = state_in d in
+    let each = free_since m d.base (launched_base s) d.inputs.items i.state.all in
+    subst (λ (v : DeskKept). (past : List Input) → IsPast v.view.member v.opening past → c.land-landed.result.packets.items ≡ packets v.view.member.node (durable_in (seen past v).state) (flying_in (seen past v).state)) c.self.view_is (λ past is.
+    landed_packets m d.base past d.inputs.items d.durable d.flying d.outbox.waiting.items _ _ _ _ is each i.state.counts.durable i.holds.waiting (flew a) i.holds.released.taken
+    (settled a).released.taken c.land-landed.ensures.packets
+    ∙ (λ k. packets d.node (sym (durable-shifted past s) k) (sym (flying-shifted past s) k)))
 
 pub returns-clause-decisions : goal.returns-clause-decisions
 returns-clause-decisions c =
     let d = c.self.inside in
     let i = c.self.invariant in
-    let a = (goal.at.returns-clause-decisions c).After-settle-landed in
-    let m = member d.node d.n d.capacity in
-    landed_decisions m empty fresh [] d.inputs.items d.durable d.flying d.outbox.waiting.items _ _ (follows_none m) i.lawful i.in_order i.holds.waiting (flew a) c.settle-landed.ensures.decisions
-    ∙ ap (λ (v : DeskView). decisions v.member.node (durable_in v.state) (flying_in v.state)) c.self.view_is
+    let a = (goal.at.returns-clause-decisions c).After-land-landed in
+    let m = member_in d in
+    let s = state_in d in
+    let each = free_since m d.base (launched_base s) d.inputs.items i.state.all in
+    subst (λ (v : DeskKept). (past : List Input) → IsPast v.view.member v.opening past → c.land-landed.result.decisions.items ≡ decisions v.view.member.node (durable_in (seen past v).state) (flying_in (seen past v).state)) c.self.view_is (λ past is.
+    landed_decisions m d.base past d.inputs.items d.durable d.flying d.outbox.waiting.items _ _ is each i.state.counts.durable i.holds.waiting (flew a) c.land-landed.ensures.decisions
+    ∙ (λ k. decisions d.node (sym (durable-shifted past s) k) (sym (flying-shifted past s) k)))

@@ -1,20 +1,34 @@
-use Rattle.std.proofs.Common.{rules, ◌∙◌, ◌-◌, List, take, drop, ap}
+use Rattle.std.proofs.Common.{rules, ◌≡◌, ◌<◌, ◌≤◌, ◌+◌, ◌-◌, ◌∙◌, List, length, take, drop, None, ap, subst, arith}
 use Rattle.ring_records.specs.declared.input.Input.{Input}
+use Rattle.ring_records.specs.Known.{after}
+use Rattle.ring_records.specs.States.{launched_base}
 use Rattle.gated_journal.specs.Batch.{numbered}
-use Rattle.group_commit.specs.Desk.{DeskView}
+use Rattle.group_commit.specs.Desk.{DeskKept}
+use Rattle.group_commit.specs.Kept.{decisions_since, state_with}
+use Rattle.group_commit.specs.Outbox.{Holds}
+use Rattle.group_commit.specs.Since.{IsLawfulSince}
+use Rattle.group_commit.proofs.Inside.{member_in, area_in}
+use Rattle.group_commit.proofs.Landing.{part, part-length}
 use Rattle.group_commit.proofs.Settling.{holds_still}
+use Rattle.group_commit.proofs.Since.{known_launched, core_launched, first_fit}
 use Rattle.group_commit.proofs.desk.Desk.launch.Goals as goal
 
 pub invariant_of-self : goal.invariant_of-self
 invariant_of-self c =
     let d = c.self.inside in
     let i = c.self.invariant in
+    let s = after d.node d.base (take d.durable d.inputs.items) in
+    let decided = decisions_since d.node d.base (take d.durable d.inputs.items) in
+    let waits = drop d.durable d.inputs.items in
+    let within : c.min-end.result ≤ length d.inputs.items = search rules in
+    let none : d.pending ≡ None = search rules in
+    let low : d.durable ≤ c.min-end.result = search rules in
+    let count = ap (λ (l : List Input). length (part d.durable c.min-end.result l)) c.deref.ensures.value ∙ part-length d.durable c.min-end.result d.inputs.items within in
     record {
-      knows = i.knows;
-      in_order = search rules;
-      accepted = search rules;
-      lawful = i.lawful;
-      holds = c.in-Ok.ensures.holds d.node _ _ _ (holds_still d.node _ d.outbox _ _ _ i.holds);
+      sound = i.sound;
+      knows = i.knows ∙ core_launched (member_in d) d.base (area_in d) d.inputs.items d.durable d.flying c.min-end.result d.pending none;
+      state = known_launched (member_in d) d.base (area_in d) d.inputs.items d.durable d.flying c.min-end.result d.pending none low within i.state;
+      holds = subst (λ k. Holds d.node c.prepare.new.outbox s decided waits k) count (c.in-Ok.ensures.holds d.node s decided waits (holds_still d.node _ d.outbox _ _ _ i.holds));
       given = i.given;
       answers = i.answers;
     }
@@ -22,5 +36,17 @@ invariant_of-self c =
 pub returns-in-Ok-clause-batch : goal.returns-in-Ok-clause-batch
 returns-in-Ok-clause-batch c =
     let d = c.self.inside in
-    c.in-Ok.ensures.batch ∙ ap (λ (l : List Input). numbered d.node d.durable (take (c.min-end.result - d.durable) (drop d.durable l))) c.deref.ensures.value
-    ∙ ap (λ (v : DeskView). numbered v.member.node v.state.durable (take (c.min-end.result - d.durable) (drop d.durable d.inputs.items))) c.self.view_is
+    c.in-Ok.ensures.batch
+    ∙ (λ k. numbered d.node (c.durable-first.ensures k) (take (c.min-end.result - d.durable) (drop d.durable (c.deref.ensures.value k))))
+    ∙ ap (λ (v : DeskKept). numbered v.view.member.node (c.args.self.now.opening.inputs + c.args.self.now.view.state.durable) (take (c.min-end.result - d.durable) (drop d.durable d.inputs.items))) c.self.view_is
+
+pub returns-in-Ok-clause-fits : goal.returns-in-Ok-clause-fits
+returns-in-Ok-clause-fits c =
+    let d = c.self.inside in
+    let i = c.self.invariant in
+    let none : d.pending ≡ None = search rules in
+    let some : d.durable < c.min-end.result = search rules in
+    let within : c.min-end.result ≤ length d.inputs.items = search rules in
+    let based = i.state.counts.based in
+    first_fit (member_in d) d.base (area_in d) c.min-end.result d.inputs.items
+    (subst (λ b. IsLawfulSince (member_in d) d.base b d.inputs.items) (ap (λ o. launched_base (state_with (area_in d) d.inputs.items d.durable d.flying o)) none) i.state.all) (omega (arith, some, based)) within

@@ -1,65 +1,51 @@
-use Rattle.std.proofs.Common.{rules, ◌≡◌, inl, inr, List, [], true, is_ok, length, sym, subst, ◌∙◌, arith}
+use Rattle.std.proofs.Common.{rules, ◌≡◌, List, [], ◌++◌, true, length, refl, sym, subst, ◌∙◌, arith}
+use Rattle.std.specs.Prelude.{is_ok}
+use Rattle.ring_records.specs.declared.base.Base.{Base}
 use Rattle.ring_records.specs.declared.input.Input.{Input}
-use Rattle.ring_records.specs.declared.summary.Summary.{Summary}
 use Rattle.ring_records.specs.Known.{after}
 use Rattle.ring_records.specs.Member.{member}
-use Rattle.ring_records.specs.Summary.{empty}
 use Rattle.node_core.specs.Core.{CoreView}
-use Rattle.group_commit.specs.Opening.{opened_core, core_after, IsKnownLawful, IsKnownUnlawful}
-use Rattle.group_commit.specs.Outbox.{brought_after, told, Holds}
+use Rattle.gated_journal.specs.Reading.{reading_of_opening}
+use Rattle.group_commit.specs.Desk.{core_of}
+use Rattle.group_commit.specs.Kept.{AreAnswers}
+use Rattle.group_commit.specs.Opening.{opened_core, core_after, IsKnownLawful}
+use Rattle.group_commit.specs.Outbox.{brought_after, told, leaders_in, Holds}
 use Rattle.group_commit.proofs.Landing.{whole_holds}
 use Rattle.group_commit.proofs.Numbers.{below_none}
 use Rattle.group_commit.proofs.Opening.{on_ok}
-use Rattle.group_commit.proofs.Past.{follows_new, unlawful}
 use Rattle.group_commit.proofs.Replies.{answers_none}
+use Rattle.group_commit.proofs.Since.{known_opened, core_opened}
 use Rattle.group_commit.proofs.desk.Desk.open.Goals as goal
-use Rattle.group_commit.proofs.desk.Desk.open.Goals.{After-new-core, After-replay}
+use Rattle.group_commit.proofs.desk.Desk.open.Goals.{After-restore-2}
 
--- the core of a node that accepted nothing
-new_is : (c : After-new-core) → c.new-core.result ≡ opened_core (member c.args.node c.args.n c.args.capacity) empty 0
-new_is c = let new = c.new-core.ensures in λ i. record { me = new.me i; size = new.ring i; capacity = new.capacity i; known = new.value.0 i; used = new.value.1 i }
+-- the core of the node before the inputs since
+restored : (c : After-restore-2) → c.in-Ok.core ≡ core_of (member c.args.node c.args.n c.args.capacity) (reading_of_opening c.args.opening)
+restored c = c.in-Ok.ensures ∙ (λ i. record { me = c.args.node; size = c.args.n; capacity = c.args.capacity; known = c.args.opening.base; used = c.area_bytes-taken.ensures i })
 
 pub replay-requires : goal.replay-requires
 replay-requires c =
-    let known = c.new-core.ensures.value.0 in
-    ([], subst (λ (s : Summary). Holds c.new-core.result.me c.new-outbox.result s [] [] 0) (sym known) (c.new-outbox.ensures c.new-core.result.me))
-
-pub returns-in-Err-clause-refusal : goal.returns-in-Err-clause-refusal
-returns-in-Err-clause-refusal c =
-    let m = member c.args.node c.args.n c.args.capacity in
-    let first = new_is (goal.at.returns-in-Err-clause-refusal c).After-new-core in
-    elim c.in-Err.ensures.refusal [
-      | inl memory ↦ inl memory
-      | inr found ↦ inr (unlawful m c.args.inputs.items c.in-Err.refusal
-          (subst (λ (p : CoreView × List Input). IsKnownUnlawful p.0 p.1 c.in-Err.refusal) (λ i. (first i, c.deref.ensures.value i)) found))
-    ]
-
--- it may have accepted its inputs
-lawful : (c : After-replay) → is_ok c.replay.result ≡ true → IsKnownLawful (opened_core (member c.args.node c.args.n c.args.capacity) empty 0) c.args.inputs.items
-lawful c replayed =
-    subst (λ (p : CoreView × List Input). IsKnownLawful p.0 p.1) (λ i. (new_is (goal.at.After-replay c).After-new-core i, c.deref.ensures.value i)) (on_ok c.replay.result replayed c.replay.ensures.lawful)
+    let first = restored (goal.at.replay-requires c).After-restore-2 in
+    (leaders_in c.args.opening.base, subst (λ (core : CoreView). Holds core.me c.in-Ok-restore.outbox core.known (leaders_in c.args.opening.base) [] 0) (sym first) (c.in-Ok-restore.ensures c.args.node))
 
 pub invariant_of-result : goal.invariant_of-result
 invariant_of-result c =
     let m = member c.args.node c.args.n c.args.capacity in
-    let l = c.args.inputs.items in
-    let a = (goal.at.invariant_of-result c).After-replay in
-    let first = new_is (goal.at.invariant_of-result c).After-new-core in
+    let o = c.args.opening in
+    let l = o.inputs.items in
+    let first = restored (goal.at.invariant_of-result c).After-restore-2 in
+    let area : Base = record { layout = o.layout; epoch = o.epoch; inputs = 0; bytes = c.area_bytes-taken.result } in
+    let began : c.in-Ok.core ≡ opened_core m o.base c.area_bytes-taken.result = c.in-Ok.ensures in
     let replayed : is_ok c.replay.result ≡ true = search rules in
     let count : c.len-count.result ≡ length l = search rules in
-    let holds = subst (λ (p : CoreView × List Input). Holds p.0.me c.new-outbox.result p.0.known [] [] 0 → Holds p.0.me c.replay.new.outbox (after p.0.me p.0.known p.1) (told (brought_after p.0.me p.0.known p.1)) [] 0)
-    (λ i. (first i, c.deref.ensures.value i)) (on_ok c.replay.result replayed c.replay.ensures.holds []) in
+    let holds = subst (λ (p : CoreView × List Input). Holds p.0.me c.in-Ok-restore.outbox p.0.known (leaders_in o.base) [] 0
+    → Holds p.0.me c.replay.new.outbox (after p.0.me p.0.known p.1) (leaders_in o.base ++ told (brought_after p.0.me p.0.known p.1)) [] 0)
+    (λ i. (first i, c.deref.ensures.value i)) (on_ok c.replay.result replayed c.replay.ensures.holds (leaders_in o.base)) in
     record {
-      knows = on_ok c.replay.result replayed c.replay.ensures.knows ∙ (λ i. core_after (first i) (c.deref.ensures.value i));
-      in_order = omega arith;
-      accepted = search rules;
-      lawful = lawful a replayed;
-      holds = whole_holds m.node c.len-count.result c.replay.new.outbox empty l count (holds (c.new-outbox.ensures m.node));
+      sound = c.requires;
+      knows = core_opened m o.base area l c.len-count.result c.len-count.result c.replay.new.core refl (on_ok c.replay.result replayed c.replay.ensures.knows ∙ (λ i. core_after (began i) (c.deref.ensures.value i)));
+      state = known_opened m o.base area l c.len-count.result c.len-count.result refl c.area_bytes-taken.ensures (omega arith) (omega (arith, count))
+          (subst (λ (p : CoreView × List Input). IsKnownLawful p.0 p.1) (λ i. (began i, c.deref.ensures.value i)) (on_ok c.replay.result replayed c.replay.ensures.lawful));
+      holds = whole_holds m.node c.len-count.result c.replay.new.outbox o.base l count (holds (c.in-Ok-restore.ensures c.args.node));
       given = search (rules, below_none);
-      answers = search (rules, answers_none);
+      answers = subst (AreAnswers m o.base) (sym c.new.ensures.empty) (answers_none m o.base);
     }
-
-pub returns-clause-lawful : goal.returns-clause-lawful
-returns-clause-lawful c =
-    let replayed : is_ok c.replay.result ≡ true = search rules in
-    (follows_new (member c.args.node c.args.n c.args.capacity) c.args.inputs.items (lawful (goal.at.returns-clause-lawful c).After-replay replayed)).lawful

@@ -1,10 +1,12 @@
 use Rattle.std.proofs.Common.{ℕ, List, nat_eq, ap, ◌∙◌, sym, subst}
 use Rattle.std.specs.Map.{lookup}
 use Rattle.ring_records.specs.Answer.{Answered}
-use Rattle.ring_records.specs.Member.{member}
-use Rattle.group_commit.specs.Desk.{DeskView, IsAnswer}
+use Rattle.group_commit.specs.Desk.{DeskKept, IsAnswer}
+use Rattle.group_commit.specs.Past.{IsPast}
+use Rattle.ring_records.specs.declared.input.Input.{Input}
 use Rattle.group_commit.specs.Kept.{AreBelow, AreAnswers}
 use Rattle.group_commit.specs.Ticket.{answered_with}
+use Rattle.group_commit.proofs.Inside.{member_in}
 use Rattle.group_commit.proofs.Numbers.{below_without}
 use Rattle.group_commit.proofs.Replies.{answers_without, answers_at}
 use Rattle.group_commit.proofs.desk.Desk.redeem.Goals as goal
@@ -14,20 +16,19 @@ invariant_of-self c =
     let d = c.self.inside in
     let i = c.self.invariant in
     record {
+      sound = i.sound;
       knows = i.knows;
-      in_order = i.in_order;
-      accepted = i.accepted;
-      lawful = i.lawful;
+      state = i.state;
       holds = i.holds;
       given = subst (λ (ts : List (ℕ × Answered)). AreBelow c.self.inside.issued ts) (sym c.take_back.ensures) (below_without _ _ _ i.given);
-      answers = subst (λ (ts : List (ℕ × Answered)). AreAnswers (member d.node d.n d.capacity) ts) (sym c.take_back.ensures) (answers_without (member d.node d.n d.capacity) c.args.ticket.own d.tickets.entries i.answers);
+      answers = subst (λ (ts : List (ℕ × Answered)). AreAnswers (member_in d) d.base ts) (sym c.take_back.ensures) (answers_without (member_in d) d.base c.args.ticket.own d.tickets.entries i.answers);
     }
 
 pub returns-clause-answer : goal.returns-clause-answer
 returns-clause-answer c =
     let d = c.self.inside in
-    let m = member d.node d.n d.capacity in
     let own = c.args.ticket.own in
     let kept = answered_with c.args.ticket.question c.in-Some.reply c.in-Some.number in
-    let here = ap (λ (v : DeskView). lookup (nat_eq own) v.tickets) c.self.view_is ∙ c.in-Some.ensures.own in
-    subst (λ (v : DeskView). IsAnswer v.member kept) c.self.view_is (answers_at m own kept d.tickets.entries c.self.invariant.answers here)
+    let here = ap (λ (v : DeskKept). lookup (nat_eq own) v.view.tickets) c.self.view_is ∙ c.in-Some.ensures.own in
+    subst (λ (v : DeskKept). (past : List Input) → IsPast v.view.member v.opening past → IsAnswer v.view.member past kept) c.self.view_is
+    (answers_at (member_in d) d.base own kept d.tickets.entries c.self.invariant.answers here)

@@ -1,11 +1,15 @@
-use Rattle.std.proofs.Common.{◌∙◌, ap, length}
+use Rattle.std.proofs.Common.{◌≡◌, ◌∙◌, List, subst, length}
+use Rattle.ring_records.specs.declared.input.Input.{Input}
 use Rattle.ring_records.specs.History.{taken}
-use Rattle.ring_records.specs.Member.{member}
-use Rattle.group_commit.specs.Desk.{DeskView}
-use Rattle.group_commit.proofs.Past.{stands}
+use Rattle.group_commit.specs.Desk.{DeskKept, seen}
+use Rattle.group_commit.specs.Past.{IsPast}
+use Rattle.group_commit.proofs.Inside.{member_in, state_in}
+use Rattle.group_commit.proofs.Past.{core_knows}
 use Rattle.group_commit.proofs.desk.Desk.taken.Goals as goal
 
 pub returns : goal.returns
 returns c =
     let d = c.self.inside in
-    c.taken.ensures.known d.inputs.items (stands (member d.node d.n d.capacity) d.core d.inputs.items c.self.invariant.knows c.self.invariant.lawful) ∙ ap (λ (v : DeskView). length (taken v.state.inputs)) c.self.view_is
+    subst (λ (v : DeskKept). (past : List Input) → IsPast v.view.member v.opening past → c.taken.result ≡ length (taken (seen past v).state.inputs)) c.self.view_is (λ past is.
+    let known = core_knows (member_in d) d.base past (state_in d) d.core is c.self.invariant.state c.self.invariant.knows in
+    c.taken.ensures.value ∙ (λ i. (known i).taken))

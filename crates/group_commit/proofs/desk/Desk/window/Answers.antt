@@ -1,22 +1,27 @@
-use Rattle.std.proofs.Common.{◌∙◌, ap, []}
-use Rattle.ring_records.specs.Admission.{fresh}
-use Rattle.ring_records.specs.Member.{member}
+use Rattle.std.proofs.Common.{◌≡◌, ◌∙◌, List, subst}
+use Rattle.ring_records.specs.declared.input.Input.{Input}
 use Rattle.ring_records.specs.Release.{numbered, window}
-use Rattle.ring_records.specs.States.{durable_in}
-use Rattle.ring_records.specs.Summary.{empty}
-use Rattle.group_commit.specs.Desk.{DeskView}
-use Rattle.group_commit.proofs.Landing.{follows-take}
+use Rattle.ring_records.specs.States.{IsLawfulState, durable_in}
+use Rattle.group_commit.specs.Desk.{DeskKept, seen}
+use Rattle.group_commit.specs.Past.{IsPast}
+use Rattle.group_commit.proofs.Inside.{member_in, state_in}
 use Rattle.group_commit.proofs.Opening.{ok_so}
-use Rattle.group_commit.proofs.Past.{follows_none}
+use Rattle.group_commit.proofs.Past.{durable_knows}
+use Rattle.group_commit.proofs.Seen.{lawful_known}
 use Rattle.group_commit.proofs.desk.Desk.window.Goals as goal
 
-pub returns : goal.returns
+pub returns-clause-packets : goal.returns-clause-packets
 unfolding window
-returns c =
+returns-clause-packets c =
     let d = c.self.inside in
-    let m = member d.node d.n d.capacity in
-    let f = follows-take m empty fresh [] d.inputs.items d.durable (follows_none m) c.self.invariant.lawful in
     let keeps = c.self.invariant.holds.released in
-    ok_so _ _ c.window.result (λ packets is.
-    is ∙ ((λ i. numbered ((keeps.credited ∙ (λ j. (f.of.knows j).credit)) i) ((keeps.window ∙ (λ j. (f.of.knows j).window)) i))
-    ∙ ap (λ (v : DeskView). window v.member.node (durable_in v.state)) c.self.view_is)) c.window.ensures
+    ok_so _ _ c.window.result (λ packets items.
+    subst (λ (v : DeskKept). (past : List Input) → IsPast v.view.member v.opening past → packets.items ≡ window v.view.member.node (durable_in (seen past v).state)) c.self.view_is (λ past is.
+    let known = durable_knows (member_in d) d.base past (state_in d) is c.self.invariant.state in
+    items ∙ (λ i. numbered ((keeps.credited ∙ (λ j. (known j).credit)) i) ((keeps.window ∙ (λ j. (known j).window)) i)))) c.window.ensures
+
+pub returns-clause-lawful : goal.returns-clause-lawful
+returns-clause-lawful c =
+    let d = c.self.inside in
+    subst (λ (v : DeskKept). (past : List Input) → IsPast v.view.member v.opening past → IsLawfulState v.view.member (seen past v).state)
+    c.self.view_is (λ past is. lawful_known (member_in d) d.base past (state_in d) is c.self.invariant.state)

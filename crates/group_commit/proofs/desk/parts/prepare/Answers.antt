@@ -1,4 +1,4 @@
-use Rattle.std.proofs.Common.{rules, ◌≡◌, ◌-◌, ℕ, List, true, is_ok}
+use Rattle.std.proofs.Common.{rules, ◌≡◌, length, ℕ, List, true, is_ok}
 use Rattle.ring_records.specs.declared.decision.Decision.{Decision}
 use Rattle.ring_records.specs.declared.input.Input.{Input}
 use Rattle.ring_records.specs.declared.summary.Summary.{Summary}
@@ -12,5 +12,5 @@ returns-clause-err c =
     let loaded : is_ok c.load.result ≡ true = search rules in
     let holds = on_ok c.load.result loaded c.load.ensures.holds in
     let still : (me : ℕ) (s : Summary) (decided : List Decision) (l : List Input) → Holds me c.args.outbox.now s decided l 0 → Holds me c.load.new.self s decided l 0 =
-    λ me s decided l none. holds_still me (c.args.end - c.args.start) c.load.new.self s decided l (holds me s decided l none) in
+    λ me s decided l none. holds_still me (length c.args.inputs.now) c.load.new.self s decided l (holds me s decided l none) in
     when_err c.new.result still

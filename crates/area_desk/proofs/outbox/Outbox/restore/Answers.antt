@@ -1,6 +1,0 @@
-use Rattle.std.proofs.Common.{rules}
-use Rattle.area_desk.proofs.Settling.{holds_restored}
-use Rattle.area_desk.proofs.outbox.Outbox.restore.Goals as goal
-
-pub returns : goal.returns
-returns c = λ me. holds_restored me _ c.args.from.now _ c.in_ok-restore.ensures (search rules) c.new.ensures.items (record { packets = c.new-2.ensures.packets; decisions = c.new-2.ensures.decisions })

@@ -1,0 +1,309 @@
+-- A desk's state since its opening, by what is known: what happens to it, and that it fits.
+use Rattle.std.proofs.Common.{◌≡◌, ℕ, ◌+◌, ◌<◌, ◌≤◌, List, [], ◌∷◌, ◌++◌, append-nil, length, take, drop, Option, Some, None, inl, inr, refl, sym, ap, ◌∙◌, subst, arith}
+use Rattle.std.specs.FinMap as map
+use Rattle.std.specs.List.{cons_option, sum_by}
+use Rattle.std.specs.Prelude.{unwrap_or, nat_lt}
+use Rattle.std.proofs.Math.Nat.{eq-or-lt_of_le}
+use Rattle.std.proofs.lemmas.Bool.{ltb-false}
+use Rattle.std.proofs.lemmas.List.{length-append, length-take, length-take-le, length-drop, take_all, drop_all, take-take, take-append-drop, take-append-le, drop-append-le}
+use Rattle.std.proofs.lemmas.List.Sums.{fold-append, sum_by-append}
+use Rattle.std.proofs.lemmas.Option.{same_Some}
+use Rattle.ring_records.specs.declared.base.Base.{Base}
+use Rattle.ring_records.specs.declared.input.Input.{Input}
+use Rattle.ring_records.specs.declared.input.Input.TheVariants.{Stand, Take, Acked}
+use Rattle.ring_records.specs.declared.refusal.Refusal.TheVariants.{Full}
+use Rattle.ring_records.specs.declared.summary.Summary.{Summary}
+use Rattle.ring_records.specs.Admission.{area_bytes, cost, costs_of, used, where_so, Fits}
+use Rattle.ring_records.specs.Known.{stepped, after}
+use Rattle.ring_records.specs.Lists.{EachAfter}
+use Rattle.ring_records.specs.Member.{Member}
+use Rattle.ring_records.specs.Snapshot.{state_len, snapshot_len}
+use Rattle.ring_records.specs.States.{NodeState, launched_base, durable_in, flown_in}
+use Rattle.ring_records.proofs.Admission.{where_so-none, or_else-none}
+use Rattle.ring_records.proofs.Counts.{used-more}
+use Rattle.ring_records.proofs.Growth.{EachAfter-take}
+use Rattle.ring_records.proofs.Lists.{along, EachAfter-push, none≢some}
+use Rattle.ring_records.proofs.Snapshots.{length-snapshot}
+use Rattle.ring_records.proofs.States.{next-few}
+use Rattle.ring_records.proofs.StatesInOrder.{len-values}
+use Rattle.node_core.specs.Core.{CoreView, Refuses}
+use Rattle.group_commit.specs.Desk.{epochs}
+use Rattle.group_commit.specs.Kept.{area_behind, state_with}
+use Rattle.group_commit.specs.Opening.{opened_core, core_after, IsOpenTo, IsKnownLawful}
+use Rattle.group_commit.specs.Since.{IsOpenSince, IsLawfulSince, IsAreaOf, IsKnownState, core_in}
+use Rattle.group_commit.proofs.Opening.{objects_none, EachAfter-from}
+
+-- ---- areas
+
+area-same : (me : ℕ) (opening : Summary) (b : Base) (g h : List Input) → b.inputs ≤ length h → take b.inputs h ≡ take b.inputs g → IsAreaOf me opening b g → IsAreaOf me opening b h
+area-same me opening b g h within same of = record { within = within; bytes = of.bytes ∙ ap (λ (l : List Input). area_bytes b.layout (after me opening l)) (sym same) }
+
+area-grown : (me : ℕ) (opening : Summary) (b : Base) (h more : List Input) → IsAreaOf me opening b h → IsAreaOf me opening b (h ++ more)
+area-grown me opening b h more of = area-same me opening b h (h ++ more) (let w = of.within in let l = length-append h more in omega arith) (take-append-le b.inputs h more of.within) of
+
+area-first : (me : ℕ) (opening : Summary) (b : Base) (k : ℕ) (h : List Input) → b.inputs ≤ k → IsAreaOf me opening b h → IsAreaOf me opening b (take k h)
+area-first me opening b k h few of = area-same me opening b h (take k h) (let w = of.within in let l = length-take k h in omega arith) (take-take b.inputs k h few) of
+
+-- ---- what may be accepted
+
+-- where a core refuses an input for nothing, there is room for it
+pub room_none : (core : CoreView) (x : Input) → Refuses core x None → core.used + cost x ≤ core.capacity
+room_none core x (first, objects, e) =
+    let room = or_else-none first (where_so (nat_lt core.capacity (core.used + cost x)) Full) (sym e) in
+    ltb-false core.capacity (core.used + cost x) (where_so-none (nat_lt core.capacity (core.used + cost x)) Full room.1)
+
+open_now : (m : Member) (opening : Summary) (s : NodeState) (x : Input) → Refuses (core_in m opening s) x None → IsOpenSince m opening (launched_base s) s.inputs x
+unfolding Fits
+open_now m opening s x free = record { free = objects_none (core_in m opening s) x free; fits = λ _. room_none (core_in m opening s) x free }
+
+lawful-first : (m : Member) (opening : Summary) (b : Base) (k : ℕ) (l : List Input) → IsLawfulSince m opening b l → IsLawfulSince m opening b (take k l)
+lawful-first m opening b k l lawful = EachAfter-take (IsOpenSince m opening b) k l lawful
+
+lawful-more : (m : Member) (opening : Summary) (b : Base) (l : List Input) (more : Option Input) → ((x : Input) → more ≡ Some x → IsOpenSince m opening b l x) → IsLawfulSince m opening b l → IsLawfulSince m opening b (l ++ cons_option more [])
+lawful-more m opening b l None free lawful = rw append-nil lawful
+lawful-more m opening b l (Some x) free lawful = EachAfter-push (IsOpenSince m opening b) [] l x lawful (free x refl)
+
+-- a base asks no room of what it stands for
+rebased : (m : Member) (opening : Summary) (b c : Base) (before l : List Input) → length before + length l ≤ c.inputs → EachAfter (IsOpenSince m opening b) before l → EachAfter (IsOpenSince m opening c) before l
+unfolding EachAfter Fits
+rebased m opening b c before [] all each = tt
+rebased m opening b c before (x ∷ l) all each = (
+  record { free = each.0.free; fits = λ within. absurd (omega arith) },
+  rebased m opening b c (before ++ x ∷ []) l (let n = length-append before (x ∷ []) in omega arith) each.1,
+)
+
+-- where the base stands for no input since, all of them are counted
+pub used-since : (base : Base) (l : List Input) → base.inputs ≡ 0 → used base l ≡ base.bytes + costs_of l
+unfolding used
+used-since base l none = ap (λ n. base.bytes + costs_of (drop n l)) none
+
+pub lawful_opened : (m : Member) (opening : Summary) (base : Base) (l : List Input) → base.inputs ≡ 0 → IsKnownLawful (opened_core m opening base.bytes) l → IsLawfulSince m opening base l
+unfolding Fits
+lawful_opened m opening base l none lawful =
+    EachAfter-from (IsOpenTo (opened_core m opening base.bytes)) (IsOpenSince m opening base) [] (λ before x free. one before x free) [] l lawful
+  where
+    one : (before : List Input) (x : Input) → IsOpenTo (opened_core m opening base.bytes) before x → IsOpenSince m opening base before x
+    one before x free =
+        let room = room_none (core_after (opened_core m opening base.bytes) before) x free in
+        record { free = objects_none (core_after (opened_core m opening base.bytes) before) x free; fits = λ _. omega (arith, room, used-since base before none) }
+
+-- ---- the state
+
+-- it was opened, and so many of these inputs are durable, and so many durable or flying
+pub known_opened : (m : Member) (opening : Summary) (base : Base) (l : List Input) (durable flying : ℕ) → base.inputs ≡ 0 → base.bytes ≡ area_bytes base.layout opening → durable ≤ flying → flying ≤ length l
+    → IsKnownLawful (opened_core m opening base.bytes) l → IsKnownState m opening (state_with base l durable flying None)
+known_opened m opening base l durable flying none bytes low high lawful =
+    let area : IsAreaOf m.node opening base l = record { within = omega (arith, none); bytes = bytes ∙ ap (λ k. area_bytes base.layout (after m.node opening (take k l))) (sym none) } in
+    let each = lawful_opened m opening base l none lawful in
+    record {
+      counts = record { durable = low; flying = high; based = omega (arith, none); checkpointed = λ b e. none≢some b e };
+      base = area-first m.node opening base durable l (omega (arith, none)) area;
+      next = area;
+      held = lawful-first m opening base flying l each;
+      all = each;
+      left = λ b e. none≢some b e;
+      fits = λ b e. none≢some b e;
+    }
+
+-- the core that it was opened with, once it has accepted them
+pub core_opened : (m : Member) (opening : Summary) (base : Base) (l : List Input) (durable flying : ℕ) (core : CoreView) → base.inputs ≡ 0 → core ≡ core_after (opened_core m opening base.bytes) l
+    → core ≡ core_in m opening (state_with base l durable flying None)
+core_opened m opening base l durable flying core none is = is ∙ (λ i. record { me = m.node; size = m.n; capacity = m.capacity; known = after m.node opening l; used = sym (used-since base l none) i })
+
+-- it accepted the input, if there is one
+pub known_more : (m : Member) (opening : Summary) (s : NodeState) (core : CoreView) (more : Option Input) → core ≡ core_in m opening s → ((x : Input) → more ≡ Some x → Refuses core x None) → IsKnownState m opening s
+    → IsKnownState m opening (record s { inputs = s.inputs ++ cons_option more [] })
+known_more m opening s core more knows free known =
+    let counts = known.counts in
+    let l = cons_option more [] in
+    let durable : take s.durable (s.inputs ++ l) ≡ durable_in s = take-append-le s.durable s.inputs l (let d = counts.durable in let f = counts.flying in omega arith) in
+    let flown : take s.flying (s.inputs ++ l) ≡ flown_in s = take-append-le s.flying s.inputs l counts.flying in
+    record {
+      counts = record {
+        durable = counts.durable;
+        flying = (let f = counts.flying in let n = length-append s.inputs l in omega arith);
+        based = counts.based;
+        checkpointed = counts.checkpointed;
+      };
+      base = subst (IsAreaOf m.node opening s.base) (sym durable) known.base;
+      next = area-grown m.node opening (launched_base s) s.inputs l known.next;
+      held = subst (IsLawfulSince m opening s.base) (sym flown) known.held;
+      all = lawful-more m opening (launched_base s) s.inputs more (λ x e. open_now m opening s x (subst (λ (c : CoreView). Refuses c x None) knows (free x e))) known.all;
+      left = known.left;
+      fits = known.fits;
+    }
+
+used-joined : (base : Base) (l more : List Input) → base.inputs ≤ length l → used base (l ++ more) ≡ used base l + costs_of more
+unfolding used
+used-joined base l more within =
+    let sum = sum_by-append cost (drop base.inputs l) more in
+    let split : costs_of (drop base.inputs (l ++ more)) ≡ costs_of (drop base.inputs l ++ more) = ap costs_of (drop-append-le base.inputs l more within) in
+    omega (arith, sum, split)
+
+pub core_more : (m : Member) (opening : Summary) (s : NodeState) (core new : CoreView) (more : List Input) → IsKnownState m opening s → core ≡ core_in m opening s → new ≡ core_after core more
+    → new ≡ core_in m opening (record s { inputs = s.inputs ++ more })
+core_more m opening s core new more known is grows =
+    grows ∙ (ap (λ (c : CoreView). core_after c more) is
+    ∙ λ i. record {
+      me = m.node;
+      size = m.n;
+      capacity = m.capacity;
+      known = sym (fold-append (stepped m.node) opening s.inputs more) i;
+      used = sym (used-joined (launched_base s) s.inputs more known.next.within) i;
+    })
+
+-- what it knew by its first inputs, so many of them
+pub knows_front : (m : Member) (opening : Summary) (s : NodeState) (core : CoreView) (k : ℕ) → core ≡ core_in m opening s → core.known ≡ after m.node (after m.node opening (take k s.inputs)) (drop k s.inputs)
+knows_front m opening s core k is =
+    (λ i. (is i).known)
+    ∙ (ap (after m.node opening) (sym (take-append-drop k s.inputs))
+    ∙ fold-append (stepped m.node) opening (take k s.inputs) (drop k s.inputs))
+
+-- a batch flies
+pub known_launched : (m : Member) (opening : Summary) (base : Base) (l : List Input) (durable flying k : ℕ) (pending : Option ℕ) → pending ≡ None → durable ≤ k → k ≤ length l
+    → IsKnownState m opening (state_with base l durable flying pending) → IsKnownState m opening (state_with base l durable k pending)
+known_launched m opening base l durable flying k (Some bytes) none low high known = none≢some bytes (sym none)
+known_launched m opening base l durable flying k None none low high known =
+    record {
+      counts = record { durable = low; flying = high; based = known.counts.based; checkpointed = λ b e. none≢some b e };
+      base = known.base;
+      next = known.next;
+      held = lawful-first m opening base k l known.all;
+      all = known.all;
+      left = λ b e. none≢some b e;
+      fits = λ b e. none≢some b e;
+    }
+
+-- its core stays
+pub core_launched : (m : Member) (opening : Summary) (base : Base) (l : List Input) (durable flying k : ℕ) (pending : Option ℕ) → pending ≡ None → core_in m opening (state_with base l durable flying pending) ≡ core_in m opening (state_with base l durable k pending)
+core_launched m opening base l durable flying k (Some bytes) none = none≢some bytes (sym none)
+core_launched m opening base l durable flying k None none = refl
+
+-- a checkpoint flies
+pub known_all : (m : Member) (opening : Summary) (base : Base) (l : List Input) (durable flying count bytes : ℕ) (pending : Option ℕ) → pending ≡ None → count ≡ length l → bytes ≡ snapshot_len (after m.node opening l)
+    → base.epoch + 1 < epochs → bytes ≤ m.capacity → IsKnownState m opening (state_with base l durable flying pending) → IsKnownState m opening (state_with base l durable count (Some bytes))
+known_all m opening base l durable flying count bytes (Some other) none all spells few fits known = none≢some other (sym none)
+known_all m opening base l durable flying count bytes None none all spells few fits known =
+    let counts = known.counts in
+    let whole : take count l ≡ l = take_all count l (omega (arith, all)) in
+    let next = area_behind base count bytes in
+    record {
+      counts = record {
+        durable = (let d = counts.durable in let f = counts.flying in omega (arith, all));
+        flying = omega (arith, all);
+        based = counts.based;
+        checkpointed = λ b e. sym (ap (λ (c : Base). c.inputs) (same_Some next b e));
+      };
+      base = known.base;
+      next = record { within = omega (arith, all); bytes = spells ∙ ap (λ (g : List Input). snapshot_len (after m.node opening g)) (sym whole) };
+      held = lawful-first m opening base count l known.all;
+      all = rebased m opening base next [] l (omega (arith, all)) known.all;
+      left = λ b e. subst (λ (c : Base). c.epoch < epochs) (same_Some next b e) few;
+      fits = λ b e. subst (λ (c : Base). c.bytes ≤ m.capacity) (same_Some next b e) fits;
+    }
+
+-- the core, with room counted from its summary
+pub core_all : (m : Member) (opening : Summary) (base : Base) (l : List Input) (durable flying count bytes : ℕ) (pending : Option ℕ) (core new : CoreView) → count ≡ length l → bytes ≡ snapshot_len (after m.node opening l)
+    → core ≡ core_in m opening (state_with base l durable flying pending) → new ≡ record core { used = snapshot_len core.known } → new ≡ core_in m opening (state_with base l durable count (Some bytes))
+unfolding used
+core_all m opening base l durable flying count bytes pending core new all spells is steps =
+    let none : drop count l ≡ [] = drop_all count l (omega (arith, all)) in
+    let same : snapshot_len (after m.node opening l) ≡ bytes + costs_of (drop count l) = (let z : bytes + 0 ≡ bytes = omega arith in sym spells ∙ (sym z ∙ ap (λ (g : List Input). bytes + costs_of g) (sym none))) in
+    steps ∙ (ap (λ (c : CoreView). record c { used = snapshot_len c.known }) is
+    ∙ λ i. record { me = m.node; size = m.n; capacity = m.capacity; known = after m.node opening l; used = same i })
+
+-- what flies is durable
+pub known_landed : (m : Member) (opening : Summary) (s : NodeState) → IsKnownState m opening s → IsKnownState m opening (state_with (launched_base s) s.inputs s.flying s.flying None)
+known_landed m opening s known =
+    let counts = known.counts in
+    record {
+      counts = record { durable = omega arith; flying = counts.flying; based = next-few s counts; checkpointed = λ b e. none≢some b e };
+      base = area-first m.node opening (launched_base s) s.flying s.inputs (next-few s counts) known.next;
+      next = known.next;
+      held = lawful-first m opening (launched_base s) s.flying s.inputs known.all;
+      all = known.all;
+      left = λ b e. none≢some b e;
+      fits = λ b e. none≢some b e;
+    }
+
+-- ---- room
+
+-- what stands behind the base fits
+all_fit : (m : Member) (opening : Summary) (base : Base) (l : List Input) → IsLawfulSince m opening base l → base.inputs < length l → used base l ≤ m.capacity
+unfolding Fits
+all_fit m opening base l lawful some =
+    along (IsOpenSince m opening base) (λ g. base.inputs < length g → used base g ≤ m.capacity) (λ g x free _. λ behind. one g x free behind) [] l lawful (λ none. absurd (omega (arith, none))) some
+  where
+    one : (g : List Input) (x : Input) → IsOpenSince m opening base g x → base.inputs < length (g ++ x ∷ []) → used base (g ++ x ∷ []) ≤ m.capacity
+    one g x free behind =
+        let grown = length-append g (x ∷ []) in
+        let within : base.inputs ≤ length g = omega (arith, grown, behind) in
+        let room = free.fits within in
+        omega (arith, room, used-more base g x within)
+
+pub first_fit : (m : Member) (opening : Summary) (base : Base) (k : ℕ) (l : List Input) → IsLawfulSince m opening base l → base.inputs < k → k ≤ length l → used base (take k l) ≤ m.capacity
+first_fit m opening base k l lawful some within =
+    let count = length-take-le k l within in
+    all_fit m opening base (take k l) (lawful-first m opening base k l lawful) (omega (arith, some, count))
+
+-- so does what is durable once all that flies is, where an input flies or a checkpoint does
+pub flown_fit : (m : Member) (opening : Summary) (s : NodeState) → IsKnownState m opening s → (s.checkpoint ≡ None → s.durable < s.flying) → used (launched_base s) (flown_in s) ≤ m.capacity
+unfolding used
+flown_fit m opening s known some = go s.checkpoint known.counts.checkpointed known.fits some
+  where
+    go : (o : Option Base) → ((b : Base) → o ≡ Some b → b.inputs ≡ s.flying) → ((b : Base) → o ≡ Some b → b.bytes ≤ m.capacity) → (o ≡ None → s.durable < s.flying) → used (unwrap_or o s.base) (flown_in s) ≤ m.capacity
+    go None same fits flies =
+        let count = length-take-le s.flying s.inputs known.counts.flying in
+        let based = known.counts.based in
+        let more = flies refl in
+        all_fit m opening s.base (flown_in s) known.held (omega (arith, count, based, more))
+    go (Some b) same fits flies =
+        let count = length-take-le s.flying s.inputs known.counts.flying in
+        let all = same b refl in
+        let room = fits b refl in
+        let none : costs_of (drop b.inputs (flown_in s)) ≡ 0 = ap costs_of (drop_all b.inputs (flown_in s) (omega (arith, count, all))) in
+        omega (arith, room, none)
+
+-- where each takes some, there are no more of them than all take
+counted : {A : Type 0} (f : A → ℕ) → ((x : A) → 0 < f x) → (xs : List A) → length xs ≤ sum_by f xs
+counted f some [] = omega arith
+counted f some (x ∷ xs) =
+    let few = counted f some xs in
+    let one = some x in
+    omega (arith, few, one, sum_by-append f (x ∷ []) xs)
+
+-- each takes some
+pub cost_some : (x : Input) → 0 < cost x
+unfolding cost
+cost_some (Stand key bid) = omega arith
+cost_some (Take msg_no msg) = omega arith
+cost_some (Acked upto) = omega arith
+
+-- so there are no more of them than bytes
+few_costs : (l : List Input) → length l ≤ costs_of l
+few_costs l = counted cost cost_some l
+
+-- so what is not durable is no more than the capacity, where no checkpoint flies
+pub few_wait : (m : Member) (opening : Summary) (s : NodeState) → s.checkpoint ≡ None → IsKnownState m opening s → s.durable ≤ length s.inputs → length (drop s.durable s.inputs) ≤ m.capacity
+unfolding used
+few_wait m opening s none known within = elim (eq-or-lt_of_le within) [
+  | inl all ↦ (let rest = length-drop s.durable s.inputs in omega (arith, rest, all))
+  | inr some ↦ (
+      let base : launched_base s ≡ s.base = ap (λ o. unwrap_or o s.base) none in
+      let lawful = subst (λ (b : Base). IsLawfulSince m opening b s.inputs) base known.all in
+      let based = known.counts.based in
+      let fit = all_fit m opening s.base s.inputs lawful (omega (arith, based, some)) in
+      let few = few_costs (drop s.base.inputs s.inputs) in
+      let rest = length-drop s.durable s.inputs in
+      let more = length-drop s.base.inputs s.inputs in
+      omega (arith, fit, few, rest, more, based))
+]
+
+-- ---- snapshots
+
+-- each key takes some bytes of a snapshot
+pub few_keys : (s : Summary) → map.len s.keys ≤ snapshot_len s
+few_keys s =
+    let count = len-values s.keys in
+    let few = counted state_len (λ state. omega arith) (map.values s.keys) in
+    omega (arith, count, few, length-snapshot s)
