@@ -1,42 +1,35 @@
 -- A batch that flies, and what becomes of it.
-use Rattle.std.proofs.Common.{◌≡◌, ◌≢◌, ⊎_elim, inl, inr, ℕ, ◌+◌, ◌-◌, ◌<◌, ◌≤◌, Bool, true, false, List, [], ◌∷◌, ◌++◌, length, take, drop, Option, Some, IfSome, refl, sym, ◌∙◌, ap, subst, arith, length-take, length-drop, if◌then◌else◌, None}
+use Rattle.std.proofs.Common.{◌≡◌, ◌≢◌, ◌⊎◌, ⊎_elim, inl, inr, ℕ, ◌+◌, ◌-◌, ◌<◌, ◌≤◌, Bool, true, false, ◌&&◌, List, [], ◌++◌, length, take, drop, Option, Some, None, IfSome, refl, sym, ◌∙◌, ap, subst, arith, length-take, length-drop, if◌then◌else◌}
+use Rattle.std.specs.Option.{option_map}
+use Rattle.std.specs.Prelude.{nat_eq, is_none, unwrap_or}
 use Rattle.std.proofs.Math.Seq.{take-add}
-use Rattle.std.proofs.lemmas.Bool.{cases_lt}
-use Rattle.std.proofs.lemmas.List.Sums.{sum_by-take-drop}
+use Rattle.std.proofs.lemmas.Bool.{cases_lt, eq-eqb}
 use Rattle.disk_model.specs.Disk.{Disk, MayLeave}
+use Rattle.ring_records.specs.declared.base.Base.{Base}
 use Rattle.ring_records.specs.declared.input.Input.{Input}
 use Rattle.ring_records.specs.declared.refusal.Refusal.{Refusal}
-use Rattle.ring_records.specs.Admission.{fresh, used, cost, Fits, IsAdmitted, IsLawful}
+use Rattle.ring_records.specs.declared.refusal.Refusal.TheVariants as refused
+use Rattle.ring_records.specs.Admission.{costs_of, used}
 use Rattle.ring_records.specs.History.{taken}
 use Rattle.ring_records.specs.Lists.{found_after}
-use Rattle.ring_records.specs.Member.{Member, member, used_by, IsHistory}
-use Rattle.ring_records.specs.States.{NodeState, IsPlain, launched, landed, durable_in, flown_in, flying_in}
-use Rattle.ring_records.proofs.Counts.{used-push, used-each}
-use Rattle.ring_records.proofs.Lists.{along}
-use Rattle.gated_journal.specs.declared.batch.Batch.{Batch}
-use Rattle.gated_journal.specs.Batch.{Numbered, numbered, shown}
-use Rattle.gated_journal.specs.Reading.{ReadsAs, AllReadAs, ReadsAsOneOf}
-use Rattle.gated_journal.proofs.Rest.{used-joined}
-use Rattle.ring_records.proofs.States.{plain-counts, plain-landed}
-use Rattle.gated_journal.proofs.Results.{of_some}
-use Rattle.group_commit.specs.Desk.{DeskView}
-use Rattle.group_commit.specs.Desk as desks
+use Rattle.ring_records.specs.Member.{Member}
 use Rattle.ring_records.specs.Release.{packets, decisions, carries, credits}
-use Rattle.node_store.specs.State.{IsLeft, until, ReadsOnce, Stands}
-
--- ---- costs
-
-fits_next : (me n capacity : ℕ) (h : List Input) (x : Input) → IsAdmitted me n capacity fresh h x → used_by h ≤ capacity → used_by (h ++ x ∷ []) ≤ capacity
-unfolding Fits
-fits_next me n capacity h x admitted fits = omega (arith, admitted.fits (omega arith), used-push h x)
-
--- a lawful history fits the capacity
-used_within : (me n capacity : ℕ) (h : List Input) → IsHistory (member me n capacity) h → used_by h ≤ capacity
-unfolding IsLawful used
-used_within me n capacity h lawful = along (IsAdmitted me n capacity fresh) (λ l. used_by l ≤ capacity) (fits_next me n capacity) [] h lawful (omega arith)
-
-used-front : (k : ℕ) (h : List Input) → used_by (take k h) ≤ used_by h
-used-front k h = omega (arith, used-each h, sum_by-take-drop cost h k, used-each (take k h))
+use Rattle.ring_records.specs.States.{NodeState, IsLawfulState, is_idle, launched_base, launched, landed, durable_in, flown_in, flying_in}
+use Rattle.ring_records.proofs.Counts.{costs-joined}
+use Rattle.ring_records.proofs.Lists.{none≢some}
+use Rattle.ring_records.proofs.States.{lawful-launched, lawful-landed}
+use Rattle.gated_journal.specs.declared.batch.Batch.{Batch}
+use Rattle.gated_journal.specs.Areas.{ReadsAs, AllReadAs, ReadsAsOneOf}
+use Rattle.gated_journal.specs.Batch.{Numbered, numbered, shown}
+use Rattle.gated_journal.specs.Reading.{Reading, with_more}
+use Rattle.gated_journal.proofs.Results.{of_some}
+use Rattle.group_commit.specs.Desk.{DeskKept, launch_objection}
+use Rattle.group_commit.specs.Desk as desks
+use Rattle.group_commit.specs.Past.{IsPast, moved, shifted}
+use Rattle.group_commit.proofs.Past.{flying-shifted}
+use Rattle.group_commit.proofs.Seen.{launched_shifted, landed_shifted}
+use Rattle.node_store.specs.State.{MayBeLeft, ReadsOnce, Stands, held_with, durable_held, flown_held, until}
+use Rattle.node_store.proofs.Left.{may_be_left}
 
 -- ---- what may be launched
 
@@ -44,6 +37,24 @@ used-front k h = omega (arith, used-each h, sum_by-take-drop cost h k, used-each
 pub works_launched : (failed : Bool) (why : Refusal) (busy : Option Refusal) → (if failed then Some why else busy) ≡ None → failed ≡ false
 works_launched true why busy free = absurd cc
 works_launched false why busy free = refl
+
+-- where nothing flies, nothing is refused but for memory
+abbrev objection : Bool → Bool → Option Refusal
+objection failed idle = if failed then Some refused.Failed else (if idle then None else Some refused.Busy)
+
+refused_for : (failed idle : Bool) (why : Refusal) → (failed ≡ false → idle ≡ true) → (objection failed idle ≡ Some why) ⊎ ((objection failed idle ≡ None) × (why ≡ refused.OutOfMemory))
+    → (why ≡ refused.Failed) ⊎ (why ≡ refused.OutOfMemory)
+refused_for failed idle why free (inr short) = inr short.1
+refused_for true idle why free (inl is) = inl cc
+refused_for false true why free (inl is) = absurd cc
+refused_for false false why free (inl is) = absurd (let never = free refl in cc)
+
+-- nothing flies, here and behind a past
+idle_here : (s : NodeState) → s.flying ≡ s.durable → s.checkpoint ≡ None → is_idle s ≡ true
+idle_here s idle none = (λ i. nat_eq (idle i) s.durable && is_none (none i)) ∙ ap (λ b. b && true) (eq-eqb s.durable s.durable refl)
+
+idle_behind : (past : List Input) (s : NodeState) → s.flying ≡ s.durable → s.checkpoint ≡ None → is_idle (shifted past s) ≡ true
+idle_behind past s idle none = idle_here (shifted past s) (ap (λ k. length past + k) idle) (ap (option_map (moved (length past))) none)
 
 -- ---- lists
 
@@ -54,101 +65,167 @@ shorter : (d f : ℕ) (h : List Input) → d < f → f ≤ length h → take d h
 shorter d f h lt le same = omega (arith, lt, le, ap length same, length-take d h, length-take f h)
 
 -- what is launched flies
-pub batch_of : (found : Option Batch) (batch : Batch) (me first : ℕ) (t s : NodeState) → found ≡ Some batch → IfSome found (λ b. shown b ≡ numbered me first (flying_in t)) → t ≡ launched s → (shown batch).inputs ≡ flying_in (launched s)
+pub batch_of : (found : Option Batch) (batch : Batch) (me first : ℕ) (t s : NodeState) → found ≡ Some batch → IfSome found (λ b. shown b ≡ numbered me first (flying_in t)) → t ≡ launched s
+    → (shown batch).inputs ≡ flying_in (launched s)
 batch_of found batch me first t s is says state =
     let all = of_some found batch (Unit {0}) (λ b. shown b ≡ numbered me first (flying_in t)) is says in
     ap (λ (n : Numbered). n.inputs) all ∙ ap flying_in state
 
+-- and fits
+pub fits_of : (found : Option Batch) (batch : Batch) (old new : DeskKept) → found ≡ Some batch
+    → IfSome found (λ b. used new.view.state.base (flown_in new.view.state) ≤ new.view.member.capacity) → new ≡ record old { view = desks.launched old.view }
+    → used old.view.state.base (flown_in (launched old.view.state)) ≤ old.view.member.capacity
+fits_of found batch old new is says next =
+    subst (λ (d : DeskKept). used d.view.state.base (flown_in d.view.state) ≤ d.view.member.capacity) next
+    (of_some found batch (Unit {0}) (λ b. used new.view.state.base (flown_in new.view.state) ≤ new.view.member.capacity) is says)
+
+-- ---- where none waits
+
 nothing_flies : (s : NodeState) → s.durable ≡ length s.inputs → flying_in (launched s) ≡ []
 nothing_flies s whole = ap (λ k. take k (drop s.durable s.inputs)) (let none : (launched s).flying - s.durable ≡ 0 = omega (arith, whole) in none)
 
--- nothing lets a node release nothing
-pub no_packets : (me : ℕ) (s : NodeState) → s.durable ≡ length s.inputs → [] ≡ packets me (durable_in s) (flying_in (launched s))
-unfolding packets carries credits found_after taken
-no_packets me s whole = ap (packets me (durable_in s)) (sym (nothing_flies s whole))
+none_behind : (past : List Input) (s : NodeState) → s.durable ≡ length s.inputs → flying_in (launched (shifted past s)) ≡ []
+none_behind past s whole = ap flying_in (sym (launched_shifted past s)) ∙ (flying-shifted past (launched s) ∙ nothing_flies s whole)
 
-pub no_decisions : (me : ℕ) (s : NodeState) → s.durable ≡ length s.inputs → [] ≡ decisions me (durable_in s) (flying_in (launched s))
+-- nothing lets a node release nothing
+pub no_packets : (me : ℕ) (past : List Input) (s : NodeState) → s.durable ≡ length s.inputs → [] ≡ packets me (durable_in (shifted past s)) (flying_in (launched (shifted past s)))
+unfolding packets carries credits found_after taken
+no_packets me past s whole = ap (packets me (durable_in (shifted past s))) (sym (none_behind past s whole))
+
+pub no_decisions : (me : ℕ) (past : List Input) (s : NodeState) → s.durable ≡ length s.inputs → [] ≡ decisions me (durable_in (shifted past s)) (flying_in (launched (shifted past s)))
 unfolding decisions found_after
-no_decisions me s whole = ap (decisions me (durable_in s)) (sym (nothing_flies s whole))
+no_decisions me past s whole = ap (decisions me (durable_in (shifted past s))) (sym (none_behind past s whole))
 
 -- ---- a node that flushes
 
-module _ (desk : DeskView) (journal : Member) (disk : Disk) (spoiled : Bool) (len room : ℕ) (works : desk.failed ≡ false) (stands : Stands desk journal disk spoiled len room) where
+-- room is counted from the area in use, which begins before the first input
+used-first : (b : Base) (h : List Input) → b.inputs ≡ 0 → used b h ≡ b.bytes + costs_of h
+unfolding used
+used-first b h none = ap (λ k. b.bytes + costs_of (drop k h)) none
+
+module _ (desk : DeskKept) (journal : Member) (disk : Disk) (spoiled : Bool) (len room : ℕ) (works : desk.view.failed ≡ false) (stands : Stands desk journal disk spoiled len room) where
   -- its images hold the durable inputs
-  pub all : AllReadAs journal disk (durable_in desk.state)
-  all image left = ⊎_elim (λ old. old) (λ new. absurd (new.0 (ap (λ k. take k desk.state.inputs) (sym (stands.ready works).idle)))) (stands.holds image left)
+  pub all : AllReadAs journal disk (durable_held desk)
+  all image left = ⊎_elim (λ old. old) (λ new. absurd (new.0 (ap (λ k. held_with desk (take k desk.view.state.inputs)) (sym (stands.ready works).idle)))) (stands.holds image left)
 
-  pub durable_all : (t : NodeState) → durable_in t ≡ durable_in desk.state → AllReadAs desk.member disk (durable_in t)
-  durable_all t same = λ image left. subst (λ l. ReadsAs desk.member image l) (sym same) (subst (λ m. ReadsAs m image (durable_in desk.state)) stands.named (all image left))
+  pub durable_all : AllReadAs desk.view.member disk (durable_held desk)
+  durable_all = λ image left. subst (λ m. ReadsAs m image (durable_held desk)) stands.named (all image left)
 
-module _ (desk : DeskView) (journal : Member) (disk : Disk) (spoiled : Bool) (len room : ℕ) (works : desk.failed ≡ false) (stands : Stands desk journal disk spoiled len room) (batch : List Input) (is : batch ≡ flying_in (launched desk.state)) where
-  abbrev s : NodeState
-  s = desk.state
+  -- a batch of those that wait
+  module _ (batch : List Input) (is : batch ≡ flying_in (launched desk.view.state)) where
+    abbrev s : NodeState
+    s = desk.view.state
 
-  launched_plain : IsPlain (launched s)
-  launched_plain = record { base = stands.plain.base; none = stands.plain.none }
+    -- the desk with the batch in flight, and with it durable
+    abbrev flies : DeskKept
+    flies = record desk { view = desks.launched desk.view }
 
-  ahead : s.durable ≤ (launched s).flying
-  ahead = omega (arith, stands.counts.durable, stands.counts.flying)
+    abbrev lies : DeskKept
+    lies = record desk { view = desks.landed (desks.launched desk.view) }
 
-  whole : durable_in s ++ batch ≡ flown_in (launched s)
-  whole = ap (λ l. durable_in s ++ l) is ∙ from_to s.durable (launched s).flying s.inputs ahead
+    ahead : s.durable ≤ (launched s).flying
+    ahead = omega (arith, stands.counts.durable, stands.counts.flying)
 
-  costs : used_by (flown_in (launched s)) ≡ used_by (durable_in s) + used_by batch
-  costs = ap used_by (sym whole) ∙ used-joined (durable_in s) batch
+    whole : durable_in s ++ batch ≡ flown_in (launched s)
+    whole = ap (λ l. durable_in s ++ l) is ∙ from_to s.durable (launched s).flying s.inputs ahead
 
-  count : s.durable + length batch ≡ (launched s).flying
-  count =
-      let long = ap length is in
-      omega (arith, long, ahead, length-take ((launched s).flying - s.durable) (drop s.durable s.inputs), length-drop s.durable s.inputs)
+    joined : with_more (durable_held desk) batch ≡ flown_held flies
+    joined = ap (held_with desk) whole
 
-  -- the batch fits
-  pub fits : used_by batch ≤ room
-  fits = omega (arith, costs, used-front (launched s).flying s.inputs, used_within desk.member.node desk.member.n desk.member.capacity s.inputs stands.lawful, (stands.ready works).left)
+    same_base : launched_base (launched s) ≡ s.base
+    same_base = ap (λ c. unwrap_or c s.base) stands.none
 
-  -- it landed
-  pub lands : (journal' : Member) (disk' : Disk) (spoiled' : Bool) (len' room' : ℕ) → journal' ≡ journal → AllReadAs journal disk' (durable_in s ++ batch) → spoiled' ≡ false
-      → len' ≡ len + length batch → room' ≡ room - used_by batch → Stands (desks.landed (desks.launched desk)) journal' disk' spoiled' len' room'
-  lands journal' disk' spoiled' len' room' same read unspoiled longer less =
-      let ready = stands.ready works in
-      let plain = plain-landed (launched s) launched_plain in
-      record {
-        counts = plain-counts (landed (launched s)) plain (omega arith) (omega arith);
-        plain = plain;
-        lawful = stands.lawful;
-        named = same ∙ stands.named;
-        holds = λ image left. inl (subst (λ m. ReadsAs m image (flown_in (launched s))) (sym same) (subst (λ l. ReadsAs journal image l) whole (read image left)));
-        ready = λ _. record { idle = refl; works = unspoiled; count = omega (arith, longer, ready.count, count); left = omega (arith, less, ready.left, costs) };
-      }
+    lies_as : flown_held flies ≡ durable_held lies
+    lies_as = sym (λ i. record { layout = (same_base i).layout; epoch = (same_base i).epoch; base = desk.opening; inputs = flown_in (launched s) })
 
-  -- the device failed
-  once : (image : List ℕ) → ReadsAsOneOf journal (durable_in s) (durable_in s ++ batch) image → ReadsOnce journal (durable_in s) (flown_in (launched s)) image
-  once image (inl old) = inl old
-  once image (inr new) =
-      let flown : ReadsAs journal image (flown_in (launched s)) = subst (λ l. ReadsAs journal image l) whole new in
-      ⊎_elim (λ lt. inr (shorter s.durable (launched s).flying s.inputs lt (omega arith), flown))
-      (λ le. inl (subst (λ k. ReadsAs journal image (take k s.inputs)) (omega (arith, le, ahead)) flown)) (cases_lt s.durable (launched s).flying)
+    none_before : s.base.inputs ≡ 0
+    none_before = ap (λ (b : Base). b.inputs) stands.based
 
-  pub breaks : (journal' : Member) (disk' : Disk) (spoiled' : Bool) (len' room' : ℕ) → journal' ≡ journal
-      → ((image : List ℕ) → MayLeave disk' image → ReadsAsOneOf journal (durable_in s) (durable_in s ++ batch) image) → Stands (record (desks.launched desk) { failed = true }) journal' disk' spoiled' len' room'
-  breaks journal' disk' spoiled' len' room' same read = record {
-    counts = plain-counts (launched s) launched_plain ahead (omega arith);
-    plain = launched_plain;
-    lawful = stands.lawful;
-    named = same ∙ stands.named;
-    holds = λ image left. subst (λ m. ReadsOnce m (durable_in s) (flown_in (launched s)) image) (sym same) (once image (read image left));
-    ready = λ works'. absurd cc;
-  }
+    costs : used s.base (flown_in (launched s)) ≡ used s.base (durable_in s) + costs_of batch
+    costs = ap (used s.base) (sym whole) ∙ (used-first s.base (durable_in s ++ batch) none_before ∙ omega (arith, costs-joined (durable_in s) batch, used-first s.base (durable_in s) none_before))
 
-  -- at each moment
-  pub moment : (t : NodeState) → t.flying ≡ (launched s).flying → (image : List ℕ) → ReadsAsOneOf journal (durable_in s) (durable_in s ++ batch) image
-      → IsLeft desk.member (until s t) image
-  moment t flown image read = record {
-    lawful = stands.lawful;
-    reads = subst (λ l. ReadsAsOneOf desk.member (durable_in s) l image) (whole ∙ ap (λ k. take k s.inputs) (sym flown)) (subst (λ m. ReadsAsOneOf m (durable_in s) (durable_in s ++ batch) image) stands.named read);
-  }
+    count : s.durable + length batch ≡ (launched s).flying
+    count =
+        let long = ap length is in
+        omega (arith, long, ahead, length-take ((launched s).flying - s.durable) (drop s.durable s.inputs), length-drop s.durable s.inputs)
 
-  -- and afterwards
-  pub landed_all : (t : NodeState) (disk' : Disk) → durable_in t ≡ flown_in (launched s) → AllReadAs journal disk' (durable_in s ++ batch) → AllReadAs desk.member disk' (durable_in t)
-  landed_all t disk' flown read = λ image left.
-      subst (λ l. ReadsAs desk.member image l) (whole ∙ sym flown) (subst (λ m. ReadsAs m image (durable_in s ++ batch)) stands.named (read image left))
+    lawful_flies : (past : List Input) → IsPast desk.view.member desk.opening past → IsLawfulState desk.view.member (shifted past (launched s))
+    lawful_flies past of =
+        subst (IsLawfulState desk.view.member) (sym (launched_shifted past s))
+        (lawful-launched desk.view.member (shifted past s) (idle_behind past s (stands.ready works).idle stands.none) (stands.lawful past of))
+
+    lawful_lies : (past : List Input) → IsPast desk.view.member desk.opening past → IsLawfulState desk.view.member (shifted past (landed (launched s)))
+    lawful_lies past of = subst (IsLawfulState desk.view.member) (sym (landed_shifted past (launched s))) (lawful-landed desk.view.member (shifted past (launched s)) (lawful_flies past of))
+
+    -- the batch fits
+    pub fits : used s.base (flown_in (launched s)) ≤ desk.view.member.capacity → costs_of batch ≤ room
+    fits within = omega (arith, costs, within, (stands.ready works).left)
+
+    -- it landed
+    pub lands : (journal' : Member) (disk' : Disk) (spoiled' : Bool) (len' room' : ℕ) → journal' ≡ journal → AllReadAs journal disk' (with_more (durable_held desk) batch) → spoiled' ≡ false
+        → len' ≡ len + length batch → room' ≡ room - costs_of batch → Stands lies journal' disk' spoiled' len' room'
+    lands journal' disk' spoiled' len' room' same read unspoiled longer less =
+        let ready = stands.ready works in
+        let here : s.base.inputs ≤ (launched s).flying = omega (arith, none_before) in
+        record {
+          counts = record { durable = omega arith; flying = omega arith; based = subst (λ (b : Base). b.inputs ≤ (launched s).flying) (sym same_base) here; checkpointed = λ b e. none≢some b e };
+          based = subst (λ (b : Base). b ≡ desks.first_base b.layout b.epoch desk.opening) (sym same_base) stands.based;
+          none = refl;
+          lawful = lawful_lies;
+          named = same ∙ stands.named;
+          holds = λ image left. inl (subst (λ m. ReadsAs m image (durable_held lies)) (sym same) (subst (λ r. ReadsAs journal image r) (joined ∙ lies_as) (read image left)));
+          ready = λ _. record {
+            idle = refl;
+            works = unspoiled;
+            count = omega (arith, longer, ready.count, count);
+            left = subst (λ (b : Base). room' ≡ desk.view.member.capacity - used b (flown_in (launched s))) (sym same_base) (omega (arith, less, ready.left, costs));
+          };
+        }
+
+    -- the device failed
+    once : (image : List ℕ) → ReadsAsOneOf journal (durable_held desk) (with_more (durable_held desk) batch) image → ReadsOnce journal (durable_held desk) (flown_held flies) image
+    once image (inl old) = inl old
+    once image (inr new) =
+        let flown : ReadsAs journal image (flown_held flies) = subst (λ r. ReadsAs journal image r) joined new in
+        ⊎_elim (λ lt. inr ((λ one. shorter s.durable (launched s).flying s.inputs lt (omega arith) (ap (λ (r : Reading). r.inputs) one)), flown))
+        (λ le. inl (subst (λ k. ReadsAs journal image (held_with desk (take k s.inputs))) (omega (arith, le, ahead)) flown)) (cases_lt s.durable (launched s).flying)
+
+    pub breaks : (journal' : Member) (disk' : Disk) (spoiled' : Bool) (len' room' : ℕ) → journal' ≡ journal
+        → ((image : List ℕ) → MayLeave disk' image → ReadsAsOneOf journal (durable_held desk) (with_more (durable_held desk) batch) image)
+        → Stands (record desk { view = record (desks.launched desk.view) { failed = true } }) journal' disk' spoiled' len' room'
+    breaks journal' disk' spoiled' len' room' same read = record {
+      counts = record { durable = ahead; flying = omega arith; based = stands.counts.based; checkpointed = λ b e. none≢some b (sym stands.none ∙ e) };
+      based = stands.based;
+      none = stands.none;
+      lawful = lawful_flies;
+      named = same ∙ stands.named;
+      holds = λ image left. subst (λ m. ReadsOnce m (durable_held desk) (flown_held flies) image) (sym same) (once image (read image left));
+      ready = λ works'. absurd cc;
+    }
+
+    -- at each moment
+    pub moment : (new : DeskKept) → new.view.state.flying ≡ (launched s).flying → (image : List ℕ)
+        → ReadsAsOneOf journal (durable_held desk) (with_more (durable_held desk) batch) image → MayBeLeft (until desk new) image
+    moment new flown image read =
+        let one : ReadsAsOneOf desk.view.member (durable_held desk) (flown_held flies) image =
+        subst (λ r. ReadsAsOneOf desk.view.member (durable_held desk) r image) joined (subst (λ m. ReadsAsOneOf m (durable_held desk) (with_more (durable_held desk) batch) image) stands.named read) in
+        subst (λ f. MayBeLeft (record desk { view = record desk.view { state = record s { flying = f } } }) image) (sym flown) (may_be_left flies image none_before stands.none lawful_flies one)
+
+    -- and afterwards
+    pub landed_all : (new : DeskKept) (disk' : Disk) → new ≡ lies → AllReadAs journal disk' (with_more (durable_held desk) batch) → AllReadAs desk.view.member disk' (durable_held new)
+    landed_all new disk' is_new read = λ image left.
+        subst (λ r. ReadsAs desk.view.member image r) ((joined ∙ lies_as) ∙ ap durable_held (sym is_new))
+        (subst (λ m. ReadsAs m image (with_more (durable_held desk) batch)) stands.named (read image left))
+
+-- ---- where nothing is launched
+
+module _ (desk : DeskKept) (journal : Member) (disk : Disk) (spoiled : Bool) (len room : ℕ) (stands : Stands desk journal disk spoiled len room) where
+  pub launch_refused : (why : Refusal)
+      → (launch_objection desk.view ≡ Some why) ⊎ ((launch_objection desk.view ≡ None) × (why ≡ refused.OutOfMemory)) → (why ≡ refused.Failed) ⊎ (why ≡ refused.OutOfMemory)
+  launch_refused why is = refused_for desk.view.failed (is_idle desk.view.state) why (λ works. idle_here desk.view.state (stands.ready works).idle stands.none) is
+
+  -- where none waits, the desk is as it was
+  pub none_launched : (new : DeskKept) → desk.view.failed ≡ false → desk.view.state.durable ≡ length desk.view.state.inputs → new ≡ record desk { view = desks.launched desk.view } → new ≡ desk
+  none_launched new works whole next =
+      let flying : (launched desk.view.state).flying ≡ desk.view.state.flying = omega (arith, whole, (stands.ready works).idle) in
+      next ∙ (λ i. record desk { view = record desk.view { state = record desk.view.state { flying = flying i } } })

@@ -1,4 +1,5 @@
 pub mod Flushed
+pub mod Left
 pub mod Recovered
 pub mod Results
 pub mod Standing

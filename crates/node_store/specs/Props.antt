@@ -1,29 +1,51 @@
 -- That each fact that a node keeps has one proof at most.
-use Rattle.std.specs.Prelude.{◌≢◌, ℕ, Bool, List}
+use Rattle.std.specs.Prelude.{◌≢◌, ℕ, Bool, List, Option}
+use Rattle.std.specs.Coded.{le_prop}
 use Rattle.std.proofs.Common.{inl, inr}
 use Rattle.std.proofs.Props.{props}
 use Rattle.disk_model.specs.Disk.{Disk}
+use Rattle.ring_records.specs.declared.base.Base.{Base}
 use Rattle.ring_records.specs.declared.input.Input.{Input}
+use Rattle.ring_records.specs.Admission.{IsBaseOf}
 use Rattle.ring_records.specs.Member.{Member}
-use Rattle.ring_records.specs.Props.{IsHistory-prop, IsNodeState-prop, IsPlain-prop}
-use Rattle.ring_records.specs.States.{NodeState, durable_in, flown_in}
+use Rattle.ring_records.specs.Props.{IsLawful-prop, IsNodeState-prop}
+use Rattle.ring_records.specs.States.{NodeState, IsLawfulState, launched_base, durable_in, flown_in}
+use Rattle.gated_journal.specs.Reading.{Reading}
+use Rattle.gated_journal.proofs.AreaAlone.{one_reading}
 use Rattle.gated_journal.proofs.Once.{ReadsAs-prop}
-use Rattle.gated_journal.proofs.Unique.{unique_inputs}
-use Rattle.group_commit.specs.Desk.{DeskView}
-use Rattle.node_store.specs.State.{ReadsOnce, IsReady, Stands}
+use Rattle.group_commit.specs.Desk.{DeskKept, seen}
+use Rattle.node_store.specs.State.{ReadsOnce, IsReady, Stands, durable_held, flown_held}
 
--- an image does not read as two lists
-ReadsOnce-prop : (header : Member) (old new : List Input) (image : List ℕ) → IsProp (ReadsOnce header old new image)
+-- an image does not read in two ways
+ReadsOnce-prop : (header : Member) (old new : Reading) (image : List ℕ) → IsProp (ReadsOnce header old new image)
 ReadsOnce-prop header old new image (inl p) (inl q) = λ i. inl (ReadsAs-prop header image old p q i)
-ReadsOnce-prop header old new image (inl p) (inr q) = absurd (q.0 (unique_inputs header header image old new p q.1))
-ReadsOnce-prop header old new image (inr p) (inl q) = absurd (p.0 (unique_inputs header header image old new q p.1))
+ReadsOnce-prop header old new image (inl p) (inr q) = absurd (q.0 (one_reading header header image old new p q.1))
+ReadsOnce-prop header old new image (inr p) (inl q) = absurd (p.0 (one_reading header header image old new q p.1))
 ReadsOnce-prop header old new image (inr p) (inr q) = λ i. inr (apart p.0 q.0 i, ReadsAs-prop header image new p.1 q.1 i)
   where
     apart : IsProp (old ≢ new)
     apart = hlevel props
 
-IsReady-prop : (capacity : ℕ) (s : NodeState) (spoiled : Bool) (len room : ℕ) → IsProp (IsReady capacity s spoiled len room)
-IsReady-prop capacity s spoiled len room p q =
+Base-set : IsSet Base
+Base-set = hlevel props
+
+Checkpoint-set : IsSet (Option Base)
+Checkpoint-set = hlevel props
+
+IsBaseOf-prop : (me : ℕ) (base : Base) (h : List Input) → IsProp (IsBaseOf me base h)
+IsBaseOf-prop me base h p q i = record { within = le_prop p.within q.within i; is = Base-set _ _ p.is q.is i }
+
+IsLawfulState-prop : (m : Member) (s : NodeState) → IsProp (IsLawfulState m s)
+IsLawfulState-prop m s p q i = record {
+  counts = IsNodeState-prop s p.counts q.counts i;
+  base = IsBaseOf-prop m.node s.base (durable_in s) p.base q.base i;
+  next = IsBaseOf-prop m.node (launched_base s) s.inputs p.next q.next i;
+  held = IsLawful-prop m.node m.n m.capacity s.base (flown_in s) p.held q.held i;
+  all = IsLawful-prop m.node m.n m.capacity (launched_base s) s.inputs p.all q.all i;
+}
+
+IsReady-prop : (desk : DeskKept) (spoiled : Bool) (len room : ℕ) → IsProp (IsReady desk spoiled len room)
+IsReady-prop desk spoiled len room p q =
     let number_set : IsSet ℕ = hlevel props in
     let bool_set : IsSet Bool = hlevel props in
     λ i. record {
@@ -33,15 +55,15 @@ IsReady-prop capacity s spoiled len room p q =
       left = number_set _ _ p.left q.left i;
     }
 
-pub Stands-prop : (desk : DeskView) (journal : Member) (disk : Disk) (spoiled : Bool) (len room : ℕ) → IsProp (Stands desk journal disk spoiled len room)
+pub Stands-prop : (desk : DeskKept) (journal : Member) (disk : Disk) (spoiled : Bool) (len room : ℕ) → IsProp (Stands desk journal disk spoiled len room)
 Stands-prop desk journal disk spoiled len room p q =
-    let s = desk.state in
     let member_set : IsSet Member = hlevel props in
     λ i. record {
-      counts = IsNodeState-prop s p.counts q.counts i;
-      plain = IsPlain-prop s p.plain q.plain i;
-      lawful = IsHistory-prop desk.member s.inputs p.lawful q.lawful i;
+      counts = IsNodeState-prop desk.view.state p.counts q.counts i;
+      based = Base-set _ _ p.based q.based i;
+      none = Checkpoint-set _ _ p.none q.none i;
+      lawful = λ past is. IsLawfulState-prop desk.view.member (seen past desk).state (p.lawful past is) (q.lawful past is) i;
       named = member_set _ _ p.named q.named i;
-      holds = λ image left. ReadsOnce-prop journal (durable_in s) (flown_in s) image (p.holds image left) (q.holds image left) i;
-      ready = λ works. IsReady-prop desk.member.capacity s spoiled len room (p.ready works) (q.ready works) i;
+      holds = λ image left. ReadsOnce-prop journal (durable_held desk) (flown_held desk) image (p.holds image left) (q.holds image left) i;
+      ready = λ works. IsReady-prop desk spoiled len room (p.ready works) (q.ready works) i;
     }

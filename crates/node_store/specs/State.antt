@@ -1,45 +1,92 @@
 -- What a node holds on its device, and what a stop leaves of it.
-use Rattle.std.specs.Prelude.{◌≡◌, ◌≢◌, ◌⊎◌, ◌-◌, ℕ, Bool, false, List}
+use Rattle.std.specs.Prelude.{◌≡◌, ◌≢◌, ◌⊎◌, ◌+◌, ◌-◌, ℕ, Bool, true, false, List, [], take, drop, None}
 use Rattle.disk_model.specs.Disk.{Disk, MayLeave}
 use Rattle.ring_records.specs.declared.input.Input.{Input}
-use Rattle.ring_records.specs.Member.{Member, member, used_by, IsHistory}
-use Rattle.ring_records.specs.States.{NodeState, IsNodeState, IsPlain, durable_in, flown_in}
-use Rattle.gated_journal.specs.Reading.{ReadsAs, ReadsAsOneOf}
-use Rattle.group_commit.specs.Desk.{DeskView}
+use Rattle.ring_records.specs.Admission.{used}
+use Rattle.ring_records.specs.Member.{Member}
+use Rattle.ring_records.specs.States.{NodeState, IsNodeState, IsLawfulState, durable_in, flown_in, left_by}
+use Rattle.ring_records.specs.Summary.{summary}
+use Rattle.gated_journal.specs.Areas.{ReadsAs, ReadsAsOneOf}
+use Rattle.gated_journal.specs.Reading.{Reading}
+use Rattle.group_commit.specs.Desk.{DeskView, DeskKept, first_base, new_desk, seen}
+use Rattle.group_commit.specs.Past.{IsPast}
 
--- every image that a stop may leave reads as the durable inputs, or as those that are durable or fly
+-- ---- by what its desk keeps
+
+-- what its journal holds, where these inputs since the opening are durable
+abbrev pub held_with : DeskKept → List Input → Reading
+held_with desk inputs = record { layout = desk.view.state.base.layout; epoch = desk.view.state.base.epoch; base = desk.opening; inputs = inputs }
+
+-- with all its inputs, with those that are durable, and with those that are durable or fly
+abbrev pub all_held : DeskKept → Reading
+all_held desk = held_with desk desk.view.state.inputs
+
+abbrev pub durable_held : DeskKept → Reading
+durable_held desk = held_with desk (durable_in desk.view.state)
+
+abbrev pub flown_held : DeskKept → Reading
+flown_held desk = held_with desk (flown_in desk.view.state)
+
+-- ---- by its history
+
+-- what the journal of node me holds that is just opened in this state
+abbrev pub reading_of : ℕ → NodeState → Reading
+reading_of me s = record { layout = s.base.layout; epoch = s.base.epoch; base = summary me (take s.base.inputs s.inputs); inputs = drop s.base.inputs s.inputs }
+
+-- the image reads as what stands for the durable inputs, or for those that are durable or fly
+abbrev pub ReadsAsLeft : Member → NodeState → List ℕ → Type 0
+ReadsAsLeft m s image = ReadsAsOneOf m (reading_of m.node (left_by false s)) (reading_of m.node (left_by true s)) image
+
+-- every image that a stop may leave reads so
 abbrev pub Holds : Member → Disk → NodeState → Type 0
-Holds member disk s = (image : List ℕ) → MayLeave disk image → ReadsAsOneOf member (durable_in s) (flown_in s) image
+Holds m disk s = (image : List ℕ) → MayLeave disk image → ReadsAsLeft m s image
 
--- A stop may have left this image of this node, in this state: its history is lawful, and the image reads as the durable
--- inputs, or as those that are durable or fly.
-pub record IsLeft (member : Member) (s : NodeState) (image : List ℕ) : Type 0 where
-  pub lawful : IsHistory member s.inputs
-  pub reads : ReadsAsOneOf member (durable_in s) (flown_in s) image
+-- a stop may have left this image of this node, in this state, which is lawful
+pub record IsLeft (m : Member) (s : NodeState) (image : List ℕ) : Type 0 where
+  pub lawful : IsLawfulState m s
+  pub reads : ReadsAsLeft m s image
 
--- the old state, with what the new one has durable or flying in flight
-abbrev pub until : NodeState → NodeState → NodeState
-until old new = record old { flying = new.flying }
+-- A stop may have left this image of the node of this desk: it reads as what the journal holds with the durable inputs, or
+-- also with those that fly. Where the desk's opening is the summary of a past, this is so of its whole history.
+pub record MayBeLeft (desk : DeskKept) (image : List ℕ) : Type 0 where
+  pub read : ReadsAsOneOf desk.view.member (durable_held desk) (flown_held desk) image
+  pub left : (past : List Input) → IsPast desk.view.member desk.opening past → IsLeft desk.view.member (seen past desk).state image
+
+-- what a desk shows that was just opened in this state
+abbrev pub opened_view : Member → ℕ → NodeState → DeskView
+opened_view m run s = record { member = m; run = run; state = s; tickets = []; issued = 0; closed = false; failed = false }
+
+-- The desk was just opened with what the journal holds in this state, and shows it: its opening is the summary of the inputs
+-- that the base stands for.
+pub record IsOpenedAs (m : Member) (run : ℕ) (s : NodeState) (desk : DeskKept) : Type 0 where
+  pub kept : desk ≡ new_desk m run (reading_of m.node s)
+  pub past : IsPast m desk.opening (take s.base.inputs s.inputs)
+  pub shows : seen (take s.base.inputs s.inputs) desk ≡ opened_view m run s
+
+-- the old desk, with what the new one has durable or flying in flight
+abbrev pub until : DeskKept → DeskKept → DeskKept
+until old new = record old { view = record old.view { state = record old.view.state { flying = new.view.state.flying } } }
 
 -- ---- what a node keeps to
 
--- The image reads as the one list or as the other, told in one way only: where both are one list, as the old one.
-abbrev pub ReadsOnce : Member → List Input → List Input → List ℕ → Type 0
+-- The image reads as the one or as the other, told in one way only: where both are one, as the old one.
+abbrev pub ReadsOnce : Member → Reading → Reading → List ℕ → Type 0
 ReadsOnce member old new image = ReadsAs member image old ⊎ ((old ≢ new) × ReadsAs member image new)
 
 -- nothing flies, and the journal takes the next batch, behind the durable inputs
-pub record IsReady (capacity : ℕ) (s : NodeState) (spoiled : Bool) (len room : ℕ) : Type 0 where
-  pub idle : s.flying ≡ s.durable
+pub record IsReady (desk : DeskKept) (spoiled : Bool) (len room : ℕ) : Type 0 where
+  pub idle : desk.view.state.flying ≡ desk.view.state.durable
   pub works : spoiled ≡ false
-  pub count : len ≡ s.durable
-  pub left : room ≡ capacity - used_by (durable_in s)
+  pub count : len ≡ desk.opening.inputs + desk.view.state.durable
+  pub left : room ≡ desk.view.member.capacity - used desk.view.state.base (durable_in desk.view.state)
 
--- The desk's history is lawful, and none of it is summarised; the journal is the desk's and holds it, and is ready while the
--- desk has not failed.
-pub record Stands (desk : DeskView) (journal : Member) (disk : Disk) (spoiled : Bool) (len room : ℕ) : Type 0 where
-  pub counts : IsNodeState desk.state
-  pub plain : IsPlain desk.state
-  pub lawful : IsHistory desk.member desk.state.inputs
-  pub named : journal ≡ desk.member
-  pub holds : (image : List ℕ) → MayLeave disk image → ReadsOnce journal (durable_in desk.state) (flown_in desk.state) image
-  pub ready : desk.failed ≡ false → IsReady desk.member.capacity desk.state spoiled len room
+-- The area in use is that of the desk's opening, and no checkpoint flies; with a past the desk's state is lawful; the journal
+-- is the desk's and holds what is durable, and is ready while the desk has not failed.
+pub record Stands (desk : DeskKept) (journal : Member) (disk : Disk) (spoiled : Bool) (len room : ℕ) : Type 0 where
+  pub counts : IsNodeState desk.view.state
+  pub based : desk.view.state.base ≡ first_base desk.view.state.base.layout desk.view.state.base.epoch desk.opening
+  pub none : desk.view.state.checkpoint ≡ None
+  pub lawful : (past : List Input) → IsPast desk.view.member desk.opening past → IsLawfulState desk.view.member (seen past desk).state
+  pub named : journal ≡ desk.view.member
+  pub holds : (image : List ℕ) → MayLeave disk image → ReadsOnce journal (durable_held desk) (flown_held desk) image
+  pub ready : desk.view.failed ≡ false → IsReady desk spoiled len room

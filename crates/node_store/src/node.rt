@@ -1,20 +1,27 @@
-ghost use Rattle.std.specs.Prelude.{◌≡◌, ◌+◌, ◌-◌, ◌⊎◌, ◌||◌, ◌<◌, ◌≤◌, ℕ, Bool, [], length, not, true, false, None, Some, IfOk, IfErr, OnOk, OnErr};
+ghost use Rattle.std.specs.Prelude.{◌≡◌, ◌+◌, ◌-◌, ◌⊎◌, ◌||◌, ◌<◌, ◌≤◌, ℕ, Bool, List, length, not, true, false, None, Some, IfOk, IfErr, OnOk, OnErr};
 ghost use Rattle.disk_model.specs.Disk.{MayLeave, LeavesOnly, Reaches, synced};
+ghost use Rattle.ring_records.specs.declared.input.Input.{Input};
+ghost use Rattle.ring_records.specs.Admission.{newest, used};
 ghost use Rattle.ring_records.specs.Answer.{Answered};
-ghost use Rattle.ring_records.specs.Member.{member, used_by, IsHistory};
+ghost use Rattle.ring_records.specs.Member.{member};
 ghost use Rattle.ring_records.specs.Release.{packets, decisions};
-ghost use Rattle.ring_records.specs.States.{NodeState, durable_in, flying_in, left_by};
+ghost use Rattle.ring_records.specs.Snapshot.{IsSound};
+ghost use Rattle.ring_records.specs.States.{NodeState, IsLawfulState, durable_in, flying_in, left_by};
+ghost use Rattle.ring_records.specs.Summary.{empty};
+ghost use Rattle.gated_journal.specs.Areas.{ReadsAs, AllReadAs};
 ghost use Rattle.gated_journal.specs.Batch.{landed as receipted, lost};
 ghost use Rattle.gated_journal.specs.Journal as journals;
-ghost use Rattle.gated_journal.specs.Reading.{device_size, is_header, ReadsAs, AllReadAs};
+ghost use Rattle.gated_journal.specs.Reading.{device_size, fresh_area, is_header};
 ghost use Rattle.gated_journal.specs.Unread.{IsFault, IsUnread};
-ghost use Rattle.group_commit.specs.Desk.{new_desk, answered, ticket_for, submitted, ended, launched, landed, objection, IsHere, IsSealed, IsFlying};
+ghost use Rattle.group_commit.specs.Desk.{DeskKept, new_desk, core_of, seen, ended, launched, landed, objection, IsAnswer, IsHere, IsSealed, IsSubmitted, IsFlying};
+ghost use Rattle.group_commit.specs.Opening.{IsKnownLawful};
+ghost use Rattle.group_commit.specs.Past.{IsPast};
 ghost use Rattle.node_store.specs.Props.{Stands-prop};
 ghost use Rattle.node_store.specs.Recovery.{IsNotLawful, IsUnrecovered};
-ghost use Rattle.node_store.specs.State.{Holds, IsLeft, until, Stands};
+ghost use Rattle.node_store.specs.State.{Holds, IsLeft, IsOpenedAs, MayBeLeft, all_held, durable_held, until, Stands};
 
 use disk_model::{Device, FuseDevice};
-use gated_journal::{Journal, Receipt, Spoiled, is_header};
+use gated_journal::{Journal, Opening, Receipt, Spoiled, is_header};
 use group_commit::{Desk, Landed, Stub, Ticket};
 use ring_records::{Input, NodeNo, Refusal, Reply, Request};
 use std::alloc::Global;
@@ -32,7 +39,7 @@ pub struct Node<D: Device> {
 
 impl<D: Device> Node<D> {
     ghost use Rattle.group_commit.specs.Ticket.{shown};
-    ghost use Rattle.node_store.specs.Node.{desk_of, state_of, device_of};
+    ghost use Rattle.node_store.specs.Node.{desk_of, member_of, state_of, device_of};
 
     /// A new node, which has accepted nothing, on a device that is formatted for it. Refused as 2 where `n` is not 2 to
     /// 16, `node` is above it, or the capacity is not 4,096 to 1,048,576 bytes, as 15, and as 8. What the device holds
@@ -45,8 +52,8 @@ impl<D: Device> Node<D> {
         capacity: u32,
         run: u64,
     ) -> Result<Node<D>, (D, Refusal)>
-        ensures desk { IfOk result (λ made. desk_of made ≡ new_desk (member node n capacity) run []) }
-        ensures empty { IfOk result (λ made. AllReadAs (member node n capacity) (D.disk (device_of made)) []) }
+        ensures desk { IfOk result (λ made. desk_of made ≡ new_desk (member node n capacity) run (fresh_area newest 1 empty)) }
+        ensures empty { IfOk result (λ made. AllReadAs (member node n capacity) (D.disk (device_of made)) (fresh_area newest 1 empty)) }
         ensures range { OnOk result (is_header (member node n capacity) ≡ true) }
         ensures same { IfOk result (λ made. D.count (device_of made) ≡ D.count device) }
         ensures reach { IfOk result (λ made. D.reach (device_of made) ≡ D.reach device) }
@@ -54,12 +61,12 @@ impl<D: Device> Node<D> {
         // Refused as 2 or 8, the device is as it was; as 15, the device failed.
         ensures number { IfErr result (λ e. is_header (member node n capacity) ≡ false → (e.1 ≡ Refusal.BadNumber) × (e.0 ≡ device)) }
         ensures fault { IfErr result (λ e. is_header (member node n capacity) ≡ true → IsFault (D.count device) (D.count e.0) e.1 ⊎ ((e.1 ≡ Refusal.OutOfMemory) × (e.0 ≡ device))) }
-        ensures works { Reaches (D.reach device) 17 → IfErr result (λ e. (e.1 ≡ Refusal.BadNumber) ⊎ (e.1 ≡ Refusal.OutOfMemory)) }
+        ensures works { Reaches (D.reach device) (device_size capacity) → IfErr result (λ e. (e.1 ≡ Refusal.BadNumber) ⊎ (e.1 ≡ Refusal.OutOfMemory)) }
     {
         if !is_header(node, n, capacity) {
             return Err((device, Refusal::BadNumber));
         }
-        match Desk::open(alloc, node, n, capacity, run, Vec::new(alloc)) {
+        match Desk::open(alloc, node, n, capacity, run, Opening::fresh(alloc)) {
             Err(refusal) => Err((device, refusal)),
             Ok(desk) => match Journal::format(device, node, n, capacity) {
                 Ok(journal) => Ok(Node {
@@ -72,10 +79,11 @@ impl<D: Device> Node<D> {
         }
     }
 
-    /// The node that a device holds, which it makes stable first: it stands for the inputs that its journal holds, all
-    /// of them durable. Refused as 15; as 17 where there is no header; as 19 where it names another node or ring size;
-    /// as 16 with the offset of what is damaged; as 24 with the number of the first input, counted from 0, that is not
-    /// admitted after those before it; and as 8 where it is met.
+    /// The node that a device holds, which it makes stable first: it goes on from the summary that its journal holds, and
+    /// stands for the inputs behind that, all of them durable. Refused as 15; as 17 where there is no header; as 18 where
+    /// it is that of a journal without areas; as 19 where it names another node or ring size; as 16 with the offset of what
+    /// is damaged; as 24 with the number of the first input behind the summary, counted from 0, that is not admitted after
+    /// those before it; and as 8 where it is met.
     pub fn recover(
         alloc: Global,
         device: D,
@@ -83,23 +91,23 @@ impl<D: Device> Node<D> {
         n: u8,
         run: u64,
     ) -> Result<Node<D>, (D, Refusal)>
-        ensures desk { IfOk result (λ made. desk_of made ≡ new_desk (member node n (desk_of made).member.capacity) run (state_of made).inputs) }
-        ensures lawful { IfOk result (λ made. IsHistory (member node n (desk_of made).member.capacity) (state_of made).inputs) }
+        ensures desk { IfOk result (λ made. desk_of made ≡ new_desk (member node n (member_of made).capacity) run (all_held (desk_of made))) }
+        ensures lawful { IfOk result (λ made. IsSound n (desk_of made).opening × IsKnownLawful (core_of (member_of made) (all_held (desk_of made))) (state_of made).inputs) }
 
-        // Its inputs stood on the device at the start, and stand in every image that a stop may leave afterwards.
-        ensures reads { IfOk result (λ made. ReadsAs (desk_of made).member (D.disk device).image (state_of made).inputs) }
-        ensures durable { IfOk result (λ made. AllReadAs (desk_of made).member (D.disk (device_of made)) (state_of made).inputs) }
+        // What it holds stood on the device at the start, and stands in every image that a stop may leave afterwards.
+        ensures reads { IfOk result (λ made. ReadsAs (member_of made) (D.disk device).image (all_held (desk_of made))) }
+        ensures durable { IfOk result (λ made. AllReadAs (member_of made) (D.disk (device_of made)) (all_held (desk_of made))) }
 
         // A node that was stopped stands again for its durable inputs, or also for those that flew. It is refused only
         // where the device fails or memory is not found, and then the device holds what it held.
-        ensures recovery { (capacity : ℕ) (s : NodeState) → IsHistory (member node n capacity) s.inputs → Holds (member node n capacity) (D.disk device) s
-            → IfOk result (λ made. (keep : Bool) × (desk_of made ≡ new_desk (member node n capacity) run (left_by keep s).inputs)) }
-        ensures recovery_err { (capacity : ℕ) (s : NodeState) → IsHistory (member node n capacity) s.inputs → Holds (member node n capacity) (D.disk device) s
+        ensures recovery { (capacity : ℕ) (s : NodeState) → IsLawfulState (member node n capacity) s → Holds (member node n capacity) (D.disk device) s
+            → IfOk result (λ made. (keep : Bool) × IsOpenedAs (member node n capacity) run (left_by keep s) (desk_of made)) }
+        ensures recovery_err { (capacity : ℕ) (s : NodeState) → IsLawfulState (member node n capacity) s → Holds (member node n capacity) (D.disk device) s
             → IfErr result (λ e. ((e.1 ≡ Refusal.OutOfMemory) ⊎ IsFault (D.count device) (D.count e.0) e.1) × Holds (member node n capacity) (D.disk e.0) s) }
 
         // The same of what is read alone, whatever a stop may leave: of a file that was just opened no more is known.
         ensures image { (capacity : ℕ) (s : NodeState) → IsLeft (member node n capacity) s (D.disk device).image
-            → IfOk result (λ made. (keep : Bool) × (desk_of made ≡ new_desk (member node n capacity) run (left_by keep s).inputs)) }
+            → IfOk result (λ made. (keep : Bool) × IsOpenedAs (member node n capacity) run (left_by keep s) (desk_of made)) }
         ensures image_err { (capacity : ℕ) (s : NodeState) → IsLeft (member node n capacity) s (D.disk device).image
             → IfErr result (λ e. ((e.1 ≡ Refusal.OutOfMemory) ⊎ IsFault (D.count device) (D.count e.0) e.1) × ((D.disk e.0).image ≡ (D.disk device).image)) }
 
@@ -125,8 +133,8 @@ impl<D: Device> Node<D> {
     {
         match Journal::reopen(alloc, device, node, n) {
             Err((device, refusal)) => Err((device, refusal)),
-            Ok((journal, inputs)) => {
-                match Desk::open(alloc, node, n, journal.capacity(), run, inputs) {
+            Ok((journal, opening)) => {
+                match Desk::open(alloc, node, n, journal.capacity(), run, opening) {
                     Ok(desk) => Ok(Node {
                         alloc,
                         desk,
@@ -142,11 +150,9 @@ impl<D: Device> Node<D> {
     /// where it is closed or has failed, as 2 where a Take's message is of no node of the ring, as 6 at 2^60 tickets,
     /// and as 8. Every other refusal is a reply.
     pub fn submit(&mut self, question: Request) -> Result<Ticket, Refusal>
-        ensures ticket { IfOk result (λ ticket. shown ticket ≡ ticket_for question (desk_of self.old)) }
-        ensures next { OnOk result (desk_of self.new ≡ submitted question (desk_of self.old)) }
-        ensures here { IfOk result (λ ticket. IsHere (desk_of self.new) (shown ticket) (answered (desk_of self.old) question)) }
-        ensures free { OnOk result (objection (desk_of self.old) question ≡ None) }
-        ensures refusal { IfErr result (λ refusal. (objection (desk_of self.old) question ≡ Some refusal) ⊎ ((objection (desk_of self.old) question ≡ None) × (refusal ≡ Refusal.OutOfMemory))) }
+        ensures submitted { IfOk result (λ ticket. IsSubmitted question (desk_of self.old) (desk_of self.new) (shown ticket)) }
+        ensures free { OnOk result (objection (desk_of self.old).view question ≡ None) }
+        ensures refusal { IfErr result (λ refusal. (objection (desk_of self.old).view question ≡ Some refusal) ⊎ ((objection (desk_of self.old).view question ≡ None) × (refusal ≡ Refusal.OutOfMemory))) }
         ensures same { OnErr result (desk_of self.new ≡ desk_of self.old) }
         ensures device { device_of self.new ≡ device_of self.old }
     {
@@ -157,10 +163,11 @@ impl<D: Device> Node<D> {
     /// 10 where no such ticket is open here; where an input that the reply rests on is not durable yet, as 9 on a node
     /// that has failed and else as 11. Then the ticket comes back.
     pub fn redeem(&mut self, ticket: Ticket) -> Result<(Reply, Stub), (Ticket, Refusal)>
-        ensures released { IfOk result (λ r. IsHere (desk_of self.old) (shown ticket) r.1) }
+        ensures released { IfOk result (λ r. IsHere (desk_of self.old).view (shown ticket) r.1) }
         ensures reply { IfOk result (λ r. r.0 ≡ r.1.answer.reply) }
-        ensures durable { IfOk result (λ r. r.1.answer.number ≤ (state_of self.old).durable) }
-        ensures next { OnOk result (desk_of self.new ≡ ended (shown ticket).own (desk_of self.old)) }
+        ensures durable { IfOk result (λ r. r.1.answer.number ≤ (desk_of self.old).opening.inputs + (state_of self.old).durable) }
+        ensures answer { IfOk result (λ r. (past : List Input) → IsPast (member_of self.old) (desk_of self.old).opening past → IsAnswer (member_of self.old) past r.1) }
+        ensures next { OnOk result (desk_of self.new ≡ record (desk_of self.old) { view = ended (shown ticket).own (desk_of self.old).view }) }
         ensures refusal { IfErr result (λ e. IsSealed (desk_of self.old) (shown ticket) e.1) }
         ensures back { IfErr result (λ e. shown e.0 ≡ shown ticket) }
         ensures same { OnErr result (desk_of self.new ≡ desk_of self.old) }
@@ -172,10 +179,10 @@ impl<D: Device> Node<D> {
     /// Ends a ticket with no reply, on a node that is closed or has failed. Refused as 10 where no such ticket is open
     /// here, and the ticket comes back.
     pub fn forfeit(&mut self, ticket: Ticket) -> Result<(), (Ticket, Refusal)>
-        requires over { ((desk_of self.old).closed || (desk_of self.old).failed) ≡ true }
-        ensures here { OnOk result ((kept : Answered) × IsHere (desk_of self.old) (shown ticket) kept) }
-        ensures next { OnOk result (desk_of self.new ≡ ended (shown ticket).own (desk_of self.old)) }
-        ensures foreign { IfErr result (λ e. (e.1 ≡ Refusal.Foreign) × ((kept : Answered) → IsHere (desk_of self.old) (shown ticket) kept → ⊥)) }
+        requires over { ((desk_of self.old).view.closed || (desk_of self.old).view.failed) ≡ true }
+        ensures here { OnOk result ((kept : Answered) × IsHere (desk_of self.old).view (shown ticket) kept) }
+        ensures next { OnOk result (desk_of self.new ≡ record (desk_of self.old) { view = ended (shown ticket).own (desk_of self.old).view }) }
+        ensures foreign { IfErr result (λ e. (e.1 ≡ Refusal.Foreign) × ((kept : Answered) → IsHere (desk_of self.old).view (shown ticket) kept → ⊥)) }
         ensures back { IfErr result (λ e. shown e.0 ≡ shown ticket) }
         ensures same { OnErr result (desk_of self.new ≡ desk_of self.old) }
         ensures device { device_of self.new ≡ device_of self.old }
@@ -190,24 +197,24 @@ impl<D: Device> Node<D> {
         &self.desk
     }
 
-    /// The inputs that it accepted, oldest first.
+    /// The inputs that it accepted since its opening, and those that its journal held behind the summary, oldest first.
     pub fn history(&self) -> &[Input]
         ensures inputs { result.now ≡ (state_of self.now).inputs }
-        ensures lawful { IsHistory (desk_of self.now).member result.now }
+        ensures state { (past : List Input) → IsPast (member_of self.now) (desk_of self.now).opening past → IsLawfulState (member_of self.now) (seen past (desk_of self.now)).state }
     {
         self.desk.history()
     }
 
-    /// How many of its inputs are durable.
+    /// How many of its inputs are durable, those that are summarised among them.
     pub fn durable(&self) -> u64
-        ensures { result ≡ (state_of self.now).durable }
+        ensures { result ≡ (desk_of self.now).opening.inputs + (state_of self.now).durable }
     {
         self.desk.durable()
     }
 
     /// Takes no more requests; all else goes on.
     pub fn close(&mut self)
-        ensures next { desk_of self.new ≡ record (desk_of self.old) { closed = true } }
+        ensures next { desk_of self.new ≡ record (desk_of self.old) { view = record (desk_of self.old).view { closed = true } } }
         ensures device { device_of self.new ≡ device_of self.old }
     {
         self.desk.close();
@@ -215,14 +222,14 @@ impl<D: Device> Node<D> {
 
     /// Whether it takes requests: it was not closed and has not failed.
     pub fn is_open(&self) -> bool
-        ensures { result ≡ not ((desk_of self.now).closed || (desk_of self.now).failed) }
+        ensures { result ≡ not ((desk_of self.now).view.closed || (desk_of self.now).view.failed) }
     {
         self.desk.is_open()
     }
 
     /// How many tickets are open: given, and neither redeemed nor forfeited.
     pub fn open_tickets(&self) -> usize
-        ensures { result ≡ length (desk_of self.now).tickets }
+        ensures { result ≡ length (desk_of self.now).view.tickets }
     {
         self.desk.open_tickets()
     }
@@ -230,24 +237,27 @@ impl<D: Device> Node<D> {
     /// Makes the first inputs that wait durable, at most 64, and tells what they let the node release; nothing where
     /// none waits. Refused as 9 where it has failed, as 15, after which it has failed, and as 8.
     pub fn flush(&mut self) -> Result<Landed, Refusal>
-        ensures next { OnOk result (desk_of self.new ≡ landed (launched (desk_of self.old))) }
-        ensures count { IfOk result (λ l. l.count ≡ (launched (desk_of self.old)).state.flying - (state_of self.old).durable) }
-        ensures packets { IfOk result (λ l. l.packets.items ≡ packets (desk_of self.old).member.node (durable_in (state_of self.old)) (flying_in (launched (desk_of self.old)).state)) }
-        ensures decisions { IfOk result (λ l. l.decisions.items ≡ decisions (desk_of self.old).member.node (durable_in (state_of self.old)) (flying_in (launched (desk_of self.old)).state)) }
-        ensures durable { OnOk result (AllReadAs (desk_of self.old).member (D.disk (device_of self.new)) (durable_in (state_of self.new))) }
-        ensures works { OnOk result ((desk_of self.old).failed ≡ false) }
+        ensures next { OnOk result (desk_of self.new ≡ record (desk_of self.old) { view = landed (launched (desk_of self.old).view) }) }
+        ensures count { IfOk result (λ l. l.count ≡ (launched (desk_of self.old).view).state.flying - (state_of self.old).durable) }
+        ensures packets { IfOk result (λ l. (past : List Input) → IsPast (member_of self.old) (desk_of self.old).opening past
+            → l.packets.items ≡ packets (member_of self.old).node (durable_in (seen past (desk_of self.old)).state) (flying_in (launched (seen past (desk_of self.old))).state)) }
+        ensures decisions { IfOk result (λ l. (past : List Input) → IsPast (member_of self.old) (desk_of self.old).opening past
+            → l.decisions.items ≡ decisions (member_of self.old).node (durable_in (seen past (desk_of self.old)).state) (flying_in (launched (seen past (desk_of self.old))).state)) }
+        ensures durable { OnOk result (AllReadAs (member_of self.old) (D.disk (device_of self.new)) (durable_held (desk_of self.new))) }
+        ensures works { OnOk result ((desk_of self.old).view.failed ≡ false) }
 
         // Refused as 9 where it had failed, and nowhere else; as 15, the device failed, and the batch flies for good.
-        ensures failed { IfErr result (λ why. (desk_of self.old).failed ≡ true → why ≡ Refusal.Failed) }
-        ensures cause { IfErr result (λ why. (desk_of self.old).failed ≡ false → IsFault (D.count (device_of self.old)) (D.count (device_of self.new)) why ⊎ (why ≡ Refusal.OutOfMemory)) }
-        ensures fault { IfErr result (λ why. IsFault (D.count (device_of self.old)) (D.count (device_of self.new)) why → desk_of self.new ≡ record (launched (desk_of self.old)) { failed = true }) }
+        ensures failed { IfErr result (λ why. (desk_of self.old).view.failed ≡ true → why ≡ Refusal.Failed) }
+        ensures cause { IfErr result (λ why. (desk_of self.old).view.failed ≡ false → IsFault (D.count (device_of self.old)) (D.count (device_of self.new)) why ⊎ (why ≡ Refusal.OutOfMemory)) }
+        ensures fault { IfErr result (λ why. IsFault (D.count (device_of self.old)) (D.count (device_of self.new)) why
+            → desk_of self.new ≡ record (desk_of self.old) { view = record (launched (desk_of self.old).view) { failed = true } }) }
         ensures same { IfErr result (λ why. (why ≡ Refusal.Failed) ⊎ (why ≡ Refusal.OutOfMemory) → (desk_of self.new ≡ desk_of self.old) × (device_of self.new ≡ device_of self.old)) }
-        ensures in_reach { Reaches (D.reach (device_of self.old)) (device_size (desk_of self.old).member.capacity)
+        ensures in_reach { Reaches (D.reach (device_of self.old)) (device_size (member_of self.old).capacity)
             → IfErr result (λ why. (why ≡ Refusal.Failed) ⊎ (why ≡ Refusal.OutOfMemory)) }
 
         // A stop at any moment leaves the inputs that were durable, or also those that flew then.
-        ensures any_moment { LeavesOnly D.clock D.left_since (device_of self.old) (device_of self.new) (IsLeft (desk_of self.old).member (until (state_of self.old) (state_of self.new))) }
-        ensures stays { desk_of self.new ≡ record (desk_of self.old) { state = state_of self.new; failed = (desk_of self.new).failed } }
+        ensures any_moment { LeavesOnly D.clock D.left_since (device_of self.old) (device_of self.new) (MayBeLeft (until (desk_of self.old) (desk_of self.new))) }
+        ensures stays { desk_of self.new ≡ record (desk_of self.old) { view = record (desk_of self.old).view { state = state_of self.new; failed = (desk_of self.new).view.failed } } }
         ensures device { OnOk result (D.count (device_of self.new) ≡ D.count (device_of self.old)) }
         ensures reach { D.reach (device_of self.new) ≡ D.reach (device_of self.old) }
     {
@@ -271,16 +281,17 @@ impl<D: Device> Node<D> {
     /// The desk and the journal of a node that takes requests and has no open ticket, for threads of their own: the
     /// journal holds the durable inputs, and nothing flies.
     pub fn split(self) -> (Desk, Journal<D>)
-        requires open { ((desk_of self).closed || (desk_of self).failed) ≡ false }
-        requires spent { length (desk_of self).tickets ≡ 0 }
+        requires open { ((desk_of self).view.closed || (desk_of self).view.failed) ≡ false }
+        requires spent { length (desk_of self).view.tickets ≡ 0 }
         ensures desk { result.0 ≡ desk_of self }
-        ensures idle { result.0.state.flying ≡ result.0.state.durable }
+        ensures idle { result.0.view.state.flying ≡ result.0.view.state.durable }
+        ensures none { result.0.view.state.checkpoint ≡ None }
         ensures device { journals.device_of result.1 ≡ device_of self }
-        ensures member { journals.member_of result.1 ≡ result.0.member }
+        ensures member { journals.member_of result.1 ≡ result.0.view.member }
         ensures ready { journals.is_spoiled result.1 ≡ false }
-        ensures len { journals.len_of result.1 ≡ result.0.state.durable }
-        ensures room { journals.room_of result.1 ≡ result.0.member.capacity - used_by (durable_in result.0.state) }
-        ensures durable { AllReadAs result.0.member (D.disk (journals.device_of result.1)) (durable_in result.0.state) }
+        ensures len { journals.len_of result.1 ≡ result.0.opening.inputs + result.0.view.state.durable }
+        ensures room { journals.room_of result.1 ≡ result.0.view.member.capacity - used result.0.view.state.base (durable_in result.0.view.state) }
+        ensures durable { AllReadAs result.0.view.member (D.disk (journals.device_of result.1)) (durable_held result.0) }
     {
         let Node {
             alloc: _,
@@ -292,14 +303,15 @@ impl<D: Device> Node<D> {
 
     /// Ends a node that is closed or has failed and has no open ticket, and gives its device.
     pub fn into_device(self) -> D
-        requires over { ((desk_of self).closed || (desk_of self).failed) ≡ true }
-        requires spent { length (desk_of self).tickets ≡ 0 }
+        requires over { ((desk_of self).view.closed || (desk_of self).view.failed) ≡ true }
+        requires spent { length (desk_of self).view.tickets ≡ 0 }
         ensures device { result ≡ device_of self }
-        ensures lawful { IsHistory (desk_of self).member (state_of self).inputs }
 
         // A stop leaves the inputs that were durable, or also those that flew.
-        ensures holds { Holds (desk_of self).member (D.disk result) (state_of self) }
-        ensures durable { (desk_of self).failed ≡ false → AllReadAs (desk_of self).member (D.disk result) (durable_in (state_of self)) }
+        ensures left { (image : List ℕ) → MayLeave (D.disk result) image → MayBeLeft (desk_of self) image }
+        ensures holds { (past : List Input) → IsPast (member_of self) (desk_of self).opening past
+            → IsLawfulState (member_of self) (seen past (desk_of self)).state × Holds (member_of self) (D.disk result) (seen past (desk_of self)).state }
+        ensures durable { (desk_of self).view.failed ≡ false → AllReadAs (member_of self) (D.disk result) (durable_held (desk_of self)) }
     {
         let Node {
             alloc: _,
@@ -329,12 +341,14 @@ impl<D: Device> Node<FuseDevice<D>> {
 
 // The batch that flies is durable.
 fn land(desk: &mut Desk, receipt: Receipt) -> Landed
-    requires works { desk.old.failed ≡ false }
+    requires works { desk.old.view.failed ≡ false }
     requires flying { IsFlying desk.old (receipted receipt) }
-    ensures count { result.count ≡ desk.old.state.flying - desk.old.state.durable }
-    ensures packets { result.packets.items ≡ packets desk.old.member.node (durable_in desk.old.state) (flying_in desk.old.state) }
-    ensures decisions { result.decisions.items ≡ decisions desk.old.member.node (durable_in desk.old.state) (flying_in desk.old.state) }
-    ensures next { desk.new ≡ landed desk.old }
+    ensures count { result.count ≡ desk.old.view.state.flying - desk.old.view.state.durable }
+    ensures packets { (past : List Input) → IsPast desk.old.view.member desk.old.opening past
+        → result.packets.items ≡ packets desk.old.view.member.node (durable_in (seen past desk.old).state) (flying_in (seen past desk.old).state) }
+    ensures decisions { (past : List Input) → IsPast desk.old.view.member desk.old.opening past
+        → result.decisions.items ≡ decisions desk.old.view.member.node (durable_in (seen past desk.old).state) (flying_in (seen past desk.old).state) }
+    ensures next { desk.new ≡ record desk.old { view = landed desk.old.view } }
 {
     match desk.land(receipt) {
         Ok(landed) => landed,
@@ -345,7 +359,7 @@ fn land(desk: &mut Desk, receipt: Receipt) -> Landed
 // The device failed with the batch that flies.
 fn fail(desk: &mut Desk, spoiled: Spoiled)
     requires flying { IsFlying desk.old (lost spoiled) }
-    ensures next { desk.new ≡ record desk.old { failed = true } }
+    ensures next { desk.new ≡ record desk.old { view = record desk.old.view { failed = true } } }
 {
     match desk.fail(spoiled) {
         Ok(()) => {}

@@ -1,9 +1,11 @@
 // The desks of group_commit: what no clause says, which is that the calls succeed with ample memory, and that the
 // definitions say what is meant. All desks are of a ring of 3, of capacity 4,096.
+ghost use Rattle.ring_records.specs.Snapshot.{IsSound};
+
 use crate::journal::{commits, journal_of};
 use crate::rows::{Leads, inputs, leads_are, node, reply, request, sends_are};
 use disk_model::{FuseDevice, MemDevice};
-use gated_journal::{Batch, Journal, Receipt};
+use gated_journal::{Batch, Journal, Opening, Receipt};
 use group_commit::{Desk, Landed, Ticket};
 use ring_records::Refusal;
 use std::alloc::AllocGlobal;
@@ -19,10 +21,19 @@ mod replies;
 mod runs;
 mod vouch;
 
+/// What a journal holds that summarises nothing: these inputs.
+fn opening_of<R: Abort + AllocGlobal>(rt: &R, ops: &[Op]) -> Opening
+    ensures { IsSound 3 result.base }
+{
+    let mut opening = Opening::fresh(rt.alloc());
+    opening.inputs = inputs(rt, rt.alloc(), ops);
+    opening
+}
+
 /// The desk of this node, at this opening, that opens with these inputs.
 fn opened_as<R: Abort + AllocGlobal>(rt: &R, number: u8, run: u64, ops: &[Op]) -> Desk {
-    let inputs = inputs(rt, rt.alloc(), ops);
-    Desk::open(rt.alloc(), node(rt, number), 3, 4096, run, inputs).expect(rt, "lawful inputs")
+    let opening = opening_of(rt, ops);
+    Desk::open(rt.alloc(), node(rt, number), 3, 4096, run, opening).expect(rt, "lawful inputs")
 }
 
 /// The desk of node 1, at its opening 0, that opens with these inputs.

@@ -14,6 +14,7 @@ mod memory;
 mod refusals;
 mod rows;
 mod stops;
+mod summaries;
 mod windows;
 
 type Stored = Node<FuseDevice<MemDevice>>;

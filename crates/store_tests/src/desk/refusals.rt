@@ -3,8 +3,8 @@ use super::*;
 
 /// Where the opening of a desk with these inputs is refused.
 fn unlawful<R: Abort + AllocGlobal>(rt: &R, ops: &[Op], place: u64) {
-    let inputs = inputs(rt, rt.alloc(), ops);
-    let desk = Desk::open(rt.alloc(), node(rt, 1), 3, 4096, 0, inputs);
+    let opening = opening_of(rt, ops);
+    let desk = Desk::open(rt.alloc(), node(rt, 1), 3, 4096, 0, opening);
     assert_eq!(rt; desk.err(), Some(Refusal::Unlawful(place)));
 }
 

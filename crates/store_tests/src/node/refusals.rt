@@ -70,14 +70,25 @@ fn another_node_or_ring(rt: HostRuntime) {
     assert_eq!(rt; counts(&recovered(&rt, device, 1)), (0, 0));
 }
 
-#[test]
-fn an_open_gate_with_no_frame(rt: HostRuntime) {
-    let mut made = created(&rt, 1, 3);
+/// A new node is not recovered where this byte of its device is another, for this cause.
+fn refuses_changed<R: Abort + AllocGlobal>(rt: &R, at: u64, byte: u8, cause: Refusal) {
+    let mut made = created(rt, 1, 3);
     made.close();
-    let mut device = ended(&rt, made);
-    assert!(rt; device.write_at(16, &[1]).is_ok());
-    let device = refuses(&rt, device, 1, 3, Refusal::Damaged(16));
-    refuses(&rt, device, 1, 3, Refusal::Damaged(16));
+    let mut device = ended(rt, made);
+    assert!(rt; device.write_at(at, &[byte]).is_ok());
+    refuses(rt, device, 1, 3, cause);
+}
+
+#[test]
+fn bytes_that_changed(rt: HostRuntime) {
+    // The mark of a journal without areas, and a capacity that is none.
+    refuses_changed(&rt, 7, 0x31, Refusal::OldLayout(1));
+    refuses_changed(&rt, 10, 1, Refusal::Damaged(10));
+    // The gate, the layout and the snapshot of the one area, and an open gate with no frame behind it.
+    refuses_changed(&rt, 16, 0, Refusal::Damaged(16));
+    refuses_changed(&rt, 17, 1, Refusal::Damaged(16));
+    refuses_changed(&rt, 30, 2, Refusal::Damaged(16));
+    refuses_changed(&rt, 68, 1, Refusal::Damaged(68));
 }
 
 /// A device whose journal, of node 1 of 3, holds one credit of a message that was never sent.
