@@ -1,47 +1,128 @@
 -- A batch that a hub launches, and what it lets the node release.
-use Rattle.std.proofs.Common.{◌≡◌, ℕ, ◌+◌, ◌≤◌, List, ◌++◌, Result, Ok, Err, Option, Some, None, IfOk, IfSome, OnOk, sym, ap, ◌∙◌, subst, arith, length-take}
+use Rattle.std.proofs.Common.{◌≡◌, ℕ, ◌+◌, ◌-◌, ◌≤◌, List, ◌++◌, length, take, append_assoc, refl, Result, Ok, Err, Option, Some, None, IfOk, IfSome, OnOk, sym, ap, ◌∙◌, subst, arith, length-take}
+use Rattle.std.specs.Prelude.{unwrap_or}
+use Rattle.std.proofs.lemmas.List.{length-append, take-take}
+use Rattle.ring_records.specs.declared.base.Base.{Base}
 use Rattle.ring_records.specs.declared.input.Input.{Input}
 use Rattle.ring_records.specs.declared.packet.Packet.{Packet}
-use Rattle.ring_records.specs.States.{NodeState, IsNodeState, IsPlain, durable_in, flown_in, flying_in}
-use Rattle.ring_records.specs.States as states
-use Rattle.ring_records.specs.Admission.{fresh}
-use Rattle.ring_records.specs.Member.{Member, used_by, IsHistory}
+use Rattle.ring_records.specs.declared.summary.Summary.{Summary}
+use Rattle.ring_records.specs.Admission.{costs_of, used, IsLawful}
+use Rattle.ring_records.specs.Member.{Member}
 use Rattle.ring_records.specs.Release.{packets, decisions, window}
+use Rattle.ring_records.specs.States.{NodeState, IsNodeState, IsLawfulState, launched_base, durable_in, flown_in, flying_in}
+use Rattle.ring_records.specs.States as states
+use Rattle.ring_records.proofs.Lists.{none≢some}
 use Rattle.ring_records.proofs.States.{lawful-first}
 use Rattle.gated_journal.specs.declared.batch.Batch.{Batch}
 use Rattle.gated_journal.specs.Batch.{Numbered, numbered, shown}
 use Rattle.group_commit.specs.declared.landed.Landed.{Landed}
-use Rattle.group_commit.specs.Desk.{DeskView, launched}
+use Rattle.group_commit.specs.Desk.{DeskKept, launched, landed, seen}
+use Rattle.group_commit.specs.Past.{IsPast, moved, shifted}
+use Rattle.group_commit.proofs.Past.{durable-shifted, flying-shifted}
+use Rattle.group_commit.proofs.Seen.{flown-shifted}
 use Rattle.commit_hub.specs.Told.{IsBrought, IsWindow}
-use Rattle.commit_hub.proofs.Costs.{used_front, flown, flown_costs, launched_counts}
+use Rattle.commit_hub.proofs.Costs.{flown, flown_costs, flown_count}
 
--- what flies fits, with what is durable
-pub flying_fits : (m : Member) (s : NodeState) → IsHistory m s.inputs → IsNodeState s → used_by (durable_in s) + used_by (flying_in s) ≤ m.capacity
-flying_fits m s lawful counts = omega (arith, flown_costs s counts, used_front s.flying m.node m.n m.capacity s.inputs lawful)
+-- what is told of the desk is told of what its ledger names
+pub named : (P : Member → Summary → Base → Type 0) (d : DeskKept) (m : Member) (opening : Summary) (base : Base) → d.view.member ≡ m → d.opening ≡ opening → d.view.state.base ≡ base
+    → P d.view.member d.opening d.view.state.base → P m opening base
+named P d m opening base of from at holds =
+    subst (λ (x : Member). P x opening base) of (subst (λ (o : Summary). P d.view.member o base) from (subst (λ (b : Base). P d.view.member d.opening b) at holds))
 
--- so the batch that is launched fits behind the durable inputs
-pub room_left : {E : Type 0} (result : Result (Option Batch) E) (costs node first : ℕ) (old new : DeskView) → IsHistory old.member old.state.inputs → IsPlain old.state → IsNodeState old.state → costs ≡ used_by (durable_in old.state)
-    → OnOk result (new ≡ launched old) → IfOk result (λ some. IfSome some (λ batch. shown batch ≡ numbered node first (flying_in new.state)))
-    → IfOk result (λ some. IfSome some (λ batch. costs + used_by (shown batch).inputs ≤ old.member.capacity))
-room_left (Err e) costs node first old new lawful plain counts spent next is = tt
-room_left (Ok None) costs node first old new lawful plain counts spent next is = tt
-room_left (Ok (Some batch)) costs node first old new lawful plain counts spent next is =
-    let same : used_by (shown batch).inputs ≡ used_by (flying_in (states.launched old.state)) = ap used_by (ap (λ (n : Numbered). n.inputs) is ∙ ap (λ (d : DeskView). flying_in d.state) next) in
-    omega (arith, same, spent, flying_fits old.member (states.launched old.state) lawful (launched_counts old.state plain counts))
+-- ---- launches
 
--- what flew and is durable now
-pub brings : (m : Member) (s : NodeState) (first : ℕ) (inputs : List Input) (landed : Landed) → IsHistory m s.inputs → IsNodeState s → first ≡ s.durable → inputs ≡ flying_in s
-    → landed.packets.items ≡ packets m.node (durable_in s) (flying_in s) → landed.decisions.items ≡ decisions m.node (durable_in s) (flying_in s) → IsBrought m first inputs landed
-brings m s first inputs landed lawful counts from is sends decides = record {
-  before = durable_in s;
-  count = omega (arith, from, counts.durable, counts.flying, length-take s.durable s.inputs);
-  lawful = subst (λ (l : List Input). IsHistory m l) (sym (ap (λ (l : List Input). durable_in s ++ l) is ∙ flown s counts)) (lawful-first m.node m.n m.capacity fresh s.flying s.inputs lawful);
-  packets = sends ∙ ap (packets m.node (durable_in s)) (sym is);
-  decisions = decides ∙ ap (decisions m.node (durable_in s)) (sym is);
+pub launched_counts : (s : NodeState) → s.checkpoint ≡ None → IsNodeState s → IsNodeState (states.launched s)
+launched_counts s none counts = record {
+  durable = omega (arith, counts.durable, counts.flying);
+  flying = omega arith;
+  based = counts.based;
+  checkpointed = λ b e. none≢some b (sym none ∙ e);
 }
 
+-- the batch that is launched fits behind the durable inputs
+pub room_left : {E : Type 0} (result : Result (Option Batch) E) (costs node first : ℕ) (old new : DeskKept) → old.view.state.checkpoint ≡ None → IsNodeState old.view.state
+    → costs ≡ used old.view.state.base (durable_in old.view.state)
+    → OnOk result (new ≡ record old { view = launched old.view }) → IfOk result (λ some. IfSome some (λ batch. shown batch ≡ numbered node first (flying_in new.view.state)))
+    → IfOk result (λ some. IfSome some (λ batch. used new.view.state.base (flown_in new.view.state) ≤ new.view.member.capacity))
+    → IfOk result (λ some. IfSome some (λ batch. costs + costs_of (shown batch).inputs ≤ old.view.member.capacity))
+room_left (Err e) costs node first old new none counts spent next is fits = tt
+room_left (Ok None) costs node first old new none counts spent next is fits = tt
+room_left (Ok (Some batch)) costs node first old new none counts spent next is fits =
+    let s = states.launched old.view.state in
+    let same : costs_of (shown batch).inputs ≡ costs_of (flying_in s) = ap costs_of (ap (λ (n : Numbered). n.inputs) is ∙ ap (λ (d : DeskKept). flying_in d.view.state) next) in
+    let within : used s.base (flown_in s) ≤ old.view.member.capacity = subst (λ (d : DeskKept). used d.view.state.base (flown_in d.view.state) ≤ d.view.member.capacity) next fits in
+    omega (arith, same, spent, within, flown_costs s (launched_counts old.view.state none counts))
+
+-- ---- lands
+
+-- where nothing but a batch flies, the area in use stays
+pub base_stays : (s : NodeState) → s.checkpoint ≡ None → launched_base s ≡ s.base
+base_stays s none = ap (λ o. unwrap_or o s.base) none
+
+pub landed_counts : (s : NodeState) → s.checkpoint ≡ None → IsNodeState s → IsNodeState (states.landed s)
+landed_counts s none counts = record {
+  durable = omega arith;
+  flying = counts.flying;
+  based = omega (arith, ap (λ (b : Base). b.inputs) (base_stays s none), counts.based, counts.durable);
+  checkpointed = λ b e. none≢some b e;
+}
+
+-- as many land as fly
+pub lands_all : (s : NodeState) (count : ℕ) (inputs : List Input) → IsNodeState s → count ≡ s.flying - s.durable → inputs ≡ flying_in s → count ≡ length inputs
+lands_all s count inputs counts lands is = omega (arith, lands, flown_count s counts, ap length is)
+
+-- what flew and is durable now
+pub brings : (old new : DeskKept) (first : ℕ) (inputs : List Input) (brought : Landed) → old.view.state.checkpoint ≡ None → IsNodeState old.view.state → new ≡ record old { view = landed old.view }
+    → ((past : List Input) → IsPast new.view.member new.opening past → IsLawfulState new.view.member (seen past new).state)
+    → first ≡ old.opening.inputs + old.view.state.durable → inputs ≡ flying_in old.view.state
+    → ((past : List Input) → IsPast old.view.member old.opening past → brought.packets.items ≡ packets old.view.member.node (durable_in (seen past old).state) (flying_in (seen past old).state))
+    → ((past : List Input) → IsPast old.view.member old.opening past → brought.decisions.items ≡ decisions old.view.member.node (durable_in (seen past old).state) (flying_in (seen past old).state))
+    → IsBrought old.view.member old.opening old.view.state.base first inputs brought
+brings old new first inputs brought none counts next lawful from is sends decides past behind =
+    let m = old.view.member in
+    let s = old.view.state in
+    let state : IsLawfulState m (shifted past (states.landed s)) =
+    subst (λ (d : DeskKept). (past : List Input) → IsPast d.view.member d.opening past → IsLawfulState d.view.member (seen past d).state) next lawful past behind in
+    let whole : past ++ flown_in s ≡ (past ++ durable_in s) ++ inputs =
+    ap (λ (l : List Input). past ++ l) (sym (flown s counts)) ∙ (sym (append_assoc past (durable_in s) (flying_in s)) ∙ ap (λ (l : List Input). (past ++ durable_in s) ++ l) (sym is)) in
+    let durable : durable_in (shifted past s) ≡ past ++ durable_in s = durable-shifted past s in
+    let flies : flying_in (shifted past s) ≡ inputs = flying-shifted past s ∙ sym is in
+    let front : old.opening.inputs ≡ length past = λ i. (behind.summed i).inputs in
+    record {
+      since = durable_in s;
+      count = omega (arith, from, front, length-append past (durable_in s), length-take s.durable s.inputs, counts.durable, counts.flying);
+      lawful = subst (λ (b : Base). IsLawful m.node m.n m.capacity (moved (length past) b) ((past ++ durable_in s) ++ inputs)) (base_stays s none)
+          (subst (IsLawful m.node m.n m.capacity (moved (length past) (launched_base s))) (flown-shifted past (states.landed s) ∙ whole) state.held);
+      packets = sends past behind ∙ (λ i. packets m.node (durable i) (flies i));
+      decisions = decides past behind ∙ (λ i. decisions m.node (durable i) (flies i));
+    }
+
+-- what flew, as the batch tells it, is released behind each past
+pub released : {T : Type 0} (f : ℕ → List Input → List Input → T) (told : T) (d : DeskKept) (m : Member) (opening : Summary) (inputs : List Input)
+    → d.view.member ≡ m → d.opening ≡ opening → inputs ≡ flying_in d.view.state
+    → ((past : List Input) → IsPast d.view.member d.opening past → told ≡ f d.view.member.node (durable_in (seen past d).state) (flying_in (seen past d).state))
+    → (past : List Input) → IsPast m opening past → told ≡ f m.node (durable_in (seen past d).state) inputs
+released f told d m opening inputs of from is tells =
+    named (λ m opening base. (past : List Input) → IsPast m opening past → told ≡ f m.node (durable_in (seen past d).state) inputs) d m opening d.view.state.base of from refl
+    (λ past behind. tells past behind ∙ ap (f d.view.member.node (durable_in (seen past d).state)) (flying-shifted past d.view.state ∙ sym is))
+
+-- ---- windows
+
 -- the durable inputs are a history
-pub is_window : {T E : Type 0} (items : T → List Packet) (result : Result T E) (m : Member) (s : NodeState) → IsHistory m s.inputs
-    → IfOk result (λ list. items list ≡ window m.node (durable_in s)) → IfOk result (λ list. IsWindow m (items list))
-is_window items (Err e) m s lawful is = tt
-is_window items (Ok list) m s lawful is = record { history = durable_in s; lawful = lawful-first m.node m.n m.capacity fresh s.durable s.inputs lawful; packets = is }
+pub is_window : {T E : Type 0} (items : T → List Packet) (result : Result T E) (d : DeskKept) → IsNodeState d.view.state
+    → ((past : List Input) → IsPast d.view.member d.opening past → IsLawfulState d.view.member (seen past d).state)
+    → IfOk result (λ list. (past : List Input) → IsPast d.view.member d.opening past → items list ≡ window d.view.member.node (durable_in (seen past d).state))
+    → IfOk result (λ list. IsWindow d.view.member d.opening d.view.state.base (items list))
+is_window items (Err e) d counts lawful is = tt
+is_window items (Ok list) d counts lawful is = λ past behind.
+    let m = d.view.member in
+    let s = d.view.state in
+    let base = moved (length past) s.base in
+    let all = shifted past s in
+    let durable : durable_in all ≡ past ++ durable_in s = durable-shifted past s in
+    let front : IsLawful m.node m.n m.capacity base (take all.durable (flown_in all)) = lawful-first m.node m.n m.capacity base all.durable (flown_in all) (lawful past behind).held in
+    record {
+      since = durable_in s;
+      lawful = subst (IsLawful m.node m.n m.capacity base) (take-take all.durable all.flying all.inputs (lawful past behind).counts.durable ∙ durable) front;
+      packets = is past behind ∙ ap (window m.node) durable;
+    }

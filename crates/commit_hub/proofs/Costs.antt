@@ -1,28 +1,18 @@
 -- What a node's inputs take of its capacity.
-use Rattle.std.proofs.Common.{◌≡◌, ℕ, ◌+◌, ◌-◌, ◌≤◌, List, [], ◌∷◌, ◌++◌, length, take, drop, sym, ap, ◌∙◌, arith, length-take, length-drop}
+use Rattle.std.proofs.Common.{◌≡◌, ℕ, ◌+◌, ◌-◌, ◌≤◌, List, ◌++◌, length, take, drop, sym, ap, ◌∙◌, arith, length-take, length-drop}
 use Rattle.std.proofs.Math.Seq.{take-add}
-use Rattle.std.proofs.lemmas.List.Sums.{sum_by-take-drop}
+use Rattle.std.proofs.lemmas.List.{take-append-drop, take_all, drop-append-le}
+use Rattle.std.proofs.lemmas.List.Sums.{sum_by-append}
+use Rattle.ring_records.specs.declared.base.Base.{Base}
 use Rattle.ring_records.specs.declared.input.Input.{Input}
-use Rattle.ring_records.specs.Admission.{fresh, used, cost, Fits, IsAdmitted, IsLawful}
-use Rattle.ring_records.specs.States.{NodeState, IsNodeState, IsPlain, launched, durable_in, flown_in, flying_in}
-use Rattle.ring_records.specs.Member.{member, used_by, IsHistory}
-use Rattle.ring_records.proofs.Counts.{used-push, used-each}
-use Rattle.ring_records.proofs.Lists.{along}
-use Rattle.ring_records.proofs.States.{plain-counts}
-use Rattle.gated_journal.proofs.Rest.{used-joined}
+use Rattle.ring_records.specs.Admission.{cost, costs_of, used}
+use Rattle.ring_records.specs.States.{NodeState, IsNodeState, durable_in, flown_in, flying_in}
 
-fits_next : (me n capacity : ℕ) (h : List Input) (x : Input) → IsAdmitted me n capacity fresh h x → used_by h ≤ capacity → used_by (h ++ x ∷ []) ≤ capacity
-unfolding Fits
-fits_next me n capacity h x admitted fits = omega (arith, admitted.fits (omega arith), used-push h x)
-
--- a lawful history fits the capacity
-pub used_within : (me n capacity : ℕ) (h : List Input) → IsHistory (member me n capacity) h → used_by h ≤ capacity
-unfolding IsLawful used
-used_within me n capacity h lawful = along (IsAdmitted me n capacity fresh) (λ l. used_by l ≤ capacity) (fits_next me n capacity) [] h lawful (omega arith)
-
--- and so do its first inputs
-pub used_front : (k me n capacity : ℕ) (h : List Input) → IsHistory (member me n capacity) h → used_by (take k h) ≤ capacity
-used_front k me n capacity h lawful = omega (arith, used_within me n capacity h lawful, used-each h, sum_by-take-drop cost h k, used-each (take k h))
+-- inputs behind those that the base stands for are counted
+pub used-joined : (base : Base) (h l : List Input) → base.inputs ≤ length h → used base (h ++ l) ≡ used base h + costs_of l
+unfolding used
+used-joined base h l within =
+    ap (λ g. base.bytes + costs_of g) (drop-append-le base.inputs h l within) ∙ omega (arith, sum_by-append cost (drop base.inputs h) l)
 
 from_to : (d f : ℕ) (h : List Input) → d ≤ f → take d h ++ take (f - d) (drop d h) ≡ take f h
 from_to d f h le = let sum : d + (f - d) ≡ f = omega (arith, le) in sym (take-add d (f - d) h) ∙ ap (λ k. take k h) sum
@@ -31,12 +21,21 @@ from_to d f h le = let sum : d + (f - d) ≡ f = omega (arith, le) in sym (take-
 pub flown : (s : NodeState) → IsNodeState s → durable_in s ++ flying_in s ≡ flown_in s
 flown s counts = from_to s.durable s.flying s.inputs counts.durable
 
-pub flown_costs : (s : NodeState) → IsNodeState s → used_by (flown_in s) ≡ used_by (durable_in s) + used_by (flying_in s)
-flown_costs s counts = ap used_by (sym (flown s counts)) ∙ used-joined (durable_in s) (flying_in s)
+durable_count : (s : NodeState) → IsNodeState s → length (durable_in s) ≡ s.durable
+durable_count s counts = omega (arith, counts.durable, counts.flying, length-take s.durable s.inputs)
 
--- and is as long as it says
+pub flown_costs : (s : NodeState) → IsNodeState s → used s.base (flown_in s) ≡ used s.base (durable_in s) + costs_of (flying_in s)
+flown_costs s counts = ap (used s.base) (sym (flown s counts)) ∙ used-joined s.base (durable_in s) (flying_in s) (omega (arith, counts.based, durable_count s counts))
+
+-- and so does all that waits or flies
+pub durable_costs : (s : NodeState) → IsNodeState s → used s.base s.inputs ≡ used s.base (durable_in s) + costs_of (drop s.durable s.inputs)
+durable_costs s counts = ap (used s.base) (sym (take-append-drop s.durable s.inputs))
+    ∙ used-joined s.base (durable_in s) (drop s.durable s.inputs) (omega (arith, counts.based, durable_count s counts))
+
+-- all that wait or fly, as a part of the inputs
+pub not_durable : (s : NodeState) → take (length s.inputs - s.durable) (drop s.durable s.inputs) ≡ drop s.durable s.inputs
+not_durable s = take_all (length s.inputs - s.durable) (drop s.durable s.inputs) (omega (arith, length-drop s.durable s.inputs))
+
+-- what flies is as long as it says
 pub flown_count : (s : NodeState) → IsNodeState s → s.flying ≡ s.durable + length (flying_in s)
 flown_count s counts = omega (arith, counts.durable, counts.flying, length-take (s.flying - s.durable) (drop s.durable s.inputs), length-drop s.durable s.inputs)
-
-pub launched_counts : (s : NodeState) → IsPlain s → IsNodeState s → IsNodeState (launched s)
-launched_counts s plain counts = plain-counts (launched s) (record { base = plain.base; none = plain.none }) (omega (arith, counts.durable, counts.flying)) (omega arith)

@@ -1,56 +1,51 @@
 -- What a request makes of a desk and of what is counted.
-use Rattle.std.proofs.Common.{◌≡◌, ◌⊎◌, inl, inr, ℕ, ◌+◌, ◌≤◌, Bool, true, false, List, ◌++◌, length, take, Option, Some, None, if◌then◌else◌, refl, sym, ap, ◌∙◌, arith, length-append}
+use Rattle.std.proofs.Common.{◌≡◌, ◌⊎◌, inl, inr, ℕ, ◌+◌, ◌≤◌, Bool, true, false, List, ◌++◌, [], length, take, Option, Some, None, if◌then◌else◌, refl, sym, ap, ◌∙◌, arith, length-append}
 use Rattle.std.proofs.lemmas.List.{take-append-le}
 use Rattle.std.proofs.lemmas.Option.{same_Some}
+use Rattle.std.specs.List.{cons_option}
 use Rattle.std.specs.Prelude.{nat_le, ◌||◌, ◌^◌}
 use Rattle.ring_records.specs.declared.input.Input.{Input}
 use Rattle.ring_records.specs.declared.refusal.Refusal.{Refusal}
 use Rattle.ring_records.specs.declared.refusal.Refusal.TheVariants as refused
 use Rattle.ring_records.specs.declared.request.Request.{Request}
-use Rattle.ring_records.specs.declared.base.Base.{Base}
-use Rattle.ring_records.specs.Admission.{refusal}
-use Rattle.ring_records.specs.Answer.{input_of, if_free, if_input, gained}
-use Rattle.ring_records.specs.States.{NodeState, IsNodeState, launched_base, gained_by, durable_in}
-use Rattle.ring_records.specs.Member.{Member}
+use Rattle.ring_records.specs.States.{NodeState, IsNodeState, durable_in}
 use Rattle.ring_records.specs.Message.{is_outside}
 use Rattle.ring_records.proofs.Lists.{none≢some}
-use Rattle.group_commit.specs.Desk.{DeskView, submitted, objection}
+use Rattle.group_commit.specs.Desk.{DeskView, DeskKept, IsSubmitted, objection}
+use Rattle.group_commit.specs.Ticket.{TicketView}
 use Rattle.commit_hub.specs.Told.{IsUnasked}
 
 -- the durable inputs stay where more come behind
 pub durable_stays : (s : NodeState) (more : List Input) → IsNodeState s → take s.durable (s.inputs ++ more) ≡ durable_in s
 durable_stays s more counts = take-append-le s.durable s.inputs more (omega (arith, counts.durable, counts.flying))
 
+-- the inputs of a desk that gave a ticket
+more_inputs : (q : Request) (old new : DeskKept) (ticket : TicketView) (s : IsSubmitted q old new ticket) → new.view.state.inputs ≡ old.view.state.inputs ++ cons_option s.more []
+more_inputs q old new ticket s = ap (λ (d : DeskKept). d.view.state.inputs) s.next
+
 -- no input is lost
-pub grows : (q : Request) (old new : DeskView) → new ≡ submitted q old → length old.state.inputs ≤ length new.state.inputs
-grows q old new next =
-    let m = old.member in
-    let more = gained_by m old.state q in
-    let long = ap (λ (d : DeskView). length d.state.inputs) next in
-    omega (arith, long, length-append old.state.inputs more)
+pub grows : (q : Request) (old new : DeskKept) (ticket : TicketView) → IsSubmitted q old new ticket → length old.view.state.inputs ≤ length new.view.state.inputs
+grows q old new ticket s = omega (arith, ap length (more_inputs q old new ticket s), length-append old.view.state.inputs (cons_option s.more []))
 
 -- ---- a request brings one input at most
 
-free_few : (o : Option Refusal) (x : Input) → length (if_free o x) ≤ 1
-free_few None x = omega arith
-free_few (Some why) x = omega arith
-
-input_few : (me n capacity : ℕ) (base : Base) (h : List Input) (o : Option Input) → length (if_input me n capacity base h o) ≤ 1
-input_few me n capacity base h None = omega arith
-input_few me n capacity base h (Some x) = free_few (refusal me n capacity base h x) x
-
-gained_few : (m : Member) (s : NodeState) (q : Request) → length (gained_by m s q) ≤ 1
-unfolding gained
-gained_few m s q = input_few m.node m.n m.capacity (launched_base s) s.inputs (input_of q)
+few : (o : Option Input) → length (cons_option o []) ≤ 1
+few None = omega arith
+few (Some x) = omega arith
 
 -- what is counted with it grows by as much
-pub one_more : (q : Request) (old new : DeskView) (before after : ℕ) → new ≡ submitted q old → after + length old.state.inputs ≡ before + length new.state.inputs → (before ≤ after) × (after ≤ before + 1)
-one_more q old new before after next counted =
-    let m = old.member in
-    let more = gained_by m old.state q in
-    let long : length new.state.inputs ≡ length old.state.inputs + length more = ap (λ (d : DeskView). length d.state.inputs) next ∙ length-append old.state.inputs more in
-    let few = gained_few m old.state q in
-    (omega (arith, counted, long), omega (arith, counted, long, few))
+pub one_more : (q : Request) (old new : DeskKept) (ticket : TicketView) (before after : ℕ) → IsSubmitted q old new ticket
+    → after + length old.view.state.inputs ≡ before + length new.view.state.inputs → (before ≤ after) × (after ≤ before + 1)
+one_more q old new ticket before after s counted =
+    let long : length new.view.state.inputs ≡ length old.view.state.inputs + length (cons_option s.more []) =
+    ap length (more_inputs q old new ticket s) ∙ length-append old.view.state.inputs (cons_option s.more []) in
+    (omega (arith, counted, long), omega (arith, counted, long, few s.more))
+
+-- ---- a request that gets a ticket
+
+-- the ticket is for it
+pub asks : (q : Request) (old new : DeskKept) (ticket : TicketView) → IsSubmitted q old new ticket → ticket.question ≡ q
+asks q old new ticket s = ap (λ (t : TicketView). t.question) s.ticket_is ∙ s.question
 
 -- ---- a request that gets no ticket
 

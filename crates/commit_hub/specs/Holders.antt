@@ -2,7 +2,7 @@
 use Rattle.std.specs.Prelude.{ℕ, ◌≡◌, ◌+◌, List, length}
 use Rattle.std.specs.List.{sum_by}
 use Rattle.std.specs.declared.sync.ledger.Ledger as ledger
-use Rattle.ring_records.specs.declared.input.Input.{Input}
+use Rattle.group_commit.specs.Desk.{DeskKept}
 use Rattle.commit_hub.specs.declared.ledgers.Node as node
 use Rattle.commit_hub.specs.declared.ledgers.Whole as whole
 use Rattle.commit_hub.specs.declared.share.Share.{Share}
@@ -13,15 +13,15 @@ module _ {A : Type 0} {a : node.Ghosts A} where
   abbrev pub count_of : Share A a → ℕ
   count_of share = share.count
 
-  -- of these inputs, behind the first so many, the shares count each one
-  abbrev pub AddUp : List (Share A a) → ℕ → List Input → Type 0
-  AddUp shares first inputs = length inputs ≡ first + sum_by count_of shares
+  -- of the desk's inputs, behind the first so many, the shares count each one
+  abbrev pub AddUp : List (Share A a) → ℕ → DeskKept → Type 0
+  AddUp shares first desk = desk.opening.inputs + length desk.view.state.inputs ≡ first + sum_by count_of shares
 
 module _ {A D C : Type 0} {a : node.Ghosts A} {la : ledger.Ghosts A} {d : whole.Ghosts D} {c : whole.Ghosts C} where
   -- the inputs of the hub that are durable
   abbrev pub durable_of : Tie A D C a la d c → ℕ
   durable_of tie = tie.durable.amount
 
-  -- the bytes of the capacity that they take
+  -- the bytes of the capacity that are taken: by what the base stands for, and by those behind it
   abbrev pub costs_of : Tie A D C a la d c → ℕ
   costs_of tie = tie.costs.amount

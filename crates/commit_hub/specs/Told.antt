@@ -1,16 +1,20 @@
 -- What a hub's calls tell without the state under its lock.
-use Rattle.std.specs.Prelude.{ℕ, ◌≡◌, ◌⊎◌, Bool, true, false, List, ◌++◌, length}
+use Rattle.std.specs.Prelude.{ℕ, ◌≡◌, ◌+◌, ◌⊎◌, Bool, true, false, List, ◌++◌, length}
+use Rattle.ring_records.specs.declared.base.Base.{Base}
 use Rattle.ring_records.specs.declared.input.Input.{Input}
 use Rattle.ring_records.specs.declared.packet.Packet.{Packet}
 use Rattle.ring_records.specs.declared.refusal.Refusal.{Refusal}
 use Rattle.ring_records.specs.declared.refusal.Refusal.TheVariants as refused
 use Rattle.ring_records.specs.declared.request.Request.{Request}
+use Rattle.ring_records.specs.declared.summary.Summary.{Summary}
+use Rattle.ring_records.specs.Admission.{used, IsLawful}
 use Rattle.ring_records.specs.History.{stands}
-use Rattle.ring_records.specs.Member.{Member, used_by, IsHistory}
+use Rattle.ring_records.specs.Member.{Member}
 use Rattle.ring_records.specs.Message.{is_outside}
 use Rattle.ring_records.specs.Release.{packets, decisions, window}
-use Rattle.ring_records.specs.States.{NodeState, IsNodeState, shown_in}
+use Rattle.ring_records.specs.States.{NodeState, IsNodeState, IsLawfulState, shown_in}
 use Rattle.group_commit.specs.declared.landed.Landed.{Landed}
+use Rattle.group_commit.specs.Past.{IsPast, moved, shifted}
 use Rattle.commit_hub.specs.declared.look.Look.{Look}
 
 -- Why a node of a ring of n gives no ticket for the request: it is closed or has failed; the message is of no node of
@@ -20,35 +24,53 @@ IsUnasked n q why = (why ≡ refused.Failed)
     ⊎ (((is_outside n q ≡ true) × (why ≡ refused.BadNumber))
     ⊎ ((is_outside n q ≡ false) × ((why ≡ refused.Limit) ⊎ (why ≡ refused.OutOfMemory))))
 
--- Some lawful history of the node goes on, behind its first inputs, so many of them, with these. They became durable,
--- and this is what they let the node release.
-pub record IsBrought (member : Member) (first : ℕ) (inputs : List Input) (landed : Landed) : Type 0 where
-  pub before : List Input
-  pub count : length before ≡ first
-  pub lawful : IsHistory member (before ++ inputs)
-  pub packets : landed.packets.items ≡ packets member.node before inputs
-  pub decisions : landed.decisions.items ≡ decisions member.node before inputs
+-- ---- The hub's desk was opened with the summary `opening`, and room is counted from `base`, whose area holds no input
+-- before the first since. A hub whose opening is of no past of its node keeps its counts and its safety; of histories
+-- it tells what there are.
 
--- the packets are those that the node may release again, with some lawful history of durable inputs
-pub record IsWindow (member : Member) (list : List Packet) : Type 0 where
-  pub history : List Input
-  pub lawful : IsHistory member history
-  pub packets : list ≡ window member.node history
+-- Some lawful history of the node, the past with inputs since, goes on with these, behind its first inputs, so many of
+-- them. They became durable, and this is what they let the node release.
+pub record IsBroughtBehind (member : Member) (base : Base) (past : List Input) (first : ℕ) (inputs : List Input) (landed : Landed) : Type 0 where
+  pub since : List Input
+  pub count : length (past ++ since) ≡ first
+  pub lawful : IsLawful member.node member.n member.capacity (moved (length past) base) ((past ++ since) ++ inputs)
+  pub packets : landed.packets.items ≡ packets member.node (past ++ since) inputs
+  pub decisions : landed.decisions.items ≡ decisions member.node (past ++ since) inputs
+
+-- so it is whatever past of the node the opening is of
+abbrev pub IsBrought : Member → Summary → Base → ℕ → List Input → Landed → Type 0
+IsBrought member opening base first inputs landed = (past : List Input) → IsPast member opening past → IsBroughtBehind member base past first inputs landed
+
+-- the packets are those that the node may release again, with some lawful history of durable inputs behind the past
+pub record IsWindowBehind (member : Member) (base : Base) (past : List Input) (list : List Packet) : Type 0 where
+  pub since : List Input
+  pub lawful : IsLawful member.node member.n member.capacity (moved (length past) base) (past ++ since)
+  pub packets : list ≡ window member.node (past ++ since)
+
+-- so it is whatever past of the node the opening is of
+abbrev pub IsWindow : Member → Summary → Base → List Packet → Type 0
+IsWindow member opening base list = (past : List Input) → IsPast member opening past → IsWindowBehind member base past list
 
 -- what is shown of a node in this state, where it takes requests or takes none
 abbrev pub look_of : Member → NodeState → Bool → Look
 look_of member s is_open = record {
   shown = shown_in member.node s;
-  used = used_by s.inputs;
+  used = used s.base s.inputs;
   capacity = member.capacity;
   stands = stands s.inputs;
   is_open = is_open;
 }
 
--- this is what is shown of the node with some lawful history, of which some inputs are durable
-pub record IsLook (member : Member) (look : Look) : Type 0 where
+-- This is what is shown of the node in some state since its opening: how many inputs it has and how many are durable,
+-- those that are summarised among them, and the bytes that are taken. Behind each past that the opening is of the state
+-- is lawful, and all is shown of that.
+pub record IsLook (member : Member) (opening : Summary) (base : Base) (look : Look) : Type 0 where
   pub state : NodeState
-  pub lawful : IsHistory member state.inputs
   pub counts : IsNodeState state
-  pub is_open : Bool
-  pub is : look ≡ look_of member state is_open
+  pub based : state.base ≡ base
+  pub inputs : look.shown.inputs ≡ opening.inputs + length state.inputs
+  pub durable : look.shown.durable ≡ opening.inputs + state.durable
+  pub used_is : look.used ≡ used base state.inputs
+  pub capacity : look.capacity ≡ member.capacity
+  pub lawful : (past : List Input) → IsPast member opening past → IsLawfulState member (shifted past state)
+  pub is : (past : List Input) → IsPast member opening past → look ≡ look_of member (shifted past state) look.is_open

@@ -1,11 +1,13 @@
 //! One lock round a desk, for many appenders and one flusher.
-ghost use Rattle.std.specs.Prelude.{◌≡◌, ◌+◌, ◌≤◌, ◌⊎◌, length, map, false, IfOk, IfErr, IfSome, IsOk, OnOk, OnErr};
+ghost use Rattle.std.specs.Prelude.{◌≡◌, ◌+◌, ◌≤◌, ◌⊎◌, List, length, map, false, IfOk, IfErr, IfSome, IsOk, OnOk, OnErr};
 ghost use Rattle.std.specs.List.{sum_by};
-ghost use Rattle.ring_records.specs.States.{durable_in};
-ghost use Rattle.ring_records.specs.Member.{used_by, IsHistory};
+ghost use Rattle.ring_records.specs.declared.input.Input.{Input};
+ghost use Rattle.ring_records.specs.Admission.{used, costs_of as costs_in};
+ghost use Rattle.ring_records.specs.States.{IsLawfulState, durable_in};
 ghost use Rattle.ring_records.specs.Message.{is_outside};
 ghost use Rattle.gated_journal.specs.Batch.{shown as batch_shown, landed as receipted, lost};
-ghost use Rattle.group_commit.specs.Desk.{IsAnswer};
+ghost use Rattle.group_commit.specs.Desk.{IsAnswer, seen};
+ghost use Rattle.group_commit.specs.Past.{IsPast};
 ghost use Rattle.group_commit.specs.Ticket.{shown};
 ghost use Rattle.commit_hub.specs.Holders.{count_of, durable_of, costs_of};
 ghost use Rattle.commit_hub.specs.Pages.{ForAccepted, ForDurable, ForCosts, IsWhole};
@@ -24,7 +26,10 @@ use std::alloc::AllocError;
 use std::sync::{Mutex, MutexGuard, Wait};
 
 /// One lock round a desk. Many appenders submit to it, each with a share, and wait for their replies; one flusher, who
-/// has the tie, launches batches and lands them. No call holds the lock for longer than one call of the desk takes.
+/// has the tie, launches batches and lands them. No call holds the lock for longer than one call of the desk takes. Its
+/// numbers count the inputs that the desk's opening summarises, and the bytes of that summary. What is said of lawful
+/// histories holds behind each past of which the opening is the summary; a hub whose opening is that of no history keeps
+/// its counts.
 #[derive(Drop)]
 pub struct Hub<A: Node, D: Whole, C: Whole> {
     guarded: Mutex<Guarded<A, D, C>>,
@@ -32,15 +37,18 @@ pub struct Hub<A: Node, D: Whole, C: Whole> {
 }
 
 impl<A: Node, D: Whole, C: Whole> Hub<A, D, C> {
-    /// A hub round this desk, and its one tie, which counts the desk's durable inputs and their costs.
+    /// A hub round this desk, and its one tie, which counts the desk's durable inputs and the bytes that they take.
     pub fn new(desk: Desk, blanks: Blanks) -> (Hub<A, D, C>, Tie<A, D, C>)
-        requires member { desk.member ≡ A.member }
-        requires opened { length desk.state.inputs ≡ A.opened }
+        requires member { desk.view.member ≡ A.member }
+        requires opening { desk.opening ≡ A.opening }
+        requires base { desk.view.state.base ≡ A.base }
+        requires none { desk.view.state.checkpoint ≡ None }
+        requires opened { desk.opening.inputs + length desk.view.state.inputs ≡ A.opened }
         requires accepted { ForAccepted blanks A.name A.parts }
         requires durable { ForDurable blanks D.name D.parts × IsWhole D.all D.parts }
         requires costs { ForCosts blanks C.name C.parts × IsWhole C.all C.parts }
-        ensures durable { durable_of result.1 ≡ desk.state.durable }
-        ensures costs { costs_of result.1 ≡ used_by (durable_in desk.state) }
+        ensures durable { durable_of result.1 ≡ desk.opening.inputs + desk.view.state.durable }
+        ensures costs { costs_of result.1 ≡ used desk.view.state.base (durable_in desk.view.state) }
     {
         let (locked, tie) = Locked::new(desk, blanks);
         let hub = Hub {
@@ -97,7 +105,7 @@ impl<A: Node, D: Whole, C: Whole> Hub<A, D, C> {
     ) -> Result<(Reply, Stub), (Ticket, Refusal)>
         ensures question { IfOk result (λ r. r.1.question ≡ (shown ticket).question) }
         ensures reply { IfOk result (λ r. r.0 ≡ r.1.answer.reply) }
-        ensures answer { IfOk result (λ r. IsAnswer A.member r.1) }
+        ensures answer { IfOk result (λ r. (past : List Input) → IsPast A.member A.opening past → IsAnswer A.member past r.1) }
         ensures refusal { IfErr result (λ e. (e.1 ≡ Refusal.Foreign) ⊎ (e.1 ≡ Refusal.Failed)) }
         ensures back { IfErr result (λ e. shown e.0 ≡ shown ticket) }
     {
@@ -132,7 +140,7 @@ impl<A: Node, D: Whole, C: Whole> Hub<A, D, C> {
         requires whole { IsWhole D.all D.parts × IsWhole C.all C.parts }
         ensures node { IfOk result (λ some. IfSome some (λ batch. (batch_shown batch).node ≡ A.member.node)) }
         ensures first { IfOk result (λ some. IfSome some (λ batch. (batch_shown batch).first ≡ durable_of tie.old)) }
-        ensures room { IfOk result (λ some. IfSome some (λ batch. costs_of tie.old + used_by (batch_shown batch).inputs ≤ A.member.capacity)) }
+        ensures room { IfOk result (λ some. IfSome some (λ batch. costs_of tie.old + costs_in (batch_shown batch).inputs ≤ A.member.capacity)) }
         ensures refusal { IfErr result (λ refusal. (refusal ≡ Refusal.Failed) ⊎ ((refusal ≡ Refusal.Busy) ⊎ (refusal ≡ Refusal.OutOfMemory))) }
         ensures tie { (durable_of tie.new ≡ durable_of tie.old) × (costs_of tie.new ≡ costs_of tie.old) }
     {
@@ -151,9 +159,10 @@ impl<A: Node, D: Whole, C: Whole> Hub<A, D, C> {
     ) -> Result<Landed, (Receipt, Refusal)>
         requires whole { IsWhole D.all D.parts × IsWhole C.all C.parts }
         ensures count { IfOk result (λ landed. landed.count ≡ length (receipted receipt).inputs) }
-        ensures brought { IfOk result (λ landed. IsBrought A.member (durable_of tie.old) (receipted receipt).inputs landed) }
+        ensures few { IfOk result (λ landed. length landed.decisions.items ≤ landed.count) }
+        ensures brought { IfOk result (λ landed. IsBrought A.member A.opening A.base (durable_of tie.old) (receipted receipt).inputs landed) }
         ensures durable { OnOk result (durable_of tie.new ≡ durable_of tie.old + length (receipted receipt).inputs) }
-        ensures costs { OnOk result (costs_of tie.new ≡ costs_of tie.old + used_by (receipted receipt).inputs) }
+        ensures costs { OnOk result (costs_of tie.new ≡ costs_of tie.old + costs_in (receipted receipt).inputs) }
         ensures refusal { IfErr result (λ e. e.1 ≡ Refusal.Foreign) }
         ensures back { IfErr result (λ e. receipted e.0 ≡ receipted receipt) }
         ensures tie { OnErr result ((durable_of tie.new ≡ durable_of tie.old) × (costs_of tie.new ≡ costs_of tie.old)) }
@@ -221,14 +230,14 @@ impl<A: Node, D: Whole, C: Whole> Hub<A, D, C> {
     /// The messages that the successor is not known to have taken, as Carry packets in order, by the durable inputs of
     /// some moment within the call.
     pub fn window<R: Wait>(&self, rt: &R) -> Result<Vec<Packet>, AllocError>
-        ensures { IfOk result (λ packets. IsWindow A.member packets.items) }
+        ensures { IfOk result (λ packets. IsWindow A.member A.opening A.base packets.items) }
     {
         self.guarded.lock(rt).locked.window()
     }
 
     /// What the node shows at some moment within the call: plain counts, copied under one hold of the lock.
     pub fn look<R: Wait>(&self, rt: &R) -> Look
-        ensures { IsLook A.member result }
+        ensures { IsLook A.member A.opening A.base result }
     {
         self.guarded.lock(rt).locked.look()
     }
@@ -239,9 +248,10 @@ impl<A: Node, D: Whole, C: Whole> Hub<A, D, C> {
         self,
         shares: Vec<Share<A>>,
     ) -> Result<Desk, (Hub<A, D, C>, Vec<Share<A>>, Refusal)>
-        ensures member { IfOk result (λ desk. desk.member ≡ A.member) }
-        ensures lawful { IfOk result (λ desk. IsHistory A.member desk.state.inputs) }
-        ensures count { IfOk result (λ desk. length desk.state.inputs ≡ A.opened + sum_by count_of shares.items) }
+        ensures member { IfOk result (λ desk. desk.view.member ≡ A.member) }
+        ensures opening { IfOk result (λ desk. (desk.opening ≡ A.opening) × (desk.view.state.base ≡ A.base)) }
+        ensures lawful { IfOk result (λ desk. (past : List Input) → IsPast A.member A.opening past → IsLawfulState A.member (seen past desk).state) }
+        ensures count { IfOk result (λ desk. desk.opening.inputs + length desk.view.state.inputs ≡ A.opened + sum_by count_of shares.items) }
         ensures whole { 1 + length shares.items ≡ A.parts → IsOk result }
         ensures refusal { IfErr result (λ e. e.2 ≡ Refusal.Mismatch) }
         ensures back { IfErr result (λ e. map count_of e.1.items ≡ map count_of shares.items) }

@@ -1,6 +1,10 @@
 //! Whether the shares add up to what a hub's desk accepted.
-ghost use Rattle.std.specs.Prelude.{◌≡◌, ◌+◌, ◌-◌, ◌^◌, ◌↔◌, IsTrue, IsOk, IfOk, IfErr, length, map, min};
+ghost use Rattle.std.specs.Prelude.{◌≡◌, ◌+◌, ◌-◌, ◌^◌, ◌↔◌, IsTrue, IsOk, IfOk, IfErr, OnOk, List, length, map, min};
 ghost use Rattle.std.specs.List.{sum_by};
+ghost use Rattle.ring_records.specs.declared.input.Input.{Input};
+ghost use Rattle.ring_records.specs.States.{IsLawfulState};
+ghost use Rattle.group_commit.specs.Desk.{seen};
+ghost use Rattle.group_commit.specs.Past.{IsPast};
 ghost use Rattle.commit_hub.specs.Holders.{count_of, AddUp};
 
 use crate::ledgers::{Node, Whole};
@@ -16,9 +20,10 @@ impl<A: Node, D: Whole, C: Whole> Locked<A, D, C> {
         self,
         shares: Vec<Share<A>>,
     ) -> Result<Desk, (Locked<A, D, C>, Vec<Share<A>>)>
-        ensures exact { IsOk result ↔ AddUp shares.items A.opened self.shared.desk.state.inputs }
+        ensures exact { IsOk result ↔ AddUp shares.items A.opened self.shared.desk }
         ensures whole { 1 + length shares.items ≡ A.parts → IsOk result }
         ensures desk { IfOk result (λ desk. desk ≡ self.shared.desk) }
+        ensures lawful { OnOk result ((past : List Input) → IsPast A.member A.opening past → IsLawfulState A.member (seen past self.shared.desk).state) }
         ensures back { IfErr result (λ e. e.0.shared.desk ≡ self.shared.desk) }
         ensures shares { IfErr result (λ e. map count_of e.1.items ≡ map count_of shares.items) }
     {
@@ -34,9 +39,10 @@ impl<A: Node, D: Whole, C: Whole> Locked<A, D, C> {
 
     // Whether the shares count all inputs that were accepted since the hub was made. They do where every place is here.
     fn adds_up(&mut self, shares: &mut Vec<Share<A>>) -> bool
-        ensures exact { IsTrue result ↔ AddUp shares.old.items A.opened self.old.shared.desk.state.inputs }
+        ensures exact { IsTrue result ↔ AddUp shares.old.items A.opened self.old.shared.desk }
         ensures whole { 1 + length shares.old.items ≡ A.parts → IsTrue result }
         ensures desk { self.new.shared.desk ≡ self.old.shared.desk }
+        ensures lawful { (past : List Input) → IsPast A.member A.opening past → IsLawfulState A.member (seen past self.old.shared.desk).state }
         ensures shares { map count_of shares.new.items ≡ map count_of shares.old.items }
     {
         let Locked {
@@ -47,7 +53,7 @@ impl<A: Node, D: Whole, C: Whole> Locked<A, D, C> {
             places,
             ..
         } = self;
-        if shared.desk.history().len() as u64 == opened.saturating_add(counted_by(shares)) {
+        if shared.desk.accepted() == opened.saturating_add(counted_by(shares)) {
             return true;
         }
         // With every place here the shares count all that was accepted, so this is never so.

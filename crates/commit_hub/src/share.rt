@@ -25,8 +25,8 @@ impl<A: Node> Share<A> {
     }
 }
 
-/// The right to make a hub's inputs durable. It counts those that are durable, and the bytes of the capacity that they
-/// take. A hub has one, and it takes no bytes.
+/// The right to make a hub's inputs durable. It counts those that are durable, and the bytes of the capacity that are
+/// taken up to them. A hub has one, and it takes no bytes.
 #[derive(Drop)]
 pub struct Tie<A: Node, D: Whole, C: Whole> {
     pub(crate) durable: ledger::Share<D>,

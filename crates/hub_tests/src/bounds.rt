@@ -1,11 +1,11 @@
 // Hubs at their bounds: places, tickets, receipts and shares that are not what they wait for. The one thread that the
 // tests have is appender and flusher in turn.
-ghost use Rattle.std.specs.Prelude.{◌≡◌, ◌≤◌, length};
+ghost use Rattle.std.specs.Prelude.{◌≡◌, ◌+◌, ◌≤◌, length, None};
 ghost use Rattle.commit_hub.specs.Pages.{ForAccepted, ForDurable, ForCosts, IsWhole};
 
 use crate::calls::*;
 use crate::ends::{abandons, closes, fails, settles_some};
-use crate::rows::{journal_of, new_desk, request};
+use crate::rows::{desk_behind, journal_of, new_desk, request};
 use commit_hub::{Blanks, Hub, Node, Tie, Whole};
 use group_commit::{Desk, Ticket};
 use ring_records::{Refusal, Shown};
@@ -34,6 +34,8 @@ enum Case {
     LandsAnother,
     /// Requests of each kind are taken.
     Answers,
+    /// Its desk was opened with a summary.
+    GoesOn,
     /// The device fails with a batch.
     Fails,
     /// Its flusher goes on no more.
@@ -108,7 +110,8 @@ fn answers<A: Node, D: Whole, C: Whole, R: Wait + Abort>(rt: &R, hub: &Hub<A, D,
     shows_three(rt, hub);
 }
 
-/// An open hub shows a node that stood, took a message of 29 bytes and heard of a credit, none of it durable.
+/// An open hub shows a node that stood, took a message of 29 bytes and heard of a credit, none of it durable, behind a
+/// snapshot of 38 bytes.
 fn shows_three<A: Node, D: Whole, C: Whole, R: Wait + Abort>(rt: &R, hub: &Hub<A, D, C>) {
     let look = hub.look(rt);
     let shown = Shown {
@@ -119,7 +122,7 @@ fn shows_three<A: Node, D: Whole, C: Whole, R: Wait + Abort>(rt: &R, hub: &Hub<A
         credit: 1,
     };
     assert!(rt; look.shown == shown);
-    assert!(rt; look.used == 20 + 29 + 16 && look.capacity == 4096);
+    assert!(rt; look.used == 38 + 20 + 29 + 16 && look.capacity == 4096);
     assert!(rt; look.stands == 1 && look.is_open);
 }
 
@@ -176,6 +179,32 @@ fn lands_another<A: Node, D: Whole, C: Whole, R: Wait + Abort + AllocGlobal>(
     redeems(rt, hub, ticket);
 }
 
+/// A hub round a desk whose opening summarises a Stand in 65 bytes counts that: its next input is the second, and behind
+/// the first one.
+fn goes_on<A: Node, D: Whole, C: Whole, R: Wait + Abort + AllocGlobal>(
+    rt: &R,
+    hub: Hub<A, D, C>,
+    tie: &mut Tie<A, D, C>,
+)
+    requires { IsWhole D.all D.parts × IsWhole C.all C.parts }
+{
+    let mut journal = journal_of(rt);
+    commits(rt, &mut journal, other_batch(rt)).into_parts();
+    let mut share = hub.enter(rt).expect(rt, "a place");
+    let ticket = asks(rt, &hub, &mut share, Ask::Stand("red", 6, 10));
+    assert!(rt; ticket.number() == 2 && share.count() == 1);
+    let look = hub.look(rt);
+    assert!(rt; look.shown.inputs == 2 && look.shown.durable == 1);
+    assert!(rt; look.used == 65 + 20 && look.stands == 2);
+    flushes(rt, &hub, tie, &mut journal);
+    redeems(rt, &hub, ticket);
+    let shares = Vec::from_array(rt.alloc(), [share]).expect(rt, "ample memory");
+    match hub.settle(shares) {
+        Ok(desk) => assert!(rt; desk.durable() == 2 && desk.history().len() == 1),
+        Err(_) => panic!(rt; "not settled"),
+    }
+}
+
 /// Does with a hub what the case says. What is given is a ticket of it.
 fn on_hub<A: Node, D: Whole, C: Whole, R: Wait + Abort + AllocGlobal>(
     rt: &R,
@@ -183,8 +212,11 @@ fn on_hub<A: Node, D: Whole, C: Whole, R: Wait + Abort + AllocGlobal>(
     blanks: Blanks,
     case: Case,
 ) -> Option<Ticket>
-    requires member { desk.member ≡ A.member }
-    requires opened { length desk.state.inputs ≡ A.opened }
+    requires member { desk.view.member ≡ A.member }
+    requires opening { desk.opening ≡ A.opening }
+    requires base { desk.view.state.base ≡ A.base }
+    requires none { desk.view.state.checkpoint ≡ None }
+    requires opened { desk.opening.inputs + length desk.view.state.inputs ≡ A.opened }
     requires accepted { ForAccepted blanks A.name A.parts }
     requires durable { ForDurable blanks D.name D.parts × IsWhole D.all D.parts }
     requires costs { ForCosts blanks C.name C.parts × IsWhole C.all C.parts }
@@ -205,6 +237,7 @@ fn on_hub<A: Node, D: Whole, C: Whole, R: Wait + Abort + AllocGlobal>(
         Case::LaunchesTwice => launches_twice(rt, &hub, &mut tie),
         Case::LandsAnother => lands_another(rt, &hub, &mut tie),
         Case::Answers => answers(rt, &hub),
+        Case::GoesOn => goes_on(rt, hub, &mut tie),
         Case::Fails => fails(rt, &hub, &mut tie),
         Case::Abandons => abandons(rt, &hub, &mut tie),
         Case::Closes => closes(rt, &hub, &mut tie),
@@ -217,7 +250,10 @@ fn on_hub<A: Node, D: Whole, C: Whole, R: Wait + Abort + AllocGlobal>(
 fn plays<R: Wait + Abort + AllocGlobal>(rt: &R, run: u64, places: u32, case: Case) -> Option<Ticket>
     requires { places ≤ 1000000 }
 {
-    let desk = new_desk(rt, 1, run);
+    let desk = match &case {
+        Case::GoesOn => desk_behind(rt),
+        _ => new_desk(rt, 1, run),
+    };
     let blanks = Blanks::new(places);
     on_hub::<Brand, Brand, Brand, R>(rt, desk, blanks, case)
 }
@@ -268,6 +304,12 @@ fn one_batch_flies(rt: HostRuntime) -> Result<(), Fail> {
 #[test]
 fn an_open_hub_takes_requests(rt: HostRuntime) -> Result<(), Fail> {
     ends(&rt, 1, Case::Answers);
+    Ok(())
+}
+
+#[test]
+fn a_hub_goes_on_from_a_summary(rt: HostRuntime) -> Result<(), Fail> {
+    ends(&rt, 1, Case::GoesOn);
     Ok(())
 }
 

@@ -1,8 +1,12 @@
 // What hubs are given and give. All numbers and names of rows are in their ranges.
+ghost use Rattle.std.specs.Prelude.{◌≡◌, None};
+ghost use Rattle.ring_records.specs.Snapshot.{IsSound};
+
 use disk_model::{FuseDevice, MemDevice};
-use gated_journal::Journal;
+use gated_journal::{Journal, Opening, device_size};
 use group_commit::Desk;
-use ring_records::{NodeNo, Request};
+use ring_records::laws::summary_sound;
+use ring_records::{NodeNo, Request, read_summary};
 use std::alloc::AllocGlobal;
 use std::process::Abort;
 use test_rows::Ask;
@@ -15,15 +19,50 @@ pub fn request(rt: &impl Abort, ask: Ask) -> Request {
     ask.request().expect(rt, "a request")
 }
 
+/// What a new journal holds: no inputs.
+fn opening<R: AllocGlobal>(rt: &R) -> Opening
+    ensures { IsSound 3 result.base }
+{
+    summary_sound();
+    Opening::fresh(rt.alloc())
+}
+
 /// The desk of this node of 3, capacity 4,096, at this opening, with no inputs.
-pub fn new_desk<R: Abort + AllocGlobal>(rt: &R, number: u8, run: u64) -> Desk {
-    let inputs = Vec::new(rt.alloc());
-    Desk::open(rt.alloc(), node(rt, number), 3, 4096, run, inputs).expect(rt, "no inputs")
+pub fn new_desk<R: Abort + AllocGlobal>(rt: &R, number: u8, run: u64) -> Desk
+    ensures { result.view.state.checkpoint ≡ None }
+{
+    Desk::open(rt.alloc(), node(rt, number), 3, 4096, run, opening(rt)).expect(rt, "no inputs")
+}
+
+/// The snapshot of a Stand of node 1, group `red`, term 5, bid 10. It is 65 bytes long.
+const STOOD: [u8; 65] = [
+    0, 0, 0, 0, 0, 0, 0, 1, 0, 0, 0, 0, 0, 0, 0, 0, 0, 0, 0, 0, 0, 0, 0, 0, 0, 0, 0, 0, 0, 0, 0, 1,
+    0, 1, 0, 0, 0, 1, 3, 0x72, 0x65, 0x64, 0, 0, 0, 5, 1, 0, 0, 0, 10, 2, 3, 0x72, 0x65, 0x64, 0,
+    0, 0, 5, 0, 0, 0, 10, 1,
+];
+
+/// What a journal holds that summarises a Stand: no inputs behind it.
+fn opening_behind<R: Abort + AllocGlobal>(rt: &R) -> Opening
+    ensures { IsSound 3 result.base }
+{
+    Opening {
+        layout: 2,
+        epoch: 2,
+        base: read_summary(rt.alloc(), &STOOD, 3).expect(rt, "a snapshot"),
+        inputs: Vec::new(rt.alloc()),
+    }
+}
+
+/// The desk of node 1 of 3, capacity 4,096, whose opening summarises a Stand.
+pub fn desk_behind<R: Abort + AllocGlobal>(rt: &R) -> Desk
+    ensures { result.view.state.checkpoint ≡ None }
+{
+    Desk::open(rt.alloc(), node(rt, 1), 3, 4096, 0, opening_behind(rt)).expect(rt, "no inputs")
 }
 
 /// A device that holds nothing, with room for a journal of capacity 4,096.
 pub fn empty_device<R: Abort + AllocGlobal>(rt: &R) -> MemDevice {
-    MemDevice::new(rt.alloc(), 17 + 4096).expect(rt, "ample memory")
+    MemDevice::new(rt.alloc(), device_size(4096) as usize).expect(rt, "ample memory")
 }
 
 /// A new journal of node 1 of 3, capacity 4,096.

@@ -1,6 +1,7 @@
 use Rattle.std.proofs.Common.{rules, ◌≡◌, subst, IfOk, IfSome, ◌+◌, ◌≤◌}
+use Rattle.ring_records.specs.Admission.{costs_of as costs_in, used}
+use Rattle.ring_records.specs.Member.{Member}
 use Rattle.ring_records.specs.States.{durable_in}
-use Rattle.ring_records.specs.Member.{Member, used_by}
 use Rattle.gated_journal.specs.Batch.{shown as batch_shown}
 use Rattle.commit_hub.specs.Holders.{costs_of}
 use Rattle.commit_hub.proofs.Batches.{room_left}
@@ -9,6 +10,6 @@ use Rattle.commit_hub.proofs.locked.Locked.launch.Goals as goal
 pub returns-clause-room : goal.returns-clause-room
 returns-clause-room g c =
     let old = c.args.self.now in
-    let costs : costs_of c.args.tie.now ≡ used_by (durable_in old.shared.desk.state) = search rules in
-    let room = room_left c.launch.result (costs_of c.args.tie.now) _ _ old.shared.desk c.launch.new.self old.lawful old.plain old.counts costs c.launch.ensures.next c.launch.ensures.batch in
-    subst (λ (m : Member). IfOk c.launch.result (λ some. IfSome some (λ batch. costs_of c.args.tie.now + used_by (batch_shown batch).inputs ≤ m.capacity))) old.of room
+    let costs : costs_of c.args.tie.now ≡ used old.shared.desk.view.state.base (durable_in old.shared.desk.view.state) = search rules in
+    let room = room_left c.launch.result (costs_of c.args.tie.now) _ _ old.shared.desk c.launch.new.self old.none old.counts costs c.launch.ensures.next c.launch.ensures.batch c.launch.ensures.fits in
+    subst (λ (m : Member). IfOk c.launch.result (λ some. IfSome some (λ batch. costs_of c.args.tie.now + costs_in (batch_shown batch).inputs ≤ m.capacity))) old.of room

@@ -1,26 +1,31 @@
-use Rattle.std.proofs.Common.{rules, ◌≡◌, length, sym, ap, ◌∙◌}
-use Rattle.ring_records.specs.States.{durable_in, gained_by}
-use Rattle.ring_records.specs.Member.{used_by}
-use Rattle.group_commit.specs.Desk.{DeskView, submitted}
+use Rattle.std.proofs.Common.{rules, ◌≡◌, ◌+◌, [], length, sym, ap, ◌∙◌}
+use Rattle.std.specs.List.{cons_option}
+use Rattle.ring_records.specs.Admission.{used}
+use Rattle.ring_records.specs.States.{durable_in}
+use Rattle.group_commit.specs.Desk.{DeskKept, IsSubmitted, with_ticket}
+use Rattle.group_commit.specs.Ticket.{shown}
 use Rattle.commit_hub.proofs.Requests.{durable_stays, grows}
 use Rattle.commit_hub.proofs.locked.Locked.submit.Goals as goal
 
 pub invariant_of-self-in-Ok : goal.invariant_of-self-in-Ok
 invariant_of-self-in-Ok g c =
     let old = c.args.self.now in
-    let m = old.shared.desk.member in
-    let next : c.submit.new.self ≡ submitted c.args.question old.shared.desk = c.in-Ok.ensures.next in
-    let more = gained_by m old.shared.desk.state c.args.question in
-    let grown = grows c.args.question old.shared.desk c.submit.new.self next in
-    let counted : c.add.new.self.total ≡ length c.submit.new.self.state.inputs = search (rules, grown) in
+    let desk = old.shared.desk in
+    let s : IsSubmitted c.args.question desk c.submit.new.self (shown c.in-Ok.ticket) = c.in-Ok.ensures.submitted in
+    let next : c.submit.new.self ≡ record desk { view = with_ticket s.given s.more desk.view } = s.next in
+    let grown = grows c.args.question desk c.submit.new.self (shown c.in-Ok.ticket) s in
+    let from : c.submit.new.self.opening.inputs ≡ desk.opening.inputs = ap (λ (d : DeskKept). d.opening.inputs) next in
+    let counted : c.add.new.self.total ≡ c.submit.new.self.opening.inputs + length c.submit.new.self.view.state.inputs = search (rules, grown, from) in
     record {
-      of = ap (λ (d : DeskView). d.member) next ∙ old.of;
-      lawful = search rules;
-      counts = c.history.ensures.counts;
-      plain = c.history.ensures.plain;
+      of = ap (λ (d : DeskKept). d.view.member) next ∙ old.of;
+      opening = ap (λ (d : DeskKept). d.opening) next ∙ old.opening;
+      base = ap (λ (d : DeskKept). d.view.state.base) next ∙ old.base;
+      none = ap (λ (d : DeskKept). d.view.state.checkpoint) next ∙ old.none;
+      counts = c.accepted.ensures.counts;
       counted = counted;
       first_is = old.first_is;
       spare_is = old.spare_is;
-      durable_is = old.durable_is ∙ sym (ap (λ (d : DeskView). d.state.durable) next);
-      costs_is = old.costs_is ∙ sym (ap (λ (d : DeskView). used_by (durable_in d.state)) next ∙ ap used_by (durable_stays old.shared.desk.state more old.counts));
+      durable_is = old.durable_is ∙ sym (ap (λ (d : DeskKept). d.opening.inputs + d.view.state.durable) next);
+      costs_is = old.costs_is
+          ∙ sym (ap (λ (d : DeskKept). used d.view.state.base (durable_in d.view.state)) next ∙ ap (used desk.view.state.base) (durable_stays desk.view.state (cons_option s.more []) old.counts));
     }
