@@ -3,17 +3,20 @@ use Rattle.std.specs.Prelude.{ℕ, ◌≡◌, ◌≤◌, ◌+◌, ◌⊎◌, Lis
 use mathlib.Core.List.{IsPrefix}
 use Rattle.ring_records.specs.declared.candidate.Candidate.{Candidate}
 use Rattle.ring_records.specs.declared.decision.Decision.{Decision}
+use Rattle.ring_records.specs.declared.input.Input.{Input}
 use Rattle.ring_records.specs.declared.refusal.Refusal.{Refusal}
 use Rattle.ring_records.specs.declared.refusal.Refusal.TheVariants as refused
 use Rattle.ring_records.specs.declared.reply.Reply.{Reply}
 use Rattle.ring_records.specs.declared.reply.Reply.TheVariants as replied
 use Rattle.ring_records.specs.declared.request.Request.{Request}
 use Rattle.ring_records.specs.declared.request.Request.TheVariants.{Stand, Take, Acked, Who, Latest}
+use Rattle.ring_records.specs.declared.summary.Summary.{Summary}
 use Rattle.ring_records.specs.Answer.{Answered}
 use Rattle.ring_records.specs.Content.{leader_in, leads_in}
 use Rattle.ring_records.specs.Leader.{IsLatest}
-use Rattle.ring_records.specs.Member.{Member, member}
+use Rattle.ring_records.specs.Member.{Member}
 use Rattle.group_commit.specs.Desk.{IsAnswer}
+use Rattle.group_commit.specs.Past.{IsPast}
 use Rattle.decision_board.specs.Boards.{seen, learned}
 use Rattle.commit_hub.specs.Holders.{count_of}
 use Rattle.commit_hub.specs.declared.ledgers.Node as node
@@ -45,13 +48,13 @@ module _ {R J A D C : Type 0} {a : node.Ghosts A} {d : whole.Ghosts D} {c : whol
   CountsOne old new = (count_of (share_of old) ≤ count_of (share_of new)) × (count_of (share_of new) ≤ count_of (share_of old) + 1)
 
   -- A question was answered by the hub: the reply is that of the last stub, which has this question. A node with some
-  -- lawful history answers so.
-  pub record IsReleased (member : Member) (old : HubService R J A D C a d c) (q : Request) (reply : Reply) (new : HubService R J A D C a d c) : Type 0 where
+  -- lawful history answers so, behind each past of which its opening is the summary.
+  pub record IsReleased (member : Member) (opening : Summary) (old : HubService R J A D C a d c) (q : Request) (reply : Reply) (new : HubService R J A D C a d c) : Type 0 where
     pub given : Answered
     pub last : last_of new ≡ Some given
     pub question : given.question ≡ q
     pub is : reply ≡ given.answer.reply
-    pub answer : IsAnswer member given
+    pub answer : (past : List Input) → IsPast member opening past → IsAnswer member past given
     pub board : reader_of new ≡ reader_of old
     pub counts : CountsOne old new
 
@@ -75,12 +78,12 @@ module _ {R J A D C : Type 0} {a : node.Ghosts A} {d : whole.Ghosts D} {c : whol
   IsOver old why new = (why ≡ refused.NoPlace) × (new ≡ old)
 
   -- A Stand is answered by the hub, a question for leaders by the board. Nothing else is asked.
-  abbrev pub HubAnswers : Member → HubService R J A D C a d c → Request → Answer → HubService R J A D C a d c → Type 0
-  HubAnswers member old (Stand key bid) (Ok reply) new = IsReleased member old (Stand key bid) reply new
-  HubAnswers member old (Stand key bid) (Err why) new = IsUnreleased old why new
-  HubAnswers member old (Who key) (Ok reply) new = (reply ≡ replied.Leader (leader_in (seen (reader_of new)) key)) × IsRead old new
-  HubAnswers member old (Who key) (Err why) new = IsOver old why new
-  HubAnswers member old (Latest group) (Ok reply) new = IsLatestReply group reply (seen (reader_of new)) × IsRead old new
-  HubAnswers member old (Latest group) (Err why) new = IsOver old why new
-  HubAnswers member old (Take number msg) answer new = ⊥
-  HubAnswers member old (Acked upto) answer new = ⊥
+  abbrev pub HubAnswers : Member → Summary → HubService R J A D C a d c → Request → Answer → HubService R J A D C a d c → Type 0
+  HubAnswers member opening old (Stand key bid) (Ok reply) new = IsReleased member opening old (Stand key bid) reply new
+  HubAnswers member opening old (Stand key bid) (Err why) new = IsUnreleased old why new
+  HubAnswers member opening old (Who key) (Ok reply) new = (reply ≡ replied.Leader (leader_in (seen (reader_of new)) key)) × IsRead old new
+  HubAnswers member opening old (Who key) (Err why) new = IsOver old why new
+  HubAnswers member opening old (Latest group) (Ok reply) new = IsLatestReply group reply (seen (reader_of new)) × IsRead old new
+  HubAnswers member opening old (Latest group) (Err why) new = IsOver old why new
+  HubAnswers member opening old (Take number msg) answer new = ⊥
+  HubAnswers member opening old (Acked upto) answer new = ⊥

@@ -1,7 +1,10 @@
 //! The board of a node that is opened.
-ghost use Rattle.std.specs.Prelude.{◌≡◌, ◌≤◌, [], IfOk, IfErr};
+ghost use Rattle.std.specs.Prelude.{◌≡◌, ◌≤◌, [], List, IfOk, IfErr};
+ghost use Rattle.ring_records.specs.declared.input.Input.{Input};
 ghost use Rattle.ring_records.specs.States.{durable_in};
 ghost use Rattle.ring_records.specs.Release.{AreLeaders};
+ghost use Rattle.group_commit.specs.Desk.{seen};
+ghost use Rattle.group_commit.specs.Past.{IsPast};
 ghost use Rattle.decision_board.specs.Boards.{published, pending};
 
 use decision_board::{Board, Naming, Opened};
@@ -19,7 +22,8 @@ pub fn opened_board<J: Naming>(
 ) -> Result<Board<J>, Refusal>
     requires history { opened ≡ J.book }
     requires readers { (1 ≤ readers) × (readers ≤ 32) }
-    ensures leaders { IfOk result (λ board. AreLeaders desk.now.member.node (durable_in desk.now.state) (published board)) }
+    ensures leaders { IfOk result (λ board. (past : List Input) → IsPast desk.now.view.member desk.now.opening past
+        → AreLeaders desk.now.view.member.node (durable_in (seen past desk.now).state) (published board)) }
     ensures pending { IfOk result (λ board. pending board ≡ []) }
     ensures refusal { IfErr result (λ why. why ≡ Refusal.OutOfMemory) }
 {

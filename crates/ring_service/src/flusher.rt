@@ -1,12 +1,12 @@
 //! The flusher's end of a hub.
-ghost use Rattle.std.specs.Prelude.{◌≡◌, ◌+◌, ◌-◌, ◌<◌, ◌≤◌, ◌⊎◌, ◌++◌, [], List, true, false, is_err, length, IfOk, IfErr, IfSome, IfNone, IsErrOf, OnErr, OnOk};
+ghost use Rattle.std.specs.Prelude.{◌≡◌, ◌+◌, ◌-◌, ◌<◌, ◌≤◌, ◌⊎◌, ◌++◌, [], true, false, is_err, length, IfOk, IfErr, IfSome, IfNone, IsErrOf, OnErr, OnOk};
 ghost use mathlib.Core.List.{IsPrefix};
-ghost use Rattle.ring_records.specs.declared.input.Input.{Input};
-ghost use Rattle.ring_records.specs.Member.{used_by};
+ghost use Rattle.ring_records.specs.Admission.{costs_of as costs_in};
 ghost use Rattle.disk_model.specs.Disk.{LeavesOnly, Reaches};
+ghost use Rattle.gated_journal.specs.Areas.{AllReadAs, ReadsAsOneOf};
 ghost use Rattle.gated_journal.specs.Batch.{shown};
 ghost use Rattle.gated_journal.specs.Journal.{device_of, member_of, len_of, room_of, is_spoiled};
-ghost use Rattle.gated_journal.specs.Reading.{device_size, AllReadAs, ReadsAsOneOf};
+ghost use Rattle.gated_journal.specs.Reading.{Reading, device_size, with_more};
 ghost use Rattle.gated_journal.specs.Unread.{IsFault};
 ghost use Rattle.decision_board.specs.Boards.{published, pending};
 ghost use Rattle.commit_hub.specs.Holders.{durable_of, costs_of};
@@ -85,7 +85,7 @@ impl<V: Device, J: Naming, A: Node, D: Whole, C: Whole> Flusher<V, J, A, D, C> {
         gate: &mut G,
     ) -> Result<Option<Landed>, Refusal>
         requires whole { IsWhole D.all D.parts × IsWhole C.all C.parts }
-        ensures round { IfOk result (λ some. IfSome some (λ landed. IsRound A.member (V.disk (device_in self.old)) (V.disk (device_in self.new)) (len_of (journal_of self.old)) landed)) }
+        ensures round { IfOk result (λ some. IfSome some (λ landed. IsRound A.member A.opening A.base (V.disk (device_in self.old)) (V.disk (device_in self.new)) (len_of (journal_of self.old)) landed)) }
         ensures told { IfOk result (λ some. IfSome some (λ landed. told_to self.new ≡ told_to self.old ++ landed.decisions.items)) }
         ensures published { IsPrefix (published (board_of self.old)) (published (board_of self.new)) }
         ensures pending { is_published self.new ≡ true → pending (board_of self.new) ≡ [] }
@@ -105,9 +105,9 @@ impl<V: Device, J: Naming, A: Node, D: Whole, C: Whole> Flusher<V, J, A, D, C> {
         ensures goes_on { OnOk result (has_ended self.new ≡ false) }
         ensures ended { has_ended self.old ≡ true → IsErrOf result Refusal.Failed }
 
-        // A stop at any moment leaves the journal's list, or also the inputs of the batch.
-        ensures any_moment { has_ended self.old ≡ false → (list : List Input) → AllReadAs A.member (V.disk (device_in self.old)) list
-            → IsStopped V.clock V.left_since (device_in self.old) (device_in self.new) A.member list }
+        // A stop at any moment leaves what the journal read as, or also the inputs of the batch.
+        ensures any_moment { has_ended self.old ≡ false → (r : Reading) → AllReadAs A.member (V.disk (device_in self.old)) r
+            → IsStopped V.clock V.left_since (device_in self.old) (device_in self.new) A.member r }
     {
         if self.has_ended {
             return Err(Refusal::Failed);
@@ -184,13 +184,13 @@ fn settle<V: Device, A: Node, D: Whole, C: Whole, R: Wait>(
     requires node { (shown batch).node ≡ A.member.node }
     requires first { (shown batch).first ≡ len_of journal.old }
     requires len { len_of journal.old ≡ durable_of tie.old }
-    requires used { costs_of tie.old + used_by (shown batch).inputs ≤ A.member.capacity }
+    requires used { costs_of tie.old + costs_in (shown batch).inputs ≤ A.member.capacity }
     requires room { room_of journal.old ≡ A.member.capacity - costs_of tie.old }
     ensures count { IfOk result (λ landed. landed.count ≡ length (shown batch).inputs) }
-    ensures brought { IfOk result (λ landed. IsBrought A.member (len_of journal.old) (shown batch).inputs landed) }
+    ensures brought { IfOk result (λ landed. IsBrought A.member A.opening A.base (len_of journal.old) (shown batch).inputs landed) }
     ensures few { IfOk result (λ landed. length landed.decisions.items ≤ BATCH_INPUTS) }
-    ensures durable { OnOk result ((list : List Input) → AllReadAs A.member (V.disk (device_of journal.old)) list
-        → AllReadAs A.member (V.disk (device_of journal.new)) (list ++ (shown batch).inputs)) }
+    ensures durable { OnOk result ((r : Reading) → AllReadAs A.member (V.disk (device_of journal.old)) r
+        → AllReadAs A.member (V.disk (device_of journal.new)) (with_more r (shown batch).inputs)) }
     ensures ready { OnOk result (is_spoiled journal.new ≡ false) }
     ensures member { member_of journal.new ≡ A.member }
     ensures len { OnOk result (len_of journal.new ≡ durable_of tie.new) }
@@ -199,8 +199,8 @@ fn settle<V: Device, A: Node, D: Whole, C: Whole, R: Wait>(
     ensures spoiled { IfErr result (λ why. IsFault (V.count (device_of journal.old)) (V.count (device_of journal.new)) why → is_spoiled journal.new ≡ true) }
     ensures foreign { IfErr result (λ why. why ≡ Refusal.Foreign → IsSpent (len_of journal.old) (len_of journal.new) (is_spoiled journal.new)) }
     ensures in_reach { Reaches (V.reach (device_of journal.old)) (device_size A.member.capacity) → IfErr result (λ why. why ≡ Refusal.Foreign) }
-    ensures any_moment { (list : List Input) → AllReadAs (member_of journal.old) (V.disk (device_of journal.old)) list
-        → LeavesOnly V.clock V.left_since (device_of journal.old) (device_of journal.new) (ReadsAsOneOf (member_of journal.old) list (list ++ (shown batch).inputs)) }
+    ensures any_moment { (r : Reading) → AllReadAs (member_of journal.old) (V.disk (device_of journal.old)) r
+        → LeavesOnly V.clock V.left_since (device_of journal.old) (device_of journal.new) (ReadsAsOneOf (member_of journal.old) r (with_more r (shown batch).inputs)) }
 {
     match journal.commit(batch) {
         Ok(receipt) => match hub.land(rt, tie, receipt) {

@@ -71,7 +71,7 @@ impl<'a, R: Wait, J: Naming, A: Node, D: Whole, C: Whole> Service
     for HubService<'a, R, J, A, D, C> {
     ghost use Rattle.ring_service.specs.Services.{HubAnswers};
 
-    ghost answers = { HubAnswers A.member };
+    ghost answers = { HubAnswers A.member A.opening };
 
     fn stand(&mut self, key: Key, bid: Bid) -> Result<Reply, Refusal> {
         match self

@@ -1,7 +1,8 @@
 // Two appenders beside a flusher, each in a thread of its own.
-ghost use Rattle.std.specs.Prelude.{◌≡◌, ◌-◌, false, length};
+ghost use Rattle.std.specs.Prelude.{◌≡◌, ◌+◌, ◌-◌, false, length, None};
+ghost use Rattle.ring_records.specs.Admission.{used};
+ghost use Rattle.ring_records.specs.Snapshot.{IsSound};
 ghost use Rattle.ring_records.specs.States.{durable_in};
-ghost use Rattle.ring_records.specs.Member.{used_by};
 ghost use Rattle.gated_journal.specs.Journal.{member_of, len_of, room_of, is_spoiled};
 ghost use Rattle.commit_hub.specs.Pages.{places_of, ForAccepted, ForDurable, ForCosts, IsWhole};
 
@@ -11,8 +12,9 @@ use crate::slow::{Flags, SlowDevice, await_flag};
 use commit_hub::{Blanks, Hub, Node, Share, Whole};
 use decision_board::{Board, Naming, Opened};
 use disk_model::{Device, FuseDevice};
-use gated_journal::Journal;
+use gated_journal::{Journal, Opening};
 use group_commit::{Desk, Stub};
+use ring_records::laws::summary_sound;
 use ring_records::{Refusal, Request};
 use ring_service::Flusher;
 use std::alloc::{AllocGlobal, Global};
@@ -80,17 +82,20 @@ fn play<
     blanks: Blanks,
     asks: &[Request; 2],
 ) -> Outcome<V>
-    requires member { desk.member ≡ A.member }
-    requires opened { length desk.state.inputs ≡ A.opened }
+    requires member { desk.view.member ≡ A.member }
+    requires opening { desk.opening ≡ A.opening }
+    requires base { desk.view.state.base ≡ A.base }
+    requires none { desk.view.state.checkpoint ≡ None }
+    requires opened { desk.opening.inputs + length desk.view.state.inputs ≡ A.opened }
     requires history { opened ≡ J.book }
     requires accepted { ForAccepted blanks A.name A.parts }
     requires durable { ForDurable blanks D.name D.parts × IsWhole D.all D.parts }
     requires costs { ForCosts blanks C.name C.parts × IsWhole C.all C.parts }
     requires places { places_of blanks ≡ 2 }
     requires ready { is_spoiled journal ≡ false }
-    requires header { member_of journal ≡ desk.member }
-    requires len { len_of journal ≡ desk.state.durable }
-    requires room { room_of journal ≡ desk.member.capacity - used_by (durable_in desk.state) }
+    requires header { member_of journal ≡ desk.view.member }
+    requires len { len_of journal ≡ desk.opening.inputs + desk.view.state.durable }
+    requires room { room_of journal ≡ desk.view.member.capacity - used desk.view.state.base (durable_in desk.view.state) }
 {
     let board = Board::<J>::new(alloc, opened, &[], 1).expect(rt, "ample memory");
     let (hub, tie) = Hub::<A, D, C>::new(desk, blanks);
@@ -147,13 +152,21 @@ fn vouches(rt: &impl Abort, desk: &Desk, stub: Result<Stub, Refusal>, say: Say) 
     }
 }
 
-/// The stub of a desk that holds another history, in which node 2 leads `red` 5.
-fn other_stub<R: Abort + AllocGlobal>(rt: &R) -> Stub {
-    let mut inputs = Vec::new(rt.alloc());
+/// What a journal holds in which node 2 leads `red` 5.
+fn other_opening<R: Abort + AllocGlobal>(rt: &R) -> Opening
+    ensures { IsSound 3 result.base }
+{
+    summary_sound();
     let taken = Op::Take(0, Note::Elected("red", 5, 30, 2));
     let input = taken.input().expect(rt, "an input");
-    inputs.push(input).expect(rt, "ample memory");
-    let desk = Desk::open(rt.alloc(), node(rt, 1), 3, 4096, 1, inputs);
+    let mut opening = Opening::fresh(rt.alloc());
+    opening.inputs.push(input).expect(rt, "ample memory");
+    opening
+}
+
+/// The stub of a desk that holds another history.
+fn other_stub<R: Abort + AllocGlobal>(rt: &R) -> Stub {
+    let desk = Desk::open(rt.alloc(), node(rt, 1), 3, 4096, 1, other_opening(rt));
     let mut desk = desk.expect(rt, "lawful inputs");
     let question = request(rt, Ask::Latest("red"));
     match desk.submit(question) {
@@ -168,7 +181,7 @@ fn other_stub<R: Abort + AllocGlobal>(rt: &R) -> Stub {
 /// The journal, opened again, holds the desk's inputs.
 fn holds<V: Device + Drop, R: Abort + AllocGlobal>(rt: &R, journal: Journal<V>, desk: &Desk) {
     match Journal::reopen(rt.alloc(), journal.into_device(), node(rt, 1), 3) {
-        Ok((_, inputs)) => assert_eq!(rt; inputs.as_slice(), desk.history()),
+        Ok((_, opening)) => assert_eq!(rt; opening.inputs.as_slice(), desk.history()),
         Err((_device, refusal)) => panic!(rt; "{refusal}"),
     }
 }

@@ -1,7 +1,7 @@
 // A reader that reads while the publisher's round is held before its commit, each in a thread of its own.
-ghost use Rattle.std.specs.Prelude.{◌≡◌, ◌-◌, false, length};
+ghost use Rattle.std.specs.Prelude.{◌≡◌, ◌+◌, ◌-◌, false, length, None};
+ghost use Rattle.ring_records.specs.Admission.{used};
 ghost use Rattle.ring_records.specs.States.{durable_in};
-ghost use Rattle.ring_records.specs.Member.{used_by};
 ghost use Rattle.gated_journal.specs.Journal.{member_of, len_of, room_of, is_spoiled};
 ghost use Rattle.commit_hub.specs.Pages.{ForAccepted, ForDurable, ForCosts, IsWhole};
 
@@ -111,16 +111,19 @@ fn play<
     blanks: Blanks,
     asks: &[Request; 2],
 ) -> Seen
-    requires member { desk.member ≡ A.member }
-    requires opened { length desk.state.inputs ≡ A.opened }
+    requires member { desk.view.member ≡ A.member }
+    requires opening { desk.opening ≡ A.opening }
+    requires base { desk.view.state.base ≡ A.base }
+    requires none { desk.view.state.checkpoint ≡ None }
+    requires opened { desk.opening.inputs + length desk.view.state.inputs ≡ A.opened }
     requires history { opened ≡ J.book }
     requires accepted { ForAccepted blanks A.name A.parts }
     requires durable { ForDurable blanks D.name D.parts × IsWhole D.all D.parts }
     requires costs { ForCosts blanks C.name C.parts × IsWhole C.all C.parts }
     requires ready { is_spoiled journal ≡ false }
-    requires header { member_of journal ≡ desk.member }
-    requires len { len_of journal ≡ desk.state.durable }
-    requires room { room_of journal ≡ desk.member.capacity - used_by (durable_in desk.state) }
+    requires header { member_of journal ≡ desk.view.member }
+    requires len { len_of journal ≡ desk.opening.inputs + desk.view.state.durable }
+    requires room { room_of journal ≡ desk.view.member.capacity - used desk.view.state.base (durable_in desk.view.state) }
 {
     let board = Board::<J>::new(alloc, opened, &[], 1).expect(rt, "ample memory");
     let mut reader = board.reader().expect(rt, "a place");

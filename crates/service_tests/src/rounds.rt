@@ -1,7 +1,7 @@
 // Rounds by calls: the one thread that the tests have is appender and flusher in turn.
-ghost use Rattle.std.specs.Prelude.{◌≡◌, ◌-◌, false, length};
+ghost use Rattle.std.specs.Prelude.{◌≡◌, ◌+◌, ◌-◌, false, length, None};
+ghost use Rattle.ring_records.specs.Admission.{used};
 ghost use Rattle.ring_records.specs.States.{durable_in};
-ghost use Rattle.ring_records.specs.Member.{used_by};
 ghost use Rattle.gated_journal.specs.Journal.{member_of, len_of, room_of, is_spoiled};
 ghost use Rattle.commit_hub.specs.Pages.{ForAccepted, ForDurable, ForCosts, IsWhole};
 
@@ -9,7 +9,7 @@ use crate::rows::{Latest, empty_device, group, key, latest, leader, node, reques
 use commit_hub::{Blanks, Hub, Node, Share, Whole};
 use decision_board::{Board, BoardReader, Naming, Opened};
 use disk_model::{Device, FuseDevice, MemDevice};
-use gated_journal::Journal;
+use gated_journal::{Journal, device_size};
 use group_commit::{Desk, Ticket};
 use ring_records::Refusal;
 use ring_service::{Flusher, Gate};
@@ -240,16 +240,19 @@ fn on_flusher<
     blanks: Blanks,
     case: Case,
 ) -> Result<(u64, bool, usize), Refusal>
-    requires member { desk.member ≡ A.member }
-    requires opened { length desk.state.inputs ≡ A.opened }
+    requires member { desk.view.member ≡ A.member }
+    requires opening { desk.opening ≡ A.opening }
+    requires base { desk.view.state.base ≡ A.base }
+    requires none { desk.view.state.checkpoint ≡ None }
+    requires opened { desk.opening.inputs + length desk.view.state.inputs ≡ A.opened }
     requires history { opened ≡ J.book }
     requires accepted { ForAccepted blanks A.name A.parts }
     requires durable { ForDurable blanks D.name D.parts × IsWhole D.all D.parts }
     requires costs { ForCosts blanks C.name C.parts × IsWhole C.all C.parts }
     requires ready { is_spoiled journal ≡ false }
-    requires header { member_of journal ≡ desk.member }
-    requires len { len_of journal ≡ desk.state.durable }
-    requires room { room_of journal ≡ desk.member.capacity - used_by (durable_in desk.state) }
+    requires header { member_of journal ≡ desk.view.member }
+    requires len { len_of journal ≡ desk.opening.inputs + desk.view.state.durable }
+    requires room { room_of journal ≡ desk.view.member.capacity - used desk.view.state.base (durable_in desk.view.state) }
 {
     let board = Board::<J>::new(rt.alloc(), opened, &[], 1)?;
     let mut reader = board.reader().expect(rt, "a place");
@@ -297,7 +300,7 @@ fn a_flusher_ends_with_its_device(rt: HostRuntime) -> Result<(), Fail> {
 
 /// Leaders are made known on a new device.
 fn grown<R: Wait + Abort + AllocGlobal>(rt: &R) -> Result<(u64, bool, usize), Refusal> {
-    match MemDevice::new(rt.alloc(), 17 + 4096) {
+    match MemDevice::new(rt.alloc(), device_size(4096) as usize) {
         Ok(device) => plays(rt, device, Case::Grows),
         Err(_) => Err(Refusal::OutOfMemory),
     }

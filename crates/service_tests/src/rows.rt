@@ -1,11 +1,11 @@
 // What nodes are given and give. All numbers and names of rows are in their ranges.
-ghost use Rattle.std.specs.Prelude.{◌≡◌, ◌-◌, false};
+ghost use Rattle.std.specs.Prelude.{◌≡◌, ◌+◌, ◌-◌, false, None};
+ghost use Rattle.ring_records.specs.Admission.{used};
 ghost use Rattle.ring_records.specs.States.{durable_in};
-ghost use Rattle.ring_records.specs.Member.{used_by};
 ghost use Rattle.gated_journal.specs.Journal.{member_of, len_of, room_of, is_spoiled};
 
 use disk_model::{Device, MemDevice};
-use gated_journal::Journal;
+use gated_journal::{Journal, device_size};
 use group_commit::Desk;
 use node_store::Node;
 use ring_records::{Bid, Candidate, GroupName, Key, NodeNo, Refusal, Reply, Request, Term};
@@ -55,15 +55,16 @@ pub fn latest(rt: &impl Abort, term: u32, bid: u32, node: u8) -> Latest {
 
 /// A device that holds nothing, with room for a journal of capacity 4,096.
 pub fn empty_device<R: Abort + AllocGlobal>(rt: &R) -> MemDevice {
-    MemDevice::new(rt.alloc(), 17 + 4096).expect(rt, "ample memory")
+    MemDevice::new(rt.alloc(), device_size(4096) as usize).expect(rt, "ample memory")
 }
 
 /// The desk and the journal of node 1 of 3, capacity 4,096, with no inputs, on this device.
 pub fn new_node<V: Device + Drop, R: Abort + AllocGlobal>(rt: &R, device: V) -> (Desk, Journal<V>)
     ensures ready { is_spoiled result.1 ≡ false }
-    ensures member { member_of result.1 ≡ result.0.member }
-    ensures len { len_of result.1 ≡ result.0.state.durable }
-    ensures room { room_of result.1 ≡ result.0.member.capacity - used_by (durable_in result.0.state) }
+    ensures member { member_of result.1 ≡ result.0.view.member }
+    ensures none { result.0.view.state.checkpoint ≡ None }
+    ensures len { len_of result.1 ≡ result.0.opening.inputs + result.0.view.state.durable }
+    ensures room { room_of result.1 ≡ result.0.view.member.capacity - used result.0.view.state.base (durable_in result.0.view.state) }
 {
     match Node::create(rt.alloc(), device, node(rt, 1), 3, 4096, 0) {
         Ok(made) => made.split(),

@@ -1,4 +1,4 @@
-use Rattle.std.specs.Prelude.{length}
+use Rattle.std.specs.Prelude.{◌+◌, length}
 use Rattle.service_tests.proofs.appenders.play_on.Given as goal
 
 -- the ledgers are named by the pages and the desk
@@ -7,7 +7,7 @@ abbrev pub ghosts-play-A-Ledger : goal.ghosts-play-A-Ledger
 ghosts-play-A-Ledger g a = record { name = a.blanks.accepted.name; parts = a.blanks.accepted.parts }
 
 abbrev pub ghosts-play-A-Node : goal.ghosts-play-A-Node
-ghosts-play-A-Node g a = record { member = a.desk.member; opened = length a.desk.state.inputs }
+ghosts-play-A-Node g a = record { member = a.desk.view.member; opening = a.desk.opening; base = a.desk.view.state.base; opened = a.desk.opening.inputs + length a.desk.view.state.inputs }
 
 abbrev pub ghosts-play-D-Ledger : goal.ghosts-play-D-Ledger
 ghosts-play-D-Ledger g a = record { name = a.blanks.durable.name; parts = a.blanks.durable.parts }

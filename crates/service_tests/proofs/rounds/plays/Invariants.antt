@@ -1,4 +1,4 @@
-use Rattle.std.specs.Prelude.{length}
+use Rattle.std.specs.Prelude.{◌+◌, length}
 use Rattle.service_tests.proofs.rounds.plays.Given as goal
 
 -- the ledgers are named by the pages and the desk
@@ -7,7 +7,7 @@ abbrev pub ghosts-on_flusher-A-Ledger : goal.ghosts-on_flusher-A-Ledger
 ghosts-on_flusher-A-Ledger g a = record { name = a.blanks.accepted.name; parts = a.blanks.accepted.parts }
 
 abbrev pub ghosts-on_flusher-A-Node : goal.ghosts-on_flusher-A-Node
-ghosts-on_flusher-A-Node g a = record { member = a.desk.member; opened = length a.desk.state.inputs }
+ghosts-on_flusher-A-Node g a = record { member = a.desk.view.member; opening = a.desk.opening; base = a.desk.view.state.base; opened = a.desk.opening.inputs + length a.desk.view.state.inputs }
 
 abbrev pub ghosts-on_flusher-D-Ledger : goal.ghosts-on_flusher-D-Ledger
 ghosts-on_flusher-D-Ledger g a = record { name = a.blanks.durable.name; parts = a.blanks.durable.parts }
