@@ -1,40 +1,29 @@
 -- A node that is asked, and flushed.
-use Rattle.std.proofs.Common.{ℕ, ◌≡◌, ◌+◌, ◌≤◌, ◌^◌, Bool, true, false, ◌||◌, nat_le, if◌then◌else◌, List, length, Option, Some, None, refl, sym, ap, ◌∙◌, arith}
+use Rattle.std.proofs.Common.{ℕ, ◌≡◌, ◌+◌, ◌≤◌, ◌^◌, Bool, true, false, ◌||◌, nat_le, if◌then◌else◌, [], ◌++◌, length, Option, Some, None, inl, inr, refl, sym, ap, ◌∙◌, arith}
 use Rattle.std.specs.Prelude.{is_some}
+use Rattle.std.specs.List.{cons_option}
 use Rattle.std.proofs.lemmas.Bool.{leb-true}
 use Rattle.std.proofs.lemmas.List.{length-append}
 use Rattle.std.proofs.lemmas.Option.{same_Some}
 use Rattle.ring_records.specs.declared.input.Input.{Input}
 use Rattle.ring_records.specs.declared.refusal.Refusal.{Refusal}
 use Rattle.ring_records.specs.declared.refusal.Refusal.TheVariants.{BadNumber, Failed, Limit}
-use Rattle.ring_records.specs.declared.request.Request.{Request}
-use Rattle.ring_records.specs.declared.base.Base.{Base}
-use Rattle.ring_records.specs.Admission.{refusal}
-use Rattle.group_commit.specs.Desk.{DeskView, kept_at, IsHere}
+use Rattle.group_commit.specs.Desk.{DeskKept, kept_at, IsHere, IsSealed}
 use Rattle.group_commit.specs.Ticket.{TicketView}
-use Rattle.ring_records.specs.Answer.{Answered, input_of, gained, if_free, if_input}
-use Rattle.ring_records.specs.Member.{Member}
-use Rattle.ring_records.specs.States.{NodeState, launched_base, gained_by, asked}
+use Rattle.ring_records.specs.Answer.{Answered}
+use Rattle.ring_records.specs.States.{NodeState}
 
-one_if_free : (o : Option Refusal) (x : Input) → length (if_free o x) ≤ 1
-one_if_free None x = omega arith
-one_if_free (Some r) x = omega arith
-
-one_if_input : (me n capacity : ℕ) (base : Base) (h : List Input) (o : Option Input) → length (if_input me n capacity base h o) ≤ 1
-one_if_input me n capacity base h None = omega arith
-one_if_input me n capacity base h (Some x) = one_if_free (refusal me n capacity base h x) x
-
-one_gained : (m : Member) (s : NodeState) (q : Request) → length (gained_by m s q) ≤ 1
-unfolding gained
-one_gained m s q = one_if_input m.node m.n m.capacity (launched_base s) s.inputs (input_of q)
+one_more : (o : Option Input) → length (cons_option o []) ≤ 1
+one_more None = omega arith
+one_more (Some x) = omega arith
 
 -- where nothing waited, at most one input waits behind a request
-pub one_waits : (m : Member) (s t : NodeState) (q : Request) → t ≡ asked m s q → length s.inputs ≡ s.durable → length t.inputs ≤ t.durable + 1
-one_waits m s t q e durable =
-    let one = one_gained m s q in
+pub one_waits : (s t : NodeState) (o : Option Input) → t ≡ record s { inputs = s.inputs ++ cons_option o [] } → length s.inputs ≡ s.durable → length t.inputs ≤ t.durable + 1
+one_waits s t o e durable =
+    let one = one_more o in
     let inputs = ap (λ v. length v.inputs) e in
     let same = ap (λ v. v.durable) e in
-    omega (arith, one, inputs, same, durable, length-append s.inputs (gained_by m s q))
+    omega (arith, one, inputs, same, durable, length-append s.inputs (cons_option o []))
 
 -- no number of a ticket is left
 no_number : (b : Bool) (why : Refusal) → (if b then Some Limit else None) ≡ Some why → (why ≡ Limit) × (b ≡ true)
@@ -55,10 +44,21 @@ none_of None e = refl
 none_of (Some x) e = cc
 
 -- a ticket that is open stays so where the tickets stay
-pub still_here : (old new : DeskView) (ticket : TicketView) (kept : Answered) → new ≡ record old { state = new.state; failed = new.failed } → IsHere old ticket kept → IsHere new ticket kept
+pub still_here : (old new : DeskKept) (ticket : TicketView) (kept : Answered) → new ≡ record old { view = record old.view { state = new.view.state; failed = new.view.failed } }
+    → IsHere old.view ticket kept → IsHere new.view ticket kept
 still_here old new ticket kept stays here = record {
-  node = here.node ∙ sym (ap (λ (d : DeskView). d.member.node) stays);
-  run = here.run ∙ sym (ap (λ (d : DeskView). d.run) stays);
-  own = ap (λ (d : DeskView). kept_at d ticket.own) stays ∙ here.own;
+  node = here.node ∙ sym (ap (λ (d : DeskKept). d.view.member.node) stays);
+  run = here.run ∙ sym (ap (λ (d : DeskKept). d.view.run) stays);
+  own = ap (λ (d : DeskKept). kept_at d.view ticket.own) stays ∙ here.own;
   question = here.question;
 }
+
+-- an open ticket whose reply rests on durable inputs is not sealed
+pub not_sealed : (desk : DeskKept) (ticket : TicketView) (why : Refusal) (kept : Answered) → IsHere desk.view ticket kept → kept.answer.number ≤ desk.opening.inputs + desk.view.state.durable
+    → IsSealed desk ticket why → ⊥
+not_sealed desk ticket why kept here low sealed = elim sealed.cause [
+  | inl foreign ↦ foreign.1 kept here
+  | inr early ↦
+      (let same : kept ≡ early.0 = same_Some kept early.0 (sym here.own ∙ early.1.own) in
+      omega (arith, low, early.2, ap (λ (a : Answered). a.answer.number) same))
+]

@@ -1,11 +1,13 @@
 -- What a service over one node answers.
-use Rattle.std.specs.Prelude.{◌≡◌, ◌⊎◌, ◌≤◌, ◌^◌, ℕ, Bool, true, false, List, is_some, Ok, Err}
+use Rattle.std.specs.Prelude.{◌≡◌, ◌⊎◌, ◌≤◌, ◌^◌, ℕ, Bool, true, false, List, [], ◌++◌, Option, is_some, Ok, Err}
+use Rattle.std.specs.List.{cons_option}
 use Rattle.disk_model.specs.declared.device.Device.{Ghosts}
 use Rattle.gated_journal.specs.Unread.{IsFault}
-use Rattle.group_commit.specs.Desk.{answered, submitted}
-use Rattle.node_store.specs.Node.{desk_of, state_of, device_of}
+use Rattle.group_commit.specs.Desk.{answered, seen}
+use Rattle.group_commit.specs.Past.{IsPast}
+use Rattle.node_store.specs.Node.{desk_of, member_of, state_of, device_of}
 use Rattle.node_store.specs.declared.node.Node.{Node}
-use Rattle.ring_records.specs.States.{opened}
+use Rattle.ring_records.specs.States.{gained_by, opened}
 use Rattle.ring_records.specs.declared.input.Input.{Input}
 use Rattle.ring_records.specs.declared.refusal.Refusal.{Refusal}
 use Rattle.ring_records.specs.declared.refusal.Refusal.TheVariants as refused
@@ -22,35 +24,42 @@ module _ {D : Type 0} {g : Ghosts D} where
   abbrev pub has_failed : SoloService D g → Bool
   has_failed s = is_some s.unanswered
 
-  -- the inputs of its node
+  -- the inputs of its node since the opening
   abbrev pub history : SoloService D g → List Input
   history s = (state_of s.node).inputs
 
-  -- what the node answers to the question after them
-  abbrev pub reply_to : SoloService D g → Request → Reply
-  reply_to s q = (answered (desk_of s.node) q).answer.reply
+  -- the node's opening is the summary of these inputs
+  abbrev pub HasPast : SoloService D g → List Input → Type 0
+  HasPast s past = IsPast (member_of s.node) (desk_of s.node).opening past
 
-  -- the inputs of its node with what the question asks it to accept, where that is admitted
-  abbrev pub history_with : SoloService D g → Request → List Input
-  history_with s q = (submitted q (desk_of s.node)).state.inputs
+  -- what the node answers to the question after all its inputs, behind this past
+  abbrev pub reply_to : List Input → SoloService D g → Request → Reply
+  reply_to past s q = (answered (seen past (desk_of s.node)) q).answer.reply
+
+  -- the inputs, one or none, that the question has the node accept then
+  abbrev pub gained_with : List Input → SoloService D g → Request → List Input
+  gained_with past s q = gained_by (member_of s.node) (seen past (desk_of s.node)).state q
 
   -- it is the same opening of the same node
   pub record IsSame (s t : SoloService D g) : Type 0 where
-    pub member : (desk_of t.node).member ≡ (desk_of s.node).member
-    pub run : (desk_of t.node).run ≡ (desk_of s.node).run
+    pub member : member_of t.node ≡ member_of s.node
+    pub opening : (desk_of t.node).opening ≡ (desk_of s.node).opening
+    pub run : (desk_of t.node).view.run ≡ (desk_of s.node).view.run
 
-  -- the node's reply, which rests on durable inputs alone
+  -- The node's reply, which rests on durable inputs alone: the node accepted what the question asks it to accept, where that
+  -- is admitted, and nothing waits.
   pub record IsReplied (s : SoloService D g) (q : Request) (reply : Reply) (t : SoloService D g) : Type 0 where
     pub works : has_failed s ≡ false
-    pub is : reply ≡ reply_to s q
-    pub next : state_of t.node ≡ opened (state_of s.node).base (history_with s q)
+    pub more : Option Input
+    pub is : (past : List Input) → HasPast s past → (reply ≡ reply_to past s q) × (cons_option more [] ≡ gained_with past s q)
+    pub next : state_of t.node ≡ opened (state_of s.node).base (history s ++ cons_option more [])
     pub same : IsSame s t
     pub goes_on : has_failed t ≡ false
 
   -- no ticket was given, and the node is as it was: all numbers of tickets were given, or a growth was refused
   pub record IsUnasked (s : SoloService D g) (why : Refusal) (t : SoloService D g) : Type 0 where
     pub works : has_failed s ≡ false
-    pub cause : ((why ≡ refused.Limit) × (2 ^ 60 ≤ (desk_of s.node).issued)) ⊎ (why ≡ refused.OutOfMemory)
+    pub cause : ((why ≡ refused.Limit) × (2 ^ 60 ≤ (desk_of s.node).view.issued)) ⊎ (why ≡ refused.OutOfMemory)
     pub same : desk_of t.node ≡ desk_of s.node
     pub goes_on : has_failed t ≡ false
 
@@ -58,7 +67,9 @@ module _ {D : Type 0} {g : Ghosts D} where
   pub record IsUnflushed (count : D → ℕ) (s : SoloService D g) (q : Request) (why : Refusal) (t : SoloService D g) : Type 0 where
     pub works : has_failed s ≡ false
     pub cause : IsFault (count (device_of s.node)) (count (device_of t.node)) why ⊎ (why ≡ refused.OutOfMemory)
-    pub next : history t ≡ history_with s q
+    pub more : Option Input
+    pub is : (past : List Input) → HasPast s past → cons_option more [] ≡ gained_with past s q
+    pub next : history t ≡ history s ++ cons_option more []
     pub same : IsSame s t
     pub failed : has_failed t ≡ true
 

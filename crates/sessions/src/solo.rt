@@ -24,8 +24,8 @@ pub struct SoloService<D: Device> {
     unanswered: Option<Ticket>,
     ghost durable: { ForNone unanswered (length (nodes.state_of node).inputs ≡ (nodes.state_of node).durable) },
     ghost idle: { ForNone unanswered (is_idle (nodes.state_of node) ≡ true) },
-    ghost open: { ForNone unanswered (((nodes.desk_of node).closed ≡ false) × ((nodes.desk_of node).failed ≡ false)) },
-    ghost held: { ForSome unanswered (λ ticket. ∥ ((kept : Answered) × IsHere (nodes.desk_of node) (shown ticket) kept) ∥₁) },
+    ghost open: { ForNone unanswered (((nodes.desk_of node).view.closed ≡ false) × ((nodes.desk_of node).view.failed ≡ false)) },
+    ghost held: { ForSome unanswered (λ ticket. ∥ ((kept : Answered) × IsHere (nodes.desk_of node).view (shown ticket) kept) ∥₁) },
 }
 
 impl<D: Device> SoloService<D> {
@@ -34,7 +34,7 @@ impl<D: Device> SoloService<D> {
     /// A service over a node that takes requests and whose inputs are all durable, as one that was just created or
     /// recovered.
     pub fn new(node: Node<D>) -> SoloService<D>
-        requires open { ((nodes.desk_of node).closed ≡ false) × ((nodes.desk_of node).failed ≡ false) }
+        requires open { ((nodes.desk_of node).view.closed ≡ false) × ((nodes.desk_of node).view.failed ≡ false) }
         requires durable { nodes.state_of node ≡ opened (nodes.state_of node).base (nodes.state_of node).inputs }
         ensures node { node_of result ≡ node }
         ensures works { has_failed result ≡ false }
@@ -48,7 +48,7 @@ impl<D: Device> SoloService<D> {
     pub fn into_parts(self) -> (Node<D>, Option<Ticket>)
         ensures node { result.0 ≡ node_of self }
         ensures ticket { is_some result.1 ≡ has_failed self }
-        ensures open { ForSome result.1 (λ ticket. ∥ ((kept : Answered) × IsHere (nodes.desk_of result.0) (shown ticket) kept) ∥₁) }
+        ensures open { ForSome result.1 (λ ticket. ∥ ((kept : Answered) × IsHere (nodes.desk_of result.0).view (shown ticket) kept) ∥₁) }
     {
         let SoloService { node, unanswered } = self;
         (node, unanswered)
@@ -107,9 +107,9 @@ fn settle<D: Device>(node: &mut Node<D>) -> Result<(), Refusal>
     requires one { length (nodes.state_of node.old).inputs ≤ (nodes.state_of node.old).durable + 1 }
     requires durable { (nodes.state_of node.old).durable ≤ length (nodes.state_of node.old).inputs }
     requires idle { is_idle (nodes.state_of node.old) ≡ true }
-    requires works { (nodes.desk_of node.old).failed ≡ false }
-    ensures next { OnOk result (nodes.desk_of node.new ≡ record (nodes.desk_of node.old) { state = opened (nodes.state_of node.old).base (nodes.state_of node.old).inputs }) }
-    ensures stays { nodes.desk_of node.new ≡ record (nodes.desk_of node.old) { state = nodes.state_of node.new; failed = (nodes.desk_of node.new).failed } }
+    requires works { (nodes.desk_of node.old).view.failed ≡ false }
+    ensures next { OnOk result (nodes.desk_of node.new ≡ record (nodes.desk_of node.old) { view = record (nodes.desk_of node.old).view { state = opened (nodes.state_of node.old).base (nodes.state_of node.old).inputs } }) }
+    ensures stays { nodes.desk_of node.new ≡ record (nodes.desk_of node.old) { view = record (nodes.desk_of node.old).view { state = nodes.state_of node.new; failed = (nodes.desk_of node.new).view.failed } } }
     ensures inputs { OnErr result ((nodes.state_of node.new).inputs ≡ (nodes.state_of node.old).inputs) }
     ensures cause { IfErr result (λ why. IsFault (D.count (nodes.device_of node.old)) (D.count (nodes.device_of node.new)) why ⊎ (why ≡ Refusal.OutOfMemory)) }
 {
@@ -127,9 +127,9 @@ fn settle<D: Device>(node: &mut Node<D>) -> Result<(), Refusal>
 
 // The reply that is kept for the ticket, which rests on durable inputs alone.
 fn release<D: Device>(node: &mut Node<D>, ticket: Ticket) -> Reply
-    requires here { (kept : Answered) × IsHere (nodes.desk_of node.old) (shown ticket) kept × (kept.answer.number ≤ (nodes.state_of node.old).durable) }
-    ensures reply { (kept : Answered) → IsHere (nodes.desk_of node.old) (shown ticket) kept → result ≡ kept.answer.reply }
-    ensures next { nodes.desk_of node.new ≡ ended (shown ticket).own (nodes.desk_of node.old) }
+    requires here { (kept : Answered) × IsHere (nodes.desk_of node.old).view (shown ticket) kept × (kept.answer.number ≤ (nodes.desk_of node.old).opening.inputs + (nodes.state_of node.old).durable) }
+    ensures reply { (kept : Answered) → IsHere (nodes.desk_of node.old).view (shown ticket) kept → result ≡ kept.answer.reply }
+    ensures next { nodes.desk_of node.new ≡ record (nodes.desk_of node.old) { view = ended (shown ticket).own (nodes.desk_of node.old).view } }
 {
     match node.redeem(ticket) {
         Ok((reply, _)) => reply,

@@ -24,7 +24,7 @@ fn what_is_accepted_is_durable(rt: HostRuntime) {
     assert_eq!(rt; service.who(&key), Ok(Reply::Leader(None)));
     assert_eq!(rt; service.latest(&key.group), Ok(Reply::Latest(None)));
     let node = ended(&rt, service);
-    assert_eq!(rt; (node.history().len(), node.durable()), (1, 1));
+    assert_eq!(rt; (node.desk().accepted(), node.durable()), (1, 1));
     assert_eq!(rt; node.open_tickets(), 0);
 }
 
@@ -41,7 +41,7 @@ fn a_refused_flush_ends_it(rt: HostRuntime) -> Result<(), Fail> {
     match service.into_parts() {
         (_node, None) => panic!(rt; "no ticket is kept"),
         (mut node, Some(ticket)) => {
-            assert_eq!(rt; (node.history().len(), node.durable()), (1, 0));
+            assert_eq!(rt; (node.desk().accepted(), node.durable()), (1, 0));
             assert_eq!(rt; ticket.number(), 1);
             assert_eq!(rt; node.open_tickets(), 1);
             node.close();

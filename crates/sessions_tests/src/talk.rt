@@ -14,7 +14,7 @@ pub type Solo = SoloService<FuseDevice<MemDevice>>;
 
 /// A service over node 1 of a new ring of 3.
 pub fn service<R: Abort + AllocGlobal>(rt: &R) -> Solo {
-    let device = MemDevice::new(rt.alloc(), 17 + 4_096).expect(rt, "ample memory");
+    let device = MemDevice::new(rt.alloc(), 46 + 2 * 4_096).expect(rt, "ample memory");
     let node = NodeNo::new(1).expect(rt, "a node");
     match Node::create(rt.alloc(), FuseDevice::idle(device), node, 3, 4_096, 0) {
         Ok(made) => SoloService::new(made),
@@ -24,7 +24,7 @@ pub fn service<R: Abort + AllocGlobal>(rt: &R) -> Solo {
 
 /// A service over such a node, whose device fails at its next call, once.
 pub fn failing_service<R: Abort + AllocGlobal>(rt: &R) -> Solo {
-    let device = MemDevice::new(rt.alloc(), 17 + 4_096).expect(rt, "ample memory");
+    let device = MemDevice::new(rt.alloc(), 46 + 2 * 4_096).expect(rt, "ample memory");
     let node = NodeNo::new(1).expect(rt, "a node");
     match Node::create(rt.alloc(), FuseDevice::idle(device), node, 3, 4_096, 0) {
         Ok(mut made) => {
