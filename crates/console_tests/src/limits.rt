@@ -33,18 +33,20 @@ fn batches_of_64(rt: HostRuntime) -> Result<(), AllocError> {
     Ok(())
 }
 
-// 204 times a cost of 20 is 4,080 of 4,096 bytes.
+// A snapshot of 38 bytes and 202 times a cost of 20 are 4,078 of 4,096 bytes.
 #[test]
 fn full_capacity(rt: HostRuntime) -> Result<(), AllocError> {
     const END: &[Line] = &[
+        ("stand 1 red 203 10", &["203: no 7 full"]),
+        ("stand 1 red 204 10", &["204: no 7 full"]),
         ("stand 1 red 205 10", &["205: no 7 full"]),
         (
             "show 1",
-            &["node 1 inputs 204 durable 204 sent 204 taken 0 credit 0"],
+            &["node 1 inputs 202 durable 202 sent 202 taken 0 credit 0"],
         ),
     ];
     let mut session = Session::of(rt.alloc(), &[("ring 2 eager 4096", &["ring 2"])])?;
-    add_stands(&mut session, rt.alloc(), 204, 10, "stood")?;
+    add_stands(&mut session, rt.alloc(), 202, 10, "stood")?;
     session.add_lines(END)?;
     assert_played(&rt, "full_capacity", &session);
     Ok(())

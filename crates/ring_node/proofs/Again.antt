@@ -1,34 +1,39 @@
 -- A node that is opened again, and the messages that its inputs sent.
-use Rattle.std.proofs.Common.{arith, ℕ, zero, suc, ◌≡◌, ◌≤◌, ◌<◌, ◌+◌, ◌-◌, Bool, true, false, nat_lt, List, [], ◌∷◌, ◌++◌, length, take, drop, refl, sym, ap, subst, ◌∙◌}
+use Rattle.std.proofs.Common.{arith, ℕ, zero, suc, ◌≡◌, ◌≤◌, ◌<◌, ◌+◌, ◌-◌, Bool, true, false, nat_lt, List, [], ◌∷◌, ◌++◌, length, take, drop, None, refl, sym, ap, subst, ◌∙◌}
 use Rattle.std.specs.List.{filter_map}
 use Rattle.std.proofs.lemmas.Bool.{ltb-true, ltb-false}
 use Rattle.std.proofs.lemmas.Bool.Decides.{nat_tests}
 use Rattle.std.proofs.lemmas.List.{length-append, length-take, length-drop, take_all, take-append-drop, take-append-le, take-take}
 use Rattle.std.proofs.Math.Seq.{drop-append_seam, drop-nil}
 use Rattle.disk_model.specs.Disk.{Reach, Reaches}
+use Rattle.ring_records.specs.declared.base.Base.{Base}
 use Rattle.ring_records.specs.declared.input.Input.{Input}
 use Rattle.ring_records.specs.declared.input.Input.TheVariants.{Stand, Take, Acked}
 use Rattle.ring_records.specs.declared.msg.Msg.{Msg}
-use Rattle.ring_records.specs.Admission.{fresh, IsAdmitted, IsInTurn, IsLawful}
-use Rattle.ring_records.specs.States.{NodeState, launched, left_by}
+use Rattle.ring_records.specs.Admission.{IsAdmitted, IsInTurn, IsLawful}
+use Rattle.ring_records.specs.States.{NodeState, IsLawfulState, launched_base, opened, launched, left_by}
 use Rattle.ring_records.specs.States as states
 use Rattle.ring_records.specs.Emission.{sent, emit}
 use Rattle.ring_records.specs.History.{upto_of, credit}
 use Rattle.ring_records.specs.Lists.{found_after}
-use Rattle.ring_records.specs.Member.{Member, member, IsHistory}
+use Rattle.ring_records.specs.Member.{Member}
 use Rattle.ring_records.specs.Release.{numbered, window}
 use Rattle.ring_records.proofs.Growth.{sent-append}
 use Rattle.ring_records.proofs.History.{credit-push}
 use Rattle.ring_records.proofs.Lists.{along}
-use Rattle.group_commit.specs.Desk.{DeskView, new_desk}
-use Rattle.node_store.proofs.Recovered.{left_lawful}
+use Rattle.ring_records.specs.declared.summary.Summary.{Summary}
+use Rattle.ring_records.proofs.States.{lawful-launched, lawful-left, next-few}
+use Rattle.gated_journal.specs.Reading.{device_size, is_header}
+use Rattle.group_commit.specs.Desk.{DeskView, DeskKept, seen}
+use Rattle.group_commit.specs.Past.{IsPast}
+use Rattle.node_store.specs.State.{opened_view, IsOpenedAs}
 use Rattle.ring_node.specs.Messages.{message_in, carried_in}
-use Rattle.ring_node.specs.Node.{NodeView, new_node, restarted, left, durable_in, is_credited}
+use Rattle.ring_node.specs.Node.{NodeView, restarted, left, durable_in, is_credited}
 use Rattle.ring_node.specs.Open.{serial_of}
-use Rattle.ring_node.specs.Held.{HeldView, view_with, IsServed, IsRingNode}
-use Rattle.ring_node.proofs.Queue.{serials_shown}
+use Rattle.ring_node.specs.Held.{HeldView, view_with, AreHeld, IsServed, IsWhole, IsRingNode}
+use Rattle.ring_node.proofs.Queue.{held_none, serials_shown}
 use Rattle.ring_node.proofs.Ring.{by_name, opens}
-use Rattle.ring_node.proofs.Serving.{same_view, starts_shown}
+use Rattle.ring_node.proofs.Serving.{same_view, starts_shown, within_served, is_idle_state, left_is}
 
 -- ---- messages
 
@@ -96,19 +101,19 @@ left_first s false flies = take-take s.durable s.durable s.inputs (omega arith)
 
 -- ---- credits
 
-credit_more : (me n capacity : ℕ) (h : List Input) (x : Input) → IsAdmitted me n capacity fresh h x → credit h ≤ credit (h ++ x ∷ [])
+credit_more : (me n capacity : ℕ) (b : Base) (h : List Input) (x : Input) → IsAdmitted me n capacity b h x → credit h ≤ credit (h ++ x ∷ [])
 unfolding IsInTurn upto_of
-credit_more me n capacity h (Stand key bid) admitted = let more = credit-push h (Stand key bid) in omega arith
-credit_more me n capacity h (Take msg_no msg) admitted = let more = credit-push h (Take msg_no msg) in omega arith
-credit_more me n capacity h (Acked upto) admitted =
+credit_more me n capacity b h (Stand key bid) admitted = let more = credit-push h (Stand key bid) in omega arith
+credit_more me n capacity b h (Take msg_no msg) admitted = let more = credit-push h (Take msg_no msg) in omega arith
+credit_more me n capacity b h (Acked upto) admitted =
     let more = credit-push h (Acked upto) in
     let above = admitted.allowed.in_turn.above in
     omega arith
 
-credit_next : (me n capacity : ℕ) (h : List Input) (x : Input) → IsAdmitted me n capacity fresh h x → ((k : ℕ) → credit (take k h) ≤ credit h) → (k : ℕ) → credit (take k (h ++ x ∷ [])) ≤ credit (h ++ x ∷ [])
-credit_next me n capacity h x admitted before k = go (nat_lt (length h) k) refl
+credit_next : (me n capacity : ℕ) (b : Base) (h : List Input) (x : Input) → IsAdmitted me n capacity b h x → ((k : ℕ) → credit (take k h) ≤ credit h) → (k : ℕ) → credit (take k (h ++ x ∷ [])) ≤ credit (h ++ x ∷ [])
+credit_next me n capacity b h x admitted before k = go (nat_lt (length h) k) refl
   where
-    go : (b : Bool) → nat_lt (length h) k ≡ b → credit (take k (h ++ x ∷ [])) ≤ credit (h ++ x ∷ [])
+    go : (behind : Bool) → nat_lt (length h) k ≡ behind → credit (take k (h ++ x ∷ [])) ≤ credit (h ++ x ∷ [])
     go true behind =
         let lt = ltb-true (length h) k behind in
         let long = length-append h (x ∷ []) in
@@ -117,7 +122,7 @@ credit_next me n capacity h x admitted before k = go (nat_lt (length h) k) refl
     go false within =
         let le = ltb-false (length h) k within in
         let same = ap credit (take-append-le k h (x ∷ []) (omega arith)) in
-        let more = credit_more me n capacity h x admitted in
+        let more = credit_more me n capacity b h x admitted in
         let old = before k in
         omega arith
 
@@ -126,35 +131,78 @@ credit_none zero = omega arith
 credit_none (suc k) = omega arith
 
 -- the first inputs of a lawful history credit no more than all of them
-pub credit_front : (me n capacity : ℕ) (h : List Input) → IsHistory (member me n capacity) h → (k : ℕ) → credit (take k h) ≤ credit h
+pub credit_front : (me n capacity : ℕ) (b : Base) (h : List Input) → IsLawful me n capacity b h → (k : ℕ) → credit (take k h) ≤ credit h
 unfolding IsLawful
-credit_front me n capacity h lawful = along (IsAdmitted me n capacity fresh) (λ l. (k : ℕ) → credit (take k l) ≤ credit l) (credit_next me n capacity) [] h lawful credit_none
+credit_front me n capacity b h lawful = along (IsAdmitted me n capacity b) (λ l. (k : ℕ) → credit (take k l) ≤ credit l) (credit_next me n capacity b) [] h lawful credit_none
 
 -- ---- the node
 
-module _ (m : Member) (desk : DeskView) (reach : Reach) (queue : List HeldView) (messages : List Msg) (here : IsRingNode m desk reach queue messages) where
+module _ (m : Member) (run : ℕ) (s : NodeState) (none : s.checkpoint ≡ None) (lawful : IsLawfulState m s) (keep : Bool) (desk : DeskKept) (found : IsOpenedAs m run (left_by keep s) desk) where
+  abbrev t : NodeState
+  t = left_by keep s
+
+  lawful_left : IsLawfulState m t
+  lawful_left = lawful-left m keep s lawful
+
+  summarised_within : t.base.inputs ≤ length t.inputs
+  summarised_within =
+      let based = lawful_left.counts.based in
+      let low = lawful_left.counts.durable in
+      let high = lawful_left.counts.flying in
+      omega arith
+
+  -- what is summarised was durable, or flew
+  front_is : (keep : Bool) → take (left_by keep s).base.inputs s.inputs ≡ take (left_by keep s).base.inputs (left_by keep s).inputs
+  front_is true = sym (take-take (launched_base s).inputs s.flying s.inputs (next-few s lawful.counts))
+  front_is false = sym (take-take s.base.inputs s.durable s.inputs lawful.counts.based)
+
+  summarised_is : desk.opening.inputs ≡ t.base.inputs
+  summarised_is =
+      let count = ap (λ (o : Summary). o.inputs) found.past.summed in
+      let long = length-take t.base.inputs t.inputs in
+      let within = summarised_within in
+      omega arith
+
+  member_is : desk.view.member ≡ m
+  member_is = ap (λ (v : DeskView). v.member) found.shows
+
+  module _ (past : List Input) (is : past ≡ take desk.opening.inputs s.inputs) where
+    past_is : past ≡ take t.base.inputs t.inputs
+    past_is = is ∙ (ap (λ k. take k s.inputs) summarised_is ∙ front_is keep)
+
+    pub left_behind : IsPast desk.view.member desk.opening past
+    left_behind = subst (λ (a : Member × List Input). IsPast a.0 desk.opening a.1) (λ i. (sym member_is i, sym past_is i)) found.past
+
+    -- it shows what the stop left
+    pub left_seen : seen past desk ≡ opened_view m run (opened s.base t.inputs)
+    left_seen = ap (λ (l : List Input). seen l desk) past_is ∙ (found.shows ∙ ap (opened_view m run) (left_is s keep none))
+
+    pub left_again : (reach : Reach) (queue : List HeldView) (messages : List Msg) → is_header m ≡ true → Reaches reach (device_size m.capacity) → queue ≡ [] → messages ≡ sent m.node t.inputs → IsRingNode m past desk reach queue messages
+    left_again reach queue messages range reaches spent sends =
+        by_name m _ _ _ _ past desk reach queue messages left_behind left_seen refl spent refl
+        (opens m run s.base t.inputs reach messages range (subst (IsLawfulState m) (left_is s keep none) lawful_left) reaches sends)
+
+    pub left_shown : (queue : List HeldView) (v : NodeView) → queue ≡ [] → v.member ≡ m → v.base ≡ s.base → view_with (seen past desk) queue ≡ restarted t.inputs v
+    left_shown queue v spent node_is base_is = same_view _ _ _ _ left_seen spent ∙ starts_shown m run s.base t.inputs v node_is base_is
+
+module _ (m : Member) (desk : DeskView) (reach : Reach) (queue : List HeldView) (messages : List Msg) (here : IsWhole m desk reach queue messages) where
   abbrev v : NodeView
   v = view_with desk queue
 
-  pub lawful_here : IsHistory m desk.state.inputs
-  lawful_here = subst (λ (k : Member). IsHistory k desk.state.inputs) here.is here.served.lawful
+  -- its state is lawful
+  pub lawful_here : IsLawfulState m desk.state
+  lawful_here = subst (λ (k : Member). IsLawfulState k desk.state) here.is here.served.lawful
+
+  flies : desk.state.durable ≤ (launched desk.state).flying
+  flies = let within = within_served desk reach queue here.served in omega arith
+
+  -- and stays so while a batch flies
+  pub lawful_launched : IsLawfulState m (launched desk.state)
+  lawful_launched = lawful-launched m desk.state (is_idle_state desk.state here.served.idle here.served.none) lawful_here
 
   -- its device goes to the journal's end
-  pub long_here : 17 + m.capacity ≤ reach.limit
-  long_here = subst (λ (k : Member). 17 + k.capacity ≤ reach.limit) here.is here.served.reaches.within
-
-  -- what it is opened again with
-  again : (inputs : List Input) → restarted inputs (new_node m.node m.n m.capacity) ≡ restarted inputs v
-  unfolding restarted
-  again inputs = ap (λ (k : Member). restarted inputs (new_node k.node k.n k.capacity)) (sym here.is)
-
-  -- the desk that was opened with these inputs, on a device that reaches so far
-  module _ (run : ℕ) (inputs : List Input) (desk' : DeskView) (queue' : List HeldView) (opened : desk' ≡ new_desk m run inputs) (none : queue' ≡ []) where
-    shown_again : view_with desk' queue' ≡ restarted inputs v
-    shown_again = same_view _ _ _ _ opened none ∙ (starts_shown m.node m.n m.capacity run inputs ∙ again inputs)
-
-    pub opens_again : (reach' : Reach) (messages' : List Msg) → IsHistory m inputs → Reaches reach' (17 + m.capacity) → messages' ≡ sent m.node inputs → IsRingNode m desk' reach' queue' messages'
-    opens_again reach' messages' lawful reaches sends = by_name m _ _ _ _ _ _ _ _ opened refl none refl (opens m run inputs reach' messages' here.range lawful reaches sends)
+  pub long_here : device_size m.capacity ≤ reach.limit
+  long_here = subst (λ (k : Member). device_size k.capacity ≤ reach.limit) here.is here.served.reaches.within
 
   -- ---- a crash
 
@@ -162,19 +210,16 @@ module _ (m : Member) (desk : DeskView) (reach : Reach) (queue : List HeldView) 
   either true = ap (λ k. take k desk.state.inputs) here.served.idle
   either false = refl
 
-  module _ (run : ℕ) (keep : Bool) (desk' : DeskView) (queue' : List HeldView) (opened : desk' ≡ new_desk m run (left_by keep desk.state).inputs) (none : queue' ≡ []) where
+  module _ (run : ℕ) (keep : Bool) (desk' : DeskKept) (past' : List Input) (queue' : List HeldView) (found : IsOpenedAs m run (left_by keep desk.state) desk') (is : past' ≡ take desk'.opening.inputs desk.state.inputs) (spent : queue' ≡ []) where
     -- its durable inputs sent what they sent before
-    pub crashed_again : (reach' : Reach) → Reaches reach' (17 + m.capacity) → IsRingNode m desk' reach' queue' messages
+    pub crashed_again : (reach' : Reach) → Reaches reach' (device_size m.capacity) → IsRingNode m past' desk' reach' queue' messages
     crashed_again reach' reaches =
-        opens_again run (left_by keep desk.state).inputs desk' queue' opened none reach' messages (left_lawful m.node m.n m.capacity desk.state keep lawful_here) reaches (here.sends ∙ ap (sent m.node) (sym (either keep)))
+        left_again m run desk.state here.served.none lawful_here keep desk' found past' is reach' queue' messages here.range reaches spent (here.sends ∙ ap (sent m.node) (sym (either keep)))
 
-    pub crashed_shown : view_with desk' queue' ≡ restarted (durable_in v) v
-    crashed_shown = shown_again run (left_by keep desk.state).inputs desk' queue' opened none ∙ ap (λ (l : List Input). restarted l v) (either keep)
+    pub crashed_shown : view_with (seen past' desk') queue' ≡ restarted (durable_in v) v
+    crashed_shown = left_shown m run desk.state here.served.none lawful_here keep desk' found past' is queue' v spent here.is refl ∙ ap (λ (l : List Input). restarted l v) (either keep)
 
   -- ---- a stop
-
-  flies : desk.state.durable ≤ (launched desk.state).flying
-  flies = let within = here.served.within in omega arith
 
   -- the count of the inputs tells whether it has the batch
   told : (keep : Bool) → v.durable < length v.inputs → nat_lt v.durable (length (left_by keep (launched desk.state)).inputs) ≡ keep
@@ -185,9 +230,6 @@ module _ (m : Member) (desk : DeskView) (reach : Reach) (queue : List HeldView) 
   by_state true = refl
   by_state false = refl
 
-  lawful_left : (keep : Bool) → IsHistory m (left_by keep (launched desk.state)).inputs
-  lawful_left keep = left_lawful m.node m.n m.capacity (launched desk.state) keep lawful_here
-
   -- no more is credited by what is left
   few_credits : (keep : Bool) → is_credited v ≡ true → credit (left_by keep (launched desk.state)).inputs ≤ length messages
   few_credits keep credited =
@@ -197,35 +239,51 @@ module _ (m : Member) (desk : DeskView) (reach : Reach) (queue : List HeldView) 
       omega arith
     where
       fronts : (keep : Bool) → credit (left_by keep (launched desk.state)).inputs ≤ credit desk.state.inputs
-      fronts true = credit_front m.node m.n m.capacity desk.state.inputs lawful_here (launched desk.state).flying
-      fronts false = credit_front m.node m.n m.capacity desk.state.inputs lawful_here desk.state.durable
+      fronts true = credit_front m.node m.n m.capacity (launched_base desk.state) desk.state.inputs lawful_here.all (launched desk.state).flying
+      fronts false = credit_front m.node m.n m.capacity (launched_base desk.state) desk.state.inputs lawful_here.all desk.state.durable
 
-  module _ (run : ℕ) (keep : Bool) (desk' : DeskView) (opened : desk' ≡ new_desk m run (left_by keep (launched desk.state)).inputs) where
+  module _ (run : ℕ) (keep : Bool) (desk' : DeskKept) (found : IsOpenedAs m run (left_by keep (launched desk.state)) desk') (past' : List Input) (is : past' ≡ take desk'.opening.inputs desk.state.inputs) where
     abbrev inputs : List Input
     inputs = (left_by keep (launched desk.state)).inputs
 
-    inputs_are : desk'.state.inputs ≡ inputs
-    inputs_are = ap (λ (d : DeskView). d.state.inputs) opened
+    pub stopped_behind : IsPast desk'.view.member desk'.opening past'
+    stopped_behind = left_behind m run (launched desk.state) here.served.none lawful_launched keep desk' found past' is
 
-    pub all_durable : desk'.state.durable ≡ length desk'.state.inputs
-    all_durable = ap (λ (d : DeskView). d.state.durable) opened ∙ sym (ap length inputs_are)
+    stopped_seen : seen past' desk' ≡ opened_view m run (opened desk.state.base inputs)
+    stopped_seen = left_seen m run (launched desk.state) here.served.none lawful_launched keep desk' found past' is
 
-    pub sent_first : messages ≡ sent desk'.member.node (take desk.state.durable desk'.state.inputs)
+    inputs_are : (seen past' desk').state.inputs ≡ inputs
+    inputs_are = ap (λ (d : DeskView). d.state.inputs) stopped_seen
+
+    node_is : desk'.view.member.node ≡ m.node
+    node_is = ap (λ (d : DeskView). d.member.node) stopped_seen
+
+    pub all_durable : (seen past' desk').state.durable ≡ length (seen past' desk').state.inputs
+    all_durable = ap (λ (d : DeskView). d.state.durable) stopped_seen ∙ sym (ap length inputs_are)
+
+    pub sent_first : messages ≡ sent desk'.view.member.node (take desk.state.durable (seen past' desk').state.inputs)
     sent_first =
         here.sends ∙ (ap (sent m.node) (sym (left_first (launched desk.state) keep flies))
-        ∙ λ i. sent (sym opened i).member.node (take desk.state.durable (sym inputs_are i)))
+        ∙ λ i. sent (sym node_is i) (take desk.state.durable (sym inputs_are i)))
 
-    pub credits_few : is_credited v ≡ true → credit desk'.state.inputs ≤ length messages
+    pub credits_few : is_credited v ≡ true → credit (seen past' desk').state.inputs ≤ length messages
     credits_few credited = let few = few_credits keep credited in let same = ap credit inputs_are in omega arith
 
-    module _ (queue' : List HeldView) (none : queue' ≡ []) where
-      pub stopped_again : (reach' : Reach) (messages' : List Msg) → Reaches reach' (17 + m.capacity) → messages' ≡ sent desk'.member.node desk'.state.inputs → IsRingNode m desk' reach' queue' messages'
-      stopped_again reach' messages' reaches sends = opens_again run inputs desk' queue' opened none reach' messages' (lawful_left keep) reaches (sends ∙ ap (λ (d : DeskView). sent d.member.node d.state.inputs) opened)
+    module _ (queue' : List HeldView) (spent : queue' ≡ []) where
+      -- it has no open ticket
+      pub held_stopped : (from top : ℕ) × AreHeld desk'.view.member.node desk'.view.run from top desk'.view.tickets queue'
+      held_stopped =
+          (0, 0, subst (λ (a : DeskView × List HeldView). AreHeld a.0.member.node a.0.run 0 0 a.0.tickets a.1) (λ i. (sym stopped_seen i, sym spent i)) (held_none m.node run 0))
 
-      pub stopped_shown : (found : Bool) → v.durable < length v.inputs → found ≡ nat_lt v.durable desk'.state.durable → view_with desk' queue' ≡ restarted (left found v) v
-      stopped_shown found waits tells =
-          let same_one : found ≡ keep = tells ∙ (ap (nat_lt v.durable) (all_durable ∙ ap length inputs_are) ∙ told keep waits) in
-          shown_again run inputs desk' queue' opened none ∙ (ap (λ l. restarted l v) (by_state keep) ∙ ap (λ b. restarted (left b v) v) (sym same_one))
+      pub stopped_again : (reach' : Reach) (messages' : List Msg) → Reaches reach' (device_size m.capacity) → messages' ≡ sent desk'.view.member.node (seen past' desk').state.inputs → IsRingNode m past' desk' reach' queue' messages'
+      stopped_again reach' messages' reaches sends =
+          left_again m run (launched desk.state) here.served.none lawful_launched keep desk' found past' is reach' queue' messages' here.range reaches spent (sends ∙ λ i. sent (node_is i) (inputs_are i))
+
+      pub stopped_shown : (kept : Bool) → v.durable < length v.inputs → kept ≡ nat_lt v.durable (seen past' desk').state.durable → view_with (seen past' desk') queue' ≡ restarted (left kept v) v
+      stopped_shown kept waits tells =
+          let same_one : kept ≡ keep = tells ∙ (ap (nat_lt v.durable) (all_durable ∙ ap length inputs_are) ∙ told keep waits) in
+          left_shown m run (launched desk.state) here.served.none lawful_launched keep desk' found past' is queue' v spent here.is refl
+          ∙ (ap (λ l. restarted l v) (by_state keep) ∙ ap (λ b. restarted (left b v) v) (sym same_one))
 
 -- the numbers of the open tickets
 pub lost_serials : (desk : DeskView) (reach : Reach) (queue : List HeldView) → IsServed desk reach queue → filter_map (λ (h : HeldView). h.serial) queue ≡ filter_map serial_of (view_with desk queue).held

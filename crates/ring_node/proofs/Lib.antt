@@ -3,3 +3,4 @@ pub mod Queue
 pub mod Ring
 pub mod Sending
 pub mod Serving
+pub mod Shown

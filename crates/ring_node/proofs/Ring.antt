@@ -1,22 +1,26 @@
 -- A node of the ring: it is at work, and its messages are those that its durable inputs sent.
-use Rattle.std.proofs.Common.{arith, ℕ, ◌≡◌, ◌≤◌, ◌+◌, true, List, [], ◌∷◌, ◌++◌, length, refl, sym, ap, subst, ◌∙◌}
+use Rattle.std.proofs.Common.{arith, ℕ, ◌≡◌, ◌≤◌, true, List, [], ◌∷◌, ◌++◌, length, refl, sym, ap, subst, ◌∙◌}
 use Rattle.std.proofs.lemmas.Bool.Decides.{nat_tests}
 use Rattle.std.proofs.lemmas.List.{take_all}
 use Rattle.disk_model.specs.Disk.{Reach, Reaches}
+use Rattle.ring_records.specs.declared.base.Base.{Base}
 use Rattle.ring_records.specs.declared.input.Input.{Input}
 use Rattle.ring_records.specs.declared.msg.Msg.{Msg}
 use Rattle.ring_records.specs.declared.packet.Packet.{Packet}
 use Rattle.ring_records.specs.declared.request.Request.{Request}
-use Rattle.ring_records.specs.States.{gained_by, launched, flying_in}
+use Rattle.ring_records.specs.States.{IsLawfulState, gained_by, launched_base, opened, launched, flying_in}
 use Rattle.ring_records.specs.States as states
 use Rattle.ring_records.specs.Emission.{sent}
-use Rattle.ring_records.specs.Member.{Member, IsHistory}
+use Rattle.ring_records.specs.Member.{Member}
 use Rattle.ring_records.specs.Release.{packets}
-use Rattle.gated_journal.specs.Reading.{is_header}
+use Rattle.ring_records.specs.declared.summary.Summary.{Summary}
+use Rattle.gated_journal.specs.Reading.{device_size, is_header}
 use Rattle.group_commit.specs.Desk as desks
-use Rattle.group_commit.specs.Desk.{DeskView, new_desk, ticket_for, submitted, ended}
+use Rattle.group_commit.specs.Desk.{DeskView, DeskKept, ticket_for, seen, submitted, ended}
+use Rattle.group_commit.specs.Past.{IsPast}
+use Rattle.node_store.specs.State.{opened_view}
 use Rattle.ring_node.specs.Messages.{carried_in}
-use Rattle.ring_node.specs.Held.{HeldView, AreInside, IsRingNode}
+use Rattle.ring_node.specs.Held.{HeldView, AreInside, IsWhole, IsRingNode}
 use Rattle.ring_node.proofs.Sending.{sent-batch, batch-few, inside, inside-front}
 use Rattle.ring_node.proofs.Serving as serving
 
@@ -24,25 +28,38 @@ me_within : (m : Member) → is_header m ≡ true → m.node ≤ m.n
 me_within m range = grind (arith, nat_tests)
 
 -- the node by other names
-pub by_name : (m : Member) (desk : DeskView) (reach : Reach) (queue : List HeldView) (messages : List Msg) (desk' : DeskView) (reach' : Reach) (queue' : List HeldView) (messages' : List Msg)
-    → desk' ≡ desk → reach' ≡ reach → queue' ≡ queue → messages' ≡ messages → IsRingNode m desk reach queue messages → IsRingNode m desk' reach' queue' messages'
-by_name m desk reach queue messages desk' reach' queue' messages' d r q ms here =
-    subst (λ (a : DeskView × Reach × List HeldView × List Msg). IsRingNode m a.0 a.1 a.2 a.3) (λ i. (sym d i, sym r i, sym q i, sym ms i)) here
-
--- a node that is opened with these inputs, all of them durable, and the messages that they sent
-pub opens : (m : Member) (run : ℕ) (inputs : List Input) (reach : Reach) (messages : List Msg) → is_header m ≡ true → IsHistory m inputs → Reaches reach (17 + m.capacity) → messages ≡ sent m.node inputs
-    → IsRingNode m (new_desk m run inputs) reach [] messages
-opens m run inputs reach messages range lawful reaches sends = record {
-  range = range;
-  is = refl;
-  served = serving.starts m.node m.n m.capacity run inputs reach lawful reaches;
-  sends = sends ∙ ap (sent m.node) (sym (take_all (length inputs) inputs (omega arith)));
-  inside = subst (AreInside m.n) (sym sends) (inside m.node m.n m.capacity (me_within m range) inputs lawful);
+pub by_name : (m : Member) (view : DeskView) (reach : Reach) (queue : List HeldView) (messages : List Msg) (past : List Input) (desk : DeskKept) (reach' : Reach) (queue' : List HeldView) (messages' : List Msg)
+    → IsPast desk.view.member desk.opening past → seen past desk ≡ view → reach' ≡ reach → queue' ≡ queue → messages' ≡ messages
+    → IsWhole m view reach queue messages → IsRingNode m past desk reach' queue' messages'
+by_name m view reach queue messages past desk reach' queue' messages' behind k r q ms whole = record {
+  behind = behind;
+  whole = subst (λ (a : DeskView × Reach × List HeldView × List Msg). IsWhole m a.0 a.1 a.2 a.3) (λ i. (sym k i, sym r i, sym q i, sym ms i)) whole;
 }
 
-module _ (m : Member) (desk : DeskView) (reach : Reach) (queue : List HeldView) (messages : List Msg) (here : IsRingNode m desk reach queue messages) where
+-- a desk with the same opening has the same past
+pub same_past : (past : List Input) (old new : DeskKept) → new.opening ≡ old.opening → new.view.member ≡ old.view.member → IsPast old.view.member old.opening past → IsPast new.view.member new.opening past
+same_past past old new opening member_is is = subst (λ (a : Member × Summary). IsPast a.0 a.1 past) (λ i. (sym member_is i, sym opening i)) is
+
+pub keeps_past : (past : List Input) (old new : DeskKept) (view : DeskView) → new ≡ record old { view = view } → view.member ≡ old.view.member → IsPast old.view.member old.opening past → IsPast new.view.member new.opening past
+keeps_past past old new view next member_is is = same_past past old new (ap (λ (d : DeskKept). d.opening) next) (ap (λ (d : DeskKept). d.view.member) next ∙ member_is) is
+
+-- a node that is opened with these inputs, all of them durable, and the messages that they sent
+pub opens : (m : Member) (run : ℕ) (base : Base) (inputs : List Input) (reach : Reach) (messages : List Msg) → is_header m ≡ true → IsLawfulState m (opened base inputs) → Reaches reach (device_size m.capacity)
+    → messages ≡ sent m.node inputs → IsWhole m (opened_view m run (opened base inputs)) reach [] messages
+opens m run base inputs reach messages range lawful reaches sends = record {
+  range = range;
+  is = refl;
+  served = serving.starts m run base inputs reach lawful reaches;
+  sends = sends ∙ ap (sent m.node) (sym (take_all (length inputs) inputs (omega arith)));
+  inside = subst (AreInside m.n) (sym sends) (inside m.node m.n m.capacity base (me_within m range) inputs lawful.all);
+}
+
+module _ (m : Member) (desk : DeskView) (reach : Reach) (queue : List HeldView) (messages : List Msg) (here : IsWhole m desk reach queue messages) where
+  within : desk.state.durable ≤ length desk.state.inputs
+  within = serving.within_served desk reach queue here.served
+
   -- it is asked
-  pub asks : (q : Request) (h : HeldView) → h.ticket ≡ ticket_for q desk → IsRingNode m (submitted q desk) reach (queue ++ h ∷ []) messages
+  pub asks : (q : Request) (h : HeldView) → h.ticket ≡ ticket_for q desk → IsWhole m (submitted q desk) reach (queue ++ h ∷ []) messages
   asks q h is = record {
     range = here.range;
     is = here.is;
@@ -52,7 +69,7 @@ module _ (m : Member) (desk : DeskView) (reach : Reach) (queue : List HeldView) 
   }
 
   -- the oldest ticket ends
-  pub ends : (h : HeldView) (rest : List HeldView) → queue ≡ h ∷ rest → IsRingNode m (ended h.ticket.own desk) reach rest messages
+  pub ends : (h : HeldView) (rest : List HeldView) → queue ≡ h ∷ rest → IsWhole m (ended h.ticket.own desk) reach rest messages
   ends h rest is = record {
     range = here.range;
     is = here.is;
@@ -67,19 +84,19 @@ module _ (m : Member) (desk : DeskView) (reach : Reach) (queue : List HeldView) 
     carried = ap carried_in is ∙ ap (λ (k : Member). carried_in (packets k.node (states.durable_in desk.state) (flying_in (launched desk.state)))) here.is
 
     pub few : length (carried_in found) ≤ 64
-    few = let b = batch-few m.node desk.state here.served.within in let same = ap length carried in omega arith
+    few = let b = batch-few m.node desk.state within in let same = ap length carried in omega arith
 
     after : messages ++ carried_in found ≡ sent m.node (states.durable_in (desks.landed (desks.launched desk)).state)
-    after = (λ i. here.sends i ++ carried i) ∙ sent-batch m.node desk.state here.served.within
+    after = (λ i. here.sends i ++ carried i) ∙ sent-batch m.node desk.state within
 
-    lawful_here : IsHistory m desk.state.inputs
-    lawful_here = subst (λ (k : Member). IsHistory k desk.state.inputs) here.is here.served.lawful
+    lawful_here : IsLawfulState m desk.state
+    lawful_here = subst (λ (k : Member). IsLawfulState k desk.state) here.is here.served.lawful
 
-    pub lands : IsRingNode m (desks.landed (desks.launched desk)) reach queue (messages ++ carried_in found)
+    pub lands : IsWhole m (desks.landed (desks.launched desk)) reach queue (messages ++ carried_in found)
     lands = record {
       range = here.range;
       is = here.is;
       served = serving.lands desk reach queue here.served;
       sends = after;
-      inside = subst (AreInside m.n) (sym after) (inside-front m.node m.n m.capacity (launched desk.state).flying (me_within m here.range) desk.state.inputs lawful_here);
+      inside = subst (AreInside m.n) (sym after) (inside-front m.node m.n m.capacity (launched desk.state).flying (launched_base desk.state) (me_within m here.range) desk.state.inputs lawful_here.all);
     }

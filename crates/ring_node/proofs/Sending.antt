@@ -1,16 +1,18 @@
 -- The messages that a node's inputs sent.
-use Rattle.std.proofs.Common.{arith, ℕ, ◌≡◌, ◌⊎◌, ◌+◌, ◌-◌, ◌≤◌, List, [], ◌∷◌, ◌++◌, length, take, drop, Option, Some, None, refl, sym, ap, subst, ◌∙◌, inl, inr, length-append, length-take, append-nil}
+use Rattle.std.proofs.Common.{arith, ℕ, ◌≡◌, ◌⊎◌, ◌+◌, ◌-◌, ◌≤◌, List, [], ◌∷◌, ◌++◌, length, take, drop, nat_lt, is_some, get_or, Option, Some, None, IfSome, refl, sym, ap, subst, ◌∙◌, inl, inr, length-append, length-take, append-nil}
 use Rattle.std.specs.List.{cons_option, Contains}
 use Rattle.std.specs.Option.{option_map}
+use Rattle.std.proofs.lemmas.Bool.{ltb-true}
 use Rattle.std.proofs.Math.Seq.{take-add}
 use Rattle.std.proofs.lemmas.List.Elements.{filter_map-append}
+use Rattle.ring_records.specs.declared.base.Base.{Base}
 use Rattle.ring_records.specs.declared.input.Input.{Input}
 use Rattle.ring_records.specs.declared.input.Input.TheVariants.{Stand, Take, Acked}
 use Rattle.ring_records.specs.declared.candidate.Candidate.{Candidate}
 use Rattle.ring_records.specs.declared.msg.Msg.{Msg}
 use Rattle.ring_records.specs.declared.packet.Packet.{Packet}
 use Rattle.ring_records.specs.declared.packet.Packet.TheVariants.{Carry}
-use Rattle.ring_records.specs.Admission.{fresh, IsAdmitted, IsInTurn, IsLawful}
+use Rattle.ring_records.specs.Admission.{IsAdmitted, IsInTurn, IsLawful}
 use Rattle.ring_records.specs.States.{NodeState, launched, flying_in}
 use Rattle.ring_records.specs.Emission.{emit, sent, carry}
 use Rattle.ring_records.specs.History.{message_of, taken}
@@ -19,7 +21,6 @@ use Rattle.ring_records.specs.Message.{candidate_of}
 use Rattle.ring_records.specs.Release.{carries, credits, credit_where, packets}
 use Rattle.ring_records.proofs.Emission.{emit-candidate}
 use Rattle.std.proofs.lemmas.List.{take_all, take-append-drop}
-use Rattle.ring_records.specs.Member.{member, IsHistory}
 use Rattle.ring_records.proofs.LookBack.{IsItem, take-item}
 use Rattle.ring_records.proofs.Growth.{sent-append, EachAfter-take}
 use Rattle.ring_records.proofs.Leader.{Contains-nil}
@@ -133,9 +134,9 @@ named me n h (Take msg_no t) msg le turn (inr other) =
     omega arith
 named me n h (Acked upto) msg le turn (inr other) = none≢some other.0 other.1
 
-inside-next : (me n capacity : ℕ) → me ≤ n → (h : List Input) (x : Input) → IsAdmitted me n capacity fresh h x → AreInside n (sent me h) → AreInside n (sent me (h ++ x ∷ []))
+inside-next : (me n capacity : ℕ) (b : Base) → me ≤ n → (h : List Input) (x : Input) → IsAdmitted me n capacity b h x → AreInside n (sent me h) → AreInside n (sent me (h ++ x ∷ []))
 unfolding sent
-inside-next me n capacity le h x admitted inside msg there =
+inside-next me n capacity b le h x admitted inside msg there =
     elim (Contains-option_cases (found_after (emit me) [] h) (emit me h x) msg (subst (λ ms. Contains ms msg) (found_after-push (emit me) [] h x) there)) [
       | inl old ↦ inside msg old
       | inr new ↦ named me n h x msg le admitted.allowed.in_turn (emit-candidate me h x msg new)
@@ -146,10 +147,16 @@ unfolding sent found_after
 inside_none me n msg there = Contains-nil msg there
 
 -- each message that a lawful history sent names a node of the ring
-pub inside : (me n capacity : ℕ) → me ≤ n → (h : List Input) → IsHistory (member me n capacity) h → AreInside n (sent me h)
+pub inside : (me n capacity : ℕ) (b : Base) → me ≤ n → (h : List Input) → IsLawful me n capacity b h → AreInside n (sent me h)
 unfolding IsLawful
-inside me n capacity le h lawful = along (IsAdmitted me n capacity fresh) (λ l. AreInside n (sent me l)) (inside-next me n capacity le) [] h lawful (inside_none me n)
+inside me n capacity b le h lawful = along (IsAdmitted me n capacity b) (λ l. AreInside n (sent me l)) (inside-next me n capacity b le) [] h lawful (inside_none me n)
 
-pub inside-front : (me n capacity : ℕ) (k : ℕ) → me ≤ n → (h : List Input) → IsHistory (member me n capacity) h → AreInside n (sent me (take k h))
+pub inside-front : (me n capacity : ℕ) (k : ℕ) (b : Base) → me ≤ n → (h : List Input) → IsLawful me n capacity b h → AreInside n (sent me (take k h))
 unfolding IsLawful
-inside-front me n capacity k le h lawful = inside me n capacity le (take k h) (EachAfter-take (IsAdmitted me n capacity fresh) k h lawful)
+inside-front me n capacity k b le h lawful = inside me n capacity b le (take k h) (EachAfter-take (IsAdmitted me n capacity b) k h lawful)
+
+-- so is the candidate of the message that is found at this place, if there is one
+pub inside-at : {R : Type 0} (now : R → Msg) (n : ℕ) (messages : List Msg) (at : ℕ) (found : Option R) → is_some found ≡ nat_lt at (length messages) → IfSome found (λ x. now x ≡ get_or messages at (now x)) → AreInside n messages
+    → IfSome (option_map now found) (λ msg. (candidate_of msg).node ≤ n)
+inside-at now n messages at None within is all = tt
+inside-at now n messages at (Some x) within is all = all (now x) (at, ltb-true at (length messages) (sym within), sym is)

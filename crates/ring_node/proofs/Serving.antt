@@ -1,33 +1,38 @@
 -- A node at work, and what its calls make of it.
-use Rattle.std.proofs.Common.{arith, Err, ◌≡◌, ◌⊎◌, ⊎_elim, ℕ, ◌+◌, ◌<◌, ◌≤◌, ◌^◌, true, false, List, [], ◌∷◌, ◌++◌, length, take, Option, Some, None, inl, inr, refl, sym, ap, subst, ◌∙◌, length-append}
+use Rattle.std.proofs.Common.{arith, Err, Bool, ◌≡◌, ◌⊎◌, ⊎_elim, ℕ, ◌+◌, ◌<◌, ◌≤◌, ◌^◌, true, false, List, [], ◌∷◌, ◌++◌, length, take, Option, Some, None, inl, inr, refl, sym, ap, subst, ◌∙◌, length-append}
 use Rattle.std.proofs.lemmas.Bool.Decides.{nat_tests}
 use Rattle.std.proofs.lemmas.List.{take-append-le, length-take}
 use Rattle.std.specs.List.{filter}
+use Rattle.std.specs.Prelude.{unwrap_or, is_none, nat_eq, ◌&&◌}
+use Rattle.std.proofs.lemmas.Bool.{eq-eqb}
 use Rattle.ring_records.specs.declared.input.Input.{Input}
 use Rattle.ring_records.specs.declared.request.Request.{Request}
-use Rattle.ring_records.specs.Admission.{IsLawful}
+use Rattle.ring_records.specs.declared.base.Base.{Base}
+use Rattle.ring_records.specs.Admission.{fresh, IsLawful}
 use Rattle.disk_model.specs.Disk.{Reach, Reaches}
 use Rattle.disk_model.specs.FuseDevice.{inner_of, is_idle_device}
 use Rattle.disk_model.specs.MemDevice.{disk_of, limit_of}
 use Rattle.disk_model.specs.declared.fuse.FuseDevice.{FuseDevice}
 use Rattle.disk_model.specs.declared.memory.MemDevice.{MemDevice}
-use Rattle.gated_journal.specs.Reading.{ReadsAsOneOf}
+use Rattle.gated_journal.specs.Damage.{AreAreasUnread}
+use Rattle.gated_journal.specs.Reading.{device_size}
 use Rattle.gated_journal.specs.Unread.{header_at, IsFault, IsUnread}
 use Rattle.node_store.specs.Recovery.{IsNotLawful}
-use Rattle.ring_records.specs.States as states
 use Rattle.ring_records.specs.Lists.{EachAfter}
 use Rattle.ring_records.specs.Answer.{Answered, gained, answered}
-use Rattle.ring_records.specs.States.{NodeState, gained_by, launched, landed}
+use Rattle.ring_records.specs.States.{NodeState, IsLawfulState, launched_base, is_idle, flown_in, gained_by, opened, launched, landed, left_by}
+use Rattle.ring_records.specs.declared.summary.Summary.{Summary}
 use Rattle.ring_records.specs.Message.{is_outside}
 use Rattle.ring_records.specs.declared.refusal.Refusal.{Refusal}
 use Rattle.ring_records.specs.declared.refusal.Refusal.TheVariants.{Device, Failed, OutOfMemory}
-use Rattle.ring_records.specs.Member.{Member, member, IsHistory}
+use Rattle.ring_records.specs.Member.{Member, member}
 use Rattle.group_commit.specs.Desk as desks
-use Rattle.group_commit.specs.Desk.{DeskView, new_desk, ticket_for, submitted, ended, objection, kept_at, IsHere, IsSealed}
+use Rattle.group_commit.specs.Desk.{DeskView, DeskKept, ticket_for, seen, submitted, ended, objection, kept_at, IsHere, IsSealed}
 use Rattle.group_commit.specs.Ticket.{TicketView}
-use Rattle.ring_records.proofs.States.{plain-base, plain-landed}
-use Rattle.node_store.proofs.Standing.{lawful_asked}
-use Rattle.ring_node.specs.Node.{new_node, asked_with, restarted}
+use Rattle.ring_records.proofs.States.{base-fresh, lawful-opened, lawful-asked, lawful-launched, lawful-landed}
+use Rattle.group_commit.specs.Past.{IsPast}
+use Rattle.node_store.specs.State.{ReadsAsLeft, opened_view}
+use Rattle.ring_node.specs.Node.{NodeView, new_node, asked_with, flushed, restarted, IsShownBy}
 use Rattle.ring_node.specs.Open.{is_due}
 use Rattle.ring_node.specs.Held.{HeldView, MatchFirst, AreHeld, shown_with, view_with, reach_of, IsServed}
 use Rattle.ring_node.proofs.Queue.{First, held_none, held_more, shown_more, first, held_from, none_due, ended_first, found_first}
@@ -48,39 +53,58 @@ image_within device idle =
     let long = length-take (inner_of device).held.size (inner_of device).held.bytes.items in
     idle_reaches device (inner_of device) _ idle refl (omega arith)
 
-pub starts : (node n capacity run : ℕ) (inputs : List Input) (reach : Reach) → IsHistory (member node n capacity) inputs → Reaches reach (17 + capacity) → IsServed (new_desk (member node n capacity) run inputs) reach []
-starts node n capacity run inputs reach lawful reaches = record {
+pub starts : (m : Member) (run : ℕ) (base : Base) (inputs : List Input) (reach : Reach) → IsLawfulState m (opened base inputs) → Reaches reach (device_size m.capacity) → IsServed (opened_view m run (opened base inputs)) reach []
+starts m run base inputs reach lawful reaches = record {
   takes = refl;
   works = refl;
   idle = refl;
-  plain = record { base = refl; none = refl };
-  within = omega arith;
+  none = refl;
   lawful = lawful;
-  held = held_none node run (length inputs);
+  held = held_none m.node run (length inputs);
   reaches = reaches;
 }
 
-pub new_shown : (node n capacity : ℕ) → view_with (new_desk (member node n capacity) 0 []) [] ≡ new_node node n capacity
+pub new_shown : (node n capacity : ℕ) → view_with (opened_view (member node n capacity) 0 (opened fresh [])) [] ≡ new_node node n capacity
 unfolding shown_with
 new_shown node n capacity = refl
 
-pub starts_shown : (node n capacity run : ℕ) (inputs : List Input) → view_with (new_desk (member node n capacity) run inputs) [] ≡ restarted inputs (new_node node n capacity)
+-- it shows these inputs, and the area in use
+pub starts_shown : (m : Member) (run : ℕ) (base : Base) (inputs : List Input) (v : NodeView) → v.member ≡ m → v.base ≡ base → view_with (opened_view m run (opened base inputs)) [] ≡ restarted inputs v
 unfolding restarted shown_with
-starts_shown node n capacity run inputs = refl
+starts_shown m run base inputs v member_is base_is = λ i. record { member = sym member_is i; inputs = inputs; durable = length inputs; base = sym base_is i; held = []; issued = 0 }
 
-pub none_lawful : (me n capacity : ℕ) → IsHistory (member me n capacity) []
+pub none_lawful : (me n capacity : ℕ) → IsLawfulState (member me n capacity) (opened fresh [])
 unfolding IsLawful EachAfter
-none_lawful me n capacity = tt
+none_lawful me n capacity = lawful-opened (member me n capacity) fresh [] (base-fresh me []) tt
 
 -- ---- a node that is stopped
 
--- whether the batch landed or flies for good, the images read as what was launched
-pub stopped : (header : Member) (s t : NodeState) (image : List ℕ) → (t ≡ launched s) ⊎ (t ≡ landed (launched s)) → ReadsAsOneOf header (states.durable_in t) (states.flown_in t) image
-    → ReadsAsOneOf header (states.durable_in (launched s)) (states.flown_in (launched s)) image
-stopped header s t image (inl e) read = subst (λ (u : NodeState). ReadsAsOneOf header (states.durable_in u) (states.flown_in u) image) e read
-stopped header s t image (inr e) read =
-    let all = subst (λ (u : NodeState). ReadsAsOneOf header (states.durable_in u) (states.flown_in u) image) e read in
-    ⊎_elim (λ old. inr old) (λ new. inr new) all
+-- whether what flew landed or flies for good, the images read as what a stop leaves of the state in which it flies
+pub stopped : (m : Member) (s t : NodeState) (image : List ℕ) → (t ≡ s) ⊎ (t ≡ landed s) → ReadsAsLeft m t image → ReadsAsLeft m s image
+stopped m s t image (inl e) read = subst (λ (u : NodeState). ReadsAsLeft m u image) e read
+stopped m s t image (inr e) read = ⊎_elim (λ old. inr old) (λ new. inr new) (subst (λ (u : NodeState). ReadsAsLeft m u image) e read)
+
+-- ---- a node between its calls
+
+-- of an idle state no checkpoint flies
+pub is_idle_state : (s : NodeState) → s.flying ≡ s.durable → s.checkpoint ≡ None → is_idle s ≡ true
+is_idle_state s idle none = (λ i. nat_eq (idle i) s.durable && is_none (none i)) ∙ ap (λ b. b && true) (eq-eqb s.durable s.durable refl)
+
+pub base_stays : (s : NodeState) → s.checkpoint ≡ None → launched_base s ≡ s.base
+base_stays s none = ap (λ o. unwrap_or o s.base) none
+
+-- what a stop leaves of it has the same area
+pub left_is : (s : NodeState) (keep : Bool) → s.checkpoint ≡ None → left_by keep s ≡ opened s.base (left_by keep s).inputs
+left_is s true none = ap (λ (b : Base). opened b (flown_in s)) (base_stays s none)
+left_is s false none = refl
+
+-- the opening stands for its past
+pub count_past : (past : List Input) (desk : DeskKept) (k : ℕ) → IsPast desk.view.member desk.opening past → desk.opening.inputs + k ≡ length past + k
+count_past past desk k is = ap (λ (s : Summary). s.inputs + k) is.summed
+
+-- the desk shows all of it
+pub shown_by : (past : List Input) (desk : DeskKept) → IsPast desk.view.member desk.opening past → IsShownBy desk.view.member (past ++ desk.view.state.inputs) (length past + desk.view.state.durable) desk
+shown_by past desk is = record { past = past; member = refl; is = is; all = refl; count = refl }
 
 -- ---- the oldest ticket
 
@@ -125,6 +149,9 @@ module _ (desk : DeskView) (from top : ℕ) (queue : List HeldView) (held : AreH
 -- ---- a node at work
 
 module _ (desk : DeskView) (reach : Reach) (queue : List HeldView) (here : IsServed desk reach queue) where
+  pub within_served : desk.state.durable ≤ length desk.state.inputs
+  within_served = let low = here.lawful.counts.durable in let high = here.lawful.counts.flying in omega arith
+
   -- it is asked
   module _ (q : Request) (h : HeldView) (is : h.ticket ≡ ticket_for q desk) where
     pub gives : IsServed (submitted q desk) reach (queue ++ h ∷ [])
@@ -134,14 +161,13 @@ module _ (desk : DeskView) (reach : Reach) (queue : List HeldView) (here : IsSer
         let more = gained_by m s q in
         let a = desks.answered desk q in
         let long = length-append s.inputs more in
-        let within = here.within in
+        let within = within_served in
         record {
           takes = here.takes;
           works = here.works;
           idle = here.idle;
-          plain = record { base = here.plain.base; none = here.plain.none };
-          within = omega arith;
-          lawful = lawful_asked m s q here.plain here.lawful;
+          none = here.none;
+          lawful = lawful-asked m s q here.lawful;
           held = held_more m.node desk.run 0 (length s.inputs) (length (s.inputs ++ more)) desk.issued a h desk.tickets queue is (omega arith) (omega arith) here.held;
           reaches = here.reaches;
         }
@@ -151,7 +177,7 @@ module _ (desk : DeskView) (reach : Reach) (queue : List HeldView) (here : IsSer
     gives_shown =
         let shown = shown_more desk.member.node desk.run 0 (length desk.state.inputs) desk.issued (desks.answered desk q) h desk.tickets queue here.held in
         let m = desk.member in
-        let base = plain-base desk.state here.plain in
+        let base = base_stays desk.state here.none in
         (λ i. record (view_with (submitted q desk) (queue ++ h ∷ [])) { held = shown i })
         ∙ (λ i. record (view_with (submitted q desk) (queue ++ h ∷ [])) {
           inputs = desk.state.inputs ++ gained m.node m.n m.capacity (base i) desk.state.inputs q;
@@ -160,7 +186,7 @@ module _ (desk : DeskView) (reach : Reach) (queue : List HeldView) (here : IsSer
 
   -- its durable inputs stay
   pub durable_more : (more : List Input) → take desk.state.durable (desk.state.inputs ++ more) ≡ take desk.state.durable desk.state.inputs
-  durable_more more = take-append-le desk.state.durable desk.state.inputs more here.within
+  durable_more more = take-append-le desk.state.durable desk.state.inputs more within_served
 
   -- a batch landed
   pub lands : IsServed (desks.landed (desks.launched desk)) reach queue
@@ -168,12 +194,14 @@ module _ (desk : DeskView) (reach : Reach) (queue : List HeldView) (here : IsSer
     takes = here.takes;
     works = here.works;
     idle = refl;
-    plain = plain-landed (launched desk.state) (record { base = here.plain.base; none = here.plain.none });
-    within = omega arith;
-    lawful = here.lawful;
+    none = refl;
+    lawful = lawful-landed desk.member (launched desk.state) (lawful-launched desk.member desk.state (is_idle_state desk.state here.idle here.none) here.lawful);
     held = here.held;
     reaches = here.reaches;
   }
+
+  pub lands_shown : view_with (desks.landed (desks.launched desk)) queue ≡ flushed (view_with desk queue)
+  lands_shown = λ i. record (flushed (view_with desk queue)) { base = base_stays desk.state here.none i }
 
   -- where the oldest ticket is not due, none is
   pub sealed : MatchFirst (λ h. desk.state.durable < h.ticket.number) queue → filter (is_due desk.state.durable) (shown_with desk.tickets queue) ≡ []
@@ -186,8 +214,7 @@ module _ (desk : DeskView) (reach : Reach) (queue : List HeldView) (here : IsSer
       takes = here.takes;
       works = here.works;
       idle = here.idle;
-      plain = here.plain;
-      within = here.within;
+      none = here.none;
       lawful = here.lawful;
       held = others_held desk 0 (length desk.state.inputs) queue here.held h rest is;
       reaches = here.reaches;
@@ -205,8 +232,15 @@ module _ (desk : DeskView) (reach : Reach) (queue : List HeldView) (here : IsSer
         let number = first_number desk 0 (length desk.state.inputs) queue here.held h rest is answered there in
         grind (arith, nat_tests)
 
+-- a ticket that is open is so whatever is summarised
+pub here_since : (past : List Input) (desk : DeskKept) (ticket : TicketView) (kept : Answered) → IsHere (seen past desk) ticket kept → IsHere desk.view ticket kept
+here_since past desk ticket kept here = record { node = here.node; run = here.run; own = here.own; question = here.question }
+
+pub here_whole : (past : List Input) (desk : DeskKept) (ticket : TicketView) (kept : Answered) → IsHere desk.view ticket kept → IsHere (seen past desk) ticket kept
+here_whole past desk ticket kept here = record { node = here.node; run = here.run; own = here.own; question = here.question }
+
 -- a ticket that is open and due is not refused
-pub not_sealed : (desk : DeskView) (ticket : TicketView) (kept : Answered) (why : Refusal) → IsHere desk ticket kept → kept.answer.number ≤ desk.state.durable → IsSealed desk ticket why → ⊥
+pub not_sealed : (desk : DeskKept) (ticket : TicketView) (kept : Answered) (why : Refusal) → IsHere desk.view ticket kept → kept.answer.number ≤ desk.opening.inputs + desk.view.state.durable → IsSealed desk ticket why → ⊥
 not_sealed desk ticket kept why here low sealed = elim sealed.cause [
   | inl foreign ↦ foreign.1 kept here
   | inr early ↦ let same : early.0 ≡ kept = (let e = early.1.own in let f = here.own in cc) in
@@ -226,6 +260,18 @@ no_fault (inr short) failed = short
 head_fault : (node n : ℕ) (image : List ℕ) (count : ℕ) → header_at node n image ≡ Err (Device count) → ⊥
 head_fault node n image count fault = grind (arith, nat_tests)
 
+areas_fault : (n capacity : ℕ) (image : List ℕ) (why : Refusal) (count : ℕ) → AreAreasUnread n capacity image why → why ≡ Device count → ⊥
+areas_fault n capacity image why count unread fault = elim unread.cause [
+  | inl none ↦ let is = sym fault ∙ none.0 in absurd cc
+  | inr broken ↦ elim broken.cause [
+    | inl head ↦ let is = sym fault ∙ head.0 in absurd cc
+    | inr frames ↦ elim frames.cause [
+      | inl at ↦ let is = sym fault ∙ at.is in absurd cc
+      | inr past ↦ let is = sym fault ∙ past.0 in absurd cc
+    ]
+  ]
+]
+
 -- a node that takes requests takes one of its ring while it gave few tickets
 pub unobjected : (desk : DeskView) (question : Request) → desk.closed ≡ false → desk.failed ≡ false → is_outside desk.member.n question ≡ false → desk.issued < 2 ^ 60 → objection desk question ≡ None
 unobjected desk question takes works inside few = grind (arith, nat_tests)
@@ -241,5 +287,5 @@ no_cause node n before now image why (inr fault) (inl short) = short
 no_cause node n before now image why (inr fault) (inr (inr unlawful)) = let is = sym fault.is ∙ unlawful.unlawful.is in absurd cc
 no_cause node n before now image why (inr fault) (inr (inl unread)) = elim unread.cause [
   | inl head ↦ absurd (head_fault node n image now (head ∙ ap Err fault.is))
-  | inr frames ↦ let is = sym fault.is ∙ frames.2.is in absurd cc
+  | inr areas ↦ absurd (areas_fault n areas.0 image why now areas.2 fault.is)
 ]

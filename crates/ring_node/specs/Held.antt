@@ -1,19 +1,21 @@
 -- A node at work with its open tickets, and the messages that it sent.
-use Rattle.std.specs.Prelude.{ℕ, ◌≡◌, ◌≤◌, true, false, List, [], ◌∷◌, length, Option}
+use Rattle.std.specs.Prelude.{ℕ, ◌≡◌, ◌≤◌, true, false, List, [], ◌∷◌, length, Option, None}
 use Rattle.disk_model.specs.Disk.{Reach, Reaches}
 use Rattle.disk_model.specs.FuseDevice as fuse
 use Rattle.disk_model.specs.MemDevice as memory
 use Rattle.disk_model.specs.declared.fuse.FuseDevice.{FuseDevice}
 use Rattle.disk_model.specs.declared.memory.MemDevice.{MemDevice}
 use Rattle.ring_records.specs.declared.msg.Msg.{Msg}
+use Rattle.ring_records.specs.declared.input.Input.{Input}
 use Rattle.ring_records.specs.Answer.{Answered}
-use Rattle.ring_records.specs.States.{IsPlain, durable_in}
+use Rattle.ring_records.specs.States.{IsLawfulState, durable_in}
 use Rattle.ring_records.specs.Emission.{sent}
 use Rattle.ring_records.specs.Message.{candidate_of}
 use Rattle.std.specs.List.{Contains}
-use Rattle.ring_records.specs.Member.{Member, IsHistory}
+use Rattle.ring_records.specs.Member.{Member}
 use Rattle.gated_journal.specs.Reading.{device_size, is_header}
-use Rattle.group_commit.specs.Desk.{DeskView}
+use Rattle.group_commit.specs.Desk.{DeskView, DeskKept, seen}
+use Rattle.group_commit.specs.Past.{IsPast}
 use Rattle.group_commit.specs.Ticket.{TicketView, ticket_with}
 use Rattle.ring_node.specs.Node.{NodeView}
 use Rattle.ring_node.specs.Open.{Open}
@@ -55,6 +57,7 @@ view_with desk queue = record {
   member = desk.member;
   inputs = desk.state.inputs;
   durable = desk.state.durable;
+  base = desk.state.base;
   held = shown_with desk.tickets queue;
   issued = desk.issued;
 }
@@ -63,15 +66,14 @@ view_with desk queue = record {
 abbrev pub reach_of : FuseDevice MemDevice → Reach
 reach_of device = fuse.reach_of memory.reach_of device
 
--- It takes requests, nothing flies, none of its inputs is summarised, its open tickets are these, and its device is reliable
--- to the journal's end: no fuse was armed.
+-- It takes requests, nothing flies, its state is lawful, its open tickets are these, and its device is reliable to the
+-- journal's end: no fuse was armed.
 pub record IsServed (desk : DeskView) (reach : Reach) (queue : List HeldView) : Type 0 where
   pub takes : desk.closed ≡ false
   pub works : desk.failed ≡ false
   pub idle : desk.state.flying ≡ desk.state.durable
-  pub plain : IsPlain desk.state
-  pub within : desk.state.durable ≤ length desk.state.inputs
-  pub lawful : IsHistory desk.member desk.state.inputs
+  pub none : desk.state.checkpoint ≡ None
+  pub lawful : IsLawfulState desk.member desk.state
   pub held : AreHeld desk.member.node desk.run 0 (length desk.state.inputs) desk.tickets queue
   pub reaches : Reaches reach (device_size desk.member.capacity)
 
@@ -81,10 +83,15 @@ pub record IsServed (desk : DeskView) (reach : Reach) (queue : List HeldView) : 
 abbrev pub AreInside : ℕ → List Msg → Type 0
 AreInside n messages = (msg : Msg) → Contains messages msg → (candidate_of msg).node ≤ n
 
--- the node at work is this one, and the messages are those that its durable inputs sent
-pub record IsRingNode (m : Member) (desk : DeskView) (reach : Reach) (queue : List HeldView) (messages : List Msg) : Type 0 where
+-- The node at work is this one, by its whole history, and the messages are those that its durable inputs sent.
+pub record IsWhole (m : Member) (desk : DeskView) (reach : Reach) (queue : List HeldView) (messages : List Msg) : Type 0 where
   pub range : is_header m ≡ true
   pub is : desk.member ≡ m
   pub served : IsServed desk reach queue
   pub sends : messages ≡ sent m.node (durable_in desk.state)
   pub inside : AreInside m.n messages
+
+-- These inputs are the desk's past, and the node is so behind them.
+pub record IsRingNode (m : Member) (past : List Input) (desk : DeskKept) (reach : Reach) (queue : List HeldView) (messages : List Msg) : Type 0 where
+  pub behind : IsPast desk.view.member desk.opening past
+  pub whole : IsWhole m (seen past desk) reach queue messages

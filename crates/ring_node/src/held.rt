@@ -1,11 +1,12 @@
 // The open tickets of a node, with the numbers that the ring gave them.
-ghost use Rattle.std.specs.Prelude.{◌≡◌, ◌≤◌, ◌<◌, ℕ, [], length, true, false, IfOk};
+ghost use Rattle.std.specs.Prelude.{◌≡◌, ◌≤◌, ◌<◌, ℕ, List, [], true, false, IfOk};
 ghost use Rattle.std.specs.List.{filter_map};
 ghost use Rattle.disk_model.specs.FuseDevice.{inner_of};
 ghost use Rattle.disk_model.specs.MemDevice.{disk_of};
 ghost use Rattle.ring_records.specs.Answer.{Answered};
-ghost use Rattle.ring_records.specs.Member.{IsHistory};
-ghost use Rattle.group_commit.specs.Desk.{ended, IsHere};
+ghost use Rattle.ring_records.specs.declared.input.Input.{Input};
+ghost use Rattle.group_commit.specs.Desk.{seen, ended, IsHere};
+ghost use Rattle.group_commit.specs.Past.{IsPast};
 ghost use Rattle.node_store.specs.Node as nodes;
 ghost use Rattle.node_store.specs.State.{Holds};
 ghost use Rattle.ring_node.specs.Held.{MatchFirst, AreHeld};
@@ -53,9 +54,8 @@ pub(crate) fn is_due(held: &VecDeque<Held>, durable: u64) -> bool
 
 /// Closes the node and gives up its open tickets. Its device.
 pub(crate) fn closed(mut node: Node<Disk>, held: VecDeque<Held>) -> MemDevice
-    requires held { AreHeld (nodes.desk_of node).member.node (nodes.desk_of node).run 0 (length (nodes.state_of node).inputs) (nodes.desk_of node).tickets held.items }
-    ensures lawful { IsHistory (nodes.desk_of node).member (nodes.state_of node).inputs }
-    ensures holds { Holds (nodes.desk_of node).member (disk_of result) (nodes.state_of node) }
+    requires held { (from top : ℕ) × AreHeld (nodes.member_of node).node (nodes.desk_of node).view.run from top (nodes.desk_of node).view.tickets held.items }
+    ensures holds { (past : List Input) → IsPast (nodes.member_of node) (nodes.desk_of node).opening past → Holds (nodes.member_of node) (disk_of result) (seen past (nodes.desk_of node)).state }
     ensures device { result ≡ inner_of (nodes.device_of node) }
 {
     node.close();
@@ -65,9 +65,9 @@ pub(crate) fn closed(mut node: Node<Disk>, held: VecDeque<Held>) -> MemDevice
 
 // Gives up the tickets.
 fn forfeit_all(node: &mut Node<Disk>, mut held: VecDeque<Held>)
-    requires over { (nodes.desk_of node.old).closed ≡ true }
-    requires held { (from top : ℕ) × AreHeld (nodes.desk_of node.old).member.node (nodes.desk_of node.old).run from top (nodes.desk_of node.old).tickets held.items }
-    ensures next { nodes.desk_of node.new ≡ record (nodes.desk_of node.old) { tickets = [] } }
+    requires over { (nodes.desk_of node.old).view.closed ≡ true }
+    requires held { (from top : ℕ) × AreHeld (nodes.member_of node.old).node (nodes.desk_of node.old).view.run from top (nodes.desk_of node.old).view.tickets held.items }
+    ensures next { nodes.desk_of node.new ≡ record (nodes.desk_of node.old) { view = record (nodes.desk_of node.old).view { tickets = [] } } }
     ensures device { nodes.device_of node.new ≡ nodes.device_of node.old }
 {
     while let Some(first) = held.pop_front() {
@@ -78,9 +78,9 @@ fn forfeit_all(node: &mut Node<Disk>, mut held: VecDeque<Held>)
 
 // Gives up a ticket that is open.
 fn forfeit(node: &mut Node<Disk>, held: Held)
-    requires over { (nodes.desk_of node.old).closed ≡ true }
-    requires here { (kept : Answered) × IsHere (nodes.desk_of node.old) held.ticket kept }
-    ensures next { nodes.desk_of node.new ≡ ended held.ticket.own (nodes.desk_of node.old) }
+    requires over { (nodes.desk_of node.old).view.closed ≡ true }
+    requires here { (kept : Answered) × IsHere (nodes.desk_of node.old).view held.ticket kept }
+    ensures next { nodes.desk_of node.new ≡ record (nodes.desk_of node.old) { view = ended held.ticket.own (nodes.desk_of node.old).view } }
     ensures device { nodes.device_of node.new ≡ nodes.device_of node.old }
 {
     let Held { serial: _, ticket } = held;

@@ -1,11 +1,11 @@
 // A node of a ring: what the tickets wait for, and what it may hand on.
-ghost use Rattle.std.specs.Prelude.{◌≡◌, ◌-◌, ◌≤◌, ◌<◌, ◌^◌, ◌∷◌, [], true, false, length, slice_get, IfSome, IfNone, IfOk, OnOk, OnErr};
+ghost use Rattle.std.specs.Prelude.{◌≡◌, ◌+◌, ◌-◌, ◌≤◌, ◌<◌, ◌^◌, ◌∷◌, [], true, false, length, slice_get, IfSome, IfNone, IfOk, OnOk, OnErr};
 ghost use Rattle.std.specs.List.{filter};
 ghost use Rattle.ring_records.specs.Emission.{sent};
 ghost use Rattle.ring_records.specs.Member.{member};
 ghost use Rattle.ring_records.specs.Message.{candidate_of, is_outside};
 ghost use Rattle.gated_journal.specs.Reading.{is_header};
-ghost use Rattle.ring_node.specs.Node.{new_node, durable_in, asked_with, flown, flushed, is_credited};
+ghost use Rattle.ring_node.specs.Node.{new_node, durable_in, asked_with, flown, flushed, is_credited, IsShownBy};
 ghost use Rattle.ring_node.specs.Open.{is_due, open_with};
 
 use crate::held::{Held, closed, is_due};
@@ -14,7 +14,7 @@ use disk_model::{FuseDevice, MemDevice};
 use gated_journal::device_size;
 use group_commit::{Desk, Stub};
 use node_store::Node;
-use ring_records::{Msg, NodeNo, Refusal, Request};
+use ring_records::{Input, Msg, NodeNo, Refusal, Request};
 use std::alloc::{AllocError, Global};
 use std::collections::VecDeque;
 use std::marker::Model;
@@ -32,6 +32,8 @@ pub struct RingNode {
     // How often it was opened again.
     pub(crate) runs: u64,
     pub(crate) node: Node<Disk>,
+    // The inputs that the node's opening stands for, the oldest first: it and the node hold each input once.
+    pub(crate) past: Vec<Input>,
     pub(crate) held: VecDeque<Held>,
     // All messages that its durable inputs sent, the oldest first.
     pub(crate) messages: Vec<Msg>,
@@ -39,15 +41,16 @@ pub struct RingNode {
 
 impl Model for RingNode {
     ghost use Rattle.ring_records.specs.Member.{member};
+    ghost use Rattle.group_commit.specs.Desk.{seen};
     ghost use Rattle.node_store.specs.Node as nodes;
     ghost use Rattle.ring_node.specs.Held.{view_with, reach_of, IsRingNode};
     ghost use Rattle.ring_node.specs.Node.{NodeView};
 
     ghost Value = { NodeView };
 
-    ghost view = { λ r. view_with (nodes.desk_of r.node) r.held.items };
+    ghost view = { λ r. view_with (seen r.past.items (nodes.desk_of r.node)) r.held.items };
 
-    ghost invariant = { λ r. IsRingNode (member r.me r.n r.capacity) (nodes.desk_of r.node) (reach_of (nodes.device_of r.node)) r.held.items r.messages.items };
+    ghost invariant = { λ r. IsRingNode (member r.me r.n r.capacity) r.past.items (nodes.desk_of r.node) (reach_of (nodes.device_of r.node)) r.held.items r.messages.items };
 }
 
 impl RingNode {
@@ -65,6 +68,7 @@ impl RingNode {
                 capacity,
                 runs: 0,
                 node,
+                past: Vec::new(alloc),
                 held: VecDeque::new(alloc),
                 messages: Vec::new(alloc),
             }),
@@ -135,6 +139,7 @@ impl RingNode {
             capacity: _,
             runs: _,
             node,
+            past: _,
             held,
             messages: _,
         } = self;
@@ -143,11 +148,12 @@ impl RingNode {
 
     /// Its desk, which tells what it accepted.
     pub fn desk(&self) -> &Desk
-        ensures member { result.now.member ≡ self.now.member }
-        ensures inputs { result.now.state.inputs ≡ self.now.inputs }
-        ensures durable { result.now.state.durable ≡ self.now.durable }
+        ensures member { result.now.view.member ≡ self.now.member }
+        ensures inputs { result.now.opening.inputs + length result.now.view.state.inputs ≡ length self.now.inputs }
+        ensures durable { result.now.opening.inputs + result.now.view.state.durable ≡ self.now.durable }
         ensures within { self.now.durable ≤ length self.now.inputs }
-        ensures tickets { length result.now.tickets ≡ length self.now.held }
+        ensures shows { IsShownBy self.now.member self.now.inputs self.now.durable result.now }
+        ensures tickets { length result.now.view.tickets ≡ length self.now.held }
     {
         self.node.desk()
     }

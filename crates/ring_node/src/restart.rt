@@ -1,17 +1,19 @@
 // A node that loses its memory, and is opened again from its device.
 ghost use Rattle.gated_journal.specs.Reading.{device_size};
-ghost use Rattle.std.specs.Prelude.{◌≡◌, ◌⊎◌, ◌+◌, ◌≤◌, ◌<◌, ℕ, length, Bool, true, false, take, IfOk, OnOk};
+ghost use Rattle.std.specs.Prelude.{◌≡◌, ◌⊎◌, ◌≤◌, ◌<◌, ◌++◌, ℕ, List, length, Bool, true, false, take, IfOk, OnOk};
 ghost use Rattle.std.specs.List.{filter_map};
 ghost use Rattle.disk_model.specs.Disk.{Reaches};
 ghost use Rattle.disk_model.specs.FuseDevice.{inner_of};
 ghost use Rattle.disk_model.specs.MemDevice.{disk_of, limit_of};
-ghost use Rattle.ring_records.specs.States.{NodeState, launched, landed, left_by};
+ghost use Rattle.ring_records.specs.declared.input.Input.{Input};
+ghost use Rattle.ring_records.specs.States.{NodeState, IsLawfulState, launched, landed, left_by};
 ghost use Rattle.ring_records.specs.Emission.{sent};
 ghost use Rattle.ring_records.specs.History.{credit};
-ghost use Rattle.ring_records.specs.Member.{member, IsHistory};
-ghost use Rattle.group_commit.specs.Desk.{new_desk};
+ghost use Rattle.ring_records.specs.Member.{member};
+ghost use Rattle.group_commit.specs.Desk.{seen};
+ghost use Rattle.group_commit.specs.Past.{IsPast};
 ghost use Rattle.node_store.specs.Node as nodes;
-ghost use Rattle.node_store.specs.State.{Holds};
+ghost use Rattle.node_store.specs.State.{Holds, IsOpenedAs};
 ghost use Rattle.ring_node.specs.Held.{reach_of, AreHeld};
 ghost use Rattle.ring_node.specs.Node.{durable_in, restarted, left, is_credited};
 ghost use Rattle.ring_node.specs.Open.{serial_of};
@@ -22,7 +24,7 @@ use crate::node::{Disk, RingNode, memory_alone};
 use disk_model::{FuseDevice, MemDevice, Tear};
 use group_commit::Desk;
 use node_store::Node;
-use ring_records::{Msg, NodeNo, Refusal};
+use ring_records::{Input, Msg, NodeNo, Refusal};
 use std::alloc::{AllocError, Global};
 use std::collections::VecDeque;
 
@@ -40,14 +42,18 @@ impl RingNode {
             capacity,
             runs,
             node,
+            past,
             held,
             messages,
         } = self;
         let lost = serials_in(alloc, &held);
+        let past = joined(past, &node);
         let device = closed(node, held);
         let lost = lost?;
+        let past = past?;
         let runs = runs.wrapping_add(1);
         let node = reopened(alloc, device, me, n, capacity, runs)?;
+        let past = summarised(past, &node);
         let held = VecDeque::new(alloc);
         let again = RingNode {
             alloc,
@@ -56,6 +62,7 @@ impl RingNode {
             capacity,
             runs,
             node,
+            past,
             held,
             messages,
         };
@@ -79,18 +86,22 @@ impl RingNode {
             capacity,
             runs,
             node,
+            past,
             held,
             messages,
         } = self;
         let durable = node.durable();
         let lost = serials_in(alloc, &held);
+        let past = joined(past, &node);
         let device = stopped(node, held, call, tear)?;
         let lost = lost?;
+        let past = past?;
         let runs = runs.wrapping_add(1);
         let node = reopened(alloc, device, me, n, capacity, runs)?;
+        let past = summarised(past, &node);
         let keeps = durable < node.durable();
         let held = VecDeque::new(alloc);
-        match caught_up(messages, node.desk()) {
+        match caught_up(messages, node.desk(), &past) {
             Ok(messages) => {
                 let again = RingNode {
                     alloc,
@@ -99,6 +110,7 @@ impl RingNode {
                     capacity,
                     runs,
                     node,
+                    past,
                     held,
                     messages,
                 };
@@ -120,10 +132,10 @@ fn stopped(
     call: u64,
     tear: Tear,
 ) -> Result<MemDevice, AllocError>
-    requires works { (nodes.desk_of node).failed ≡ false }
-    requires held { AreHeld (nodes.desk_of node).member.node (nodes.desk_of node).run 0 (length (nodes.state_of node).inputs) (nodes.desk_of node).tickets held.items }
-    ensures lawful { OnOk result (IsHistory (nodes.desk_of node).member (nodes.state_of node).inputs) }
-    ensures holds { IfOk result (λ device. Holds (nodes.desk_of node).member (disk_of device) (launched (nodes.state_of node))) }
+    requires works { (nodes.desk_of node).view.failed ≡ false }
+    requires held { (from top : ℕ) × AreHeld (nodes.member_of node).node (nodes.desk_of node).view.run from top (nodes.desk_of node).view.tickets held.items }
+    ensures holds { IfOk result (λ device. (past : List Input) → IsPast (nodes.member_of node) (nodes.desk_of node).opening past
+        → Holds (nodes.member_of node) (disk_of device) (launched (seen past (nodes.desk_of node)).state)) }
     ensures limit { IfOk result (λ device. limit_of device ≡ limit_of (inner_of (nodes.device_of node))) }
 {
     node.arm(call.saturating_sub(1), false);
@@ -136,10 +148,9 @@ fn stopped(
 
 // Flushes the node, whose device may fail. Refused where memory is missing, and then nothing is changed.
 fn flush_or_fail(node: &mut Node<Disk>) -> Result<(), AllocError>
-    requires works { (nodes.desk_of node.old).failed ≡ false }
+    requires works { (nodes.desk_of node.old).view.failed ≡ false }
     ensures state { OnOk result ((nodes.state_of node.new ≡ launched (nodes.state_of node.old)) ⊎ (nodes.state_of node.new ≡ landed (launched (nodes.state_of node.old)))) }
-    ensures inputs { (nodes.state_of node.new).inputs ≡ (nodes.state_of node.old).inputs }
-    ensures stays { nodes.desk_of node.new ≡ record (nodes.desk_of node.old) { state = nodes.state_of node.new; failed = (nodes.desk_of node.new).failed } }
+    ensures stays { nodes.desk_of node.new ≡ record (nodes.desk_of node.old) { view = record (nodes.desk_of node.old).view { state = nodes.state_of node.new; failed = (nodes.desk_of node.new).view.failed } } }
     ensures reach { reach_of (nodes.device_of node.new) ≡ reach_of (nodes.device_of node.old) }
 {
     match node.flush() {
@@ -161,9 +172,9 @@ fn reopened(
     run: u64,
 ) -> Result<Node<Disk>, AllocError>
     requires long { device_size capacity ≤ limit_of device }
-    requires holds { (s : NodeState) × IsHistory (member me n capacity) s.inputs × Holds (member me n capacity) (disk_of device) s }
-    ensures desk { IfOk result (λ node. (s : NodeState) → IsHistory (member me n capacity) s.inputs → Holds (member me n capacity) (disk_of device) s
-        → (keep : Bool) × (nodes.desk_of node ≡ new_desk (member me n capacity) run (left_by keep s).inputs)) }
+    requires holds { (s : NodeState) × IsLawfulState (member me n capacity) s × Holds (member me n capacity) (disk_of device) s }
+    ensures desk { IfOk result (λ node. (s : NodeState) → IsLawfulState (member me n capacity) s → Holds (member me n capacity) (disk_of device) s
+        → (keep : Bool) × IsOpenedAs (member me n capacity) run (left_by keep s) (nodes.desk_of node)) }
     ensures reaches { IfOk result (λ node. Reaches (reach_of (nodes.device_of node)) (device_size capacity)) }
 {
     match Node::recover(alloc, FuseDevice::idle(device), me, n, run) {
@@ -172,12 +183,30 @@ fn reopened(
     }
 }
 
-// The messages that the first inputs of the desk sent, and those that the others sent. All its inputs are durable.
-fn caught_up(mut messages: Vec<Msg>, desk: &Desk) -> Result<Vec<Msg>, AllocError>
-    requires durable { desk.now.state.durable ≡ length desk.now.state.inputs }
-    requires sent { (k : ℕ) × (messages.items ≡ sent desk.now.member.node (take k desk.now.state.inputs)) }
-    requires credited { credit desk.now.state.inputs ≤ length messages.items }
-    ensures { IfOk result (λ all. all.items ≡ sent desk.now.member.node desk.now.state.inputs) }
+// The inputs of the past, and those since of the node.
+fn joined(mut past: Vec<Input>, node: &Node<Disk>) -> Result<Vec<Input>, AllocError>
+    ensures { IfOk result (λ all. all.items ≡ past.items ++ (nodes.state_of node.now).inputs) }
+{
+    past.extend_from_slice(node.history())?;
+    Ok(past)
+}
+
+// The first of these inputs, as many as the node's opening stands for.
+fn summarised(mut all: Vec<Input>, node: &Node<Disk>) -> Vec<Input>
+    ensures { result.items ≡ take (nodes.desk_of node.now).opening.inputs all.items }
+{
+    all.truncate(node.desk().first() as usize);
+    all
+}
+
+// The messages that the first inputs of the desk's whole history sent, behind its past, and those that the others sent. All
+// its inputs are durable.
+fn caught_up(mut messages: Vec<Msg>, desk: &Desk, past: &Vec<Input>) -> Result<Vec<Msg>, AllocError>
+    requires behind { IsPast desk.now.view.member desk.now.opening past.now.items }
+    requires durable { (seen past.now.items desk.now).state.durable ≡ length (seen past.now.items desk.now).state.inputs }
+    requires sent { (k : ℕ) × (messages.items ≡ sent desk.now.view.member.node (take k (seen past.now.items desk.now).state.inputs)) }
+    requires credited { credit (seen past.now.items desk.now).state.inputs ≤ length messages.items }
+    ensures { IfOk result (λ all. all.items ≡ sent desk.now.view.member.node (seen past.now.items desk.now).state.inputs) }
 {
     let window = desk.window()?;
     messages.reserve(window.len())?;

@@ -6,7 +6,6 @@ use Rattle.std.proofs.lemmas.Bool.{cases_eq, eq-eqb, ne_eqb, leb-true, ltb-true}
 use Rattle.std.proofs.lemmas.List.{length-append, length-set, get_or-set_same, get_or-set_other}
 use Rattle.std.proofs.lemmas.List.Elements.{Contains-push, Contains-push_cases, Contains-append_left}
 use Rattle.ring_records.specs.declared.request.Request.{Request}
-use Rattle.ring_records.specs.Admission.{fresh}
 use Rattle.ring_records.specs.Member.{member}
 use Rattle.ring_records.specs.States.{NodeState, is_idle, answered_by, opened, asked, launched, landed, left_by}
 use Rattle.ring_records.proofs.Leader.{Contains-nil}
@@ -147,7 +146,7 @@ module _ (n capacity : ℕ) (events : List (ℕ × Action)) (nodes : List NodeVi
 
     -- ---- node i loses its memory
 
-    reopened : (more : List (ℕ × Action)) (inputs : List _) → process n capacity (events ++ more) i ≡ record { state = opened fresh inputs; kept = [] } → ShowsNode n capacity (events ++ more) i (restarted inputs v)
+    reopened : (more : List (ℕ × Action)) (inputs : List _) → process n capacity (events ++ more) i ≡ record { state = opened v.base inputs; kept = [] } → ShowsNode n capacity (events ++ more) i (restarted inputs v)
     unfolding restarted
     reopened more inputs same = record {
       is = mine.is;
@@ -168,7 +167,7 @@ module _ (n capacity : ℕ) (events : List (ℕ × Action)) (nodes : List NodeVi
     abbrev stop : Bool → List (ℕ × Action)
     stop keeps_flying = (i, Launch) ∷ (i, Crash keeps_flying) ∷ []
 
-    stopped_here : (keeps_flying : Bool) → process n capacity (events ++ stop keeps_flying) i ≡ record { state = opened fresh (left keeps_flying v); kept = [] }
+    stopped_here : (keeps_flying : Bool) → process n capacity (events ++ stop keeps_flying) i ≡ record { state = opened v.base (left keeps_flying v); kept = [] }
     unfolding act
     stopped_here true = process_two n capacity events i Launch (Crash true) ∙ ap (λ (s : NodeState). record { state = left_by true (launched s); kept = [] }) (sym mine.state)
     stopped_here false = process_two n capacity events i Launch (Crash false) ∙ ap (λ (s : NodeState). record { state = left_by false (launched s); kept = [] }) (sym mine.state)

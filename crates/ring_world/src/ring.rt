@@ -1,10 +1,11 @@
 // A ring of durable nodes in memory, and what happened to it.
-ghost use Rattle.std.specs.Prelude.{◌≡◌, ◌≤◌, [], length, true, false, OnOk, IfOk, IfSome};
+ghost use Rattle.std.specs.Prelude.{◌≡◌, ◌+◌, ◌≤◌, [], length, true, false, OnOk, IfOk, IfSome};
 ghost use Rattle.ring_records.specs.History.{taken as taken_in};
 ghost use Rattle.ring_records.specs.Member.{member};
 ghost use Rattle.ring_records.specs.Message.{candidate_of};
 ghost use Rattle.ring_records.specs.Order.{is_msg};
 ghost use Rattle.ring_records.specs.States.{shown_in};
+ghost use Rattle.ring_node.specs.Node.{IsShownBy};
 ghost use Rattle.ring_world.specs.Events.{IsSchedule};
 ghost use Rattle.ring_world.specs.Shows.{new_nodes};
 ghost use Rattle.ring_world.specs.State.{is_ring};
@@ -157,9 +158,9 @@ impl Ring {
     fn desk(&self, node: NodeNo) -> &Desk
         requires works { self.now.failed ≡ false }
         requires inside { node ≤ self.now.size }
-        ensures node { result.now.member.node ≡ node }
-        ensures inputs { result.now.state.inputs ≡ (node_at self.now node).inputs }
-        ensures durable { result.now.state.durable ≡ (node_at self.now node).durable }
+        ensures inputs { result.now.opening.inputs + length result.now.view.state.inputs ≡ length (node_at self.now node).inputs }
+        ensures durable { result.now.opening.inputs + result.now.view.state.durable ≡ (node_at self.now node).durable }
+        ensures shows { IsShownBy (member node self.now.size self.now.capacity) (node_at self.now node).inputs (node_at self.now node).durable result.now }
     {
         self.at(node).desk()
     }

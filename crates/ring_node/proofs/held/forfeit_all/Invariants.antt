@@ -7,9 +7,9 @@ use Rattle.ring_node.proofs.held.forfeit_all.Given as goal
 -- the tickets that are left are open
 abbrev pub invariant-loop-first : goal.invariant-loop-first
 invariant-loop-first l = record {
-  held : (from top : ℕ) × AreHeld l.node.desk.member.node l.node.desk.run from top l.node.desk.tickets l.held.items;
-  closed : l.node.desk.closed ≡ true;
-  desk : l.node.desk ≡ record l.initial.node.desk { tickets = l.node.desk.tickets };
+  held : (from top : ℕ) × AreHeld l.node.desk.view.member.node l.node.desk.view.run from top l.node.desk.view.tickets l.held.items;
+  closed : l.node.desk.view.closed ≡ true;
+  desk : l.node.desk ≡ record l.initial.node.desk { view = record l.initial.node.desk.view { tickets = l.node.desk.view.tickets } };
   device : nodes.device_of l.node ≡ nodes.device_of l.initial.node;
 }
 

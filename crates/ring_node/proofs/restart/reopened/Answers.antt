@@ -1,9 +1,10 @@
-use Rattle.std.proofs.Common.{◌≡◌, ◌+◌, ap, sym, subst}
+use Rattle.std.proofs.Common.{◌≡◌, ap, sym, subst}
 use Rattle.disk_model.specs.Disk.{Disk, Reach, Reaches}
 use Rattle.disk_model.specs.FuseDevice.{inner_of}
 use Rattle.disk_model.specs.MemDevice.{disk_of}
 use Rattle.ring_records.specs.States.{NodeState}
 use Rattle.ring_records.specs.Member.{member}
+use Rattle.gated_journal.specs.Reading.{device_size}
 use Rattle.node_store.specs.Node as nodes
 use Rattle.node_store.specs.State.{Holds}
 use Rattle.ring_node.specs.Held.{reach_of}
@@ -23,7 +24,7 @@ returns-in-Ok-clause-desk c = λ s lawful holds. c.in-Ok.ensures.recovery c.args
 pub returns-in-Ok-clause-reaches : goal.returns-in-Ok-clause-reaches
 returns-in-Ok-clause-reaches c =
     let same : reach_of (nodes.device_of c.in-Ok.node) ≡ reach_of c.idle.result = c.in-Ok.ensures.reach in
-    subst (λ (r : Reach). Reaches r (17 + c.args.capacity)) (sym same) (idle_reaches c.idle.result c.args.device (17 + c.args.capacity) c.idle.ensures.idle c.idle.ensures.inner c.requires.long)
+    subst (λ (r : Reach). Reaches r (device_size c.args.capacity)) (sym same) (idle_reaches c.idle.result c.args.device (device_size c.args.capacity) c.idle.ensures.idle c.idle.ensures.inner c.requires.long)
 
 -- The device is reliable to the end of what it holds, so it is memory that was missing.
 pub memory_alone-requires : goal.memory_alone-requires

@@ -1,11 +1,14 @@
 use Rattle.std.proofs.Common.{◌+◌, List, ◌++◌, ◌∷◌, [], ap, sym, ◌∙◌, arith}
 use Rattle.ring_node.specs.Node.{NodeView, new_node}
 use Rattle.ring_world.specs.Shows.{new_nodes}
-use Rattle.ring_world.proofs.Opened.{header_fits, ring_least, new_nodes_more, after_next}
+use Rattle.ring_world.proofs.Opened.{header_fits, ring_least, ring_most, new_nodes_more, after_next}
 use Rattle.ring_world.proofs.ring.fill.Goals as goal
 
 pub new-requires : goal.new-requires
 new-requires c = record { range = header_fits c.loop.node c.args.size c.args.capacity c.requires.range c.loop.invariant.inside }
+
+pub successor-node-requires-clause-limit : goal.successor-node-requires-clause-limit
+successor-node-requires-clause-limit c = ring_most c.args.size c.args.capacity c.requires.range
 
 pub loop-init : goal.loop-init
 unfolding new_nodes

@@ -1,6 +1,8 @@
-use Rattle.std.proofs.Common.{ℕ, ◌+◌, ◌≤◌, ap, sym, subst, ◌∙◌}
+use Rattle.std.proofs.Common.{ℕ, ◌≤◌, take, ap, sym, subst, ◌∙◌}
 use Rattle.std.specs.List.{filter_map}
 use Rattle.ring_records.specs.Member.{Member, member}
+use Rattle.group_commit.specs.Desk.{seen}
+use Rattle.gated_journal.specs.Reading.{device_size}
 use Rattle.disk_model.specs.MemDevice.{disk_of, limit_of}
 use Rattle.node_store.specs.State.{Holds}
 use Rattle.ring_node.specs.Node.{NodeView, restarted, durable_in}
@@ -10,26 +12,32 @@ use Rattle.ring_node.proofs.node.RingNode.crash.Goals as goal
 use Rattle.ring_node.proofs.node.RingNode.crash.Goals.{After-closed-device}
 
 -- what the node leaves on its device
-held : (c : After-closed-device) → Holds (member c.self.inside.me c.self.inside.n c.self.inside.capacity) (disk_of c.closed-device.result) c.self.inside.node.desk.state
-held c = subst (λ (k : Member). Holds k (disk_of c.closed-device.result) c.self.inside.node.desk.state) c.self.invariant.is c.closed-device.ensures.holds
+held : (c : After-closed-device) → Holds (member c.self.inside.me c.self.inside.n c.self.inside.capacity) (disk_of c.closed-device.result) (seen c.self.inside.past.items c.self.inside.node.desk).state
+held c =
+    let past = c.self.inside.past.items in
+    subst (λ (k : Member). Holds k (disk_of c.closed-device.result) (seen past c.self.inside.node.desk).state) c.self.invariant.whole.is (c.closed-device.ensures.holds past c.self.invariant.behind)
 
 pub reopened-requires : goal.reopened-requires
 reopened-requires c =
     let here = (goal.at.reopened-requires c).After-closed-device in
     record {
-      long = subst (λ (k : ℕ). 17 + c.self.inside.capacity ≤ k) (sym (ap limit_of c.closed-device.ensures.device)) (long_here _ _ _ _ _ c.self.invariant);
-      holds = (c.self.inside.node.desk.state, lawful_here _ _ _ _ _ c.self.invariant, held here);
+      long = subst (λ (k : ℕ). device_size c.self.inside.capacity ≤ k) (sym (ap limit_of c.closed-device.ensures.device)) (long_here _ _ _ _ _ c.self.invariant.whole);
+      holds = ((seen c.self.inside.past.items c.self.inside.node.desk).state, lawful_here _ _ _ _ _ c.self.invariant.whole, held here);
     }
 
 pub invariant_of-again : goal.invariant_of-again
 invariant_of-again c =
-    let found = c.in_ok-node.ensures.desk c.self.inside.node.desk.state (lawful_here _ _ _ _ _ c.self.invariant) (held (goal.at.invariant_of-again c).After-closed-device) in
-    crashed_again _ _ _ _ _ c.self.invariant _ found.0 _ _ found.1 c.new-held.ensures.items _ c.in_ok-node.ensures.reaches
+    let s = (seen c.self.inside.past.items c.self.inside.node.desk).state in
+    let found = c.in_ok-node.ensures.desk s (lawful_here _ _ _ _ _ c.self.invariant.whole) (held (goal.at.invariant_of-again c).After-closed-device) in
+    let past = c.summarised-past.ensures ∙ ap (take c.in_ok-node.node.desk.opening.inputs) c.in_ok-past.ensures in
+    crashed_again _ _ _ _ _ c.self.invariant.whole _ found.0 c.in_ok-node.node.desk _ _ found.1 past c.new-held.ensures.items _ c.in_ok-node.ensures.reaches
 
 pub returns-clause-next : goal.returns-clause-next
 returns-clause-next c =
-    let found = c.in_ok-node.ensures.desk c.self.inside.node.desk.state (lawful_here _ _ _ _ _ c.self.invariant) (held (goal.at.returns-clause-next c).After-closed-device) in
-    crashed_shown _ _ _ _ _ c.self.invariant _ found.0 _ _ found.1 c.new-held.ensures.items ∙ ap (λ (v : NodeView). restarted (durable_in v) v) c.self.view_is
+    let s = (seen c.self.inside.past.items c.self.inside.node.desk).state in
+    let found = c.in_ok-node.ensures.desk s (lawful_here _ _ _ _ _ c.self.invariant.whole) (held (goal.at.returns-clause-next c).After-closed-device) in
+    let past = c.summarised-past.ensures ∙ ap (take c.in_ok-node.node.desk.opening.inputs) c.in_ok-past.ensures in
+    crashed_shown _ _ _ _ _ c.self.invariant.whole _ found.0 c.in_ok-node.node.desk _ _ found.1 past c.new-held.ensures.items ∙ ap (λ (v : NodeView). restarted (durable_in v) v) c.self.view_is
 
 pub returns-clause-lost : goal.returns-clause-lost
-returns-clause-lost c = c.in_ok-lost.ensures ∙ (lost_serials _ _ _ c.self.invariant.served ∙ ap (λ (v : NodeView). filter_map serial_of v.held) c.self.view_is)
+returns-clause-lost c = c.in_ok-lost.ensures ∙ (lost_serials _ _ _ c.self.invariant.whole.served ∙ ap (λ (v : NodeView). filter_map serial_of v.held) c.self.view_is)
