@@ -1,3 +1,4 @@
+pub mod Fits
 pub mod Leaders
 pub mod LinkFits
 pub mod Order

@@ -1,14 +1,16 @@
 -- The nodes of a ring as they were opened, and which of them do not fit.
-use Rattle.std.specs.Prelude.{ℕ, ◌≡◌, ◌≢◌, ◌+◌, ◌-◌, ◌≤◌, ◌⊎◌, List, [], slice_get, Option, Some, None}
+use Rattle.std.specs.Prelude.{ℕ, ◌≡◌, ◌≢◌, ◌+◌, ◌-◌, ◌≤◌, ◌⊎◌, List, [], ◌++◌, slice_get, Option, Some, None}
 use Rattle.std.specs.List.{Contains}
 use Rattle.disk_model.specs.declared.device.Device.{Ghosts}
 use Rattle.ring_records.specs.declared.candidate.Candidate.{Candidate}
 use Rattle.ring_records.specs.declared.decision.Decision.{Decision}
 use Rattle.ring_records.specs.declared.input.Input.{Input}
 use Rattle.ring_records.specs.declared.key.Key.{Key}
+use Rattle.ring_records.specs.declared.summary.Summary.{Summary}
 use Rattle.ring_records.specs.Fitting.{LinkFits}
 use Rattle.ring_records.specs.Leader.{leader}
 use Rattle.ring_records.specs.Place.{after}
+use Rattle.group_commit.specs.Past.{IsPast}
 use Rattle.ring_server.specs.declared.open_node.OpenNode.{OpenNode}
 use Rattle.ring_server.specs.declared.run_fault.RunFault.{RunFault}
 use Rattle.ring_server.specs.declared.run_fault.RunFault.TheVariants as fault
@@ -20,9 +22,12 @@ module _ {D : Type 0} {g : Ghosts D} where
   abbrev pub number_of : OpenNode D g → ℕ
   number_of opened = opened.node
 
-  -- what it was opened with, all of it durable
+  -- the summary that it goes on from, and the inputs behind it, all of them durable
+  abbrev pub opening_of : OpenNode D g → Summary
+  opening_of opened = opened.desk.opening
+
   abbrev pub inputs_of : OpenNode D g → List Input
-  inputs_of opened = opened.desk.state.inputs
+  inputs_of opened = opened.desk.view.state.inputs
 
   -- they are nodes 1, 2, 3 and so on
   abbrev pub IsInOrder : List (OpenNode D g) → Type 0
@@ -32,9 +37,17 @@ module _ {D : Type 0} {g : Ghosts D} where
   inputs_there None = []
   inputs_there (Some opened) = inputs_of opened
 
-  -- the inputs of node i, the i-th of them
-  abbrev pub history : List (OpenNode D g) → ℕ → List Input
-  history ring i = inputs_there (slice_get ring (i - 1))
+  -- the inputs since its opening of node i, the i-th of them
+  abbrev pub since : List (OpenNode D g) → ℕ → List Input
+  since ring i = inputs_there (slice_get ring (i - 1))
+
+  -- the opening of each node is the summary of its past: that of node i is pasts i
+  abbrev pub ArePasts : (ℕ → List Input) → List (OpenNode D g) → Type 0
+  ArePasts pasts ring = (k : ℕ) (opened : OpenNode D g) → slice_get ring k ≡ Some opened → IsPast opened.desk.view.member (opening_of opened) (pasts (k + 1))
+
+  -- the whole history of node i with this past
+  abbrev pub history : (ℕ → List Input) → List (OpenNode D g) → ℕ → List Input
+  history pasts ring i = pasts i ++ since ring i
 
 -- ---- leaders beside decisions
 

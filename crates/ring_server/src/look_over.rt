@@ -1,9 +1,12 @@
 //! Whether the nodes of a ring are of one time.
-ghost use Rattle.std.specs.Prelude.{ℕ, ◌≡◌, ◌<◌, ◌≤◌, ◌+◌, ◌↔◌, IsTrue, false, length, OnOk, IfErr, IfSome, IfNone};
+ghost use Rattle.std.specs.Prelude.{ℕ, ◌≡◌, ◌<◌, ◌≤◌, ◌+◌, ◌++◌, ◌↔◌, IsTrue, false, List, length, OnOk, IfErr, IfSome, IfNone};
+ghost use Rattle.ring_records.specs.declared.input.Input.{Input};
 ghost use Rattle.ring_records.specs.States.{durable_in};
 ghost use Rattle.ring_records.specs.Fitting.{LinkFits, LeadersFit, RingFits};
 ghost use Rattle.ring_records.specs.Place.{after};
-ghost use Rattle.ring_server.specs.Fits.{number_of, IsInOrder, history, Agrees, Differs, IsCause, IsMemory};
+ghost use Rattle.group_commit.specs.Desk.{seen};
+ghost use Rattle.group_commit.specs.Past.{IsPast};
+ghost use Rattle.ring_server.specs.Fits.{number_of, opening_of, IsInOrder, since, ArePasts, history, Agrees, Differs, IsCause, IsMemory};
 
 use crate::open_node::OpenNode;
 use crate::run_fault::RunFault;
@@ -13,21 +16,24 @@ use ring_records::{Decision, NodeNo};
 use std::alloc::AllocError;
 
 /// Refused with the first two nodes that do not fit, where two do not: a link, of which the node behind it took more
-/// than the node before it sent, or less than was credited, or two leaders that are known for one key.
+/// than the node before it sent, or less than was credited, or two leaders that are known for one key. What is said of
+/// histories is said of those whose openings are summaries of pasts.
 pub(crate) fn look_over<V: Device>(ring: &[OpenNode<V>]) -> Result<(), RunFault>
     requires order { IsInOrder ring.now }
-    ensures fits { OnOk result (RingFits (length ring.now) (history ring.now)) }
-    ensures apart { IfErr result (λ fault. IsCause (length ring.now) (history ring.now) fault) }
-    ensures memory { RingFits (length ring.now) (history ring.now) → IfErr result (λ fault. IsMemory fault) }
+    ensures fits { OnOk result ((pasts : ℕ → List Input) → ArePasts pasts ring.now → RingFits (length ring.now) (history pasts ring.now)) }
+    ensures apart { IfErr result (λ fault. (pasts : ℕ → List Input) → ArePasts pasts ring.now → IsCause (length ring.now) (history pasts ring.now) fault) }
+    ensures memory { (pasts : ℕ → List Input) → ArePasts pasts ring.now → RingFits (length ring.now) (history pasts ring.now) → IfErr result (λ fault. IsMemory fault) }
 {
-    look_at_links(ring)?;
-    look_at_leaders(ring)
+    match look_at_links(ring) {
+        Ok(()) => look_at_leaders(ring),
+        Err(fault) => Err(fault),
+    }
 }
 
 fn look_at_links<V: Device>(ring: &[OpenNode<V>]) -> Result<(), RunFault>
     requires order { IsInOrder ring.now }
-    ensures fit { OnOk result ((i : ℕ) → 1 ≤ i → i ≤ length ring.now → LinkFits i (history ring.now i) (history ring.now (after (length ring.now) i))) }
-    ensures apart { IfErr result (λ fault. IsCause (length ring.now) (history ring.now) fault) }
+    ensures fit { OnOk result ((pasts : ℕ → List Input) → ArePasts pasts ring.now → (i : ℕ) → 1 ≤ i → i ≤ length ring.now → LinkFits i (history pasts ring.now i) (history pasts ring.now (after (length ring.now) i))) }
+    ensures apart { IfErr result (λ fault. (pasts : ℕ → List Input) → ArePasts pasts ring.now → IsCause (length ring.now) (history pasts ring.now) fault) }
 {
     for place in 0..ring.len() {
         let own = node_at(ring, place);
@@ -41,7 +47,8 @@ fn look_at_links<V: Device>(ring: &[OpenNode<V>]) -> Result<(), RunFault>
 
 /// Whether a node sent what the node behind it took, which took what the first one knows to be taken.
 fn link_fits(own: &Desk, next: &Desk) -> bool
-    ensures { IsTrue result ↔ LinkFits own.now.member.node own.now.state.inputs next.now.state.inputs }
+    ensures { (past behind : List Input) → IsPast own.now.view.member own.now.opening past → IsPast next.now.view.member next.now.opening behind
+        → IsTrue result ↔ LinkFits own.now.view.member.node (past ++ own.now.view.state.inputs) (behind ++ next.now.view.state.inputs) }
 {
     own.credit() <= next.taken() && next.taken() <= own.sent()
 }
@@ -49,8 +56,8 @@ fn link_fits(own: &Desk, next: &Desk) -> bool
 /// Each node is compared with those before it.
 fn look_at_leaders<V: Device>(ring: &[OpenNode<V>]) -> Result<(), RunFault>
     requires order { IsInOrder ring.now }
-    ensures fit { OnOk result ((i j : ℕ) → 1 ≤ i → i ≤ length ring.now → 1 ≤ j → j ≤ length ring.now → LeadersFit i j (history ring.now i) (history ring.now j)) }
-    ensures apart { IfErr result (λ fault. IsCause (length ring.now) (history ring.now) fault) }
+    ensures fit { OnOk result ((pasts : ℕ → List Input) → ArePasts pasts ring.now → (i j : ℕ) → 1 ≤ i → i ≤ length ring.now → 1 ≤ j → j ≤ length ring.now → LeadersFit i j (history pasts ring.now i) (history pasts ring.now j)) }
+    ensures apart { IfErr result (λ fault. (pasts : ℕ → List Input) → ArePasts pasts ring.now → IsCause (length ring.now) (history pasts ring.now) fault) }
 {
     for place in 0..ring.len() {
         let own = node_at(ring, place);
@@ -72,8 +79,8 @@ fn differing<V: Device>(
 ) -> Option<NodeNo>
     requires order { IsInOrder ring.now }
     requires inside { place ≤ length ring.now }
-    ensures none { IfNone result ((i : ℕ) → 1 ≤ i → i ≤ place → Agrees i (history ring.now i) decisions.now) }
-    ensures some { IfSome result (λ i. (1 ≤ i) × (i ≤ place) × Differs i (history ring.now i) decisions.now) }
+    ensures none { IfNone result ((pasts : ℕ → List Input) → ArePasts pasts ring.now → (i : ℕ) → 1 ≤ i → i ≤ place → Agrees i (history pasts ring.now i) decisions.now) }
+    ensures some { IfSome result (λ i. (1 ≤ i) × (i ≤ place) × ((pasts : ℕ → List Input) → ArePasts pasts ring.now → Differs i (history pasts ring.now i) decisions.now)) }
 {
     for before in 0..place {
         let other = node_at(ring, before);
@@ -86,8 +93,8 @@ fn differing<V: Device>(
 
 /// Whether the node knows no other leader for the key of a decision.
 fn agrees(desk: &Desk, decisions: &[Decision]) -> bool
-    ensures yes { IsTrue result → Agrees desk.now.member.node desk.now.state.inputs decisions.now }
-    ensures no { result ≡ false → Differs desk.now.member.node desk.now.state.inputs decisions.now }
+    ensures yes { IsTrue result → (past : List Input) → IsPast desk.now.view.member desk.now.opening past → Agrees desk.now.view.member.node (past ++ desk.now.view.state.inputs) decisions.now }
+    ensures no { result ≡ false → (past : List Input) → IsPast desk.now.view.member desk.now.opening past → Differs desk.now.view.member.node (past ++ desk.now.view.state.inputs) decisions.now }
 {
     for decision in decisions {
         if let Some(leader) = desk.who(&decision.key) {
@@ -104,9 +111,10 @@ fn node_at<V: Device>(ring: &[OpenNode<V>], place: usize) -> &OpenNode<V>
     requires order { IsInOrder ring.now }
     requires inside { place < length ring.now }
     ensures number { number_of result.now ≡ place + 1 }
-    ensures desk { result.now.desk.member.node ≡ place + 1 }
-    ensures inputs { result.now.desk.state.inputs ≡ history ring.now (place + 1) }
-    ensures durable { durable_in result.now.desk.state ≡ history ring.now (place + 1) }
+    ensures desk { result.now.desk.view.member.node ≡ place + 1 }
+    ensures past { (pasts : ℕ → List Input) → ArePasts pasts ring.now → IsPast result.now.desk.view.member (opening_of result.now) (pasts (place + 1)) }
+    ensures inputs { result.now.desk.view.state.inputs ≡ since ring.now (place + 1) }
+    ensures durable { (past : List Input) → durable_in (seen past result.now.desk).state ≡ past ++ since ring.now (place + 1) }
 {
     &ring[place]
 }

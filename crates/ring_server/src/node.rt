@@ -1,5 +1,5 @@
 //! One node in its threads: its flusher, its inbox and its doors, and its clerk where it may be asked.
-ghost use Rattle.std.specs.Prelude.{◌≡◌, ◌+◌, ◌-◌, ◌≤◌, false, length};
+ghost use Rattle.std.specs.Prelude.{◌≡◌, ◌+◌, ◌-◌, ◌≤◌, false, length, None};
 ghost use denote.Param.Send.{IsSend};
 ghost use Rattle.commit_hub.specs.Pages.{places_of, ForAccepted, ForDurable, ForCosts, IsWhole};
 
@@ -17,7 +17,6 @@ use commit_hub::{Hub, Node, Share, Whole};
 use crossbeam_channel::Receiver;
 use decision_board::Naming;
 use disk_model::Device;
-use group_commit::Desk;
 use ring_records::{Packet, Shown};
 use ring_service::{Flusher, opened_board};
 use ring_watch::Tally;
@@ -49,8 +48,11 @@ pub(crate) fn serve_node<
     V: Device + Send + Drop,
     R: Threads + Wait + Clock + Sync,
 >(rt: &R, site: Site<V>, shared: &Shared) -> Option<Shown>
-    requires member { site.opened.desk.member ≡ A.member }
-    requires opened { length site.opened.desk.state.inputs ≡ A.opened }
+    requires member { site.opened.desk.view.member ≡ A.member }
+    requires opening { site.opened.desk.opening ≡ A.opening }
+    requires base { site.opened.desk.view.state.base ≡ A.base }
+    requires none { site.opened.desk.view.state.checkpoint ≡ None }
+    requires opened { site.opened.desk.opening.inputs + length site.opened.desk.view.state.inputs ≡ A.opened }
     requires history { site.history ≡ J.book }
     requires accepted { ForAccepted site.blanks A.name A.parts }
     requires durable { ForDurable site.blanks D.name D.parts × IsWhole D.all D.parts }
@@ -123,7 +125,7 @@ pub(crate) fn serve_node<
         return None;
     }
     match hub.settle(shares) {
-        Ok(desk) => Some(shown(&desk)),
+        Ok(desk) => Some(desk.shown()),
         Err(_) => unreachable!(),
     }
 }
@@ -247,15 +249,4 @@ fn run_threads<
             if works { Some(shares) } else { None }
         },
     )
-}
-
-/// What a settled desk holds.
-fn shown(desk: &Desk) -> Shown {
-    Shown {
-        inputs: desk.history().len() as u64,
-        durable: desk.durable(),
-        sent: desk.sent(),
-        taken: desk.taken(),
-        credit: desk.credit(),
-    }
 }

@@ -1,7 +1,7 @@
 //! A node that is ready to be shared.
-ghost use Rattle.std.specs.Prelude.{◌≡◌, ◌≤◌, ◌-◌, ◌||◌, false, length};
+ghost use Rattle.std.specs.Prelude.{◌≡◌, ◌≤◌, ◌+◌, ◌-◌, ◌||◌, false, None, length};
+ghost use Rattle.ring_records.specs.Admission.{used};
 ghost use Rattle.ring_records.specs.States.{durable_in};
-ghost use Rattle.ring_records.specs.Member.{used_by};
 ghost use Rattle.gated_journal.specs.Journal.{member_of, len_of, room_of, is_spoiled};
 ghost use Rattle.node_store.specs.Node.{desk_of, state_of};
 
@@ -19,26 +19,28 @@ pub struct OpenNode<V: Device> {
     pub(crate) desk: Desk,
     pub(crate) journal: Journal<V>,
     ghost inside: { (node ≤ nodes) × (nodes ≤ 16) },
-    ghost place: { (desk.member.node ≡ node) × (desk.member.n ≡ nodes) },
+    ghost place: { (desk.view.member.node ≡ node) × (desk.view.member.n ≡ nodes) },
     ghost ready: { is_spoiled journal ≡ false },
-    ghost member: { member_of journal ≡ desk.member },
-    ghost durable: { desk.state.durable ≡ length desk.state.inputs },
-    ghost len: { len_of journal ≡ desk.state.durable },
-    ghost room: { room_of journal ≡ desk.member.capacity - used_by (durable_in desk.state) },
+    ghost member: { member_of journal ≡ desk.view.member },
+    ghost durable: { desk.view.state.durable ≡ length desk.view.state.inputs },
+    ghost none: { desk.view.state.checkpoint ≡ None },
+    ghost len: { len_of journal ≡ desk.opening.inputs + desk.view.state.durable },
+    ghost room: { room_of journal ≡ desk.view.member.capacity - used desk.view.state.base (durable_in desk.view.state) },
 }
 
 impl<V: Device> OpenNode<V> {
-    ghost use Rattle.ring_server.specs.Fits.{number_of, inputs_of};
+    ghost use Rattle.ring_server.specs.Fits.{number_of, opening_of, inputs_of};
 
     /// The parts of this node of a ring of so many, which takes requests, has no open ticket, and whose inputs are all
     /// durable.
     pub fn new(number: NodeNo, nodes: u8, node: Node<V>) -> OpenNode<V>
         requires inside { (number ≤ nodes) × (nodes ≤ 16) }
-        requires place { ((desk_of node).member.node ≡ number) × ((desk_of node).member.n ≡ nodes) }
-        requires open { ((desk_of node).closed || (desk_of node).failed) ≡ false }
-        requires spent { length (desk_of node).tickets ≡ 0 }
+        requires place { ((desk_of node).view.member.node ≡ number) × ((desk_of node).view.member.n ≡ nodes) }
+        requires open { ((desk_of node).view.closed || (desk_of node).view.failed) ≡ false }
+        requires spent { length (desk_of node).view.tickets ≡ 0 }
         requires durable { (state_of node).durable ≡ length (state_of node).inputs }
         ensures number { number_of result ≡ number }
+        ensures opening { opening_of result ≡ (desk_of node).opening }
         ensures inputs { inputs_of result ≡ (state_of node).inputs }
     {
         let (desk, journal) = node.split();

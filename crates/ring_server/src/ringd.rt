@@ -1,8 +1,9 @@
 //! The program `ringd`, over readers and writers.
-ghost use Rattle.std.specs.Prelude.{◌≡◌, ◌≤◌, length, IfOk};
+ghost use Rattle.std.specs.Prelude.{ℕ, ◌≡◌, ◌≤◌, List, length, IfOk};
+ghost use Rattle.ring_records.specs.declared.input.Input.{Input};
 ghost use Rattle.ring_records.specs.Fitting.{RingFits};
 ghost use Rattle.ring_service.specs.Words.{IsIn};
-ghost use Rattle.ring_server.specs.Fits.{IsInOrder, history};
+ghost use Rattle.ring_server.specs.Fits.{IsInOrder, ArePasts, history};
 
 use crate::folder::Folder;
 use crate::look_over::look_over;
@@ -201,7 +202,7 @@ fn open_ring<R: Files<File = File>>(
 ) -> Result<Vec<OpenNode<FileDevice>>, RunFault>
     ensures order { IfOk result (λ opened. IsInOrder opened.items) }
     ensures count { IfOk result (λ opened. length opened.items ≡ settings.now.nodes) }
-    ensures fits { IfOk result (λ opened. RingFits settings.now.nodes (history opened.items)) }
+    ensures fits { IfOk result (λ opened. (pasts : ℕ → List Input) → ArePasts pasts opened.items → RingFits settings.now.nodes (history pasts opened.items)) }
 {
     let is_made = match folder.is_made(rt, alloc) {
         Ok(is_made) => is_made,

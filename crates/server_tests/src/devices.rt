@@ -96,7 +96,7 @@ fn opened<R: Abort + AllocGlobal>(
         u64::MAX
     };
     let capacity = served.capacity.clamp(4096, 1 << 20);
-    let memory = MemDevice::new(alloc, 17 + capacity as usize).ok()?;
+    let memory = MemDevice::new(alloc, 46 + 2 * capacity as usize).ok()?;
     let device = FuseDevice::new(memory, fails_after, false);
     let made = match Node::create(alloc, device, node, 3, capacity, 0) {
         Ok(made) => made,

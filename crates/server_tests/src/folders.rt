@@ -6,6 +6,14 @@ use std::test::*;
 
 const SERVE: [&str; 3] = ["ringd", "--serve", "1"];
 
+/// A journal of node 1 of two with a capacity of 65,536: a header, the head of area A in epoch 1, a snapshot of no inputs,
+/// an open gate, and a frame that has no inputs.
+const OPEN_GATE: &[u8] =
+    b"CRJRNL02\x01\x02\x00\x01\x00\x00\x00\x00\x01\x02\x00\x00\x00\x00\x00\x00\x00\x01\x00\x00\x00\x26\x00\x00\x00\x00\x00\x00\x00\x00\x00\x00\x00\x00\x00\x00\x00\x00\x00\x00\x00\x00\x00\x00\x00\x00\x00\x00\x00\x00\x00\x00\x00\x00\x00\x00\x00\x00\x00\x00\x01\x00\x00";
+
+/// A journal of an earlier version, of node 1 of two: a header, and a closed gate.
+const OLD_LAYOUT: &[u8] = b"CRJRNL01\x01\x02\x00\x01\x00\x00\x00\x00\x00";
+
 #[test]
 fn a_kill_at_each_step_of_the_first_start(rt: HostRuntime) -> Result<(), Fail> {
     let settings = b"nodes = 2\ndir = \"killed\"\nport = 7151\n".as_slice();
@@ -29,7 +37,7 @@ fn a_kill_at_each_step_of_the_first_start(rt: HostRuntime) -> Result<(), Fail> {
     serves(&rt, settings, 7151, b"who red 1\n", b"none");
     // a cut one, and none made
     anew(&rt, "killed");
-    fs::write(&rt, "killed/node-1.crj.new", b"CRJRNL01".as_slice())?;
+    fs::write(&rt, "killed/node-1.crj.new", b"CRJRNL02".as_slice())?;
     serves(&rt, settings, 7151, b"stand red 5 10\n", b"stood");
     fs::remove_dir_all(&rt, "killed")?;
     Ok(())
@@ -62,19 +70,30 @@ fn journals_that_are_refused(rt: HostRuntime) -> Result<(), Fail> {
     fs::rename(&rt, "refused/node-1.crj", "refused/node-2.crj")?;
     fs::rename(&rt, "refused/held", "refused/node-1.crj")?;
     ends(&rt, &SERVE, settings, 1, b"ringd: node 1: wrongnode\n");
-    // a cut header, none, and another layout's
-    fs::write(&rt, "refused/node-1.crj", b"CRJRNL01".as_slice())?;
+    // a cut header, and none
+    fs::write(&rt, "refused/node-1.crj", b"CRJRNL02".as_slice())?;
     ends(&rt, &SERVE, settings, 1, b"ringd: node 1: unformatted\n");
     fs::write(&rt, "refused/node-1.crj", b"".as_slice())?;
     ends(&rt, &SERVE, settings, 1, b"ringd: node 1: unformatted\n");
-    // an open gate, at offset 16, with a frame of no input behind it
-    fs::write(
-        &rt,
-        "refused/node-1.crj",
-        b"CRJRNL01\x01\x02\x00\x01\x00\x00\x00\x00\x01\x00\x00".as_slice(),
-    )?;
+    // no area that counts, and an open gate, at offset 68, with a frame of no input behind it
+    fs::write(&rt, "refused/node-1.crj", &OPEN_GATE[..17])?;
     ends(&rt, &SERVE, settings, 1, b"ringd: node 1: damaged 16\n");
+    fs::write(&rt, "refused/node-1.crj", OPEN_GATE)?;
+    ends(&rt, &SERVE, settings, 1, b"ringd: node 1: damaged 68\n");
     fs::remove_dir_all(&rt, "refused")?;
+    Ok(())
+}
+
+#[test]
+fn a_folder_of_an_earlier_version(rt: HostRuntime) -> Result<(), Fail> {
+    let settings = b"nodes = 2\ndir = \"earlier\"\nport = 7255\n".as_slice();
+    anew(&rt, "earlier");
+    serves(&rt, settings, 7255, b"stand red 5 10\n", b"stood");
+    fs::write(&rt, "earlier/node-1.crj", OLD_LAYOUT)?;
+    ends(&rt, &SERVE, settings, 1, b"ringd: node 1: oldlayout 1\n");
+    // it is left as it is
+    assert_eq!(rt; fs::read(&rt, "earlier/node-1.crj")?.as_slice(), OLD_LAYOUT);
+    fs::remove_dir_all(&rt, "earlier")?;
     Ok(())
 }
 

@@ -1,7 +1,9 @@
-use Rattle.std.proofs.Common.{take}
+use Rattle.std.proofs.Common.{List, ◌++◌, take}
+use Rattle.ring_records.specs.declared.input.Input.{Input}
+use Rattle.group_commit.specs.Past.{IsPast}
 use Rattle.ring_server.specs.Fits.{Agrees}
 use Rattle.ring_server.proofs.look_over.agrees.Given as goal
 
--- the node agrees with the decisions before this one
+-- the node agrees with the decisions before this one, whatever its past
 abbrev pub invariant-loop-decision : goal.invariant-loop-decision
-invariant-loop-decision l = Agrees l.desk.member.node l.desk.state.inputs (take l.decision-index l.decisions)
+invariant-loop-decision l = (past : List Input) → IsPast l.desk.view.member l.desk.opening past → Agrees l.desk.view.member.node (past ++ l.desk.view.state.inputs) (take l.decision-index l.decisions)

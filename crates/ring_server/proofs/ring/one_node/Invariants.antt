@@ -1,4 +1,4 @@
-use Rattle.std.specs.Prelude.{length}
+use Rattle.std.specs.Prelude.{◌+◌, length}
 use Rattle.ring_server.proofs.ring.one_node.Given as goal
 
 -- the ledgers are named by the pages and the desk
@@ -7,7 +7,12 @@ abbrev pub ghosts-serve_node-A-Ledger : goal.ghosts-serve_node-A-Ledger
 ghosts-serve_node-A-Ledger g a = record { name = a.site.blanks.accepted.name; parts = a.site.blanks.accepted.parts }
 
 abbrev pub ghosts-serve_node-A-Node : goal.ghosts-serve_node-A-Node
-ghosts-serve_node-A-Node g a = record { member = a.site.opened.desk.member; opened = length a.site.opened.desk.state.inputs }
+ghosts-serve_node-A-Node g a = record {
+  member = a.site.opened.desk.view.member;
+  opening = a.site.opened.desk.opening;
+  base = a.site.opened.desk.view.state.base;
+  opened = a.site.opened.desk.opening.inputs + length a.site.opened.desk.view.state.inputs;
+}
 
 abbrev pub ghosts-serve_node-D-Ledger : goal.ghosts-serve_node-D-Ledger
 ghosts-serve_node-D-Ledger g a = record { name = a.site.blanks.durable.name; parts = a.site.blanks.durable.parts }
