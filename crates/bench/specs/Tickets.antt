@@ -16,4 +16,4 @@ pub record IsLater (old new : DeskView) : Type 0 where
 module _ {D : Type 0} {g : Ghosts D} where
   -- the node keeps a reply for the ticket
   abbrev pub IsOpen : Node D g → TicketView → Type 0
-  IsOpen node ticket = (kept : Answered) × IsHere (desk_of node) ticket kept
+  IsOpen node ticket = (kept : Answered) × IsHere (desk_of node).view ticket kept

@@ -1,5 +1,6 @@
 // What journals and nodes are kept on, and the bare work of a device.
 use disk_model::{Device, DeviceFault, MemDevice};
+use gated_journal::device_size;
 use ring_records::Refusal;
 use std::alloc::Global;
 
@@ -8,11 +9,14 @@ pub const CAPACITY: u32 = 1 << 20;
 
 /// A device in memory for a journal of this capacity. Refused for want of memory.
 pub fn in_memory(alloc: Global) -> Result<MemDevice, Refusal> {
-    match MemDevice::new(alloc, 17 + CAPACITY as usize) {
+    match MemDevice::new(alloc, device_size(CAPACITY) as usize) {
         Ok(device) => Ok(device),
         Err(_) => Err(Refusal::OutOfMemory),
     }
 }
+
+/// Where the gate of a new journal stands: behind its header, and the head and the snapshot of its first area.
+const GATE: u64 = 68;
 
 /// Writes and syncs as so many commits of this frame do, all at one place. Tells how many bytes the device has then.
 pub fn write_bare<D: Device>(
@@ -21,9 +25,9 @@ pub fn write_bare<D: Device>(
     commits: u32,
 ) -> Result<u64, DeviceFault> {
     for _ in 0..commits {
-        device.write_at(17, frame)?;
+        device.write_at(GATE + 1, frame)?;
         device.sync()?;
-        device.write_at(16, &[1])?;
+        device.write_at(GATE, &[1])?;
         device.sync()?;
     }
     Ok(device.size())

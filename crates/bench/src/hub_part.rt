@@ -1,8 +1,8 @@
 // Hubs over new nodes, whose appenders stand and wait for the reply, in threads of their own beside one flusher.
-ghost use Rattle.std.specs.Prelude.{◌≡◌, ◌-◌, ◌≤◌, false, length};
+ghost use Rattle.std.specs.Prelude.{◌≡◌, ◌+◌, ◌-◌, ◌≤◌, false, length, None};
 ghost use Rattle.gated_journal.specs.Journal.{member_of, len_of, room_of, is_spoiled};
+ghost use Rattle.ring_records.specs.Admission.{used};
 ghost use Rattle.ring_records.specs.States.{durable_in};
-ghost use Rattle.ring_records.specs.Member.{used_by};
 ghost use Rattle.commit_hub.specs.Pages.{places_of, ForAccepted, ForDurable, ForCosts, IsWhole};
 
 use crate::devices::{CAPACITY, in_memory};
@@ -257,15 +257,18 @@ fn on_hub<
     load: Load,
 ) -> Result<(V, Counts), Refusal>
     requires history { opened ≡ J.book }
-    requires desk { desk.member ≡ A.member }
-    requires opened { length desk.state.inputs ≡ A.opened }
+    requires desk { desk.view.member ≡ A.member }
+    requires opening { desk.opening ≡ A.opening }
+    requires base { desk.view.state.base ≡ A.base }
+    requires none { desk.view.state.checkpoint ≡ None }
+    requires opened { desk.opening.inputs + length desk.view.state.inputs ≡ A.opened }
     requires accepted { ForAccepted blanks A.name A.parts }
     requires durable { ForDurable blanks D.name D.parts × IsWhole D.all D.parts }
     requires costs { ForCosts blanks C.name C.parts × IsWhole C.all C.parts }
     requires ready { is_spoiled journal ≡ false }
-    requires member { member_of journal ≡ desk.member }
-    requires len { len_of journal ≡ desk.state.durable }
-    requires room { room_of journal ≡ desk.member.capacity - used_by (durable_in desk.state) }
+    requires member { member_of journal ≡ desk.view.member }
+    requires len { len_of journal ≡ desk.opening.inputs + desk.view.state.durable }
+    requires room { room_of journal ≡ desk.view.member.capacity - used desk.view.state.base (durable_in desk.view.state) }
 {
     let (hub, tie) = Hub::<A, D, C>::new(desk, blanks);
     let appenders = appenders(rt, alloc, &hub, load)?;

@@ -8,7 +8,7 @@ use ring_records::{Bid, GroupName, Input, Key, NodeNo, Refusal, Term};
 use std::alloc::{AllocGlobal, Global};
 use std::env::Args;
 
-/// How many batches of 64 inputs fill a journal: each takes 64 times 33 bytes.
+/// How many batches of 64 inputs fill a journal: each takes 64 times 33 bytes, behind the 38 of a new journal.
 const FULL: u32 = 496;
 
 /// The bytes of the frame of a batch.
@@ -100,8 +100,8 @@ fn reopen(alloc: Global, times: u32) -> Result<u64, Refusal> {
     let mut read = 0u64;
     for _ in 0..times {
         match Journal::reopen(alloc, device, NodeNo::new(1)?, 3) {
-            Ok((journal, inputs)) => {
-                read = read.wrapping_add(inputs.len() as u64);
+            Ok((journal, opening)) => {
+                read = read.wrapping_add(opening.inputs.len() as u64);
                 device = journal.into_device();
             }
             Err((_device, refusal)) => return Err(refusal),

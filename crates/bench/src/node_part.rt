@@ -15,7 +15,7 @@ use ring_records::{Bid, Candidate, GroupName, Key, Msg, NodeNo, Refusal, Request
 use std::alloc::{AllocGlobal, Global};
 use std::env::Args;
 
-/// How many flushes of 64 messages fill a node: each takes 64 times 29 bytes.
+/// How many flushes of 64 messages fill a node: each takes 64 times 29 bytes, behind the 38 of a new node.
 const FULL: u32 = 564;
 
 /// The bytes of the frame of a flush.
@@ -61,7 +61,7 @@ fn take(no: u32) -> Result<Request, Refusal> {
 /// Redeems a ticket that is open. Where its reply is not released, closes the node and forfeits the ticket.
 fn redeem<D: Device>(node: &mut Node<D>, ticket: Ticket) -> Result<(), Refusal>
     requires open { IsOpen node.old (shown ticket) }
-    ensures { desk_of node.new ≡ record (ended (shown ticket).own (desk_of node.old)) { closed = (desk_of node.new).closed } }
+    ensures { (desk_of node.new).view ≡ record (ended (shown ticket).own (desk_of node.old).view) { closed = (desk_of node.new).view.closed } }
 {
     match node.redeem(ticket) {
         Ok((_reply, _stub)) => Ok(()),
@@ -77,8 +77,8 @@ fn redeem<D: Device>(node: &mut Node<D>, ticket: Ticket) -> Result<(), Refusal>
 
 /// Takes so many messages from `no` on, flushes, and redeems their tickets. Tells how many packets landed.
 fn flush<D: Device>(node: &mut Node<D>, no: u32, count: u32) -> Result<u64, Refusal>
-    ensures later { IsLater (desk_of node.old) (desk_of node.new) }
-    ensures earlier { (own : ℕ) → own < (desk_of node.old).issued → kept_at (desk_of node.new) own ≡ kept_at (desk_of node.old) own }
+    ensures later { IsLater (desk_of node.old).view (desk_of node.new).view }
+    ensures earlier { (own : ℕ) → own < (desk_of node.old).view.issued → kept_at (desk_of node.new).view own ≡ kept_at (desk_of node.old).view own }
 {
     if count == 0 {
         return match node.flush() {

@@ -1,4 +1,4 @@
-use Rattle.std.specs.Prelude.{length}
+use Rattle.std.specs.Prelude.{◌+◌, length}
 use Rattle.bench.proofs.hub_part.one_hub.Given as goal
 
 -- the ledgers are named by the pages and the desk
@@ -7,7 +7,12 @@ abbrev pub ghosts-on_hub-A-Ledger : goal.ghosts-on_hub-A-Ledger
 ghosts-on_hub-A-Ledger g a = record { name = a.blanks.accepted.name; parts = a.blanks.accepted.parts }
 
 abbrev pub ghosts-on_hub-A-Node : goal.ghosts-on_hub-A-Node
-ghosts-on_hub-A-Node g a = record { member = a.desk.member; opened = length a.desk.state.inputs }
+ghosts-on_hub-A-Node g a = record {
+  member = a.desk.view.member;
+  opening = a.desk.opening;
+  base = a.desk.view.state.base;
+  opened = a.desk.opening.inputs + length a.desk.view.state.inputs;
+}
 
 abbrev pub ghosts-on_hub-D-Ledger : goal.ghosts-on_hub-D-Ledger
 ghosts-on_hub-D-Ledger g a = record { name = a.blanks.durable.name; parts = a.blanks.durable.parts }
