@@ -36,8 +36,8 @@ fn a_cost_has_to_fit(rt: &impl Abort, alloc: Global) {
     let before = [stood, Acked(1)];
     let full = Some(Cause::Full);
     let already = Some(Cause::Already(10));
-    judges(rt, alloc, 56, ("one byte too many", &before, other, full));
-    judges(rt, alloc, 57, ("it just fits", &before, other, None));
+    judges(rt, alloc, 94, ("one byte too many", &before, other, full));
+    judges(rt, alloc, 95, ("it just fits", &before, other, None));
     judges(rt, alloc, 0, ("full comes last", &[stood], stood, already));
 }
 
@@ -153,8 +153,8 @@ fn limits_stands_and_bytes(rt: HostRuntime) {
     for term in 1..1026 {
         let input = input(&rt, Stand("red", term, 10));
         limits(&rt, 65536, &history, &input, term > 1024, Refusal::Limit);
-        if term == 204 || term == 205 {
-            limits(&rt, 4096, &history, &input, term > 204, Refusal::Full);
+        if term == 202 || term == 203 {
+            limits(&rt, 4096, &history, &input, term > 202, Refusal::Full);
         }
         history.push(input).expect(&rt, "ample memory");
     }

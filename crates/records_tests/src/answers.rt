@@ -56,8 +56,8 @@ fn answers_after_a_stand(rt: HostRuntime) {
     }
     let full = ("full", other, Say::Refused(Cause::Full), 1);
     let fits = ("it fits", other, Say::Stood, 2);
-    tells(&rt, rt.alloc(), 40, &before, full);
-    tells(&rt, rt.alloc(), 41, &before, fits);
+    tells(&rt, rt.alloc(), 78, &before, full);
+    tells(&rt, rt.alloc(), 79, &before, fits);
 }
 
 #[test]
