@@ -46,5 +46,6 @@ adds_goes log v d old len pre false is =
 pub adds_moves : (v : List Decision) (d : Decision) (old : ℕ) → length v ≡ old
     → Moves IsCounted shown moved 0 (v, (no_nib, None)) (λ n. either (n == old) (old + 1) n) (Adds (step 0 old (old + 1) d) (v, (no_nib, None)))
 adds_moves v d old len cs log kept pre away =
-    let P : List Cell → Type 0 = λ c. (0 < length c) × ((cell c 0).1 ≡ true) × Goes IsCounted shown moved 0 (v, (no_nib, None)) (λ n. either (n == old) (old + 1) n) (Adds (step 0 old (old + 1) d) (v, (no_nib, None))) c log in
+    let P : List Cell → Type 0 = λ c. (0 < length c) × ((cell c 0).1 ≡ true) × Goes IsCounted shown moved 0
+    (v, (no_nib, None)) (λ n. either (n == old) (old + 1) n) (Adds (step 0 old (old + 1) d) (v, (no_nib, None))) c log in
     subst P (sym kept) (omega arith, refl, adds_goes log v d old len pre (length log == old) refl)

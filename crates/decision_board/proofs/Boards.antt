@@ -42,7 +42,8 @@ posted_after book x y es posted on is =
     )
 
 -- by one entry
-pub posted_once : (book : Book) (x y : Store) (e : Entry) → IsPosted book x → e.front.seen.book ≡ book → e.front.seen.log ≡ x.front.seen.log ++ e.decision ∷ [] → state_of y ≡ after (state_of x) e → IsPosted book y
+pub posted_once : (book : Book) (x y : Store) (e : Entry) → IsPosted book x → e.front.seen.book ≡ book
+    → e.front.seen.log ≡ x.front.seen.log ++ e.decision ∷ [] → state_of y ≡ after (state_of x) e → IsPosted book y
 unfolding GoOn
 posted_once book x y e posted named longer is = (posted_after book x y (e ∷ []) posted (named, longer, tt) is).0
 
@@ -75,16 +76,19 @@ taken (Ok a) e h = h
 taken (Err b) e h = absurd (cc e)
 
 -- one more entry at the end
-GoOn-push : (book : Book) (ds : List Decision) (es : List Entry) (e : Entry) → GoOn book ds es → e.front.seen.book ≡ book → e.front.seen.log ≡ (ds ++ decisions_of es) ++ e.decision ∷ [] → GoOn book ds (es ++ e ∷ [])
+GoOn-push : (book : Book) (ds : List Decision) (es : List Entry) (e : Entry) → GoOn book ds es → e.front.seen.book ≡ book
+    → e.front.seen.log ≡ (ds ++ decisions_of es) ++ e.decision ∷ [] → GoOn book ds (es ++ e ∷ [])
 unfolding GoOn
 GoOn-push book ds [] e on named longer = (named, longer ∙ ap (λ w. w ++ e.decision ∷ []) (append-nil ds), tt)
-GoOn-push book ds (x ∷ es) e on named longer = (on.0, on.1, GoOn-push book (ds ++ x.decision ∷ []) es e on.2 named (longer ∙ ap (λ w. w ++ e.decision ∷ []) (sym (append_assoc ds (x.decision ∷ []) (decisions_of es)))))
+GoOn-push book ds (x ∷ es) e on named longer =
+    (on.0, on.1, GoOn-push book (ds ++ x.decision ∷ []) es e on.2 named (longer ∙ ap (λ w. w ++ e.decision ∷ []) (sym (append_assoc ds (x.decision ∷ []) (decisions_of es)))))
 
 decisions_of-push : (es : List Entry) (e : Entry) → decisions_of (es ++ e ∷ []) ≡ decisions_of es ++ e.decision ∷ []
 decisions_of-push [] e = refl
 decisions_of-push (x ∷ es) e = ap (λ w. x.decision ∷ w) (decisions_of-push es e)
 
-pub running_push : (book : Book) (x : Store) (all : List Decision) (es : List Entry) (e : Entry) → IsRunning book x all es → e.front.seen.book ≡ book → e.front.seen.log ≡ all ++ e.decision ∷ [] → IsRunning book x (all ++ e.decision ∷ []) (es ++ e ∷ [])
+pub running_push : (book : Book) (x : Store) (all : List Decision) (es : List Entry) (e : Entry) → IsRunning book x all es
+    → e.front.seen.book ≡ book → e.front.seen.log ≡ all ++ e.decision ∷ [] → IsRunning book x (all ++ e.decision ∷ []) (es ++ e ∷ [])
 running_push book x all es e run named longer =
     let long : all ++ e.decision ∷ [] ≡ x.front.seen.log ++ decisions_of (es ++ e ∷ []) =
     ap (λ w. w ++ e.decision ∷ []) run.0 ∙ (append_assoc x.front.seen.log (decisions_of es) (e.decision ∷ []) ∙ ap (λ w. x.front.seen.log ++ w) (sym (decisions_of-push es e))) in
@@ -92,4 +96,5 @@ running_push book x all es e run named longer =
 
 pub running_none : (book : Book) (x : Store) (all : List Decision) (es : List Entry) → IsPosted book x → all ≡ x.front.seen.log → es ≡ [] → IsRunning book x all es
 unfolding GoOn
-running_none book x all es posted same none = (same ∙ (sym (append-nil x.front.seen.log) ∙ ap (λ w. x.front.seen.log ++ decisions_of w) (sym none)), posted, subst (GoOn book x.front.seen.log) (sym none) tt)
+running_none book x all es posted same none =
+    (same ∙ (sym (append-nil x.front.seen.log) ∙ ap (λ w. x.front.seen.log ++ decisions_of w) (sym none)), posted, subst (GoOn book x.front.seen.log) (sym none) tt)

@@ -34,7 +34,8 @@ put_known m key c has = sym (ap (λ b. cond b m (map.insert m key c)) has)
 pub put_new : (m n : LeaderMap) (key : Key) (c : Candidate) → map.contains_key m key ≡ false → n ≡ map.insert m key c → n ≡ put m key c
 put_new m n key c has is = is ∙ sym (ap (λ b. cond b m (map.insert m key c)) has)
 
-pub inserted : (old new : List (Key × Candidate)) (key : Key) (c : Candidate) → ((other : Key) → lookup (λ k. is_eq (key_cmp other k)) new ≡ cond (is_eq (key_cmp key other)) (Some c) (lookup (λ k. is_eq (key_cmp other k)) old))
+pub inserted : (old new : List (Key × Candidate)) (key : Key) (c : Candidate)
+    → ((other : Key) → lookup (λ k. is_eq (key_cmp other k)) new ≡ cond (is_eq (key_cmp key other)) (Some c) (lookup (λ k. is_eq (key_cmp other k)) old))
     → map.from_entries {R = key_cmp} new ≡ map.insert (map.from_entries old) key c
 inserted old new key c put = insert-key old new key c (λ other.
     sym (lookup-key other new)
@@ -73,14 +74,16 @@ module _ (m : BTreeMap Key Candidate) (group : List ℕ) (have : HaveTerms (map.
   latest_none none term = none_where term (leads_here term) refl (λ some. sym (get_is m (key_at group term)) ∙ none (key_at group term) (inside term (have (key_at group term) some)))
 
   -- the last entry of the range is the latest
-  pub latest_some : (e : Key × Candidate) → IsEntryInRange key_cmp low high m e → ((q : Key) → IsInRange key_cmp low high q → IsSome (get key_cmp m q) → is_lt (key_cmp e.0 q) ≡ false) → IsLatest leads_here (Some (e.0.term, e.1))
+  pub latest_some : (e : Key × Candidate) → IsEntryInRange key_cmp low high m e
+      → ((q : Key) → IsInRange key_cmp low high q → IsSome (get key_cmp m q) → is_lt (key_cmp e.0 q) ≡ false) → IsLatest leads_here (Some (e.0.term, e.1))
   latest_some e at_e top =
       let group_is : group ≡ e.0.group = same_group group 1 999999999 e.0 at_e.0.0 at_e.0.1 in
       let key_is : key_at group e.0.term ≡ e.0 = ap (λ g. key_at g e.0.term) group_is in (
         ap (map.get (map.from_entries {R = key_cmp} m.entries)) key_is ∙ (sym (get_is m e.0) ∙ at_e.1),
         λ term above. none_where term (leads_here term) refl (λ some.
             let here : IsSome (get key_cmp m (key_at group term)) = subst IsSome (sym (get_is m (key_at group term))) some in
-            let most : term ≤ e.0.term = term_at_most group e.0.term term (subst (λ k. is_lt (key_cmp k (key_at group term)) ≡ false) (sym key_is) (top (key_at group term) (inside term (have (key_at group term) some)) here)) in
+            let most : term ≤ e.0.term = term_at_most group e.0.term term
+            (subst (λ k. is_lt (key_cmp k (key_at group term)) ≡ false) (sym key_is) (top (key_at group term) (inside term (have (key_at group term) some)) here)) in
             absurd (omega arith)),
       )
 

@@ -20,6 +20,10 @@ steps book seat v x y stays up views h at =
     let posted = stays h.0 in
     let ds = y.front.seen.log in (
       ds,
-      (posted, λ j u e. ⊎_elim (λ (t : (j ≡ seat) × (ds ≡ u)). subst (λ w. IsPrefix w ds) t.1 (prefix_self ds)) (λ (t : (j ≢ seat) × (get_elem? views j ≡ some u)). prefix_trans u x.front.seen.log ds (h.1 j u t.1) up) (at_set views seat j ds u e)),
+      (
+        posted,
+        λ j u e. ⊎_elim (λ (t : (j ≡ seat) × (ds ≡ u)). subst (λ w. IsPrefix w ds) t.1 (prefix_self ds))
+            (λ (t : (j ≢ seat) × (get_elem? views j ≡ some u)). prefix_trans u x.front.seen.log ds (h.1 j u t.1) up) (at_set views seat j ds u e),
+      ),
       (posted, prefix_trans v x.front.seen.log ds (h.1 seat v at) up, refl),
     )

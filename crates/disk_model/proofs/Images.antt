@@ -1,5 +1,6 @@
 -- Bytes in the memory of a device: the image is their front, and all behind it is 0.
-use Rattle.std.proofs.Common.{◌≡◌, ◌⊎◌, inl, inr, ⊎_elim, ℕ, ◌+◌, ◌-◌, ◌≤◌, ◌<◌, max, List, ◌++◌, length, take, drop, get_or, sym, ◌∙◌, ap, subst, if◌then◌else◌, arith, length-append, length-take, length-drop}
+use Rattle.std.proofs.Common.{◌≡◌, ◌⊎◌, inl, inr, ⊎_elim, ℕ, ◌+◌, ◌-◌, ◌≤◌, ◌<◌, max, List, ◌++◌}
+use Rattle.std.proofs.Common.{length, take, drop, get_or, sym, ◌∙◌, ap, subst, if◌then◌else◌, arith, length-append, length-take, length-drop}
 use Rattle.std.proofs.lemmas.Bool.{cases_lt}
 use Rattle.std.proofs.lemmas.List.{get_or-take, get_or-drop, get_or_append_left, get_or-append_right, get_or-append-add, get_or_past, ext_get_or, get_or-replicate, length-replicate}
 use Rattle.std.proofs.Common.{replicate}
@@ -79,16 +80,19 @@ module _ (bytes : List ℕ) (size at : ℕ) (piece : List ℕ) (fits : at + leng
 
   pub used_fits : used ≤ length after
   used_fits =
-      ⊎_elim (λ (lt : length piece < 1). let same = none (omega (arith, lt)) in omega (arith, same, size_fits, after_length)) (λ (le : 1 ≤ length piece). let more = some le in omega (arith, more, fits, size_fits, after_length))
+      ⊎_elim (λ (lt : length piece < 1). let same = none (omega (arith, lt)) in omega (arith, same, size_fits, after_length))
+      (λ (le : 1 ≤ length piece). let more = some le in omega (arith, more, fits, size_fits, after_length))
       (cases_lt (length piece) 1)
 
   not_below : (size ≤ used) × (at + length piece ≤ used ⊎ (length piece ≡ 0))
   not_below =
-      ⊎_elim (λ (lt : length piece < 1). (omega (arith, lt, none), inr (omega (arith, lt)))) (λ (le : 1 ≤ length piece). (omega (arith, le, some), inl (omega (arith, le, some)))) (cases_lt (length piece) 1)
+      ⊎_elim (λ (lt : length piece < 1). (omega (arith, lt, none), inr (omega (arith, lt))))
+      (λ (le : 1 ≤ length piece). (omega (arith, le, some), inl (omega (arith, le, some)))) (cases_lt (length piece) 1)
 
   pub still_blank : (i : ℕ) → used ≤ i → get_or after i 0 ≡ 0
   still_blank i le =
-      let out : (i < at) ⊎ (at + length piece ≤ i) = ⊎_elim (λ (ends : at + length piece ≤ used). inr (omega (arith, ends, le))) (λ (no_byte : length piece ≡ 0). ⊎_elim (λ (b : i < at). inl b) (λ (a : at ≤ i). inr (omega (arith, no_byte, a))) (cases_lt i at)) not_below.1 in
+      let out : (i < at) ⊎ (at + length piece ≤ i) = ⊎_elim (λ (ends : at + length piece ≤ used). inr (omega (arith, ends, le)))
+      (λ (no_byte : length piece ≡ 0). ⊎_elim (λ (b : i < at). inl b) (λ (a : at ≤ i). inr (omega (arith, no_byte, a))) (cases_lt i at)) not_below.1 in
       elsewhere i out ∙ blank i (omega (arith, not_below.0, le))
 
   -- the piece was put into the image
@@ -105,11 +109,13 @@ module _ (bytes : List ℕ) (size at : ℕ) (piece : List ℕ) (fits : at + leng
 -- ---- what was there before
 
 -- the old bytes over the image are those over the memory
-pub before_at : (stamps : List ℕ) (stretch : ℕ) (old : List ℕ) (size : ℕ) (bytes : List ℕ) → ((i : ℕ) → size ≤ i → get_or bytes i 0 ≡ 0) → (i : ℕ) → old_byte stamps stretch old bytes i ≡ old_byte stamps stretch old (take size bytes) i
+pub before_at : (stamps : List ℕ) (stretch : ℕ) (old : List ℕ) (size : ℕ) (bytes : List ℕ) → ((i : ℕ) → size ≤ i → get_or bytes i 0 ≡ 0)
+    → (i : ℕ) → old_byte stamps stretch old bytes i ≡ old_byte stamps stretch old (take size bytes) i
 before_at stamps stretch old size bytes blank i = ap (λ (byte : ℕ). if is_stamped stamps stretch i then get_or old i 0 else byte) (sym (image_at size bytes blank i))
 
 -- the old bytes to the old end are the stable image
-pub taken_back : (stable after : List ℕ) (size : ℕ) → size ≡ length stable → length stable ≤ length after → ((i : ℕ) → i < length after → get_or after i 0 ≡ get_or stable i 0) → take size after ≡ stable
+pub taken_back : (stable after : List ℕ) (size : ℕ) → size ≡ length stable → length stable ≤ length after
+    → ((i : ℕ) → i < length after → get_or after i 0 ≡ get_or stable i 0) → take size after ≡ stable
 taken_back stable after size ends fits same =
     let sized : length (take size after) ≡ length stable = omega (arith, length-take size after, ends, fits) in
     ext_get_or 0 (take size after) stable sized (λ i lt. get_or-take size after i 0 (omega (arith, lt, sized, ends)) ∙ same i (omega (arith, lt, sized, fits)))

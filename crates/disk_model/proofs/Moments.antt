@@ -11,7 +11,8 @@ pub elapses_write : (past later : Past) (old new : Disk) (off n : ℕ) → later
     → Elapses (length past) (length later) (LeftSince past old) (LeftSince later new) new
 elapses_write past later old new off n same stable is =
     let more : (image : List ℕ) → MayLeave old image → MayLeave new image =
-    λ image was. subst (λ (s : List ℕ). IsTorn s new.ranges image) (sym stable) (subst (λ (rs : List (ℕ × ℕ)). IsTorn old.stable rs image) (sym is) (torn_more old.stable old.ranges off n image was)) in
+    λ image was. subst (λ (s : List ℕ). IsTorn s new.ranges image) (sym stable)
+    (subst (λ (rs : List (ℕ × ℕ)). IsTorn old.stable rs image) (sym is) (torn_more old.stable old.ranges off n image was)) in
     subst (λ (l : Past). Elapses (length past) (length l) (LeftSince past old) (LeftSince l new) new) (sym same) (record {
       later = omega arith;
       nothing_else = λ t image le since. ⊎_elim (λ now. inr now) (λ left. inl (inr left)) since;
@@ -45,8 +46,10 @@ elapses_sync past later old new is =
     let stretch : List ℕ × List (ℕ × ℕ) = (old.stable, old.ranges) in
     subst (λ (l : Past). Elapses (length past) (length l) (LeftSince past old) (LeftSince l new) new) (sym is) (record {
       later = omega (arith, length-append past (stretch ∷ []));
-      nothing_else = λ t image le since. ⊎_elim (λ now. inr now) (λ left. inl (⊎_elim (λ had. inr had) (λ was. inl was) (adds (drop t past) stretch image (subst (λ (l : Past). LeftIn l image) (drop_push t past stretch le) left)))) since;
-      keeps = λ t image le since. inr (subst (λ (l : Past). LeftIn l image) (sym (drop_push t past stretch le)) (⊎_elim (λ was. newest (drop t past) stretch image was) (λ had. keeps (drop t past) stretch image had) since));
+      nothing_else = λ t image le since. ⊎_elim (λ now. inr now)
+          (λ left. inl (⊎_elim (λ had. inr had) (λ was. inl was) (adds (drop t past) stretch image (subst (λ (l : Past). LeftIn l image) (drop_push t past stretch le) left)))) since;
+      keeps = λ t image le since. inr (subst (λ (l : Past). LeftIn l image) (sym (drop_push t past stretch le))
+          (⊎_elim (λ was. newest (drop t past) stretch image was) (λ had. keeps (drop t past) stretch image had) since));
     })
 
 -- ---- a run of calls
@@ -84,7 +87,8 @@ module _ {D : Type 0} (clock : D → ℕ) (left_since : D → ℕ → List ℕ �
   }
 
   -- a write
-  pub writes : (old mid : D) (was is : Disk) (off n : ℕ) → ((image : List ℕ) → left_since old (clock old) image → MayLeave was image) → Unsyncs off n was is → Elapses (clock old) (clock mid) (left_since old) (left_since mid) is
+  pub writes : (old mid : D) (was is : Disk) (off n : ℕ) → ((image : List ℕ) → left_since old (clock old) image → MayLeave was image)
+      → Unsyncs off n was is → Elapses (clock old) (clock mid) (left_since old) (left_since mid) is
       → LeavesOnly clock left_since old mid (IsTorn was.stable (was.ranges ++ (off, n) ∷ []))
   writes old mid was is off n only un time =
       goes_on old old mid (IsTorn was.stable (was.ranges ++ (off, n) ∷ [])) is
@@ -100,5 +104,6 @@ module _ {D : Type 0} (clock : D → ℕ) (left_since : D → ℕ → List ℕ �
   }
 
   -- and now
-  pub now : (old new : D) (disk : Disk) (P : List ℕ → Type 0) → LeavesOnly clock left_since old new P → ((t : ℕ) (image : List ℕ) → t ≤ clock new → MayLeave disk image → left_since new t image) → (image : List ℕ) → MayLeave disk image → P image
+  pub now : (old new : D) (disk : Disk) (P : List ℕ → Type 0) → LeavesOnly clock left_since old new P
+      → ((t : ℕ) (image : List ℕ) → t ≤ clock new → MayLeave disk image → left_since new t image) → (image : List ℕ) → MayLeave disk image → P image
   now old new disk P so counts image left = so.each image (counts (clock old) image so.later left)

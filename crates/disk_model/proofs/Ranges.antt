@@ -44,7 +44,8 @@ puts_sizes off bytes old new put =
     (cases_lt (length bytes) 1)
 
 -- a stop may leave what is put in a range
-pub puts_torn : (stable : List ℕ) (ranges : List (ℕ × ℕ)) (off : ℕ) (bytes old new : List ℕ) → IsTorn stable ranges old → Puts off bytes old new → IsTorn stable (ranges ++ (off, length bytes) ∷ []) new
+pub puts_torn : (stable : List ℕ) (ranges : List (ℕ × ℕ)) (off : ℕ) (bytes old new : List ℕ)
+    → IsTorn stable ranges old → Puts off bytes old new → IsTorn stable (ranges ++ (off, length bytes) ∷ []) new
 puts_torn stable ranges off bytes old new torn put = record {
   no_shorter = (let sizes = puts_sizes off bytes old new put in omega (arith, torn.no_shorter, sizes.0));
   no_longer = (let sizes = puts_sizes off bytes old new put in omega (arith, torn.no_longer, sizes.1, end_push ranges off (length bytes)));
@@ -57,7 +58,8 @@ synced_only disk image is left =
     torn_none disk.stable image (subst (λ (ranges : List (ℕ × ℕ)). IsTorn disk.stable ranges image) is.ranges left) ∙ is.stable
 
 -- a sync leaves no more than a stop might have left before it
-pub after_sync : {T E : Type 0} (result : Result T E) (old new : Disk) → OnOk result (new ≡ synced old) → OnErr result (new ≡ old) → MayLeave old old.image → (image : List ℕ) → MayLeave new image → MayLeave old image
+pub after_sync : {T E : Type 0} (result : Result T E) (old new : Disk) → OnOk result (new ≡ synced old)
+    → OnErr result (new ≡ old) → MayLeave old old.image → (image : List ℕ) → MayLeave new image → MayLeave old image
 after_sync (Ok done) old new is same stays image left =
     let left_synced = subst (λ (disk : Disk). MayLeave disk image) is left in
     subst (λ (l : List ℕ). MayLeave old l) (sym (torn_none old.image image left_synced)) stays
@@ -69,6 +71,7 @@ after_write off n old new un image left =
     subst (λ (stable : List ℕ). IsTorn stable (old.ranges ++ (off, n) ∷ []) image) un.stable (subst (λ (ranges : List (ℕ × ℕ)). IsTorn new.stable ranges image) un.ranges left)
 
 -- the same, as a history tells it
-pub torn_written : (stable after_stable : List ℕ) (ranges after : List (ℕ × ℕ)) (off n : ℕ) (image : List ℕ) → after_stable ≡ stable → after ≡ ranges ++ (off, n) ∷ [] → IsTorn stable (ranges ++ (off, n) ∷ []) image → IsTorn after_stable after image
+pub torn_written : (stable after_stable : List ℕ) (ranges after : List (ℕ × ℕ)) (off n : ℕ) (image : List ℕ) → after_stable ≡ stable
+    → after ≡ ranges ++ (off, n) ∷ [] → IsTorn stable (ranges ++ (off, n) ∷ []) image → IsTorn after_stable after image
 torn_written stable after_stable ranges after off n image same is torn =
     subst (λ (s : List ℕ). IsTorn s after image) (sym same) (subst (λ (rs : List (ℕ × ℕ)). IsTorn stable rs image) (sym is) torn)

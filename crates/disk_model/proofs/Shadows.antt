@@ -39,13 +39,16 @@ module _ (off n limit size at end : ℕ) (at_is : at ≡ min (min off limit) siz
         let both = outside_push old.ranges off n i (subst (λ (rs : List (ℕ × ℕ)). IsOutside rs i) un.ranges out) in
         outside i (apart i (omega (arith, small, no_shorter)) both.1) ∙ clean i small both.0
 
-    pub marked_next : length new.image ≤ limit → length new.image ≤ max (length old.image) (min (off + n) limit) → ((i : ℕ) → i < length old.image → IsUnsynced old i → was i ≡ true) → ((i : ℕ) → at ≤ i → i < end → now i ≡ true) → (i : ℕ) → i < length new.image → IsUnsynced new i → now i ≡ true
+    pub marked_next : length new.image ≤ limit → length new.image ≤ max (length old.image) (min (off + n) limit) → ((i : ℕ) → i < length old.image → IsUnsynced old i → was i ≡ true)
+        → ((i : ℕ) → at ≤ i → i < end → now i ≡ true) → (i : ℕ) → i < length new.image → IsUnsynced new i → now i ≡ true
     marked_next fits grows marked inside i small here =
         let kept : was i ≡ true → now i ≡ true =
-        λ had. ⊎_elim (λ (lt : i < at). outside i (inl lt) ∙ had) (λ (le : at ≤ i). ⊎_elim (λ (lt : i < end). inside i le lt) (λ (past : end ≤ i). outside i (inr past) ∙ had) (cases_lt i end)) (cases_lt i at) in
+        λ had. ⊎_elim (λ (lt : i < at). outside i (inl lt) ∙ had)
+        (λ (le : at ≤ i). ⊎_elim (λ (lt : i < end). inside i le lt) (λ (past : end ≤ i). outside i (inr past) ∙ had) (cases_lt i end)) (cases_lt i at) in
         let below : i < length old.image → now i ≡ true =
         λ lt. ⊎_elim
-        (λ (in_range : IsInside new.ranges i). ⊎_elim (λ (had : IsInside old.ranges i). kept (marked i lt (inl had))) (λ place. let both = within i place.0 place.1 (omega (arith, small, fits)) in inside i both.0 both.1)
+        (λ (in_range : IsInside new.ranges i). ⊎_elim (λ (had : IsInside old.ranges i). kept (marked i lt (inl had)))
+        (λ place. let both = within i place.0 place.1 (omega (arith, small, fits)) in inside i both.0 both.1)
         (inside_push old.ranges off n i (subst (λ (rs : List (ℕ × ℕ)). IsInside rs i) un.ranges in_range)))
         (λ (past : length new.stable ≤ i). kept (marked i lt (inr (subst (λ (l : List ℕ). length l ≤ i) un.stable past))))
         here in
@@ -61,6 +64,8 @@ module _ (off n limit size at end : ℕ) (at_is : at ≡ min (min off limit) siz
   before_next stamps bytes stretch stamps' bytes' stretch' now image image' stable stable' value inside kept elsewhere before same i =
       let over : old_byte stamps' stretch' bytes' image' i ≡ old_byte stamps' stretch' bytes' image i =
       ⊎_elim (λ (lt : i < at). same_there stamps' stretch' bytes' image' image i (elsewhere i (beyond i (inl lt))))
-      (λ (le : at ≤ i). ⊎_elim (λ (lt : i < end). kept_there stamps' stretch' bytes' image' image i (inside i le lt)) (λ (past : end ≤ i). same_there stamps' stretch' bytes' image' image i (elsewhere i (beyond i (inr past)))) (cases_lt i end))
+      (λ (le : at ≤ i). ⊎_elim (λ (lt : i < end). kept_there stamps' stretch' bytes' image' image i (inside i le lt))
+      (λ (past : end ≤ i). same_there stamps' stretch' bytes' image' image i (elsewhere i (beyond i (inr past)))) (cases_lt i end))
       (cases_lt i at) in
-      over ∙ (sym (same_there stamps' stretch' bytes' now image i (value i)) ∙ (kept i ∙ (same_there stamps stretch bytes now image i (value i) ∙ (before i ∙ ap (λ (l : List ℕ). get_or l i 0) (sym same)))))
+      over ∙ (sym (same_there stamps' stretch' bytes' now image i (value i))
+      ∙ (kept i ∙ (same_there stamps stretch bytes now image i (value i) ∙ (before i ∙ ap (λ (l : List ℕ). get_or l i 0) (sym same)))))

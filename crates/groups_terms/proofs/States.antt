@@ -1,5 +1,6 @@
 -- What a table tells of its keys, and a table that is told it.
-use Rattle.std.proofs.Common.{ℕ, zero, suc, ◌≡◌, ◌+◌, ◌<◌, Bool, true, false, cond, List, [], ◌∷◌, ◌++◌, map as list_map, length, drop, get_or, Option, Some, None, Ordering, Less, Equal, Greater, refl, sym, ap, ◌∙◌, subst, append-nil}
+use Rattle.std.proofs.Common.{ℕ, zero, suc, ◌≡◌, ◌+◌, ◌<◌, Bool, true, false, cond, List, [], ◌∷◌, ◌++◌, map as list_map}
+use Rattle.std.proofs.Common.{length, drop, get_or, Option, Some, None, Ordering, Less, Equal, Greater, refl, sym, ap, ◌∙◌, subst, append-nil}
 use Rattle.std.specs.FinMap as map
 use Rattle.std.specs.FinMap.{find}
 use Rattle.std.specs.List.{AllByRecursion}
@@ -50,7 +51,8 @@ find-states [] key = refl
 find-states (e ∷ es) key =
     ap (cond (is_eq (key_cmp key e.0)) (Some (state_at e))) (find-states es key) ∙ go (key_cmp key e.0) refl
   where
-    go : (o : Ordering) → key_cmp key e.0 ≡ o → cond (is_eq o) (Some (state_at e)) (option_map (λ b. state_at (key, b)) (find key_cmp key es)) ≡ option_map (λ b. state_at (key, b)) (cond (is_eq o) (Some e.1) (find key_cmp key es))
+    go : (o : Ordering) → key_cmp key e.0 ≡ o
+        → cond (is_eq o) (Some (state_at e)) (option_map (λ b. state_at (key, b)) (find key_cmp key es)) ≡ option_map (λ b. state_at (key, b)) (cond (is_eq o) (Some e.1) (find key_cmp key es))
     go Less f = refl
     go Equal f = ap (λ (k : Key). Some (state_at (k, e.1))) (sym (keys_exact key e.0 f))
     go Greater f = refl
@@ -159,7 +161,8 @@ find-ballots : (items : List KeyState) (key : Key) → find key_cmp key (list_ma
 find-ballots [] key = refl
 find-ballots (s ∷ items) key = ap (cond (is_eq (key_cmp key s.key)) (Some (ballot_of s))) (find-ballots items key) ∙ go (is_eq (key_cmp key s.key))
   where
-    go : (b : Bool) → cond b (Some (ballot_of s)) (option_map ballot_of (find key_cmp key (list_map under_key items))) ≡ option_map ballot_of (cond b (Some s) (find key_cmp key (list_map under_key items)))
+    go : (b : Bool) → cond b (Some (ballot_of s)) (option_map ballot_of (find key_cmp key (list_map under_key items)))
+        ≡ option_map ballot_of (cond b (Some s) (find key_cmp key (list_map under_key items)))
     go true = refl
     go false = refl
 

@@ -34,5 +34,6 @@ lines_next text at e =
     ∙ parts-more (before_first p text) (slice_split p (after_first p text)) (omega (arith, length-slice_split p (after_first p text)))
     ∙ ap (λ i. strip_carriage_return (take i text) ∷ lines (drop (i + 1) text)) same
 
-pub lines_next_slice : (text : List ℕ) (at : ℕ) → position (λ b. b == 10) text ≡ Some at → lines text ≡ strip_carriage_return (take at text) ∷ lines (take (length text - (at + 1)) (drop (at + 1) text))
+pub lines_next_slice : (text : List ℕ) (at : ℕ) → position (λ b. b == 10) text ≡ Some at
+    → lines text ≡ strip_carriage_return (take at text) ∷ lines (take (length text - (at + 1)) (drop (at + 1) text))
 lines_next_slice text at e = lines_next text at e ∙ ap (λ l. strip_carriage_return (take at text) ∷ lines l) (sym (take_rest text (at + 1)))

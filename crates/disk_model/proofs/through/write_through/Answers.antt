@@ -19,6 +19,7 @@ returns-clause-any_moment g c =
     let after = g.D.Device.disk written in
     let n = length c.args.bytes.now in
     let so_far = writes g.D.Device.clock g.D.Device.left_since device written before after c.args.off n (g.met.D.Device.only_now device) c.write_at.ensures.disk c.write_at.ensures.time in
-    goes_on g.D.Device.clock g.D.Device.left_since device written c.sync.new.self (IsTorn before.stable (before.ranges ++ (c.args.off, n) ∷ [])) (g.D.Device.disk c.sync.new.self) so_far c.sync.ensures.time
+    goes_on g.D.Device.clock g.D.Device.left_since device written c.sync.new.self
+    (IsTorn before.stable (before.ranges ++ (c.args.off, n) ∷ [])) (g.D.Device.disk c.sync.new.self) so_far c.sync.ensures.time
     (λ image left. after_write c.args.off n before after c.write_at.ensures.disk image
     (after_sync c.sync.result after (g.D.Device.disk c.sync.new.self) c.sync.ensures.synced c.sync.ensures.failed (g.met.D.Device.may_stay written) image left))

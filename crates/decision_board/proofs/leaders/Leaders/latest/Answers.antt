@@ -20,7 +20,8 @@ returns-in_err-key c =
     let end = c.new.ensures.end ∙ ap (key_at group) c.last.ensures in
     let m = c.self.inside.by_key in
     let ranged : IsRangeOf key_cmp (Included (key_at group 1)) (Included (key_at group 999999999)) m c.range.result =
-    subst (λ (k : Key). IsRangeOf key_cmp (Included (key_at group 1)) (Included k) m c.range.result) end (subst (λ (k : Key). IsRangeOf key_cmp (Included k) (Included (range_inclusive_end c.new.result)) m c.range.result) start (c.range.ensures.in_range c.new.ensures.exhausted)) in
+    subst (λ (k : Key). IsRangeOf key_cmp (Included (key_at group 1)) (Included k) m c.range.result) end
+    (subst (λ (k : Key). IsRangeOf key_cmp (Included k) (Included (range_inclusive_end c.new.result)) m c.range.result) start (c.range.ensures.in_range c.new.ensures.exhausted)) in
     rw c.from_residual.ensures (subst (λ (l : LeaderMap). IsLatest (leads l group) None) c.self.view_is (latest_none m group c.self.invariant (ranged.5 c.in_err-key.ensures.steps.0)))
 
 pub returns : goal.returns
@@ -30,6 +31,7 @@ returns c =
     let end = c.new.ensures.end ∙ ap (key_at group) c.last.ensures in
     let m = c.self.inside.by_key in
     let ranged : IsRangeOf key_cmp (Included (key_at group 1)) (Included (key_at group 999999999)) m c.range.result =
-    subst (λ (k : Key). IsRangeOf key_cmp (Included (key_at group 1)) (Included k) m c.range.result) end (subst (λ (k : Key). IsRangeOf key_cmp (Included k) (Included (range_inclusive_end c.new.result)) m c.range.result) start (c.range.ensures.in_range c.new.ensures.exhausted)) in
+    subst (λ (k : Key). IsRangeOf key_cmp (Included (key_at group 1)) (Included k) m c.range.result) end
+    (subst (λ (k : Key). IsRangeOf key_cmp (Included k) (Included (range_inclusive_end c.new.result)) m c.range.result) start (c.range.ensures.in_range c.new.ensures.exhausted)) in
     subst (λ (l : LeaderMap). IsLatest (leads l group) (Some (c.in_ok-key.key.now.term, c.in_ok-key.leader.now))) c.self.view_is
     (latest_some m group c.self.invariant (c.in_ok-key.key.now, c.in_ok-key.leader.now) (ranged.3 _ _ c.in_ok-key.ensures.steps) (ranged.4 _ _ c.in_ok-key.ensures.steps))

@@ -13,7 +13,8 @@ returns-then-contains_key-clause-ok c =
 pub invariant_of-self-2 : goal.invariant_of-self-2
 invariant_of-self-2 c =
     let has : HasTerm c.args.key = rw (← c.number-number.ensures.value) c.number-number.ensures.range in
-    subst HaveTerms (sym (inserted c.self.inside.by_key.entries c.insert.new.self.entries c.args.key c.args.leader c.in_ok-insert.ensures.updates.0)) (terms_kept (map.from_entries c.self.inside.by_key.entries) c.args.key c.args.leader c.self.invariant has)
+    subst HaveTerms (sym (inserted c.self.inside.by_key.entries c.insert.new.self.entries c.args.key c.args.leader c.in_ok-insert.ensures.updates.0))
+    (terms_kept (map.from_entries c.self.inside.by_key.entries) c.args.key c.args.leader c.self.invariant has)
 
 pub returns-clause-ok : goal.returns-clause-ok
 returns-clause-ok c =

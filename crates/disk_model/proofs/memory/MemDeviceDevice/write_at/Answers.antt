@@ -24,9 +24,12 @@ invariant_of-self c =
     record {
       same = c.note.ensures.limit ∙ (device.same ∙ sym same_limit);
       end = c.note.ensures.size ∙ (device.end ∙ sym (ap (λ (stable : List ℕ). length stable) c.write_at.ensures.disk.stable));
-      clean = clean_next c.args.off n limit (length was.image) at end at_is end_is was now c.write_at.ensures.disk refl (is_written shadow) (is_written after) c.note.ensures.outside device.held.torn.no_shorter device.clean;
-      marked = marked_next c.args.off n limit (length was.image) at end at_is end_is was now c.write_at.ensures.disk refl (is_written shadow) (is_written after) c.note.ensures.outside fits c.write_at.ensures.end device.marked c.note.ensures.inside;
-      before = before_next c.args.off n limit (length was.image) at end at_is end_is shadow.stamps.items shadow.bytes.items shadow.stretch after.stamps.items after.bytes.items after.stretch c.memory.result.now
+      clean = clean_next c.args.off n limit (length was.image) at end at_is end_is was now c.write_at.ensures.disk refl
+          (is_written shadow) (is_written after) c.note.ensures.outside device.held.torn.no_shorter device.clean;
+      marked = marked_next c.args.off n limit (length was.image) at end at_is end_is was now c.write_at.ensures.disk refl
+          (is_written shadow) (is_written after) c.note.ensures.outside fits c.write_at.ensures.end device.marked c.note.ensures.inside;
+      before = before_next c.args.off n limit (length was.image) at end at_is end_is shadow.stamps.items
+          shadow.bytes.items shadow.stretch after.stamps.items after.bytes.items after.stretch c.memory.result.now
           was.image now.image device.held.history.stable held.history.stable
           c.memory.ensures.value c.note.ensures.inside c.note.ensures.kept c.write_at.ensures.elsewhere device.before c.write_at.ensures.disk.stable;
     }

@@ -8,7 +8,8 @@ use Rattle.groups_terms.proofs.table.Table.hear.Goals as goal
 
 pub invariant_of-self-2 : goal.invariant_of-self-2
 invariant_of-self-2 c =
-    hear_kept c.args.self.now _ _ c.self.inside.latest c.make_room.new.latest c.note.new.latest c.key-key.result c.known-ballot.result c.hear-on.new.ballot (ap (λ (t : TableView). t.ballots) c.self.view_is) c.self.invariant
+    hear_kept c.args.self.now _ _ c.self.inside.latest c.make_room.new.latest c.note.new.latest c.key-key.result c.known-ballot.result c.hear-on.new.ballot
+    (ap (λ (t : TableView). t.ballots) c.self.view_is) c.self.invariant
     c.known-ballot.ensures c.make_room.ensures.same c.in_ok-put.ensures.ok c.hear-on.ensures.leader c.note.ensures
 
 pub returns-clause-next : goal.returns-clause-next
@@ -17,7 +18,8 @@ returns-clause-next c = λ h msg_no stands.
     hear_next c.args.self.now _ h msg_no c.args.msg.now c.key-key.result c.hear-on.new.ballot stands c.key-key.ensures me
     (put_seen c.args.self.now _ _ c.key-key.result c.hear-on.new.ballot (ap (λ (t : TableView). t.ballots) c.self.view_is) c.in_ok-put.ensures.ok)
     (ap (λ (t : TableView). t.stands) c.self.view_is)
-    (moved c.known-ballot.result (ballot_at c.args.self.now c.key-key.result) c.hear-on.new.ballot _ _ h (h ++ Take msg_no c.args.msg.now ∷ []) (key_of c.args.msg.now) me c.known-ballot.ensures (c.hear-on.ensures.next h msg_no))
+    (moved c.known-ballot.result (ballot_at c.args.self.now c.key-key.result) c.hear-on.new.ballot _ _ h
+    (h ++ Take msg_no c.args.msg.now ∷ []) (key_of c.args.msg.now) me c.known-ballot.ensures (c.hear-on.ensures.next h msg_no))
 
 pub returns-clause-one_key : goal.returns-clause-one_key
 returns-clause-one_key c =

@@ -8,7 +8,8 @@ pub put_state-requires : goal.put_state-requires
 put_state-requires c =
     let bound = c.loop-left.invariant.bound in
     let test = c.loop-left-test.true in
-    absent c.as_slice-items.result.now (c.loop-left.left - 1) c.loop-left.left c.index-items-left.result c.loop-left.table.ballots c.as_slice-items.ensures.sorted (omega arith) (omega arith) c.index-items-left.is c.loop-left.invariant.put
+    absent c.as_slice-items.result.now (c.loop-left.left - 1) c.loop-left.left c.index-items-left.result c.loop-left.table.ballots c.as_slice-items.ensures.sorted
+    (omega arith) (omega arith) c.index-items-left.is c.loop-left.invariant.put
 
 pub loop-left-preserved : goal.loop-left-preserved
 loop-left-preserved c =
@@ -18,7 +19,8 @@ loop-left-preserved c =
       bound = omega arith;
       me_is = c.put_state.ensures.me ∙ c.loop-left.invariant.me_is;
       count_is = c.put_state.ensures.stands ∙ c.loop-left.invariant.count_is;
-      put = one_more_put c.as_slice-items.result.now (c.loop-left.left - 1) c.loop-left.left c.index-items-left.result c.loop-left.table.ballots _ (omega arith) (omega arith) c.index-items-left.is c.loop-left.invariant.put c.in_ok-put_state.ensures.ballots;
+      put = one_more_put c.as_slice-items.result.now (c.loop-left.left - 1) c.loop-left.left c.index-items-left.result c.loop-left.table.ballots _
+          (omega arith) (omega arith) c.index-items-left.is c.loop-left.invariant.put c.in_ok-put_state.ensures.ballots;
     }
 
 pub returns-clause-stands : goal.returns-clause-stands
