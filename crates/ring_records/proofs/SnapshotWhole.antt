@@ -35,20 +35,21 @@ wide_16 = record {
 }
 
 -- the bytes of the counts that were read
-abbrev numbers : Counts → List ℕ
+abbrev pub numbers : Counts → List ℕ
 numbers k = to_be_bytes w64 k.inputs ++ to_be_bytes w64 k.taken ++ to_be_bytes w64 k.credit ++ to_be_bytes w64 k.sent ++ to_be_bytes w16 k.stands ++ to_be_bytes w32 k.keys
 
 -- what a snapshot begins with
 abbrev pub counts_of : Summary → Counts
 counts_of s = record { inputs = s.inputs; taken = s.taken; credit = s.credit; sent = s.sent; stands = s.stands; keys = fin.len s.keys }
 
-abbrev IsCounted : List ℕ → Counts × List ℕ → Type 0
-IsCounted bytes x = Takes bytes (numbers x.0) x.1 × (x.0.stands < 2 ^ 16) × (x.0.keys < 2 ^ 32)
+abbrev pub IsCounted : List ℕ → Counts × List ℕ → Type 0
+IsCounted bytes x =
+    Takes bytes (numbers x.0) x.1 × (x.0.stands < 2 ^ 16) × (x.0.keys < 2 ^ 32) × ((x.0.inputs < 2 ^ 64) × (x.0.taken < 2 ^ 64) × (x.0.credit < 2 ^ 64) × (x.0.sent < 2 ^ 64))
 
 made : ℕ → ℕ → ℕ → ℕ → ℕ → ℕ → Counts
 made inputs taken credit sent stands keys = record { inputs = inputs; taken = taken; credit = credit; sent = sent; stands = stands; keys = keys }
 
-counts-found : (bytes : List ℕ) (x : Counts × List ℕ) → AreBytes bytes → counts_at bytes ≡ Ok x → IsCounted bytes x
+pub counts-found : (bytes : List ℕ) (x : Counts × List ℕ) → AreBytes bytes → counts_at bytes ≡ Ok x → IsCounted bytes x
 unfolding counts_at made
 counts-found bytes x are e =
     let a = bind_ok (number_at w64 bytes) _ x e in
@@ -68,9 +69,9 @@ counts-found bytes x are e =
     let four = Takes-then bytes _ c.0.1 _ d.0.1 three sent.0 in
     let five = Takes-then bytes _ d.0.1 _ f.0.1 four stands.0 in
     let six = Takes-then bytes _ f.0.1 _ g.0.1 five keys.0 in
-    subst (IsCounted bytes) (same_ok (made a.0.0 b.0.0 c.0.0 d.0.0 f.0.0 g.0.0, g.0.1) x g.2) (six, stands.1, keys.1)
+    subst (IsCounted bytes) (same_ok (made a.0.0 b.0.0 c.0.0 d.0.0 f.0.0 g.0.0, g.0.1) x g.2) (six, stands.1, keys.1, (inputs.1, taken.1, credit.1, sent.1))
 
-counts-again : (k : Counts) (rest : List ℕ) → k.inputs < 2 ^ 64 → k.taken < 2 ^ 64 → k.credit < 2 ^ 64 → k.sent < 2 ^ 64 → k.stands < 2 ^ 16 → k.keys < 2 ^ 32
+pub counts-again : (k : Counts) (rest : List ℕ) → k.inputs < 2 ^ 64 → k.taken < 2 ^ 64 → k.credit < 2 ^ 64 → k.sent < 2 ^ 64 → k.stands < 2 ^ 16 → k.keys < 2 ^ 32
     → counts_at (numbers k ++ rest) ≡ Ok (k, rest)
 unfolding counts_at
 counts-again k rest inputs taken credit sent stands keys =
@@ -84,19 +85,19 @@ counts-again k rest inputs taken credit sent stands keys =
 
 -- ---- what is read is spelled
 
-abbrev Parts : Type 0
+abbrev pub Parts : Type 0
 Parts = Counts × List KeyState × List Msg
 
 -- the bytes are these parts, one behind the other
-record AreParts (n : ℕ) (bytes : List ℕ) (p : Parts) : Type 0 where
-  is : bytes ≡ numbers p.0 ++ (flat_map state_bytes p.1 ++ flat_map msg_bytes p.2)
-  few : p.0.stands < 2 ^ 16
-  few_keys : p.0.keys < 2 ^ 32
-  credit : p.0.credit ≤ p.0.sent
-  keys : length p.1 ≡ p.0.keys
-  window : length p.2 ≡ p.0.sent - p.0.credit
-  states : AllByRecursion (IsOwnState n) p.1
-  messages : AllByRecursion (IsMessageOf n) p.2
+pub record AreParts (n : ℕ) (bytes : List ℕ) (p : Parts) : Type 0 where
+  pub is : bytes ≡ numbers p.0 ++ (flat_map state_bytes p.1 ++ flat_map msg_bytes p.2)
+  pub few : p.0.stands < 2 ^ 16
+  pub few_keys : p.0.keys < 2 ^ 32
+  pub credit : p.0.credit ≤ p.0.sent
+  pub keys : length p.1 ≡ p.0.keys
+  pub window : length p.2 ≡ p.0.sent - p.0.credit
+  pub states : AllByRecursion (IsOwnState n) p.1
+  pub messages : AllByRecursion (IsMessageOf n) p.2
 
 end-found : (x y : Parts) (rest : List ℕ) → at_end x rest ≡ Ok y → (x ≡ y) × (rest ≡ [])
 end-found x y [] e = (same_ok x y e, refl)
@@ -138,7 +139,7 @@ Contains-each P [] each x there = let below = there.1 in absurd (omega arith)
 Contains-each P (y ∷ xs) each x (zero, below, e) = subst P e each.0
 Contains-each P (y ∷ xs) each x (suc k, below, e) = Contains-each P xs each.1 x (k, omega arith, e)
 
-parts-spelled : (n : ℕ) (bytes : List ℕ) (k : Counts) (states : List KeyState) (msgs : List Msg) → AreParts n bytes (k, states, msgs) → AreFitting k states → Spells n bytes (made_of k states msgs)
+pub parts-spelled : (n : ℕ) (bytes : List ℕ) (k : Counts) (states : List KeyState) (msgs : List Msg) → AreParts n bytes (k, states, msgs) → AreFitting k states → Spells n bytes (made_of k states msgs)
 unfolding snapshot_of counts_bytes
 parts-spelled n bytes k states msgs parts fits =
     let values : fin.values (keyed states) ≡ states = values-keyed states fits.rising in
@@ -168,7 +169,7 @@ read-spelled n bytes k states msgs are e fits = parts-spelled n bytes k states m
 
 -- ---- what is spelled is read
 
-each-Contained : {A : Type 0} (P : A → Type 0) (xs : List A) → ((x : A) → Contains xs x → P x) → AllByRecursion P xs
+pub each-Contained : {A : Type 0} (P : A → Type 0) (xs : List A) → ((x : A) → Contains xs x → P x) → AllByRecursion P xs
 each-Contained P [] holds = tt
 each-Contained P (x ∷ xs) holds = (holds x (0, omega arith, refl), each-Contained P xs (λ y there. holds y (suc there.0, (let below = there.1 in omega arith), there.2)))
 
@@ -185,7 +186,7 @@ module _ (n : ℕ) (s : Summary) (sound : IsSound n s) where
   own-entries : AllByRecursion IsOwn (fin.entries s.keys)
   own-entries = (owns (fin.entries s.keys) entries-of).0
 
-  states-each : AllByRecursion (IsOwnState n) (fin.values s.keys)
+  pub states-each : AllByRecursion (IsOwnState n) (fin.values s.keys)
   states-each = each-value (IsOwnState n) (fin.entries s.keys) (owns (fin.entries s.keys) entries-of).1
 
   pub sound-fits : AreFitting (counts_of s) (fin.values s.keys)

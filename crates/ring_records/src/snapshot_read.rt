@@ -18,13 +18,13 @@ use std::cmp::Ordering;
 
 // What a snapshot begins with: the counts of its summary, and how many keys there are.
 #[derive(Clone, Copy)]
-struct Counts {
-    inputs: u64,
-    taken: u64,
-    credit: u64,
-    sent: u64,
-    stands: u16,
-    keys: u32,
+pub(crate) struct Counts {
+    pub(crate) inputs: u64,
+    pub(crate) taken: u64,
+    pub(crate) credit: u64,
+    pub(crate) sent: u64,
+    pub(crate) stands: u16,
+    pub(crate) keys: u32,
 }
 
 /// The summary whose snapshot these bytes are, in a ring of `n` nodes; refused as 16 with offset 0 where they are that
@@ -82,7 +82,7 @@ fn parts_of(
 }
 
 #[tactic(auto, unfolding(crate::specs::SnapshotRead::counts_at))]
-fn counts_of(bytes: &[u8]) -> Result<(Counts, &[u8]), RecordFault>
+pub(crate) fn counts_of(bytes: &[u8]) -> Result<(Counts, &[u8]), RecordFault>
     ensures { Finds (λ x. (x.0, x.1.now)) result (counts_at bytes.now) }
 {
     let (inputs, rest) = u64_of(bytes)?;
@@ -155,7 +155,7 @@ fn push_state(states: &mut Vec<KeyState>, state: &KeyState) -> Result<(), AllocE
 }
 
 #[tactic(auto, unfolding(crate::specs::SnapshotRead::state_at))]
-fn state_of(n: u8, bytes: &[u8]) -> Result<(KeyState, &[u8]), RecordFault>
+pub(crate) fn state_of(n: u8, bytes: &[u8]) -> Result<(KeyState, &[u8]), RecordFault>
     ensures { Finds (λ x. (x.0, x.1.now)) result (state_at n bytes.now) }
 {
     let (key, rest) = match key_of(bytes) {
@@ -265,7 +265,7 @@ fn messages_of(alloc: Global, n: u8, count: u64, bytes: &[u8]) -> Result<(Vec<Ms
 }
 
 #[tactic(auto, unfolding(crate::specs::SnapshotRead::msg_at, crate::specs::SnapshotRead::msg_behind))]
-fn msg_of(n: u8, bytes: &[u8]) -> Result<(Msg, &[u8]), RecordFault>
+pub(crate) fn msg_of(n: u8, bytes: &[u8]) -> Result<(Msg, &[u8]), RecordFault>
     ensures { Finds (λ x. (x.0, x.1.now)) result (msg_at n bytes.now) }
 {
     let (kind, rest) = byte_of(bytes)?;
@@ -312,7 +312,7 @@ fn named_of(n: u8, bytes: &[u8]) -> Result<(Key, Candidate, &[u8]), RecordFault>
 
 // ---- what must fit
 
-fn are_fitting(counts: &Counts, states: &[KeyState]) -> bool
+pub(crate) fn are_fitting(counts: &Counts, states: &[KeyState]) -> bool
     ensures { Decides result (AreFitting counts.now states.now) }
 {
     let stands = u64::from(counts.stands);
