@@ -16,7 +16,7 @@ count_at tail = from_be_bytes w16 (get_or tail 0 0 ∷ get_or tail 1 0 ∷ [])
 abbrev pub size_at : List ℕ → ℕ
 size_at tail = from_be_bytes w32 (get_or tail 2 0 ∷ get_or tail 3 0 ∷ get_or tail 4 0 ∷ get_or tail 5 0 ∷ [])
 
-records-short : (inputs : List Input) → HaveRecords inputs → length (records inputs) ≤ 35 * length inputs
+pub records-short : (inputs : List Input) → HaveRecords inputs → length (records inputs) ≤ 35 * length inputs
 records-short [] have = omega arith
 records-short (x ∷ inputs) have = omega (arith, record-short x have.0, records-short inputs have.1, length-append (record_of x) (records inputs))
 

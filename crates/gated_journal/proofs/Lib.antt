@@ -4,6 +4,7 @@ pub mod AreaFormatted
 pub mod AreaFound
 pub mod AreaHeads
 pub mod AreaKept
+pub mod AreaParts
 pub mod AreaRest
 pub mod AreaShut
 pub mod AreaStaged
@@ -15,8 +16,12 @@ pub mod Head
 pub mod Heads
 pub mod Kept
 pub mod Once
+pub mod Pieces
+pub mod Reader
 pub mod Results
 pub mod Shift
+pub mod Shorts
 pub mod Spelled
 pub mod Taken
+pub mod Told
 pub mod Unique

@@ -2,8 +2,10 @@ pub mod Areas
 pub mod Batch
 pub mod Choose
 pub mod Damage
+pub mod Found
 pub mod Frames
 pub mod Journal
+pub mod Pieces
 pub mod Props
 pub mod Reading
 pub mod Scan

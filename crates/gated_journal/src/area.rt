@@ -14,10 +14,10 @@ use ring_records::Refusal;
 /// What an area begins with: its gate, its layout, its epoch, and how long its snapshot is.
 #[derive(Clone, Copy)]
 pub(crate) struct Head {
-    gate: u8,
-    layout: u8,
-    epoch: u64,
-    size: u32,
+    pub(crate) gate: u8,
+    pub(crate) layout: u8,
+    pub(crate) epoch: u64,
+    pub(crate) size: u32,
 }
 
 /// The area that is read.
@@ -39,7 +39,7 @@ enum Area {
     B,
 }
 
-fn head_in(bytes: &[u8; 14]) -> Head
+pub(crate) fn head_in(bytes: &[u8; 14]) -> Head
     ensures { IsHeadOf result 0 bytes.now }
 {
     let b = bytes;

@@ -2,23 +2,29 @@
 #![tactic(auto)]
 
 mod area;
+mod area_reader;
 mod batch;
 mod checkpoint;
 mod commit;
 mod contents;
 mod flown;
 mod format;
+mod found;
+mod joined;
 mod journal;
 pub mod laws;
 mod layout;
+mod next_frame;
 mod open;
 mod opening;
+mod parts;
 mod read;
 mod replace;
 mod scan;
 mod spell;
 mod spent;
 
+pub use area_reader::{AreaReader, Fed};
 pub use batch::Batch;
 pub use checkpoint::Checkpoint;
 pub use journal::Journal;

@@ -18,7 +18,7 @@ pub(crate) enum Unread {
 }
 
 // How many inputs the frame at the head has, and their records.
-fn head_of(tail: &[u8]) -> Option<(usize, &[u8])>
+pub(crate) fn head_of(tail: &[u8]) -> Option<(usize, &[u8])>
     ensures { MatchOption result (NoFrame tail.now) (λ head. HasHead tail.now head.0 head.1.now) }
 {
     if tail.len() < 6 {

@@ -1,0 +1,64 @@
+//! The frame at the front of bytes that may go on, whose inputs are taken without a growth.
+ghost use Rattle.std.specs.Prelude.{◌≡◌, ◌+◌, ◌-◌, ◌*◌, ◌≤◌, ℕ, true, false, List, [], length, vec_len, vec_capacity, MatchOption};
+ghost use Rattle.ring_records.specs.declared.input.Input.{Input};
+ghost use Rattle.gated_journal.specs.Frames.{records, HaveRecords};
+ghost use Rattle.gated_journal.specs.Scan.{TakesRecords, TakesFrame};
+ghost use Rattle.gated_journal.specs.Damage.{NoFrame};
+ghost use Rattle.gated_journal.specs.Pieces.{IsEnough};
+
+use crate::scan::head_of;
+use ring_records::{BATCH_INPUTS, Input, read_record};
+
+/// Whether bytes are missing of a frame that may stand at the head.
+pub(crate) fn is_short(tail: &[u8]) -> bool
+    ensures yes { result ≡ true → NoFrame tail.now }
+    ensures no { result ≡ false → IsEnough tail.now }
+{
+    if tail.len() < 6 {
+        return true;
+    }
+    let count = u16::from_be_bytes([tail[0], tail[1]]) as usize;
+    let size = u32::from_be_bytes([tail[2], tail[3], tail[4], tail[5]]) as usize;
+    if count > BATCH_INPUTS {
+        return false;
+    }
+    if size > 35 * count {
+        return false;
+    }
+    tail.len() - 6 < size
+}
+
+// Takes so many records from the bytes, and tells whether they were there and nothing else.
+fn take_records(inputs: &mut Vec<Input>, bytes: &[u8], count: usize) -> bool
+    requires room { length bytes.now ≤ 9 * (vec_capacity inputs.old - vec_len inputs.old) }
+    ensures taken { result ≡ true → TakesRecords inputs.old.items inputs.new.items count bytes.now [] }
+    ensures broken { result ≡ false → (batch : List Input) → length batch ≡ count → HaveRecords batch → bytes.now ≡ records batch → ⊥ }
+    ensures room { result ≡ true → 9 * (vec_capacity inputs.old - vec_len inputs.old) ≤ 9 * (vec_capacity inputs.new - vec_len inputs.new) + length bytes.now }
+{
+    let mut rest = bytes;
+    for _ in 0..count {
+        let Ok((input, size)) = read_record(rest) else {
+            return false;
+        };
+        inputs.push_reserved(input);
+        rest = &rest[size..];
+    }
+    rest.is_empty()
+}
+
+/// Takes the inputs of the frame at the head, and tells how long it is.
+pub(crate) fn take_frame(inputs: &mut Vec<Input>, tail: &[u8]) -> Option<usize>
+    requires room { length tail.now ≤ 9 * (vec_capacity inputs.old - vec_len inputs.old) }
+    ensures frame { MatchOption result (NoFrame tail.now) (λ size. TakesFrame inputs.old.items inputs.new.items tail.now size) }
+    ensures room { MatchOption result (Unit {0}) (λ size. 9 * (vec_capacity inputs.old - vec_len inputs.old) ≤ 9 * (vec_capacity inputs.new - vec_len inputs.new) + size) }
+{
+    let (count, records) = match head_of(tail) {
+        Some(head) => head,
+        None => return None,
+    };
+    if take_records(inputs, records, count) {
+        Some(6 + records.len())
+    } else {
+        None
+    }
+}
