@@ -1,71 +1,74 @@
 -- What a stop leaves of a node, by its desk and by its history, and what a desk shows that is opened with it.
-use Rattle.std.proofs.Common.{◌≡◌, ◌+◌, ℕ, Bool, true, false, List, [], ◌∷◌, ◌++◌, length, take, drop, None, refl, sym, ◌∙◌, ap, subst, arith}
-use Rattle.std.specs.Option.{option_map}
-use Rattle.std.specs.Prelude.{unwrap_or}
-use Rattle.std.proofs.lemmas.List.{take-append-drop, length-append}
+use Rattle.std.proofs.Common.{◌≡◌, ◌+◌, ◌≤◌, ℕ, Bool, true, false, List, [], ◌∷◌, ◌++◌, length, take, drop, None, refl, sym, ◌∙◌, ap, subst, arith}
+use Rattle.std.proofs.Math.Seq.{take-add}
+use Rattle.std.proofs.lemmas.List.{take-append-drop, take-take, drop-drop, length-append}
 use Rattle.ring_records.specs.declared.base.Base.{Base}
 use Rattle.ring_records.specs.declared.input.Input.{Input}
 use Rattle.ring_records.specs.declared.refusal.Refusal.{Refusal}
-use Rattle.ring_records.specs.declared.summary.Summary.{Summary}
 use Rattle.ring_records.specs.Admission.{area_bytes, IsBaseOf, IsAllowed, IsAdmitted, IsLawful}
+use Rattle.ring_records.specs.Known.{after}
 use Rattle.ring_records.specs.Lists.{EachAfter}
 use Rattle.ring_records.specs.Member.{Member}
-use Rattle.ring_records.specs.States.{NodeState, IsLawfulState, launched_base, durable_in, flown_in, opened, left_by}
+use Rattle.ring_records.specs.States.{NodeState, IsNodeState, IsLawfulState, launched_base, durable_in, flown_in, opened, left_by}
 use Rattle.ring_records.specs.Summary.{summary}
 use Rattle.ring_records.proofs.Growth.{EachAfter-take}
-use Rattle.ring_records.proofs.States.{lawful-left}
+use Rattle.ring_records.proofs.States.{lawful-left, next-few}
 use Rattle.gated_journal.specs.Areas.{ReadsAsOneOf}
 use Rattle.gated_journal.specs.Reading.{Reading}
 use Rattle.group_commit.specs.Desk.{DeskKept, core_of, first_base, new_desk, seen}
 use Rattle.group_commit.specs.Opening.{IsUnlawful}
 use Rattle.group_commit.specs.Past.{IsPast, moved, shifted}
 use Rattle.group_commit.proofs.New.{no_unlawful}
-use Rattle.group_commit.proofs.Past.{take-front, durable-shifted}
-use Rattle.group_commit.proofs.Seen.{flown-shifted}
+use Rattle.group_commit.proofs.Past.{take-front, durable-shifted, launched-shifted}
+use Rattle.group_commit.proofs.Seen.{flown-shifted, past_first}
 use Rattle.group_commit.proofs.Settling.{drop-front}
-use Rattle.node_store.specs.State.{IsOpenedAs, MayBeLeft, ReadsAsLeft, durable_held, flown_held, reading_of}
+use Rattle.node_store.specs.State.{IsOpenedAs, MayBeLeft, ReadsAsLeft, area_with, durable_held, flown_held, reading_of}
 
 -- ---- where the opening is the summary of a past
 
--- what the journal holds with these inputs
-held_read : (m : Member) (opening : Summary) (base : Base) (past l : List Input) → base.inputs ≡ 0 → IsPast m opening past
-    → reading_of m.node (opened (moved (length past) base) (past ++ l)) ≡ record { layout = base.layout; epoch = base.epoch; base = opening; inputs = l }
-held_read m opening base past l none is =
-    let count : length past + base.inputs ≡ length past = omega (arith, none) in
-    let first : take (length past + base.inputs) (past ++ l) ≡ past = ap (λ k. take k (past ++ l)) count ∙ take-front past l in
-    let rest : drop (length past + base.inputs) (past ++ l) ≡ l = ap (λ k. drop k (past ++ l)) count ∙ drop-front past l in
-    let summed : summary m.node (take (length past + base.inputs) (past ++ l)) ≡ opening = ap (summary m.node) first ∙ sym is.summed in
+-- what the area of a base holds with the first k inputs since the opening is what the journal holds of the whole history
+held_read : (desk : DeskKept) (past : List Input) (base : Base) (k : ℕ) → base.inputs ≤ k → IsPast desk.view.member desk.opening past
+    → IsLawfulState desk.view.member (seen past desk).state
+    → reading_of desk.view.member.node (opened (moved (length past) base) (past ++ take k desk.view.state.inputs)) ≡ area_with desk base (take k desk.view.state.inputs)
+held_read desk past base k few is lawful =
+    let me : ℕ = desk.view.member.node in
+    let whole : List Input = desk.view.state.inputs in
+    let l : List Input = take k whole in
+    let first : take (length past + base.inputs) (past ++ l) ≡ past ++ take base.inputs l =
+    take-add (length past) base.inputs (past ++ l) ∙ (λ i. take-front past l i ++ take base.inputs (drop-front past l i)) in
+    let rest : drop (length past + base.inputs) (past ++ l) ≡ drop base.inputs l = sym (drop-drop base.inputs (length past) (past ++ l)) ∙ ap (drop base.inputs) (drop-front past l) in
+    let again : take base.inputs l ≡ take base.inputs whole = take-take base.inputs k whole few in
+    let knows : after me desk.opening (take base.inputs whole) ≡ summary me (past ++ take base.inputs whole) = (past_first past desk base.inputs is lawful).summed in
+    let summed : summary me (take (length past + base.inputs) (past ++ l)) ≡ after me desk.opening (take base.inputs l) =
+    ap (summary me) first ∙ (ap (λ (g : List Input). summary me (past ++ g)) again ∙ (sym knows ∙ ap (after me desk.opening) (sym again))) in
     λ i. record { layout = base.layout; epoch = base.epoch; base = summed i; inputs = rest i }
 
-module _ (desk : DeskKept) (past : List Input) (begins : desk.view.state.base.inputs ≡ 0) (none : desk.view.state.checkpoint ≡ None) (is : IsPast desk.view.member desk.opening past) where
+module _ (desk : DeskKept) (past : List Input) (counts : IsNodeState desk.view.state) (is : IsPast desk.view.member desk.opening past) (lawful : IsLawfulState desk.view.member (seen past desk).state) where
   abbrev me : ℕ
   me = desk.view.member.node
 
   abbrev s : NodeState
   s = desk.view.state
 
-  abbrev here : Base
-  here = moved (length past) desk.view.state.base
-
   -- with the durable inputs
   durable_read : reading_of me (left_by false (shifted past s)) ≡ durable_held desk
-  durable_read = ap (λ l. reading_of me (opened here l)) (durable-shifted past s) ∙ held_read desk.view.member desk.opening s.base past (durable_in s) begins is
+  durable_read = ap (λ l. reading_of me (opened (moved (length past) s.base) l)) (durable-shifted past s) ∙ held_read desk past s.base s.durable counts.based is lawful
 
-  -- with those that fly too
+  -- with what flies too
   flown_read : reading_of me (left_by true (shifted past s)) ≡ flown_held desk
   flown_read =
-      let goes_on : launched_base (shifted past s) ≡ here = ap (λ c. unwrap_or (option_map (moved (length past)) c) here) none in
-      (λ i. reading_of me (opened (goes_on i) (flown-shifted past s i))) ∙ held_read desk.view.member desk.opening s.base past (flown_in s) begins is
+      (λ i. reading_of me (opened (launched-shifted past s i) (flown-shifted past s i)))
+      ∙ held_read desk past (launched_base s) s.flying (next-few s counts) is lawful
 
   left_read : (image : List ℕ) → ReadsAsOneOf desk.view.member (durable_held desk) (flown_held desk) image → ReadsAsLeft desk.view.member (shifted past s) image
   left_read image read = subst (λ (r : Reading). ReadsAsOneOf desk.view.member r (reading_of me (left_by true (shifted past s))) image) (sym durable_read)
       (subst (λ (r : Reading). ReadsAsOneOf desk.view.member (durable_held desk) r image) (sym flown_read) read)
 
 -- so an image that reads as one of both may be left of a node whose history is lawful
-pub may_be_left : (desk : DeskKept) (image : List ℕ) → desk.view.state.base.inputs ≡ 0 → desk.view.state.checkpoint ≡ None
+pub may_be_left : (desk : DeskKept) (image : List ℕ) → IsNodeState desk.view.state
     → ((past : List Input) → IsPast desk.view.member desk.opening past → IsLawfulState desk.view.member (seen past desk).state)
     → ReadsAsOneOf desk.view.member (durable_held desk) (flown_held desk) image → MayBeLeft desk image
-may_be_left desk image begins none lawful read = record { read = read; left = λ past is. record { lawful = lawful past is; reads = left_read desk past begins none is image read } }
+may_be_left desk image counts lawful read = record { read = read; left = λ past is. record { lawful = lawful past is; reads = left_read desk past counts is (lawful past is) image read } }
 
 -- ---- what a desk shows that is opened with what the journal holds in a state
 

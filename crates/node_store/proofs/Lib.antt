@@ -1,3 +1,4 @@
+pub mod Checkpointed
 pub mod Flushed
 pub mod Left
 pub mod Recovered

@@ -13,6 +13,7 @@ use Rattle.ring_records.specs.States.{NodeState, IsLawfulState, launched_base, d
 use Rattle.gated_journal.specs.Reading.{Reading}
 use Rattle.gated_journal.proofs.AreaAlone.{one_reading}
 use Rattle.gated_journal.proofs.Once.{ReadsAs-prop}
+use Rattle.node_core.specs.Core.{IsNodeOf}
 use Rattle.group_commit.specs.Desk.{DeskKept, seen}
 use Rattle.node_store.specs.State.{ReadsOnce, IsReady, Stands, durable_held, flown_held}
 
@@ -44,26 +45,30 @@ IsLawfulState-prop m s p q i = record {
   all = IsLawful-prop m.node m.n m.capacity (launched_base s) s.inputs p.all q.all i;
 }
 
-IsReady-prop : (desk : DeskKept) (spoiled : Bool) (len room : ℕ) → IsProp (IsReady desk spoiled len room)
-IsReady-prop desk spoiled len room p q =
+IsNodeOf-prop : (n me : ℕ) → IsProp (IsNodeOf n me)
+IsNodeOf-prop n me p q i = record { from = le_prop p.from q.from i; to = le_prop p.to q.to i; in_ring = le_prop p.in_ring q.in_ring i }
+
+IsReady-prop : (desk : DeskKept) (spoiled : Bool) (len room epoch : ℕ) → IsProp (IsReady desk spoiled len room epoch)
+IsReady-prop desk spoiled len room epoch p q =
     let number_set : IsSet ℕ = hlevel props in
     let bool_set : IsSet Bool = hlevel props in
     λ i. record {
       idle = number_set _ _ p.idle q.idle i;
+      none = Checkpoint-set _ _ p.none q.none i;
       works = bool_set _ _ p.works q.works i;
       count = number_set _ _ p.count q.count i;
       left = number_set _ _ p.left q.left i;
+      area = number_set _ _ p.area q.area i;
     }
 
-pub Stands-prop : (desk : DeskKept) (journal : Member) (disk : Disk) (spoiled : Bool) (len room : ℕ) → IsProp (Stands desk journal disk spoiled len room)
-Stands-prop desk journal disk spoiled len room p q =
+pub Stands-prop : (desk : DeskKept) (journal : Member) (disk : Disk) (spoiled : Bool) (len room epoch : ℕ) → IsProp (Stands desk journal disk spoiled len room epoch)
+Stands-prop desk journal disk spoiled len room epoch p q =
     let member_set : IsSet Member = hlevel props in
     λ i. record {
+      inside = IsNodeOf-prop desk.view.member.n desk.view.member.node p.inside q.inside i;
       counts = IsNodeState-prop desk.view.state p.counts q.counts i;
-      based = Base-set _ _ p.based q.based i;
-      none = Checkpoint-set _ _ p.none q.none i;
       lawful = λ past is. IsLawfulState-prop desk.view.member (seen past desk).state (p.lawful past is) (q.lawful past is) i;
       named = member_set _ _ p.named q.named i;
       holds = λ image left. ReadsOnce-prop journal (durable_held desk) (flown_held desk) image (p.holds image left) (q.holds image left) i;
-      ready = λ works. IsReady-prop desk spoiled len room (p.ready works) (q.ready works) i;
+      ready = λ works. IsReady-prop desk spoiled len room epoch (p.ready works) (q.ready works) i;
     }

@@ -1,31 +1,42 @@
 -- What a node holds on its device, and what a stop leaves of it.
 use Rattle.std.specs.Prelude.{◌≡◌, ◌≢◌, ◌⊎◌, ◌+◌, ◌-◌, ℕ, Bool, true, false, List, [], take, drop, None}
 use Rattle.disk_model.specs.Disk.{Disk, MayLeave}
+use Rattle.ring_records.specs.declared.base.Base.{Base}
 use Rattle.ring_records.specs.declared.input.Input.{Input}
 use Rattle.ring_records.specs.Admission.{used}
+use Rattle.ring_records.specs.Known.{after}
 use Rattle.ring_records.specs.Member.{Member}
-use Rattle.ring_records.specs.States.{NodeState, IsNodeState, IsLawfulState, durable_in, flown_in, left_by}
+use Rattle.ring_records.specs.States.{NodeState, IsNodeState, IsLawfulState, launched_base, durable_in, flown_in, left_by}
 use Rattle.ring_records.specs.Summary.{summary}
 use Rattle.gated_journal.specs.Areas.{ReadsAs, ReadsAsOneOf}
 use Rattle.gated_journal.specs.Reading.{Reading}
-use Rattle.group_commit.specs.Desk.{DeskView, DeskKept, first_base, new_desk, seen}
+use Rattle.node_core.specs.Core.{IsNodeOf}
+use Rattle.group_commit.specs.Desk.{DeskView, DeskKept, new_desk, seen}
 use Rattle.group_commit.specs.Past.{IsPast}
 
 -- ---- by what its desk keeps
 
--- what its journal holds, where these inputs since the opening are durable
-abbrev pub held_with : DeskKept → List Input → Reading
-held_with desk inputs = record { layout = desk.view.state.base.layout; epoch = desk.view.state.base.epoch; base = desk.opening; inputs = inputs }
-
--- with all its inputs, with those that are durable, and with those that are durable or fly
+-- what its journal holds as it is opened: the desk's opening, and all inputs since
 abbrev pub all_held : DeskKept → Reading
-all_held desk = held_with desk desk.view.state.inputs
+all_held desk = record { layout = desk.view.state.base.layout; epoch = desk.view.state.base.epoch; base = desk.opening; inputs = desk.view.state.inputs }
 
+-- What the area of this base holds with these inputs since the opening: a snapshot of all that its node knows by the first
+-- of them, as many as the base stands for, and the others.
+abbrev pub area_with : DeskKept → Base → List Input → Reading
+area_with desk base inputs = record {
+  layout = base.layout;
+  epoch = base.epoch;
+  base = after desk.view.member.node desk.opening (take base.inputs inputs);
+  inputs = drop base.inputs inputs;
+}
+
+-- what its journal holds in the area in use, with the inputs that are durable; and what it holds once what flies is durable
+-- too, a batch in this area or a checkpoint in the next
 abbrev pub durable_held : DeskKept → Reading
-durable_held desk = held_with desk (durable_in desk.view.state)
+durable_held desk = area_with desk desk.view.state.base (durable_in desk.view.state)
 
 abbrev pub flown_held : DeskKept → Reading
-flown_held desk = held_with desk (flown_in desk.view.state)
+flown_held desk = area_with desk (launched_base desk.view.state) (flown_in desk.view.state)
 
 -- ---- by its history
 
@@ -47,7 +58,7 @@ pub record IsLeft (m : Member) (s : NodeState) (image : List ℕ) : Type 0 where
   pub reads : ReadsAsLeft m s image
 
 -- A stop may have left this image of the node of this desk: it reads as what the journal holds with the durable inputs, or
--- also with those that fly. Where the desk's opening is the summary of a past, this is so of its whole history.
+-- also with what flies. Where the desk's opening is the summary of a past, this is so of its whole history.
 pub record MayBeLeft (desk : DeskKept) (image : List ℕ) : Type 0 where
   pub read : ReadsAsOneOf desk.view.member (durable_held desk) (flown_held desk) image
   pub left : (past : List Input) → IsPast desk.view.member desk.opening past → IsLeft desk.view.member (seen past desk).state image
@@ -73,20 +84,21 @@ until old new = record old { view = record old.view { state = record old.view.st
 abbrev pub ReadsOnce : Member → Reading → Reading → List ℕ → Type 0
 ReadsOnce member old new image = ReadsAs member image old ⊎ ((old ≢ new) × ReadsAs member image new)
 
--- nothing flies, and the journal takes the next batch, behind the durable inputs
-pub record IsReady (desk : DeskKept) (spoiled : Bool) (len room : ℕ) : Type 0 where
+-- nothing flies, and the journal takes the next batch behind the durable inputs, or the next area behind the one in use
+pub record IsReady (desk : DeskKept) (spoiled : Bool) (len room epoch : ℕ) : Type 0 where
   pub idle : desk.view.state.flying ≡ desk.view.state.durable
+  pub none : desk.view.state.checkpoint ≡ None
   pub works : spoiled ≡ false
   pub count : len ≡ desk.opening.inputs + desk.view.state.durable
   pub left : room ≡ desk.view.member.capacity - used desk.view.state.base (durable_in desk.view.state)
+  pub area : epoch ≡ desk.view.state.base.epoch
 
--- The area in use is that of the desk's opening, and no checkpoint flies; with a past the desk's state is lawful; the journal
--- is the desk's and holds what is durable, and is ready while the desk has not failed.
-pub record Stands (desk : DeskKept) (journal : Member) (disk : Disk) (spoiled : Bool) (len room : ℕ) : Type 0 where
+-- The node is one of its ring; with a past the desk's state is lawful; the journal is the desk's and holds what is durable,
+-- or also what flies, and is ready while the desk has not failed.
+pub record Stands (desk : DeskKept) (journal : Member) (disk : Disk) (spoiled : Bool) (len room epoch : ℕ) : Type 0 where
+  pub inside : IsNodeOf desk.view.member.n desk.view.member.node
   pub counts : IsNodeState desk.view.state
-  pub based : desk.view.state.base ≡ first_base desk.view.state.base.layout desk.view.state.base.epoch desk.opening
-  pub none : desk.view.state.checkpoint ≡ None
   pub lawful : (past : List Input) → IsPast desk.view.member desk.opening past → IsLawfulState desk.view.member (seen past desk).state
   pub named : journal ≡ desk.view.member
   pub holds : (image : List ℕ) → MayLeave disk image → ReadsOnce journal (durable_held desk) (flown_held desk) image
-  pub ready : desk.view.failed ≡ false → IsReady desk spoiled len room
+  pub ready : desk.view.failed ≡ false → IsReady desk spoiled len room epoch

@@ -6,6 +6,7 @@ ghost use Rattle.ring_records.specs.Answer.{Answered};
 ghost use Rattle.ring_records.specs.Member.{member};
 ghost use Rattle.ring_records.specs.Release.{packets, decisions};
 ghost use Rattle.ring_records.specs.Snapshot.{IsSound};
+ghost use Rattle.ring_records.specs.States as states;
 ghost use Rattle.ring_records.specs.States.{NodeState, IsLawfulState, durable_in, flying_in, left_by};
 ghost use Rattle.ring_records.specs.Summary.{empty};
 ghost use Rattle.gated_journal.specs.Areas.{ReadsAs, AllReadAs};
@@ -13,11 +14,13 @@ ghost use Rattle.gated_journal.specs.Batch.{landed as receipted, lost};
 ghost use Rattle.gated_journal.specs.Journal as journals;
 ghost use Rattle.gated_journal.specs.Reading.{device_size, fresh_area, is_header};
 ghost use Rattle.gated_journal.specs.Unread.{IsFault, IsUnread};
-ghost use Rattle.group_commit.specs.Desk.{DeskKept, new_desk, core_of, seen, ended, launched, landed, objection, IsAnswer, IsHere, IsSealed, IsSubmitted, IsFlying};
+ghost use Rattle.node_core.specs.Core.{IsNodeOf};
+ghost use Rattle.group_commit.specs.Desk.{DeskKept, new_desk, core_of, known_all, seen, ended, launched, launched_all, landed};
+ghost use Rattle.group_commit.specs.Desk.{objection, checkpoint_objection, IsAnswer, IsHere, IsSealed, IsSubmitted, IsFlying};
 ghost use Rattle.group_commit.specs.Opening.{IsKnownLawful};
 ghost use Rattle.group_commit.specs.Past.{IsPast};
 ghost use Rattle.node_store.specs.Props.{Stands-prop};
-ghost use Rattle.node_store.specs.Recovery.{IsNotLawful, IsUnrecovered};
+ghost use Rattle.node_store.specs.Recovery.{IsNotLawful, IsUnbegun, IsUnrecovered};
 ghost use Rattle.node_store.specs.State.{Holds, IsLeft, IsOpenedAs, MayBeLeft, all_held, durable_held, until, Stands};
 
 use disk_model::{Device, FuseDevice};
@@ -33,8 +36,8 @@ pub struct Node<D: Device> {
     desk: Desk,
     journal: Journal<D>,
     ghost stands: { Stands desk (journals.member_of journal) (D.disk (journals.device_of journal)) (journals.is_spoiled journal)
-        (journals.len_of journal) (journals.room_of journal) } by { Stands-prop desk (journals.member_of journal) (D.disk (journals.device_of journal)) (journals.is_spoiled journal)
-            (journals.len_of journal) (journals.room_of journal) },
+        (journals.len_of journal) (journals.room_of journal) (journals.epoch_of journal) } by { Stands-prop desk (journals.member_of journal) (D.disk (journals.device_of journal))
+            (journals.is_spoiled journal) (journals.len_of journal) (journals.room_of journal) (journals.epoch_of journal) },
 }
 
 impl<D: Device> Node<D> {
@@ -66,6 +69,7 @@ impl<D: Device> Node<D> {
         if !is_header(node, n, capacity) {
             return Err((device, Refusal::BadNumber));
         }
+        inside(node, n);
         match Desk::open(alloc, node, n, capacity, run, Opening::fresh(alloc)) {
             Err(refusal) => Err((device, refusal)),
             Ok(desk) => match Journal::format(device, node, n, capacity) {
@@ -80,10 +84,10 @@ impl<D: Device> Node<D> {
     }
 
     /// The node that a device holds, which it makes stable first: it goes on from the summary that its journal holds, and
-    /// stands for the inputs behind that, all of them durable. Refused as 15; as 17 where there is no header; as 18 where
-    /// it is that of a journal without areas; as 19 where it names another node or ring size; as 16 with the offset of what
-    /// is damaged; as 24 with the number of the first input behind the summary, counted from 0, that is not admitted after
-    /// those before it; and as 8 where it is met.
+    /// stands for the inputs behind that, all of them durable. The caller sees that the node is one of the ring. Refused as
+    /// 15; as 17 where there is no header; as 18 where it is that of a journal without areas; as 19 where it names another
+    /// node or ring size; as 16 with the offset of what is damaged; as 24 with the number of the first input behind the
+    /// summary, counted from 0, that is not admitted after those before it; and as 8 where it is met.
     pub fn recover(
         alloc: Global,
         device: D,
@@ -91,6 +95,7 @@ impl<D: Device> Node<D> {
         n: u8,
         run: u64,
     ) -> Result<Node<D>, (D, Refusal)>
+        requires in_ring { node ≤ n }
         ensures desk { IfOk result (λ made. desk_of made ≡ new_desk (member node n (member_of made).capacity) run (all_held (desk_of made))) }
         ensures lawful { IfOk result (λ made. IsSound n (desk_of made).opening × IsKnownLawful (core_of (member_of made) (all_held (desk_of made))) (state_of made).inputs) }
 
@@ -131,6 +136,7 @@ impl<D: Device> Node<D> {
         ensures reach { IfOk result (λ made. D.reach (device_of made) ≡ D.reach device) }
         ensures reach_err { IfErr result (λ e. D.reach e.0 ≡ D.reach device) }
     {
+        inside(node, n);
         match Journal::reopen(alloc, device, node, n) {
             Err((device, refusal)) => Err((device, refusal)),
             Ok((journal, opening)) => {
@@ -212,6 +218,13 @@ impl<D: Device> Node<D> {
         self.desk.durable()
     }
 
+    /// The epoch of its journal's area in use: each checkpoint raises it by 1.
+    pub fn epoch(&self) -> u64
+        ensures { result ≡ (state_of self.now).base.epoch }
+    {
+        self.desk.epoch()
+    }
+
     /// Takes no more requests; all else goes on.
     pub fn close(&mut self)
         ensures next { desk_of self.new ≡ record (desk_of self.old) { view = record (desk_of self.old).view { closed = true } } }
@@ -278,6 +291,48 @@ impl<D: Device> Node<D> {
         }
     }
 
+    /// Makes a summary of all that the node accepted durable in place of what its journal holds, also where nothing waits,
+    /// and tells what that lets the node release. Refused as 9 where it has failed, as 6 where its journal may write no
+    /// other area, as 7 where the summary's snapshot is longer than the capacity, as 15, after which it has failed, and as
+    /// 8. But for 15 nothing has changed then.
+    pub fn checkpoint(&mut self) -> Result<Landed, Refusal>
+        ensures next { OnOk result (desk_of self.new ≡ record (desk_of self.old) { view = landed (launched_all (desk_of self.old)) }) }
+        ensures count { IfOk result (λ l. l.count ≡ length (state_of self.old).inputs - (state_of self.old).durable) }
+        ensures packets { IfOk result (λ l. (past : List Input) → IsPast (member_of self.old) (desk_of self.old).opening past → l.packets.items
+            ≡ packets (member_of self.old).node (durable_in (seen past (desk_of self.old)).state) (flying_in (states.launched_all (member_of self.old).node (seen past (desk_of self.old)).state))) }
+        ensures decisions { IfOk result (λ l. (past : List Input) → IsPast (member_of self.old) (desk_of self.old).opening past → l.decisions.items
+            ≡ decisions (member_of self.old).node (durable_in (seen past (desk_of self.old)).state) (flying_in (states.launched_all (member_of self.old).node (seen past (desk_of self.old)).state))) }
+        ensures durable { OnOk result (AllReadAs (member_of self.old) (D.disk (device_of self.new)) (fresh_area newest ((state_of self.old).base.epoch + 1) (known_all (desk_of self.old)))) }
+        ensures free { OnOk result (checkpoint_objection (desk_of self.old) ≡ None) }
+
+        // Refused as 15, the device failed, and the checkpoint flies for good.
+        ensures cause { IfErr result (λ why. (checkpoint_objection (desk_of self.old) ≡ Some why)
+            ⊎ ((checkpoint_objection (desk_of self.old) ≡ None) × (IsFault (D.count (device_of self.old)) (D.count (device_of self.new)) why ⊎ (why ≡ Refusal.OutOfMemory)))) }
+        ensures fault { IfErr result (λ why. IsFault (D.count (device_of self.old)) (D.count (device_of self.new)) why
+            → desk_of self.new ≡ record (desk_of self.old) { view = record (launched_all (desk_of self.old)) { failed = true } }) }
+        ensures same { IfErr result (λ why. IsUnbegun why → (desk_of self.new ≡ desk_of self.old) × (device_of self.new ≡ device_of self.old)) }
+        ensures in_reach { Reaches (D.reach (device_of self.old)) (device_size (member_of self.old).capacity) → IfErr result (λ why. IsUnbegun why) }
+
+        // A stop at any moment leaves what was held before, or the summary of all that was accepted and no inputs behind it.
+        ensures any_moment { OnOk result (LeavesOnly D.clock D.left_since (device_of self.old) (device_of self.new)
+            (MayBeLeft (record (desk_of self.old) { view = launched_all (desk_of self.old) }))) }
+        ensures any_moment_err { OnErr result (LeavesOnly D.clock D.left_since (device_of self.old) (device_of self.new) (MayBeLeft (desk_of self.new))) }
+        ensures stays { desk_of self.new ≡ record (desk_of self.old) { view = record (desk_of self.old).view { state = state_of self.new; failed = (desk_of self.new).view.failed } } }
+        ensures device { OnOk result (D.count (device_of self.new) ≡ D.count (device_of self.old)) }
+        ensures reach { D.reach (device_of self.new) ≡ D.reach (device_of self.old) }
+    {
+        match self.desk.launch_checkpoint() {
+            Err(refusal) => Err(refusal),
+            Ok(checkpoint) => match self.journal.checkpoint(checkpoint) {
+                Ok(receipt) => Ok(land(&mut self.desk, receipt)),
+                Err(spoiled) => {
+                    fail(&mut self.desk, spoiled);
+                    Err(Refusal::Device(self.journal.failures()))
+                }
+            },
+        }
+    }
+
     /// The desk and the journal of a node that takes requests and has no open ticket, for threads of their own: the
     /// journal holds the durable inputs, and nothing flies.
     pub fn split(self) -> (Desk, Journal<D>)
@@ -286,11 +341,13 @@ impl<D: Device> Node<D> {
         ensures desk { result.0 ≡ desk_of self }
         ensures idle { result.0.view.state.flying ≡ result.0.view.state.durable }
         ensures none { result.0.view.state.checkpoint ≡ None }
+        ensures inside { IsNodeOf result.0.view.member.n result.0.view.member.node }
         ensures device { journals.device_of result.1 ≡ device_of self }
         ensures member { journals.member_of result.1 ≡ result.0.view.member }
         ensures ready { journals.is_spoiled result.1 ≡ false }
         ensures len { journals.len_of result.1 ≡ result.0.opening.inputs + result.0.view.state.durable }
         ensures room { journals.room_of result.1 ≡ result.0.view.member.capacity - used result.0.view.state.base (durable_in result.0.view.state) }
+        ensures epoch { journals.epoch_of result.1 ≡ result.0.view.state.base.epoch }
         ensures durable { AllReadAs result.0.view.member (D.disk (journals.device_of result.1)) (durable_held result.0) }
     {
         let Node {
@@ -307,7 +364,7 @@ impl<D: Device> Node<D> {
         requires spent { length (desk_of self).view.tickets ≡ 0 }
         ensures device { result ≡ device_of self }
 
-        // A stop leaves the inputs that were durable, or also those that flew.
+        // A stop leaves what was durable, or also what flew.
         ensures left { (image : List ℕ) → MayLeave (D.disk result) image → MayBeLeft (desk_of self) image }
         ensures holds { (past : List Input) → IsPast (member_of self) (desk_of self).opening past
             → IsLawfulState (member_of self) (seen past (desk_of self)).state × Holds (member_of self) (D.disk result) (seen past (desk_of self)).state }
@@ -339,7 +396,15 @@ impl<D: Device> Node<FuseDevice<D>> {
     }
 }
 
-// The batch that flies is durable.
+// A node that is no more than its ring's size is one of the ring.
+fn inside(node: NodeNo, n: u8)
+    requires { node ≤ n }
+    ensures { IsNodeOf n node }
+{
+    let _number = node.number();
+}
+
+// What flies is durable, a batch or a checkpoint.
 fn land(desk: &mut Desk, receipt: Receipt) -> Landed
     requires works { desk.old.view.failed ≡ false }
     requires flying { IsFlying desk.old (receipted receipt) }
@@ -356,7 +421,7 @@ fn land(desk: &mut Desk, receipt: Receipt) -> Landed
     }
 }
 
-// The device failed with the batch that flies.
+// The device failed with what flies.
 fn fail(desk: &mut Desk, spoiled: Spoiled)
     requires flying { IsFlying desk.old (lost spoiled) }
     ensures next { desk.new ≡ record desk.old { view = record desk.old.view { failed = true } } }

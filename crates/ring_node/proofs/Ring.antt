@@ -24,7 +24,7 @@ use Rattle.ring_node.specs.Held.{HeldView, AreInside, IsWhole, IsRingNode}
 use Rattle.ring_node.proofs.Sending.{sent-batch, batch-few, inside, inside-front}
 use Rattle.ring_node.proofs.Serving as serving
 
-me_within : (m : Member) → is_header m ≡ true → m.node ≤ m.n
+pub me_within : (m : Member) → is_header m ≡ true → m.node ≤ m.n
 me_within m range = grind (arith, nat_tests)
 
 -- the node by other names

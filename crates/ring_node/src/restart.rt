@@ -171,6 +171,7 @@ fn reopened(
     capacity: u32,
     run: u64,
 ) -> Result<Node<Disk>, AllocError>
+    requires in_ring { me ≤ n }
     requires long { device_size capacity ≤ limit_of device }
     requires holds { (s : NodeState) × IsLawfulState (member me n capacity) s × Holds (member me n capacity) (disk_of device) s }
     ensures desk { IfOk result (λ node. (s : NodeState) → IsLawfulState (member me n capacity) s → Holds (member me n capacity) (disk_of device) s

@@ -9,5 +9,5 @@ pub invariant_of-self : goal.invariant_of-self
 invariant_of-self g c =
     let node = c.args.self.now in
     let journal = node.journal in
-    let P = λ (d : DeskKept). Stands d (journals.member_of journal) (g.D.Device.disk (journals.device_of journal)) (journals.is_spoiled journal) (journals.len_of journal) (journals.room_of journal) in
-    record { stands = subst P (sym c.close.ensures) (closes _ _ _ _ _ _ node.stands) }
+    let P = λ (d : DeskKept). Stands d (journals.member_of journal) (g.D.Device.disk (journals.device_of journal)) (journals.is_spoiled journal) (journals.len_of journal) (journals.room_of journal) (journals.epoch_of journal) in
+    record { stands = subst P (sym c.close.ensures) (closes _ _ _ _ _ _ _ node.stands) }

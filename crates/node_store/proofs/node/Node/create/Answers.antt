@@ -25,7 +25,8 @@ invariant_of-result g c =
     let all : AllReadAs (journals.member_of journal) disk (fresh_area newest 1 empty) = subst (λ (m : Member). AllReadAs m disk (fresh_area newest 1 empty)) (sym made.header) made.empty in
     let is : desk ≡ new_desk here c.args.run (fresh_area newest 1 empty) = c.in-Ok.ensures.desk ∙ ap (new_desk here c.args.run) c.fresh.ensures in
     record {
-      stands = subst (λ (d : DeskKept). Stands d (journals.member_of journal) disk (journals.is_spoiled journal) (journals.len_of journal) (journals.room_of journal)) (sym is)
+      stands = subst (λ (d : DeskKept). Stands d (journals.member_of journal) disk (journals.is_spoiled journal) (journals.len_of journal) (journals.room_of journal) (journals.epoch_of journal)) (sym is)
           (opens_empty here (journals.member_of journal) c.args.run disk
-          (journals.is_spoiled journal) (journals.len_of journal) (journals.room_of journal) made.header all made.ready made.len made.room);
+          (journals.is_spoiled journal) (journals.len_of journal) (journals.room_of journal) (journals.epoch_of journal)
+          c.inside.ensures made.header all made.ready made.len made.room made.epoch);
     }

@@ -32,7 +32,7 @@ commit-requires-clause-room g c =
     let batch : c.in-Ok-Some.batch.inputs.items ≡ flying_in (launched node.desk.view.state) =
     batch_of c.in-Ok-Some.field-0 c.in-Ok-Some.batch _ _ _ node.desk.view.state c.in-Ok-Some.field-0-is launch.batch (ap state launch.next) in
     let within = fits_of c.in-Ok-Some.field-0 c.in-Ok-Some.batch node.desk _ c.in-Ok-Some.field-0-is launch.fits launch.next in
-    fits _ _ _ _ _ _ works node.stands c.in-Ok-Some.batch.inputs.items batch within
+    fits _ _ _ _ _ _ _ works node.stands c.in-Ok-Some.batch.inputs.items batch within
 
 pub invariant_of-self-in-Ok-None : goal.invariant_of-self-in-Ok-None
 invariant_of-self-in-Ok-None g c =
@@ -41,10 +41,10 @@ invariant_of-self-in-Ok-None g c =
     let launch = c.in-Ok-None.ensures in
     let works = works_launched node.desk.view.failed _ _ launch.free in
     let whole = of_none c.in-Ok-None.field-0 _ _ c.in-Ok-None.field-0-is launch.none in
-    let P = λ (d : DeskKept). Stands d (journals.member_of journal) (g.D.Device.disk (journals.device_of journal)) (journals.is_spoiled journal) (journals.len_of journal) (journals.room_of journal) in
+    let P = λ (d : DeskKept). Stands d (journals.member_of journal) (g.D.Device.disk (journals.device_of journal)) (journals.is_spoiled journal) (journals.len_of journal) (journals.room_of journal) (journals.epoch_of journal) in
     record {
       stands = subst P
-          (sym (none_launched node.desk _ _ _ _ _ node.stands _ works whole launch.next)) node.stands;
+          (sym (none_launched node.desk _ _ _ _ _ _ node.stands _ works whole launch.next)) node.stands;
     }
 
 pub invariant_of-self-in-Ok : goal.invariant_of-self-in-Ok
@@ -57,13 +57,13 @@ invariant_of-self-in-Ok g c =
     let batch : c.in-Ok-Some.batch.inputs.items ≡ flying_in (launched node.desk.view.state) =
     batch_of c.in-Ok-Some.field-0 c.in-Ok-Some.batch _ _ _ node.desk.view.state c.in-Ok-Some.field-0-is launch.batch (ap state launch.next) in
     let read : AllReadAs (journals.member_of node.journal) disk (with_more (durable_held node.desk) c.in-Ok-Some.batch.inputs.items) =
-    c.in-Ok.ensures.durable (durable_held node.desk) (all _ _ _ _ _ _ works node.stands) in
+    c.in-Ok.ensures.durable (durable_held node.desk) (all _ _ _ _ _ _ _ works node.stands) in
     let next : c.land.new.desk ≡ record node.desk { view = desks.landed (desks.launched node.desk.view) } = c.land.ensures.next ∙ ap landed launch.next in
     record {
-      stands = subst (λ (d : DeskKept). Stands d (journals.member_of journal) disk (journals.is_spoiled journal) (journals.len_of journal) (journals.room_of journal)) (sym next)
-          (lands _ _ _ _ _ _ works node.stands c.in-Ok-Some.batch.inputs.items batch (journals.member_of journal) disk
-          (journals.is_spoiled journal) (journals.len_of journal) (journals.room_of journal)
-          c.in-Ok.ensures.header read c.in-Ok.ensures.spoils c.in-Ok.ensures.len c.in-Ok.ensures.left);
+      stands = subst (λ (d : DeskKept). Stands d (journals.member_of journal) disk (journals.is_spoiled journal) (journals.len_of journal) (journals.room_of journal) (journals.epoch_of journal)) (sym next)
+          (lands _ _ _ _ _ _ _ works node.stands c.in-Ok-Some.batch.inputs.items batch (journals.member_of journal) disk
+          (journals.is_spoiled journal) (journals.len_of journal) (journals.room_of journal) (journals.epoch_of journal)
+          c.in-Ok.ensures.header read c.in-Ok.ensures.spoils c.in-Ok.ensures.len c.in-Ok.ensures.left c.in-Ok.ensures.epoch);
     }
 
 pub invariant_of-self-in-Err-commit : goal.invariant_of-self-in-Err-commit
@@ -76,19 +76,19 @@ invariant_of-self-in-Err-commit g c =
     let batch : c.in-Ok-Some.batch.inputs.items ≡ flying_in (launched node.desk.view.state) =
     batch_of c.in-Ok-Some.field-0 c.in-Ok-Some.batch _ _ _ node.desk.view.state c.in-Ok-Some.field-0-is launch.batch (ap state launch.next) in
     let held = durable_held node.desk in
-    let moments = c.in-Err-commit.ensures.any_moment held (all _ _ _ _ _ _ works node.stands) in
+    let moments = c.in-Err-commit.ensures.any_moment held (all _ _ _ _ _ _ _ works node.stands) in
     let read = now g.D.Device.clock g.D.Device.left_since (journals.device_of node.journal) (journals.device_of journal) disk
     (ReadsAsOneOf (journals.member_of node.journal) held (with_more held c.in-Ok-Some.batch.inputs.items)) moments
     (g.met.D.Device.counts_now (journals.device_of journal)) in
     let next : c.fail.new.desk ≡ record node.desk { view = record (desks.launched node.desk.view) { failed = true } } = c.fail.ensures.next ∙ ap failed launch.next in
     record {
-      stands = subst (λ (d : DeskKept). Stands d (journals.member_of journal) disk (journals.is_spoiled journal) (journals.len_of journal) (journals.room_of journal)) (sym next)
-          (breaks _ _ _ _ _ _ works node.stands c.in-Ok-Some.batch.inputs.items batch (journals.member_of journal) disk
-          (journals.is_spoiled journal) (journals.len_of journal) (journals.room_of journal) c.in-Err-commit.ensures.header read);
+      stands = subst (λ (d : DeskKept). Stands d (journals.member_of journal) disk (journals.is_spoiled journal) (journals.len_of journal) (journals.room_of journal) (journals.epoch_of journal)) (sym next)
+          (breaks _ _ _ _ _ _ _ works node.stands c.in-Ok-Some.batch.inputs.items batch (journals.member_of journal) disk
+          (journals.is_spoiled journal) (journals.len_of journal) (journals.room_of journal) (journals.epoch_of journal) c.in-Err-commit.ensures.header read);
     }
 
 pub returns-in-Err-clause-in_reach : goal.returns-in-Err-clause-in_reach
-returns-in-Err-clause-in_reach g c = λ reach. launch_refused _ _ _ _ _ _ c.args.self.now.stands c.in-Err.refusal c.in-Err.ensures.refusal
+returns-in-Err-clause-in_reach g c = λ reach. launch_refused _ _ _ _ _ _ _ c.args.self.now.stands c.in-Err.refusal c.in-Err.ensures.refusal
 
 pub returns-in-Err-clause-any_moment : goal.returns-in-Err-clause-any_moment
 returns-in-Err-clause-any_moment g c =
@@ -96,7 +96,7 @@ returns-in-Err-clause-any_moment g c =
     let device = journals.device_of node.journal in
     started g.D.Device.clock g.D.Device.left_since device _ (λ image may.
     subst (λ (d : DeskKept). MayBeLeft (until node.desk d) image) (sym c.in-Err.ensures.same)
-    (left _ _ (g.D.Device.disk device) _ _ _ node.stands image (g.met.D.Device.only_now device image may)))
+    (left _ _ (g.D.Device.disk device) _ _ _ _ node.stands image (g.met.D.Device.only_now device image may)))
 
 pub returns-in-Ok-None-clause-packets : goal.returns-in-Ok-None-clause-packets
 returns-in-Ok-None-clause-packets g c = λ past is.
@@ -115,8 +115,8 @@ returns-in-Ok-None-clause-durable g c =
     let launch = c.in-Ok-None.ensures in
     let works = works_launched node.desk.view.failed _ _ launch.free in
     let whole = of_none c.in-Ok-None.field-0 _ _ c.in-Ok-None.field-0-is launch.none in
-    subst (λ (d : DeskKept). AllReadAs node.desk.view.member disk (durable_held d)) (sym (none_launched node.desk _ _ _ _ _ node.stands _ works whole launch.next))
-    (durable_all _ _ _ _ _ _ works node.stands)
+    subst (λ (d : DeskKept). AllReadAs node.desk.view.member disk (durable_held d)) (sym (none_launched node.desk _ _ _ _ _ _ node.stands _ works whole launch.next))
+    (durable_all _ _ _ _ _ _ _ works node.stands)
 
 pub returns-in-Ok-None-clause-any_moment : goal.returns-in-Ok-None-clause-any_moment
 returns-in-Ok-None-clause-any_moment g c =
@@ -126,8 +126,8 @@ returns-in-Ok-None-clause-any_moment g c =
     let works = works_launched node.desk.view.failed _ _ launch.free in
     let whole = of_none c.in-Ok-None.field-0 _ _ c.in-Ok-None.field-0-is launch.none in
     started g.D.Device.clock g.D.Device.left_since device _ (λ image may.
-    subst (λ (d : DeskKept). MayBeLeft (until node.desk d) image) (sym (none_launched node.desk _ _ _ _ _ node.stands _ works whole launch.next))
-    (left _ _ (g.D.Device.disk device) _ _ _ node.stands image (g.met.D.Device.only_now device image may)))
+    subst (λ (d : DeskKept). MayBeLeft (until node.desk d) image) (sym (none_launched node.desk _ _ _ _ _ _ node.stands _ works whole launch.next))
+    (left _ _ (g.D.Device.disk device) _ _ _ _ node.stands image (g.met.D.Device.only_now device image may)))
 
 pub returns-in-Ok-clause-packets : goal.returns-in-Ok-clause-packets
 returns-in-Ok-clause-packets g c = λ past is.
@@ -154,9 +154,9 @@ returns-in-Ok-clause-durable g c =
     let batch : c.in-Ok-Some.batch.inputs.items ≡ flying_in (launched node.desk.view.state) =
     batch_of c.in-Ok-Some.field-0 c.in-Ok-Some.batch _ _ _ node.desk.view.state c.in-Ok-Some.field-0-is launch.batch (ap state launch.next) in
     let read : AllReadAs (journals.member_of node.journal) disk (with_more (durable_held node.desk) c.in-Ok-Some.batch.inputs.items) =
-    c.in-Ok.ensures.durable (durable_held node.desk) (all _ _ _ _ _ _ works node.stands) in
+    c.in-Ok.ensures.durable (durable_held node.desk) (all _ _ _ _ _ _ _ works node.stands) in
     let next : c.land.new.desk ≡ record node.desk { view = desks.landed (desks.launched node.desk.view) } = c.land.ensures.next ∙ ap landed launch.next in
-    landed_all _ _ _ _ _ _ works node.stands c.in-Ok-Some.batch.inputs.items batch c.land.new.desk disk next read
+    landed_all _ _ _ _ _ _ _ works node.stands c.in-Ok-Some.batch.inputs.items batch c.land.new.desk disk next read
 
 pub returns-in-Ok-clause-any_moment : goal.returns-in-Ok-clause-any_moment
 returns-in-Ok-clause-any_moment g c =
@@ -167,12 +167,12 @@ returns-in-Ok-clause-any_moment g c =
     let batch : c.in-Ok-Some.batch.inputs.items ≡ flying_in (launched node.desk.view.state) =
     batch_of c.in-Ok-Some.field-0 c.in-Ok-Some.batch _ _ _ node.desk.view.state c.in-Ok-Some.field-0-is launch.batch (ap state launch.next) in
     let held = durable_held node.desk in
-    let moments = c.in-Ok.ensures.any_moment held (all _ _ _ _ _ _ works node.stands) in
+    let moments = c.in-Ok.ensures.any_moment held (all _ _ _ _ _ _ _ works node.stands) in
     let next : c.land.new.desk ≡ record node.desk { view = desks.landed (desks.launched node.desk.view) } = c.land.ensures.next ∙ ap landed launch.next in
     weaken g.D.Device.clock g.D.Device.left_since (journals.device_of node.journal) (journals.device_of journal)
     (ReadsAsOneOf (journals.member_of node.journal) held (with_more held c.in-Ok-Some.batch.inputs.items))
     (MayBeLeft (until node.desk c.land.new.desk))
-    (moment _ _ _ _ _ _ works node.stands c.in-Ok-Some.batch.inputs.items batch c.land.new.desk (ap (λ (d : DeskKept). d.view.state.flying) next)) moments
+    (moment _ _ _ _ _ _ _ works node.stands c.in-Ok-Some.batch.inputs.items batch c.land.new.desk (ap (λ (d : DeskKept). d.view.state.flying) next)) moments
 
 pub returns-in-Err-commit-clause-any_moment : goal.returns-in-Err-commit-clause-any_moment
 returns-in-Err-commit-clause-any_moment g c =
@@ -183,9 +183,9 @@ returns-in-Err-commit-clause-any_moment g c =
     let batch : c.in-Ok-Some.batch.inputs.items ≡ flying_in (launched node.desk.view.state) =
     batch_of c.in-Ok-Some.field-0 c.in-Ok-Some.batch _ _ _ node.desk.view.state c.in-Ok-Some.field-0-is launch.batch (ap state launch.next) in
     let held = durable_held node.desk in
-    let moments = c.in-Err-commit.ensures.any_moment held (all _ _ _ _ _ _ works node.stands) in
+    let moments = c.in-Err-commit.ensures.any_moment held (all _ _ _ _ _ _ _ works node.stands) in
     let next : c.fail.new.desk ≡ record node.desk { view = record (desks.launched node.desk.view) { failed = true } } = c.fail.ensures.next ∙ ap failed launch.next in
     weaken g.D.Device.clock g.D.Device.left_since (journals.device_of node.journal) (journals.device_of journal)
     (ReadsAsOneOf (journals.member_of node.journal) held (with_more held c.in-Ok-Some.batch.inputs.items))
     (MayBeLeft (until node.desk c.fail.new.desk))
-    (moment _ _ _ _ _ _ works node.stands c.in-Ok-Some.batch.inputs.items batch c.fail.new.desk (ap (λ (d : DeskKept). d.view.state.flying) next)) moments
+    (moment _ _ _ _ _ _ _ works node.stands c.in-Ok-Some.batch.inputs.items batch c.fail.new.desk (ap (λ (d : DeskKept). d.view.state.flying) next)) moments

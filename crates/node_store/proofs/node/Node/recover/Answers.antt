@@ -22,9 +22,10 @@ invariant_of-result g c =
     let named : journals.member_of journal ≡ here = named_again c.args.node c.args.n c.capacity.result (journals.member_of journal) read.header.0 read.header.1 c.capacity.ensures.value in
     let left : journals.room_of journal ≡ c.capacity.result - used_in r = omega (arith, read.room, c.capacity.ensures.value) in
     record {
-      stands = subst (λ (d : DeskKept). Stands d (journals.member_of journal) disk (journals.is_spoiled journal) (journals.len_of journal) (journals.room_of journal)) (sym made.desk)
+      stands = subst (λ (d : DeskKept). Stands d (journals.member_of journal) disk (journals.is_spoiled journal) (journals.len_of journal) (journals.room_of journal) (journals.epoch_of journal)) (sym made.desk)
           (opens here (journals.member_of journal) c.args.run r disk
-          (journals.is_spoiled journal) (journals.len_of journal) (journals.room_of journal) named made.lawful read.durable read.ready read.len left);
+          (journals.is_spoiled journal) (journals.len_of journal) (journals.room_of journal) (journals.epoch_of journal)
+          c.inside.ensures named made.lawful read.durable read.ready read.len left read.epoch);
     }
 
 pub returns-in-Err-clause-recovery_err : goal.returns-in-Err-clause-recovery_err

@@ -10,9 +10,9 @@ pub invariant_of-self : goal.invariant_of-self
 invariant_of-self g c =
     let node = c.args.self.now in
     let journal = node.journal in
-    let P = λ (d : DeskKept). Stands d (journals.member_of journal) (g.D.Device.disk (journals.device_of journal)) (journals.is_spoiled journal) (journals.len_of journal) (journals.room_of journal) in
+    let P = λ (d : DeskKept). Stands d (journals.member_of journal) (g.D.Device.disk (journals.device_of journal)) (journals.is_spoiled journal) (journals.len_of journal) (journals.room_of journal) (journals.epoch_of journal) in
     record {
       stands = of_both c.redeem.result _ _ _ c.redeem.ensures.next c.redeem.ensures.same
-          (λ next. subst P (sym next) (ends _ _ _ _ _ _ _ node.stands))
+          (λ next. subst P (sym next) (ends _ _ _ _ _ _ _ _ node.stands))
           (λ as_before. subst P (sym as_before) node.stands);
     }

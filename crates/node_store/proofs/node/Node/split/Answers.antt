@@ -6,4 +6,4 @@ pub returns-clause-durable : goal.returns-clause-durable
 returns-clause-durable g c =
     let desk = c.args.self.desk in
     let works : desk.view.failed ≡ false = search rules in
-    durable_all desk _ _ _ _ _ works c.args.self.stands
+    durable_all desk _ _ _ _ _ _ works c.args.self.stands

@@ -8,6 +8,7 @@ use Rattle.node_store.specs.State.{Holds}
 use Rattle.ring_node.specs.Node.{NodeView, restarted, durable_in}
 use Rattle.ring_node.specs.Open.{serial_of}
 use Rattle.ring_node.proofs.Again.{lawful_here, long_here, crashed_again, crashed_shown, lost_serials}
+use Rattle.ring_node.proofs.Ring.{me_within}
 use Rattle.ring_node.proofs.node.RingNode.crash.Goals as goal
 use Rattle.ring_node.proofs.node.RingNode.crash.Goals.{After-closed-device}
 
@@ -21,6 +22,7 @@ pub reopened-requires : goal.reopened-requires
 reopened-requires c =
     let here = (goal.at.reopened-requires c).After-closed-device in
     record {
+      in_ring = me_within (member c.self.inside.me c.self.inside.n c.self.inside.capacity) c.self.invariant.whole.range;
       long = subst (λ (k : ℕ). device_size c.self.inside.capacity ≤ k) (sym (ap limit_of c.closed-device.ensures.device)) (long_here _ _ _ _ _ c.self.invariant.whole);
       holds = ((seen c.self.inside.past.items c.self.inside.node.desk).state, lawful_here _ _ _ _ _ c.self.invariant.whole, held here);
     }

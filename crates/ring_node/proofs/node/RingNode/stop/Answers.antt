@@ -13,6 +13,7 @@ use Rattle.ring_node.specs.Node.{NodeView, restarted, left, is_credited}
 use Rattle.ring_node.specs.Open.{serial_of}
 use Rattle.ring_node.proofs.Again.{lawful_launched, long_here, stopped_behind, all_durable, sent_first, credits_few, held_stopped, stopped_again, stopped_shown, lost_serials}
 use Rattle.ring_node.proofs.Serving.{count_past}
+use Rattle.ring_node.proofs.Ring.{me_within}
 use Rattle.ring_node.proofs.node.RingNode.stop.Goals as goal
 use Rattle.ring_node.proofs.node.RingNode.stop.Goals.{In_ok-device}
 
@@ -26,6 +27,7 @@ pub reopened-requires : goal.reopened-requires
 reopened-requires c =
     let here = (goal.at.reopened-requires c).In_ok-device in
     record {
+      in_ring = me_within (member c.self.inside.me c.self.inside.n c.self.inside.capacity) c.self.invariant.whole.range;
       long = subst (λ (k : ℕ). device_size c.self.inside.capacity ≤ k) (sym c.in_ok-device.ensures.limit) (long_here _ _ _ _ _ c.self.invariant.whole);
       holds = (launched (seen c.self.inside.past.items c.self.inside.node.desk).state, lawful_launched _ _ _ _ _ c.self.invariant.whole, held here);
     }
