@@ -2,6 +2,7 @@ mod Chain
 mod Counts
 mod Credits
 mod Handed
+mod Kept
 mod Moves
 mod Named
 mod Nodes
@@ -11,6 +12,7 @@ mod Promises
 mod Reached
 mod Rest
 mod Runs
+mod Same
 mod Schedules
 mod Steps
 mod Sweeps

@@ -1,5 +1,5 @@
 -- A ring in which nothing has happened.
-use Rattle.std.proofs.Common.{ℕ, zero, suc, ◌≡◌, ◌≤◌, ◌<◌, ◌+◌, true, false, List, [], ◌∷◌, ◌++◌, length, map, replicate, get_or, refl, sym, ap, ◌∙◌, subst, inl, inr, add-one, arith}
+use Rattle.std.proofs.Common.{ℕ, zero, suc, ◌≡◌, ◌≤◌, ◌<◌, ◌+◌, true, List, [], ◌∷◌, ◌++◌, length, map, replicate, get_or, refl, sym, ap, ◌∙◌, subst, inl, inr, add-one, arith}
 use Rattle.std.specs.List.{All}
 use Rattle.std.proofs.lemmas.Bool.{cases_lt}
 use Rattle.std.proofs.lemmas.Bool.Decides.{nat_tests}
@@ -87,12 +87,10 @@ none_held size capacity (suc k) =
     map_push held_of (new_nodes size capacity k) (new_node (k + 1) size capacity)
     ∙ (ap (λ hs. hs ++ [] ∷ []) (none_held size capacity k) ∙ (replicate_more k [] ∙ ap (λ m. replicate m []) (add-one k)))
 
-pub fresh_sound : (size capacity : ℕ) (nodes : List NodeView) → is_ring size capacity ≡ true → nodes ≡ new_nodes size capacity size → IsSound size capacity false [] [] nodes
-unfolding IsSchedule EachAfter
+pub fresh_sound : (size capacity : ℕ) (nodes : List NodeView) → is_ring size capacity ≡ true → nodes ≡ new_nodes size capacity size → IsSound size capacity [] nodes
 fresh_sound size capacity nodes ring new = record {
   least = ring_least size capacity ring;
   most = ring_most size capacity ring;
-  shows = λ e. subst (Shows size capacity []) (sym new) (fresh_shows size capacity);
-  sealed = λ e. subst (All IsSealed) (sym new) (fresh_sealed size capacity size);
-  lawful = tt;
+  shows = subst (Shows size capacity []) (sym new) (fresh_shows size capacity);
+  sealed = subst (All IsSealed) (sym new) (fresh_sealed size capacity size);
 }

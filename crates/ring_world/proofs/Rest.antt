@@ -13,7 +13,7 @@ use Rattle.ring_records.specs.Ring.{part}
 use Rattle.ring_records.specs.States.{NodeState, gained_by, left_by, launched, launched_base}
 use Rattle.ring_world.specs.Events.{Action, Launch, Crash, Process, act, process, state_after}
 use Rattle.ring_world.specs.Rest.{IsAllDurable}
-use Rattle.ring_world.specs.Ring.{RingView, Part, node_at, asked, landed, waits, settled, released, and_then, round, rounds, drained, crashed, stopped, given, brought, swept, swept_with, swept_on, swept_one, next_delivery, new_ring}
+use Rattle.ring_world.specs.Ring.{RingView, IsSameRing, Part, node_at, asked, landed, waits, settled, released, and_then, round, rounds, drained, crashed, stopped, given, brought, swept, swept_with, swept_on, swept_one, next_delivery, new_ring}
 use Rattle.ring_world.proofs.Moves.{process_two, process_two-other}
 use Rattle.ring_world.proofs.Reached.{node_given, node_settled, node_asked, asked-other, node_landed, landed-other, landed_idle}
 use Rattle.ring_world.proofs.Schedules.{process-same, process-other}
@@ -174,36 +174,35 @@ pub durable_new : (size : ℕ) (eager : Bool) (capacity : ℕ) → IsAllDurable 
 unfolding IsAllDurable process part
 durable_new size eager capacity = λ i. refl
 
--- ---- an eager ring stays eager
+-- ---- its size, its capacity and that it is eager stay
 
-eager_settled : (i : ℕ) (w : RingView) → (settled i w).eager ≡ w.eager
-unfolding settled
-eager_settled i w = refl
+after_same : (w v u : RingView) → IsSameRing w v → IsSameRing v u → IsSameRing w u
+after_same w v u first then = (then.0 ∙ first.0, then.1 ∙ first.1, then.2 ∙ first.2, then.3 ∙ first.3)
 
-eager_landed : (i : ℕ) (w : RingView) → (landed i w).eager ≡ w.eager
-unfolding landed
-eager_landed i w = refl
+pub same_round : (i : ℕ) (w : RingView) → IsSameRing w (round i w).1
+unfolding settled landed
+same_round i w = (refl, refl, refl, refl)
 
-eager_asked : (serial : Option ℕ) (i : ℕ) (q : Request) (w : RingView) → (asked serial i q (given i q w)).eager ≡ w.eager
-unfolding asked given
-eager_asked serial i q w = refl
+same_asked : (serial : Option ℕ) (i : ℕ) (q : Request) (w : RingView) → IsSameRing w (settled i (asked serial i q (given i q w)))
+unfolding settled asked given
+same_asked serial i q w = (refl, refl, refl, refl)
 
-eager_if : (b : Bool) (p r : Part) (e : Bool) → p.1.eager ≡ e → r.1.eager ≡ e → (cond b p r).1.eager ≡ e
-eager_if true p r e h k = h
-eager_if false p r e h k = k
+same_if : (b : Bool) (w : RingView) (p r : Part) → IsSameRing w p.1 → IsSameRing w r.1 → IsSameRing w (cond b p r).1
+same_if true w p r h k = h
+same_if false w p r h k = k
 
-eager_rounds : (most i : ℕ) (w : RingView) → (rounds most i w).1.eager ≡ w.eager
+same_rounds : (most i : ℕ) (w : RingView) → IsSameRing w (rounds most i w).1
 unfolding rounds
-eager_rounds zero i w = refl
-eager_rounds (suc most) i w =
-    eager_if (waits w i) (and_then (round i w) (rounds most i)) ([], w) w.eager (eager_rounds most i (settled i (landed i w)) ∙ (eager_settled i (landed i w) ∙ eager_landed i w)) refl
+same_rounds zero i w = (refl, refl, refl, refl)
+same_rounds (suc most) i w =
+    same_if (waits w i) w (and_then (round i w) (rounds most i)) ([], w) (after_same w (round i w).1 (rounds most i (round i w).1).1 (same_round i w) (same_rounds most i (round i w).1)) (refl, refl, refl, refl)
 
-eager_brought : (serial : Option ℕ) (i : ℕ) (q : Request) (w : RingView) → (brought serial i q w).1.eager ≡ w.eager
+pub same_brought : (serial : Option ℕ) (i : ℕ) (q : Request) (w : RingView) → IsSameRing w (brought serial i q w).1
 unfolding brought
-eager_brought serial i q w =
+same_brought serial i q w =
     let t = asked serial i q (given i q w) in
-    let same : (settled i t).eager ≡ w.eager = eager_settled i t ∙ eager_asked serial i q w in
-    eager_if w.eager (and_then (released i t) (drained i)) (released i t) w.eager (eager_rounds (length (node_at (settled i t) i).inputs) i (settled i t) ∙ same) same
+    let first = same_asked serial i q w in
+    same_if w.eager w (and_then (released i t) (drained i)) (released i t) (after_same w (settled i t) (drained i (settled i t)).1 first (same_rounds (length (node_at (settled i t) i).inputs) i (settled i t))) first
 
 -- ---- deliveries
 
@@ -215,9 +214,23 @@ durable_with : (others : RingView → ℕ × RingView) (w : RingView) (delivery 
 unfolding swept_one
 durable_with others w None more eager all = all
 durable_with others w (Some delivery) more eager all =
-    durable_on others (swept_one delivery.0 delivery.1 w) more (eager_brought None delivery.0 delivery.1 w ∙ eager) (durable_brought None delivery.0 delivery.1 w eager all)
+    durable_on others (swept_one delivery.0 delivery.1 w) more ((same_brought None delivery.0 delivery.1 w).2 ∙ eager) (durable_brought None delivery.0 delivery.1 w eager all)
 
 pub durable_swept : (count : ℕ) (w : RingView) → w.eager ≡ true → IsAllDurable w → IsAllDurable (swept count w).1
 unfolding swept
 durable_swept zero w eager all = all
 durable_swept (suc count) w eager all = durable_with (swept count) w (next_delivery w) (λ v kept more. durable_swept count v kept more) eager all
+
+same_on : (others : RingView → ℕ × RingView) (w : RingView) (one : Bool × RingView) → ((v : RingView) → IsSameRing v (others v).1) → IsSameRing w one.1 → IsSameRing w (swept_on others one).1
+same_on others w (true, v) more same = after_same w v (others v).1 same (more v)
+same_on others w (false, v) more same = same
+
+same_with : (others : RingView → ℕ × RingView) (w : RingView) (delivery : Option (ℕ × Request)) → ((v : RingView) → IsSameRing v (others v).1) → IsSameRing w (swept_with others w delivery).1
+unfolding swept_one
+same_with others w None more = (refl, refl, refl, refl)
+same_with others w (Some delivery) more = same_on others w (swept_one delivery.0 delivery.1 w) more (same_brought None delivery.0 delivery.1 w)
+
+pub same_swept : (count : ℕ) (w : RingView) → IsSameRing w (swept count w).1
+unfolding swept
+same_swept zero w = (refl, refl, refl, refl)
+same_swept (suc count) w = same_with (swept count) w (next_delivery w) (λ v. same_swept count v)

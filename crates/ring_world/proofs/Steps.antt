@@ -6,52 +6,62 @@ use Rattle.std.proofs.lemmas.List.Elements.{All-set}
 use Rattle.ring_records.specs.declared.request.Request.{Request}
 use Rattle.ring_node.specs.Node.{NodeView, durable_in, asked_with, flushed, restarted, left}
 use Rattle.ring_node.specs.Open.{due}
-use Rattle.ring_world.specs.Events.{Action, Submit, Launch, Crash, IsSchedule}
+use Rattle.ring_world.specs.Events.{Action, Submit, Launch, Crash}
 use Rattle.ring_world.specs.Ring.{RingView, asked, landed, due_at, release_of, settled, crashed, stopped, given, handed, is_released}
 use Rattle.ring_world.specs.Shows.{Shows, IsSound, IsSealed, held_of, without_due, batch_of}
+use Rattle.ring_world.specs.State.{State, by_log}
+use Rattle.ring_world.specs.declared.log.Log.{Log}
 use Rattle.ring_world.proofs.Handed.{handed_delivers}
 use Rattle.ring_world.proofs.Tickets.{without-sealed}
 use Rattle.ring_world.proofs.Ties as ties
 use Rattle.ring_world.proofs.Ties.{Ties}
 
 -- a ring as the code has it, and as it is seen
-module _ (size capacity : ℕ) (eager failed : Bool) (events : List (ℕ × Action)) (told : ℕ) (nodes : List NodeView) (w : RingView)
-    (is : record { size = size; capacity = capacity; eager = eager; failed = failed; events = events; told = take told events; held = map held_of nodes } ≡ w)
-    (sound : (told ≤ length events) × IsSound size capacity failed events (take told events) nodes) (works : w.failed ≡ false) where
-  abbrev seen : Bool → List (ℕ × Action) → List NodeView → RingView
-  seen broken es vs = record { size = size; capacity = capacity; eager = eager; failed = broken; events = es; told = take told es; held = map held_of vs }
+module _ (log : Log) (nodes : List NodeView) (s : State) (is : by_log log false (map held_of nodes) ≡ s)
+    (sound : (log.told ≤ length log.events.items) × IsSound log.size log.capacity log.events.items nodes) where
+  abbrev events : List (ℕ × Action)
+  events = log.events.items
+
+  abbrev w : RingView
+  w = s.ring
+
+  abbrev seen : List (ℕ × Action) → List NodeView → State
+  seen es vs = record {
+    ring = record { size = log.size; capacity = log.capacity; eager = log.eager; failed = false; events = es; told = take log.told es; held = map held_of vs };
+    tickets = log.tickets;
+  }
 
   -- it is sound
-  abbrev Stands : Bool → List (ℕ × Action) → List NodeView → Type 0
-  Stands broken es vs = (told ≤ length es) × IsSound size capacity broken es (take told es) vs
+  abbrev Stands : List (ℕ × Action) → List NodeView → Type 0
+  Stands es vs = (log.told ≤ length es) × IsSound log.size log.capacity es vs
 
   pub tied : Ties w events nodes
   tied = record {
-    logged = ap (λ (u : RingView). u.events) is;
-    shows = subst (λ (u : RingView). Shows u.size u.capacity u.events nodes) is (sound.1.shows (ap (λ (u : RingView). u.failed) is ∙ works));
-    held = sym (ap (λ (u : RingView). u.held) is);
+    logged = ap (λ (t : State). t.ring.events) is;
+    shows = subst (λ (t : State). Shows t.ring.size t.ring.capacity t.ring.events nodes) is sound.1.shows;
+    held = sym (ap (λ (t : State). t.ring.held) is);
   }
 
-  pub none_due : All IsSealed nodes
-  none_due = sound.1.sealed (ap (λ (u : RingView). u.failed) is ∙ works)
-
   -- with more events, and with these nodes, of which no ticket is due, it is seen as t, which has them
-  module _ (t : RingView) (broken : Bool) (es more : List (ℕ × Action)) (vs : List NodeView) (logged : es ≡ events ++ more) where
-    told_same : take told es ≡ take told events
-    told_same = ap (take told) logged ∙ take-append-le told events more sound.0
+  module _ (t : RingView) (es more : List (ℕ × Action)) (vs : List NodeView) (grown : es ≡ events ++ more) where
+    told_same : take log.told es ≡ take log.told events
+    told_same = ap (take log.told) grown ∙ take-append-le log.told events more sound.0
 
-    becomes : w.size ≡ t.size → w.capacity ≡ t.capacity → w.eager ≡ t.eager → broken ≡ t.failed → w.told ≡ t.told → Ties t es vs → All IsSealed vs → (seen broken es vs ≡ t) × Stands broken es vs
+    becomes : w.size ≡ t.size → w.capacity ≡ t.capacity → w.eager ≡ t.eager → w.failed ≡ t.failed → w.told ≡ t.told → Ties t es vs → All IsSealed vs → (seen es vs ≡ record s { ring = t }) × Stands es vs
     becomes sizes capacities eagers fails tells tie none =
-        let now : seen broken es vs ≡ t = (λ k. record {
-          size = (ap (λ (u : RingView). u.size) is ∙ sizes) k;
-          capacity = (ap (λ (u : RingView). u.capacity) is ∙ capacities) k;
-          eager = (ap (λ (u : RingView). u.eager) is ∙ eagers) k;
-          failed = fails k;
-          events = tie.logged k;
-          told = (told_same ∙ (ap (λ (u : RingView). u.told) is ∙ tells)) k;
-          held = sym tie.held k;
+        let now : seen es vs ≡ record s { ring = t } = (λ k. record {
+          ring = record {
+            size = (ap (λ (u : State). u.ring.size) is ∙ sizes) k;
+            capacity = (ap (λ (u : State). u.ring.capacity) is ∙ capacities) k;
+            eager = (ap (λ (u : State). u.ring.eager) is ∙ eagers) k;
+            failed = (ap (λ (u : State). u.ring.failed) is ∙ fails) k;
+            events = tie.logged k;
+            told = (told_same ∙ (ap (λ (u : State). u.ring.told) is ∙ tells)) k;
+            held = sym tie.held k;
+          };
+          tickets = (ap (λ (u : State). u.tickets) is) k;
         }) in
-        let l = ap length logged in
+        let l = ap length grown in
         let a = length-append events more in
         let few = sound.0 in (
           now,
@@ -60,9 +70,8 @@ module _ (size capacity : ℕ) (eager failed : Bool) (events : List (ℕ × Acti
             record {
               least = sound.1.least;
               most = sound.1.most;
-              shows = λ e. subst (λ (u : RingView). Shows u.size u.capacity u.events vs) (sym now) tie.shows;
-              sealed = λ e. none;
-              lawful = subst (IsSchedule size capacity) (sym told_same) sound.1.lawful;
+              shows = subst (λ (u : State). Shows u.ring.size u.ring.capacity u.ring.events vs) (sym now) tie.shows;
+              sealed = none;
             },
           ),
         )
@@ -74,7 +83,7 @@ module _ (size capacity : ℕ) (eager failed : Bool) (events : List (ℕ × Acti
 
     -- with another node at its place no ticket is due, where none of that node is
     put_sealed : (u : NodeView) → IsSealed u → All IsSealed (set nodes (number - 1) u)
-    put_sealed u none = All-set IsSealed nodes (number - 1) u none none_due
+    put_sealed u none = All-set IsSealed nodes (number - 1) u none sound.1.sealed
 
     -- also where what was due is released of a node that stands there in between
     released_sealed : (u x v' : NodeView) → v' ≡ without_due x → All IsSealed (set (set nodes (number - 1) u) (number - 1) v')
@@ -82,12 +91,12 @@ module _ (size capacity : ℕ) (eager failed : Bool) (events : List (ℕ × Acti
 
     -- Node i is asked: the code pushes what is handed over, asks it, and releases what is due.
     module _ (ticket : Option ℕ) (q : Request) (e : is_released w i q ≡ true) (es1 es2 : List (ℕ × Action)) (v1 x : NodeView)
-        (first_log : es1 ≡ events ++ handed size i q) (then_log : es2 ≡ es1 ++ (i, Submit q) ∷ []) (made : v1 ≡ asked_with ticket q v) (read : x ≡ get_or (set nodes (number - 1) v1) (number - 1) x) where
+        (first_log : es1 ≡ events ++ handed log.size i q) (then_log : es2 ≡ es1 ++ (i, Submit q) ∷ []) (made : v1 ≡ asked_with ticket q v) (read : x ≡ get_or (set nodes (number - 1) v1) (number - 1) x) where
       abbrev asked_ring : RingView
       asked_ring = asked ticket i q (given i q w)
 
       given_log : es1 ≡ events ++ handed w.size i q
-      given_log = first_log ∙ ap (λ (u : RingView). events ++ handed u.size i q) is
+      given_log = first_log ∙ ap (λ (u : State). events ++ handed u.ring.size i q) is
 
       tied_given : Ties (given i q w) es1 nodes
       tied_given = ties.gives w events nodes tied i q es1 low last e given_log
@@ -104,14 +113,14 @@ module _ (size capacity : ℕ) (eager failed : Bool) (events : List (ℕ × Acti
       asked_due = ties.due_is asked_ring es2 (set nodes (number - 1) v1) tied_asked i number place first inside x read
 
       pub asks : (es3 : List (ℕ × Action)) (v2 : NodeView) → es3 ≡ es2 ++ map (release_of i) (due x.durable x.held) → v2 ≡ without_due x
-          → (seen failed es3 (set (set nodes (number - 1) v1) (number - 1) v2) ≡ settled i (asked ticket i q (given i q w))) × Stands failed es3 (set (set nodes (number - 1) v1) (number - 1) v2)
+          → (seen es3 (set (set nodes (number - 1) v1) (number - 1) v2) ≡ record s { ring = settled i (asked ticket i q (given i q w)) }) × Stands es3 (set (set nodes (number - 1) v1) (number - 1) v2)
       unfolding settled asked given
       asks es3 v2 last_log freed =
           let freed_events = map (release_of i) (due x.durable x.held) in
-          becomes (settled i asked_ring) failed es3 (handed size i q ++ ((i, Submit q) ∷ [] ++ freed_events)) (set (set nodes (number - 1) v1) (number - 1) v2)
+          becomes (settled i asked_ring) es3 (handed log.size i q ++ ((i, Submit q) ∷ [] ++ freed_events)) (set (set nodes (number - 1) v1) (number - 1) v2)
           (last_log ∙ (ap (λ es. es ++ freed_events) (then_log ∙ ap (λ es. es ++ (i, Submit q) ∷ []) first_log)
-          ∙ (append_assoc (events ++ handed size i q) ((i, Submit q) ∷ []) freed_events ∙ append_assoc events (handed size i q) ((i, Submit q) ∷ [] ++ freed_events))))
-          refl refl refl (ap (λ (u : RingView). u.failed) is) refl (ties.settles asked_ring es2 (set nodes (number - 1) v1) tied_asked i number place first inside x read es3 v2 last_log freed)
+          ∙ (append_assoc (events ++ handed log.size i q) ((i, Submit q) ∷ []) freed_events ∙ append_assoc events (handed log.size i q) ((i, Submit q) ∷ [] ++ freed_events))))
+          refl refl refl refl refl (ties.settles asked_ring es2 (set nodes (number - 1) v1) tied_asked i number place first inside x read es3 v2 last_log freed)
           (released_sealed v1 x v2 freed)
 
     -- A round: the code lands a batch where something waits, and releases what is due.
@@ -127,13 +136,13 @@ module _ (size capacity : ℕ) (eager failed : Bool) (events : List (ℕ × Acti
       landed_due = ties.due_is (landed i w) es1 (set nodes (number - 1) v1) tied_landed i number place first inside_landed x read
 
       pub rounds : (es2 : List (ℕ × Action)) (v2 : NodeView) → es2 ≡ es1 ++ map (release_of i) (due x.durable x.held) → v2 ≡ without_due x
-          → (seen false es2 (set (set nodes (number - 1) v1) (number - 1) v2) ≡ settled i (landed i w)) × Stands false es2 (set (set nodes (number - 1) v1) (number - 1) v2)
+          → (seen es2 (set (set nodes (number - 1) v1) (number - 1) v2) ≡ record s { ring = settled i (landed i w) }) × Stands es2 (set (set nodes (number - 1) v1) (number - 1) v2)
       unfolding settled landed
       rounds es2 v2 last_log freed =
           let freed_events = map (release_of i) (due x.durable x.held) in
-          becomes (settled i (landed i w)) false es2 (batch_of i v ++ freed_events) (set (set nodes (number - 1) v1) (number - 1) v2)
+          becomes (settled i (landed i w)) es2 (batch_of i v ++ freed_events) (set (set nodes (number - 1) v1) (number - 1) v2)
           (last_log ∙ (ap (λ es. es ++ freed_events) landed_log ∙ append_assoc events (batch_of i v) freed_events))
-          refl refl refl (sym works) refl (ties.settles (landed i w) es1 (set nodes (number - 1) v1) tied_landed i number place first inside_landed x read es2 v2 last_log freed)
+          refl refl refl refl refl (ties.settles (landed i w) es1 (set nodes (number - 1) v1) tied_landed i number place first inside_landed x read es2 v2 last_log freed)
           (released_sealed v1 x v2 freed)
 
     -- A crash or a stop: the code makes of the node what is said, and pushes what happened.
@@ -144,18 +153,18 @@ module _ (size capacity : ℕ) (eager failed : Bool) (events : List (ℕ × Acti
 
       -- with the node put back at its place
       module _ (vs : List NodeView) (put : vs ≡ set nodes (number - 1) v') where
-        pub crashes : es ≡ events ++ (i, Crash false) ∷ [] → v' ≡ restarted (durable_in v) v → (seen false es vs ≡ crashed i w) × Stands false es vs
+        pub crashes : es ≡ events ++ (i, Crash false) ∷ [] → v' ≡ restarted (durable_in v) v → (seen es vs ≡ record s { ring = crashed i w }) × Stands es vs
         unfolding crashed
         crashes logged moved =
-            subst (λ ns. (seen false es ns ≡ crashed i w) × Stands false es ns) (sym put)
-            (becomes (crashed i w) false es _ (set nodes (number - 1) v') logged refl refl refl (sym works) refl (ties.crashes w events nodes tied i number place first last v was es v' logged moved)
+            subst (λ ns. (seen es ns ≡ record s { ring = crashed i w }) × Stands es ns) (sym put)
+            (becomes (crashed i w) es _ (set nodes (number - 1) v') logged refl refl refl refl refl (ties.crashes w events nodes tied i number place first last v was es v' logged moved)
             (put_sealed v' (subst IsSealed (sym moved) (restarted_sealed (durable_in v)))))
 
-        pub stops : (keeps_flying : Bool) → es ≡ events ++ (i, Launch) ∷ (i, Crash keeps_flying) ∷ [] → v' ≡ restarted (left keeps_flying v) v → (seen false es vs ≡ stopped keeps_flying i w) × Stands false es vs
+        pub stops : (keeps_flying : Bool) → es ≡ events ++ (i, Launch) ∷ (i, Crash keeps_flying) ∷ [] → v' ≡ restarted (left keeps_flying v) v → (seen es vs ≡ record s { ring = stopped keeps_flying i w }) × Stands es vs
         unfolding stopped
         stops keeps_flying logged moved =
-            subst (λ ns. (seen false es ns ≡ stopped keeps_flying i w) × Stands false es ns) (sym put)
-            (becomes (stopped keeps_flying i w) false es _ (set nodes (number - 1) v') logged refl refl refl (sym works) refl
+            subst (λ ns. (seen es ns ≡ record s { ring = stopped keeps_flying i w }) × Stands es ns) (sym put)
+            (becomes (stopped keeps_flying i w) es _ (set nodes (number - 1) v') logged refl refl refl refl refl
             (ties.stops w events nodes tied i number place first last v was es v' keeps_flying logged moved)
             (put_sealed v' (subst IsSealed (sym moved) (restarted_sealed (left keeps_flying v)))))
 

@@ -9,5 +9,6 @@ pub mod Rest
 pub mod Ring
 pub mod Shows
 pub mod State
+pub mod Stage
 pub mod Step
 pub mod WorkedSchedule

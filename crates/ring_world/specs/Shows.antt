@@ -1,5 +1,5 @@
 -- What a ring keeps to: its nodes are those that its events reach.
-use Rattle.std.specs.Prelude.{ℕ, zero, suc, ◌≡◌, ◌+◌, ◌<◌, ◌≤◌, Bool, false, nat_lt, if◌then◌else◌, List, [], ◌∷◌, ◌++◌, length, slice_index_or}
+use Rattle.std.specs.Prelude.{ℕ, zero, suc, ◌≡◌, ◌+◌, ◌<◌, ◌≤◌, nat_lt, if◌then◌else◌, List, [], ◌∷◌, ◌++◌, length, slice_index_or}
 use Rattle.std.specs.List.{All, Contains}
 use Rattle.ring_records.specs.Member.{member}
 use Rattle.ring_node.specs.Node.{NodeView, new_node, state_of}
@@ -42,11 +42,10 @@ pub record Shows (size capacity : ℕ) (events : List (ℕ × Action)) (nodes : 
   pub count : length nodes ≡ size
   pub node : (at : ℕ) (other : NodeView) → at < size → ShowsNode size capacity events (at + 1) (slice_index_or nodes at other)
 
--- What every ring keeps to: it has 2 to 16 nodes, and what was told is a schedule; while it works, all that happened is
--- one, its nodes are those that it reaches, and none of their open tickets is due.
-pub record IsSound (size capacity : ℕ) (failed : Bool) (events told : List (ℕ × Action)) (nodes : List NodeView) : Type 0 where
+-- What every ring keeps to that works: it has 2 to 16 nodes, what happened is a schedule, its nodes are those that this
+-- reaches, and none of their open tickets is due.
+pub record IsSound (size capacity : ℕ) (events : List (ℕ × Action)) (nodes : List NodeView) : Type 0 where
   pub least : 2 ≤ size
   pub most : size ≤ 16
-  pub shows : failed ≡ false → Shows size capacity events nodes
-  pub sealed : failed ≡ false → All IsSealed nodes
-  pub lawful : IsSchedule size capacity told
+  pub shows : Shows size capacity events nodes
+  pub sealed : All IsSealed nodes

@@ -1,5 +1,5 @@
 -- What an event tells, where it leads, and why it is refused.
-use Rattle.std.specs.Prelude.{ℕ, ◌≡◌, ◌+◌, ◌-◌, ◌≤◌, ◌^◌, Bool, false, ◌||◌, not, nat_eq, nat_lt, nat_le, if◌then◌else◌, List, [], length, Option, Some, None, Result, IfOk}
+use Rattle.std.specs.Prelude.{ℕ, ◌≡◌, ◌+◌, ◌-◌, ◌^◌, Bool, false, ◌||◌, not, nat_eq, nat_lt, nat_le, if◌then◌else◌, List, [], length, Option, Some, None}
 use Rattle.ring_records.specs.declared.refusal.Refusal.{Refusal}
 use Rattle.ring_records.specs.declared.refusal.Refusal.TheVariants as refused
 use Rattle.ring_records.specs.declared.reply.Reply.{Reply}
@@ -10,7 +10,7 @@ use Rattle.ring_records.specs.Lists.{or_else}
 use Rattle.ring_records.specs.Message.{is_outside}
 use Rattle.ring_records.specs.Place.{before}
 use Rattle.ring_world.specs.Ring as ring
-use Rattle.ring_world.specs.Ring.{RingView, IsSameRing, node_at, waits, lost, round, brought, carried, is_earned, is_released, is_full, swept}
+use Rattle.ring_world.specs.Ring.{RingView, node_at, waits, lost, round, brought, carried, is_earned, is_released, is_full, swept}
 use Rattle.ring_world.specs.State.{State}
 use Rattle.ring_world.specs.declared.event.Event.{Event}
 use Rattle.ring_world.specs.declared.event.Event.TheVariants.{Submit, Flush, Deliver, DeliverAll, Credit, Crash, Stop}
@@ -81,11 +81,6 @@ all_told step = (step.0, record step.1 { ring = record step.1.ring { told = step
 -- The relation of a step: the event may tell o and lead from s to t.
 unfoldable pub Steps : State → Event → Told → State → Type 0
 Steps s event o t = (keeps_flying : Bool) × ((o, t) ≡ all_told (stepped keeps_flying s event))
-
--- What each part of a step keeps: its ring is the same one, with as much told, and it tells of no more tickets than
--- numbers are taken.
-abbrev pub Keeps : {E : Type 0} → State → Result Outcome E → State → Type 0
-Keeps s result t = IsSameRing s.ring t.ring × IfOk result (λ o. length o.replies.items + length o.lost.items ≤ s.tickets + 1)
 
 -- ---- why an event is refused: the first cause that there is, in this order
 

@@ -9,8 +9,9 @@ mod announced;
 mod event;
 mod happened;
 pub mod laws;
+mod log;
 mod outcome;
-mod ring;
+mod working;
 mod world;
 
 pub use announced::Announced;

@@ -1,5 +1,9 @@
 // What an event brings.
+ghost use Rattle.std.specs.Prelude.{◌≡◌};
+ghost use Rattle.ring_world.specs.Step.{told, nothing_told};
+
 use ring_records::Reply;
+use std::alloc::Global;
 
 /// What an event brings.
 #[derive(Drop)]
@@ -16,4 +20,20 @@ pub struct Outcome {
     pub lost: Vec<u64>,
     /// How many inputs that node holds.
     pub up: Option<u64>,
+}
+
+impl Outcome {
+    /// One that tells nothing.
+    pub(crate) fn nothing(alloc: Global) -> Outcome
+        ensures { told result ≡ nothing_told }
+    {
+        Outcome {
+            ticket: None,
+            flushed: None,
+            delivered: None,
+            replies: Vec::new(alloc),
+            lost: Vec::new(alloc),
+            up: None,
+        }
+    }
 }

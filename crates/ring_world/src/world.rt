@@ -1,5 +1,5 @@
 // A ring of durable nodes in memory, by its events.
-ghost use Rattle.std.specs.Prelude.{◌≡◌, ◌≢◌, ◌+◌, ◌≤◌, ◌<◌, ◌⊎◌, Bool, false, true, IsTrue, IfOk, IfErr, OnOk, OnErr, MatchBool, None, Some, length};
+ghost use Rattle.std.specs.Prelude.{◌≡◌, ◌≢◌, ◌+◌, ◌≤◌, ◌<◌, ◌⊎◌, false, true, IsTrue, IfOk, IfErr, OnOk, OnErr, MatchBool, None, Some, length};
 ghost use Rattle.std.specs.List.{Contains};
 ghost use Rattle.ring_records.specs.declared.candidate.Candidate.{Candidate as TheCandidate};
 ghost use Rattle.ring_records.specs.Emission.{sent};
@@ -8,42 +8,45 @@ ghost use Rattle.ring_records.specs.Order.{is_less};
 ghost use Rattle.ring_world.specs.declared.announced.Announced.{Announced as TheAnnounced};
 ghost use Rattle.ring_world.specs.Announced.{announced, Stands};
 ghost use Rattle.ring_world.specs.Events.{IsSchedule, state_after};
-ghost use Rattle.ring_world.specs.Step.{told};
+ghost use Rattle.ring_world.specs.Step.{told, Steps, refusal_of, is_lasting};
 
 use crate::announced::Announced;
 use crate::event::Event;
 use crate::happened::Happened;
 use crate::laws;
+use crate::log::Log;
 use crate::outcome::Outcome;
-use crate::ring::Ring;
-use disk_model::Tear;
-use ring_records::{GREATEST_CAPACITY, LEAST_CAPACITY, NodeNo, Refusal, Reply, Request, Shown};
+use crate::working::Working;
+use ring_records::{GREATEST_CAPACITY, LEAST_CAPACITY, NodeNo, Refusal, Shown};
 use std::alloc::{AllocError, Global};
 use std::marker::Model;
+use std::mem::replace;
 
 /// A ring of 2 to 16 durable nodes over devices in memory, and the list of all that happened to it. It is not let go:
 /// `end` ends it.
 pub struct World {
-    alloc: Global,
-    ring: Ring,
-    tickets: u64,
+    stage: Stage,
+}
+
+/// A ring works until a growth is refused within an event; then what was told is left of it.
+pub enum Stage {
+    Working(Working),
+    Failed(Log),
 }
 
 impl Model for World {
-    ghost use Rattle.ring_world.specs.Counts.{IsCounted};
-    ghost use Rattle.ring_world.specs.Rest.{IsAtRest};
-    ghost use Rattle.ring_world.specs.State.{State};
+    ghost use Rattle.ring_world.specs.Stage.{state_of};
+    ghost use Rattle.ring_world.specs.State.{State, IsWorld};
 
     ghost Value = { State };
 
-    ghost view = { λ w. record { ring = w.ring; tickets = w.tickets } };
+    ghost view = { λ w. state_of w.stage };
 
-    ghost invariant = { λ w. IsCounted w.ring w.tickets × IsAtRest w.ring };
+    ghost invariant = { λ w. IsWorld (state_of w.stage) };
 }
 
 impl World {
-    ghost use Rattle.ring_world.specs.State.{State, opened, is_ring};
-    ghost use Rattle.ring_world.specs.Step.{Keeps, Steps, refusal_of, is_lasting, stepped};
+    ghost use Rattle.ring_world.specs.State.{State, opened, is_ring, by_log};
 
     /// A ring of n nodes in which nothing has happened. In an eager one each input is made durable as it is accepted;
     /// else it waits for a flush. Refused as 2 where n is not 2 to 16 or the capacity of each node not 4,096 to
@@ -56,11 +59,9 @@ impl World {
         if n < 2 || n > 16 || capacity < LEAST_CAPACITY || capacity > GREATEST_CAPACITY {
             return Err(Refusal::BadNumber);
         }
-        match Ring::new(alloc, n, eager, capacity) {
+        match Working::new(alloc, n, eager, capacity) {
             Ok(ring) => Ok(World {
-                alloc,
-                ring,
-                tickets: 0,
+                stage: Stage::Working(ring),
             }),
             Err(_) => Err(Refusal::OutOfMemory),
         }
@@ -68,12 +69,8 @@ impl World {
 
     /// Ends it, and gives up its open tickets.
     pub fn end(self) {
-        let World {
-            alloc: _,
-            ring,
-            tickets: _,
-        } = self;
-        ring.end();
+        let World { stage } = self;
+        let _log = ended(stage);
     }
 
     /// How many nodes it has, 2 to 16.
@@ -81,14 +78,25 @@ impl World {
         ensures value { result ≡ self.now.ring.size }
         ensures range { (2 ≤ result) × (result ≤ 16) }
     {
-        self.ring.size()
+        let _ = &self.stage;
+        self.log().size
+    }
+
+    // How it was made, and what happened.
+    fn log(&self) -> &Log
+        ensures { by_log result.now self.now.ring.failed self.now.ring.held ≡ self.now }
+    {
+        match &self.stage {
+            Stage::Working(ring) => ring.log(),
+            Stage::Failed(log) => log,
+        }
     }
 
     /// Lets an event happen. Refused, in this order: 9 after a refused growth; 2 where there is no such node, a message
     /// is of none, or a device call is not 1 to 4; 21 where a packet that it brings was never released to the node; 6
     /// where 2^60 ticket numbers are taken or 2^60 events happened; 8. A refusal changes nothing, save that an 8 leaves
     /// a failed world; but not where a node of a ring that is not eager was asked.
-    #[tactic(auto, unfolding(crate::specs::Step::Steps))]
+    #[tactic(auto, unfolding(crate::specs::Step::refusal_of))]
     pub fn step(&mut self, event: Event) -> Result<Outcome, Refusal>
         ensures steps { IfOk result (λ outcome. Steps self.old event (told outcome) self.new) }
         ensures accepted { OnOk result (refusal_of self.old event ≡ None) }
@@ -100,15 +108,17 @@ impl World {
         ensures few { IfOk result (λ outcome. length outcome.replies.items + length outcome.lost.items ≤ self.old.tickets + 1) }
         ensures tickets { OnOk result (self.new.tickets ≤ self.old.tickets + 1) }
     {
-        if let Some(refusal) = self.refusal(&event) {
-            return Err(refusal);
-        }
-        match self.perform(event) {
-            Ok(outcome) => {
-                self.ring.tell();
-                Ok(outcome)
+        let nothing = Stage::Failed(Log::nothing(self.log().alloc));
+        match replace(&mut self.stage, nothing) {
+            Stage::Working(ring) => {
+                let (after, answer) = ring.step(event);
+                put(&mut self.stage, after);
+                answer
             }
-            Err(_) => Err(Refusal::OutOfMemory),
+            Stage::Failed(log) => {
+                put(&mut self.stage, Stage::Failed(log));
+                Err(Refusal::Failed)
+            }
         }
     }
 
@@ -123,8 +133,9 @@ impl World {
         ensures greatest { IfOk result (λ list. (a : TheAnnounced) (d : TheCandidate) → Contains list.items a → Stands self.now.ring a.key d → d ≢ a.leader → IsTrue (is_less d a.leader)) }
     {
         laws::headline();
-        self.ring.is_lawful();
-        let list = announced_in(self.alloc, self.ring.told())?;
+        let _ = &self.stage;
+        let log = self.log();
+        let list = announced_in(log.alloc, &log.events)?;
         Ok(list)
     }
 
@@ -140,33 +151,30 @@ impl World {
         ensures outside { IfErr result (λ refusal. self.now.ring.failed ≡ false → (refusal ≡ Refusal.BadNumber) × (self.now.ring.size < node)) }
         ensures shown { OnOk result ((self.now.ring.failed ≡ false) × (node ≤ self.now.ring.size)) }
     {
-        if self.ring.is_failed() {
-            return Err(Refusal::Failed);
+        match &self.stage {
+            Stage::Failed(_) => Err(Refusal::Failed),
+            Stage::Working(ring) => {
+                if node.number() > ring.log().size {
+                    return Err(Refusal::BadNumber);
+                }
+                Ok(ring.shown(node))
+            }
         }
-        if node.number() > self.size() {
-            return Err(Refusal::BadNumber);
-        }
-        Ok(self.ring.shown(node))
     }
+}
 
-    #[tactic(auto, unfolding(crate::specs::Step::refusal_of, crate::specs::Step::objection_to, crate::specs::Step::stepped, crate::specs::Step::is_lasting))]
-    fn perform(&mut self, event: Event) -> Result<Outcome, AllocError>
-        requires free { refusal_of self.old event ≡ None }
-        ensures step { IfOk result (λ outcome. (keeps_flying : Bool) × ((told outcome, self.new) ≡ stepped keeps_flying self.old event)) }
-        ensures works { OnOk result (self.new.ring.failed ≡ false) }
-        ensures err { OnErr result (MatchBool (is_lasting self.old event) (self.new ≡ self.old) (self.new.ring.failed ≡ true)) }
-        ensures kept { Keeps self.old result self.new }
-        ensures tickets { OnOk result (self.new.tickets ≤ self.old.tickets + 1) }
-    {
-        match event {
-            Event::Submit(node, request) => self.submit(node, &request),
-            Event::Flush(node) => self.flush(node),
-            Event::Deliver { from, no } => self.deliver(from, no),
-            Event::DeliverAll => self.deliver_all(),
-            Event::Credit { from, upto } => self.credit(from, upto),
-            Event::Crash(node) => self.crash(node),
-            Event::Stop { node, call, tear } => self.stop(node, call, tear),
-        }
+// Puts another stage at the place of one, which ends.
+fn put(place: &mut Stage, stage: Stage)
+    ensures { place.new ≡ stage }
+{
+    let _log = ended(replace(place, stage));
+}
+
+// Ends the nodes of a ring that works: what was told.
+fn ended(stage: Stage) -> Log {
+    match stage {
+        Stage::Working(ring) => ring.fail(),
+        Stage::Failed(log) => log,
     }
 }
 
@@ -182,6 +190,3 @@ fn announced_in(alloc: Global, events: &[Happened]) -> Result<Vec<Announced>, Al
     }
     Ok(list)
 }
-
-mod objections;
-mod parts;

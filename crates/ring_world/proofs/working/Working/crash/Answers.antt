@@ -1,0 +1,29 @@
+use Rattle.std.proofs.Common.{◌≡◌, ◌-◌, Some, set, length, ap, ◌∙◌}
+use Rattle.std.specs.List.{filter_map, insert}
+use Rattle.ring_node.specs.Open.{serial_of}
+use Rattle.ring_world.specs.Ring.{lost, node_at}
+use Rattle.ring_world.specs.Step.{nothing_told, crashed}
+use Rattle.ring_world.proofs.Steps.{crashes, tied, replaced, pushed}
+use Rattle.ring_world.proofs.Ties.{held_is, place_within}
+use Rattle.ring_world.proofs.working.Working.crash.Goals as goal
+use Rattle.ring_world.proofs.working.Working.crash.Goals.{After-put_back}
+
+-- the node stands at its place again
+put : (c : After-put_back) → c.put_back.new.nodes.items ≡ set c.self.inside.nodes.items (c.number.result - 1) c.in-Ok.again
+put c = c.put_back.ensures ∙ (ap (λ l. insert l (c.number.result - 1) c.in-Ok.again) c.remove.ensures.items ∙ replaced c.self.inside.nodes.items (c.number.result - 1) c.in-Ok.again (place_within c.args.self.ring c.self.inside.log.events.items c.self.inside.nodes.items (tied c.self.inside.log c.self.inside.nodes.items _ c.self.view_is c.self.invariant) c.args.node c.number.result c.number.ensures.value c.number.ensures.range.0 c.requires.inside c.remove.result c.remove.ensures.value))
+
+pub invariant_of-ring : goal.invariant_of-ring
+invariant_of-ring c =
+    (crashes c.self.inside.log c.self.inside.nodes.items _ c.self.view_is c.self.invariant c.args.node c.number.result c.number.ensures.value c.number.ensures.range.0 c.requires.inside
+    c.remove.result c.remove.ensures.value _ _ _ (put (goal.at.invariant_of-ring c).After-put_back)
+    (pushed c.in_default.ensures.items c.new.ensures c.push_reserved.ensures.items) c.in-Ok.ensures.next).1
+
+pub returns-in-Ok-clause-step : goal.returns-in-Ok-clause-step
+unfolding crashed lost
+returns-in-Ok-clause-step c =
+    let next = (crashes c.self.inside.log c.self.inside.nodes.items _ c.self.view_is c.self.invariant c.args.node c.number.result c.number.ensures.value c.number.ensures.range.0 c.requires.inside
+    c.remove.result c.remove.ensures.value _ _ _ (put (goal.at.returns-in-Ok-clause-step c).After-put_back)
+    (pushed c.in_default.ensures.items c.new.ensures c.push_reserved.ensures.items) c.in-Ok.ensures.next).0 in
+    let gone = c.in-Ok.ensures.lost ∙ ap (filter_map serial_of) (held_is c.args.self.ring c.self.inside.log.events.items c.self.inside.nodes.items (tied c.self.inside.log c.self.inside.nodes.items _ c.self.view_is c.self.invariant) c.args.node c.number.result c.number.ensures.value c.number.ensures.range.0 c.requires.inside
+    c.remove.result c.remove.ensures.value) in
+    λ t. ((c.reopened-outcome.ensures ∙ λ u. record nothing_told { lost = gone u; up = Some (length (node_at (next u).ring c.args.node).inputs) }) t, next t)
