@@ -106,7 +106,7 @@ fn opened<R: Abort + AllocGlobal>(
         return Some(OpenNode::new(node, 3, made));
     }
     let device = stand_before(rt, made, served.stood)?;
-    match Node::recover(alloc, device, node, 3, 1) {
+    match Node::recover(alloc, device, NodeNo::first(), 3, 1) {
         Ok(made) => Some(OpenNode::new(node, 3, made)),
         Err((_device, _)) => None,
     }

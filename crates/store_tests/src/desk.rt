@@ -1,16 +1,17 @@
 // The desks of group_commit: what no clause says, which is that the calls succeed with ample memory, and that the
-// definitions say what is meant. All desks are of a ring of 3, of capacity 4,096.
+// definitions say what is meant. All desks are of a ring of 3, of capacity 4,096. A test is a script: what is done with a
+// desk step by step, and what comes of each step.
 ghost use Rattle.ring_records.specs.Snapshot.{IsSound};
 
-use crate::journal::{commits, journal_of};
-use crate::rows::{Leads, inputs, leads_are, node, reply, request, sends_are};
+use crate::journal::{commit, commits, journal_of};
+use crate::rows::{Leads, No, inputs, leads_are, node, reply, request, sends_are};
 use disk_model::{FuseDevice, MemDevice};
-use gated_journal::{Batch, Journal, Opening, Receipt};
-use group_commit::{Desk, Landed, Ticket};
+use gated_journal::{Batch, Journal, Opening, Receipt, Spoiled};
+use group_commit::{Desk, Landed, Stub, Ticket};
 use ring_records::Refusal;
 use std::alloc::AllocGlobal;
 use std::process::Abort;
-use test_rows::{Ask, Cause, Note, Op, Say, Sends};
+use test_rows::{Ask, Cause, Note, Op, Say, Sends, candidate, key};
 
 mod batches;
 mod decisions;
@@ -20,6 +21,60 @@ mod refusals;
 mod replies;
 mod runs;
 mod vouch;
+
+const STAND: Ask = Ask::Stand("red", 5, 10);
+
+const STOOD: Op = Op::Stand("red", 5, 10);
+
+const WHO: Ask = Ask::Who("red", 5);
+
+const LATEST: Ask = Ask::Latest("red");
+
+/// The message that the Stand sends.
+const OWN: Note = Note::Token("red", 5, 10, 1);
+
+/// What is done with a desk, and what comes of it. A ticket goes by its place among those that are open, oldest first.
+#[derive(Clone, Copy)]
+enum Step {
+    /// The request gets a ticket of this number.
+    Asks(Ask, u64),
+    /// The same, at the second call where the first finds no memory, which changes nothing.
+    AsksAtLast(Ask, u64),
+    /// The request gets no ticket, for this cause, and nothing is accepted.
+    Refuses(Ask, No),
+    /// The ticket is redeemed with this reply, and the stub has the question, the number and the reply.
+    Redeems(usize, Say),
+    /// The ticket is not redeemed, for this cause, and comes back.
+    Returns(usize, No),
+    /// The desk, which is closed or has failed, ends the ticket with no reply.
+    Forfeits(usize),
+    /// It is closed.
+    Closes,
+    /// It has so many inputs, of which so many are durable or fly, and so many are durable.
+    Has(usize, u64, u64),
+    /// So many inputs are launched, and the journal makes them durable.
+    Launches(usize),
+    /// The same, at the second call where the first finds no memory, which changes nothing.
+    LaunchesAtLast(usize),
+    /// Nothing is launched: for this cause, or since nothing waits.
+    LaunchesNone(Option<No>),
+    /// What flies, so many inputs, lands and releases these packets. The desk knows these leaders by them.
+    Lands(u32, &'static [Sends], &'static [Leads]),
+    /// So many inputs are launched and land so.
+    Settles(u32, &'static [Sends], &'static [Leads]),
+    /// A receipt of these inputs of this node, behind those before them, is not taken and comes back, and nothing changes.
+    IsForeign(u8, &'static [Op], &'static [Op]),
+    /// The receipt of what flies is not taken.
+    LandsNot,
+    /// A device fails with this one input, which was launched, and so does the desk.
+    Fails(Op),
+    /// The device fails with the one input that waits, and so does the desk, and no other desk.
+    Spoils,
+    /// These leaders are known of the durable inputs, in this order.
+    Decides(&'static [Leads]),
+    /// For the key of the Stand this leader is known, of its bid and node.
+    Knows(Option<(u32, u8)>),
+}
 
 /// What a journal holds that summarises nothing: these inputs.
 fn opening_of<R: Abort + AllocGlobal>(rt: &R, ops: &[Op]) -> Opening
@@ -31,58 +86,29 @@ fn opening_of<R: Abort + AllocGlobal>(rt: &R, ops: &[Op]) -> Opening
 }
 
 /// The desk of this node, at this opening, that opens with these inputs.
-fn opened_as<R: Abort + AllocGlobal>(rt: &R, number: u8, run: u64, ops: &[Op]) -> Desk {
+fn opened<R: Abort + AllocGlobal>(rt: &R, number: u8, run: u64, ops: &[Op]) -> Desk {
     let opening = opening_of(rt, ops);
     Desk::open(rt.alloc(), node(rt, number), 3, 4096, run, opening).expect(rt, "lawful inputs")
 }
 
-/// The desk of node 1, at its opening 0, that opens with these inputs.
-fn opened<R: Abort + AllocGlobal>(rt: &R, ops: &[Op]) -> Desk {
-    opened_as(rt, 1, 0, ops)
+/// How many inputs the desk has, how many are durable or fly, and how many are durable.
+fn counts(desk: &Desk) -> (usize, u64, u64) {
+    (desk.history().len(), desk.flying(), desk.durable())
 }
 
-/// A desk, and the journal that its batches go to.
-#[derive(Drop)]
-struct Station {
-    desk: Desk,
-    journal: Journal<FuseDevice<MemDevice>>,
+/// What a call that is refused leaves: the counts, how many tickets are open, and whether it takes requests.
+fn shown(desk: &Desk) -> ((usize, u64, u64), usize, bool) {
+    (counts(desk), desk.open_tickets(), desk.is_open())
 }
 
-/// A desk of this node that opens with these inputs, and the journal that holds them.
-fn station_of<R: Abort + AllocGlobal>(rt: &R, number: u8, ops: &[Op]) -> Station {
-    let desk = opened_as(rt, number, 0, ops);
-    let mut journal = journal_of(rt, node(rt, number));
-    if !ops.is_empty() {
-        let batch = Batch::new(rt.alloc(), node(rt, number), 0, desk.history());
-        let batch = batch.expect(rt, "1 to 64 inputs");
-        commits(rt, &mut journal, batch).into_parts();
+/// No ticket is given for the request, for this cause, and nothing changes.
+fn refuses(rt: &impl Abort, desk: &mut Desk, ask: Ask, cause: Refusal) {
+    let before = shown(desk);
+    match desk.submit(request(rt, ask)) {
+        Ok(_ticket) => panic!(rt; "a ticket"),
+        Err(refusal) => assert_eq!(rt; refusal, cause),
     }
-    Station { desk, journal }
-}
-
-/// The desk gives a ticket of this number for the request.
-fn asks(rt: &impl Abort, desk: &mut Desk, ask: Ask, number: u64) -> Ticket {
-    let question = request(rt, ask);
-    let ticket = desk.submit(question).expect(rt, "a ticket");
-    assert_eq!(rt; ticket.number(), number);
-    assert_eq!(rt; ticket.question(), question);
-    ticket
-}
-
-/// The ticket is redeemed with this reply, and the stub has the question, the number and the reply.
-fn redeems(rt: &impl Abort, desk: &mut Desk, ticket: Ticket, say: Say) {
-    let number = ticket.number();
-    let question = ticket.question();
-    let reply = reply(rt, say);
-    match desk.redeem(ticket) {
-        Ok((found, stub)) => {
-            assert_eq!(rt; found, reply);
-            assert_eq!(rt; stub.reply(), reply);
-            assert_eq!(rt; stub.number(), number);
-            assert_eq!(rt; stub.question(), question);
-        }
-        Err((_ticket, refusal)) => panic!(rt; "{refusal}"),
-    }
+    assert_eq!(rt; shown(desk), before);
 }
 
 /// The ticket is not redeemed for this cause, and comes back.
@@ -100,129 +126,257 @@ fn comes_back(rt: &impl Abort, desk: &mut Desk, ticket: Ticket, cause: Refusal) 
     }
 }
 
-/// Once closed, the desk ends the ticket with no reply.
-fn forfeits(rt: &impl Abort, desk: &mut Desk, ticket: Ticket) {
-    desk.close();
-    match desk.forfeit(ticket) {
-        Ok(()) => {}
-        Err((_ticket, refusal)) => panic!(rt; "{refusal}"),
-    }
-}
-
-fn keeps(rt: &impl Abort, tickets: &mut Vec<Ticket>, ticket: Ticket) {
-    match tickets.push(ticket) {
-        Ok(()) => {}
-        Err(_ticket) => panic!(rt; "ample memory"),
-    }
-}
-
-/// The oldest of the tickets.
-fn next(rt: &impl Abort, tickets: &mut Vec<Ticket>) -> Ticket {
-    assert!(rt; !tickets.is_empty());
-    tickets.remove(0)
-}
-
-/// The desk gives tickets of these numbers for the requests, in this order.
-fn asks_all<R: Abort + AllocGlobal>(rt: &R, desk: &mut Desk, rows: &[(Ask, u64)]) -> Vec<Ticket> {
-    let mut tickets = Vec::new(rt.alloc());
-    for (ask, number) in rows {
-        let ticket = asks(rt, desk, *ask, *number);
-        keeps(rt, &mut tickets, ticket);
-    }
-    tickets
-}
-
-/// None of so many tickets is redeemed yet, and each comes back.
-fn all_wait(rt: &impl Abort, desk: &mut Desk, tickets: &mut Vec<Ticket>, count: usize) {
-    assert_eq!(rt; tickets.len(), count);
-    for _ in 0..count {
-        let ticket = next(rt, tickets);
-        let ticket = comes_back(rt, desk, ticket, Refusal::Early);
-        keeps(rt, tickets, ticket);
-    }
-}
-
-/// The tickets are redeemed with these replies, in this order.
-fn redeems_all(rt: &impl Abort, desk: &mut Desk, tickets: Vec<Ticket>, says: &[Say]) {
-    let mut tickets = tickets;
-    for say in says {
-        let ticket = next(rt, &mut tickets);
-        redeems(rt, desk, ticket, *say);
-    }
-    assert!(rt; tickets.is_empty());
-    tickets.destroy_empty();
-}
-
-/// How many inputs the desk has, how many are durable or fly, and how many are durable.
-fn counts(desk: &Desk) -> (usize, u64, u64) {
-    (desk.history().len(), desk.flying(), desk.durable())
-}
-
-/// No ticket is given for the request, for this cause, and nothing is accepted.
-fn refuses(rt: &impl Abort, desk: &mut Desk, ask: Ask, cause: Refusal) {
-    let before = counts(desk);
-    let question = request(rt, ask);
-    match desk.submit(question) {
-        Ok(_ticket) => panic!(rt; "a ticket"),
-        Err(refusal) => assert_eq!(rt; refusal, cause),
-    }
-    assert_eq!(rt; counts(desk), before);
-}
-
-/// So many inputs are launched, and the journal makes them durable.
-fn launches(rt: &impl Abort, station: &mut Station, count: usize) -> Receipt {
-    match station.desk.launch() {
-        Ok(Some(batch)) => {
-            assert_eq!(rt; batch.inputs().len(), count);
-            commits(rt, &mut station.journal, batch)
-        }
+/// The batch that the desk launches, or why there is none. Something waits.
+fn launched(rt: &impl Abort, desk: &mut Desk) -> Result<Batch, Refusal> {
+    match desk.launch() {
+        Ok(Some(batch)) => Ok(batch),
         Ok(None) => panic!(rt; "nothing waits"),
-        Err(refusal) => panic!(rt; "{refusal}"),
+        Err(refusal) => Err(refusal),
     }
 }
 
 /// The desk launches nothing: for this cause, or since nothing waits.
-fn launches_none(rt: &impl Abort, desk: &mut Desk, cause: Option<Refusal>) {
+fn launches_none(rt: &impl Abort, desk: &mut Desk, no: Option<No>) {
     match desk.launch() {
         Ok(Some(_batch)) => panic!(rt; "a batch"),
-        Ok(None) => assert!(rt; cause.is_none()),
-        Err(refusal) => assert_eq!(rt; Some(refusal), cause),
+        Ok(None) => assert!(rt; no.is_none()),
+        Err(refusal) => match no {
+            Some(no) => assert_eq!(rt; refusal, no.refusal()),
+            None => panic!(rt; "{refusal}"),
+        },
     }
 }
 
-/// What the receipt of so many inputs releases at the desk.
-fn landed(rt: &impl Abort, desk: &mut Desk, receipt: Receipt, count: u32) -> Landed {
-    match desk.land(receipt) {
-        Ok(landed) => {
-            assert_eq!(rt; landed.count, count);
-            landed
+/// The desk has these decisions, in this order.
+fn decides(rt: &impl Abort, desk: &Desk, leads: &[Leads]) {
+    let decisions = desk.decisions().expect(rt, "ample memory");
+    leads_are(rt, &decisions, leads);
+}
+
+/// For the key of the Stand the desk knows this leader, of this bid and node, or none.
+fn knows(rt: &impl Abort, desk: &Desk, numbers: Option<(u32, u8)>) {
+    let red = key("red", 5).expect(rt, "a key");
+    let leader = match numbers {
+        Some((bid, node)) => Some(candidate(bid, node).expect(rt, "a candidate")),
+        None => None,
+    };
+    assert_eq!(rt; desk.who(&red), leader);
+}
+
+/// The desk has launched the spoiled batch, and fails.
+fn fails(rt: &impl Abort, desk: &mut Desk, spoiled: Spoiled) {
+    match desk.fail(spoiled) {
+        Ok(()) => assert!(rt; !desk.is_open()),
+        Err((_spoiled, refusal)) => panic!(rt; "{refusal}"),
+    }
+}
+
+/// A desk, the journal that its batches go to, the tickets that are open, oldest first, and the receipt of what flies.
+struct Station {
+    desk: Desk,
+    journal: Journal<FuseDevice<MemDevice>>,
+    tickets: Vec<Ticket>,
+    flown: Vec<Receipt>,
+}
+
+/// A desk of this node, at this opening, that opens with these inputs, and the journal that holds them.
+fn station_of<R: Abort + AllocGlobal>(rt: &R, number: u8, run: u64, ops: &[Op]) -> Station {
+    let desk = opened(rt, number, run, ops);
+    let mut journal = journal_of(rt, node(rt, number));
+    if !ops.is_empty() {
+        let batch = Batch::new(rt.alloc(), node(rt, number), 0, desk.history());
+        let batch = batch.expect(rt, "1 to 64 inputs");
+        commits(rt, &mut journal, batch).into_parts();
+    }
+    Station {
+        desk,
+        journal,
+        tickets: Vec::new(rt.alloc()),
+        flown: Vec::new(rt.alloc()),
+    }
+}
+
+/// The desk of this node, at its opening 0, opens with these inputs; then this is done with it, step by step.
+fn plays<R: Abort + AllocGlobal>(rt: &R, number: u8, before: &[Op], steps: &[Step]) {
+    let mut station = station_of(rt, number, 0, before);
+    station.plays(rt, steps);
+    station.ends(rt);
+}
+
+impl Station {
+    fn plays<R: Abort + AllocGlobal>(&mut self, rt: &R, steps: &[Step]) {
+        for step in steps {
+            self.does(rt, *step);
         }
-        Err((_receipt, refusal)) => panic!(rt; "{refusal}"),
     }
-}
 
-/// The desk takes the receipt, of so many inputs, and releases these packets. It knows these leaders by them.
-fn lands(
-    rt: &impl Abort,
-    desk: &mut Desk,
-    receipt: Receipt,
-    count: u32,
-    sends: &[Sends],
-    leads: &[Leads],
-) {
-    let landed = landed(rt, desk, receipt, count);
-    sends_are(rt, &landed.packets, sends);
-    leads_are(rt, &landed.decisions, leads);
-}
+    /// No ticket is open, and nothing flies.
+    fn ends(self, rt: &impl Abort) {
+        let Station {
+            desk: _desk,
+            journal: _journal,
+            tickets,
+            flown,
+        } = self;
+        assert!(rt; tickets.is_empty());
+        assert!(rt; flown.is_empty());
+        tickets.destroy_empty();
+        flown.destroy_empty();
+    }
 
-/// So many inputs are launched and land.
-fn flushes(rt: &impl Abort, station: &mut Station, count: u32) -> Landed {
-    let receipt = launches(rt, station, count as usize);
-    landed(rt, &mut station.desk, receipt, count)
-}
+    fn does<R: Abort + AllocGlobal>(&mut self, rt: &R, step: Step) {
+        match step {
+            Step::Asks(ask, number) => self.asks(rt, ask, number),
+            Step::AsksAtLast(ask, number) => self.asks_at_last(rt, ask, number),
+            Step::Refuses(ask, no) => refuses(rt, &mut self.desk, ask, no.refusal()),
+            Step::Redeems(place, say) => {
+                self.redeems(rt, place, say);
+            }
+            Step::Returns(place, no) => self.returns(rt, place, no),
+            Step::Forfeits(place) => self.forfeits(rt, place),
+            Step::Closes => self.desk.close(),
+            Step::Has(inputs, flying, durable) => {
+                assert_eq!(rt; counts(&self.desk), (inputs, flying, durable))
+            }
+            Step::Launches(count) => self.launches(rt, count),
+            Step::LaunchesAtLast(count) => self.launches_at_last(rt, count),
+            Step::LaunchesNone(no) => launches_none(rt, &mut self.desk, no),
+            Step::Lands(count, sends, leads) => self.lands(rt, count, sends, leads),
+            Step::Settles(count, sends, leads) => {
+                self.launches(rt, count as usize);
+                self.lands(rt, count, sends, leads)
+            }
+            Step::IsForeign(number, before, ops) => self.is_foreign(rt, number, before, ops),
+            Step::LandsNot => self.lands_not(rt),
+            Step::Fails(op) => self.fails(rt, op),
+            Step::Spoils => self.spoils(rt),
+            Step::Decides(leads) => decides(rt, &self.desk, leads),
+            Step::Knows(leader) => knows(rt, &self.desk, leader),
+        }
+    }
 
-/// So many inputs are launched and land, with these packets and these leaders.
-fn settles(rt: &impl Abort, station: &mut Station, count: u32, sends: &[Sends], leads: &[Leads]) {
-    let receipt = launches(rt, station, count as usize);
-    lands(rt, &mut station.desk, receipt, count, sends, leads);
+    fn keeps(&mut self, rt: &impl Abort, place: usize, ticket: Ticket) {
+        assert!(rt; place <= self.tickets.len());
+        match self.tickets.insert(place, ticket) {
+            Ok(()) => {}
+            Err(_ticket) => panic!(rt; "ample memory"),
+        }
+    }
+
+    fn takes_out(&mut self, rt: &impl Abort, place: usize) -> Ticket {
+        assert!(rt; place < self.tickets.len(), "no such ticket");
+        self.tickets.remove(place)
+    }
+
+    fn asks(&mut self, rt: &impl Abort, ask: Ask, number: u64) {
+        let question = request(rt, ask);
+        let ticket = self.desk.submit(question).expect(rt, "a ticket");
+        assert_eq!(rt; ticket.number(), number);
+        assert_eq!(rt; ticket.question(), question);
+        let place = self.tickets.len();
+        self.keeps(rt, place, ticket);
+    }
+
+    fn asks_at_last(&mut self, rt: &impl Abort, ask: Ask, number: u64) {
+        let before = shown(&self.desk);
+        match self.desk.submit(request(rt, ask)) {
+            Ok(ticket) => {
+                assert_eq!(rt; ticket.number(), number);
+                let place = self.tickets.len();
+                self.keeps(rt, place, ticket);
+            }
+            Err(refusal) => {
+                assert_eq!(rt; refusal, Refusal::OutOfMemory);
+                assert_eq!(rt; shown(&self.desk), before);
+                self.asks(rt, ask, number);
+            }
+        }
+    }
+
+    fn redeems(&mut self, rt: &impl Abort, place: usize, say: Say) -> Stub {
+        let ticket = self.takes_out(rt, place);
+        let number = ticket.number();
+        let question = ticket.question();
+        let reply = reply(rt, say);
+        match self.desk.redeem(ticket) {
+            Ok((found, stub)) => {
+                assert_eq!(rt; found, reply);
+                assert_eq!(rt; stub.reply(), reply);
+                assert_eq!(rt; stub.number(), number);
+                assert_eq!(rt; stub.question(), question);
+                stub
+            }
+            Err((_ticket, refusal)) => panic!(rt; "{refusal}"),
+        }
+    }
+
+    fn returns(&mut self, rt: &impl Abort, place: usize, no: No) {
+        let ticket = self.takes_out(rt, place);
+        let ticket = comes_back(rt, &mut self.desk, ticket, no.refusal());
+        self.keeps(rt, place, ticket);
+    }
+
+    fn forfeits(&mut self, rt: &impl Abort, place: usize) {
+        let ticket = self.takes_out(rt, place);
+        assert!(rt; !self.desk.is_open());
+        match self.desk.forfeit(ticket) {
+            Ok(()) => {}
+            Err((_ticket, refusal)) => panic!(rt; "{refusal}"),
+        }
+    }
+
+    /// The journal makes the batch, of so many inputs, durable.
+    fn flies(&mut self, rt: &impl Abort, batch: Batch, count: usize) {
+        assert_eq!(rt; batch.inputs().len(), count);
+        let receipt = commits(rt, &mut self.journal, batch);
+        match self.flown.push(receipt) {
+            Ok(()) => {}
+            Err(_receipt) => panic!(rt; "ample memory"),
+        }
+    }
+
+    fn launches(&mut self, rt: &impl Abort, count: usize) {
+        match launched(rt, &mut self.desk) {
+            Ok(batch) => self.flies(rt, batch, count),
+            Err(refusal) => panic!(rt; "{refusal}"),
+        }
+    }
+
+    fn launches_at_last(&mut self, rt: &impl Abort, count: usize) {
+        let before = shown(&self.desk);
+        match launched(rt, &mut self.desk) {
+            Ok(batch) => self.flies(rt, batch, count),
+            Err(refusal) => {
+                assert_eq!(rt; refusal, Refusal::OutOfMemory);
+                assert_eq!(rt; shown(&self.desk), before);
+                self.launches(rt, count);
+            }
+        }
+    }
+
+    /// The receipt of what flies.
+    fn receipt(&mut self, rt: &impl Abort) -> Receipt {
+        match self.flown.pop() {
+            Some(receipt) => receipt,
+            None => panic!(rt; "nothing flies"),
+        }
+    }
+
+    /// What flies, so many inputs, lands: what that releases.
+    fn landed(&mut self, rt: &impl Abort, count: u32) -> Landed {
+        let receipt = self.receipt(rt);
+        match self.desk.land(receipt) {
+            Ok(landed) => {
+                assert_eq!(rt; landed.count, count);
+                landed
+            }
+            Err((_receipt, refusal)) => panic!(rt; "{refusal}"),
+        }
+    }
+
+    fn lands(&mut self, rt: &impl Abort, count: u32, sends: &[Sends], leads: &[Leads]) {
+        let landed = self.landed(rt, count);
+        sends_are(rt, &landed.packets, sends);
+        leads_are(rt, &landed.decisions, leads);
+    }
 }

@@ -1,8 +1,31 @@
 // What desks and nodes are given and give, in plain numbers. All numbers and names of rows are in their ranges.
-use ring_records::{Decision, Input, NodeNo, Packet, Reply, Request};
+use ring_records::{Decision, Input, NodeNo, Packet, Refusal, Reply, Request};
 use std::alloc::Global;
 use std::process::Abort;
 use test_rows::{Ask, Op, Say, Sends, candidate, key};
+
+/// Why a call is refused, as a plain name.
+#[derive(Clone, Copy)]
+pub enum No {
+    BadNumber,
+    Failed,
+    Early,
+    Busy,
+    /// The first call of the device that failed.
+    Device,
+}
+
+impl No {
+    pub fn refusal(self) -> Refusal {
+        match self {
+            No::BadNumber => Refusal::BadNumber,
+            No::Failed => Refusal::Failed,
+            No::Early => Refusal::Early,
+            No::Busy => Refusal::Busy,
+            No::Device => Refusal::Device(1),
+        }
+    }
+}
 
 pub fn node(rt: &impl Abort, number: u8) -> NodeNo {
     NodeNo::new(number).expect(rt, "a node")

@@ -1,42 +1,32 @@
 // What a desk hands over to be made durable, and what it does once the device has failed.
+use super::Step::{Asks, Closes, Forfeits, Has, LaunchesNone, Refuses, Returns, Spoils};
 use super::*;
-use crate::journal::commit;
-use gated_journal::Spoiled;
 
-/// The receipt is of so many inputs of node 1 from number 0 on.
-fn is_of(rt: &impl Abort, receipt: Receipt, count: usize) {
-    let (node, first, inputs) = receipt.into_parts();
-    assert_eq!(rt; (node.number(), first), (1, 0));
-    assert_eq!(rt; inputs.len(), count);
-}
+const WAITS: [Step; 4] = [
+    LaunchesNone(None),
+    Asks(STAND, 1),
+    Asks(Ask::Acked(1), 2),
+    Has(2, 0, 0),
+];
+
+const FLIES: [Step; 6] = [
+    Has(2, 2, 0),
+    LaunchesNone(Some(No::Busy)),
+    Returns(0, No::Early),
+    Closes,
+    Forfeits(0),
+    Forfeits(0),
+];
 
 #[test]
 fn what_waits_is_launched_once(rt: HostRuntime) {
-    let mut station = station_of(&rt, 1, &[]);
-    launches_none(&rt, &mut station.desk, None);
-    let stood = asks(&rt, &mut station.desk, Ask::Stand("red", 5, 10), 1);
-    let credited = asks(&rt, &mut station.desk, Ask::Acked(1), 2);
-    assert_eq!(rt; counts(&station.desk), (2, 0, 0));
-    let receipt = launches(&rt, &mut station, 2);
-    is_of(&rt, receipt, 2);
-    assert_eq!(rt; counts(&station.desk), (2, 2, 0));
-    launches_none(&rt, &mut station.desk, Some(Refusal::Busy));
-    let stood = comes_back(&rt, &mut station.desk, stood, Refusal::Early);
-    forfeits(&rt, &mut station.desk, stood);
-    forfeits(&rt, &mut station.desk, credited);
-}
-
-/// The desk launches one input, which the device fails to make durable.
-fn spoils(rt: &impl Abort, station: &mut Station) -> Spoiled {
-    station.journal.arm(0, false);
-    match station.desk.launch() {
-        Ok(Some(batch)) => match commit(rt, &mut station.journal, batch) {
-            Ok(_receipt) => panic!(rt; "committed"),
-            Err(spoiled) => spoiled,
-        },
-        Ok(None) => panic!(rt; "nothing waits"),
-        Err(refusal) => panic!(rt; "{refusal}"),
-    }
+    let mut station = station_of(&rt, 1, 0, &[]);
+    station.plays(&rt, &WAITS);
+    station.launches(&rt, 2);
+    let (node, first, inputs) = station.receipt(&rt).into_parts();
+    assert_eq!(rt; (node.number(), first, inputs.len()), (1, 0, 2));
+    station.plays(&rt, &FLIES);
+    station.ends(&rt);
 }
 
 /// A desk that has not launched the spoiled batch does not fail by it.
@@ -51,29 +41,32 @@ fn is_foreign(rt: &impl Abort, other: &mut Desk, spoiled: Spoiled) -> Spoiled {
     }
 }
 
-/// The desk has launched the spoiled batch, and fails.
-fn fails(rt: &impl Abort, desk: &mut Desk, spoiled: Spoiled) {
-    match desk.fail(spoiled) {
-        Ok(()) => assert!(rt; !desk.is_open()),
-        Err((_spoiled, refusal)) => panic!(rt; "{refusal}"),
+impl Station {
+    /// The device fails with the one input that waits, a Stand. The desk fails by that batch, and another desk, which has
+    /// that input too, does not.
+    pub(super) fn spoils<R: Abort + AllocGlobal>(&mut self, rt: &R) {
+        self.journal.arm(0, false);
+        let batch = launched(rt, &mut self.desk).expect(rt, "ample memory");
+        match commit(rt, &mut self.journal, batch) {
+            Ok(_receipt) => panic!(rt; "committed"),
+            Err(spoiled) => {
+                let spoiled = is_foreign(rt, &mut opened(rt, 1, 0, &[STOOD]), spoiled);
+                fails(rt, &mut self.desk, spoiled);
+            }
+        }
     }
 }
 
-/// The device fails with the one input that waits; the desk fails by that batch, and another desk does not.
-fn fails_by_its_own<R: Abort + AllocGlobal>(rt: &R, station: &mut Station) {
-    let spoiled = spoils(rt, station);
-    let mut other = opened(rt, &[Op::Stand("red", 5, 10)]);
-    let spoiled = is_foreign(rt, &mut other, spoiled);
-    fails(rt, &mut station.desk, spoiled);
-}
+const FAILED: [Step; 6] = [
+    Asks(STAND, 1),
+    Spoils,
+    LaunchesNone(Some(No::Failed)),
+    Refuses(WHO, No::Failed),
+    Returns(0, No::Failed),
+    Forfeits(0),
+];
 
 #[test]
 fn a_desk_whose_device_failed_launches_and_takes_no_more(rt: HostRuntime) {
-    let mut station = station_of(&rt, 1, &[]);
-    let stood = asks(&rt, &mut station.desk, Ask::Stand("red", 5, 10), 1);
-    fails_by_its_own(&rt, &mut station);
-    launches_none(&rt, &mut station.desk, Some(Refusal::Failed));
-    refuses(&rt, &mut station.desk, Ask::Who("red", 5), Refusal::Failed);
-    let stood = comes_back(&rt, &mut station.desk, stood, Refusal::Failed);
-    forfeits(&rt, &mut station.desk, stood);
+    plays(&rt, 1, &[], &FAILED);
 }

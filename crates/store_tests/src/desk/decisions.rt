@@ -1,95 +1,98 @@
 // What leaders the durable inputs made known.
+use super::Step::{Asks, Decides, Knows, Lands, Launches, Redeems};
 use super::*;
 use test_rows::Sends::{Carry, Credit};
-use test_rows::{candidate, key};
 
-/// The desk has these decisions, in this order.
-fn decides(rt: &impl Abort, desk: &Desk, leads: &[Leads]) {
-    let decisions = desk.decisions().expect(rt, "ample memory");
-    leads_are(rt, &decisions, leads);
-}
+const RED: Leads = ("red", 5, 30, 2);
 
-/// The desk of this node that opens with these inputs has these decisions.
-fn opens_with<R: Abort + AllocGlobal>(rt: &R, number: u8, ops: &[Op], leads: &[Leads]) {
-    let desk = opened_as(rt, number, 0, ops);
+const FIRST: Op = Op::Take(0, Note::Token("red", 5, 20, 3));
+
+const PASSED: Op = Op::Take(1, Note::Token("red", 5, 30, 2));
+
+/// Its name, the node, what its desk opens with, and the decisions that it has then, in their order.
+type Row = (&'static str, u8, &'static [Op], &'static [Leads]);
+
+const ROWS: [Row; 6] = [
+    ("nothing", 1, &[], &[]),
+    ("nothing decided", 1, &[STOOD, FIRST, PASSED], &[]),
+    (
+        "first election",
+        1,
+        &[
+            STOOD,
+            FIRST,
+            PASSED,
+            Op::Take(2, Note::Elected("red", 5, 30, 2)),
+        ],
+        &[RED],
+    ),
+    (
+        "first election, at node 2",
+        2,
+        &[
+            Op::Stand("red", 5, 30),
+            Op::Take(0, OWN),
+            Op::Take(1, Note::Token("red", 5, 20, 3)),
+            Op::Take(2, Note::Token("red", 5, 30, 2)),
+            Op::Take(3, Note::Elected("red", 5, 30, 2)),
+        ],
+        &[RED],
+    ),
+    (
+        "order of keys",
+        1,
+        &[
+            STOOD,
+            Op::Take(0, Note::Elected("red", 9, 7, 3)),
+            Op::Take(1, Note::Elected("red", 5, 30, 2)),
+            Op::Take(2, Note::Elected("blue", 12, 1, 2)),
+            Op::Take(3, Note::Elected("reds", 1, 4, 3)),
+        ],
+        &[("blue", 12, 1, 2), RED, ("red", 9, 7, 3), ("reds", 1, 4, 3)],
+    ),
+    (
+        "first leader of a key",
+        1,
+        &[
+            STOOD,
+            Op::Take(0, Note::Elected("red", 9, 7, 3)),
+            Op::Take(1, Note::Elected("red", 5, 30, 2)),
+            Op::Take(2, Note::Elected("red", 9, 8, 2)),
+        ],
+        &[RED, ("red", 9, 7, 3)],
+    ),
+];
+
+/// The desk that opens so has these decisions.
+fn opens_with<R: Abort + AllocGlobal>(rt: &R, row: &Row) {
+    let (name, number, before, leads) = *row;
+    let desk = opened(rt, number, 0, before);
+    assert_eq!(rt; desk.history().len(), before.len(), "{name}");
     decides(rt, &desk, leads);
 }
 
 #[test]
-fn nothing_decided(rt: HostRuntime) {
-    opens_with(&rt, 1, &[], &[]);
-    let passes = [
-        Op::Stand("red", 5, 10),
-        Op::Take(0, Note::Token("red", 5, 20, 3)),
-        Op::Take(1, Note::Token("red", 5, 30, 2)),
-    ];
-    opens_with(&rt, 1, &passes, &[]);
+fn what_inputs_decide(rt: HostRuntime) {
+    for row in &ROWS {
+        opens_with(&rt, row);
+    }
 }
 
-#[test]
-fn first_election(rt: HostRuntime) {
-    let first = [
-        Op::Stand("red", 5, 10),
-        Op::Take(0, Note::Token("red", 5, 20, 3)),
-        Op::Take(1, Note::Token("red", 5, 30, 2)),
-        Op::Take(2, Note::Elected("red", 5, 30, 2)),
-    ];
-    opens_with(&rt, 1, &first, &[("red", 5, 30, 2)]);
-    let second = [
-        Op::Stand("red", 5, 30),
-        Op::Take(0, Note::Token("red", 5, 10, 1)),
-        Op::Take(1, Note::Token("red", 5, 20, 3)),
-        Op::Take(2, Note::Token("red", 5, 30, 2)),
-        Op::Take(3, Note::Elected("red", 5, 30, 2)),
-    ];
-    opens_with(&rt, 2, &second, &[("red", 5, 30, 2)]);
-}
+const ANNOUNCED: Note = Note::Elected("red", 5, 30, 2);
 
-#[test]
-fn order_of_keys(rt: HostRuntime) {
-    let announced = [
-        Op::Stand("red", 5, 10),
-        Op::Take(0, Note::Elected("red", 9, 7, 3)),
-        Op::Take(1, Note::Elected("red", 5, 30, 2)),
-        Op::Take(2, Note::Elected("blue", 12, 1, 2)),
-        Op::Take(3, Note::Elected("reds", 1, 4, 3)),
-    ];
-    let leads = [
-        ("blue", 12, 1, 2),
-        ("red", 5, 30, 2),
-        ("red", 9, 7, 3),
-        ("reds", 1, 4, 3),
-    ];
-    opens_with(&rt, 1, &announced, &leads);
-}
-
-#[test]
-fn first_leader_of_a_key(rt: HostRuntime) {
-    let announced = [
-        Op::Stand("red", 5, 10),
-        Op::Take(0, Note::Elected("red", 9, 7, 3)),
-        Op::Take(1, Note::Elected("red", 5, 30, 2)),
-        Op::Take(2, Note::Elected("red", 9, 8, 2)),
-    ];
-    let leads = [("red", 5, 30, 2), ("red", 9, 7, 3)];
-    opens_with(&rt, 1, &announced, &leads);
-}
+const LEADER_WAITS: [Step; 9] = [
+    Knows(None),
+    Asks(Ask::Take(0, ANNOUNCED), 1),
+    Knows(Some((30, 2))),
+    Decides(&[]),
+    Launches(1),
+    Decides(&[]),
+    Lands(1, &[Carry(0, ANNOUNCED), Credit(1)], &[RED]),
+    Decides(&[RED]),
+    Redeems(0, Say::Taken),
+];
 
 #[test]
 fn leader_that_waits(rt: HostRuntime) {
-    let announced = Note::Elected("red", 5, 30, 2);
-    let leads = [("red", 5, 30, 2)];
-    let red = key("red", 5).expect(&rt, "a key");
-    let leader = candidate(30, 2).expect(&rt, "a candidate");
-    let mut station = station_of(&rt, 1, &[]);
-    assert_eq!(rt; station.desk.who(&red), None);
-    let taken = asks(&rt, &mut station.desk, Ask::Take(0, announced), 1);
-    assert_eq!(rt; station.desk.who(&red), Some(leader));
-    decides(&rt, &station.desk, &[]);
-    let receipt = launches(&rt, &mut station, 1);
-    decides(&rt, &station.desk, &[]);
-    let sends = [Carry(0, announced), Credit(1)];
-    lands(&rt, &mut station.desk, receipt, 1, &sends, &leads);
-    decides(&rt, &station.desk, &leads);
-    redeems(&rt, &mut station.desk, taken, Say::Taken);
+    plays(&rt, 1, &[], &LEADER_WAITS);
 }

@@ -1,44 +1,49 @@
 // What is refused, in which order, and whose tickets.
+use super::Step::{Asks, Closes, Forfeits, Redeems, Refuses, Returns};
 use super::*;
 
-/// Where the opening of a desk with these inputs is refused.
-fn unlawful<R: Abort + AllocGlobal>(rt: &R, ops: &[Op], place: u64) {
-    let opening = opening_of(rt, ops);
-    let desk = Desk::open(rt.alloc(), node(rt, 1), 3, 4096, 0, opening);
-    assert_eq!(rt; desk.err(), Some(Refusal::Unlawful(place)));
-}
+/// What a desk does not open with, and where it is refused.
+const UNLAWFUL: [(&'static [Op], u64); 3] = [
+    (&[STOOD, STOOD], 1),
+    (&[Op::Acked(1)], 0),
+    (&[Op::Take(0, Note::Token("red", 5, 20, 2)), STOOD], 1),
+];
 
 #[test]
 fn unlawful_inputs(rt: HostRuntime) {
-    let stand = Op::Stand("red", 5, 10);
-    unlawful(&rt, &[stand, stand], 1);
-    unlawful(&rt, &[Op::Acked(1)], 0);
-    let late = [Op::Take(0, Note::Token("red", 5, 20, 2)), stand];
-    unlawful(&rt, &late, 1);
+    for (ops, place) in UNLAWFUL {
+        let opening = opening_of(&rt, ops);
+        let desk = Desk::open(rt.alloc(), node(&rt, 1), 3, 4096, 0, opening);
+        assert_eq!(rt; desk.err(), Some(Refusal::Unlawful(place)));
+    }
 }
+
+const OUTSIDE: Ask = Ask::Take(0, Note::Token("red", 5, 20, 4));
+
+const NODE_OUTSIDE: [Step; 3] = [
+    Refuses(OUTSIDE, No::BadNumber),
+    Closes,
+    Refuses(OUTSIDE, No::Failed),
+];
 
 #[test]
 fn a_node_outside(rt: HostRuntime) {
-    let outside = Ask::Take(0, Note::Token("red", 5, 20, 4));
-    let mut desk = opened(&rt, &[]);
-    refuses(&rt, &mut desk, outside, Refusal::BadNumber);
-    assert_eq!(rt; desk.open_tickets(), 0);
-    assert!(rt; desk.is_open());
-    desk.close();
-    refuses(&rt, &mut desk, outside, Refusal::Failed);
+    plays(&rt, 1, &[], &NODE_OUTSIDE);
 }
+
+const NO_REQUESTS: [Step; 7] = [
+    Asks(WHO, 0),
+    Asks(STAND, 1),
+    Closes,
+    Refuses(WHO, No::Failed),
+    Redeems(0, Say::Nobody),
+    Returns(0, No::Early),
+    Forfeits(0),
+];
 
 #[test]
 fn closed(rt: HostRuntime) {
-    let mut desk = opened(&rt, &[]);
-    let who = asks(&rt, &mut desk, Ask::Who("red", 5), 0);
-    let stood = asks(&rt, &mut desk, Ask::Stand("red", 5, 10), 1);
-    desk.close();
-    assert!(rt; !desk.is_open());
-    refuses(&rt, &mut desk, Ask::Who("red", 5), Refusal::Failed);
-    redeems(&rt, &mut desk, who, Say::Nobody);
-    let stood = comes_back(&rt, &mut desk, stood, Refusal::Early);
-    forfeits(&rt, &mut desk, stood);
+    plays(&rt, 1, &[], &NO_REQUESTS);
 }
 
 /// Once closed, the desk does not end the ticket, which is not of it and comes back.
@@ -53,54 +58,68 @@ fn holds_no(rt: &impl Abort, desk: &mut Desk, ticket: Ticket) -> Ticket {
     }
 }
 
-/// Another desk does not know the ticket, of a question that rests on nothing; its own desk still redeems it.
-fn is_foreign(rt: &impl Abort, own: &mut Desk, other: &mut Desk) {
-    let ticket = asks(rt, own, Ask::Who("red", 5), 0);
-    let ticket = comes_back(rt, other, ticket, Refusal::Foreign);
-    let ticket = holds_no(rt, other, ticket);
-    redeems(rt, own, ticket, Say::Nobody);
+/// The desk does not know the ticket, neither while it is open nor once it is closed.
+fn does_not_know(rt: &impl Abort, desk: &mut Desk, ticket: Ticket) -> Ticket {
+    let ticket = comes_back(rt, desk, ticket, Refusal::Foreign);
+    holds_no(rt, desk, ticket)
 }
 
-/// The other desk keeps a reply for its own ticket of the same number.
-fn is_foreign_beside(rt: &impl Abort, own: &mut Desk, other: &mut Desk, ask: Ask, say: Say) {
-    let here = asks(rt, other, ask, 0);
-    is_foreign(rt, own, other);
-    redeems(rt, other, here, say);
+/// Its name, the opening of node 1 whose ticket is tried, the node whose desk does not know it, what that was asked
+/// before, and what follows there.
+type Row = (&'static str, u64, u8, &'static [Step], &'static [Step]);
+
+const OTHERS: [Row; 5] = [
+    (
+        "another opening",
+        1,
+        1,
+        &[Asks(WHO, 0)],
+        &[Redeems(0, Say::Nobody)],
+    ),
+    (
+        "another node",
+        0,
+        2,
+        &[Asks(WHO, 0)],
+        &[Redeems(0, Say::Nobody)],
+    ),
+    (
+        "another question",
+        0,
+        1,
+        &[Asks(LATEST, 0)],
+        &[Redeems(0, Say::NoTerm)],
+    ),
+    (
+        "a number that was redeemed",
+        0,
+        1,
+        &[Asks(WHO, 0), Redeems(0, Say::Nobody)],
+        &[],
+    ),
+    ("a number that was not given", 0, 1, &[], &[]),
+];
+
+/// The ticket, of a question that rests on nothing, is foreign to the other desk; its own desk still redeems it.
+fn is_foreign<R: Abort + AllocGlobal>(rt: &R, row: &Row) {
+    let (name, run, number, before, behind) = *row;
+    let mut own = station_of(rt, 1, run, &[]);
+    let mut other = station_of(rt, number, 0, &[]);
+    other.plays(rt, before);
+    own.asks(rt, WHO, 0);
+    let ticket = own.takes_out(rt, 0);
+    let ticket = does_not_know(rt, &mut other.desk, ticket);
+    assert_eq!(rt; own.desk.open_tickets(), 1, "{name}");
+    own.keeps(rt, 0, ticket);
+    own.redeems(rt, 0, Say::Nobody);
+    other.plays(rt, behind);
+    own.ends(rt);
+    other.ends(rt);
 }
 
 #[test]
-fn another_opening(rt: HostRuntime) {
-    let mut own = opened_as(&rt, 1, 1, &[]);
-    let mut other = opened(&rt, &[]);
-    is_foreign_beside(&rt, &mut own, &mut other, Ask::Who("red", 5), Say::Nobody);
-}
-
-#[test]
-fn another_node(rt: HostRuntime) {
-    let mut own = opened(&rt, &[]);
-    let mut other = opened_as(&rt, 2, 0, &[]);
-    is_foreign_beside(&rt, &mut own, &mut other, Ask::Who("red", 5), Say::Nobody);
-}
-
-#[test]
-fn another_question(rt: HostRuntime) {
-    let mut own = opened(&rt, &[]);
-    let mut other = opened(&rt, &[]);
-    is_foreign_beside(&rt, &mut own, &mut other, Ask::Latest("red"), Say::NoTerm);
-}
-
-#[test]
-fn a_number_that_was_redeemed(rt: HostRuntime) {
-    let mut own = opened(&rt, &[]);
-    let mut other = opened(&rt, &[]);
-    let spent = asks(&rt, &mut other, Ask::Who("red", 5), 0);
-    redeems(&rt, &mut other, spent, Say::Nobody);
-    is_foreign(&rt, &mut own, &mut other);
-}
-
-#[test]
-fn a_number_that_was_not_given(rt: HostRuntime) {
-    let mut own = opened(&rt, &[]);
-    let mut other = opened(&rt, &[]);
-    is_foreign(&rt, &mut own, &mut other);
+fn tickets_of_another_desk(rt: HostRuntime) {
+    for row in &OTHERS {
+        is_foreign(&rt, row);
+    }
 }

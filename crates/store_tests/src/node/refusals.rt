@@ -1,4 +1,5 @@
 // What is refused, with the device handed back.
+use super::Step::{Asks, Closes, Flushes, IsOpen, Redeems, TakesNo};
 use super::*;
 use crate::journal::{commits, journal_of};
 use crate::rows::inputs;
@@ -6,36 +7,43 @@ use disk_model::Device;
 use gated_journal::Batch;
 use test_rows::Op;
 
+/// A node of this number, ring and capacity is not made on the device, for this cause. How many bytes the device has
+/// then, and how many of its calls failed.
+fn is_not_made(
+    rt: &(impl Abort + AllocGlobal),
+    device: FuseDevice<MemDevice>,
+    row: (u8, u8, u32),
+    cause: Refusal,
+) -> (u64, u64) {
+    let (number, n, capacity) = row;
+    match Node::create(rt.alloc(), device, node(rt, number), n, capacity, 0) {
+        Ok(_made) => panic!(rt; "created"),
+        Err((device, refusal)) => {
+            assert_eq!(rt; refusal, cause);
+            (device.size(), device.failures())
+        }
+    }
+}
+
 #[test]
 fn nodes_and_capacities_out_of_range(rt: HostRuntime) {
-    for (number, n, capacity) in [
+    for row in [
         (1, 1, 4096),
         (1, 17, 4096),
         (4, 3, 4096),
         (1, 3, 4095),
         (1, 3, 1_048_577),
     ] {
-        let device = empty_device(&rt);
-        match Node::create(rt.alloc(), device, node(&rt, number), n, capacity, 0) {
-            Ok(_made) => panic!(&rt; "created"),
-            Err((device, refusal)) => {
-                assert_eq!(rt; refusal, Refusal::BadNumber);
-                assert_eq!(rt; device.size(), 0);
-            }
-        }
+        let left = is_not_made(&rt, empty_device(&rt), row, Refusal::BadNumber);
+        assert_eq!(rt; left, (0, 0));
     }
 }
 
 #[test]
 fn a_device_that_fails_as_a_node_is_made(rt: HostRuntime) {
     let device = FuseDevice::new(empty_device(&rt).into_inner(), 0, true);
-    match Node::create(rt.alloc(), device, node(&rt, 1), 3, 4096, 0) {
-        Ok(_made) => panic!(&rt; "created"),
-        Err((device, refusal)) => {
-            assert_eq!(rt; refusal, Refusal::Device(1));
-            assert_eq!(rt; device.failures(), 1);
-        }
-    }
+    let left = is_not_made(&rt, device, (1, 3, 4096), Refusal::Device(1));
+    assert_eq!(rt; left.1, 1);
 }
 
 /// The node is not recovered for this cause, each time that the device is tried.
@@ -46,7 +54,9 @@ fn refuses<R: Abort + AllocGlobal>(
     n: u8,
     cause: Refusal,
 ) -> FuseDevice<MemDevice> {
-    match Node::recover(rt.alloc(), device, node(rt, number), n, 1) {
+    let node = node(rt, number);
+    assert!(rt; node.number() <= n);
+    match Node::recover(rt.alloc(), device, node, n, 1) {
         Ok(_made) => panic!(rt; "recovered"),
         Err((device, refusal)) => {
             assert_eq!(rt; refusal, cause);
@@ -61,34 +71,44 @@ fn nothing_was_formatted(rt: HostRuntime) {
     refuses(&rt, device, 1, 3, Refusal::NotFormatted);
 }
 
-#[test]
-fn another_node_or_ring(rt: HostRuntime) {
-    let mut made = created(&rt, 1, 3);
-    made.close();
-    let device = refuses(&rt, ended(&rt, made), 2, 3, Refusal::WrongNode);
-    let device = refuses(&rt, device, 1, 4, Refusal::WrongNode);
-    assert_eq!(rt; counts(&recovered(&rt, device, 1)), (0, 0));
-}
-
-/// A new node is not recovered where this byte of its device is another, for this cause.
-fn refuses_changed<R: Abort + AllocGlobal>(rt: &R, at: u64, byte: u8, cause: Refusal) {
+/// The device of a new node.
+fn new_device<R: Abort + AllocGlobal>(rt: &R) -> FuseDevice<MemDevice> {
     let mut made = created(rt, 1, 3);
     made.close();
-    let mut device = ended(rt, made);
-    assert!(rt; device.write_at(at, &[byte]).is_ok());
-    refuses(rt, device, 1, 3, cause);
+    ended(rt, made)
 }
+
+/// The device holds a new node.
+fn holds_a_node<R: Abort + AllocGlobal>(rt: &R, device: FuseDevice<MemDevice>) {
+    assert_eq!(rt; counts(&recovered(rt, device, 1)), (0, 0));
+}
+
+#[test]
+fn another_node_or_ring(rt: HostRuntime) {
+    let device = refuses(&rt, new_device(&rt), 2, 3, Refusal::WrongNode);
+    let device = refuses(&rt, device, 1, 4, Refusal::WrongNode);
+    holds_a_node(&rt, device);
+}
+
+/// The offset of a byte of a new node's device, another byte, and why the node is not recovered with that.
+const CHANGES: [(u64, u8, Refusal); 6] = [
+    // The mark of a journal without areas, and a capacity that is none.
+    (7, 0x31, Refusal::OldLayout(1)),
+    (10, 1, Refusal::Damaged(10)),
+    // The gate, the layout and the snapshot of the one area, and an open gate with no frame behind it.
+    (16, 0, Refusal::Damaged(16)),
+    (17, 1, Refusal::Damaged(16)),
+    (30, 2, Refusal::Damaged(16)),
+    (68, 1, Refusal::Damaged(68)),
+];
 
 #[test]
 fn bytes_that_changed(rt: HostRuntime) {
-    // The mark of a journal without areas, and a capacity that is none.
-    refuses_changed(&rt, 7, 0x31, Refusal::OldLayout(1));
-    refuses_changed(&rt, 10, 1, Refusal::Damaged(10));
-    // The gate, the layout and the snapshot of the one area, and an open gate with no frame behind it.
-    refuses_changed(&rt, 16, 0, Refusal::Damaged(16));
-    refuses_changed(&rt, 17, 1, Refusal::Damaged(16));
-    refuses_changed(&rt, 30, 2, Refusal::Damaged(16));
-    refuses_changed(&rt, 68, 1, Refusal::Damaged(68));
+    for (at, byte, cause) in CHANGES {
+        let mut device = new_device(&rt);
+        assert!(rt; device.write_at(at, &[byte]).is_ok());
+        refuses(&rt, device, 1, 3, cause);
+    }
 }
 
 /// A device whose journal, of node 1 of 3, holds one credit of a message that was never sent.
@@ -109,31 +129,23 @@ fn inputs_that_are_not_lawful(rt: HostRuntime) {
 #[test]
 fn a_device_that_fails_as_a_node_is_recovered(rt: HostRuntime) {
     for after in 0..3 {
-        let mut made = created(&rt, 1, 3);
-        made.close();
-        let device = FuseDevice::new(ended(&rt, made).into_inner(), after, true);
+        let device = FuseDevice::new(new_device(&rt).into_inner(), after, true);
         let device = refuses(&rt, device, 1, 3, Refusal::Device(1));
-        assert_eq!(rt; counts(&recovered(&rt, device, 1)), (0, 0));
+        holds_a_node(&rt, device);
     }
 }
 
-/// No ticket is given for the request, since the node is closed.
-fn takes_no(rt: &impl Abort, made: &mut Stored, ask: Ask) {
-    let question = request(rt, ask);
-    match made.submit(question) {
-        Ok(_ticket) => panic!(rt; "a ticket"),
-        Err(refusal) => assert_eq!(rt; refusal, Refusal::Failed),
-    }
-}
+const CLOSED: [Step; 6] = [
+    Asks(STAND, 1),
+    IsOpen(true),
+    Closes,
+    TakesNo(WHO),
+    Flushes(1, &[SENT], &[]),
+    Redeems(0, Say::Stood),
+];
 
 #[test]
 fn a_closed_node_takes_no_requests(rt: HostRuntime) {
-    let mut made = created(&rt, 1, 3);
-    let stood = asks(&rt, &mut made, Ask::Stand("red", 5, 10), 1);
-    assert!(rt; made.is_open());
-    made.close();
-    takes_no(&rt, &mut made, Ask::Who("red", 5));
-    flushes(&rt, &mut made, 1);
-    redeems(&rt, &mut made, stood, Say::Stood);
+    let mut made = lives(&rt, created(&rt, 1, 3), &CLOSED);
     takes_no(&rt, &mut made, Ask::Take(0, Note::Token("red", 5, 10, 4)));
 }

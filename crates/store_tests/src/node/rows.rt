@@ -1,92 +1,89 @@
 // The worked rows, by calls.
+use super::Step::{Asks, Flushes, Forfeits, Has, IsOpen, Redeems, Returns};
 use super::*;
-use test_rows::Sends::{Carry, Credit};
+use test_rows::Sends::Credit;
 
-/// The first message of node 1, and as it is sent on.
-const TOKEN: Note = Note::Token("red", 5, 10, 1);
+const TAKE: Ask = Ask::Take(0, TOKEN);
 
-const SENT: Sends = Carry(0, TOKEN);
+/// Node 1 stands, and sends its message once that is durable; then that is credited.
+const FIRST: [Step; 9] = [
+    Asks(STAND, 1),
+    Returns(0, No::Early),
+    Flushes(1, &[SENT], &[]),
+    Redeems(0, Say::Stood),
+    Asks(Ask::Acked(1), 2),
+    Returns(0, No::Early),
+    Flushes(1, &[], &[]),
+    Redeems(0, Say::Acked),
+    Has(0, 2, 2),
+];
 
-/// So many inputs become durable, and release these packets and no decision.
-fn sends(rt: &impl Abort, made: &mut Stored, count: u32, sends: &[Sends]) {
-    let landed = flushes(rt, made, count);
-    sends_are(rt, &landed.packets, sends);
-    leads_are(rt, &landed.decisions, &[]);
-}
-
-/// Node 1, whose one input, a Stand, is durable.
-fn stood<R: Abort + AllocGlobal>(rt: &R) -> Stored {
-    let mut first = created(rt, 1, 3);
-    let stood = asks(rt, &mut first, Ask::Stand("red", 5, 10), 1);
-    let stood = comes_back(rt, &mut first, stood, Refusal::Early);
-    sends(rt, &mut first, 1, &[SENT]);
-    redeems(rt, &mut first, stood, Say::Stood);
-    first
-}
+/// Node 2 takes that message, and sends it on once that is durable.
+const RELAYS: [Step; 9] = [
+    Asks(TAKE, 1),
+    Asks(Ask::Stand("red", 5, 40), 1),
+    Returns(0, No::Early),
+    Returns(1, No::Early),
+    Flushes(1, &[SENT, Credit(1)], &[]),
+    Redeems(0, Say::Taken),
+    Redeems(0, Say::Refused(Cause::Late)),
+    Flushes(0, &[], &[]),
+    IsOpen(true),
+];
 
 #[test]
 fn late_after_relay(rt: HostRuntime) {
-    let _ = stood(&rt);
-    let mut second = created(&rt, 2, 3);
-    let taken = asks(&rt, &mut second, Ask::Take(0, TOKEN), 1);
-    let late = asks(&rt, &mut second, Ask::Stand("red", 5, 40), 1);
-    let taken = comes_back(&rt, &mut second, taken, Refusal::Early);
-    let late = comes_back(&rt, &mut second, late, Refusal::Early);
-    sends(&rt, &mut second, 1, &[SENT, Credit(1)]);
-    redeems(&rt, &mut second, taken, Say::Taken);
-    redeems(&rt, &mut second, late, Say::Refused(Cause::Late));
-    sends(&rt, &mut second, 0, &[]);
-    assert!(rt; second.is_open());
+    lives(&rt, created(&rt, 1, 3), &FIRST);
+    lives(&rt, created(&rt, 2, 3), &RELAYS);
 }
 
-/// Node 2 after a crash, which lost the first message of node 1.
-fn lost<R: Abort + AllocGlobal>(rt: &R) -> Stored {
-    let mut second = created(rt, 2, 3);
-    let lost = asks(rt, &mut second, Ask::Take(0, TOKEN), 1);
-    let lost = comes_back(rt, &mut second, lost, Refusal::Early);
-    forfeits(rt, &mut second, lost);
-    let second = stopped(rt, second, Tear::Old, 2);
-    assert_eq!(rt; counts(&second), (0, 0));
-    second
-}
+/// Node 2 takes that message, and crashes before it is durable.
+const LOSES: [Step; 3] = [Asks(TAKE, 1), Returns(0, No::Early), Forfeits(0)];
 
-/// Node 2 takes the message, and credits it once that is durable.
-fn takes(rt: &impl Abort, second: &mut Stored) {
-    let taken = asks(rt, second, Ask::Take(0, TOKEN), 1);
-    sends(rt, second, 1, &[SENT, Credit(1)]);
-    redeems(rt, second, taken, Say::Taken);
-}
+/// It takes the message again, and credits it once that is durable.
+const TAKES: [Step; 4] = [
+    Has(0, 0, 0),
+    Asks(TAKE, 1),
+    Flushes(1, &[SENT, Credit(1)], &[]),
+    Redeems(0, Say::Taken),
+];
 
 #[test]
 fn credit_after_sync(rt: HostRuntime) {
-    let mut first = stood(&rt);
-    takes(&rt, &mut lost(&rt));
-    let acked = asks(&rt, &mut first, Ask::Acked(1), 2);
-    let acked = comes_back(&rt, &mut first, acked, Refusal::Early);
-    sends(&rt, &mut first, 1, &[]);
-    redeems(&rt, &mut first, acked, Say::Acked);
-    assert_eq!(rt; counts(&first), (2, 2));
+    outlives(&rt, 2, &LOSES, Tear::Old, &TAKES);
+    lives(&rt, created(&rt, 1, 3), &FIRST);
 }
 
-/// The tickets of Stands for this term and all later ones, up to 65, of which only the last waits for the second batch.
-fn stands_up_to_65(rt: &impl Abort, made: &mut Stored, term: u32) {
-    let ticket = asks(rt, made, Ask::Stand("red", term, 1), u64::from(term));
-    let ticket = comes_back(rt, made, ticket, Refusal::Early);
-    let ticket = if term < 65 {
-        stands_up_to_65(rt, made, term + 1);
-        ticket
-    } else {
-        flushes(rt, made, 64);
-        let early = comes_back(rt, made, ticket, Refusal::Early);
-        flushes(rt, made, 1);
-        early
-    };
-    redeems(rt, made, ticket, Say::Stood);
+/// The node is asked to stand for each term from 1 to 65.
+fn stands_for_65(rt: &impl Abort, rig: &mut Rig) {
+    for term in 1..66 {
+        rig.asks(rt, Ask::Stand("red", term, 1), u64::from(term));
+    }
+}
+
+/// None of so many tickets is redeemed yet.
+fn all_wait(rt: &impl Abort, rig: &mut Rig, count: usize) {
+    for place in 0..count {
+        rig.returns(rt, place, No::Early);
+    }
+}
+
+/// So many of the oldest tickets are redeemed.
+fn have_stood(rt: &impl Abort, rig: &mut Rig, count: usize) {
+    for _ in 0..count {
+        rig.redeems(rt, 0, Say::Stood);
+    }
 }
 
 #[test]
 fn batches_of_64(rt: HostRuntime) {
-    let mut made = created(&rt, 1, 2);
-    stands_up_to_65(&rt, &mut made, 1);
-    assert_eq!(rt; counts(&made), (65, 65));
+    let mut rig = Rig::new(rt.alloc(), created(&rt, 1, 2));
+    stands_for_65(&rt, &mut rig);
+    all_wait(&rt, &mut rig, 65);
+    flushes(&rt, &mut rig.made, 64);
+    rig.returns(&rt, 64, No::Early);
+    have_stood(&rt, &mut rig, 64);
+    flushes(&rt, &mut rig.made, 1);
+    have_stood(&rt, &mut rig, 1);
+    assert_eq!(rt; counts(&rig.end(&rt)), (65, 65));
 }

@@ -1,55 +1,66 @@
 // A stop within a flush, and what the node remembers.
+use super::Step::{Arms, Asks, Fails, Flushes, Forfeits, Has, IsOpen, Redeems, Returns};
 use super::*;
+use test_rows::Sends::Credit;
 
-const STAND: Ask = Ask::Stand("red", 5, 10);
-/// A message of node 1.
-const TOKEN: Note = Note::Token("red", 5, 10, 1);
-
-/// The node that a stop leaves which comes upon the flush of one Stand, at the call of its device behind so many.
-fn stops_at<R: Abort + AllocGlobal>(rt: &R, passed: u64, tear: Tear) -> Stored {
-    let mut made = created(rt, 1, 3);
-    let ticket = asks(rt, &mut made, STAND, 1);
-    made.arm(passed, true);
-    assert_eq!(rt; made.flush().err(), Some(Refusal::Device(1)));
-    assert!(rt; !made.is_open());
-    assert_eq!(rt; made.flush().err(), Some(Refusal::Failed));
-    let ticket = comes_back(rt, &mut made, ticket, Refusal::Failed);
-    forfeits(rt, &mut made, ticket);
-    stopped(rt, made, tear, 1)
+/// A stop comes upon the flush of one Stand, at the call of its device behind so many, with this tear; and this is done
+/// with what it leaves.
+fn stops_at<R: Abort + AllocGlobal>(rt: &R, passed: u64, tear: Tear, behind: &[Step]) {
+    let before = [
+        Asks(STAND, 1),
+        Arms(passed),
+        Fails(No::Device),
+        IsOpen(false),
+        Fails(No::Failed),
+        Returns(0, No::Failed),
+        Forfeits(0),
+    ];
+    outlives(rt, 1, &before, tear, behind);
 }
+
+const KEPT: [Step; 3] = [
+    Has(0, 1, 1),
+    Asks(STAND, 1),
+    Redeems(0, Say::Refused(Cause::Already(10))),
+];
 
 #[test]
 fn stopped_at_the_gate(rt: HostRuntime) {
-    let mut made = stops_at(&rt, 2, Tear::Fill(1));
-    assert_eq!(rt; counts(&made), (1, 1));
-    let again = asks(&rt, &mut made, STAND, 1);
-    redeems(&rt, &mut made, again, Say::Refused(Cause::Already(10)));
+    stops_at(&rt, 2, Tear::Fill(1), &KEPT);
 }
+
+const LOST: [Step; 5] = [
+    Has(0, 0, 0),
+    Asks(STAND, 1),
+    Returns(0, No::Early),
+    Flushes(1, &[SENT], &[]),
+    Redeems(0, Say::Stood),
+];
 
 #[test]
 fn stopped_before_the_gate(rt: HostRuntime) {
     for (passed, tear) in [(0, Tear::Fill(1)), (3, Tear::Fill(7))] {
-        let mut made = stops_at(&rt, passed, tear);
-        assert_eq!(rt; counts(&made), (0, 0));
-        let again = asks(&rt, &mut made, STAND, 1);
-        let again = comes_back(&rt, &mut made, again, Refusal::Early);
-        flushes(&rt, &mut made, 1);
-        redeems(&rt, &mut made, again, Say::Stood);
+        stops_at(&rt, passed, tear, &LOST);
     }
 }
 
+const RELAYS: [Step; 3] = [
+    Asks(Ask::Take(0, TOKEN), 1),
+    Flushes(1, &[SENT, Credit(1)], &[]),
+    Redeems(0, Say::Taken),
+];
+
+const REMEMBERS: [Step; 5] = [
+    Has(0, 1, 1),
+    Asks(Ask::Stand("red", 5, 40), 1),
+    Redeems(0, Say::Refused(Cause::Late)),
+    Asks(Ask::Take(0, TOKEN), 1),
+    Redeems(0, Say::Refused(Cause::Old(1))),
+];
+
 #[test]
 fn a_relay_outlives_a_stop(rt: HostRuntime) {
-    let mut made = created(&rt, 2, 3);
-    let taken = asks(&rt, &mut made, Ask::Take(0, TOKEN), 1);
-    flushes(&rt, &mut made, 1);
-    redeems(&rt, &mut made, taken, Say::Taken);
-    let mut made = stopped(&rt, made, Tear::Old, 2);
-    assert_eq!(rt; counts(&made), (1, 1));
-    let late = asks(&rt, &mut made, Ask::Stand("red", 5, 40), 1);
-    redeems(&rt, &mut made, late, Say::Refused(Cause::Late));
-    let next = asks(&rt, &mut made, Ask::Take(0, TOKEN), 1);
-    redeems(&rt, &mut made, next, Say::Refused(Cause::Old(1)));
+    outlives(&rt, 2, &RELAYS, Tear::Old, &REMEMBERS);
 }
 
 /// Once closed, the node does not end the ticket, which is not of it and comes back.
@@ -65,14 +76,20 @@ fn holds_no(rt: &impl Abort, made: &mut Stored, ticket: Ticket) -> Ticket {
     }
 }
 
+/// The node, which has a ticket of its own, does not know this one of the opening before.
+fn does_not_know<R: Abort + AllocGlobal>(rt: &R, ticket: Ticket) -> Ticket {
+    let mut again = stopped(rt, created(rt, 1, 3), Tear::New, 1);
+    let here = asks(rt, &mut again, WHO, 0);
+    let ticket = comes_back(rt, &mut again, ticket, Refusal::Foreign);
+    let ticket = holds_no(rt, &mut again, ticket);
+    redeems(rt, &mut again, here, Say::Nobody);
+    ticket
+}
+
 #[test]
 fn a_ticket_of_the_opening_before_is_foreign(rt: HostRuntime) {
     let mut made = created(&rt, 1, 3);
-    let who = asks(&rt, &mut made, Ask::Who("red", 5), 0);
-    let mut again = stopped(&rt, created(&rt, 1, 3), Tear::New, 1);
-    let here = asks(&rt, &mut again, Ask::Who("red", 5), 0);
-    let who = comes_back(&rt, &mut again, who, Refusal::Foreign);
-    let who = holds_no(&rt, &mut again, who);
+    let who = asks(&rt, &mut made, WHO, 0);
+    let who = does_not_know(&rt, who);
     redeems(&rt, &mut made, who, Say::Nobody);
-    redeems(&rt, &mut again, here, Say::Nobody);
 }

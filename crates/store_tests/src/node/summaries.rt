@@ -1,4 +1,5 @@
 // Nodes that go on from a summary: over a device whose journal holds a snapshot, and inputs behind it.
+use super::Step::{Asks, Flushes, Has, Redeems, Returns, Window};
 use super::*;
 use crate::journal::{checkpoints, commits, journal_of};
 use crate::rows::inputs;
@@ -21,7 +22,7 @@ const OF_NONE: [u8; 52] = [
     3, 0, 0, 0, 0, 0, 1, 3, 0x72, 0x65, 0x64, 0, 0, 0, 5, 2, 0, 0, 0, 30, 2,
 ];
 
-const TOKEN: Note = Note::Token("red", 5, 20, 3);
+const SECOND: Note = Note::Token("red", 5, 20, 3);
 
 const ANNOUNCED: Note = Note::Elected("red", 5, 30, 2);
 
@@ -41,89 +42,102 @@ fn summarised<R: Abort + AllocGlobal>(
     journal.into_device()
 }
 
-/// How many inputs the node's summary stands for, how many it has behind that, and how many are durable, of all.
-fn told(made: &Stored) -> (u64, usize, u64) {
-    (made.desk().first(), made.history().len(), made.durable())
-}
+/// What a node is recovered with, a snapshot and inputs behind it, and what is done with it then.
+type Row = (&'static [u8], &'static [Op], &'static [Step]);
 
-/// A node that is recovered with this snapshot, and with these inputs behind it, tells this. What it is asked it answers
-/// at once, by all of these inputs.
-fn goes_on<R: Abort + AllocGlobal>(
-    rt: &R,
-    snapshot: &[u8],
-    ops: &[Op],
-    counted: (u64, usize, u64),
-    ask: Ask,
-    say: Say,
-) {
-    let mut made = recovered(rt, summarised(rt, snapshot, ops), 1);
-    assert_eq!(rt; told(&made), counted);
-    let ticket = asks(rt, &mut made, ask, counted.2);
-    redeems(rt, &mut made, ticket, say);
+const ROWS: [Row; 4] = [
+    (
+        &STOOD,
+        &[],
+        &[
+            Has(1, 0, 1),
+            Asks(Ask::Stand("red", 5, 20), 1),
+            Redeems(0, Say::Refused(Cause::Already(10))),
+        ],
+    ),
+    (
+        &STOOD,
+        &[Op::Take(0, SECOND)],
+        &[
+            Has(1, 1, 2),
+            Asks(Ask::Take(0, SECOND), 2),
+            Redeems(0, Say::Refused(Cause::Old(1))),
+        ],
+    ),
+    (
+        &OF_NONE,
+        &[],
+        &[
+            Has(1000, 0, 1000),
+            Asks(WHO, 1000),
+            Redeems(0, Say::Leader(30, 2)),
+        ],
+    ),
+    (
+        &OF_NONE,
+        &[Op::Take(7, SECOND)],
+        &[
+            Has(1000, 1, 1001),
+            Asks(Ask::Take(9, SECOND), 1001),
+            Redeems(0, Say::Refused(Cause::Gap(8))),
+        ],
+    ),
+];
+
+/// Node 1, recovered with this snapshot and these inputs behind it, goes on so.
+fn goes_on<R: Abort + AllocGlobal>(rt: &R, snapshot: &[u8], ops: &[Op], steps: &[Step]) -> Stored {
+    let device = summarised(rt, snapshot, ops);
+    lives(rt, recovered(rt, device, 1), steps)
 }
 
 #[test]
 fn goes_on_from_the_summary(rt: HostRuntime) {
-    let again = Ask::Stand("red", 5, 20);
-    let already = Say::Refused(Cause::Already(10));
-    goes_on(&rt, &STOOD, &[], (1, 0, 1), again, already);
-    let old = Say::Refused(Cause::Old(1));
-    let taken = [Op::Take(0, TOKEN)];
-    goes_on(&rt, &STOOD, &taken, (1, 1, 2), Ask::Take(0, TOKEN), old);
+    for (snapshot, ops, steps) in ROWS {
+        goes_on(&rt, snapshot, ops, steps);
+    }
 }
 
-#[test]
-fn goes_on_from_the_summary_of_no_history(rt: HostRuntime) {
-    let who = Ask::Who("red", 5);
-    let leads = Say::Leader(30, 2);
-    goes_on(&rt, &OF_NONE, &[], (1000, 0, 1000), who, leads);
-    let gap = Say::Refused(Cause::Gap(8));
-    let taken = [Op::Take(7, TOKEN)];
-    goes_on(
-        &rt,
-        &OF_NONE,
-        &taken,
-        (1000, 1, 1001),
-        Ask::Take(9, TOKEN),
-        gap,
-    );
-}
+const TAKES: [Step; 4] = [
+    Asks(Ask::Take(1, ANNOUNCED), 3),
+    Returns(0, No::Early),
+    Flushes(1, &[Carry(2, ANNOUNCED), Credit(2)], &[("red", 5, 30, 2)]),
+    Redeems(0, Say::Taken),
+];
+
+const STOPPED: [Step; 2] = [
+    Has(1, 2, 3),
+    Window(&[SENT, Carry(1, SECOND), Carry(2, ANNOUNCED)]),
+];
 
 #[test]
 fn numbers_go_on_behind_a_summary(rt: HostRuntime) {
-    let device = summarised(&rt, &STOOD, &[Op::Take(0, TOKEN)]);
-    let mut made = recovered(&rt, device, 1);
-    let taken = asks(&rt, &mut made, Ask::Take(1, ANNOUNCED), 3);
-    let taken = comes_back(&rt, &mut made, taken, Refusal::Early);
-    let landed = flushes(&rt, &mut made, 1);
-    sends_are(&rt, &landed.packets, &[Carry(2, ANNOUNCED), Credit(2)]);
-    leads_are(&rt, &landed.decisions, &[("red", 5, 30, 2)]);
-    redeems(&rt, &mut made, taken, Say::Taken);
-    let made = stopped(&rt, made, Tear::Old, 1);
-    assert_eq!(rt; told(&made), (1, 2, 3));
-    let window = made.desk().window().expect(&rt, "ample memory");
-    let own = Carry(0, Note::Token("red", 5, 10, 1));
-    sends_are(&rt, &window, &[own, Carry(1, TOKEN), Carry(2, ANNOUNCED)]);
+    let made = goes_on(&rt, &STOOD, &[Op::Take(0, SECOND)], &TAKES);
+    lives(&rt, stopped(&rt, made, Tear::Old, 1), &STOPPED);
 }
 
 /// The node is not recovered for this cause.
 fn refuses<R: Abort + AllocGlobal>(rt: &R, device: FuseDevice<MemDevice>, cause: Refusal) {
-    match Node::recover(rt.alloc(), device, node(rt, 1), 3, 1) {
+    match Node::recover(rt.alloc(), device, NodeNo::first(), 3, 1) {
         Ok(_made) => panic!(rt; "recovered"),
         Err((_device, refusal)) => assert_eq!(rt; refusal, cause),
     }
 }
 
+/// A snapshot, inputs behind it, and which of them is not admitted.
+const UNSENT: [(&'static [u8], &'static [Op], u64); 2] = [
+    (&STOOD, &[Op::Acked(2)], 0),
+    (&OF_NONE, &[Op::Take(7, ANNOUNCED), Op::Acked(5)], 1),
+];
+
 #[test]
 fn inputs_that_a_summary_does_not_admit(rt: HostRuntime) {
-    let unsent = [Op::Acked(2)];
-    refuses(&rt, summarised(&rt, &STOOD, &unsent), Refusal::Unlawful(0));
-    let unsent = [Op::Take(7, ANNOUNCED), Op::Acked(5)];
-    refuses(
-        &rt,
-        summarised(&rt, &OF_NONE, &unsent),
-        Refusal::Unlawful(1),
-    );
+    for (snapshot, ops, place) in UNSENT {
+        refuses(
+            &rt,
+            summarised(&rt, snapshot, ops),
+            Refusal::Unlawful(place),
+        );
+    }
 }
 
 #[test]

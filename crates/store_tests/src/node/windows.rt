@@ -1,44 +1,70 @@
 // What nodes tell at the end of the first election.
+use super::Step::{Asks, Decides, Flushes, Redeems, Window};
 use super::*;
-use test_rows::Sends::Carry;
+use test_rows::Sends::{Carry, Credit};
 
-/// The node accepts the request as its input of this number, and makes it durable.
-fn accepts(rt: &impl Abort, made: &mut Stored, ask: Ask, number: u64, say: Say) {
-    let ticket = asks(rt, made, ask, number);
-    flushes(rt, made, 1);
-    redeems(rt, made, ticket, say);
-}
+const SECOND: Note = Note::Token("red", 5, 30, 2);
 
-/// Node `number` takes these messages after it stood with this bid. Then it may send these again, and it knows that node
-/// 2 leads with bid 30.
-fn knows<R: Abort + AllocGlobal>(rt: &R, number: u8, bid: u32, taken: &[Note], sends: &[Sends]) {
-    let mut made = created(rt, number, 3);
-    accepts(rt, &mut made, Ask::Stand("red", 5, bid), 1, Say::Stood);
-    for (place, note) in taken.iter().enumerate() {
-        let no = place as u64;
-        accepts(rt, &mut made, Ask::Take(no, *note), no + 2, Say::Taken);
-    }
-    let window = made.desk().window().expect(rt, "ample memory");
-    sends_are(rt, &window, sends);
-    let decisions = made.desk().decisions().expect(rt, "ample memory");
-    leads_are(rt, &decisions, &[("red", 5, 30, 2)]);
-}
+const THIRD: Note = Note::Token("red", 5, 20, 3);
+
+const WON: Note = Note::Elected("red", 5, 30, 2);
+
+const LED: [Leads; 1] = [("red", 5, 30, 2)];
+
+const AT_NODE_1: [Step; 14] = [
+    Asks(STAND, 1),
+    Flushes(1, &[SENT], &[]),
+    Redeems(0, Say::Stood),
+    Asks(Ask::Take(0, THIRD), 2),
+    Flushes(1, &[Carry(1, THIRD), Credit(1)], &[]),
+    Redeems(0, Say::Taken),
+    Asks(Ask::Take(1, SECOND), 3),
+    Flushes(1, &[Carry(2, SECOND), Credit(2)], &[]),
+    Redeems(0, Say::Taken),
+    Asks(Ask::Take(2, WON), 4),
+    Flushes(1, &[Carry(3, WON), Credit(3)], &LED),
+    Redeems(0, Say::Taken),
+    Window(&[SENT, Carry(1, THIRD), Carry(2, SECOND), Carry(3, WON)]),
+    Decides(&LED),
+];
+
+const AT_NODE_2: [Step; 17] = [
+    Asks(Ask::Stand("red", 5, 30), 1),
+    Flushes(1, &[Carry(0, SECOND)], &[]),
+    Redeems(0, Say::Stood),
+    Asks(Ask::Take(0, TOKEN), 2),
+    Flushes(1, &[Credit(1)], &[]),
+    Redeems(0, Say::Taken),
+    Asks(Ask::Take(1, THIRD), 3),
+    Flushes(1, &[Credit(2)], &[]),
+    Redeems(0, Say::Taken),
+    Asks(Ask::Take(2, SECOND), 4),
+    Flushes(1, &[Carry(1, WON), Credit(3)], &LED),
+    Redeems(0, Say::Taken),
+    Asks(Ask::Take(3, WON), 5),
+    Flushes(1, &[Credit(4)], &[]),
+    Redeems(0, Say::Taken),
+    Window(&[Carry(0, SECOND), Carry(1, WON)]),
+    Decides(&LED),
+];
+
+const AT_NODE_3: [Step; 11] = [
+    Asks(Ask::Stand("red", 5, 20), 1),
+    Flushes(1, &[Carry(0, THIRD)], &[]),
+    Redeems(0, Say::Stood),
+    Asks(Ask::Take(0, SECOND), 2),
+    Flushes(1, &[Carry(1, SECOND), Credit(1)], &[]),
+    Redeems(0, Say::Taken),
+    Asks(Ask::Take(1, WON), 3),
+    Flushes(1, &[Carry(2, WON), Credit(2)], &LED),
+    Redeems(0, Say::Taken),
+    Window(&[Carry(0, THIRD), Carry(1, SECOND), Carry(2, WON)]),
+    Decides(&LED),
+];
 
 #[test]
 fn copies_and_windows(rt: HostRuntime) {
-    let own = Note::Token("red", 5, 30, 2);
-    let won = Note::Elected("red", 5, 30, 2);
-    let first = Note::Token("red", 5, 10, 1);
-    let third = Note::Token("red", 5, 20, 3);
-    let sends = [
-        Carry(0, first),
-        Carry(1, third),
-        Carry(2, own),
-        Carry(3, won),
-    ];
-    knows(&rt, 1, 10, &[third, own, won], &sends);
-    let sends = [Carry(0, own), Carry(1, won)];
-    knows(&rt, 2, 30, &[first, third, own, won], &sends);
-    let sends = [Carry(0, third), Carry(1, own), Carry(2, won)];
-    knows(&rt, 3, 20, &[own, won], &sends);
+    lives(&rt, created(&rt, 1, 3), &AT_NODE_1);
+    lives(&rt, created(&rt, 2, 3), &AT_NODE_2);
+    lives(&rt, created(&rt, 3, 3), &AT_NODE_3);
 }
