@@ -103,6 +103,19 @@ awk -v idle="$idle" -v half="$half" -v whole="$whole" -v memory="$memory" -v ful
     printf "recovering a full node of 1 MiB: %.4f s\n", (recovered - full) / 10 / 1e9
     printf "100 flushes of a node on a file: %.4f s, %.2f times the same writes and syncs with no node\n", (file - empty) / 1e9, (file - empty) / (bare - empty) }'
 
+# Each time is less that of the same program with no checkpoint.
+echo "bench node checkpoint, a node of 1,024 Stands and 10,000 inputs:"
+idle=$(best /dev/null "$work/counts" "$bench" node checkpoint memory 0)
+memory=$(best /dev/null "$work/counts" "$bench" node checkpoint memory 100)
+ready=$(best /dev/null "$work/counts" "$bench" node checkpoint file 0 "$work/node.bin")
+file=$(best /dev/null "$work/counts" "$bench" node checkpoint file 100 "$work/node.bin")
+empty=$(best /dev/null "$work/counts" "$bench" node checkpoint bare 0 "$work/bare.bin")
+bare=$(best /dev/null "$work/counts" "$bench" node checkpoint bare 100 "$work/bare.bin")
+awk -v idle="$idle" -v memory="$memory" -v ready="$ready" -v file="$file" -v empty="$empty" -v bare="$bare" 'BEGIN {
+    printf "100 checkpoints in memory: %.4f s, %d a second\n", (memory - idle) / 1e9, 100 * 1e9 / (memory - idle)
+    printf "100 checkpoints on a file: %.4f s, %d a second, %.2f times the same bytes and syncs with no node\n",
+        (file - ready) / 1e9, 100 * 1e9 / (file - ready), (file - ready) / (bare - empty) }'
+
 # Each time is less that of the same program with no reads. A publisher publishes as long as there are readers.
 echo "bench board, reads of the latest leader beside a publisher:"
 reads=200000

@@ -1,4 +1,7 @@
-// Durable nodes that take 64 messages for each flush, whose tickets are redeemed behind it, and are recovered.
+// Durable nodes that take 64 messages for each flush, whose tickets are redeemed behind it, and are recovered; and nodes that
+// make checkpoints.
+mod checkpoints;
+
 ghost use Rattle.std.specs.Prelude.{◌≡◌, ◌<◌, ℕ};
 ghost use Rattle.group_commit.specs.Desk.{ended, kept_at};
 ghost use Rattle.group_commit.specs.Ticket.{shown};
@@ -24,7 +27,7 @@ const FRAME: [u8; 1415] = [7; 1415];
 /// `memory FLUSHES`: flushes nodes in memory so often, each made when the one before is full. `file FLUSHES PATH`:
 /// flushes them on a new file. Both print how many packets landed. `recover TIMES`: recovers a full node in memory so
 /// often, and prints how many inputs that brought back. `bare FLUSHES PATH`: writes and syncs a new file as often as so
-/// many flushes do, with no node, and prints how many bytes it has then.
+/// many flushes do, with no node, and prints how many bytes it has then. `checkpoint ..`: see `checkpoints::run`.
 pub fn run(rt: &HostRuntime, words: &mut Args) -> Result<(), Fault> {
     let work = next_word(words)?;
     match work.as_str() {
@@ -38,9 +41,44 @@ pub fn run(rt: &HostRuntime, words: &mut Args) -> Result<(), Fault> {
             "bytes {}",
             bare(rt, next_amount(words)?, next_word(words)?)?
         )?,
+        "checkpoint" => return checkpoints::run(rt, words),
         _ => return Err(Fault::NoWork(work)),
     }
     Ok(())
+}
+
+/// What a node is asked, one input after the other.
+#[derive(Clone, Copy)]
+enum Load {
+    /// Messages of the predecessor.
+    Messages,
+    /// Stands for 1,024 terms of `blue`, then messages, and last a credit of half of what it sent.
+    All,
+}
+
+/// How many Stands a node takes in all.
+const STANDS: u32 = 1024;
+
+/// How many inputs the node of `Load::All` takes in all.
+const INPUTS: u32 = 10_000;
+
+impl Load {
+    /// The request of this number, counted from 0.
+    fn question(self, number: u32) -> Result<Request, Refusal> {
+        match self {
+            Load::Messages => take(number),
+            Load::All if number < STANDS => stand(number),
+            Load::All if number < INPUTS - 1 => take(number - STANDS),
+            Load::All => Ok(Request::Acked(u64::from(INPUTS / 2))),
+        }
+    }
+}
+
+/// Has node 1 stand for a term of `blue` of its own.
+fn stand(number: u32) -> Result<Request, Refusal> {
+    let group = GroupName::read(b"blue")?;
+    let term = Term::new(number.wrapping_add(1))?;
+    Ok(Request::Stand(Key { group, term }, Bid::new(7)?))
 }
 
 /// The key of group `red` and this term.
@@ -75,8 +113,8 @@ fn redeem<D: Device>(node: &mut Node<D>, ticket: Ticket) -> Result<(), Refusal>
     }
 }
 
-/// Takes so many messages from `no` on, flushes, and redeems their tickets. Tells how many packets landed.
-fn flush<D: Device>(node: &mut Node<D>, no: u32, count: u32) -> Result<u64, Refusal>
+/// Asks so much of the load from `no` on, flushes, and redeems the tickets. Tells how many packets landed.
+fn flush<D: Device>(node: &mut Node<D>, load: Load, no: u32, count: u32) -> Result<u64, Refusal>
     ensures later { IsLater (desk_of node.old).view (desk_of node.new).view }
     ensures earlier { (own : ℕ) → own < (desk_of node.old).view.issued → kept_at (desk_of node.new).view own ≡ kept_at (desk_of node.old).view own }
 {
@@ -86,17 +124,17 @@ fn flush<D: Device>(node: &mut Node<D>, no: u32, count: u32) -> Result<u64, Refu
             Err(refusal) => Err(refusal),
         };
     }
-    let ticket = node.submit(take(no)?)?;
-    let landed = flush(node, no.wrapping_add(1), count - 1);
+    let ticket = node.submit(load.question(no)?)?;
+    let landed = flush(node, load, no.wrapping_add(1), count - 1);
     redeem(node, ticket).and(landed)
 }
 
 /// Flushes a node so often. Tells how many packets landed.
-fn fill<D: Device>(node: &mut Node<D>, flushes: u32) -> Result<u64, Refusal> {
+fn fill<D: Device>(node: &mut Node<D>, load: Load, flushes: u32) -> Result<u64, Refusal> {
     let mut no = 0u32;
     let mut landed = 0u64;
     for _ in 0..flushes {
-        landed = landed.wrapping_add(flush(node, no, 64)?);
+        landed = landed.wrapping_add(flush(node, load, no, 64)?);
         no = no.wrapping_add(64);
     }
     Ok(landed)
@@ -116,7 +154,7 @@ fn end<D: Device + Drop>(node: Node<D>) -> Result<D, Refusal> {
 fn one_node<D: Device + Drop>(alloc: Global, device: D, flushes: u32) -> Result<(D, u64), Refusal> {
     match Node::create(alloc, device, NodeNo::new(1)?, 3, CAPACITY, 0) {
         Ok(mut node) => {
-            let landed = fill(&mut node, flushes)?;
+            let landed = fill(&mut node, Load::Messages, flushes)?;
             Ok((end(node)?, landed))
         }
         Err((_device, refusal)) => Err(refusal),
@@ -152,7 +190,7 @@ fn recover(alloc: Global, times: u32) -> Result<u64, Refusal> {
     let (mut device, _) = one_node(alloc, in_memory(alloc)?, FULL)?;
     let mut recovered = 0u64;
     for run in 0..times {
-        match Node::recover(alloc, device, NodeNo::new(1)?, 3, u64::from(run) + 1) {
+        match Node::recover(alloc, device, NodeNo::first(), 3, u64::from(run) + 1) {
             Ok(mut node) => {
                 recovered = recovered.wrapping_add(inputs(&mut node)?);
                 device = end(node)?;

@@ -36,7 +36,7 @@ pub const PARTS: [(Part, &str, &str); 7] = [
     (
         Part::Node,
         "node",
-        "memory FLUSHES | recover TIMES | file FLUSHES PATH | bare FLUSHES PATH",
+        "memory FLUSHES | recover TIMES | file FLUSHES PATH | bare FLUSHES PATH | checkpoint WORK",
     ),
     (
         Part::Board,

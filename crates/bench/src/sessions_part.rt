@@ -75,7 +75,7 @@ fn session(alloc: Global, text: &str) -> Result<(u64, u64), Fault> {
 
 /// A service over node 1 of 3, which knows a leader for the first term of each group.
 fn service(alloc: Global) -> Result<SoloService<MemDevice>, Refusal> {
-    match Node::recover(alloc, led(alloc)?, NodeNo::new(1)?, 3, 1) {
+    match Node::recover(alloc, led(alloc)?, NodeNo::first(), 3, 1) {
         Ok(node) => Ok(SoloService::new(node)),
         Err((_device, refusal)) => Err(refusal),
     }

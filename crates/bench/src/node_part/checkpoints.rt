@@ -1,0 +1,83 @@
+// A durable node that makes checkpoints.
+use super::{INPUTS, Load, end, fill, flush};
+use crate::devices::{CAPACITY, in_memory};
+use crate::fault::Fault;
+use crate::words::{next_amount, next_word};
+use disk_model::{Device, DeviceFault, FileDevice};
+use node_store::Node;
+use ring_records::{NodeNo, Refusal};
+use std::alloc::Global;
+use std::env::Args;
+
+/// The bytes that such a node's checkpoint writes behind the gate of its area.
+const AREA: usize = 165_149;
+
+/// `memory TIMES`: a node in memory that made 1,024 Stands and accepted 10,000 inputs makes so many checkpoints; `file
+/// TIMES PATH`: the same on a new file. Both print the epoch then. `bare TIMES PATH`: writes as many bytes so often, with
+/// three syncs each, to a new file with no node, and prints how many bytes it has then.
+pub fn run(rt: &HostRuntime, words: &mut Args) -> Result<(), Fault> {
+    let work = next_word(words)?;
+    match work.as_str() {
+        "memory" => println!(rt; "epoch {}", memory(rt.alloc(), next_amount(words)?)?)?,
+        "file" => println!(rt;
+            "epoch {}",
+            on_file(rt, next_amount(words)?, next_word(words)?)?
+        )?,
+        "bare" => println!(rt;
+            "bytes {}",
+            bare(rt, next_amount(words)?, next_word(words)?)?
+        )?,
+        _ => return Err(Fault::NoWork(work)),
+    }
+    Ok(())
+}
+
+/// So many checkpoints of a new node on the device. Tells its epoch then.
+fn one_node<D: Device + Drop>(alloc: Global, device: D, times: u32) -> Result<u64, Refusal> {
+    match Node::create(alloc, device, NodeNo::first(), 3, CAPACITY, 0) {
+        Ok(mut node) => {
+            fill(&mut node, Load::All, INPUTS / 64)?;
+            flush(&mut node, Load::All, INPUTS / 64 * 64, INPUTS % 64)?;
+            let epoch = summarise(&mut node, times)?;
+            end(node)?;
+            Ok(epoch)
+        }
+        Err((_device, refusal)) => Err(refusal),
+    }
+}
+
+/// Makes so many checkpoints. Tells the epoch then.
+fn summarise<D: Device>(node: &mut Node<D>, times: u32) -> Result<u64, Refusal> {
+    for _ in 0..times {
+        node.checkpoint()?;
+    }
+    Ok(node.epoch())
+}
+
+fn memory(alloc: Global, times: u32) -> Result<u64, Refusal> {
+    one_node(alloc, in_memory(alloc)?, times)
+}
+
+fn on_file(rt: &HostRuntime, times: u32, path: String) -> Result<u64, Fault> {
+    let device = FileDevice::create(rt.alloc(), rt, &path)?;
+    Ok(one_node(rt.alloc(), device, times)?)
+}
+
+fn bare(rt: &HostRuntime, times: u32, path: String) -> Result<u64, Fault> {
+    let area = vec![in rt.alloc(); 7; AREA]?;
+    let mut device = FileDevice::create(rt.alloc(), rt, &path)?;
+    for _ in 0..times {
+        write_area(&mut device, &area)?;
+    }
+    Ok(device.size())
+}
+
+/// Closes a gate, writes an area behind it, and opens it, each with a sync.
+fn write_area<D: Device>(device: &mut D, area: &[u8]) -> Result<(), DeviceFault> {
+    device.write_at(0, &[0])?;
+    device.sync()?;
+    device.write_at(1, area)?;
+    device.sync()?;
+    device.write_at(0, &[1])?;
+    device.sync()
+}
