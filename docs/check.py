@@ -11,11 +11,10 @@ ROOT is the repository, by default the one that this file stands in. Nothing is 
 - every edit of the tree, a wrong body or a program that must not compile: docs/PROMISES.md names it, or names all edits
   of its folder, as `wrong_bodies/CRATE/*`;
 - every relative link of README.md and docs/*.md, its heading too, and every page of docs/ that one of them names;
-- every decision of docs/DECISIONS.md, which its index has beside the link to its section, and no other;
 - the lines of README.md, of which there may be 150.
 
-Each fault is a line `FILE:LINE: what is wrong`. The last line is `N names, M not found`, where links, pages, edits and
-decisions count as names. The status is 0 where there is no fault, 1 where there is one, and 2 where ROOT has no docs/PROMISES.md."""
+Each fault is a line `FILE:LINE: what is wrong`. The last line is `N names, M not found`, where links, pages and edits
+count as names. The status is 0 where there is no fault, 1 where there is one, and 2 where ROOT has no docs/PROMISES.md."""
 
 import pathlib
 import re
@@ -315,25 +314,6 @@ def links(root: pathlib.Path, path: pathlib.Path) -> Iterator[tuple[bool, int, s
             yield (root / name).exists(), number, f"there is no {name}"
 
 
-def decisions(path: pathlib.Path) -> Iterator[tuple[bool, int, str]]:
-    """Each decision of a page, a paragraph that begins with bold words, and each one of its index: whether both have it."""
-    index: dict[tuple[str, str], int] = {}
-    made: dict[tuple[str, str], int] = {}
-    section = ""
-    number = 1
-    for paragraph in path.read_text().split("\n\n"):
-        if paragraph.startswith("## "):
-            section = paragraph.removeprefix("## ").strip()
-        for row in re.finditer(r"^\| \[(.+?)\]\(\S+\) \| (.+) \|$", paragraph, re.M):
-            index |= {(row[1], it): number + paragraph[: row.start()].count("\n") for it in row[2].split(" · ")}
-        if bold := re.match(r"\*\*(.+?)\*\*", paragraph, re.S):
-            made[section, re.sub(r"\s+", " ", bold[1]).rstrip(".,")] = number
-        number += paragraph.count("\n") + 2
-    for it, line in {**index, **made}.items():
-        lacks = "made" if it in index else "in the index"
-        yield it in index and it in made, line, f"the decision \"{it[1]}\" of \"{it[0]}\" is not {lacks}"
-
-
 def main() -> int:
     root = pathlib.Path(sys.argv[1] if len(sys.argv) > 1 else pathlib.Path(__file__).parent.parent).resolve()
     if not (root / "docs" / "PROMISES.md").is_file():
@@ -349,8 +329,7 @@ def main() -> int:
     faults = promises.faults + readme.faults
     count = promises.count + readme.count
     for path in [root / "README.md", *sorted((root / "docs").glob("*.md"))]:
-        more = decisions(path) if path.name == "DECISIONS.md" else ()
-        for is_there, line, what in (*links(root, path), *more):
+        for is_there, line, what in links(root, path):
             count += 1
             if not is_there:
                 faults.append(f"{path.relative_to(root)}:{line}: {what}")
