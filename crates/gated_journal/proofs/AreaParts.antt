@@ -12,7 +12,7 @@ use Rattle.gated_journal.specs.Choose.{IsHeadOf}
 use Rattle.gated_journal.specs.Found.{IsHead, InSnapshot, InFrames, IsFound}
 use Rattle.gated_journal.specs.Frames.{body, frames}
 use Rattle.gated_journal.specs.Pieces.{IsNoArea, IsAreaDamaged}
-use Rattle.gated_journal.specs.Scan.{TakesFrame}
+use Rattle.gated_journal.specs.NextFrame.{TakesFrame}
 use Rattle.gated_journal.specs.declared.area.Head as head_of
 use Rattle.gated_journal.specs.declared.found.Stage.{Stage}
 use Rattle.gated_journal.proofs.AreaHeads.{number_moved}
@@ -34,7 +34,7 @@ take_none : (m : ℕ) → ◌≡◌ {A = List ℕ} (take m []) []
 take_none zero = refl
 take_none (suc m) = refl
 
-take_plus : (k m j : ℕ) (l : List ℕ) → j ≡ k + m → take k l ++ take m (drop k l) ≡ take j l
+pub take_plus : (k m j : ℕ) (l : List ℕ) → j ≡ k + m → take k l ++ take m (drop k l) ≡ take j l
 take_plus zero m j l is = ap (λ (i : ℕ). take i l) (omega (arith, is))
 take_plus (suc k) m zero l is = absurd (omega (arith, is))
 take_plus (suc k) m (suc j) [] is = take_none m

@@ -7,7 +7,7 @@ use Rattle.ring_records.specs.declared.input.Input.{Input}
 use Rattle.ring_records.specs.Record.{AreBytes, record_of}
 use Rattle.ring_records.proofs.Records.{record-short}
 use Rattle.gated_journal.specs.Frames.{records, body, HaveRecords, IsBatch}
-use Rattle.gated_journal.specs.Scan.{HasHead}
+use Rattle.gated_journal.specs.NextFrame.{HasHead}
 
 -- the count and the length that stand at the head
 abbrev pub count_at : List ℕ → ℕ

@@ -5,13 +5,13 @@ pub mod AreaFound
 pub mod AreaHeads
 pub mod AreaKept
 pub mod AreaParts
+pub mod AreaPieces
 pub mod AreaRest
 pub mod AreaShut
 pub mod AreaStaged
 pub mod Behind
 pub mod Costs
 pub mod Fault
-pub mod Frame
 pub mod Head
 pub mod Heads
 pub mod Kept

@@ -6,7 +6,7 @@ use Rattle.ring_records.specs.declared.record.RecordFault.{RecordFault}
 use Rattle.ring_records.specs.Record.{BeginsWith, record_of, record_read}
 use Rattle.ring_records.proofs.Records.{record-again, records-apart}
 use Rattle.gated_journal.specs.Frames.{records, HaveRecords}
-use Rattle.gated_journal.specs.Scan.{TakesRecords}
+use Rattle.gated_journal.specs.NextFrame.{TakesRecords}
 use Rattle.gated_journal.proofs.Spelled.{records-push, have-push}
 
 pub taken_none : (old : List Input) (bytes : List ℕ) → TakesRecords old old 0 bytes bytes

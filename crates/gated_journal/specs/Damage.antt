@@ -2,7 +2,7 @@
 use Rattle.std.specs.Prelude.{◌≡◌, ◌⊎◌, ◌+◌, ◌^◌, ◌<◌, ◌≤◌, ℕ, List, [], ◌∷◌, ◌++◌, length, drop}
 use Rattle.ring_records.specs.declared.input.Input.{Input}
 use Rattle.ring_records.specs.declared.refusal.Refusal.{Refusal}
-use Rattle.ring_records.specs.declared.refusal.Refusal.TheVariants.{Damaged, OutOfMemory}
+use Rattle.ring_records.specs.declared.refusal.Refusal.TheVariants.{Damaged}
 use Rattle.ring_records.specs.declared.summary.Summary.{Summary}
 use Rattle.ring_records.specs.Snapshot.{Spells}
 use Rattle.gated_journal.specs.Areas.{area_a, head_len, AreAreas, epoch_at, frames_of, snapshot_at, HasBase}
@@ -69,13 +69,3 @@ pub record IsAreaBroken (n capacity : ℕ) (image : List ℕ) (refusal : Refusal
 -- no area is read, or the one that is read is broken
 pub record AreAreasUnread (n capacity : ℕ) (image : List ℕ) (refusal : Refusal) : Type 0 where
   pub cause : ((refusal ≡ Damaged area_a) × IsUnchosen capacity image) ⊎ IsAreaBroken n capacity image refusal
-
--- the snapshot of the area at `start` gives no summary: its bytes are of none, or there is no memory for it
-pub record IsBaseless (n : ℕ) (bytes : List ℕ) (start : ℕ) (refusal : Refusal) : Type 0 where
-  pub cause : (refusal ≡ OutOfMemory) ⊎ ((refusal ≡ Damaged start) × ((s : Summary) → Spells n bytes s → ⊥))
-
--- the area at `start` gives nothing: its snapshot gives none, or its frames, which begin at `offset`, are broken behind
--- one that does, or there is no memory for them
-pub record IsContentless (n start offset : ℕ) (image : List ℕ) (refusal : Refusal) : Type 0 where
-  pub cause : IsBaseless n (snapshot_at start image) start refusal
-      ⊎ ((refusal ≡ OutOfMemory) ⊎ ((s : Summary) × (Spells n (snapshot_at start image) s × IsBroken offset image refusal)))

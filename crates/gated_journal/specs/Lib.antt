@@ -2,11 +2,12 @@ pub mod Areas
 pub mod Batch
 pub mod Choose
 pub mod Damage
+pub mod Feeding
 pub mod Found
 pub mod Frames
 pub mod Journal
+pub mod NextFrame
 pub mod Pieces
 pub mod Props
 pub mod Reading
-pub mod Scan
 pub mod Unread

@@ -7,6 +7,7 @@ mod batch;
 mod checkpoint;
 mod commit;
 mod contents;
+mod feeding;
 mod flown;
 mod format;
 mod found;
@@ -20,7 +21,6 @@ mod opening;
 mod parts;
 mod read;
 mod replace;
-mod scan;
 mod spell;
 mod spent;
 

@@ -1,12 +1,11 @@
-//! The frame at the front of bytes that may go on, whose inputs are taken without a growth.
+//! The frame at the front of bytes that may go on, behind its gate. Its inputs are taken without a growth.
 ghost use Rattle.std.specs.Prelude.{◌≡◌, ◌+◌, ◌-◌, ◌*◌, ◌≤◌, ℕ, true, false, List, [], length, vec_len, vec_capacity, MatchOption};
 ghost use Rattle.ring_records.specs.declared.input.Input.{Input};
 ghost use Rattle.gated_journal.specs.Frames.{records, HaveRecords};
-ghost use Rattle.gated_journal.specs.Scan.{TakesRecords, TakesFrame};
+ghost use Rattle.gated_journal.specs.NextFrame.{HasHead, TakesRecords, TakesFrame};
 ghost use Rattle.gated_journal.specs.Damage.{NoFrame};
 ghost use Rattle.gated_journal.specs.Pieces.{IsEnough};
 
-use crate::scan::head_of;
 use ring_records::{BATCH_INPUTS, Input, read_record};
 
 /// Whether bytes are missing of a frame that may stand at the head.
@@ -26,6 +25,21 @@ pub(crate) fn is_short(tail: &[u8]) -> bool
         return false;
     }
     tail.len() - 6 < size
+}
+
+// How many inputs the frame at the head has, and their records.
+fn head_of(tail: &[u8]) -> Option<(usize, &[u8])>
+    ensures { MatchOption result (NoFrame tail.now) (λ head. HasHead tail.now head.0 head.1.now) }
+{
+    if tail.len() < 6 {
+        return None;
+    }
+    let count = u16::from_be_bytes([tail[0], tail[1]]) as usize;
+    let size = u32::from_be_bytes([tail[2], tail[3], tail[4], tail[5]]) as usize;
+    if count == 0 || count > BATCH_INPUTS || tail.len() - 6 < size {
+        return None;
+    }
+    Some((count, &tail[6..6 + size]))
 }
 
 // Takes so many records from the bytes, and tells whether they were there and nothing else.

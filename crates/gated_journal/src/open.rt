@@ -95,7 +95,7 @@ fn read_header<D: Device>(device: &mut D, node: NodeNo, n: u8) -> Result<u32, Re
     capacity_of(&head, node, n)
 }
 
-/// Makes the device stable, and reads the whole of it: the journal of this node of a ring of `n`.
+/// Makes the device stable, and reads what it holds: the journal of this node of a ring of `n`.
 pub(crate) fn open<D: Device>(
     alloc: Global,
     device: &mut D,

@@ -4,10 +4,10 @@ use ring_records::Refusal::{Damaged, NotFormatted, OldLayout, WrongNode};
 use test_rows::Note::Token;
 
 /// Bytes that are changed, and how many inputs are read then in which epoch, or the fault.
-type Row = (&'static [(u64, u8)], Result<(u64, u64), Refusal>);
+pub type Row = (&'static [(u64, u8)], Result<(u64, u64), Refusal>);
 
 /// Changes of row `one_commit`.
-const ONE_AREA: [Row; 43] = [
+pub const ONE_AREA: [Row; 43] = [
     // The mark, the node, the ring's size.
     (&[(0, b'c')], Err(NotFormatted)),
     (&[(7, b'1')], Err(OldLayout(1))),
@@ -64,7 +64,7 @@ const ONE_AREA: [Row; 43] = [
 ];
 
 /// Changes of the same with area B behind it, which is read.
-const TWO_AREAS: [Row; 17] = [
+pub const TWO_AREAS: [Row; 17] = [
     // Area B in epoch 2, in A's epoch, and in an earlier one.
     (&[], Ok((1, 2))),
     (&[(4136, 1)], Err(Damaged(16))),
@@ -137,8 +137,8 @@ fn frames_end_within_the_capacity(rt: HostRuntime) {
 
 #[test]
 fn a_device_that_fails_is_told(rt: HostRuntime) {
-    // The calls are a sync and reads of the header, of both heads, of the snapshot and of the frames.
-    for after in 0..6 {
+    // The calls are a sync and reads of the header, of both heads and of the area.
+    for after in 0..5 {
         let inner = device(&rt, &[(0, &COMMITTED), (AREA_B, &SECOND)]);
         let device = FuseDevice::new(inner, after, true);
         match Journal::reopen(rt.alloc(), device, NodeNo::first(), 3) {

@@ -1,6 +1,9 @@
 use Rattle.std.proofs.Common.{inl, inr, ⊎_elim, arith}
-use Rattle.gated_journal.proofs.AreaFound.{base_found, contentless, goes_past}
+use Rattle.gated_journal.proofs.AreaFound.{area_base, area_frames, contentless, goes_past}
 use Rattle.gated_journal.proofs.contents.read_area.Goals as goal
+
+pub read_contents-requires : goal.read_contents-requires
+read_contents-requires g c = omega (arith, c.requires.used.offset, c.requires.used.there)
 
 pub returns-in-Err-clause-refusal : goal.returns-in-Err-clause-refusal
 returns-in-Err-clause-refusal g c =
@@ -11,11 +14,20 @@ returns-in-Err-clause-works g c = λ reach. contentless c.args.n c.args.capacity
 
 pub returns-then-bound-gate_at-clause-refusal : goal.returns-then-bound-gate_at-clause-refusal
 returns-then-bound-gate_at-clause-refusal g c =
-    inr (inr (goes_past c.args.n c.args.capacity (g.D.Device.disk c.args.device.now).image c.args.chosen.now c.requires.used c.in-Ok.contents.base c.in-Ok.contents.inputs.items c.in-Ok.contents.gate_at c.in-Ok.ensures.base c.in-Ok.ensures.frames (omega (arith, c.if-bound-gate_at.true, c.from.ensures))))
+    let f = c.in-Ok.contents in
+    inr (inr (goes_past c.args.n c.args.capacity (g.D.Device.disk c.args.device.now).image c.args.chosen.now c.requires.used f.base f.inputs.items f.gate_at c.in-Ok.ensures.area (omega (arith, c.if-bound-gate_at.true, c.from.ensures))))
 
 pub returns-then-bound-gate_at-clause-works : goal.returns-then-bound-gate_at-clause-works
 returns-then-bound-gate_at-clause-works g c = λ reach.
-    inr (goes_past c.args.n c.args.capacity (g.D.Device.disk c.args.device.now).image c.args.chosen.now c.requires.used c.in-Ok.contents.base c.in-Ok.contents.inputs.items c.in-Ok.contents.gate_at c.in-Ok.ensures.base c.in-Ok.ensures.frames (omega (arith, c.if-bound-gate_at.true, c.from.ensures)))
+    let f = c.in-Ok.contents in
+    inr (goes_past c.args.n c.args.capacity (g.D.Device.disk c.args.device.now).image c.args.chosen.now c.requires.used f.base f.inputs.items f.gate_at c.in-Ok.ensures.area (omega (arith, c.if-bound-gate_at.true, c.from.ensures)))
 
 pub returns-else-bound-gate_at-clause-base : goal.returns-else-bound-gate_at-clause-base
-returns-else-bound-gate_at-clause-base g c = base_found c.args.n c.args.capacity (g.D.Device.disk c.args.device.now).image c.args.chosen.now c.requires.used c.in-Ok.contents.base c.in-Ok.contents.inputs.items c.in-Ok.ensures.base
+returns-else-bound-gate_at-clause-base g c =
+    let f = c.in-Ok.contents in
+    area_base c.args.n c.args.capacity (g.D.Device.disk c.args.device.now).image c.args.chosen.now c.requires.used f.base f.inputs.items f.gate_at c.in-Ok.ensures.area
+
+pub returns-else-bound-gate_at-clause-frames : goal.returns-else-bound-gate_at-clause-frames
+returns-else-bound-gate_at-clause-frames g c =
+    let f = c.in-Ok.contents in
+    area_frames c.args.n c.args.capacity (g.D.Device.disk c.args.device.now).image c.args.chosen.now c.requires.used f.base f.inputs.items f.gate_at c.in-Ok.ensures.area

@@ -1,39 +1,21 @@
-use Rattle.std.proofs.Common.{inl, inr, ⊎_elim, ℕ, length, subst, sym}
-use Rattle.disk_model.specs.Disk.{Disk, Reach, Reaches}
-use Rattle.gated_journal.specs.Frames.{ReadsTo}
-use Rattle.gated_journal.specs.Unread.{IsFault}
-use Rattle.gated_journal.specs.Damage.{IsBroken}
+use Rattle.std.proofs.Common.{inr, sym}
+use Rattle.gated_journal.specs.Feeding.{IsContentless}
+use Rattle.gated_journal.proofs.AreaPieces.{area_at, area_damaged}
+use Rattle.gated_journal.proofs.Results.{not_both}
 use Rattle.gated_journal.proofs.contents.read_contents.Goals as goal
 
-pub returns-in-Err-clause-refusal : goal.returns-in-Err-clause-refusal
-returns-in-Err-clause-refusal g c = ⊎_elim (λ fault. inl fault) (λ none. inr (record { cause = inl none })) c.in-Err.ensures.refusal
+pub returns-in-Ok-finish-clause-area : goal.returns-in-Ok-finish-clause-area
+returns-in-Ok-finish-clause-area g c =
+    let f = c.in-Ok-finish in
+    area_at c.args.n c.args.start (g.D.Device.disk c.args.device.now).image c.in-Ok.reader c.in-Ok.ensures.fed f.base f.inputs.items f.gate_at f.ensures.reads
 
-pub returns-in-Err-clause-works : goal.returns-in-Err-clause-works
-returns-in-Err-clause-works g c = λ reach. record { cause = inl (c.in-Err.ensures.works reach) }
+damaged : (g : _) (c : goal.In-Err-finish g) → IsContentless c.args.n c.args.start (g.D.Device.disk c.args.device.now).image c.in-Err-finish.refusal
+damaged g c =
+    let e = c.in-Err-finish in
+    area_damaged c.args.n c.args.start (g.D.Device.disk c.args.device.now).image c.in-Ok.reader c.in-Ok.ensures.fed e.refusal (λ done. not_both (sym (e.ensures.done done))) e.ensures.broken
 
-pub returns-in-Err-read_frames-clause-refusal : goal.returns-in-Err-read_frames-clause-refusal
-returns-in-Err-read_frames-clause-refusal g c =
-    let told = c.in-Err-read_frames.refusal in
-    ⊎_elim (λ fault. inl (subst (λ (k : ℕ). IsFault k (g.D.Device.count c.read_frames.new.device) told) c.in-Ok.ensures.same fault))
-    (λ rest. inr (record {
-      cause = inr (⊎_elim (λ memory. inl memory)
-          (λ broken. inr (c.in-Ok.base, (c.in-Ok.ensures.base, subst (λ (d : Disk). IsBroken c.args.offset d.image told) c.read_base.ensures.disk broken))) rest);
-    })) c.in-Err-read_frames.ensures.refusal
+pub returns-in-Err-finish-clause-refusal : goal.returns-in-Err-finish-clause-refusal
+returns-in-Err-finish-clause-refusal g c = inr (damaged g c)
 
-pub returns-in-Err-read_frames-clause-works : goal.returns-in-Err-read_frames-clause-works
-returns-in-Err-read_frames-clause-works g c = λ reach.
-    let told = c.in-Err-read_frames.refusal in
-    let D = g.D.Device in
-    let mid = c.read_base.new.device in
-    let there : Reaches (D.reach mid) (length (D.disk mid).image) =
-    subst (λ (d : Disk). Reaches (D.reach mid) (length d.image)) (sym c.read_base.ensures.disk) (subst (λ (r : Reach). Reaches r (length (D.disk c.args.device.now).image)) (sym c.read_base.ensures.reach) reach) in
-    record {
-      cause = inr (⊎_elim (λ memory. inl memory)
-          (λ broken. inr (c.in-Ok.base, (c.in-Ok.ensures.base, subst (λ (d : Disk). IsBroken c.args.offset d.image told) c.read_base.ensures.disk broken))) (c.in-Err-read_frames.ensures.works there));
-    }
-
-pub returns-in-Ok-read_frames-clause-base : goal.returns-in-Ok-read_frames-clause-base
-returns-in-Ok-read_frames-clause-base g c = c.in-Ok.ensures.base
-
-pub returns-in-Ok-read_frames-clause-frames : goal.returns-in-Ok-read_frames-clause-frames
-returns-in-Ok-read_frames-clause-frames g c = subst (λ (d : Disk). ReadsTo c.args.offset d.image c.in-Ok-read_frames.inputs.items c.in-Ok-read_frames.gate_at) c.read_base.ensures.disk c.in-Ok-read_frames.ensures.frames
+pub returns-in-Err-finish-clause-works : goal.returns-in-Err-finish-clause-works
+returns-in-Err-finish-clause-works g c = λ reach. damaged g c

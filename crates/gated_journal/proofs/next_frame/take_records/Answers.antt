@@ -2,7 +2,7 @@ use Rattle.std.proofs.Common.{◌+◌, ℕ, List, drop, sym, ◌∙◌, subst, a
 use Rattle.std.proofs.lemmas.List.{take_rest}
 use Rattle.ring_records.specs.declared.input.Input.{Input}
 use Rattle.ring_records.proofs.Records.{record-long}
-use Rattle.gated_journal.specs.Scan.{TakesRecords}
+use Rattle.gated_journal.specs.NextFrame.{TakesRecords}
 use Rattle.gated_journal.proofs.Taken.{taken_more, no_record, no_rest}
 use Rattle.gated_journal.proofs.next_frame.take_records.Goals as goal
 

@@ -1,5 +1,5 @@
 use Rattle.std.proofs.Common.{◌+◌, ◌*◌, ◌-◌, ◌≤◌, length, vec_len, vec_capacity}
-use Rattle.gated_journal.specs.Scan.{TakesRecords}
+use Rattle.gated_journal.specs.NextFrame.{TakesRecords}
 use Rattle.gated_journal.proofs.next_frame.take_records.Given as goal
 
 abbrev pub invariant-loop : goal.invariant-loop

@@ -2,7 +2,7 @@ use Rattle.std.proofs.Common.{◌≡◌, ◌∷◌, ◌++◌, ◌<◌, List, ℕ
 use Rattle.std.proofs.lemmas.List.{drop_more, take_rest}
 use Rattle.gated_journal.specs.Damage.{NoFrame}
 use Rattle.gated_journal.specs.Pieces.{IsAreaDamaged, IsEnough}
-use Rattle.gated_journal.specs.Scan.{TakesFrame}
+use Rattle.gated_journal.specs.NextFrame.{TakesFrame}
 use Rattle.gated_journal.specs.declared.found.Stage.TheVariants.{Damaged}
 use Rattle.gated_journal.proofs.AreaParts.{nonempty, unmoved, frames_more}
 use Rattle.gated_journal.proofs.Pieces.{damaged_frame}

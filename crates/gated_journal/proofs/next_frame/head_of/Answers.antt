@@ -1,7 +1,7 @@
 use Rattle.std.proofs.Common.{◌≡◌, ◌+◌, ◌-◌, ◌≤◌, ℕ, length, take, drop, subst, arith}
-use Rattle.gated_journal.specs.Scan.{HasHead}
+use Rattle.gated_journal.specs.NextFrame.{HasHead}
 use Rattle.gated_journal.proofs.Heads.{count_at, size_at, head}
-use Rattle.gated_journal.proofs.scan.head_of.Goals as goal
+use Rattle.gated_journal.proofs.next_frame.head_of.Goals as goal
 
 pub returns : goal.returns
 returns c =

@@ -1,4 +1,4 @@
--- What the parts of the reader find.
+-- What is taken of the frame at the front of bytes.
 use Rattle.std.specs.Prelude.{◌≡◌, ◌+◌, ◌≤◌, ℕ, List, ◌++◌, length, drop}
 use Rattle.std.specs.Int.{w16, w32, to_be_bytes}
 use Rattle.ring_records.specs.declared.input.Input.{Input}

@@ -1,0 +1,80 @@
+//! Feeds a reader the area of a device, piece after piece.
+ghost use Rattle.std.specs.Prelude.{◌≡◌, ◌+◌, ◌≤◌, ◌<◌, ◌^◌, ◌⊎◌, length, take, drop, Ok, IfOk, IfErr, OnOk};
+ghost use Rattle.disk_model.specs.Disk.{MayLeave, LeavesOnly, Reaches};
+ghost use Rattle.ring_records.specs.declared.refusal.Refusal.TheVariants.{OutOfMemory};
+ghost use Rattle.gated_journal.specs.Feeding.{IsFed, IsContentless};
+ghost use Rattle.gated_journal.specs.Pieces.{with_piece, IsPieceDamaged};
+ghost use Rattle.gated_journal.specs.Unread.{IsFault};
+
+use crate::layout::LAYOUT;
+use crate::read::read_part;
+use crate::{AreaReader, Fed};
+use disk_model::Device;
+use ring_records::Refusal;
+use std::alloc::Global;
+
+// How many bytes are read at once, at most.
+const PIECE: usize = 4096;
+
+// Reads the bytes from `at` on, as many as the buffer takes, and feeds them.
+fn feed_from<D: Device>(
+    device: &mut D,
+    reader: &mut AreaReader,
+    at: u64,
+    piece: &mut [u8],
+) -> Result<Fed, Refusal>
+    requires next { reader.old.offset + length reader.old.bytes ≤ at }
+    requires there { at + length piece.old ≤ length (D.disk device.old).image }
+    requires small { at + length piece.old < 2 ^ 64 }
+    ensures fed { IfOk result (λ told. reader.new ≡ with_piece reader.old (take (length piece.old) (drop at (D.disk device.old).image)) (Ok told)) }
+    ensures disk { D.disk device.new ≡ D.disk device.old }
+    ensures any_moment { LeavesOnly D.clock D.left_since device.old device.new (MayLeave (D.disk device.old)) }
+    ensures refusal { IfErr result (λ refusal. IsFault (D.count device.old) (D.count device.new) refusal
+        ⊎ ((refusal ≡ OutOfMemory) ⊎ IsPieceDamaged reader.old (take (length piece.old) (drop at (D.disk device.old).image)) refusal)) }
+    ensures later { D.count device.old ≤ D.count device.new }
+    ensures same { OnOk result (D.count device.new ≡ D.count device.old) }
+    ensures first { IfErr result (λ refusal. IsFault (D.count device.old) (D.count device.new) refusal ⊎ (D.count device.new ≡ D.count device.old)) }
+    ensures works { Reaches (D.reach device.old) (length (D.disk device.old).image)
+        → IfErr result (λ refusal. (refusal ≡ OutOfMemory) ⊎ IsPieceDamaged reader.old (take (length piece.old) (drop at (D.disk device.old).image)) refusal) }
+    ensures reach { D.reach device.new ≡ D.reach device.old }
+{
+    if let Err(refusal) = read_part(device, at, piece) {
+        return Err(refusal);
+    }
+    reader.feed(piece)
+}
+
+/// Feeds a new reader the area at `start`, until it is done or no bytes are left. Refused as 15, as 16 with the offset of
+/// what is damaged, and as 8.
+pub(crate) fn feed_all<D: Device>(
+    alloc: Global,
+    device: &mut D,
+    n: u8,
+    start: u64,
+) -> Result<AreaReader, Refusal>
+    requires there { start ≤ length (D.disk device.old).image }
+    ensures fed { IfOk result (λ reader. IsFed n start (D.disk device.old).image reader) }
+    ensures small { IfOk result (λ reader. reader.offset + length reader.bytes < 2 ^ 64) }
+    ensures disk { D.disk device.new ≡ D.disk device.old }
+    ensures any_moment { LeavesOnly D.clock D.left_since device.old device.new (MayLeave (D.disk device.old)) }
+    ensures refusal { IfErr result (λ refusal. IsFault (D.count device.old) (D.count device.new) refusal ⊎ IsContentless n start (D.disk device.old).image refusal) }
+    ensures later { D.count device.old ≤ D.count device.new }
+    ensures same { OnOk result (D.count device.new ≡ D.count device.old) }
+    ensures first { IfErr result (λ refusal. IsFault (D.count device.old) (D.count device.new) refusal ⊎ (D.count device.new ≡ D.count device.old)) }
+    ensures works { Reaches (D.reach device.old) (length (D.disk device.old).image) → IfErr result (λ refusal. IsContentless n start (D.disk device.old).image refusal) }
+    ensures reach { D.reach device.new ≡ D.reach device.old }
+{
+    let size = device.size();
+    let mut reader = AreaReader::new(alloc, start, LAYOUT, n);
+    let mut buffer = [0; PIECE];
+    let mut at = start;
+    while at < size {
+        let there = (size - at).min(PIECE as u64) as usize;
+        match feed_from(device, &mut reader, at, &mut buffer[..there]) {
+            Ok(Fed::More) => at += there as u64,
+            Ok(Fed::Done) => return Ok(reader),
+            Err(refusal) => return Err(refusal),
+        }
+    }
+    Ok(reader)
+}
