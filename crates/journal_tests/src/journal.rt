@@ -13,6 +13,7 @@ use test_rows::Op;
 mod checkpoints;
 mod cuts;
 mod images;
+mod pieces;
 mod rows;
 mod stops;
 

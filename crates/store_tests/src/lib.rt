@@ -9,3 +9,5 @@ mod journal;
 mod node;
 #[cfg(test)]
 mod rows;
+#[cfg(test)]
+mod short_reads;

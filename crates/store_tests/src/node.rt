@@ -13,6 +13,7 @@ use test_rows::{Ask, Cause, Note, Say, Sends};
 
 mod checkpoints;
 mod memory;
+mod pieces;
 mod refusals;
 mod rows;
 mod stops;
