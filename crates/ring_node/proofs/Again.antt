@@ -11,7 +11,7 @@ use Rattle.ring_records.specs.declared.input.Input.{Input}
 use Rattle.ring_records.specs.declared.input.Input.TheVariants.{Stand, Take, Acked}
 use Rattle.ring_records.specs.declared.msg.Msg.{Msg}
 use Rattle.ring_records.specs.Admission.{IsAdmitted, IsInTurn, IsLawful}
-use Rattle.ring_records.specs.States.{NodeState, IsLawfulState, launched_base, opened, launched, left_by}
+use Rattle.ring_records.specs.States.{NodeState, IsLawfulState, launched_base, opened, launched, launched_all, left_by}
 use Rattle.ring_records.specs.States as states
 use Rattle.ring_records.specs.Emission.{sent, emit}
 use Rattle.ring_records.specs.History.{upto_of, credit}
@@ -22,18 +22,18 @@ use Rattle.ring_records.proofs.Growth.{sent-append}
 use Rattle.ring_records.proofs.History.{credit-push}
 use Rattle.ring_records.proofs.Lists.{along}
 use Rattle.ring_records.specs.declared.summary.Summary.{Summary}
-use Rattle.ring_records.proofs.States.{lawful-launched, lawful-left, next-few}
+use Rattle.ring_records.proofs.States.{lawful-launched, lawful-launched_all, lawful-left, next-few}
 use Rattle.gated_journal.specs.Reading.{device_size, is_header}
 use Rattle.group_commit.specs.Desk.{DeskView, DeskKept, seen}
 use Rattle.group_commit.specs.Past.{IsPast}
 use Rattle.node_store.specs.State.{opened_view, IsOpenedAs}
 use Rattle.ring_node.specs.Messages.{message_in, carried_in}
-use Rattle.ring_node.specs.Node.{NodeView, restarted, left, durable_in, is_credited}
+use Rattle.ring_node.specs.Node.{NodeView, restarted, left, left_all, reopened, durable_in, is_credited}
 use Rattle.ring_node.specs.Open.{serial_of}
 use Rattle.ring_node.specs.Held.{HeldView, view_with, AreHeld, IsServed, IsWhole, IsRingNode}
 use Rattle.ring_node.proofs.Queue.{held_none, serials_shown}
 use Rattle.ring_node.proofs.Ring.{by_name, opens}
-use Rattle.ring_node.proofs.Serving.{same_view, starts_shown, within_served, is_idle_state, left_is}
+use Rattle.ring_node.proofs.Serving.{same_view, reopens_shown, is_idle_state, left_is}
 
 -- ---- messages
 
@@ -137,7 +137,19 @@ credit_front me n capacity b h lawful = along (IsAdmitted me n capacity b) (λ l
 
 -- ---- the node
 
-module _ (m : Member) (run : ℕ) (s : NodeState) (none : s.checkpoint ≡ None) (lawful : IsLawfulState m s) (keep : Bool) (desk : DeskKept) (found : IsOpenedAs m run (left_by keep s) desk) where
+-- nothing flies of what a stop leaves
+opened_is : (s : NodeState) (keep : Bool) → left_by keep s ≡ opened (left_by keep s).base (left_by keep s).inputs
+opened_is s true = refl
+opened_is s false = refl
+
+-- where no checkpoint flew, the node has the area that it had
+restarts : (s : NodeState) (keep : Bool) (v : NodeView) → s.checkpoint ≡ None → v.base ≡ s.base → reopened (left_by keep s) v ≡ restarted (left_by keep s).inputs v
+unfolding reopened restarted
+restarts s keep v none same =
+    ap (λ (t : NodeState). reopened t v) (left_is s keep none)
+    ∙ λ i. record v { inputs = (left_by keep s).inputs; durable = length (left_by keep s).inputs; base = sym same i; held = []; issued = 0 }
+
+module _ (m : Member) (run : ℕ) (s : NodeState) (lawful : IsLawfulState m s) (keep : Bool) (desk : DeskKept) (found : IsOpenedAs m run (left_by keep s) desk) where
   abbrev t : NodeState
   t = left_by keep s
 
@@ -174,16 +186,16 @@ module _ (m : Member) (run : ℕ) (s : NodeState) (none : s.checkpoint ≡ None)
     left_behind = subst (λ (a : Member × List Input). IsPast a.0 desk.opening a.1) (λ i. (sym member_is i, sym past_is i)) found.past
 
     -- it shows what the stop left
-    pub left_seen : seen past desk ≡ opened_view m run (opened s.base t.inputs)
-    left_seen = ap (λ (l : List Input). seen l desk) past_is ∙ (found.shows ∙ ap (opened_view m run) (left_is s keep none))
+    pub left_seen : seen past desk ≡ opened_view m run t
+    left_seen = ap (λ (l : List Input). seen l desk) past_is ∙ found.shows
 
     pub left_again : (reach : Reach) (queue : List HeldView) (messages : List Msg) → is_header m ≡ true → Reaches reach (device_size m.capacity) → queue ≡ [] → messages ≡ sent m.node t.inputs → IsRingNode m past desk reach queue messages
     left_again reach queue messages range reaches spent sends =
-        by_name m _ _ _ _ past desk reach queue messages left_behind left_seen refl spent refl
-        (opens m run s.base t.inputs reach messages range (subst (IsLawfulState m) (left_is s keep none) lawful_left) reaches sends)
+        by_name m _ _ _ _ past desk reach queue messages left_behind (left_seen ∙ ap (opened_view m run) (opened_is s keep)) refl spent refl
+        (opens m run t.base t.inputs reach messages range (subst (IsLawfulState m) (opened_is s keep) lawful_left) reaches sends)
 
-    pub left_shown : (queue : List HeldView) (v : NodeView) → queue ≡ [] → v.member ≡ m → v.base ≡ s.base → view_with (seen past desk) queue ≡ restarted t.inputs v
-    left_shown queue v spent node_is base_is = same_view _ _ _ _ left_seen spent ∙ starts_shown m run s.base t.inputs v node_is base_is
+    pub left_shown : (queue : List HeldView) (v : NodeView) → queue ≡ [] → v.member ≡ m → view_with (seen past desk) queue ≡ reopened t v
+    left_shown queue v spent node_is = same_view _ _ _ _ left_seen spent ∙ reopens_shown m run t v node_is
 
 module _ (m : Member) (desk : DeskView) (reach : Reach) (queue : List HeldView) (messages : List Msg) (here : IsWhole m desk reach queue messages) where
   abbrev v : NodeView
@@ -193,12 +205,13 @@ module _ (m : Member) (desk : DeskView) (reach : Reach) (queue : List HeldView) 
   pub lawful_here : IsLawfulState m desk.state
   lawful_here = subst (λ (k : Member). IsLawfulState k desk.state) here.is here.served.lawful
 
-  flies : desk.state.durable ≤ (launched desk.state).flying
-  flies = let within = within_served desk reach queue here.served in omega arith
-
   -- and stays so while a batch flies
   pub lawful_launched : IsLawfulState m (launched desk.state)
   lawful_launched = lawful-launched m desk.state (is_idle_state desk.state here.served.idle here.served.none) lawful_here
+
+  -- or a checkpoint
+  pub lawful_summarised : IsLawfulState m (launched_all m.node desk.state)
+  lawful_summarised = lawful-launched_all m desk.state (is_idle_state desk.state here.served.idle here.served.none) lawful_here
 
   -- its device goes to the journal's end
   pub long_here : device_size m.capacity ≤ reach.limit
@@ -214,12 +227,79 @@ module _ (m : Member) (desk : DeskView) (reach : Reach) (queue : List HeldView) 
     -- its durable inputs sent what they sent before
     pub crashed_again : (reach' : Reach) → Reaches reach' (device_size m.capacity) → IsRingNode m past' desk' reach' queue' messages
     crashed_again reach' reaches =
-        left_again m run desk.state here.served.none lawful_here keep desk' found past' is reach' queue' messages here.range reaches spent (here.sends ∙ ap (sent m.node) (sym (either keep)))
+        left_again m run desk.state lawful_here keep desk' found past' is reach' queue' messages here.range reaches spent (here.sends ∙ ap (sent m.node) (sym (either keep)))
 
     pub crashed_shown : view_with (seen past' desk') queue' ≡ restarted (durable_in v) v
-    crashed_shown = left_shown m run desk.state here.served.none lawful_here keep desk' found past' is queue' v spent here.is refl ∙ ap (λ (l : List Input). restarted l v) (either keep)
+    crashed_shown =
+        left_shown m run desk.state lawful_here keep desk' found past' is queue' v spent here.is
+        ∙ (restarts desk.state keep v here.served.none refl ∙ ap (λ (l : List Input). restarted l v) (either keep))
 
-  -- ---- a stop
+  -- ---- a stop while its inputs fly, as in s
+
+  module _ (s : NodeState) (inputs_same : s.inputs ≡ desk.state.inputs) (durable_same : s.durable ≡ desk.state.durable) (lawful_s : IsLawfulState m s) where
+    flies : s.durable ≤ s.flying
+    flies = lawful_s.counts.durable
+
+    durable_in_same : states.durable_in desk.state ≡ states.durable_in s
+    durable_in_same = λ i. take (sym durable_same i) (sym inputs_same i)
+
+    -- no more is credited by what is left
+    few_credits : (keep : Bool) → is_credited v ≡ true → credit (left_by keep s).inputs ≤ length messages
+    few_credits keep credited =
+        let all : credit desk.state.inputs ≤ length (sent desk.member.node (states.durable_in desk.state)) = grind (arith, nat_tests, credited) in
+        let same : length messages ≡ length (sent desk.member.node (states.durable_in desk.state)) = ap length (here.sends ∙ ap (λ (k : Member). sent k.node (states.durable_in desk.state)) (sym here.is)) in
+        let front = fronts keep in
+        let inputs = ap credit inputs_same in
+        omega arith
+      where
+        fronts : (keep : Bool) → credit (left_by keep s).inputs ≤ credit s.inputs
+        fronts true = credit_front m.node m.n m.capacity (launched_base s) s.inputs lawful_s.all s.flying
+        fronts false = credit_front m.node m.n m.capacity (launched_base s) s.inputs lawful_s.all s.durable
+
+    module _ (run : ℕ) (keep : Bool) (desk' : DeskKept) (found : IsOpenedAs m run (left_by keep s) desk') (past' : List Input) (is : past' ≡ take desk'.opening.inputs desk.state.inputs) where
+      abbrev inputs : List Input
+      inputs = (left_by keep s).inputs
+
+      past_is_front : past' ≡ take desk'.opening.inputs s.inputs
+      past_is_front = is ∙ ap (take desk'.opening.inputs) (sym inputs_same)
+
+      pub stopped_behind : IsPast desk'.view.member desk'.opening past'
+      stopped_behind = left_behind m run s lawful_s keep desk' found past' past_is_front
+
+      stopped_seen : seen past' desk' ≡ opened_view m run (left_by keep s)
+      stopped_seen = left_seen m run s lawful_s keep desk' found past' past_is_front
+
+      inputs_are : (seen past' desk').state.inputs ≡ inputs
+      inputs_are = ap (λ (d : DeskView). d.state.inputs) stopped_seen
+
+      node_is : desk'.view.member.node ≡ m.node
+      node_is = ap (λ (d : DeskView). d.member.node) stopped_seen
+
+      pub all_durable : (seen past' desk').state.durable ≡ length (seen past' desk').state.inputs
+      all_durable = ap (λ (d : DeskView). d.state.durable) stopped_seen ∙ (ap (λ (t : NodeState). t.durable) (opened_is s keep) ∙ sym (ap length inputs_are))
+
+      pub sent_first : messages ≡ sent desk'.view.member.node (take s.durable (seen past' desk').state.inputs)
+      sent_first =
+          here.sends ∙ (ap (sent m.node) (durable_in_same ∙ sym (left_first s keep flies))
+          ∙ λ i. sent (sym node_is i) (take s.durable (sym inputs_are i)))
+
+      pub credits_few : is_credited v ≡ true → credit (seen past' desk').state.inputs ≤ length messages
+      credits_few credited = let few = few_credits keep credited in let same = ap credit inputs_are in omega arith
+
+      module _ (queue' : List HeldView) (spent : queue' ≡ []) where
+        -- it has no open ticket
+        pub held_stopped : (from top : ℕ) × AreHeld desk'.view.member.node desk'.view.run from top desk'.view.tickets queue'
+        held_stopped =
+            (0, 0, subst (λ (a : DeskView × List HeldView). AreHeld a.0.member.node a.0.run 0 0 a.0.tickets a.1) (λ i. (sym stopped_seen i, sym spent i)) (held_none m.node run 0))
+
+        pub stopped_again : (reach' : Reach) (messages' : List Msg) → Reaches reach' (device_size m.capacity) → messages' ≡ sent desk'.view.member.node (seen past' desk').state.inputs → IsRingNode m past' desk' reach' queue' messages'
+        stopped_again reach' messages' reaches sends =
+            left_again m run s lawful_s keep desk' found past' past_is_front reach' queue' messages' here.range reaches spent (sends ∙ λ i. sent (node_is i) (inputs_are i))
+
+        pub stopped_reopened : view_with (seen past' desk') queue' ≡ reopened (left_by keep s) v
+        stopped_reopened = left_shown m run s lawful_s keep desk' found past' past_is_front queue' v spent here.is
+
+  -- ---- a stop while a batch flies
 
   -- the count of the inputs tells whether it has the batch
   told : (keep : Bool) → v.durable < length v.inputs → nat_lt v.durable (length (left_by keep (launched desk.state)).inputs) ≡ keep
@@ -230,60 +310,35 @@ module _ (m : Member) (desk : DeskView) (reach : Reach) (queue : List HeldView) 
   by_state true = refl
   by_state false = refl
 
-  -- no more is credited by what is left
-  few_credits : (keep : Bool) → is_credited v ≡ true → credit (left_by keep (launched desk.state)).inputs ≤ length messages
-  few_credits keep credited =
-      let all : credit desk.state.inputs ≤ length (sent desk.member.node (states.durable_in desk.state)) = grind (arith, nat_tests, credited) in
-      let same : length messages ≡ length (sent desk.member.node (states.durable_in desk.state)) = ap length (here.sends ∙ ap (λ (k : Member). sent k.node (states.durable_in desk.state)) (sym here.is)) in
-      let front = fronts keep in
-      omega arith
-    where
-      fronts : (keep : Bool) → credit (left_by keep (launched desk.state)).inputs ≤ credit desk.state.inputs
-      fronts true = credit_front m.node m.n m.capacity (launched_base desk.state) desk.state.inputs lawful_here.all (launched desk.state).flying
-      fronts false = credit_front m.node m.n m.capacity (launched_base desk.state) desk.state.inputs lawful_here.all desk.state.durable
+  module _ (run : ℕ) (keep : Bool) (desk' : DeskKept) (found : IsOpenedAs m run (left_by keep (launched desk.state)) desk') (past' : List Input) (is : past' ≡ take desk'.opening.inputs desk.state.inputs)
+      (queue' : List HeldView) (spent : queue' ≡ []) where
+    pub stopped_shown : (kept : Bool) → v.durable < length v.inputs → kept ≡ nat_lt v.durable (seen past' desk').state.durable → view_with (seen past' desk') queue' ≡ restarted (left kept v) v
+    stopped_shown kept waits tells =
+        let s = launched desk.state in
+        let all = all_durable s refl refl lawful_launched run keep desk' found past' is ∙ ap length (inputs_are s refl refl lawful_launched run keep desk' found past' is) in
+        let same_one : kept ≡ keep = tells ∙ (ap (nat_lt v.durable) all ∙ told keep waits) in
+        stopped_reopened s refl refl lawful_launched run keep desk' found past' is queue' spent
+        ∙ (restarts s keep v here.served.none refl ∙ (ap (λ l. restarted l v) (by_state keep) ∙ ap (λ b. restarted (left b v) v) (sym same_one)))
 
-  module _ (run : ℕ) (keep : Bool) (desk' : DeskKept) (found : IsOpenedAs m run (left_by keep (launched desk.state)) desk') (past' : List Input) (is : past' ≡ take desk'.opening.inputs desk.state.inputs) where
-    abbrev inputs : List Input
-    inputs = (left_by keep (launched desk.state)).inputs
+  -- ---- a stop while a checkpoint flies
 
-    pub stopped_behind : IsPast desk'.view.member desk'.opening past'
-    stopped_behind = left_behind m run (launched desk.state) here.served.none lawful_launched keep desk' found past' is
+  -- the epoch tells whether it has the new area
+  told_all : (keep : Bool) → nat_lt v.base.epoch (left_by keep (launched_all m.node desk.state)).base.epoch ≡ keep
+  told_all true = grind (arith, nat_tests)
+  told_all false = grind (arith, nat_tests)
 
-    stopped_seen : seen past' desk' ≡ opened_view m run (opened desk.state.base inputs)
-    stopped_seen = left_seen m run (launched desk.state) here.served.none lawful_launched keep desk' found past' is
+  by_state_all : (keep : Bool) → left_by keep (launched_all m.node desk.state) ≡ left_all keep v
+  by_state_all keep = ap (λ (k : Member). left_by keep (launched_all k.node desk.state)) (sym here.is)
 
-    inputs_are : (seen past' desk').state.inputs ≡ inputs
-    inputs_are = ap (λ (d : DeskView). d.state.inputs) stopped_seen
-
-    node_is : desk'.view.member.node ≡ m.node
-    node_is = ap (λ (d : DeskView). d.member.node) stopped_seen
-
-    pub all_durable : (seen past' desk').state.durable ≡ length (seen past' desk').state.inputs
-    all_durable = ap (λ (d : DeskView). d.state.durable) stopped_seen ∙ sym (ap length inputs_are)
-
-    pub sent_first : messages ≡ sent desk'.view.member.node (take desk.state.durable (seen past' desk').state.inputs)
-    sent_first =
-        here.sends ∙ (ap (sent m.node) (sym (left_first (launched desk.state) keep flies))
-        ∙ λ i. sent (sym node_is i) (take desk.state.durable (sym inputs_are i)))
-
-    pub credits_few : is_credited v ≡ true → credit (seen past' desk').state.inputs ≤ length messages
-    credits_few credited = let few = few_credits keep credited in let same = ap credit inputs_are in omega arith
-
-    module _ (queue' : List HeldView) (spent : queue' ≡ []) where
-      -- it has no open ticket
-      pub held_stopped : (from top : ℕ) × AreHeld desk'.view.member.node desk'.view.run from top desk'.view.tickets queue'
-      held_stopped =
-          (0, 0, subst (λ (a : DeskView × List HeldView). AreHeld a.0.member.node a.0.run 0 0 a.0.tickets a.1) (λ i. (sym stopped_seen i, sym spent i)) (held_none m.node run 0))
-
-      pub stopped_again : (reach' : Reach) (messages' : List Msg) → Reaches reach' (device_size m.capacity) → messages' ≡ sent desk'.view.member.node (seen past' desk').state.inputs → IsRingNode m past' desk' reach' queue' messages'
-      stopped_again reach' messages' reaches sends =
-          left_again m run (launched desk.state) here.served.none lawful_launched keep desk' found past' is reach' queue' messages' here.range reaches spent (sends ∙ λ i. sent (node_is i) (inputs_are i))
-
-      pub stopped_shown : (kept : Bool) → v.durable < length v.inputs → kept ≡ nat_lt v.durable (seen past' desk').state.durable → view_with (seen past' desk') queue' ≡ restarted (left kept v) v
-      stopped_shown kept waits tells =
-          let same_one : kept ≡ keep = tells ∙ (ap (nat_lt v.durable) (all_durable ∙ ap length inputs_are) ∙ told keep waits) in
-          left_shown m run (launched desk.state) here.served.none lawful_launched keep desk' found past' is queue' v spent here.is refl
-          ∙ (ap (λ l. restarted l v) (by_state keep) ∙ ap (λ b. restarted (left b v) v) (sym same_one))
+  module _ (run : ℕ) (keep : Bool) (desk' : DeskKept) (found : IsOpenedAs m run (left_by keep (launched_all m.node desk.state)) desk') (past' : List Input) (is : past' ≡ take desk'.opening.inputs desk.state.inputs)
+      (queue' : List HeldView) (spent : queue' ≡ []) where
+    pub stopped_all_shown : (kept : Bool) → kept ≡ nat_lt v.base.epoch (seen past' desk').state.base.epoch → view_with (seen past' desk') queue' ≡ reopened (left_all kept v) v
+    stopped_all_shown kept tells =
+        let s = launched_all m.node desk.state in
+        let area = ap (λ (d : DeskView). d.state.base.epoch) (stopped_seen s refl refl lawful_summarised run keep desk' found past' is) in
+        let same_one : kept ≡ keep = tells ∙ (ap (nat_lt v.base.epoch) area ∙ told_all keep) in
+        stopped_reopened s refl refl lawful_summarised run keep desk' found past' is queue' spent
+        ∙ (ap (λ (t : NodeState). reopened t v) (by_state_all keep) ∙ ap (λ b. reopened (left_all b v) v) (sym same_one))
 
 -- the numbers of the open tickets
 pub lost_serials : (desk : DeskView) (reach : Reach) (queue : List HeldView) → IsServed desk reach queue → filter_map (λ (h : HeldView). h.serial) queue ≡ filter_map serial_of (view_with desk queue).held

@@ -21,7 +21,7 @@ use Rattle.group_commit.specs.Past.{IsPast}
 use Rattle.node_store.specs.State.{opened_view}
 use Rattle.ring_node.specs.Messages.{carried_in}
 use Rattle.ring_node.specs.Held.{HeldView, AreInside, IsWhole, IsRingNode}
-use Rattle.ring_node.proofs.Sending.{sent-batch, batch-few, inside, inside-front}
+use Rattle.ring_node.proofs.Sending.{sent-flying, batch-few, inside, inside-front}
 use Rattle.ring_node.proofs.Serving as serving
 
 pub me_within : (m : Member) → is_header m ≡ true → m.node ≤ m.n
@@ -87,7 +87,7 @@ module _ (m : Member) (desk : DeskView) (reach : Reach) (queue : List HeldView) 
     few = let b = batch-few m.node desk.state within in let same = ap length carried in omega arith
 
     after : messages ++ carried_in found ≡ sent m.node (states.durable_in (desks.landed (desks.launched desk)).state)
-    after = (λ i. here.sends i ++ carried i) ∙ sent-batch m.node desk.state within
+    after = (λ i. here.sends i ++ carried i) ∙ sent-flying m.node (launched desk.state) (omega (arith, within))
 
     lawful_here : IsLawfulState m desk.state
     lawful_here = subst (λ (k : Member). IsLawfulState k desk.state) here.is here.served.lawful

@@ -13,7 +13,7 @@ use Rattle.ring_records.specs.declared.msg.Msg.{Msg}
 use Rattle.ring_records.specs.declared.packet.Packet.{Packet}
 use Rattle.ring_records.specs.declared.packet.Packet.TheVariants.{Carry}
 use Rattle.ring_records.specs.Admission.{IsAdmitted, IsInTurn, IsLawful}
-use Rattle.ring_records.specs.States.{NodeState, launched, flying_in}
+use Rattle.ring_records.specs.States.{NodeState, durable_in, flown_in, flying_in, launched}
 use Rattle.ring_records.specs.Emission.{emit, sent, carry}
 use Rattle.ring_records.specs.History.{message_of, taken}
 use Rattle.ring_records.specs.Lists.{found_after}
@@ -101,25 +101,26 @@ carried-within packets i =
     let sum = length-append (carried_in (take i packets)) (carried_in (drop i packets)) in
     omega arith
 
-module _ (me : ℕ) (s : NodeState) (within : s.durable ≤ length s.inputs) where
-  -- what a batch lets go follows what was sent before
-  pub sent-batch : sent me (take s.durable s.inputs) ++ carried_in (packets me (take s.durable s.inputs) (flying_in (launched s))) ≡ sent me (take (launched s).flying s.inputs)
-  sent-batch =
-      let f = (launched s).flying in
-      let sum : s.durable + (f - s.durable) ≡ f = omega (arith, within) in
-      let joined : take s.durable s.inputs ++ flying_in (launched s) ≡ take f s.inputs = sym (take-add s.durable (f - s.durable) s.inputs) ∙ ap (λ k. take k s.inputs) sum in
-      ap (λ ms. sent me (take s.durable s.inputs) ++ ms) (carried-packets me (take s.durable s.inputs) (flying_in (launched s)))
-      ∙ (sym (sent-append me (take s.durable s.inputs) (flying_in (launched s))) ∙ ap (sent me) joined)
+module _ (me : ℕ) (s : NodeState) (low : s.durable ≤ s.flying) where
+  -- what flies lets go follows what was sent before
+  pub sent-flying : sent me (durable_in s) ++ carried_in (packets me (durable_in s) (flying_in s)) ≡ sent me (flown_in s)
+  sent-flying =
+      let sum : s.durable + (s.flying - s.durable) ≡ s.flying = omega (arith, low) in
+      let joined : durable_in s ++ flying_in s ≡ flown_in s = sym (take-add s.durable (s.flying - s.durable) s.inputs) ∙ ap (λ k. take k s.inputs) sum in
+      ap (λ ms. sent me (durable_in s) ++ ms) (carried-packets me (durable_in s) (flying_in s))
+      ∙ (sym (sent-append me (durable_in s) (flying_in s)) ∙ ap (sent me) joined)
 
-  -- and is of 64 messages at most
-  pub batch-few : length (carried_in (packets me (take s.durable s.inputs) (flying_in (launched s)))) ≤ 64
-  batch-few =
-      let h = take s.durable s.inputs in
-      let l = flying_in (launched s) in
-      let same = ap length (carried-packets me h l) in
-      let few = found-few (emit me) h l in
-      let long = length-take ((launched s).flying - s.durable) (drop s.durable s.inputs) in
+  -- and is of no more messages than inputs
+  pub flying-few : length (carried_in (packets me (durable_in s) (flying_in s))) ≤ s.flying - s.durable
+  flying-few =
+      let same = ap length (carried-packets me (durable_in s) (flying_in s)) in
+      let few = found-few (emit me) (durable_in s) (flying_in s) in
+      let long = length-take (s.flying - s.durable) (drop s.durable s.inputs) in
       omega arith
+
+-- a batch is of 64 messages at most
+pub batch-few : (me : ℕ) (s : NodeState) → s.durable ≤ length s.inputs → length (carried_in (packets me (durable_in s) (flying_in (launched s)))) ≤ 64
+batch-few me s within = let few = flying-few me (launched s) (omega (arith, within)) in omega arith
 
 -- ---- candidates
 

@@ -32,7 +32,7 @@ use Rattle.group_commit.specs.Ticket.{TicketView}
 use Rattle.ring_records.proofs.States.{base-fresh, lawful-opened, lawful-asked, lawful-launched, lawful-landed}
 use Rattle.group_commit.specs.Past.{IsPast}
 use Rattle.node_store.specs.State.{ReadsAsLeft, opened_view}
-use Rattle.ring_node.specs.Node.{NodeView, new_node, asked_with, flushed, restarted, IsShownBy}
+use Rattle.ring_node.specs.Node.{NodeView, new_node, asked_with, flushed, reopened, IsShownBy}
 use Rattle.ring_node.specs.Open.{is_due}
 use Rattle.ring_node.specs.Held.{HeldView, MatchFirst, AreHeld, shown_with, view_with, reach_of, IsServed}
 use Rattle.ring_node.proofs.Queue.{First, held_none, held_more, shown_more, first, held_from, none_due, ended_first, found_first}
@@ -68,10 +68,10 @@ pub new_shown : (node n capacity : ℕ) → view_with (opened_view (member node 
 unfolding shown_with
 new_shown node n capacity = refl
 
--- it shows these inputs, and the area in use
-pub starts_shown : (m : Member) (run : ℕ) (base : Base) (inputs : List Input) (v : NodeView) → v.member ≡ m → v.base ≡ base → view_with (opened_view m run (opened base inputs)) [] ≡ restarted inputs v
-unfolding restarted shown_with
-starts_shown m run base inputs v member_is base_is = λ i. record { member = sym member_is i; inputs = inputs; durable = length inputs; base = sym base_is i; held = []; issued = 0 }
+-- it shows that state
+pub reopens_shown : (m : Member) (run : ℕ) (s : NodeState) (v : NodeView) → v.member ≡ m → view_with (opened_view m run s) [] ≡ reopened s v
+unfolding reopened shown_with
+reopens_shown m run s v member_is = λ i. record { member = sym member_is i; inputs = s.inputs; durable = s.durable; base = s.base; held = []; issued = 0 }
 
 pub none_lawful : (me n capacity : ℕ) → IsLawfulState (member me n capacity) (opened fresh [])
 unfolding IsLawful EachAfter

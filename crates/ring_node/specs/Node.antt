@@ -1,14 +1,19 @@
 -- What a node of the ring shows, and what its calls make of it. Nothing flies between its calls.
-use Rattle.std.specs.Prelude.{ℕ, ◌≡◌, ◌+◌, Bool, nat_le, List, [], ◌∷◌, ◌++◌, length, take, Option, None}
+use Rattle.std.specs.Prelude.{ℕ, ◌≡◌, ◌+◌, Bool, nat_le, nat_lt, List, [], ◌∷◌, ◌++◌, length, take, Option, None}
 use Rattle.ring_records.specs.declared.base.Base.{Base}
 use Rattle.ring_records.specs.declared.input.Input.{Input}
+use Rattle.ring_records.specs.declared.refusal.Refusal.{Refusal}
+use Rattle.ring_records.specs.declared.refusal.Refusal.TheVariants.{Full, Limit}
 use Rattle.ring_records.specs.declared.request.Request.{Request}
-use Rattle.ring_records.specs.States.{NodeState, gained_by, answered_by, launched, left_by}
-use Rattle.ring_records.specs.Admission.{fresh}
+use Rattle.ring_records.specs.States.{NodeState, gained_by, answered_by, launched, launched_all, next_base, left_by}
+use Rattle.ring_records.specs.Admission.{fresh, where_so}
 use Rattle.ring_records.specs.Emission.{sent}
 use Rattle.ring_records.specs.History.{credit}
+use Rattle.ring_records.specs.Lists.{or_else}
 use Rattle.ring_records.specs.Member.{Member, member}
-use Rattle.group_commit.specs.Desk.{DeskKept}
+use Rattle.ring_records.specs.Snapshot.{snapshot_len}
+use Rattle.ring_records.specs.Summary.{summary}
+use Rattle.group_commit.specs.Desk.{DeskKept, epochs}
 use Rattle.group_commit.specs.Past.{IsPast}
 use Rattle.ring_node.specs.Open.{Open}
 
@@ -61,6 +66,17 @@ flown v = (launched (state_of v)).flying
 abbrev pub flushed : NodeView → NodeView
 flushed v = record v { durable = flown v }
 
+-- ---- checkpoints
+
+-- why none is begun, want of memory aside: the journal may write no other area, or the snapshot of all inputs is longer than
+-- the capacity
+abbrev pub checkpoint_refusal : Member → NodeState → Option Refusal
+checkpoint_refusal m s = or_else (where_so (nat_le epochs (s.base.epoch + 1)) Limit) (where_so (nat_lt m.capacity (snapshot_len (summary m.node s.inputs))) Full)
+
+-- after one landed: all inputs are durable, and their summary begins the area in use
+abbrev pub checkpointed : NodeView → NodeView
+checkpointed v = record v { durable = length v.inputs; base = next_base v.member.node v.base v.inputs }
+
 -- ---- crashes
 
 -- no more messages are credited than its durable inputs sent
@@ -74,3 +90,11 @@ restarted inputs v = record v { inputs = inputs; durable = length inputs; held =
 -- the inputs that a stop within a flush leaves: with the batch, or without
 abbrev pub left : Bool → NodeView → List Input
 left keeps_flying v = (left_by keeps_flying (launched (state_of v))).inputs
+
+-- the state that a stop within a checkpoint leaves: with all inputs and their summary, or with those that were durable
+abbrev pub left_all : Bool → NodeView → NodeState
+left_all keeps_flying v = left_by keeps_flying (launched_all v.member.node (state_of v))
+
+-- after it was opened again in this state: no ticket is open
+unfoldable pub reopened : NodeState → NodeView → NodeView
+reopened s v = record v { inputs = s.inputs; durable = s.durable; base = s.base; held = []; issued = 0 }

@@ -1,6 +1,7 @@
 //! A durable node of a ring in memory.
 #![tactic(auto)]
 
+mod checkpoint;
 mod held;
 mod messages;
 mod node;

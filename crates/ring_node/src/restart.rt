@@ -163,7 +163,7 @@ fn flush_or_fail(node: &mut Node<Disk>) -> Result<(), AllocError>
 }
 
 // Opens the node that the device holds.
-fn reopened(
+pub(crate) fn reopened(
     alloc: Global,
     device: MemDevice,
     me: NodeNo,
@@ -185,7 +185,7 @@ fn reopened(
 }
 
 // The inputs of the past, and those since of the node.
-fn joined(mut past: Vec<Input>, node: &Node<Disk>) -> Result<Vec<Input>, AllocError>
+pub(crate) fn joined(mut past: Vec<Input>, node: &Node<Disk>) -> Result<Vec<Input>, AllocError>
     ensures { IfOk result (λ all. all.items ≡ past.items ++ (nodes.state_of node.now).inputs) }
 {
     past.extend_from_slice(node.history())?;
@@ -193,7 +193,7 @@ fn joined(mut past: Vec<Input>, node: &Node<Disk>) -> Result<Vec<Input>, AllocEr
 }
 
 // The first of these inputs, as many as the node's opening stands for.
-fn summarised(mut all: Vec<Input>, node: &Node<Disk>) -> Vec<Input>
+pub(crate) fn summarised(mut all: Vec<Input>, node: &Node<Disk>) -> Vec<Input>
     ensures { result.items ≡ take (nodes.desk_of node.now).opening.inputs all.items }
 {
     all.truncate(node.desk().first() as usize);
@@ -202,7 +202,11 @@ fn summarised(mut all: Vec<Input>, node: &Node<Disk>) -> Vec<Input>
 
 // The messages that the first inputs of the desk's whole history sent, behind its past, and those that the others sent. All
 // its inputs are durable.
-fn caught_up(mut messages: Vec<Msg>, desk: &Desk, past: &Vec<Input>) -> Result<Vec<Msg>, AllocError>
+pub(crate) fn caught_up(
+    mut messages: Vec<Msg>,
+    desk: &Desk,
+    past: &Vec<Input>,
+) -> Result<Vec<Msg>, AllocError>
     requires behind { IsPast desk.now.view.member desk.now.opening past.now.items }
     requires durable { (seen past.now.items desk.now).state.durable ≡ length (seen past.now.items desk.now).state.inputs }
     requires sent { (k : ℕ) × (messages.items ≡ sent desk.now.view.member.node (take k (seen past.now.items desk.now).state.inputs)) }

@@ -186,8 +186,9 @@ impl Desk {
         None
     }
 
-    // Why no checkpoint is launched, before memory is asked for.
-    fn checkpoint_objection(&self) -> Option<Refusal>
+    /// Why no checkpoint is launched, want of memory aside: 9 where the desk has failed, 12 where a batch or a checkpoint
+    /// is flying, 6 where the journal may write no other area, 7 where the snapshot is longer than the capacity.
+    pub fn checkpoint_objection(&self) -> Option<Refusal>
         ensures { result ≡ checkpoint_objection self.now }
     {
         if let Some(refusal) = self.launch_objection() {

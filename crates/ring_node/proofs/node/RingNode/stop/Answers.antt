@@ -1,4 +1,4 @@
-use Rattle.std.proofs.Common.{ℕ, ◌≡◌, ◌≤◌, ◌<◌, true, length, take, nat_lt, ap, subst, sym, ◌∙◌}
+use Rattle.std.proofs.Common.{refl, ℕ, ◌≡◌, ◌≤◌, ◌<◌, true, length, take, nat_lt, ap, subst, sym, ◌∙◌}
 use Rattle.std.specs.List.{filter_map}
 use Rattle.disk_model.specs.MemDevice.{disk_of}
 use Rattle.ring_records.specs.States.{launched}
@@ -36,48 +36,48 @@ pub caught_up-requires-clause-behind : goal.caught_up-requires-clause-behind
 caught_up-requires-clause-behind c =
     let found = c.in_ok-node.ensures.desk (launched (seen c.self.inside.past.items c.self.inside.node.desk).state) (lawful_launched _ _ _ _ _ c.self.invariant.whole) (held (goal.at.caught_up-requires-clause-behind c).In_ok-device) in
     let past = c.summarised-past.ensures ∙ ap (take c.in_ok-node.node.desk.opening.inputs) c.in_ok-past.ensures in
-    subst (λ (d : DeskKept). IsPast d.view.member d.opening c.summarised-past.result.items) (sym c.desk.ensures) (stopped_behind _ _ _ _ _ c.self.invariant.whole _ found.0 c.in_ok-node.node.desk found.1 _ past)
+    subst (λ (d : DeskKept). IsPast d.view.member d.opening c.summarised-past.result.items) (sym c.desk.ensures) (stopped_behind _ _ _ _ _ c.self.invariant.whole (launched (seen c.self.inside.past.items c.self.inside.node.desk).state) refl refl (lawful_launched _ _ _ _ _ c.self.invariant.whole) _ found.0 c.in_ok-node.node.desk found.1 _ past)
 
 pub caught_up-requires-clause-durable : goal.caught_up-requires-clause-durable
 caught_up-requires-clause-durable c =
     let found = c.in_ok-node.ensures.desk (launched (seen c.self.inside.past.items c.self.inside.node.desk).state) (lawful_launched _ _ _ _ _ c.self.invariant.whole) (held (goal.at.caught_up-requires-clause-durable c).In_ok-device) in
     let past = c.summarised-past.ensures ∙ ap (take c.in_ok-node.node.desk.opening.inputs) c.in_ok-past.ensures in
-    subst (λ (d : DeskKept). (seen c.summarised-past.result.items d).state.durable ≡ length (seen c.summarised-past.result.items d).state.inputs) (sym c.desk.ensures) (all_durable _ _ _ _ _ c.self.invariant.whole _ found.0 c.in_ok-node.node.desk found.1 _ past)
+    subst (λ (d : DeskKept). (seen c.summarised-past.result.items d).state.durable ≡ length (seen c.summarised-past.result.items d).state.inputs) (sym c.desk.ensures) (all_durable _ _ _ _ _ c.self.invariant.whole (launched (seen c.self.inside.past.items c.self.inside.node.desk).state) refl refl (lawful_launched _ _ _ _ _ c.self.invariant.whole) _ found.0 c.in_ok-node.node.desk found.1 _ past)
 
 pub caught_up-requires-clause-sent : goal.caught_up-requires-clause-sent
 caught_up-requires-clause-sent c =
     let found = c.in_ok-node.ensures.desk (launched (seen c.self.inside.past.items c.self.inside.node.desk).state) (lawful_launched _ _ _ _ _ c.self.invariant.whole) (held (goal.at.caught_up-requires-clause-sent c).In_ok-device) in
     let past = c.summarised-past.ensures ∙ ap (take c.in_ok-node.node.desk.opening.inputs) c.in_ok-past.ensures in
     let durable = (seen c.self.inside.past.items c.self.inside.node.desk).state.durable in
-    (durable, subst (λ (d : DeskKept). c.self.inside.messages.items ≡ sent d.view.member.node (take durable (seen c.summarised-past.result.items d).state.inputs)) (sym c.desk.ensures) (sent_first _ _ _ _ _ c.self.invariant.whole _ found.0 c.in_ok-node.node.desk found.1 _ past))
+    (durable, subst (λ (d : DeskKept). c.self.inside.messages.items ≡ sent d.view.member.node (take durable (seen c.summarised-past.result.items d).state.inputs)) (sym c.desk.ensures) (sent_first _ _ _ _ _ c.self.invariant.whole (launched (seen c.self.inside.past.items c.self.inside.node.desk).state) refl refl (lawful_launched _ _ _ _ _ c.self.invariant.whole) _ found.0 c.in_ok-node.node.desk found.1 _ past))
 
 pub caught_up-requires-clause-credited : goal.caught_up-requires-clause-credited
 caught_up-requires-clause-credited c =
     let found = c.in_ok-node.ensures.desk (launched (seen c.self.inside.past.items c.self.inside.node.desk).state) (lawful_launched _ _ _ _ _ c.self.invariant.whole) (held (goal.at.caught_up-requires-clause-credited c).In_ok-device) in
     let past = c.summarised-past.ensures ∙ ap (take c.in_ok-node.node.desk.opening.inputs) c.in_ok-past.ensures in
     let credited = subst (λ (v : NodeView). is_credited v ≡ true) (sym c.self.view_is) c.requires.credited in
-    subst (λ (d : DeskKept). credit (seen c.summarised-past.result.items d).state.inputs ≤ length c.self.inside.messages.items) (sym c.desk.ensures) (credits_few _ _ _ _ _ c.self.invariant.whole _ found.0 c.in_ok-node.node.desk found.1 _ past credited)
+    subst (λ (d : DeskKept). credit (seen c.summarised-past.result.items d).state.inputs ≤ length c.self.inside.messages.items) (sym c.desk.ensures) (credits_few _ _ _ _ _ c.self.invariant.whole (launched (seen c.self.inside.past.items c.self.inside.node.desk).state) refl refl (lawful_launched _ _ _ _ _ c.self.invariant.whole) _ found.0 c.in_ok-node.node.desk found.1 _ past credited)
 
 pub invariant_of-again : goal.invariant_of-again
 invariant_of-again c =
     let found = c.in_ok-node.ensures.desk (launched (seen c.self.inside.past.items c.self.inside.node.desk).state) (lawful_launched _ _ _ _ _ c.self.invariant.whole) (held (goal.at.invariant_of-again c).In_ok-device) in
     let past = c.summarised-past.ensures ∙ ap (take c.in_ok-node.node.desk.opening.inputs) c.in_ok-past.ensures in
     let sends = c.in-Ok.ensures ∙ ap (λ (d : DeskKept). sent d.view.member.node (seen c.summarised-past.result.items d).state.inputs) c.desk.ensures in
-    stopped_again _ _ _ _ _ c.self.invariant.whole _ found.0 c.in_ok-node.node.desk found.1 _ past _ c.new-held.ensures.items _ c.in-Ok.messages.items c.in_ok-node.ensures.reaches sends
+    stopped_again _ _ _ _ _ c.self.invariant.whole (launched (seen c.self.inside.past.items c.self.inside.node.desk).state) refl refl (lawful_launched _ _ _ _ _ c.self.invariant.whole) _ found.0 c.in_ok-node.node.desk found.1 _ past _ c.new-held.ensures.items _ c.in-Ok.messages.items c.in_ok-node.ensures.reaches sends
 
 -- it has no open ticket
 pub closed-device-requires : goal.closed-device-requires
 closed-device-requires c =
     let found = c.in_ok-node.ensures.desk (launched (seen c.self.inside.past.items c.self.inside.node.desk).state) (lawful_launched _ _ _ _ _ c.self.invariant.whole) (held (goal.at.closed-device-requires c).In_ok-device) in
     let past = c.summarised-past.ensures ∙ ap (take c.in_ok-node.node.desk.opening.inputs) c.in_ok-past.ensures in
-    record { held = held_stopped _ _ _ _ _ c.self.invariant.whole _ found.0 c.in_ok-node.node.desk found.1 _ past _ c.new-held.ensures.items }
+    record { held = held_stopped _ _ _ _ _ c.self.invariant.whole (launched (seen c.self.inside.past.items c.self.inside.node.desk).state) refl refl (lawful_launched _ _ _ _ _ c.self.invariant.whole) _ found.0 c.in_ok-node.node.desk found.1 _ past _ c.new-held.ensures.items }
 
 pub returns-in-Ok-clause-next : goal.returns-in-Ok-clause-next
 returns-in-Ok-clause-next c =
     let found = c.in_ok-node.ensures.desk (launched (seen c.self.inside.past.items c.self.inside.node.desk).state) (lawful_launched _ _ _ _ _ c.self.invariant.whole) (held (goal.at.returns-in-Ok-clause-next c).In_ok-device) in
     let past = c.summarised-past.ensures ∙ ap (take c.in_ok-node.node.desk.opening.inputs) c.in_ok-past.ensures in
     let waits = subst (λ (v : NodeView). v.durable < length v.inputs) (sym c.self.view_is) c.requires.waits in
-    let behind = stopped_behind _ _ _ _ _ c.self.invariant.whole _ found.0 c.in_ok-node.node.desk found.1 _ past in
+    let behind = stopped_behind _ _ _ _ _ c.self.invariant.whole (launched (seen c.self.inside.past.items c.self.inside.node.desk).state) refl refl (lawful_launched _ _ _ _ _ c.self.invariant.whole) _ found.0 c.in_ok-node.node.desk found.1 _ past in
     let keeps = nat_lt c.durable-durable.result c.durable.result in
     let tells : keeps ≡ nat_lt (seen c.self.inside.past.items c.self.inside.node.desk).state.durable (seen c.summarised-past.result.items c.in_ok-node.node.desk).state.durable =
     λ i. nat_lt ((c.durable-durable.ensures ∙ count_past c.self.inside.past.items c.self.inside.node.desk _ c.self.invariant.behind) i) ((c.durable.ensures ∙ count_past c.summarised-past.result.items c.in_ok-node.node.desk _ behind) i) in
