@@ -1,4 +1,4 @@
--- No command has fewer words than two, or more than five.
+-- No command has fewer words than two, or more than six.
 use Rattle.std.proofs.Common.{◌≡◌, ℕ, ◌<◌, ◌≤◌, List, length, map, Err, Bor, refl, arith}
 use Rattle.ring_records.specs.declared.refusal.Refusal.TheVariants.{BadLine}
 use Rattle.line_words.specs.Forms.{form_says}
@@ -7,11 +7,11 @@ use Rattle.fault_console.specs.Commands.{commands, shapes}
 
 pub few_words : (nodes : ℕ) (words : List (Bor (List ℕ))) → length words < 2 → Err BadLine ≡ form_says (commands nodes) (map (λ x. x.now) words)
 unfolding commands
-few_words nodes words few = too_few (commands nodes) words 2 5 refl few
+few_words nodes words few = too_few (commands nodes) words 2 6 refl few
 
-pub many_words : (nodes : ℕ) (words : List (Bor (List ℕ))) → 6 ≤ length words → Err BadLine ≡ form_says (commands nodes) (map (λ x. x.now) words)
+pub many_words : (nodes : ℕ) (words : List (Bor (List ℕ))) → 7 ≤ length words → Err BadLine ≡ form_says (commands nodes) (map (λ x. x.now) words)
 unfolding commands
-many_words nodes words many = too_many (commands nodes) words 2 5 refl (omega arith)
+many_words nodes words many = too_many (commands nodes) words 2 6 refl (omega arith)
 
 -- and `ring` has two to four
 

@@ -11,7 +11,7 @@ use Rattle.ring_world.specs.Ring.{carried}
 use Rattle.ring_world.specs.State.{State, opened}
 use Rattle.ring_world.specs.Step.{Told, Steps, stepped, submitted, put, unknown, spent, no_node, all_told, objection_to, refusal_of}
 use Rattle.ring_world.specs.declared.event.Event.{Event}
-use Rattle.ring_world.specs.declared.event.Event.TheVariants.{Submit, Flush, Deliver, DeliverAll, Credit, Crash, Stop}
+use Rattle.ring_world.specs.declared.event.Event.TheVariants.{Submit, Flush, Deliver, DeliverAll, Credit, Crash, Stop, Checkpoint, StopCheckpoint}
 use Rattle.line_words.specs.Forms.{line_says}
 use Rattle.fault_console.specs.Commands.{is_silent, shapes, commands}
 use Rattle.fault_console.specs.declared.commands.Command.{Command}
@@ -105,6 +105,8 @@ event_some keeps_flying w DeliverAll free = omega arith
 event_some keeps_flying w (Credit from upto) free = asked_some _ _
 event_some keeps_flying w (Crash node) free = last_some _ _
 event_some keeps_flying w (Stop node call tear) free = last_some _ _
+event_some keeps_flying w (Checkpoint node) free = omega arith
+event_some keeps_flying w (StopCheckpoint node call tear) free = last_some _ _
 
 happens_some : (w : State) (event : Event) (r : Option Refusal) (out : List (List ℕ)) (next : Option State) → refusal_of w event ≡ r → Happens w event r out next → 1 ≤ length out
 unfolding Steps

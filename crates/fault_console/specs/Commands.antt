@@ -7,7 +7,7 @@ use Rattle.ring_records.specs.declared.limits.TheConstants.{GREATEST_CAPACITY, L
 use Rattle.ring_records.specs.declared.key.Key.{Key}
 use Rattle.ring_records.specs.declared.request.Request.{Request}
 use Rattle.ring_records.specs.declared.request.Request.TheVariants.{Stand, Who, Latest}
-use Rattle.ring_world.specs.declared.event.Event.TheVariants.{Submit, Flush, Deliver, DeliverAll, Credit, Crash, Stop}
+use Rattle.ring_world.specs.declared.event.Event.TheVariants.{Submit, Flush, Deliver, DeliverAll, Credit, Crash, Stop, Checkpoint, StopCheckpoint}
 use Rattle.fault_console.specs.declared.commands.Command.{Command}
 use Rattle.fault_console.specs.declared.commands.Command.TheVariants as ask
 use Rattle.fault_console.specs.declared.commands.RingShape.{RingShape}
@@ -52,6 +52,8 @@ commands nodes =
     let node = Number 1 nodes in
     let count = Number 0 9999999999 in
     let call = Number 1 4 in
+    let checkpoint = Fixed (codes "checkpoint") in
+    let checkpoint_call = Number 1 6 in
     (Fixed (codes "stand") ∷ node ∷ Name ∷ term ∷ bid ∷ [], λ i g t b. requested i (Stand (key g t) b))
     ∷ (Fixed (codes "who") ∷ node ∷ Name ∷ term ∷ [], λ i g t. requested i (Who (key g t)))
     ∷ (Fixed (codes "latest") ∷ node ∷ Name ∷ [], λ i g. requested i (Latest g))
@@ -59,9 +61,13 @@ commands nodes =
     ∷ (Fixed (codes "deliver") ∷ node ∷ count ∷ [], λ i no. ask.Event (Deliver i no))
     ∷ (Fixed (codes "credit") ∷ node ∷ count ∷ [], λ i upto. ask.Event (Credit i upto))
     ∷ (Fixed (codes "flush") ∷ node ∷ [], λ i. ask.Event (Flush i))
+    ∷ (checkpoint ∷ node ∷ [], λ i. ask.Event (Checkpoint i))
     ∷ (Fixed (codes "crash") ∷ node ∷ [], λ i. ask.Event (Crash i))
     ∷ (Fixed (codes "stop") ∷ node ∷ call ∷ Fixed (codes "old") ∷ [], λ i k. ask.Event (Stop i k Old))
     ∷ (Fixed (codes "stop") ∷ node ∷ call ∷ Fixed (codes "new") ∷ [], λ i k. ask.Event (Stop i k New))
     ∷ (Fixed (codes "stop") ∷ node ∷ call ∷ Fixed (codes "fill") ∷ Number 0 255 ∷ [], λ i k b. ask.Event (Stop i k (Fill b)))
+    ∷ (Fixed (codes "stop") ∷ node ∷ checkpoint ∷ checkpoint_call ∷ Fixed (codes "old") ∷ [], λ i k. ask.Event (StopCheckpoint i k Old))
+    ∷ (Fixed (codes "stop") ∷ node ∷ checkpoint ∷ checkpoint_call ∷ Fixed (codes "new") ∷ [], λ i k. ask.Event (StopCheckpoint i k New))
+    ∷ (Fixed (codes "stop") ∷ node ∷ checkpoint ∷ checkpoint_call ∷ Fixed (codes "fill") ∷ Number 0 255 ∷ [], λ i k b. ask.Event (StopCheckpoint i k (Fill b)))
     ∷ (Fixed (codes "show") ∷ node ∷ [], λ i. ask.Show i)
     ∷ []

@@ -15,7 +15,7 @@ use Rattle.ring_world.specs.Events.{state_after}
 use Rattle.ring_world.specs.State.{State, opened}
 use Rattle.ring_world.specs.Step.{Told, Steps, refusal_of, no_node}
 use Rattle.ring_world.specs.declared.event.Event.{Event}
-use Rattle.ring_world.specs.declared.event.Event.TheVariants.{Submit, Flush, Deliver, DeliverAll, Credit, Crash, Stop}
+use Rattle.ring_world.specs.declared.event.Event.TheVariants.{Submit, Flush, Deliver, DeliverAll, Credit, Crash, Stop, Checkpoint, StopCheckpoint}
 use Rattle.line_words.specs.Forms.{line_says}
 use Rattle.line_words.specs.Texts.{text_of, IsFront}
 use Rattle.line_words.specs.Words.{lines_of}
@@ -48,6 +48,9 @@ up_line node count = codes "up " ++ decimal node ++ codes " " ++ decimal count
 abbrev pub flushed_line : ℕ → List ℕ
 flushed_line count = codes "flushed " ++ decimal count
 
+abbrev pub checkpointed_line : ℕ → List ℕ
+checkpointed_line count = codes "checkpointed " ++ decimal count
+
 abbrev pub delivered_line : ℕ → List ℕ
 delivered_line count = codes "delivered " ++ decimal count
 
@@ -75,6 +78,9 @@ asked_lines o = map reply_line o.replies ++ sealed_lines (sealed_of o.ticket o.r
 abbrev pub flushed_lines : Told → List (List ℕ)
 flushed_lines o = flushed_line (unwrap_or o.flushed 0) ∷ map reply_line o.replies
 
+abbrev pub checkpointed_lines : Told → List (List ℕ)
+checkpointed_lines o = checkpointed_line (unwrap_or o.flushed 0) ∷ map reply_line o.replies
+
 abbrev pub reopened_lines : ℕ → Told → List (List ℕ)
 reopened_lines node o = map lost_line o.lost ++ (up_line node (unwrap_or o.up 0) ∷ [])
 
@@ -87,6 +93,8 @@ lines_told DeliverAll o = delivered_line (unwrap_or o.delivered 0) ∷ []
 lines_told (Credit from upto) o = asked_lines o
 lines_told (Crash node) o = reopened_lines node o
 lines_told (Stop node call tear) o = reopened_lines node o
+lines_told (Checkpoint node) o = checkpointed_lines o
+lines_told (StopCheckpoint node call tear) o = reopened_lines node o
 
 -- ---- what a world shows of a node
 

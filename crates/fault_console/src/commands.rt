@@ -124,6 +124,12 @@ fn read_call(word: &[u8]) -> Result<u64, Refusal>
     read_number(word, 1, 4)
 }
 
+fn read_checkpoint_call(word: &[u8]) -> Result<u64, Refusal>
+    ensures { result ≡ number_word 1 6 word.now }
+{
+    read_number(word, 1, 6)
+}
+
 // The commands of two words.
 #[tactic(auto, unfolding(line_words::specs::Forms::form_says, crate::specs::Commands::commands))]
 fn of_two(nodes: u8, verb: &[u8], i: &[u8]) -> Result<Command, Refusal>
@@ -134,6 +140,8 @@ fn of_two(nodes: u8, verb: &[u8], i: &[u8]) -> Result<Command, Refusal>
         Ok(Command::Event(Event::DeliverAll))
     } else if verb == b"flush".as_slice() {
         Ok(Command::Event(Event::Flush(read_node(nodes, i)?)))
+    } else if verb == b"checkpoint".as_slice() {
+        Ok(Command::Event(Event::Checkpoint(read_node(nodes, i)?)))
     } else if verb == b"crash".as_slice() {
         Ok(Command::Event(Event::Crash(read_node(nodes, i)?)))
     } else if verb == b"show".as_slice() {
@@ -222,9 +230,55 @@ fn of_five(
         let call = read_call(x)?;
         let tear = Tear::Fill(read_number(z, 0, 255)? as u8);
         Ok(Command::Event(Event::Stop { node, call, tear }))
+    } else if verb == b"stop".as_slice()
+        && x == b"checkpoint".as_slice()
+        && z == b"old".as_slice()
+    {
+        let node = read_node(nodes, i)?;
+        let call = read_checkpoint_call(y)?;
+        Ok(Command::Event(Event::StopCheckpoint {
+            node,
+            call,
+            tear: Tear::Old,
+        }))
+    } else if verb == b"stop".as_slice()
+        && x == b"checkpoint".as_slice()
+        && z == b"new".as_slice()
+    {
+        let node = read_node(nodes, i)?;
+        let call = read_checkpoint_call(y)?;
+        Ok(Command::Event(Event::StopCheckpoint {
+            node,
+            call,
+            tear: Tear::New,
+        }))
     } else {
         Err(Refusal::BadLine)
     }
+}
+
+// Those of six.
+#[tactic(auto, unfolding(line_words::specs::Forms::form_says, crate::specs::Commands::commands))]
+fn of_six(
+    nodes: u8,
+    verb: &[u8],
+    i: &[u8],
+    what: &[u8],
+    call: &[u8],
+    tear: &[u8],
+    byte: &[u8],
+) -> Result<Command, Refusal>
+    requires { nodes ≤ 16 }
+    ensures { result ≡ form_says (commands nodes) (verb.now ∷ i.now ∷ what.now ∷ call.now ∷ tear.now ∷ byte.now ∷ []) }
+{
+    let stops = verb == b"stop".as_slice() && what == b"checkpoint".as_slice();
+    if !stops || tear != b"fill".as_slice() {
+        return Err(Refusal::BadLine);
+    }
+    let node = read_node(nodes, i)?;
+    let call = read_checkpoint_call(call)?;
+    let tear = Tear::Fill(read_number(byte, 0, 255)? as u8);
+    Ok(Command::Event(Event::StopCheckpoint { node, call, tear }))
 }
 
 fn command_of(nodes: u8, words: &[&[u8]]) -> Result<Command, Refusal>
@@ -236,6 +290,7 @@ fn command_of(nodes: u8, words: &[&[u8]]) -> Result<Command, Refusal>
         [verb, i, x] => of_three(nodes, verb, i, x),
         [verb, i, x, y] => of_four(nodes, verb, i, x, y),
         [verb, i, x, y, z] => of_five(nodes, verb, i, x, y, z),
+        [verb, i, what, call, tear, byte] => of_six(nodes, verb, i, what, call, tear, byte),
         _ => Err(Refusal::BadLine),
     }
 }

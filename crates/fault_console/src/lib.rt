@@ -10,10 +10,13 @@
 //! - `credit I U`: node I tells the node before it that it took U messages.
 //!
 //! `deliver all` delivers what may be released, and prints `delivered C`. `flush I` makes a batch of node I durable,
-//! and prints `flushed C` and the replies that rested on it. `crash I` takes node I's memory, and `stop I K TEAR` stops
-//! its flush at device call K, 1 to 4, and tears what was not synced: `old`, `new` or `fill B`. Both open it again, and
-//! print `K: lost` for each ticket that was open there and `up I H`, H its inputs. `show I` prints the counts of node
-//! I. A line that is refused prints its refusal alone. Tickets that are open at the end are given up without a line.
+//! and prints `flushed C` and the replies that rested on it. `checkpoint I` makes a summary of all inputs of node I
+//! durable, which frees the room of what they took in its journal, and prints `checkpointed C` and the replies. `crash
+//! I` takes node I's memory, and `stop I K TEAR` stops its flush at device call K, 1 to 4, and tears what was not
+//! synced: `old`, `new` or `fill B`; `stop I checkpoint K TEAR`, K 1 to 6, stops a checkpoint, also where nothing
+//! waits. These open it again, and print `K: lost` for each ticket that was open there and `up I H`, H its inputs.
+//! `show I` prints the counts of node I. A line that is refused prints its refusal alone. Tickets that are open at the
+//! end are given up without a line.
 //!
 //! `specs/` says what a script may print: Commands has the form of each command, Script the texts. Lines, words and
 //! numbers are those of line_words.

@@ -2,7 +2,7 @@
 ghost use Rattle.std.specs.Prelude.{◌≡◌, ◌≤◌, ◌+◌, ◌<◌, ◌^◌, ◌∷◌, ◌++◌, [], OnOk, string_bytes, length, map};
 ghost use Rattle.line_words.specs.Texts.{AddsLine, AddsLines};
 ghost use Rattle.ring_world.specs.Step.{told};
-ghost use Rattle.fault_console.specs.Script.{ring_line, reply_line, sealed_line, lost_line, up_line, flushed_line, delivered_line, show_line, is_answered, sealed_of, sealed_lines, lines_told};
+ghost use Rattle.fault_console.specs.Script.{ring_line, reply_line, sealed_line, lost_line, up_line, flushed_line, checkpointed_line, delivered_line, show_line, is_answered, sealed_of, sealed_lines, lines_told};
 
 use ring_records::{NodeNo, Reply, Shown};
 use ring_world::{Event, Outcome};
@@ -44,6 +44,12 @@ fn print_flushed(out: &mut String, count: u32) -> Result<(), AllocError>
     ensures { OnOk result (AddsLine (string_bytes out.old) (string_bytes out.new) (flushed_line count)) }
 {
     writeln!(out, "flushed {count}")
+}
+
+fn print_checkpointed(out: &mut String, count: u32) -> Result<(), AllocError>
+    ensures { OnOk result (AddsLine (string_bytes out.old) (string_bytes out.new) (checkpointed_line count)) }
+{
+    writeln!(out, "checkpointed {count}")
 }
 
 fn print_delivered(out: &mut String, count: u32) -> Result<(), AllocError>
@@ -124,6 +130,18 @@ fn print_flush(out: &mut String, count: u32, replies: &[(u64, Reply)]) -> Result
 }
 
 #[tactic(auto, using(line_words::proofs::Texts::adds_more))]
+fn print_checkpoint(
+    out: &mut String,
+    count: u32,
+    replies: &[(u64, Reply)],
+) -> Result<(), AllocError>
+    ensures { OnOk result (AddsLines (string_bytes out.old) (string_bytes out.new) (checkpointed_line count ∷ map reply_line replies.now)) }
+{
+    print_checkpointed(out, count)?;
+    print_replies(out, replies)
+}
+
+#[tactic(auto, using(line_words::proofs::Texts::adds_more))]
 fn print_reopened(
     out: &mut String,
     lost: &[u64],
@@ -146,7 +164,10 @@ pub fn print_outcome(out: &mut String, event: &Event, outcome: &Outcome) -> Resu
         }
         Event::Flush(_) => print_flush(out, outcome.flushed.unwrap_or(0), &outcome.replies),
         Event::DeliverAll => print_delivered(out, outcome.delivered.unwrap_or(0)),
-        Event::Crash(node) | Event::Stop { node, .. } => {
+        Event::Checkpoint(_) => {
+            print_checkpoint(out, outcome.flushed.unwrap_or(0), &outcome.replies)
+        }
+        Event::Crash(node) | Event::Stop { node, .. } | Event::StopCheckpoint { node, .. } => {
             print_reopened(out, &outcome.lost, *node, outcome.up.unwrap_or(0))
         }
     }
@@ -182,8 +203,10 @@ pub fn count_lines(event: &Event, outcome: &Outcome) -> u64
         Event::Submit(..) | Event::Deliver { .. } | Event::Credit { .. } => {
             count_asked(outcome.ticket, &outcome.replies)
         }
-        Event::Flush(_) => outcome.replies.len() as u64 + 1,
+        Event::Flush(_) | Event::Checkpoint(_) => outcome.replies.len() as u64 + 1,
         Event::DeliverAll => 1,
-        Event::Crash(_) | Event::Stop { .. } => outcome.lost.len() as u64 + 1,
+        Event::Crash(_) | Event::Stop { .. } | Event::StopCheckpoint { .. } => {
+            outcome.lost.len() as u64 + 1
+        }
     }
 }

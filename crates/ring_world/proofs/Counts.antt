@@ -7,7 +7,7 @@ use Rattle.ring_records.specs.declared.request.Request.{Request}
 use Rattle.ring_node.specs.Open.{Open, is_due, sealed, serial_of}
 use Rattle.ring_world.specs.Counts.{numbered, IsBounded}
 use Rattle.ring_world.specs.Events.{Action}
-use Rattle.ring_world.specs.Ring.{RingView, held_at, node_at, happens, asked, answered_at, landed, waits, settled, due_at, reply_of, with_reply, replies, Part, released, and_then, round, rounds, drained, lost, crashed, stopped, given, brought, swept, swept_with, swept_on, swept_one, next_delivery, new_ring}
+use Rattle.ring_world.specs.Ring.{RingView, held_at, node_at, happens, asked, answered_at, landed, checkpointed, waits, settled, due_at, reply_of, with_reply, replies, Part, released, and_then, round, rounds, summarised, drained, lost, crashed, stopped, stopped_all, given, brought, swept, swept_with, swept_on, swept_one, next_delivery, new_ring}
 
 -- ---- lists of tickets
 
@@ -91,6 +91,10 @@ pub bounded_stopped : (keeps_flying : Bool) (i : ℕ) (w : RingView) (t : ℕ) �
 unfolding stopped
 bounded_stopped keeps_flying i w t b = bounded_happens w _ i [] t b (omega arith)
 
+pub bounded_stopped_all : (keeps_flying : Bool) (i : ℕ) (w : RingView) (t : ℕ) → IsBounded w t → IsBounded (stopped_all keeps_flying i w) t
+unfolding stopped_all
+bounded_stopped_all keeps_flying i w t b = bounded_happens w _ i [] t b (omega arith)
+
 -- ---- what is released
 
 -- the tickets of node i that the part answers are open before it and not after it, and it opens none
@@ -102,6 +106,19 @@ paid_round : (i : ℕ) (w : RingView) → IsPaid i w (round i w)
 unfolding replies settled landed
 paid_round i w =
     let t = landed i w in
+    let held = held_at w i in
+    let answers = as_many (due_at t i) in
+    let parts = split (is_due (node_at t i).durable) held in
+    let there = set_there w.held (i - 1) (sealed (node_at t i).durable held) in
+    record {
+      here = omega arith;
+      all = λ u b. bounded_happens t _ i (sealed (node_at t i).durable held) u (bounded_log w _ u b) (let h = at_node w u i b in omega arith);
+    }
+
+paid_summarised : (i : ℕ) (w : RingView) → IsPaid i w (summarised i w)
+unfolding replies settled checkpointed
+paid_summarised i w =
+    let t = checkpointed i w in
     let held = held_at w i in
     let answers = as_many (due_at t i) in
     let parts = split (is_due (node_at t i).durable) held in
@@ -163,6 +180,13 @@ bounded_brought serial i q w t u le b =
 pub bounded_round : (i : ℕ) (w : RingView) (t : ℕ) → IsBounded w t → (length (round i w).0 ≤ t) × IsBounded (round i w).1 t
 bounded_round i w t b =
     let paid = paid_round i w in
+    let h = at_node w t i b in
+    let k = paid.here in
+    (omega (arith, h, k), paid.all t b)
+
+pub bounded_summarised : (i : ℕ) (w : RingView) (t : ℕ) → IsBounded w t → (length (summarised i w).0 ≤ t) × IsBounded (summarised i w).1 t
+bounded_summarised i w t b =
+    let paid = paid_summarised i w in
     let h = at_node w t i b in
     let k = paid.here in
     (omega (arith, h, k), paid.all t b)

@@ -10,15 +10,15 @@ use Rattle.ring_records.specs.Place.{before}
 use Rattle.ring_world.specs.Counts.{IsBounded}
 use Rattle.ring_world.specs.Events.{IsSchedule}
 use Rattle.ring_world.specs.Rest.{IsAllDurable}
-use Rattle.ring_world.specs.Ring.{RingView, IsSameRing, waits, carried, round, brought, crashed, stopped, swept}
+use Rattle.ring_world.specs.Ring.{RingView, IsSameRing, waits, carried, round, summarised, brought, crashed, stopped, stopped_all, swept}
 use Rattle.ring_world.specs.State.{State, IsLeft, IsWorld, opened}
 use Rattle.ring_world.specs.declared.outcome.Outcome.{Outcome}
-use Rattle.ring_world.specs.Step.{Told, Steps, told, all_told, refusal_of, is_lasting, stepped, submitted, flushed, put, delivered_all}
+use Rattle.ring_world.specs.Step.{Told, Steps, told, all_told, refusal_of, is_lasting, stepped, submitted, flushed, checkpointed, put, delivered_all}
 use Rattle.ring_world.specs.Step as step
 use Rattle.ring_world.specs.declared.event.Event.{Event}
-use Rattle.ring_world.specs.declared.event.Event.TheVariants.{Submit, Flush, Deliver, DeliverAll, Credit, Crash, Stop}
-use Rattle.ring_world.proofs.Counts.{bounded_brought, bounded_round, bounded_crashed, bounded_stopped, bounded_swept, bounded_told, bounded_new, few_lost}
-use Rattle.ring_world.proofs.Rest.{durable_brought, durable_round, durable_crashed, durable_stopped, durable_swept, durable_told, durable_new, same_brought, same_round, same_swept}
+use Rattle.ring_world.specs.declared.event.Event.TheVariants.{Submit, Flush, Deliver, DeliverAll, Credit, Crash, Stop, Checkpoint, StopCheckpoint}
+use Rattle.ring_world.proofs.Counts.{bounded_brought, bounded_round, bounded_summarised, bounded_crashed, bounded_stopped, bounded_stopped_all, bounded_swept, bounded_told, bounded_new, few_lost}
+use Rattle.ring_world.proofs.Rest.{durable_brought, durable_round, durable_summarised, durable_crashed, durable_stopped, durable_stopped_all, durable_swept, durable_told, durable_new, same_brought, same_round, same_summarised, same_swept}
 
 pub record Keeps (s : State) (r : Told × State) : Type 0 where
   pub same : (r.1.ring.size ≡ s.ring.size) × (r.1.ring.capacity ≡ s.ring.capacity) × (r.1.ring.eager ≡ s.ring.eager)
@@ -56,6 +56,19 @@ module _ (s : State) (bounded : IsBounded s.ring s.tickets) (durable : s.ring.ea
         tickets = omega arith;
         bounded = bound.1;
         durable = λ eager. durable_round i s.ring (durable eager);
+      }
+
+  checkpointed_keeps : (i : ℕ) → Keeps s (checkpointed i s)
+  unfolding checkpointed
+  checkpointed_keeps i =
+      let bound = bounded_summarised i s.ring s.tickets bounded in
+      let few = bound.0 in
+      record {
+        same = same_shape s.ring (summarised i s.ring).1 (same_summarised i s.ring);
+        few = omega (arith, few);
+        tickets = omega arith;
+        bounded = bound.1;
+        durable = λ eager. durable_summarised i s.ring (durable eager);
       }
 
   put_keeps : (delivery : Option (ℕ × Request)) → Keeps s (put s delivery)
@@ -104,6 +117,18 @@ module _ (s : State) (bounded : IsBounded s.ring s.tickets) (durable : s.ring.ea
       by_waiting true = stopped_by keeps_flying i
       by_waiting false = crashed_keeps i
 
+  stopped_all_keeps : (keeps_flying : Bool) (i : ℕ) → Keeps s (step.stopped_all keeps_flying i s)
+  unfolding step.stopped_all stopped_all
+  stopped_all_keeps keeps_flying i =
+      let few = few_lost i s.ring s.tickets bounded in
+      record {
+        same = (refl, refl, refl);
+        few = omega (arith, few);
+        tickets = omega arith;
+        bounded = bounded_stopped_all keeps_flying i s.ring s.tickets bounded;
+        durable = λ eager. durable_stopped_all keeps_flying i s.ring (durable eager);
+      }
+
   stepped_keeps : (keeps_flying : Bool) (event : Event) → Keeps s (stepped keeps_flying s event)
   unfolding stepped
   stepped_keeps keeps_flying (Submit node q) = submitted_keeps node q
@@ -113,6 +138,8 @@ module _ (s : State) (bounded : IsBounded s.ring s.tickets) (durable : s.ring.ea
   stepped_keeps keeps_flying (Credit from upto) = submitted_keeps (before s.ring.size from) (ask.Acked upto)
   stepped_keeps keeps_flying (Crash node) = crashed_keeps node
   stepped_keeps keeps_flying (Stop node call tear) = stopped_keeps keeps_flying node
+  stepped_keeps keeps_flying (Checkpoint node) = checkpointed_keeps node
+  stepped_keeps keeps_flying (StopCheckpoint node call tear) = stopped_all_keeps keeps_flying node
 
 -- ---- a world
 

@@ -6,17 +6,27 @@ use Rattle.std.proofs.lemmas.Bool.{cases_eq, eq-eqb, ne_eqb, leb-true, ltb-true}
 use Rattle.std.proofs.lemmas.List.{length-append, length-set, get_or-set_same, get_or-set_other}
 use Rattle.std.proofs.lemmas.List.Elements.{Contains-push, Contains-push_cases, Contains-append_left}
 use Rattle.ring_records.specs.declared.request.Request.{Request}
-use Rattle.ring_records.specs.Member.{member}
-use Rattle.ring_records.specs.States.{NodeState, is_idle, answered_by, opened, asked, launched, landed, left_by}
+use Rattle.ring_records.specs.Member.{Member, member}
+use Rattle.ring_records.specs.States.{NodeState, is_idle, answered_by, opened, asked, launched, launched_all, landed, left_by}
 use Rattle.ring_records.proofs.Leader.{Contains-nil}
-use Rattle.ring_node.specs.Node.{NodeView, new_node, state_of, durable_in, ticket_of, asked_with, flushed, restarted, left}
+use Rattle.ring_node.specs.Node.{NodeView, new_node, state_of, durable_in, ticket_of, asked_with, flushed, checkpointed, restarted, left, left_all, reopened}
 use Rattle.ring_node.specs.Open.{Open, due, is_due}
-use Rattle.ring_world.specs.Events.{Replied, Action, Submit, Launch, Land, Crash, Process, act, process, IsDelivered, IsReleasable, May, MayHappen}
+use Rattle.ring_world.specs.Events.{Replied, Action, Submit, Launch, LaunchAll, Land, Crash, Process, act, process, IsDelivered, IsReleasable, May, MayHappen}
 use Rattle.ring_world.specs.Ring.{release_of}
-use Rattle.ring_world.specs.Shows.{ShowsNode, Shows, without_due}
+use Rattle.ring_world.specs.Shows.{ShowsNode, Shows, checkpoint_of, without_due}
 use Rattle.ring_world.proofs.Moves.{Grows, Stays, grows_one, grows_two, process_two, release_all}
 use Rattle.ring_world.proofs.Schedules.{process-same}
 use Rattle.ring_world.proofs.Tickets.{from_filter}
+
+with_false : (b : Bool) → (b && false) ≡ false
+with_false true = refl
+with_false false = refl
+
+-- nothing flies of what a stop leaves
+idle_left : (keeps_flying : Bool) (s : NodeState) (v : NodeView) → state_of (reopened (left_by keeps_flying s) v) ≡ left_by keeps_flying s
+unfolding reopened
+idle_left true s v = refl
+idle_left false s v = refl
 
 -- a node that the events do not change
 pub still : (n capacity : ℕ) (events more : List (ℕ × Action)) (k : ℕ) (v : NodeView) → process n capacity (events ++ more) k ≡ process n capacity events k → ShowsNode n capacity events k v → ShowsNode n capacity (events ++ more) k v
@@ -115,6 +125,28 @@ module _ (n capacity : ℕ) (events : List (ℕ × Action)) (nodes : List NodeVi
     unfolding May act
     landed_shows e = moved batch (grows_two n capacity events i Launch Land shows.schedule may_launch (may_land e)) (flushed v) landed_here
 
+    -- ---- a checkpoint of node i lands
+
+    may_launch_all : MayHappen n capacity events (i, LaunchAll)
+    unfolding May
+    may_launch_all = record { first = first; last = last; may = ap is_idle (sym mine.state) ∙ ap (λ b. b && true) (eq-eqb v.durable v.durable refl) }
+
+    checkpointed_here : ShowsNode n capacity (events ++ checkpoint_of i) i (checkpointed v)
+    unfolding act
+    checkpointed_here =
+        let same = process_two n capacity events i LaunchAll Land in
+        record {
+          is = mine.is;
+          state = (λ t. landed (launched_all (mine.is t).node (mine.state t))) ∙ ap (λ (r : Process). r.state) (sym same);
+          kept = λ t here. subst (λ (r : Process). Contains r.kept t.kept) (sym same) (mine.kept t here);
+          few = (let l = length-append events (checkpoint_of i) in let f = mine.few in omega arith);
+        }
+
+    pub checkpointed_shows : Shows n capacity (events ++ checkpoint_of i) (set nodes (i - 1) (checkpointed v))
+    unfolding May act
+    checkpointed_shows =
+        moved (checkpoint_of i) (grows_two n capacity events i LaunchAll Land shows.schedule may_launch_all (with_false _)) (checkpointed v) checkpointed_here
+
     -- ---- replies of node i are released
 
     abbrev releases : List (ℕ × Action)
@@ -146,9 +178,9 @@ module _ (n capacity : ℕ) (events : List (ℕ × Action)) (nodes : List NodeVi
 
     -- ---- node i loses its memory
 
-    reopened : (more : List (ℕ × Action)) (inputs : List _) → process n capacity (events ++ more) i ≡ record { state = opened v.base inputs; kept = [] } → ShowsNode n capacity (events ++ more) i (restarted inputs v)
+    opened_again : (more : List (ℕ × Action)) (inputs : List _) → process n capacity (events ++ more) i ≡ record { state = opened v.base inputs; kept = [] } → ShowsNode n capacity (events ++ more) i (restarted inputs v)
     unfolding restarted
-    reopened more inputs same = record {
+    opened_again more inputs same = record {
       is = mine.is;
       state = ap (λ (r : Process). r.state) (sym same);
       kept = λ t here. Contains-nil t here;
@@ -162,7 +194,7 @@ module _ (n capacity : ℕ) (events : List (ℕ × Action)) (nodes : List NodeVi
     unfolding May act
     crashed_shows =
         moved crash (grows_one n capacity events i (Crash false) shows.schedule (record { first = first; last = last; may = tt })) (restarted (durable_in v) v)
-        (reopened crash (durable_in v) (process-same n capacity events i (Crash false) ∙ ap (λ (s : NodeState). record { state = left_by false s; kept = [] }) (sym mine.state)))
+        (opened_again crash (durable_in v) (process-same n capacity events i (Crash false) ∙ ap (λ (s : NodeState). record { state = left_by false s; kept = [] }) (sym mine.state)))
 
     abbrev stop : Bool → List (ℕ × Action)
     stop keeps_flying = (i, Launch) ∷ (i, Crash keeps_flying) ∷ []
@@ -176,4 +208,29 @@ module _ (n capacity : ℕ) (events : List (ℕ × Action)) (nodes : List NodeVi
     unfolding May
     stopped_shows keeps_flying =
         moved (stop keeps_flying) (grows_two n capacity events i Launch (Crash keeps_flying) shows.schedule may_launch tt) (restarted (left keeps_flying v) v)
-        (reopened (stop keeps_flying) (left keeps_flying v) (stopped_here keeps_flying))
+        (opened_again (stop keeps_flying) (left keeps_flying v) (stopped_here keeps_flying))
+
+    abbrev stop_all : Bool → List (ℕ × Action)
+    stop_all keeps_flying = (i, LaunchAll) ∷ (i, Crash keeps_flying) ∷ []
+
+    stopped_all_here : (keeps_flying : Bool) → process n capacity (events ++ stop_all keeps_flying) i ≡ record { state = left_all keeps_flying v; kept = [] }
+    unfolding act
+    stopped_all_here keeps_flying =
+        process_two n capacity events i LaunchAll (Crash keeps_flying)
+        ∙ λ t. record { state = left_by keeps_flying (launched_all (sym (ap (λ (m : Member). m.node) mine.is) t) (sym mine.state t)); kept = [] }
+
+    reopened_all : (keeps_flying : Bool) → ShowsNode n capacity (events ++ stop_all keeps_flying) i (reopened (left_all keeps_flying v) v)
+    unfolding reopened
+    reopened_all keeps_flying =
+        let same = stopped_all_here keeps_flying in
+        record {
+          is = mine.is;
+          state = idle_left keeps_flying (launched_all v.member.node (state_of v)) v ∙ ap (λ (r : Process). r.state) (sym same);
+          kept = λ t here. Contains-nil t here;
+          few = omega arith;
+        }
+
+    pub stopped_all_shows : (keeps_flying : Bool) → Shows n capacity (events ++ stop_all keeps_flying) (set nodes (i - 1) (reopened (left_all keeps_flying v) v))
+    unfolding May
+    stopped_all_shows keeps_flying =
+        moved (stop_all keeps_flying) (grows_two n capacity events i LaunchAll (Crash keeps_flying) shows.schedule may_launch_all tt) (reopened (left_all keeps_flying v) v) (reopened_all keeps_flying)

@@ -10,10 +10,10 @@ use Rattle.ring_records.specs.Admission.{refusal}
 use Rattle.ring_records.specs.Answer.{input_of, gained, if_free, if_input}
 use Rattle.ring_records.specs.Member.{member}
 use Rattle.ring_records.specs.Ring.{part}
-use Rattle.ring_records.specs.States.{NodeState, gained_by, left_by, launched, launched_base}
-use Rattle.ring_world.specs.Events.{Action, Launch, Crash, Process, act, process, state_after}
+use Rattle.ring_records.specs.States.{NodeState, gained_by, left_by, launched, launched_all, launched_base}
+use Rattle.ring_world.specs.Events.{Action, Launch, LaunchAll, Land, Crash, Process, act, process, state_after}
 use Rattle.ring_world.specs.Rest.{IsAllDurable}
-use Rattle.ring_world.specs.Ring.{RingView, IsSameRing, Part, node_at, asked, landed, waits, settled, released, and_then, round, rounds, drained, crashed, stopped, given, brought, swept, swept_with, swept_on, swept_one, next_delivery, new_ring}
+use Rattle.ring_world.specs.Ring.{RingView, IsSameRing, Part, node_at, asked, landed, checkpointed, summarised, waits, settled, released, and_then, round, rounds, drained, crashed, stopped, stopped_all, given, brought, swept, swept_with, swept_on, swept_one, next_delivery, new_ring}
 use Rattle.ring_world.proofs.Moves.{process_two, process_two-other}
 use Rattle.ring_world.proofs.Reached.{node_given, node_settled, node_asked, asked-other, node_landed, landed-other, landed_idle}
 use Rattle.ring_world.proofs.Schedules.{process-same, process-other}
@@ -165,6 +165,18 @@ pub durable_stopped : (keeps_flying : Bool) (i : ℕ) (w : RingView) → IsAllDu
 unfolding stopped act IsAllDurable
 durable_stopped keeps_flying i w all = still_two w.size w.capacity w.events i all Launch (Crash keeps_flying) (still_left keeps_flying (launched (node_at w i)))
 
+-- a checkpoint leaves none
+durable_checkpointed : (i : ℕ) (w : RingView) → IsAllDurable w → IsAllDurable (checkpointed i w)
+unfolding checkpointed act IsAllDurable
+durable_checkpointed i w all = still_two w.size w.capacity w.events i all LaunchAll Land refl
+
+pub durable_summarised : (i : ℕ) (w : RingView) → IsAllDurable w → IsAllDurable (summarised i w).1
+durable_summarised i w all = durable_settled i (checkpointed i w) (durable_checkpointed i w all)
+
+pub durable_stopped_all : (keeps_flying : Bool) (i : ℕ) (w : RingView) → IsAllDurable w → IsAllDurable (stopped_all keeps_flying i w)
+unfolding stopped_all act IsAllDurable
+durable_stopped_all keeps_flying i w all = still_two w.size w.capacity w.events i all LaunchAll (Crash keeps_flying) (still_left keeps_flying (launched_all i (node_at w i)))
+
 -- what was told changes no node
 pub durable_told : (w : RingView) → IsAllDurable w → IsAllDurable (record w { told = w.events })
 unfolding IsAllDurable
@@ -182,6 +194,10 @@ after_same w v u first then = (then.0 ∙ first.0, then.1 ∙ first.1, then.2 �
 pub same_round : (i : ℕ) (w : RingView) → IsSameRing w (round i w).1
 unfolding settled landed
 same_round i w = (refl, refl, refl, refl)
+
+pub same_summarised : (i : ℕ) (w : RingView) → IsSameRing w (summarised i w).1
+unfolding settled checkpointed
+same_summarised i w = (refl, refl, refl, refl)
 
 same_asked : (serial : Option ℕ) (i : ℕ) (q : Request) (w : RingView) → IsSameRing w (settled i (asked serial i q (given i q w)))
 unfolding settled asked given

@@ -4,11 +4,12 @@ use Rattle.std.specs.List.{All, insert, remove}
 use Rattle.std.proofs.lemmas.List.{take-append-le, length-append, set-set}
 use Rattle.std.proofs.lemmas.List.Elements.{All-set}
 use Rattle.ring_records.specs.declared.request.Request.{Request}
-use Rattle.ring_node.specs.Node.{NodeView, durable_in, asked_with, flushed, restarted, left}
+use Rattle.ring_records.specs.States.{NodeState}
+use Rattle.ring_node.specs.Node.{NodeView, durable_in, asked_with, flushed, checkpointed as checkpointed_node, restarted, left, left_all, reopened}
 use Rattle.ring_node.specs.Open.{due}
-use Rattle.ring_world.specs.Events.{Action, Submit, Launch, Crash}
-use Rattle.ring_world.specs.Ring.{RingView, asked, landed, due_at, release_of, settled, crashed, stopped, given, handed, is_released}
-use Rattle.ring_world.specs.Shows.{Shows, IsSound, IsSealed, held_of, without_due, batch_of}
+use Rattle.ring_world.specs.Events.{Action, Submit, Launch, LaunchAll, Crash}
+use Rattle.ring_world.specs.Ring.{RingView, asked, landed, checkpointed, due_at, release_of, settled, crashed, stopped, stopped_all, given, handed, is_released}
+use Rattle.ring_world.specs.Shows.{Shows, IsSound, IsSealed, held_of, without_due, batch_of, checkpoint_of}
 use Rattle.ring_world.specs.State.{State, by_log}
 use Rattle.ring_world.specs.declared.log.Log.{Log}
 use Rattle.ring_world.proofs.Handed.{handed_delivers}
@@ -145,6 +146,28 @@ module _ (log : Log) (nodes : List NodeView) (s : State) (is : by_log log false 
           refl refl refl refl refl (ties.settles (landed i w) es1 (set nodes (number - 1) v1) tied_landed i number place first inside_landed x read es2 v2 last_log freed)
           (released_sealed v1 x v2 freed)
 
+    -- A checkpoint: the code lands it, and releases what is due.
+    module _ (es1 : List (ℕ × Action)) (v1 x : NodeView) (landed_log : es1 ≡ events ++ checkpoint_of i) (moved : v1 ≡ checkpointed_node v) (read : x ≡ get_or (set nodes (number - 1) v1) (number - 1) x) where
+      tied_summarised : Ties (checkpointed i w) es1 (set nodes (number - 1) v1)
+      tied_summarised = ties.summarises w events nodes tied i number place first last v was es1 v1 landed_log moved
+
+      inside_summarised : i ≤ (checkpointed i w).size
+      unfolding checkpointed
+      inside_summarised = last
+
+      pub summarised_due : due x.durable x.held ≡ due_at (checkpointed i w) i
+      summarised_due = ties.due_is (checkpointed i w) es1 (set nodes (number - 1) v1) tied_summarised i number place first inside_summarised x read
+
+      pub summarises : (es2 : List (ℕ × Action)) (v2 : NodeView) → es2 ≡ es1 ++ map (release_of i) (due x.durable x.held) → v2 ≡ without_due x
+          → (seen es2 (set (set nodes (number - 1) v1) (number - 1) v2) ≡ record s { ring = settled i (checkpointed i w) }) × Stands es2 (set (set nodes (number - 1) v1) (number - 1) v2)
+      unfolding settled checkpointed
+      summarises es2 v2 last_log freed =
+          let freed_events = map (release_of i) (due x.durable x.held) in
+          becomes (settled i (checkpointed i w)) es2 (checkpoint_of i ++ freed_events) (set (set nodes (number - 1) v1) (number - 1) v2)
+          (last_log ∙ (ap (λ es. es ++ freed_events) landed_log ∙ append_assoc events (checkpoint_of i) freed_events))
+          refl refl refl refl refl (ties.settles (checkpointed i w) es1 (set nodes (number - 1) v1) tied_summarised i number place first inside_summarised x read es2 v2 last_log freed)
+          (released_sealed v1 x v2 freed)
+
     -- A crash or a stop: the code makes of the node what is said, and pushes what happened.
     module _ (es : List (ℕ × Action)) (v' : NodeView) where
       restarted_sealed : (inputs : List _) → IsSealed (restarted inputs v)
@@ -167,6 +190,19 @@ module _ (log : Log) (nodes : List NodeView) (s : State) (is : by_log log false 
             (becomes (stopped keeps_flying i w) es _ (set nodes (number - 1) v') logged refl refl refl refl refl
             (ties.stops w events nodes tied i number place first last v was es v' keeps_flying logged moved)
             (put_sealed v' (subst IsSealed (sym moved) (restarted_sealed (left keeps_flying v)))))
+
+        reopened_sealed : (t : NodeState) → IsSealed (reopened t v)
+        unfolding reopened
+        reopened_sealed t = refl
+
+        pub stops_all : (keeps_flying : Bool) → es ≡ events ++ (i, LaunchAll) ∷ (i, Crash keeps_flying) ∷ [] → v' ≡ reopened (left_all keeps_flying v) v
+            → (seen es vs ≡ record s { ring = stopped_all keeps_flying i w }) × Stands es vs
+        unfolding stopped_all
+        stops_all keeps_flying logged moved =
+            subst (λ ns. (seen es ns ≡ record s { ring = stopped_all keeps_flying i w }) × Stands es ns) (sym put)
+            (becomes (stopped_all keeps_flying i w) es _ (set nodes (number - 1) v') logged refl refl refl refl refl
+            (ties.stops_all w events nodes tied i number place first last v was es v' keeps_flying logged moved)
+            (put_sealed v' (subst IsSealed (sym moved) (reopened_sealed (left_all keeps_flying v)))))
 
 -- ---- what the code changes
 

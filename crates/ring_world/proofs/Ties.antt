@@ -1,5 +1,5 @@
 -- The nodes of a ring are those that its events reach, and stay so with each part of an event.
-use Rattle.std.proofs.Common.{ℕ, zero, suc, ◌≡◌, ◌≤◌, ◌<◌, ◌-◌, Bool, true, false, nat_lt, cond, List, [], ◌∷◌, ◌++◌, length, take, map, set, get_or, Option, refl, sym, ap, ◌∙◌, subst, arith, append-nil}
+use Rattle.std.proofs.Common.{ℕ, zero, suc, ◌≡◌, ◌≤◌, ◌<◌, ◌-◌, Bool, true, false, nat_lt, cond, List, [], ◌∷◌, ◌++◌, length, take, map, set, get_or, Option, None, refl, sym, ap, ◌∙◌, subst, arith, append-nil}
 use Rattle.std.specs.List.{All}
 use Rattle.std.proofs.lemmas.Bool.{ltb-false}
 use Rattle.std.proofs.lemmas.Bool.Decides.{nat_tests}
@@ -9,16 +9,16 @@ use Rattle.ring_records.specs.declared.request.Request.{Request}
 use Rattle.ring_records.specs.States.{NodeState, launched}
 use Rattle.ring_records.specs.Emission.{sent}
 use Rattle.ring_records.specs.History.{credit}
-use Rattle.ring_records.specs.Member.{Member}
-use Rattle.ring_node.specs.Node.{NodeView, new_node, durable_in, asked_with, flown, flushed, restarted, left, is_credited}
+use Rattle.ring_records.specs.Member.{Member, member}
+use Rattle.ring_node.specs.Node.{NodeView, new_node, state_of, durable_in, asked_with, flown, flushed, checkpoint_refusal, checkpointed as checkpointed_node, restarted, left, left_all, reopened, is_credited}
 use Rattle.ring_node.specs.Open.{Open, due, sealed}
-use Rattle.ring_world.specs.Events.{Action, Submit, Launch, Land, Crash, Process, act, IsDelivered}
-use Rattle.ring_world.specs.Ring.{RingView, node_at, held_at, waits, landed, asked, due_at, release_of, settled, crashed, stopped, given, handed, is_released}
-use Rattle.ring_world.specs.Shows.{ShowsNode, Shows, IsSealed, held_of, without_due, batch_of}
+use Rattle.ring_world.specs.Events.{Action, Submit, Launch, LaunchAll, Land, Crash, Process, act, IsDelivered}
+use Rattle.ring_world.specs.Ring.{RingView, node_at, held_at, waits, landed, checkpointed, asked, due_at, release_of, settled, crashed, stopped, stopped_all, given, handed, is_released}
+use Rattle.ring_world.specs.Shows.{ShowsNode, Shows, IsSealed, held_of, without_due, batch_of, checkpoint_of}
 use Rattle.ring_world.proofs.Credits.{credited}
 use Rattle.ring_world.proofs.Handed.{handed_stays}
 use Rattle.ring_world.proofs.Moves.{process_two}
-use Rattle.ring_world.proofs.Nodes.{resting, mine, answered_same, asked_shows, landed_shows, settled_shows, crashed_shows, stopped_shows}
+use Rattle.ring_world.proofs.Nodes.{resting, mine, answered_same, asked_shows, landed_shows, checkpointed_shows, settled_shows, crashed_shows, stopped_shows, stopped_all_shows}
 use Rattle.ring_world.proofs.Schedules.{schedule_holds}
 use Rattle.ring_world.proofs.Tickets.{one_due, few_due}
 
@@ -104,11 +104,11 @@ module _ (w : RingView) (events : List (ℕ × Action)) (nodes : List NodeView) 
         let same : x ≡ asked_with ticket q v = read ∙ (get_or-set_same nodes (number - 1) v1 x place_within ∙ made) in
         subst (λ (z : NodeView). length (due z.durable z.held) ≤ 1) (sym same) (one_due ticket q v (subst IsSealed (sym was) (none (number - 1) v place_within)))
 
-    -- once a batch landed, no more are due than were open
-    pub landed_few : (v1 x y : NodeView) → v1 ≡ flushed v → x ≡ get_or (set nodes (number - 1) v1) (number - 1) x → y ≡ get_or nodes (number - 1) y → length (due x.durable x.held) ≤ length y.held
-    landed_few v1 x y made read before =
+    -- once a batch or a checkpoint landed, no more are due than were open
+    pub landed_few : (v1 x y : NodeView) → v1.held ≡ v.held → x ≡ get_or (set nodes (number - 1) v1) (number - 1) x → y ≡ get_or nodes (number - 1) y → length (due x.durable x.held) ≤ length y.held
+    landed_few v1 x y kept read before =
         let same : y ≡ v = before ∙ get_or_from_slice_get nodes (number - 1) v y (slice_get_read nodes (length nodes) (number - 1) v refl place_within was) in
-        let held = ap (λ (z : NodeView). length z.held) (read ∙ (get_or-set_same nodes (number - 1) v1 x place_within ∙ made)) ∙ ap (λ (z : NodeView). length z.held) (sym same) in
+        let held = ap (λ (z : NodeView). length z.held) (read ∙ get_or-set_same nodes (number - 1) v1 x place_within) ∙ (ap length kept ∙ ap (λ (z : NodeView). length z.held) (sym same)) in
         let few = few_due x.durable x.held in
         omega (arith, held, few)
 
@@ -125,6 +125,17 @@ module _ (w : RingView) (events : List (ℕ × Action)) (nodes : List NodeView) 
             let same : node_at (record w { events = w.events ++ [] }) i ≡ node_at w i = ap (λ es. node_at (record w { events = es }) i) (append-nil w.events) in
             let d = ap (λ (s : NodeState). s.durable) same in
             omega (arith, none, d)
+
+    -- or are made durable as a checkpoint
+    pub checkpoint_count : (count : ℕ) → count ≡ length v.inputs - v.durable → count ≡ (node_at (checkpointed i w) i).durable - (node_at w i).durable
+    unfolding checkpointed act
+    checkpoint_count count is_count =
+        is_count ∙ (ap (λ (s : NodeState). length s.inputs - s.durable) node_is.state
+        ∙ ap (λ (p : Process). p.state.durable - (node_at w i).durable) (sym (process_two w.size w.capacity w.events i LaunchAll Land)))
+
+    -- nothing is objected to a checkpoint of it where nothing is to one of node i
+    pub free_here : checkpoint_refusal (member i w.size w.capacity) (node_at w i) ≡ None → checkpoint_refusal v.member (state_of v) ≡ None
+    free_here free = (λ t. checkpoint_refusal (node_is.is t) (node_is.state t)) ∙ free
 
     -- it becomes v', with these events
     module _ (es : List (ℕ × Action)) (v' : NodeView) where
@@ -193,5 +204,21 @@ module _ (w : RingView) (events : List (ℕ × Action)) (nodes : List NodeView) 
       stops keeps_flying logged moved = record {
         logged = log _ logged;
         shows = subst (Shows w.size w.capacity (w.events ++ (i, Launch) ∷ (i, Crash keeps_flying) ∷ [])) (placed (λ u. restarted (left keeps_flying u) u) moved) (stopped_shows w.size w.capacity w.events nodes ties.shows i low last keeps_flying);
+        held = held_set [] (sym (ap held_of moved));
+      }
+
+      pub summarises : es ≡ events ++ checkpoint_of i → v' ≡ checkpointed_node v → Ties (checkpointed i w) es (set nodes (number - 1) v')
+      unfolding checkpointed
+      summarises logged moved = record {
+        logged = log _ logged;
+        shows = subst (Shows w.size w.capacity (w.events ++ checkpoint_of i)) (placed checkpointed_node moved) (checkpointed_shows w.size w.capacity w.events nodes ties.shows i low last);
+        held = held_kept (sym (ap held_of moved));
+      }
+
+      pub stops_all : (keeps_flying : Bool) → es ≡ events ++ (i, LaunchAll) ∷ (i, Crash keeps_flying) ∷ [] → v' ≡ reopened (left_all keeps_flying v) v → Ties (stopped_all keeps_flying i w) es (set nodes (number - 1) v')
+      unfolding stopped_all reopened
+      stops_all keeps_flying logged moved = record {
+        logged = log _ logged;
+        shows = subst (Shows w.size w.capacity (w.events ++ (i, LaunchAll) ∷ (i, Crash keeps_flying) ∷ [])) (placed (λ u. reopened (left_all keeps_flying u) u) moved) (stopped_all_shows w.size w.capacity w.events nodes ties.shows i low last keeps_flying);
         held = held_set [] (sym (ap held_of moved));
       }

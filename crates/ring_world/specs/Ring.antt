@@ -15,7 +15,7 @@ use Rattle.ring_records.specs.Order.{is_msg}
 use Rattle.ring_records.specs.Place.{after, before}
 use Rattle.ring_records.specs.States.{NodeState, durable_in, answered_by}
 use Rattle.ring_node.specs.Open.{Open, serial_of, due, sealed}
-use Rattle.ring_world.specs.Events.{Replied, Sent, Action, Submit, Launch, Land, Release, Crash, state_after}
+use Rattle.ring_world.specs.Events.{Replied, Sent, Action, Submit, Launch, LaunchAll, Land, Release, Crash, state_after}
 
 -- how many nodes it has, numbered from 1, and their capacity; whether each input is made durable as it is accepted;
 -- whether a growth was refused, after which it is of no use; what happened, and as much of that as was told; and the
@@ -78,6 +78,10 @@ waits w i = nat_lt (node_at w i).durable (length (node_at w i).inputs)
 unfoldable pub landed : ℕ → RingView → RingView
 landed i w = record w { events = w.events ++ (if waits w i then (i, Launch) ∷ (i, Land) ∷ [] else []) }
 
+-- all that node i accepted is launched as a checkpoint and lands, also where nothing waits
+unfoldable pub checkpointed : ℕ → RingView → RingView
+checkpointed i w = record w { events = w.events ++ (i, LaunchAll) ∷ (i, Land) ∷ [] }
+
 abbrev pub release_of : ℕ → Open → ℕ × Action
 release_of i t = (i, Release (Replied t.kept))
 
@@ -118,6 +122,10 @@ and_then first next = (first.0 ++ (next first.1).0, (next first.1).1)
 abbrev pub round : ℕ → RingView → Part
 round i w = released i (landed i w)
 
+-- A checkpoint of node i: all that it accepted is launched and lands; then what is due is released.
+abbrev pub summarised : ℕ → RingView → Part
+summarised i w = released i (checkpointed i w)
+
 -- Rounds at node i until nothing waits there, so many at most.
 unfoldable pub rounds : ℕ → ℕ → RingView → Part
 rounds zero i w = ([], w)
@@ -143,6 +151,10 @@ crashed i w = happens ((i, Crash false) ∷ []) i [] w
 -- node i is stopped while a batch flies, and opened again, with the batch or without
 unfoldable pub stopped : Bool → ℕ → RingView → RingView
 stopped keeps_flying i w = happens ((i, Launch) ∷ (i, Crash keeps_flying) ∷ []) i [] w
+
+-- node i is stopped while a checkpoint flies, and opened again, with what it is of or without
+unfoldable pub stopped_all : Bool → ℕ → RingView → RingView
+stopped_all keeps_flying i w = happens ((i, LaunchAll) ∷ (i, Crash keeps_flying) ∷ []) i [] w
 
 -- the numbers of the tickets that are open at node i, in order
 unfoldable pub lost : ℕ → RingView → List ℕ

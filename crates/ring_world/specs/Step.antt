@@ -7,13 +7,15 @@ use Rattle.ring_records.specs.declared.request.Request.{Request}
 use Rattle.ring_records.specs.declared.request.Request.TheVariants as ask
 use Rattle.ring_records.specs.Admission.{where_so}
 use Rattle.ring_records.specs.Lists.{or_else}
+use Rattle.ring_records.specs.Member.{member}
 use Rattle.ring_records.specs.Message.{is_outside}
 use Rattle.ring_records.specs.Place.{before}
+use Rattle.ring_node.specs.Node.{checkpoint_refusal}
 use Rattle.ring_world.specs.Ring as ring
-use Rattle.ring_world.specs.Ring.{RingView, node_at, waits, lost, round, brought, carried, is_earned, is_released, is_full, swept}
+use Rattle.ring_world.specs.Ring.{RingView, node_at, waits, lost, round, summarised, brought, carried, is_earned, is_released, is_full, swept}
 use Rattle.ring_world.specs.State.{State}
 use Rattle.ring_world.specs.declared.event.Event.{Event}
-use Rattle.ring_world.specs.declared.event.Event.TheVariants.{Submit, Flush, Deliver, DeliverAll, Credit, Crash, Stop}
+use Rattle.ring_world.specs.declared.event.Event.TheVariants.{Submit, Flush, Deliver, DeliverAll, Credit, Crash, Stop, Checkpoint, StopCheckpoint}
 use Rattle.ring_world.specs.declared.outcome.Outcome.{Outcome}
 
 -- an outcome without where it lies in memory
@@ -46,6 +48,12 @@ flushed i s =
     let part = round i s.ring in
     (record nothing_told { flushed = Some ((node_at part.1 i).durable - (node_at s.ring i).durable); replies = part.0 }, record s { ring = part.1 })
 
+-- all that node i accepted is made durable as a checkpoint, and the replies that rested on it are released
+unfoldable pub checkpointed : ℕ → State → Told × State
+checkpointed i s =
+    let part = summarised i s.ring in
+    (record nothing_told { flushed = Some ((node_at part.1 i).durable - (node_at s.ring i).durable); replies = part.0 }, record s { ring = part.1 })
+
 -- node i was opened again, in this ring: the tickets that it lost, and how many inputs it holds
 abbrev pub reopened : ℕ → RingView → State → Told × State
 reopened i w s = (record nothing_told { lost = lost i s.ring; up = Some (length (node_at w i).inputs) }, record s { ring = w })
@@ -56,6 +64,10 @@ crashed i s = reopened i (ring.crashed i s.ring) s
 -- where nothing waits, a stop is a crash
 unfoldable pub stopped : Bool → ℕ → State → Told × State
 stopped keeps_flying i s = if waits s.ring i then reopened i (ring.stopped keeps_flying i s.ring) s else crashed i s
+
+-- a checkpoint is stopped also where nothing waits
+unfoldable pub stopped_all : Bool → ℕ → State → Told × State
+stopped_all keeps_flying i s = reopened i (ring.stopped_all keeps_flying i s.ring) s
 
 unfoldable pub delivered_all : State → Told × State
 delivered_all s = let all = swept 10000 s.ring in (record nothing_told { delivered = Some all.0 }, record s { ring = all.1 })
@@ -73,6 +85,8 @@ stepped keeps_flying s DeliverAll = delivered_all s
 stepped keeps_flying s (Credit from upto) = submitted (before s.ring.size from) (ask.Acked upto) s
 stepped keeps_flying s (Crash node) = crashed node s
 stepped keeps_flying s (Stop node call tear) = stopped keeps_flying node s
+stepped keeps_flying s (Checkpoint node) = checkpointed node s
+stepped keeps_flying s (StopCheckpoint node call tear) = stopped_all keeps_flying node s
 
 -- all that happened is told
 abbrev pub all_told : Told × State → Told × State
@@ -87,9 +101,9 @@ Steps s event o t = (keeps_flying : Bool) × ((o, t) ≡ all_told (stepped keeps
 abbrev pub no_node : State → ℕ → Option Refusal
 no_node s i = where_so (nat_lt s.ring.size i) refused.BadNumber
 
--- no flush of the node has this device call
-abbrev pub no_stop : State → ℕ → ℕ → Option Refusal
-no_stop s i call = or_else (no_node s i) (where_so (nat_eq call 0 || nat_lt 4 call) refused.BadNumber)
+-- of the device calls of a flush or a checkpoint of the node, so many, none is this one
+abbrev pub no_stop : State → ℕ → ℕ → ℕ → Option Refusal
+no_stop s calls i call = or_else (no_node s i) (where_so (nat_eq call 0 || nat_lt calls call) refused.BadNumber)
 
 abbrev pub unknown : Option (ℕ × Request) → Option Refusal
 unknown None = Some refused.Unknown
@@ -111,14 +125,33 @@ objection_to s (Deliver from msg_no) = or_else (no_node s from) (or_else (unknow
 objection_to s DeliverAll = None
 objection_to s (Credit from upto) = or_else (no_node s from) (or_else (where_so (not (is_earned s.ring from upto)) refused.Unknown) (spent s))
 objection_to s (Crash node) = no_node s node
-objection_to s (Stop node call tear) = no_stop s node call
+objection_to s (Stop node call tear) = no_stop s 4 node call
+objection_to s (Checkpoint node) = no_node s node
+objection_to s (StopCheckpoint node call tear) = no_stop s 6 node call
+
+-- what a checkpoint of the node meets: its journal may write no other area, or the snapshot is longer than the capacity
+abbrev pub no_checkpoint : State → ℕ → Option Refusal
+no_checkpoint s i = checkpoint_refusal (member i s.ring.size s.ring.capacity) (node_at s.ring i)
+
+-- what the checkpoint meets that the event begins, if it begins one
+unfoldable pub unbegun : State → Event → Option Refusal
+unbegun s (Submit node q) = None
+unbegun s (Flush node) = None
+unbegun s (Deliver from msg_no) = None
+unbegun s DeliverAll = None
+unbegun s (Credit from upto) = None
+unbegun s (Crash node) = None
+unbegun s (Stop node call tear) = None
+unbegun s (Checkpoint node) = no_checkpoint s node
+unbegun s (StopCheckpoint node call tear) = no_checkpoint s node
 
 -- the first cause to refuse the event, want of memory aside
 unfoldable pub refusal_of : State → Event → Option Refusal
 refusal_of s event =
     or_else (where_so s.ring.failed refused.Failed)
     (or_else (objection_to s event)
-    (where_so (is_full s.ring) refused.Limit))
+    (or_else (where_so (is_full s.ring) refused.Limit)
+    (unbegun s event)))
 
 -- want of memory changes nothing
 unfoldable pub is_lasting : State → Event → Bool
@@ -129,3 +162,5 @@ is_lasting s DeliverAll = false
 is_lasting s (Credit from upto) = not s.ring.eager
 is_lasting s (Crash node) = false
 is_lasting s (Stop node call tear) = false
+is_lasting s (Checkpoint node) = false
+is_lasting s (StopCheckpoint node call tear) = false

@@ -21,4 +21,9 @@ pub enum Event {
     /// A node is stopped at a device call of a flush, 1 to 4, its device is left by the tear, and it is opened again.
     /// Where nothing waits, as `Crash`.
     Stop { node: NodeNo, call: u64, tear: Tear },
+    /// A node makes a summary of all that it accepted durable in place of what its journal holds, and releases what that
+    /// lets it release.
+    Checkpoint(NodeNo),
+    /// A node is stopped at a device call of a checkpoint, 1 to 6, its device is left by the tear, and it is opened again.
+    StopCheckpoint { node: NodeNo, call: u64, tear: Tear },
 }

@@ -16,6 +16,8 @@ pub enum Deed {
     Submit(Request),
     /// A batch of its inputs began to fly.
     Launch,
+    /// All its inputs began to fly, as a checkpoint.
+    LaunchAll,
     /// What flew is durable.
     Land,
     /// It released something.

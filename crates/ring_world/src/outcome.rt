@@ -10,7 +10,7 @@ use std::alloc::Global;
 pub struct Outcome {
     /// The ticket number that it took, from 1 on.
     pub ticket: Option<u64>,
-    /// How many inputs a flush made durable.
+    /// How many inputs a flush or a checkpoint made durable.
     pub flushed: Option<u32>,
     /// How many deliveries were accepted, for the event that makes them all.
     pub delivered: Option<u32>,

@@ -5,7 +5,7 @@ ghost use Rattle.ring_records.specs.Member.{member};
 ghost use Rattle.ring_records.specs.Message.{candidate_of};
 ghost use Rattle.ring_records.specs.Order.{is_msg};
 ghost use Rattle.ring_records.specs.States.{shown_in};
-ghost use Rattle.ring_node.specs.Node.{IsShownBy};
+ghost use Rattle.ring_node.specs.Node.{state_of, IsShownBy};
 ghost use Rattle.ring_world.specs.Events.{IsSchedule};
 ghost use Rattle.ring_world.specs.Shows.{new_nodes};
 ghost use Rattle.ring_world.specs.State.{is_ring, by_log};
@@ -94,6 +94,7 @@ impl Working {
         ensures member { result.now.member ≡ member node self.now.ring.size self.now.ring.capacity }
         ensures inputs { result.now.inputs ≡ (node_at self.now.ring node).inputs }
         ensures durable { result.now.durable ≡ (node_at self.now.ring node).durable }
+        ensures state { state_of result.now ≡ node_at self.now.ring node }
     {
         &self.nodes[node.number() as usize - 1]
     }

@@ -93,9 +93,10 @@ impl World {
     }
 
     /// Lets an event happen. Refused, in this order: 9 after a refused growth; 2 where there is no such node, a message
-    /// is of none, or a device call is not 1 to 4; 21 where a packet that it brings was never released to the node; 6
-    /// where 2^60 ticket numbers are taken or 2^60 events happened; 8. A refusal changes nothing, save that an 8 leaves
-    /// a failed world; but not where a node of a ring that is not eager was asked.
+    /// is of none, or a device call is none of the event's; 21 where a packet that it brings was never released to the node; 6
+    /// where 2^60 ticket numbers are taken or 2^60 events happened, or where the journal of a checkpoint's node may write
+    /// no other area; 7 where the checkpoint's snapshot is longer than the capacity; 8. A refusal changes nothing, save
+    /// that an 8 leaves a failed world; but not where a node of a ring that is not eager was asked.
     #[tactic(auto, unfolding(crate::specs::Step::refusal_of))]
     pub fn step(&mut self, event: Event) -> Result<Outcome, Refusal>
         ensures steps { IfOk result (λ outcome. Steps self.old event (told outcome) self.new) }

@@ -2,10 +2,10 @@
 ghost use Rattle.std.specs.Prelude.{◌≡◌, ◌≤◌, ◌<◌, ◌+◌, ◌-◌, ◌^◌, ◌++◌, length, map, true, false, OnOk, OnErr, IfOk, vec_len, vec_capacity};
 ghost use Rattle.std.specs.List.{filter_map};
 ghost use Rattle.ring_records.specs.Message.{is_outside};
-ghost use Rattle.ring_node.specs.Node.{flown, flushed};
+ghost use Rattle.ring_node.specs.Node.{flown, flushed, checkpointed as checkpointed_node};
 ghost use Rattle.ring_node.specs.Open.{due};
-ghost use Rattle.ring_world.specs.Ring.{node_at, asked, landed, settled, replies, reply_of, release_of, given, handed, drained, brought, is_released};
-ghost use Rattle.ring_world.specs.Shows.{batch_of, without_due};
+ghost use Rattle.ring_world.specs.Ring.{node_at, asked, landed, checkpointed, settled, replies, reply_of, release_of, given, handed, drained, brought, is_released};
+ghost use Rattle.ring_world.specs.Shows.{batch_of, checkpoint_of, without_due};
 ghost use Rattle.ring_world.specs.State.{IsSameState};
 
 use super::*;
@@ -115,6 +115,29 @@ impl Working {
         release_due(&mut self.nodes[at], &mut self.log.events, list, node);
         Ok(count)
     }
+
+    // Makes a checkpoint of the node durable, and releases what is due: how many inputs. Adds the replies to tickets with
+    // a number. Where no checkpoint of it is refused, an error is want of memory; it changes nothing.
+    pub(super) fn summarise(
+        &mut self,
+        node: NodeNo,
+        list: &mut Vec<(u64, Reply)>,
+    ) -> Result<u32, AllocError>
+        requires inside { node ≤ self.old.ring.size }
+        ensures next { OnOk result (self.new.ring ≡ settled node (checkpointed node self.old.ring)) }
+        ensures replies { OnOk result (list.new.items ≡ list.old.items ++ replies node (checkpointed node self.old.ring)) }
+        ensures count { IfOk result (λ count. count ≡ (node_at self.new.ring node).durable - (node_at self.old.ring node).durable) }
+        ensures same { IsSameState self.old self.new }
+    {
+        // All memory first. Every open ticket may be due once the checkpoint landed.
+        let at = node.number() as usize - 1;
+        let open = self.nodes[at].desk().open_tickets();
+        self.log.events.reserve(open.saturating_add(2))?;
+        list.reserve(open)?;
+        let count = land_all(&mut self.nodes[at], &mut self.log.events, node)?;
+        release_due(&mut self.nodes[at], &mut self.log.events, list, node);
+        Ok(count)
+    }
 }
 
 // Adds the packet that a neighbour of the node releases to it, for what the request brings; there is room.
@@ -162,6 +185,30 @@ fn land(node: &mut RingNode, events: &mut Vec<Happened>, number: NodeNo) -> Resu
         events.push_reserved(Happened::new(number, Deed::Land));
     }
     Ok(count)
+}
+
+// Launches and lands a checkpoint of the node; there is room for the events. How many inputs.
+fn land_all(
+    node: &mut RingNode,
+    events: &mut Vec<Happened>,
+    number: NodeNo,
+) -> Result<u32, AllocError>
+    requires room { vec_len events.old + 2 ≤ vec_capacity events.old }
+    ensures node { OnOk result (node.new ≡ checkpointed_node node.old) }
+    ensures events { OnOk result (events.new.items ≡ events.old.items ++ checkpoint_of number) }
+    ensures len { vec_len events.new ≤ vec_len events.old + 2 }
+    ensures capacity { vec_capacity events.new ≡ vec_capacity events.old }
+    ensures count { IfOk result (λ count. count ≡ length node.old.inputs - node.old.durable) }
+    ensures err { OnErr result ((events.new.items ≡ events.old.items) × (node.new ≡ node.old)) }
+{
+    match node.checkpoint() {
+        Ok(count) => {
+            events.push_reserved(Happened::new(number, Deed::LaunchAll));
+            events.push_reserved(Happened::new(number, Deed::Land));
+            Ok(count)
+        }
+        Err(_) => Err(AllocError),
+    }
 }
 
 // Releases what is due at the node, for which there is room.

@@ -1,9 +1,9 @@
 // Why an event is refused.
-ghost use Rattle.std.specs.Prelude.{◌≡◌, IfSome};
+ghost use Rattle.std.specs.Prelude.{◌≡◌, ◌≤◌, None, IfSome};
 ghost use Rattle.ring_records.specs.Admission.{where_so};
 ghost use Rattle.ring_world.specs.declared.event.Event.TheVariants as event;
 ghost use Rattle.ring_world.specs.Ring.{is_full};
-ghost use Rattle.ring_world.specs.Step.{refusal_of, objection_to, no_node, no_stop, spent};
+ghost use Rattle.ring_world.specs.Step.{refusal_of, objection_to, unbegun, no_node, no_stop, no_checkpoint, spent};
 
 use super::*;
 use crate::event::Event;
@@ -18,7 +18,10 @@ impl Working {
         let _ = &self.log;
         match self.objection(event) {
             Some(refusal) => Some(refusal),
-            None => self.event_objection(),
+            None => match self.event_objection() {
+                Some(refusal) => Some(refusal),
+                None => self.checkpoint_objection(event),
+            },
         }
     }
 
@@ -34,7 +37,11 @@ impl Working {
             Event::DeliverAll => None,
             Event::Credit { from, upto } => self.credit_objection(*from, *upto),
             Event::Crash(node) => self.node_objection(*node),
-            Event::Stop { node, call, .. } => self.stop_objection(*node, *call),
+            Event::Stop { node, call, .. } => self.stop_objection(*node, *call, FLUSH_CALLS),
+            Event::Checkpoint(node) => self.node_objection(*node),
+            Event::StopCheckpoint { node, call, .. } => {
+                self.stop_objection(*node, *call, CHECKPOINT_CALLS)
+            }
         }
     }
 
@@ -81,11 +88,12 @@ impl Working {
         self.ticket_objection()
     }
 
-    fn stop_objection(&self, node: NodeNo, call: u64) -> Option<Refusal>
-        ensures value { result ≡ no_stop self.now node call }
+    // Of so many device calls none may be this one.
+    fn stop_objection(&self, node: NodeNo, call: u64, calls: u64) -> Option<Refusal>
+        ensures value { result ≡ no_stop self.now calls node call }
         ensures memory { IfSome result (λ refusal. refusal ≡ Refusal.OutOfMemory → ⊥) }
     {
-        if node.number() > self.log.size || call == 0 || call > 4 {
+        if node.number() > self.log.size || call == 0 || call > calls {
             return Some(Refusal::BadNumber);
         }
         None
@@ -99,6 +107,29 @@ impl Working {
             return Some(Refusal::BadNumber);
         }
         None
+    }
+
+    // What the checkpoint meets that the event begins, where nothing of this ring is objected to it.
+    #[tactic(auto, unfolding(crate::specs::Step::objection_to, crate::specs::Step::unbegun))]
+    fn checkpoint_objection(&self, event: &Event) -> Option<Refusal>
+        requires free { objection_to self.now event.now ≡ None }
+        ensures value { result ≡ unbegun self.now event.now }
+        ensures memory { IfSome result (λ refusal. refusal ≡ Refusal.OutOfMemory → ⊥) }
+    {
+        match event {
+            Event::Checkpoint(node) => self.checkpoint_refusal(*node),
+            Event::StopCheckpoint { node, .. } => self.checkpoint_refusal(*node),
+            Event::Submit(..) | Event::Flush(_) | Event::Deliver { .. } | Event::DeliverAll => None,
+            Event::Credit { .. } | Event::Crash(_) | Event::Stop { .. } => None,
+        }
+    }
+
+    fn checkpoint_refusal(&self, node: NodeNo) -> Option<Refusal>
+        requires inside { node ≤ self.now.ring.size }
+        ensures value { result ≡ no_checkpoint self.now node }
+        ensures memory { IfSome result (λ refusal. refusal ≡ Refusal.OutOfMemory → ⊥) }
+    {
+        self.at(node).checkpoint_refusal()
     }
 
     fn event_objection(&self) -> Option<Refusal>
@@ -121,6 +152,12 @@ impl Working {
         None
     }
 }
+
+/// The device calls of a flush.
+const FLUSH_CALLS: u64 = 4;
+
+/// Those of a checkpoint.
+const CHECKPOINT_CALLS: u64 = 6;
 
 /// The most ticket numbers.
 const TICKETS: u64 = 1 << 60;

@@ -6,7 +6,7 @@ ghost use Rattle.ring_world.specs.Ring.{node_at, carried, is_earned, is_released
 ghost use Rattle.ring_world.specs.Stage.{state_of};
 ghost use Rattle.ring_world.specs.State.{IsLeft};
 ghost use Rattle.ring_world.specs.Events.{IsSchedule};
-ghost use Rattle.ring_world.specs.Step.{Steps, told, nothing_told, unknown, submitted, flushed, delivered_all, put, stepped, refusal_of, is_lasting};
+ghost use Rattle.ring_world.specs.Step.{Steps, told, nothing_told, unknown, submitted, flushed, checkpointed, delivered_all, put, stepped, refusal_of, is_lasting};
 
 use super::*;
 use crate::event::Event;
@@ -40,7 +40,7 @@ impl Working {
 
     // Lets an event happen that nothing is objected to. Refused for memory, what is left: the ring as it was where a
     // node of one that is not eager is asked, and else what was told.
-    #[tactic(auto, unfolding(crate::specs::Step::refusal_of, crate::specs::Step::objection_to, crate::specs::Step::stepped, crate::specs::Step::is_lasting))]
+    #[tactic(auto, unfolding(crate::specs::Step::refusal_of, crate::specs::Step::objection_to, crate::specs::Step::unbegun, crate::specs::Step::stepped, crate::specs::Step::is_lasting))]
     fn perform(self, event: Event) -> Result<(Working, Outcome), Stage>
         requires free { refusal_of self event ≡ None }
         ensures step { IfOk result (λ r. (keeps_flying : Bool) × ((told r.1, r.0) ≡ stepped keeps_flying self event)) }
@@ -54,6 +54,8 @@ impl Working {
             Event::Credit { from, upto } => self.credit(from, upto),
             Event::Crash(node) => self.crash(node),
             Event::Stop { node, call, tear } => self.stop(node, call, tear),
+            Event::Checkpoint(node) => self.checkpoint(node),
+            Event::StopCheckpoint { node, call, tear } => self.stop_checkpoint(node, call, tear),
         }
     }
 
@@ -91,6 +93,23 @@ impl Working {
         let mut ring = self;
         let mut outcome = Outcome::nothing(ring.log.alloc);
         match ring.round(node, &mut outcome.replies) {
+            Ok(count) => {
+                outcome.flushed = Some(count);
+                Ok((ring, outcome))
+            }
+            Err(_) => Err(Stage::Failed(ring.fail())),
+        }
+    }
+
+    #[tactic(auto, unfolding(crate::specs::Step::checkpointed))]
+    fn checkpoint(self, node: NodeNo) -> Result<(Working, Outcome), Stage>
+        requires inside { node ≤ self.ring.size }
+        ensures step { IfOk result (λ r. (told r.1, r.0) ≡ checkpointed node self) }
+        ensures left { IfErr result (λ stage. IsLeft false self (state_of stage)) }
+    {
+        let mut ring = self;
+        let mut outcome = Outcome::nothing(ring.log.alloc);
+        match ring.summarise(node, &mut outcome.replies) {
             Ok(count) => {
                 outcome.flushed = Some(count);
                 Ok((ring, outcome))

@@ -18,3 +18,8 @@ pub returns-clause-durable : goal.returns-clause-durable
 returns-clause-durable c =
     ap (λ (s : NodeState). s.durable) (node_is c.args.self.now.ring c.self.inside.log.events.items c.self.inside.nodes.items (tied c.self.inside.log c.self.inside.nodes.items _ c.self.view_is c.self.invariant) c.args.node c.number.result c.number.ensures.value c.number.ensures.range.0 c.requires.inside
     c.index.result.now c.index.ensures).state
+
+pub returns-clause-state : goal.returns-clause-state
+returns-clause-state c =
+    (node_is c.args.self.now.ring c.self.inside.log.events.items c.self.inside.nodes.items (tied c.self.inside.log c.self.inside.nodes.items _ c.self.view_is c.self.invariant) c.args.node c.number.result c.number.ensures.value c.number.ensures.range.0 c.requires.inside
+    c.index.result.now c.index.ensures).state

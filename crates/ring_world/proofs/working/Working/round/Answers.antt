@@ -1,6 +1,7 @@
 use Rattle.std.proofs.Common.{◌++◌, ◌-◌, ap, sym, ◌∙◌, arith}
 use Rattle.std.specs.List.{filter_map}
 use Rattle.ring_records.specs.States.{NodeState}
+use Rattle.ring_node.specs.Node.{NodeView}
 use Rattle.ring_node.specs.Open.{due}
 use Rattle.ring_world.specs.State.{State}
 use Rattle.ring_world.specs.Ring.{node_at, landed, replies, reply_of}
@@ -13,7 +14,7 @@ use Rattle.ring_world.proofs.working.Working.round.Goals as goal
 pub release_due-requires-clause-events : goal.release_due-requires-clause-events
 release_due-requires-clause-events c =
     let few = landed_few c.args.self.now.ring c.self.inside.log.events.items c.self.inside.nodes.items (tied c.self.inside.log c.self.inside.nodes.items _ c.self.view_is c.self.invariant)
-    c.args.node c.number.result c.number.ensures.value c.number.ensures.range.0 c.requires.inside c.index_mut.result.now c.index_mut.ensures.value c.land.new.node c.index_mut-2.result.now c.index.result.now c.in_ok-count.ensures.node c.index_mut-2.ensures.value c.index.ensures in
+    c.args.node c.number.result c.number.ensures.value c.number.ensures.range.0 c.requires.inside c.index_mut.result.now c.index_mut.ensures.value c.land.new.node c.index_mut-2.result.now c.index.result.now (ap (λ (v : NodeView). v.held) c.in_ok-count.ensures.node) c.index_mut-2.ensures.value c.index.ensures in
     let tickets = c.open_tickets-open.ensures in
     let added = c.saturating_add.ensures in
     let room = c.in_ok-reserve.ensures.ok in
@@ -25,7 +26,7 @@ release_due-requires-clause-events c =
 pub release_due-requires-clause-replies : goal.release_due-requires-clause-replies
 release_due-requires-clause-replies c =
     let few = landed_few c.args.self.now.ring c.self.inside.log.events.items c.self.inside.nodes.items (tied c.self.inside.log c.self.inside.nodes.items _ c.self.view_is c.self.invariant)
-    c.args.node c.number.result c.number.ensures.value c.number.ensures.range.0 c.requires.inside c.index_mut.result.now c.index_mut.ensures.value c.land.new.node c.index_mut-2.result.now c.index.result.now c.in_ok-count.ensures.node c.index_mut-2.ensures.value c.index.ensures in
+    c.args.node c.number.result c.number.ensures.value c.number.ensures.range.0 c.requires.inside c.index_mut.result.now c.index_mut.ensures.value c.land.new.node c.index_mut-2.result.now c.index.result.now (ap (λ (v : NodeView). v.held) c.in_ok-count.ensures.node) c.index_mut-2.ensures.value c.index.ensures in
     let tickets = c.open_tickets-open.ensures in
     let len = c.in_ok-reserve-2.ensures.len in
     let room = c.in_ok-reserve-2.ensures.ok in
