@@ -7,7 +7,7 @@ from nodes import REPLIES, Acked, Input, Key, Message, Node, Stand, Take
 # What a node may print for want of room or memory, which is not worked out here.
 WANT = ("no 6 limit", "no 7 full")
 # What it prints for a line that comes to no node.
-REFUSED = ("no 1 name", "no 2 number", "no 21 unknown", "no 25 line")
+REFUSED = ("no 1 name", "no 2 number", "no 21 unknown", "no 25 line", *WANT)
 # A flush takes so many inputs.
 BATCH = 64
 
@@ -154,14 +154,20 @@ class Run:
 
     def line_flush(self, words: list[str]) -> None:
         node = self.node(words[1])
-        count = min(BATCH, len(node.inputs) - node.durable)
-        self.expect(f"flushed {count}")
+        self.land(node, "#", "flushed", min(BATCH, len(node.inputs) - node.durable))
+
+    def line_checkpoint(self, words: list[str]) -> None:
+        node = self.node(words[1])
+        self.land(node, "+", "checkpointed", len(node.inputs) - node.durable)
+
+    def land(self, node: Node, sign: str, what: str, count: int) -> None:
+        self.expect(f"{what} {count}")
         node.durable += count
         free = [ticket for ticket in self.open if ticket.node is node and ticket.rests <= node.durable]
         for ticket in free:
             self.expect(f"{ticket.number}: {ticket.reply}")
             self.open.remove(ticket)
-        self.row(node, "#", "; ".join([f"flushed {count}", *(f"{ticket.number}: {ticket.reply}" for ticket in free)]))
+        self.row(node, sign, "; ".join([f"{what} {count}", *(f"{ticket.number}: {ticket.reply}" for ticket in free)]))
 
     def line_crash(self, words: list[str]) -> None:
         node = self.node(words[1])
@@ -170,6 +176,9 @@ class Run:
     def line_stop(self, words: list[str]) -> None:
         """Which of the two lists a stop leaves ringctl tells."""
         node = self.node(words[1])
+        if words[2] == "checkpoint":
+            self.end(node, f"stop at call {words[3]} of a checkpoint, {' '.join(words[4:])}", [node.durable, len(node.inputs)])
+            return
         flown = min(node.durable + BATCH, len(node.inputs))
         self.end(node, f"stop at call {words[2]}, {' '.join(words[3:])}", [node.durable, flown])
 
@@ -190,9 +199,6 @@ class Run:
         counts = f"inputs {len(node.inputs)} durable {node.durable} sent {len(node.sent)}"
         self.expect(f"node {node.me} {counts} taken {node.taken} credit {node.credit}")
         self.row(node, "o", f"{counts} taken {node.taken} credit {node.credit}")
-
-    def line_checkpoint(self, words: list[str]) -> None:
-        self.row(self.node(words[1]), "+", f"checkpoint, {self.next()}")
 
     def submit(self, node: Node, asked: Input) -> tuple[str, str]:
         """The node is asked to accept an input: what ringctl told of it, and what came of it."""

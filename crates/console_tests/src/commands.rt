@@ -13,6 +13,7 @@ fn ring_is_the_only_first_command(rt: HostRuntime) {
         ("flush 1", &["no 25 line"]),
         ("crash 1", &["no 25 line"]),
         ("stop 1 1 old", &["no 25 line"]),
+        ("checkpoint 1", &["no 25 line"]),
         ("show 1", &["no 25 line"]),
         ("ring", &["no 25 line"]),
         ("ring 2 4096", &["no 25 line"]),
@@ -97,7 +98,7 @@ fn unknown_commands(rt: HostRuntime) {
         ("stops 1 1 old", &["no 25 line"]),
         ("shows 1", &["no 25 line"]),
         ("up 1 0", &["no 25 line"]),
-        ("checkpoint 1", &["no 25 line"]),
+        ("checkpoints 1", &["no 25 line"]),
         ("retire 1 red 1", &["no 25 line"]),
         ("audit", &["no 25 line"]),
     ];
@@ -162,16 +163,46 @@ fn stop(rt: HostRuntime) {
     assert_session(&rt, SESSION);
 }
 
-// A checkpoint is a K that is no number, and TEAR is a fixed word, judged before any number.
+// Where no form of a stopped checkpoint fits, `checkpoint` is a K that is no number. TEAR is a fixed word, judged before
+// any number.
 #[test]
 fn fixed_words_of_stop(rt: HostRuntime) {
     const SESSION: &[Line] = &[
         ("ring 2", &["ring 2"]),
         ("stop 1 checkpoint new", &["no 2 number"]),
         ("stop 1 checkpoint fill 5", &["no 2 number"]),
+        ("stop 1 checkpoint fill old", &["no 2 number"]),
         ("stop 1 checkpoint 4", &["no 25 line"]),
         ("stop 1 9 torn", &["no 25 line"]),
         ("stop checkpoint 9 torn", &["no 25 line"]),
+    ];
+    assert_session(&rt, SESSION);
+}
+
+#[test]
+fn checkpoint(rt: HostRuntime) {
+    const SESSION: &[Line] = &[
+        ("ring 2", &["ring 2"]),
+        ("checkpoint", &["no 25 line"]),
+        ("checkpoint 1 1", &["no 25 line"]),
+        ("checkpoint 0", &["no 2 number"]),
+        ("checkpoint 3", &["no 2 number"]),
+        ("checkpoint all", &["no 2 number"]),
+        ("stop 1 checkpoint 1 Old", &["no 25 line"]),
+        ("stop 1 Checkpoint 1 old", &["no 25 line"]),
+        ("stop 1 checkpoint 1 fill", &["no 25 line"]),
+        ("stop 9 checkpoint 9 fil 256", &["no 25 line"]),
+        ("stop 1 checkpoint 1 old 1", &["no 25 line"]),
+        ("stop 1 checkpoint 1 fill 1 1", &["no 25 line"]),
+        ("stop 1 1 1 fill 1", &["no 25 line"]),
+        ("stop 3 checkpoint 1 old", &["no 2 number"]),
+        ("stop 1 checkpoint 0 new", &["no 2 number"]),
+        ("stop 1 checkpoint 7 old", &["no 2 number"]),
+        ("stop 1 checkpoint 7 fill 1", &["no 2 number"]),
+        ("stop 1 checkpoint 1 fill 256", &["no 2 number"]),
+        ("stop 1 checkpoint 6 fill 255", &["up 1 0"]),
+        ("stop 2 checkpoint 1 new", &["up 2 0"]),
+        ("checkpoint 2", &["checkpointed 0"]),
     ];
     assert_session(&rt, SESSION);
 }

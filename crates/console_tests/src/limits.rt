@@ -19,6 +19,26 @@ fn add_stands(
     Ok(())
 }
 
+// Behind 100 tickets, messages 0 to 99 of node 1 are taken.
+fn add_deliveries(session: &mut Session, alloc: Global) -> Result<(), AllocError> {
+    for no in 0..100_u32 {
+        let command = format!(in alloc; "deliver 1 {no}\n")?;
+        let reply = format!(in alloc; "{}: taken", no + 101)?;
+        session.add(command.as_bytes(), &[reply.as_str()])?;
+    }
+    Ok(())
+}
+
+// Behind 201 tickets, node 1 stands for terms 101 to 237 of group `red`.
+fn add_more_stands(session: &mut Session, alloc: Global) -> Result<(), AllocError> {
+    for at in 0..137_u32 {
+        let command = format!(in alloc; "stand 1 red {} 10\n", at + 101)?;
+        let reply = format!(in alloc; "{}: stood", at + 202)?;
+        session.add(command.as_bytes(), &[reply.as_str()])?;
+    }
+    Ok(())
+}
+
 // A flush takes 64 inputs, and the next one takes the last.
 #[test]
 fn batches_of_64(rt: HostRuntime) -> Result<(), AllocError> {
@@ -33,7 +53,7 @@ fn batches_of_64(rt: HostRuntime) -> Result<(), AllocError> {
     Ok(())
 }
 
-// A snapshot of 38 bytes and 202 times a cost of 20 are 4,078 of 4,096 bytes.
+// A snapshot of 38 bytes and 202 times a cost of 20 are 4,078 of 4,096 bytes. One of all inputs has 38 + 202 times 27.
 #[test]
 fn full_capacity(rt: HostRuntime) -> Result<(), AllocError> {
     const END: &[Line] = &[
@@ -44,11 +64,38 @@ fn full_capacity(rt: HostRuntime) -> Result<(), AllocError> {
             "show 1",
             &["node 1 inputs 202 durable 202 sent 202 taken 0 credit 0"],
         ),
+        ("checkpoint 1", &["no 7 full"]),
+        ("stop 1 checkpoint 1 old", &["no 7 full"]),
+        ("stop 1 checkpoint 7 old", &["no 2 number"]),
     ];
     let mut session = Session::of(rt.alloc(), &[("ring 2 eager 4096", &["ring 2"])])?;
     add_stands(&mut session, rt.alloc(), 202, 10, "stood")?;
     session.add_lines(END)?;
     assert_played(&rt, "full_capacity", &session);
+    Ok(())
+}
+
+// What a checkpoint summarises takes the bytes of its snapshot alone: here no message waits.
+#[test]
+fn checkpoint_frees_room(rt: HostRuntime) -> Result<(), AllocError> {
+    const CHECKPOINT: &[Line] = &[
+        ("credit 2 100", &["201: acked"]),
+        ("checkpoint 1", &["checkpointed 0"]),
+    ];
+    const END: &[Line] = &[
+        ("stand 1 red 238 10", &["339: no 7 full"]),
+        (
+            "show 1",
+            &["node 1 inputs 238 durable 238 sent 237 taken 0 credit 100"],
+        ),
+    ];
+    let mut session = Session::of(rt.alloc(), &[("ring 2 eager 4096", &["ring 2"])])?;
+    add_stands(&mut session, rt.alloc(), 100, 10, "stood")?;
+    add_deliveries(&mut session, rt.alloc())?;
+    session.add_lines(CHECKPOINT)?;
+    add_more_stands(&mut session, rt.alloc())?;
+    session.add_lines(END)?;
+    assert_played(&rt, "checkpoint_frees_room", &session);
     Ok(())
 }
 

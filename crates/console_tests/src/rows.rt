@@ -149,6 +149,63 @@ fn stale_after_crash(rt: HostRuntime) {
 }
 
 #[test]
+fn checkpoint_and_crash(rt: HostRuntime) {
+    const SESSION: &[Line] = &[
+        ("ring 2", &["ring 2"]),
+        ("stand 1 red 9 5", &["1: stood"]),
+        ("deliver all", &["delivered 4"]),
+        ("checkpoint 1", &["checkpointed 0"]),
+        ("crash 1", &["up 1 3"]),
+        ("latest 1 red", &["2: term 9 leader 1 5"]),
+        (
+            "show 1",
+            &["node 1 inputs 3 durable 3 sent 2 taken 2 credit 0"],
+        ),
+    ];
+    assert_session(&rt, SESSION);
+}
+
+#[test]
+fn stopped_checkpoint(rt: HostRuntime) {
+    const BEFORE_THE_GATE: &[Line] = &[
+        ("ring 3 lazy", &["ring 3"]),
+        ("stand 1 red 5 10", &["1: sealed"]),
+        ("stop 1 checkpoint 4 new", &["1: lost", "up 1 0"]),
+        ("stand 1 red 5 10", &["2: sealed"]),
+        ("checkpoint 1", &["checkpointed 1", "2: stood"]),
+        ("stop 1 checkpoint 6 old", &["up 1 1"]),
+        (
+            "show 1",
+            &["node 1 inputs 1 durable 1 sent 1 taken 0 credit 0"],
+        ),
+    ];
+    const AT_THE_GATE: &[Line] = &[
+        ("ring 3 lazy", &["ring 3"]),
+        ("stand 1 red 5 10", &["1: sealed"]),
+        ("stop 1 checkpoint 5 fill 1", &["1: lost", "up 1 1"]),
+        ("stand 1 red 5 10", &["2: no 3 already 10"]),
+        ("checkpoint 1", &["checkpointed 0"]),
+        ("stop 1 checkpoint 6 old", &["up 1 1"]),
+        (
+            "show 1",
+            &["node 1 inputs 1 durable 1 sent 1 taken 0 credit 0"],
+        ),
+    ];
+    const OVER_A_CLOSED_GATE: &[Line] = &[
+        ("ring 3 lazy", &["ring 3"]),
+        ("stand 1 red 5 10", &["1: sealed"]),
+        ("stop 1 checkpoint 4 new", &["1: lost", "up 1 0"]),
+        ("stand 1 red 5 20", &["2: sealed"]),
+        ("flush 1", &["flushed 1", "2: stood"]),
+        ("stop 1 checkpoint 1 fill 1", &["up 1 1"]),
+        ("stand 1 red 5 10", &["3: no 3 already 20"]),
+    ];
+    assert_named(&rt, "before the gate", BEFORE_THE_GATE);
+    assert_named(&rt, "at the gate", AT_THE_GATE);
+    assert_named(&rt, "over a closed gate", OVER_A_CLOSED_GATE);
+}
+
+#[test]
 fn empty_script(rt: HostRuntime) {
     assert_session(&rt, &[]);
 }

@@ -203,6 +203,42 @@ fn deliver_all_prints_no_tickets(rt: HostRuntime) {
     assert_session(&rt, SESSION);
 }
 
+// A message that the snapshot has no more is Old at its taker, and one that it has comes again.
+#[test]
+fn messages_outlive_a_checkpoint(rt: HostRuntime) {
+    const SESSION: &[Line] = &[
+        ("ring 2", &["ring 2"]),
+        ("stand 1 red 5 10", &["1: stood"]),
+        ("stand 1 blue 5 10", &["2: stood"]),
+        ("deliver 1 0", &["3: taken"]),
+        ("credit 2 1", &["4: acked"]),
+        ("checkpoint 1", &["checkpointed 0"]),
+        ("crash 1", &["up 1 3"]),
+        ("deliver 1 0", &["5: no 13 old 1"]),
+        ("deliver 1 1", &["6: taken"]),
+        ("deliver 1 2", &["no 21 unknown"]),
+    ];
+    assert_session(&rt, SESSION);
+}
+
+// A checkpoint makes all that waits durable, however much that is, and frees its tickets.
+#[test]
+fn a_checkpoint_frees_tickets(rt: HostRuntime) {
+    const SESSION: &[Line] = &[
+        ("ring 2 lazy", &["ring 2"]),
+        ("stand 1 red 5 10", &["1: sealed"]),
+        ("who 1 red 5", &["2: sealed"]),
+        ("checkpoint 1", &["checkpointed 1", "1: stood", "2: none"]),
+        ("checkpoint 1", &["checkpointed 0"]),
+        ("flush 1", &["flushed 0"]),
+        ("deliver all", &["delivered 1"]),
+        ("stop 2 checkpoint 4 new", &["up 2 0"]),
+        ("deliver all", &["delivered 1"]),
+        ("checkpoint 2", &["checkpointed 1"]),
+    ];
+    assert_session(&rt, SESSION);
+}
+
 #[test]
 fn names_and_numbers_at_their_ends(rt: HostRuntime) {
     const SESSION: &[Line] = &[

@@ -66,6 +66,45 @@ fn stopped_at_the_gate(rt: HostRuntime) {
 }
 
 #[test]
+fn released_behind_a_checkpoint(rt: HostRuntime) {
+    let mut made = stood(&rt);
+    assert!(&rt; made.checkpoint_refusal().is_none());
+    assert_eq!(&rt; made.checkpoint().ok(), Some(1));
+    assert!(&rt; made.message(0).is_some());
+    let Some((number, stub)) = made.release() else {
+        panic!(&rt; "no reply is due");
+    };
+    assert_eq!(&rt; number, Some(7));
+    assert_eq!(&rt; stub.reply(), Reply::Stood);
+    made.end();
+}
+
+/// Whether a checkpoint outlives a stop at this call.
+fn outlives_summarised<R: Abort + AllocGlobal>(rt: &R, call: u64, expected: bool) {
+    let made = stood(rt);
+    assert!(rt; made.checkpoint_refusal().is_none());
+    assert!(rt; made.is_credited());
+    let stopped = made.stop_checkpoint(call, Tear::Fill(1));
+    let (again, keeps, lost) = stopped.expect(rt, "ample memory");
+    assert_eq!(rt;
+        (keeps, again.desk().first(), again.desk().durable()),
+        (expected, u64::from(expected), u64::from(expected))
+    );
+    assert_eq!(rt; lost.as_slice(), [7].as_slice());
+    again.end();
+}
+
+#[test]
+fn stopped_before_a_checkpoint_is_open(rt: HostRuntime) {
+    outlives_summarised(&rt, 4, false);
+}
+
+#[test]
+fn stopped_as_a_checkpoint_is_opened(rt: HostRuntime) {
+    outlives_summarised(&rt, 5, true);
+}
+
+#[test]
 fn ended_with_an_open_ticket(rt: HostRuntime) {
     stood(&rt).end();
 }
