@@ -13,6 +13,7 @@ use ring_records::{Candidate, Key, Shown};
 impl Desk {
     ghost use Rattle.group_commit.specs.Desk.{seen};
     ghost use Rattle.group_commit.specs.Past.{IsPast};
+    ghost use Rattle.group_commit.specs.Since.{IsKnownState};
 
     /// How many inputs the summary of its opening stands for: the number of the first input since.
     pub fn first(&self) -> u64
@@ -25,6 +26,7 @@ impl Desk {
     pub fn accepted(&self) -> u64
         ensures value { result ≡ self.now.opening.inputs + length self.now.view.state.inputs }
         ensures counts { IsNodeState self.now.view.state }
+        ensures known { IsKnownState self.now.view.member self.now.opening self.now.view.state }
         ensures bound { result < 2 ^ 64 - 1 }
         ensures lawful { (past : List Input) → IsPast self.now.view.member self.now.opening past → IsLawfulState self.now.view.member (seen past self.now).state }
     {
@@ -84,6 +86,7 @@ impl Desk {
     pub fn shown(&self) -> Shown
         ensures value { (past : List Input) → IsPast self.now.view.member self.now.opening past → result ≡ shown_in self.now.view.member.node (seen past self.now).state }
         ensures counts { (result.inputs ≡ self.now.opening.inputs + length self.now.view.state.inputs) × (result.durable ≡ self.now.opening.inputs + self.now.view.state.durable) }
+        ensures known { IsKnownState self.now.view.member self.now.opening self.now.view.state }
         ensures lawful { (past : List Input) → IsPast self.now.view.member self.now.opening past → IsLawfulState self.now.view.member (seen past self.now).state }
     {
         Shown {
