@@ -1,33 +1,29 @@
 -- A batch that a hub launches, and what it lets the node release.
-use Rattle.std.proofs.Common.{◌≡◌, ℕ, ◌+◌, ◌-◌, ◌≤◌, List, ◌++◌, length, take, append_assoc, refl, Result, Ok, Err, Option, Some, None, IfOk, IfSome, OnOk, sym, ap, ◌∙◌, subst, arith, length-take}
+use Rattle.std.proofs.Common.{◌≡◌, ℕ, ◌+◌, ◌-◌, ◌≤◌, List, ◌++◌, length, append_assoc, Result, Ok, Err, Option, Some, None, IfOk, IfSome, OnOk, sym, ap, ◌∙◌, subst, arith, length-take}
 use Rattle.std.specs.Prelude.{unwrap_or}
-use Rattle.std.proofs.lemmas.List.{length-append, take-take}
+use Rattle.std.proofs.lemmas.List.{length-append}
 use Rattle.ring_records.specs.declared.base.Base.{Base}
 use Rattle.ring_records.specs.declared.input.Input.{Input}
 use Rattle.ring_records.specs.declared.packet.Packet.{Packet}
 use Rattle.ring_records.specs.declared.summary.Summary.{Summary}
-use Rattle.ring_records.specs.Admission.{costs_of, used, IsLawful}
+use Rattle.ring_records.specs.Admission.{costs_of, used}
 use Rattle.ring_records.specs.Member.{Member}
 use Rattle.ring_records.specs.Release.{packets, decisions, window}
 use Rattle.ring_records.specs.States.{NodeState, IsNodeState, IsLawfulState, launched_base, durable_in, flown_in, flying_in}
 use Rattle.ring_records.specs.States as states
 use Rattle.ring_records.proofs.Lists.{none≢some}
-use Rattle.ring_records.proofs.States.{lawful-first}
 use Rattle.gated_journal.specs.declared.batch.Batch.{Batch}
 use Rattle.gated_journal.specs.Batch.{Numbered, numbered, shown}
 use Rattle.group_commit.specs.declared.landed.Landed.{Landed}
 use Rattle.group_commit.specs.Desk.{DeskKept, launched, landed, seen}
-use Rattle.group_commit.specs.Past.{IsPast, moved, shifted}
+use Rattle.group_commit.specs.Past.{IsPast, shifted}
 use Rattle.group_commit.proofs.Past.{durable-shifted, flying-shifted}
-use Rattle.group_commit.proofs.Seen.{flown-shifted}
 use Rattle.commit_hub.specs.Told.{IsBrought, IsWindow}
 use Rattle.commit_hub.proofs.Costs.{flown, flown_costs, flown_count}
 
 -- what is told of the desk is told of what its ledger names
-pub named : (P : Member → Summary → Base → Type 0) (d : DeskKept) (m : Member) (opening : Summary) (base : Base) → d.view.member ≡ m → d.opening ≡ opening → d.view.state.base ≡ base
-    → P d.view.member d.opening d.view.state.base → P m opening base
-named P d m opening base of from at holds =
-    subst (λ (x : Member). P x opening base) of (subst (λ (o : Summary). P d.view.member o base) from (subst (λ (b : Base). P d.view.member d.opening b) at holds))
+pub named : (P : Member → Summary → Type 0) (d : DeskKept) (m : Member) (opening : Summary) → d.view.member ≡ m → d.opening ≡ opening → P d.view.member d.opening → P m opening
+named P d m opening of from holds = subst (λ (x : Member). P x opening) of (subst (P d.view.member) from holds)
 
 -- ---- launches
 
@@ -40,18 +36,18 @@ launched_counts s none counts = record {
 }
 
 -- the batch that is launched fits behind the durable inputs
-pub room_left : {E : Type 0} (result : Result (Option Batch) E) (costs node first : ℕ) (old new : DeskKept) → old.view.state.checkpoint ≡ None → IsNodeState old.view.state
-    → costs ≡ used old.view.state.base (durable_in old.view.state)
+pub room_left : {E : Type 0} (result : Result (Option Batch) E) (spent freed node first : ℕ) (old new : DeskKept) → old.view.state.checkpoint ≡ None → IsNodeState old.view.state
+    → spent ≡ freed + used old.view.state.base (durable_in old.view.state)
     → OnOk result (new ≡ record old { view = launched old.view }) → IfOk result (λ some. IfSome some (λ batch. shown batch ≡ numbered node first (flying_in new.view.state)))
     → IfOk result (λ some. IfSome some (λ batch. used new.view.state.base (flown_in new.view.state) ≤ new.view.member.capacity))
-    → IfOk result (λ some. IfSome some (λ batch. costs + costs_of (shown batch).inputs ≤ old.view.member.capacity))
-room_left (Err e) costs node first old new none counts spent next is fits = tt
-room_left (Ok None) costs node first old new none counts spent next is fits = tt
-room_left (Ok (Some batch)) costs node first old new none counts spent next is fits =
+    → IfOk result (λ some. IfSome some (λ batch. spent + costs_of (shown batch).inputs ≤ freed + old.view.member.capacity))
+room_left (Err e) spent freed node first old new none counts taken next is fits = tt
+room_left (Ok None) spent freed node first old new none counts taken next is fits = tt
+room_left (Ok (Some batch)) spent freed node first old new none counts taken next is fits =
     let s = states.launched old.view.state in
     let same : costs_of (shown batch).inputs ≡ costs_of (flying_in s) = ap costs_of (ap (λ (n : Numbered). n.inputs) is ∙ ap (λ (d : DeskKept). flying_in d.view.state) next) in
     let within : used s.base (flown_in s) ≤ old.view.member.capacity = subst (λ (d : DeskKept). used d.view.state.base (flown_in d.view.state) ≤ d.view.member.capacity) next fits in
-    omega (arith, same, spent, within, flown_costs s (launched_counts old.view.state none counts))
+    omega (arith, same, taken, within, flown_costs s (launched_counts old.view.state none counts))
 
 -- ---- lands
 
@@ -72,13 +68,13 @@ pub lands_all : (s : NodeState) (count : ℕ) (inputs : List Input) → IsNodeSt
 lands_all s count inputs counts lands is = omega (arith, lands, flown_count s counts, ap length is)
 
 -- what flew and is durable now
-pub brings : (old new : DeskKept) (first : ℕ) (inputs : List Input) (brought : Landed) → old.view.state.checkpoint ≡ None → IsNodeState old.view.state → new ≡ record old { view = landed old.view }
+pub brings : (old new : DeskKept) (first : ℕ) (inputs : List Input) (brought : Landed) → IsNodeState old.view.state → new ≡ record old { view = landed old.view }
     → ((past : List Input) → IsPast new.view.member new.opening past → IsLawfulState new.view.member (seen past new).state)
     → first ≡ old.opening.inputs + old.view.state.durable → inputs ≡ flying_in old.view.state
     → ((past : List Input) → IsPast old.view.member old.opening past → brought.packets.items ≡ packets old.view.member.node (durable_in (seen past old).state) (flying_in (seen past old).state))
     → ((past : List Input) → IsPast old.view.member old.opening past → brought.decisions.items ≡ decisions old.view.member.node (durable_in (seen past old).state) (flying_in (seen past old).state))
-    → IsBrought old.view.member old.opening old.view.state.base first inputs brought
-brings old new first inputs brought none counts next lawful from is sends decides past behind =
+    → IsBrought old.view.member old.opening first inputs brought
+brings old new first inputs brought counts next lawful from is sends decides past behind =
     let m = old.view.member in
     let s = old.view.state in
     let state : IsLawfulState m (shifted past (states.landed s)) =
@@ -89,10 +85,11 @@ brings old new first inputs brought none counts next lawful from is sends decide
     let flies : flying_in (shifted past s) ≡ inputs = flying-shifted past s ∙ sym is in
     let front : old.opening.inputs ≡ length past = λ i. (behind.summed i).inputs in
     record {
+      state = states.landed s;
       since = durable_in s;
+      lawful = state;
+      durable = durable-shifted past (states.landed s) ∙ whole;
       count = omega (arith, from, front, length-append past (durable_in s), length-take s.durable s.inputs, counts.durable, counts.flying);
-      lawful = subst (λ (b : Base). IsLawful m.node m.n m.capacity (moved (length past) b) ((past ++ durable_in s) ++ inputs)) (base_stays s none)
-          (subst (IsLawful m.node m.n m.capacity (moved (length past) (launched_base s))) (flown-shifted past (states.landed s) ∙ whole) state.held);
       packets = sends past behind ∙ (λ i. packets m.node (durable i) (flies i));
       decisions = decides past behind ∙ (λ i. decisions m.node (durable i) (flies i));
     }
@@ -103,26 +100,15 @@ pub released : {T : Type 0} (f : ℕ → List Input → List Input → T) (told 
     → ((past : List Input) → IsPast d.view.member d.opening past → told ≡ f d.view.member.node (durable_in (seen past d).state) (flying_in (seen past d).state))
     → (past : List Input) → IsPast m opening past → told ≡ f m.node (durable_in (seen past d).state) inputs
 released f told d m opening inputs of from is tells =
-    named (λ m opening base. (past : List Input) → IsPast m opening past → told ≡ f m.node (durable_in (seen past d).state) inputs) d m opening d.view.state.base of from refl
+    named (λ m opening. (past : List Input) → IsPast m opening past → told ≡ f m.node (durable_in (seen past d).state) inputs) d m opening of from
     (λ past behind. tells past behind ∙ ap (f d.view.member.node (durable_in (seen past d).state)) (flying-shifted past d.view.state ∙ sym is))
 
 -- ---- windows
 
--- the durable inputs are a history
-pub is_window : {T E : Type 0} (items : T → List Packet) (result : Result T E) (d : DeskKept) → IsNodeState d.view.state
+-- it is that of the desk's state
+pub is_window : {T E : Type 0} (items : T → List Packet) (result : Result T E) (d : DeskKept)
     → ((past : List Input) → IsPast d.view.member d.opening past → IsLawfulState d.view.member (seen past d).state)
     → IfOk result (λ list. (past : List Input) → IsPast d.view.member d.opening past → items list ≡ window d.view.member.node (durable_in (seen past d).state))
-    → IfOk result (λ list. IsWindow d.view.member d.opening d.view.state.base (items list))
-is_window items (Err e) d counts lawful is = tt
-is_window items (Ok list) d counts lawful is = λ past behind.
-    let m = d.view.member in
-    let s = d.view.state in
-    let base = moved (length past) s.base in
-    let all = shifted past s in
-    let durable : durable_in all ≡ past ++ durable_in s = durable-shifted past s in
-    let front : IsLawful m.node m.n m.capacity base (take all.durable (flown_in all)) = lawful-first m.node m.n m.capacity base all.durable (flown_in all) (lawful past behind).held in
-    record {
-      since = durable_in s;
-      lawful = subst (IsLawful m.node m.n m.capacity base) (take-take all.durable all.flying all.inputs (lawful past behind).counts.durable ∙ durable) front;
-      packets = is past behind ∙ ap (window m.node) durable;
-    }
+    → IfOk result (λ list. IsWindow d.view.member d.opening (items list))
+is_window items (Err e) d lawful is = tt
+is_window items (Ok list) d lawful is = λ past behind. record { state = d.view.state; lawful = lawful past behind; packets = is past behind }

@@ -17,11 +17,26 @@ module _ {A : Type 0} {a : node.Ghosts A} where
   abbrev pub AddUp : List (Share A a) → ℕ → DeskKept → Type 0
   AddUp shares first desk = desk.opening.inputs + length desk.view.state.inputs ≡ first + sum_by count_of shares
 
-module _ {A D C : Type 0} {a : node.Ghosts A} {la : ledger.Ghosts A} {d : whole.Ghosts D} {c : whole.Ghosts C} where
+module _ {A D C F E : Type 0} {a : node.Ghosts A} {la : ledger.Ghosts A} {d : whole.Ghosts D} {c : whole.Ghosts C} {f : whole.Ghosts F} {e : whole.Ghosts E} where
   -- the inputs of the hub that are durable
-  abbrev pub durable_of : Tie A D C a la d c → ℕ
+  abbrev pub durable_of : Tie A D C F E a la d c f e → ℕ
   durable_of tie = tie.durable.amount
 
-  -- the bytes of the capacity that are taken: by what the base stands for, and by those behind it
-  abbrev pub costs_of : Tie A D C a la d c → ℕ
-  costs_of tie = tie.costs.amount
+  -- the bytes of a capacity that were ever taken: the costs of all inputs, and the lengths of all snapshots
+  abbrev pub spent_of : Tie A D C F E a la d c f e → ℕ
+  spent_of tie = tie.spent.amount
+
+  -- those of them that checkpoints gave back; the others are taken now
+  abbrev pub freed_of : Tie A D C F E a la d c f e → ℕ
+  freed_of tie = tie.freed.amount
+
+  -- the epoch of the area that is in use
+  abbrev pub epoch_of : Tie A D C F E a la d c f e → ℕ
+  epoch_of tie = tie.epochs.amount
+
+  -- both count the same
+  pub record CountSame (old new : Tie A D C F E a la d c f e) : Type 0 where
+    pub durable : durable_of new ≡ durable_of old
+    pub spent : spent_of new ≡ spent_of old
+    pub freed : freed_of new ≡ freed_of old
+    pub epoch : epoch_of new ≡ epoch_of old

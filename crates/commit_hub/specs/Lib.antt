@@ -2,3 +2,4 @@ pub mod Holders
 pub mod Pages
 pub mod Props
 pub mod Told
+pub mod Totals

@@ -13,8 +13,14 @@ ForAccepted blanks name parts = (blanks.accepted.name ≡ name) × (blanks.accep
 abbrev pub ForDurable : Blanks → ℕ → ℕ → Type 0
 ForDurable blanks name parts = (blanks.durable.name ≡ name) × (blanks.durable.parts ≡ parts)
 
-abbrev pub ForCosts : Blanks → ℕ → ℕ → Type 0
-ForCosts blanks name parts = (blanks.costs.name ≡ name) × (blanks.costs.parts ≡ parts)
+abbrev pub ForSpent : Blanks → ℕ → ℕ → Type 0
+ForSpent blanks name parts = (blanks.spent.name ≡ name) × (blanks.spent.parts ≡ parts)
+
+abbrev pub ForFreed : Blanks → ℕ → ℕ → Type 0
+ForFreed blanks name parts = (blanks.freed.name ≡ name) × (blanks.freed.parts ≡ parts)
+
+abbrev pub ForEpochs : Blanks → ℕ → ℕ → Type 0
+ForEpochs blanks name parts = (blanks.epochs.name ≡ name) × (blanks.epochs.parts ≡ parts)
 
 -- a ledger that names all of its parts, of which it has some
 abbrev pub IsWhole : ℕ → ℕ → Type 0

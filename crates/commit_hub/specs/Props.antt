@@ -10,17 +10,11 @@ use Rattle.node_core.specs.Codes.{coded_summary}
 members : IsSet Member
 members = hlevel props
 
-bases : IsSet Base
-bases = hlevel props
-
 checkpoints : IsSet (Option Base)
 checkpoints = hlevel props
 
 pub member-prop : (a b : Member) → IsProp (a ≡ b)
 member-prop a b = members a b
-
-pub base-prop : (a b : Base) → IsProp (a ≡ b)
-base-prop a b = bases a b
 
 pub checkpoint-prop : (a b : Option Base) → IsProp (a ≡ b)
 checkpoint-prop a b = checkpoints a b

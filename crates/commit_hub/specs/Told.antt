@@ -1,20 +1,20 @@
 -- What a hub's calls tell without the state under its lock.
 use Rattle.std.specs.Prelude.{ℕ, ◌≡◌, ◌+◌, ◌⊎◌, Bool, true, false, List, ◌++◌, length}
-use Rattle.ring_records.specs.declared.base.Base.{Base}
 use Rattle.ring_records.specs.declared.input.Input.{Input}
 use Rattle.ring_records.specs.declared.packet.Packet.{Packet}
 use Rattle.ring_records.specs.declared.refusal.Refusal.{Refusal}
 use Rattle.ring_records.specs.declared.refusal.Refusal.TheVariants as refused
 use Rattle.ring_records.specs.declared.request.Request.{Request}
 use Rattle.ring_records.specs.declared.summary.Summary.{Summary}
-use Rattle.ring_records.specs.Admission.{used, IsLawful}
+use Rattle.ring_records.specs.Admission.{used}
 use Rattle.ring_records.specs.History.{stands}
 use Rattle.ring_records.specs.Member.{Member}
 use Rattle.ring_records.specs.Message.{is_outside}
 use Rattle.ring_records.specs.Release.{packets, decisions, window}
-use Rattle.ring_records.specs.States.{NodeState, IsNodeState, IsLawfulState, shown_in}
+use Rattle.ring_records.specs.States.{NodeState, IsLawfulState, launched_base, durable_in, shown_in}
 use Rattle.group_commit.specs.declared.landed.Landed.{Landed}
-use Rattle.group_commit.specs.Past.{IsPast, moved, shifted}
+use Rattle.group_commit.specs.Past.{IsPast, shifted}
+use Rattle.group_commit.specs.Since.{IsKnownState}
 use Rattle.commit_hub.specs.declared.look.Look.{Look}
 
 -- Why a node of a ring of n gives no ticket for the request: it is closed or has failed; the message is of no node of
@@ -24,38 +24,39 @@ IsUnasked n q why = (why ≡ refused.Failed)
     ⊎ (((is_outside n q ≡ true) × (why ≡ refused.BadNumber))
     ⊎ ((is_outside n q ≡ false) × ((why ≡ refused.Limit) ⊎ (why ≡ refused.OutOfMemory))))
 
--- ---- The hub's desk was opened with the summary `opening`, and room is counted from `base`, whose area holds no input
--- before the first since. A hub whose opening is of no past of its node keeps its counts and its safety; of histories
--- it tells what there are.
+-- ---- The hub's desk was opened with the summary `opening`. A hub whose opening is of no past of its node keeps its counts
+-- and its safety; of histories it tells what there are.
 
--- Some lawful history of the node, the past with inputs since, goes on with these, behind its first inputs, so many of
--- them. They became durable, and this is what they let the node release.
-pub record IsBroughtBehind (member : Member) (base : Base) (past : List Input) (first : ℕ) (inputs : List Input) (landed : Landed) : Type 0 where
+-- In some lawful state of the node, behind the past, its durable inputs are some first ones, so many, and then these. They
+-- became durable, and this is what they let the node release.
+pub record IsBroughtBehind (member : Member) (past : List Input) (first : ℕ) (inputs : List Input) (landed : Landed) : Type 0 where
+  pub state : NodeState
   pub since : List Input
+  pub lawful : IsLawfulState member (shifted past state)
+  pub durable : durable_in (shifted past state) ≡ (past ++ since) ++ inputs
   pub count : length (past ++ since) ≡ first
-  pub lawful : IsLawful member.node member.n member.capacity (moved (length past) base) ((past ++ since) ++ inputs)
   pub packets : landed.packets.items ≡ packets member.node (past ++ since) inputs
   pub decisions : landed.decisions.items ≡ decisions member.node (past ++ since) inputs
 
 -- so it is whatever past of the node the opening is of
-abbrev pub IsBrought : Member → Summary → Base → ℕ → List Input → Landed → Type 0
-IsBrought member opening base first inputs landed = (past : List Input) → IsPast member opening past → IsBroughtBehind member base past first inputs landed
+abbrev pub IsBrought : Member → Summary → ℕ → List Input → Landed → Type 0
+IsBrought member opening first inputs landed = (past : List Input) → IsPast member opening past → IsBroughtBehind member past first inputs landed
 
--- the packets are those that the node may release again, with some lawful history of durable inputs behind the past
-pub record IsWindowBehind (member : Member) (base : Base) (past : List Input) (list : List Packet) : Type 0 where
-  pub since : List Input
-  pub lawful : IsLawful member.node member.n member.capacity (moved (length past) base) (past ++ since)
-  pub packets : list ≡ window member.node (past ++ since)
+-- the packets are those that the node may release again, in some lawful state behind the past
+pub record IsWindowBehind (member : Member) (past : List Input) (list : List Packet) : Type 0 where
+  pub state : NodeState
+  pub lawful : IsLawfulState member (shifted past state)
+  pub packets : list ≡ window member.node (durable_in (shifted past state))
 
 -- so it is whatever past of the node the opening is of
-abbrev pub IsWindow : Member → Summary → Base → List Packet → Type 0
-IsWindow member opening base list = (past : List Input) → IsPast member opening past → IsWindowBehind member base past list
+abbrev pub IsWindow : Member → Summary → List Packet → Type 0
+IsWindow member opening list = (past : List Input) → IsPast member opening past → IsWindowBehind member past list
 
 -- what is shown of a node in this state, where it takes requests or takes none
 abbrev pub look_of : Member → NodeState → Bool → Look
 look_of member s is_open = record {
   shown = shown_in member.node s;
-  used = used s.base s.inputs;
+  used = used (launched_base s) s.inputs;
   capacity = member.capacity;
   stands = stands s.inputs;
   is_open = is_open;
@@ -64,13 +65,12 @@ look_of member s is_open = record {
 -- This is what is shown of the node in some state since its opening: how many inputs it has and how many are durable,
 -- those that are summarised among them, and the bytes that are taken. Behind each past that the opening is of the state
 -- is lawful, and all is shown of that.
-pub record IsLook (member : Member) (opening : Summary) (base : Base) (look : Look) : Type 0 where
+pub record IsLook (member : Member) (opening : Summary) (look : Look) : Type 0 where
   pub state : NodeState
-  pub counts : IsNodeState state
-  pub based : state.base ≡ base
+  pub known : IsKnownState member opening state
   pub inputs : look.shown.inputs ≡ opening.inputs + length state.inputs
   pub durable : look.shown.durable ≡ opening.inputs + state.durable
-  pub used_is : look.used ≡ used base state.inputs
+  pub used_is : look.used ≡ used (launched_base state) state.inputs
   pub capacity : look.capacity ≡ member.capacity
   pub lawful : (past : List Input) → IsPast member opening past → IsLawfulState member (shifted past state)
   pub is : (past : List Input) → IsPast member opening past → look ≡ look_of member (shifted past state) look.is_open

@@ -9,8 +9,8 @@ ghost use Rattle.gated_journal.specs.Batch.{shown as batch_shown, landed as rece
 ghost use Rattle.group_commit.specs.Desk.{IsAnswer, seen};
 ghost use Rattle.group_commit.specs.Past.{IsPast};
 ghost use Rattle.group_commit.specs.Ticket.{shown};
-ghost use Rattle.commit_hub.specs.Holders.{count_of, durable_of, costs_of};
-ghost use Rattle.commit_hub.specs.Pages.{ForAccepted, ForDurable, ForCosts, IsWhole};
+ghost use Rattle.commit_hub.specs.Holders.{count_of, durable_of, spent_of, freed_of, epoch_of, CountSame};
+ghost use Rattle.commit_hub.specs.Pages.{ForAccepted, ForDurable, ForSpent, ForFreed, ForEpochs, IsWhole};
 ghost use Rattle.commit_hub.specs.Told.{IsUnasked, IsBrought, IsLook, IsWindow};
 
 use crate::blanks::Blanks;
@@ -31,24 +31,28 @@ use std::sync::{Mutex, MutexGuard, Wait};
 /// histories holds behind each past of which the opening is the summary; a hub whose opening is that of no history keeps
 /// its counts.
 #[derive(Drop)]
-pub struct Hub<A: Node, D: Whole, C: Whole> {
-    guarded: Mutex<Guarded<A, D, C>>,
+pub struct Hub<A: Node, D: Whole, C: Whole, F: Whole, E: Whole> {
+    guarded: Mutex<Guarded<A, D, C, F, E>>,
     bells: Bells,
 }
 
-impl<A: Node, D: Whole, C: Whole> Hub<A, D, C> {
-    /// A hub round this desk, and its one tie, which counts the desk's durable inputs and the bytes that they take.
-    pub fn new(desk: Desk, blanks: Blanks) -> (Hub<A, D, C>, Tie<A, D, C>)
+impl<A: Node, D: Whole, C: Whole, F: Whole, E: Whole> Hub<A, D, C, F, E> {
+    /// A hub round this desk, and its one tie, which counts the desk's durable inputs, the bytes that are taken up to
+    /// them, and the epoch of the area in use. The ledgers are those of the accepted inputs, of the durable ones, of the
+    /// bytes spent, of the bytes freed, and of the epochs.
+    pub fn new(desk: Desk, blanks: Blanks) -> (Hub<A, D, C, F, E>, Tie<A, D, C, F, E>)
         requires member { desk.view.member ≡ A.member }
         requires opening { desk.opening ≡ A.opening }
-        requires base { desk.view.state.base ≡ A.base }
         requires none { desk.view.state.checkpoint ≡ None }
         requires opened { desk.opening.inputs + length desk.view.state.inputs ≡ A.opened }
         requires accepted { ForAccepted blanks A.name A.parts }
         requires durable { ForDurable blanks D.name D.parts × IsWhole D.all D.parts }
-        requires costs { ForCosts blanks C.name C.parts × IsWhole C.all C.parts }
+        requires spent { ForSpent blanks C.name C.parts × IsWhole C.all C.parts }
+        requires freed { ForFreed blanks F.name F.parts × IsWhole F.all F.parts }
+        requires epochs { ForEpochs blanks E.name E.parts × IsWhole E.all E.parts }
         ensures durable { durable_of result.1 ≡ desk.opening.inputs + desk.view.state.durable }
-        ensures costs { costs_of result.1 ≡ used desk.view.state.base (durable_in desk.view.state) }
+        ensures spent { spent_of result.1 ≡ freed_of result.1 + used desk.view.state.base (durable_in desk.view.state) }
+        ensures epoch { epoch_of result.1 ≡ desk.view.state.base.epoch }
     {
         let (locked, tie) = Locked::new(desk, blanks);
         let hub = Hub {
@@ -136,13 +140,18 @@ impl<A: Node, D: Whole, C: Whole> Hub<A, D, C> {
     /// Waits until an input waits, and launches the first that do, at most 64, as a batch to be made durable. `None`
     /// once the hub is closed and none waits. The batch fits a journal of the node that has what the tie counts.
     /// Refused as 9 where the hub has failed, as 12 where a batch is flying, and as 8.
-    pub fn launch<R: Wait>(&self, rt: &R, tie: &mut Tie<A, D, C>) -> Result<Option<Batch>, Refusal>
-        requires whole { IsWhole D.all D.parts × IsWhole C.all C.parts }
+    pub fn launch<R: Wait>(
+        &self,
+        rt: &R,
+        tie: &mut Tie<A, D, C, F, E>,
+    ) -> Result<Option<Batch>, Refusal>
+        requires whole { IsWhole D.all D.parts × IsWhole C.all C.parts × IsWhole F.all F.parts × IsWhole E.all E.parts }
         ensures node { IfOk result (λ some. IfSome some (λ batch. (batch_shown batch).node ≡ A.member.node)) }
         ensures first { IfOk result (λ some. IfSome some (λ batch. (batch_shown batch).first ≡ durable_of tie.old)) }
-        ensures room { IfOk result (λ some. IfSome some (λ batch. costs_of tie.old + costs_in (batch_shown batch).inputs ≤ A.member.capacity)) }
+        ensures room { IfOk result (λ some. IfSome some (λ batch. spent_of tie.old + costs_in (batch_shown batch).inputs ≤ freed_of tie.old + A.member.capacity)) }
+        ensures taken { freed_of tie.old ≤ spent_of tie.old }
         ensures refusal { IfErr result (λ refusal. (refusal ≡ Refusal.Failed) ⊎ ((refusal ≡ Refusal.Busy) ⊎ (refusal ≡ Refusal.OutOfMemory))) }
-        ensures tie { (durable_of tie.new ≡ durable_of tie.old) × (costs_of tie.new ≡ costs_of tie.old) }
+        ensures tie { CountSame tie.old tie.new }
     {
         let mut guard = self.bells.wait_for_work(rt, self.guarded.lock(rt));
         guard.locked.launch(tie)
@@ -154,18 +163,20 @@ impl<A: Node, D: Whole, C: Whole> Hub<A, D, C> {
     pub fn land<R: Wait>(
         &self,
         rt: &R,
-        tie: &mut Tie<A, D, C>,
+        tie: &mut Tie<A, D, C, F, E>,
         receipt: Receipt,
     ) -> Result<Landed, (Receipt, Refusal)>
-        requires whole { IsWhole D.all D.parts × IsWhole C.all C.parts }
+        requires whole { IsWhole D.all D.parts × IsWhole C.all C.parts × IsWhole F.all F.parts × IsWhole E.all E.parts }
         ensures count { IfOk result (λ landed. landed.count ≡ length (receipted receipt).inputs) }
         ensures few { IfOk result (λ landed. length landed.decisions.items ≤ landed.count) }
-        ensures brought { IfOk result (λ landed. IsBrought A.member A.opening A.base (durable_of tie.old) (receipted receipt).inputs landed) }
+        ensures brought { IfOk result (λ landed. IsBrought A.member A.opening (durable_of tie.old) (receipted receipt).inputs landed) }
         ensures durable { OnOk result (durable_of tie.new ≡ durable_of tie.old + length (receipted receipt).inputs) }
-        ensures costs { OnOk result (costs_of tie.new ≡ costs_of tie.old + costs_in (receipted receipt).inputs) }
+        ensures spent { OnOk result (spent_of tie.new ≡ spent_of tie.old + costs_in (receipted receipt).inputs) }
+        ensures freed { OnOk result (freed_of tie.new ≡ freed_of tie.old) }
+        ensures epoch { OnOk result (epoch_of tie.new ≡ epoch_of tie.old) }
         ensures refusal { IfErr result (λ e. e.1 ≡ Refusal.Foreign) }
         ensures back { IfErr result (λ e. receipted e.0 ≡ receipted receipt) }
-        ensures tie { OnErr result ((durable_of tie.new ≡ durable_of tie.old) × (costs_of tie.new ≡ costs_of tie.old)) }
+        ensures tie { OnErr result (CountSame tie.old tie.new) }
     {
         let mut guard = self.guarded.lock(rt);
         match guard.locked.land(tie, receipt) {
@@ -184,12 +195,12 @@ impl<A: Node, D: Whole, C: Whole> Hub<A, D, C> {
     pub fn fail<R: Wait>(
         &self,
         rt: &R,
-        _tie: &mut Tie<A, D, C>,
+        _tie: &mut Tie<A, D, C, F, E>,
         spoiled: Spoiled,
     ) -> Result<(), (Spoiled, Refusal)>
         ensures refusal { IfErr result (λ e. e.1 ≡ Refusal.Foreign) }
         ensures back { IfErr result (λ e. lost e.0 ≡ lost spoiled) }
-        ensures tie { (durable_of _tie.new ≡ durable_of _tie.old) × (costs_of _tie.new ≡ costs_of _tie.old) }
+        ensures tie { CountSame _tie.old _tie.new }
     {
         let mut guard = self.guarded.lock(rt);
         match guard.locked.fail(spoiled) {
@@ -218,7 +229,7 @@ impl<A: Node, D: Whole, C: Whole> Hub<A, D, C> {
     }
 
     /// Wakes the flusher, where it is to be, and all who wait for a reply.
-    fn tell_all(&self, mut guard: MutexGuard<'_, Guarded<A, D, C>>) {
+    fn tell_all(&self, mut guard: MutexGuard<'_, Guarded<A, D, C, F, E>>) {
         let wakes = guard.must_wake();
         drop(guard);
         if wakes {
@@ -230,14 +241,14 @@ impl<A: Node, D: Whole, C: Whole> Hub<A, D, C> {
     /// The messages that the successor is not known to have taken, as Carry packets in order, by the durable inputs of
     /// some moment within the call.
     pub fn window<R: Wait>(&self, rt: &R) -> Result<Vec<Packet>, AllocError>
-        ensures { IfOk result (λ packets. IsWindow A.member A.opening A.base packets.items) }
+        ensures { IfOk result (λ packets. IsWindow A.member A.opening packets.items) }
     {
         self.guarded.lock(rt).locked.window()
     }
 
     /// What the node shows at some moment within the call: plain counts, copied under one hold of the lock.
     pub fn look<R: Wait>(&self, rt: &R) -> Look
-        ensures { IsLook A.member A.opening A.base result }
+        ensures { IsLook A.member A.opening result }
     {
         self.guarded.lock(rt).locked.look()
     }
@@ -247,9 +258,9 @@ impl<A: Node, D: Whole, C: Whole> Hub<A, D, C> {
     pub fn settle(
         self,
         shares: Vec<Share<A>>,
-    ) -> Result<Desk, (Hub<A, D, C>, Vec<Share<A>>, Refusal)>
+    ) -> Result<Desk, (Hub<A, D, C, F, E>, Vec<Share<A>>, Refusal)>
         ensures member { IfOk result (λ desk. desk.view.member ≡ A.member) }
-        ensures opening { IfOk result (λ desk. (desk.opening ≡ A.opening) × (desk.view.state.base ≡ A.base)) }
+        ensures opening { IfOk result (λ desk. desk.opening ≡ A.opening) }
         ensures lawful { IfOk result (λ desk. (past : List Input) → IsPast A.member A.opening past → IsLawfulState A.member (seen past desk).state) }
         ensures count { IfOk result (λ desk. desk.opening.inputs + length desk.view.state.inputs ≡ A.opened + sum_by count_of shares.items) }
         ensures whole { 1 + length shares.items ≡ A.parts → IsOk result }

@@ -1,8 +1,6 @@
 //! The ledgers of a hub: what each of them names.
 ghost use Rattle.std.specs.Prelude.{ℕ};
-ghost use Rattle.ring_records.specs.declared.base.Base.{Base};
 ghost use Rattle.ring_records.specs.declared.summary.Summary.{Summary};
-ghost use Rattle.ring_records.specs.Admission.{fresh};
 ghost use Rattle.ring_records.specs.Member.{Member};
 ghost use Rattle.ring_records.specs.Summary.{empty};
 
@@ -10,14 +8,12 @@ use std::marker::Brand;
 use std::sync::ledger::Ledger;
 
 /// The ledger of the inputs that a node accepted. It names the node, its ring size and its capacity; the summary that
-/// its desk was opened with; the base from which room is counted, before the first input since; and how many inputs
-/// the node had when its hub was made, those that are summarised among them.
+/// its desk was opened with; and how many inputs the node had when its hub was made, those that are summarised among
+/// them.
 pub trait Node: Ledger {
     ghost member: { Member };
 
     ghost opening: { Summary };
-
-    ghost base: { Base };
 
     ghost opened: { ℕ };
 }
@@ -26,8 +22,6 @@ impl Node for Brand {
     ghost member = { record { node = 0; n = 0; capacity = 0 } };
 
     ghost opening = { empty };
-
-    ghost base = { fresh };
 
     ghost opened = { 0 };
 }

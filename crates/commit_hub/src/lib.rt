@@ -2,6 +2,7 @@
 #![tactic(auto)]
 
 mod blanks;
+mod books;
 mod hub;
 mod ledgers;
 mod locked;

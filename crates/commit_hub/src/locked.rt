@@ -3,19 +3,20 @@ ghost use Rattle.std.specs.Prelude.{◌≡◌, ◌≢◌, ◌+◌, ◌-◌, ◌�
 ghost use Rattle.ring_records.specs.declared.input.Input.{Input};
 ghost use Rattle.ring_records.specs.Admission.{used, costs_of as costs_in};
 ghost use Rattle.ring_records.specs.Answer.{Answered};
-ghost use Rattle.ring_records.specs.States.{IsNodeState, durable_in, flying_in};
+ghost use Rattle.ring_records.specs.States.{IsNodeState, launched_base, durable_in, flying_in};
 ghost use Rattle.ring_records.specs.Props.{IsNodeState-prop};
 ghost use Rattle.ring_records.specs.Release.{packets, decisions, window};
 ghost use Rattle.gated_journal.specs.Batch.{shown as batch_shown, landed as receipted, lost, numbered};
 ghost use Rattle.group_commit.specs.Desk.{seen, ended, launched, landed, objection, launch_objection, IsSubmitted, IsAnswer, IsHere, IsSealed, IsFlying};
 ghost use Rattle.group_commit.specs.Past.{IsPast};
 ghost use Rattle.group_commit.specs.Ticket.{shown};
-ghost use Rattle.commit_hub.specs.Holders.{count_of, durable_of, costs_of};
-ghost use Rattle.commit_hub.specs.Pages.{places_of, ForAccepted, ForDurable, ForCosts, IsWhole};
-ghost use Rattle.commit_hub.specs.Props.{member-prop, summary-prop, base-prop, checkpoint-prop};
+ghost use Rattle.commit_hub.specs.Holders.{count_of, durable_of, spent_of, freed_of, epoch_of, CountSame};
+ghost use Rattle.commit_hub.specs.Pages.{places_of, ForAccepted, ForDurable, ForSpent, ForFreed, ForEpochs, IsWhole};
+ghost use Rattle.commit_hub.specs.Props.{member-prop, summary-prop, checkpoint-prop};
 ghost use Rattle.commit_hub.specs.Told.{IsBrought, IsLook, IsWindow, look_of};
 
 use crate::blanks::Blanks;
+use crate::books::Books;
 use crate::ledgers::{Node, Whole};
 use crate::look::Look;
 use crate::places::Places;
@@ -23,17 +24,15 @@ use crate::share::{Share, Tie};
 use crate::used::used_of;
 use gated_journal::{Batch, Receipt, Spoiled};
 use group_commit::{Desk, Landed, SharedDesk, Stub, Ticket};
-use ring_records::{Packet, Refusal, Reply, Request, costs_of};
+use ring_records::{Packet, Refusal, Reply, Request};
 use std::alloc::AllocError;
-use std::marker::PhantomData;
 use std::sync::ledger;
 use std::sync::ledger::Book;
 
-/// A desk, the books that count its inputs, those of them that are durable, and the bytes that these take; and the shares of the
-/// accepted inputs that nobody holds: of those that the desk had at first, and of the places that are left, of all that there
-/// are.
+/// A desk, the book that counts its inputs, and those of what is durable; and the shares of the accepted inputs that nobody
+/// holds: of those that the desk had at first, and of the places that are left, of all that there are.
 #[derive(Drop)]
-pub(crate) struct Locked<A: Node, D: Whole, C: Whole> {
+pub(crate) struct Locked<A: Node, D: Whole, C: Whole, F: Whole, E: Whole> {
     pub(crate) shared: SharedDesk,
     pub(crate) accepted: Book<A>,
     pub(crate) first: ledger::Share<A>,
@@ -41,53 +40,50 @@ pub(crate) struct Locked<A: Node, D: Whole, C: Whole> {
     pub(crate) spare: ledger::Share<A>,
     pub(crate) left: u32,
     pub(crate) places: Places<A>,
-    pub(crate) durable: Book<D>,
-    pub(crate) costs: Book<C>,
+    pub(crate) books: Books<D, C, F, E>,
     ghost of: { shared.desk.view.member ≡ A.member } by { member-prop shared.desk.view.member A.member },
     ghost opening: { shared.desk.opening ≡ A.opening } by { summary-prop shared.desk.opening A.opening },
-    ghost base: { shared.desk.view.state.base ≡ A.base } by { base-prop shared.desk.view.state.base A.base },
     ghost none: { shared.desk.view.state.checkpoint ≡ None } by { checkpoint-prop shared.desk.view.state.checkpoint None },
     ghost counts: { IsNodeState shared.desk.view.state } by { IsNodeState-prop shared.desk.view.state },
     ghost counted: { accepted.total ≡ shared.desk.opening.inputs + length shared.desk.view.state.inputs },
     ghost first_is: { (first.parts ≡ 1) × (first.amount ≡ opened) × (opened ≡ A.opened) },
     ghost spare_is: { (spare.parts ≡ left) × (spare.amount ≡ 0) },
-    ghost durable_is: { durable.total ≡ shared.desk.opening.inputs + shared.desk.view.state.durable },
-    ghost costs_is: { costs.total ≡ used shared.desk.view.state.base (durable_in shared.desk.view.state) },
+    ghost durable_is: { books.durable.total ≡ shared.desk.opening.inputs + shared.desk.view.state.durable },
+    ghost taken_is: { books.taken ≡ used shared.desk.view.state.base (durable_in shared.desk.view.state) },
+    ghost epoch_is: { books.epochs.total ≡ shared.desk.view.state.base.epoch },
 }
 
-impl<A: Node, D: Whole, C: Whole> Locked<A, D, C> {
+impl<A: Node, D: Whole, C: Whole, F: Whole, E: Whole> Locked<A, D, C, F, E> {
     /// Opens the ledgers, and counts what the desk has.
-    pub(crate) fn new(desk: Desk, blanks: Blanks) -> (Locked<A, D, C>, Tie<A, D, C>)
+    pub(crate) fn new(desk: Desk, blanks: Blanks) -> (Locked<A, D, C, F, E>, Tie<A, D, C, F, E>)
         requires member { desk.view.member ≡ A.member }
         requires opening { desk.opening ≡ A.opening }
-        requires base { desk.view.state.base ≡ A.base }
         requires none { desk.view.state.checkpoint ≡ None }
         requires opened { desk.opening.inputs + length desk.view.state.inputs ≡ A.opened }
         requires accepted { ForAccepted blanks A.name A.parts }
         requires durable { ForDurable blanks D.name D.parts × IsWhole D.all D.parts }
-        requires costs { ForCosts blanks C.name C.parts × IsWhole C.all C.parts }
+        requires spent { ForSpent blanks C.name C.parts × IsWhole C.all C.parts }
+        requires freed { ForFreed blanks F.name F.parts × IsWhole F.all F.parts }
+        requires epochs { ForEpochs blanks E.name E.parts × IsWhole E.all E.parts }
         ensures desk { result.0.shared.desk ≡ desk }
         ensures places { result.0.left ≡ places_of blanks }
         ensures durable { durable_of result.1 ≡ desk.opening.inputs + desk.view.state.durable }
-        ensures costs { costs_of result.1 ≡ used desk.view.state.base (durable_in desk.view.state) }
+        ensures spent { spent_of result.1 ≡ freed_of result.1 + used desk.view.state.base (durable_in desk.view.state) }
+        ensures epoch { epoch_of result.1 ≡ desk.view.state.base.epoch }
     {
         let Blanks {
             places,
             accepted,
             durable,
-            costs,
+            spent,
+            freed,
+            epochs,
         } = blanks;
         let (mut accepted, mut spare) = accepted.open::<A>();
-        let (mut durable, mut mine) = durable.open::<D>();
-        let (mut costs, mut spent) = costs.open::<C>();
         let mut first = spare.split_off(1, 0);
         let opened = desk.accepted();
         accepted.add(&mut first, opened);
-        durable.add(&mut mine, desk.durable());
-        let used = desk.used();
-        let start = (desk.durable() - desk.first()) as usize;
-        let waiting = costs_of(&desk.history()[start..]);
-        costs.add(&mut spent, used - waiting);
+        let (books, tie) = Books::open(durable, spent, freed, epochs, &desk);
         let locked = Locked {
             shared: SharedDesk { desk },
             accepted,
@@ -96,13 +92,7 @@ impl<A: Node, D: Whole, C: Whole> Locked<A, D, C> {
             spare,
             left: places,
             places: Places::new(places),
-            durable,
-            costs,
-        };
-        let tie = Tie {
-            durable: mine,
-            costs: spent,
-            of: PhantomData,
+            books,
         };
         (locked, tie)
     }
@@ -184,71 +174,60 @@ impl<A: Node, D: Whole, C: Whole> Locked<A, D, C> {
     }
 
     /// As on the desk. The batch fits a journal of the node that has what the tie counts.
-    pub(crate) fn launch(&mut self, tie: &mut Tie<A, D, C>) -> Result<Option<Batch>, Refusal>
-        requires whole { IsWhole D.all D.parts × IsWhole C.all C.parts }
+    pub(crate) fn launch(&mut self, tie: &mut Tie<A, D, C, F, E>) -> Result<Option<Batch>, Refusal>
+        requires whole { IsWhole D.all D.parts × IsWhole C.all C.parts × IsWhole F.all F.parts × IsWhole E.all E.parts }
         ensures batch { IfOk result (λ some. IfSome some (λ batch. batch_shown batch ≡ numbered A.member.node (durable_of tie.old) (flying_in self.new.shared.desk.view.state))) }
-        ensures room { IfOk result (λ some. IfSome some (λ batch. costs_of tie.old + costs_in (batch_shown batch).inputs ≤ A.member.capacity)) }
+        ensures room { IfOk result (λ some. IfSome some (λ batch. spent_of tie.old + costs_in (batch_shown batch).inputs ≤ freed_of tie.old + A.member.capacity)) }
+        ensures taken { freed_of tie.old ≤ spent_of tie.old }
         ensures none { IfOk result (λ some. MatchOption some (self.old.shared.desk.view.state.durable ≡ length self.old.shared.desk.view.state.inputs)
             (λ _. self.old.shared.desk.view.state.durable < length self.old.shared.desk.view.state.inputs)) }
         ensures next { OnOk result (self.new.shared.desk ≡ record self.old.shared.desk { view = launched self.old.shared.desk.view }) }
         ensures free { OnOk result (launch_objection self.old.shared.desk.view ≡ None) }
         ensures refusal { IfErr result (λ refusal. (launch_objection self.old.shared.desk.view ≡ Some refusal) ⊎ ((launch_objection self.old.shared.desk.view ≡ None) × (refusal ≡ Refusal.OutOfMemory))) }
         ensures same { OnErr result (self.new.shared.desk ≡ self.old.shared.desk) }
-        ensures tie { (durable_of tie.new ≡ durable_of tie.old) × (costs_of tie.new ≡ costs_of tie.old) }
+        ensures tie { CountSame tie.old tie.new }
     {
         let Locked {
             shared: SharedDesk { desk },
-            durable,
-            costs,
+            books,
             ..
         } = self;
-        let Tie {
-            durable: mine,
-            costs: spent,
-            of: _,
-        } = tie;
-        durable.audit(mine);
-        costs.audit(spent);
+        books.audit(tie);
         desk.launch()
     }
 
     /// As on the desk; the tie counts what became durable.
     pub(crate) fn land(
         &mut self,
-        tie: &mut Tie<A, D, C>,
+        tie: &mut Tie<A, D, C, F, E>,
         receipt: Receipt,
     ) -> Result<Landed, (Receipt, Refusal)>
-        requires whole { IsWhole D.all D.parts × IsWhole C.all C.parts }
+        requires whole { IsWhole D.all D.parts × IsWhole C.all C.parts × IsWhole F.all F.parts × IsWhole E.all E.parts }
         ensures flying { OnOk result (IsFlying self.old.shared.desk (receipted receipt)) }
         ensures works { OnOk result (self.old.shared.desk.view.failed ≡ false) }
         ensures count { IfOk result (λ landed. landed.count ≡ length (receipted receipt).inputs) }
         ensures few { IfOk result (λ landed. length landed.decisions.items ≤ landed.count) }
-        ensures brought { IfOk result (λ landed. IsBrought A.member A.opening A.base (durable_of tie.old) (receipted receipt).inputs landed) }
+        ensures brought { IfOk result (λ landed. IsBrought A.member A.opening (durable_of tie.old) (receipted receipt).inputs landed) }
         ensures packets { IfOk result (λ landed. (past : List Input) → IsPast A.member A.opening past
             → landed.packets.items ≡ packets A.member.node (durable_in (seen past self.old.shared.desk).state) (receipted receipt).inputs) }
         ensures decisions { IfOk result (λ landed. (past : List Input) → IsPast A.member A.opening past
             → landed.decisions.items ≡ decisions A.member.node (durable_in (seen past self.old.shared.desk).state) (receipted receipt).inputs) }
         ensures next { OnOk result (self.new.shared.desk ≡ record self.old.shared.desk { view = landed self.old.shared.desk.view }) }
         ensures durable { OnOk result (durable_of tie.new ≡ durable_of tie.old + length (receipted receipt).inputs) }
-        ensures costs { OnOk result (costs_of tie.new ≡ costs_of tie.old + costs_in (receipted receipt).inputs) }
+        ensures spent { OnOk result (spent_of tie.new ≡ spent_of tie.old + costs_in (receipted receipt).inputs) }
+        ensures freed { OnOk result (freed_of tie.new ≡ freed_of tie.old) }
+        ensures epoch { OnOk result (epoch_of tie.new ≡ epoch_of tie.old) }
         ensures foreign { IfErr result (λ e. (e.1 ≡ Refusal.Foreign) × (IsFlying self.old.shared.desk (receipted receipt) → self.old.shared.desk.view.failed ≡ false → ⊥)) }
         ensures back { IfErr result (λ e. receipted e.0 ≡ receipted receipt) }
         ensures same { OnErr result (self.new.shared.desk ≡ self.old.shared.desk) }
-        ensures tie { OnErr result ((durable_of tie.new ≡ durable_of tie.old) × (costs_of tie.new ≡ costs_of tie.old)) }
+        ensures tie { OnErr result (CountSame tie.old tie.new) }
     {
         let Locked {
             shared: SharedDesk { desk },
-            durable,
-            costs,
+            books,
             ..
         } = self;
-        let Tie {
-            durable: mine,
-            costs: spent,
-            of: _,
-        } = tie;
-        durable.audit(mine);
-        costs.audit(spent);
+        books.audit(tie);
         let before = desk.durable();
         match desk.land(receipt) {
             Err((receipt, refusal)) => Err((receipt, refusal)),
@@ -257,8 +236,7 @@ impl<A: Node, D: Whole, C: Whole> Locked<A, D, C> {
                 let start = (before - desk.first()) as usize;
                 let end = (after - desk.first()) as usize;
                 let cost = used_of(&desk.history()[start..end], desk.capacity());
-                durable.add(mine, after - before);
-                costs.add(spent, u64::from(cost));
+                books.add_batch(tie, after - before, u64::from(cost));
                 Ok(landed)
             }
         }
@@ -292,7 +270,7 @@ impl<A: Node, D: Whole, C: Whole> Locked<A, D, C> {
     /// As on the desk.
     pub(crate) fn window(&self) -> Result<Vec<Packet>, AllocError>
         ensures packets { IfOk result (λ list. (past : List Input) → IsPast A.member A.opening past → list.items ≡ window A.member.node (durable_in (seen past self.now.shared.desk).state)) }
-        ensures lawful { IfOk result (λ list. IsWindow A.member A.opening A.base list.items) }
+        ensures lawful { IfOk result (λ list. IsWindow A.member A.opening list.items) }
     {
         self.shared.desk.window()
     }
@@ -304,9 +282,9 @@ impl<A: Node, D: Whole, C: Whole> Locked<A, D, C> {
         ensures is_open { result.is_open ≡ not (self.now.shared.desk.view.closed || self.now.shared.desk.view.failed) }
         ensures inputs { result.shown.inputs ≡ self.now.shared.desk.opening.inputs + length self.now.shared.desk.view.state.inputs }
         ensures durable { result.shown.durable ≡ self.now.shared.desk.opening.inputs + self.now.shared.desk.view.state.durable }
-        ensures used { result.used ≡ used A.base self.now.shared.desk.view.state.inputs }
+        ensures used { result.used ≡ used (launched_base self.now.shared.desk.view.state) self.now.shared.desk.view.state.inputs }
         ensures capacity { result.capacity ≡ A.member.capacity }
-        ensures lawful { IsLook A.member A.opening A.base result }
+        ensures lawful { IsLook A.member A.opening result }
     {
         let desk = &self.shared.desk;
         Look {

@@ -13,13 +13,13 @@ use crate::share::Share;
 use group_commit::{Desk, SharedDesk};
 use std::sync::ledger;
 
-impl<A: Node, D: Whole, C: Whole> Locked<A, D, C> {
+impl<A: Node, D: Whole, C: Whole, F: Whole, E: Whole> Locked<A, D, C, F, E> {
     /// Ends the ledgers and the shares, and gives the desk, exactly where the shares count all inputs that were accepted
     /// since the hub was made. They do where every place is here. Else all comes back.
     pub(crate) fn settle(
         self,
         shares: Vec<Share<A>>,
-    ) -> Result<Desk, (Locked<A, D, C>, Vec<Share<A>>)>
+    ) -> Result<Desk, (Locked<A, D, C, F, E>, Vec<Share<A>>)>
         ensures exact { IsOk result ↔ AddUp shares.items A.opened self.shared.desk }
         ensures whole { 1 + length shares.items ≡ A.parts → IsOk result }
         ensures desk { IfOk result (λ desk. desk ≡ self.shared.desk) }

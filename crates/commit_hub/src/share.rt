@@ -25,12 +25,15 @@ impl<A: Node> Share<A> {
     }
 }
 
-/// The right to make a hub's inputs durable. It counts those that are durable, and the bytes of the capacity that are
-/// taken up to them. A hub has one, and it takes no bytes.
+/// The right to make a hub's inputs durable. It counts those that are durable; the bytes that were ever taken of the
+/// capacity, and those of them that checkpoints freed; and the epoch of the journal's area in use. All of these only
+/// rise. A hub has one, and it takes no bytes.
 #[derive(Drop)]
-pub struct Tie<A: Node, D: Whole, C: Whole> {
+pub struct Tie<A: Node, D: Whole, C: Whole, F: Whole, E: Whole> {
     pub(crate) durable: ledger::Share<D>,
-    pub(crate) costs: ledger::Share<C>,
+    pub(crate) spent: ledger::Share<C>,
+    pub(crate) freed: ledger::Share<F>,
+    pub(crate) epochs: ledger::Share<E>,
     pub(crate) of: PhantomData<A>,
-    ghost whole: { (durable.parts ≡ D.all) × (costs.parts ≡ C.all) },
+    ghost whole: { (durable.parts ≡ D.all) × (spent.parts ≡ C.all) × (freed.parts ≡ F.all) × (epochs.parts ≡ E.all) },
 }

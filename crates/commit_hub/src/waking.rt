@@ -26,15 +26,15 @@ impl Turn {
 /// What the lock guards: the desk with its books, the turn of the batch that lands next, and whether the flusher
 /// sleeps.
 #[derive(Drop)]
-pub(crate) struct Guarded<A: Node, D: Whole, C: Whole> {
-    pub(crate) locked: Locked<A, D, C>,
+pub(crate) struct Guarded<A: Node, D: Whole, C: Whole, F: Whole, E: Whole> {
+    pub(crate) locked: Locked<A, D, C, F, E>,
     turn: Turn,
     is_asleep: bool,
 }
 
-impl<A: Node, D: Whole, C: Whole> Guarded<A, D, C> {
+impl<A: Node, D: Whole, C: Whole, F: Whole, E: Whole> Guarded<A, D, C, F, E> {
     /// Before the first batch, with a flusher that does not sleep.
-    pub(crate) fn new(locked: Locked<A, D, C>) -> Guarded<A, D, C> {
+    pub(crate) fn new(locked: Locked<A, D, C, F, E>) -> Guarded<A, D, C, F, E> {
         Guarded {
             locked,
             turn: Turn::Even,
@@ -43,7 +43,7 @@ impl<A: Node, D: Whole, C: Whole> Guarded<A, D, C> {
     }
 
     /// The desk with its books.
-    pub(crate) fn into_locked(self) -> Locked<A, D, C>
+    pub(crate) fn into_locked(self) -> Locked<A, D, C, F, E>
         ensures { result ≡ self.locked }
     {
         let Guarded { locked, .. } = self;
@@ -116,11 +116,11 @@ impl Bells {
     }
 
     /// Waits until there is something to launch, or nothing more comes.
-    pub(crate) fn wait_for_work<'a, R: Wait, A: Node, D: Whole, C: Whole>(
+    pub(crate) fn wait_for_work<'a, R: Wait, A: Node, D: Whole, C: Whole, F: Whole, E: Whole>(
         &self,
         rt: &R,
-        guard: MutexGuard<'a, Guarded<A, D, C>>,
-    ) -> MutexGuard<'a, Guarded<A, D, C>> {
+        guard: MutexGuard<'a, Guarded<A, D, C, F, E>>,
+    ) -> MutexGuard<'a, Guarded<A, D, C, F, E>> {
         self.work
             .wait_while(rt, guard, |guarded| guarded.lets_sleep())
     }

@@ -1,7 +1,7 @@
 // Hubs at their bounds: places, tickets, receipts and shares that are not what they wait for. The one thread that the
 // tests have is appender and flusher in turn.
 ghost use Rattle.std.specs.Prelude.{◌≡◌, ◌+◌, ◌≤◌, length, None};
-ghost use Rattle.commit_hub.specs.Pages.{ForAccepted, ForDurable, ForCosts, IsWhole};
+ghost use Rattle.commit_hub.specs.Pages.{ForAccepted, ForDurable, ForSpent, ForFreed, ForEpochs, IsWhole};
 
 use crate::calls::*;
 use crate::ends::{abandons, closes, fails, settles_some};
@@ -47,9 +47,9 @@ enum Case {
 }
 
 /// So many places are taken, and there is no other. All of their shares settle the hub.
-fn enters<A: Node, D: Whole, C: Whole, R: Wait + Abort + AllocGlobal>(
+fn enters<A: Node, D: Whole, C: Whole, F: Whole, E: Whole, R: Wait + Abort + AllocGlobal>(
     rt: &R,
-    hub: Hub<A, D, C>,
+    hub: Hub<A, D, C, F, E>,
     count: u32,
 ) {
     let mut shares = Vec::with_capacity(rt.alloc(), count as usize).expect(rt, "ample memory");
@@ -66,9 +66,9 @@ fn enters<A: Node, D: Whole, C: Whole, R: Wait + Abort + AllocGlobal>(
 }
 
 /// A ticket of another hub is refused, and comes back.
-fn refuses<A: Node, D: Whole, C: Whole, R: Wait + Abort>(
+fn refuses<A: Node, D: Whole, C: Whole, F: Whole, E: Whole, R: Wait + Abort>(
     rt: &R,
-    hub: &Hub<A, D, C>,
+    hub: &Hub<A, D, C, F, E>,
     ticket: Ticket,
 ) -> Ticket {
     let question = ticket.question();
@@ -84,7 +84,10 @@ fn refuses<A: Node, D: Whole, C: Whole, R: Wait + Abort>(
 
 /// An open hub takes requests, and the share counts those that are accepted, each once. A Take of a message of no node of
 /// the ring gets no ticket.
-fn answers<A: Node, D: Whole, C: Whole, R: Wait + Abort>(rt: &R, hub: &Hub<A, D, C>) {
+fn answers<A: Node, D: Whole, C: Whole, F: Whole, E: Whole, R: Wait + Abort>(
+    rt: &R,
+    hub: &Hub<A, D, C, F, E>,
+) {
     let mut share = hub.enter(rt).expect(rt, "a place");
     let asked = [
         (Ask::Stand("red", 5, 10), 1),
@@ -112,7 +115,10 @@ fn answers<A: Node, D: Whole, C: Whole, R: Wait + Abort>(rt: &R, hub: &Hub<A, D,
 
 /// An open hub shows a node that stood, took a message of 29 bytes and heard of a credit, none of it durable, behind a
 /// snapshot of 38 bytes.
-fn shows_three<A: Node, D: Whole, C: Whole, R: Wait + Abort>(rt: &R, hub: &Hub<A, D, C>) {
+fn shows_three<A: Node, D: Whole, C: Whole, F: Whole, E: Whole, R: Wait + Abort>(
+    rt: &R,
+    hub: &Hub<A, D, C, F, E>,
+) {
     let look = hub.look(rt);
     let shown = Shown {
         inputs: 3,
@@ -127,7 +133,10 @@ fn shows_three<A: Node, D: Whole, C: Whole, R: Wait + Abort>(rt: &R, hub: &Hub<A
 }
 
 /// A ticket is forfeited while requests are taken: it is refused, and ends.
-fn forfeits_open<A: Node, D: Whole, C: Whole, R: Wait + Abort>(rt: &R, hub: &Hub<A, D, C>) {
+fn forfeits_open<A: Node, D: Whole, C: Whole, F: Whole, E: Whole, R: Wait + Abort>(
+    rt: &R,
+    hub: &Hub<A, D, C, F, E>,
+) {
     let mut share = hub.enter(rt).expect(rt, "a place");
     let ticket = submits(rt, hub, &mut share);
     assert!(rt; hub.forfeit(rt, ticket) == Err(Refusal::Foreign));
@@ -135,12 +144,12 @@ fn forfeits_open<A: Node, D: Whole, C: Whole, R: Wait + Abort>(rt: &R, hub: &Hub
 }
 
 /// A second launch finds the first batch flying; then that lands, and its reply is released.
-fn launches_twice<A: Node, D: Whole, C: Whole, R: Wait + Abort + AllocGlobal>(
+fn launches_twice<A: Node, D: Whole, C: Whole, F: Whole, E: Whole, R: Wait + Abort + AllocGlobal>(
     rt: &R,
-    hub: &Hub<A, D, C>,
-    tie: &mut Tie<A, D, C>,
+    hub: &Hub<A, D, C, F, E>,
+    tie: &mut Tie<A, D, C, F, E>,
 )
-    requires { IsWhole D.all D.parts × IsWhole C.all C.parts }
+    requires { IsWhole D.all D.parts × IsWhole C.all C.parts × IsWhole F.all F.parts × IsWhole E.all E.parts }
 {
     let mut journal = journal_of(rt);
     let mut share = hub.enter(rt).expect(rt, "a place");
@@ -153,12 +162,12 @@ fn launches_twice<A: Node, D: Whole, C: Whole, R: Wait + Abort + AllocGlobal>(
 }
 
 /// The receipt of another batch is refused and comes back; that of the batch lands.
-fn lands_another<A: Node, D: Whole, C: Whole, R: Wait + Abort + AllocGlobal>(
+fn lands_another<A: Node, D: Whole, C: Whole, F: Whole, E: Whole, R: Wait + Abort + AllocGlobal>(
     rt: &R,
-    hub: &Hub<A, D, C>,
-    tie: &mut Tie<A, D, C>,
+    hub: &Hub<A, D, C, F, E>,
+    tie: &mut Tie<A, D, C, F, E>,
 )
-    requires { IsWhole D.all D.parts × IsWhole C.all C.parts }
+    requires { IsWhole D.all D.parts × IsWhole C.all C.parts × IsWhole F.all F.parts × IsWhole E.all E.parts }
 {
     let mut journal = journal_of(rt);
     let mut other = journal_of(rt);
@@ -181,12 +190,12 @@ fn lands_another<A: Node, D: Whole, C: Whole, R: Wait + Abort + AllocGlobal>(
 
 /// A hub round a desk whose opening summarises a Stand in 65 bytes counts that: its next input is the second, and behind
 /// the first one.
-fn goes_on<A: Node, D: Whole, C: Whole, R: Wait + Abort + AllocGlobal>(
+fn goes_on<A: Node, D: Whole, C: Whole, F: Whole, E: Whole, R: Wait + Abort + AllocGlobal>(
     rt: &R,
-    hub: Hub<A, D, C>,
-    tie: &mut Tie<A, D, C>,
+    hub: Hub<A, D, C, F, E>,
+    tie: &mut Tie<A, D, C, F, E>,
 )
-    requires { IsWhole D.all D.parts × IsWhole C.all C.parts }
+    requires { IsWhole D.all D.parts × IsWhole C.all C.parts × IsWhole F.all F.parts × IsWhole E.all E.parts }
 {
     let mut journal = journal_of(rt);
     commits(rt, &mut journal, other_batch(rt)).into_parts();
@@ -206,7 +215,7 @@ fn goes_on<A: Node, D: Whole, C: Whole, R: Wait + Abort + AllocGlobal>(
 }
 
 /// Does with a hub what the case says. What is given is a ticket of it.
-fn on_hub<A: Node, D: Whole, C: Whole, R: Wait + Abort + AllocGlobal>(
+fn on_hub<A: Node, D: Whole, C: Whole, F: Whole, E: Whole, R: Wait + Abort + AllocGlobal>(
     rt: &R,
     desk: Desk,
     blanks: Blanks,
@@ -214,14 +223,15 @@ fn on_hub<A: Node, D: Whole, C: Whole, R: Wait + Abort + AllocGlobal>(
 ) -> Option<Ticket>
     requires member { desk.view.member ≡ A.member }
     requires opening { desk.opening ≡ A.opening }
-    requires base { desk.view.state.base ≡ A.base }
     requires none { desk.view.state.checkpoint ≡ None }
     requires opened { desk.opening.inputs + length desk.view.state.inputs ≡ A.opened }
     requires accepted { ForAccepted blanks A.name A.parts }
     requires durable { ForDurable blanks D.name D.parts × IsWhole D.all D.parts }
-    requires costs { ForCosts blanks C.name C.parts × IsWhole C.all C.parts }
+    requires spent { ForSpent blanks C.name C.parts × IsWhole C.all C.parts }
+    requires freed { ForFreed blanks F.name F.parts × IsWhole F.all F.parts }
+    requires epochs { ForEpochs blanks E.name E.parts × IsWhole E.all E.parts }
 {
-    let (hub, mut tie) = Hub::<A, D, C>::new(desk, blanks);
+    let (hub, mut tie) = Hub::<A, D, C, F, E>::new(desk, blanks);
     match case {
         Case::Enters(count) => enters(rt, hub, count),
         Case::Gives => {
@@ -255,7 +265,7 @@ fn plays<R: Wait + Abort + AllocGlobal>(rt: &R, run: u64, places: u32, case: Cas
         _ => new_desk(rt, 1, run),
     };
     let blanks = Blanks::new(places);
-    on_hub::<Brand, Brand, Brand, R>(rt, desk, blanks, case)
+    on_hub::<Brand, Brand, Brand, Brand, Brand, R>(rt, desk, blanks, case)
 }
 
 /// The case, which gives no ticket.

@@ -15,9 +15,9 @@ use test_rows::{Ask, Op};
 
 const STAND: Ask = Ask::Stand("red", 5, 10);
 
-pub fn asks<A: Node, D: Whole, C: Whole, R: Wait + Abort>(
+pub fn asks<A: Node, D: Whole, C: Whole, F: Whole, E: Whole, R: Wait + Abort>(
     rt: &R,
-    hub: &Hub<A, D, C>,
+    hub: &Hub<A, D, C, F, E>,
     share: &mut Share<A>,
     ask: Ask,
 ) -> Ticket {
@@ -26,18 +26,18 @@ pub fn asks<A: Node, D: Whole, C: Whole, R: Wait + Abort>(
 }
 
 /// The node stands for red 5.
-pub fn submits<A: Node, D: Whole, C: Whole, R: Wait + Abort>(
+pub fn submits<A: Node, D: Whole, C: Whole, F: Whole, E: Whole, R: Wait + Abort>(
     rt: &R,
-    hub: &Hub<A, D, C>,
+    hub: &Hub<A, D, C, F, E>,
     share: &mut Share<A>,
 ) -> Ticket {
     asks(rt, hub, share, STAND)
 }
 
 /// No request is taken any more.
-pub fn takes_nothing<A: Node, D: Whole, C: Whole, R: Wait + Abort>(
+pub fn takes_nothing<A: Node, D: Whole, C: Whole, F: Whole, E: Whole, R: Wait + Abort>(
     rt: &R,
-    hub: &Hub<A, D, C>,
+    hub: &Hub<A, D, C, F, E>,
     share: &mut Share<A>,
 ) {
     match hub.submit(rt, share, request(rt, STAND)) {
@@ -46,9 +46,9 @@ pub fn takes_nothing<A: Node, D: Whole, C: Whole, R: Wait + Abort>(
     }
 }
 
-pub fn redeems<A: Node, D: Whole, C: Whole, R: Wait + Abort>(
+pub fn redeems<A: Node, D: Whole, C: Whole, F: Whole, E: Whole, R: Wait + Abort>(
     rt: &R,
-    hub: &Hub<A, D, C>,
+    hub: &Hub<A, D, C, F, E>,
     ticket: Ticket,
 ) {
     match hub.redeem_wait(rt, ticket) {
@@ -58,13 +58,13 @@ pub fn redeems<A: Node, D: Whole, C: Whole, R: Wait + Abort>(
 }
 
 /// No batch is launched, for this cause.
-pub fn launches_none<A: Node, D: Whole, C: Whole, R: Wait + Abort>(
+pub fn launches_none<A: Node, D: Whole, C: Whole, F: Whole, E: Whole, R: Wait + Abort>(
     rt: &R,
-    hub: &Hub<A, D, C>,
-    tie: &mut Tie<A, D, C>,
+    hub: &Hub<A, D, C, F, E>,
+    tie: &mut Tie<A, D, C, F, E>,
     cause: Refusal,
 )
-    requires { IsWhole D.all D.parts × IsWhole C.all C.parts }
+    requires { IsWhole D.all D.parts × IsWhole C.all C.parts × IsWhole F.all F.parts × IsWhole E.all E.parts }
 {
     match hub.launch(rt, tie) {
         Ok(_some) => panic!(rt; "a batch, or none"),
@@ -72,12 +72,12 @@ pub fn launches_none<A: Node, D: Whole, C: Whole, R: Wait + Abort>(
     }
 }
 
-pub fn launches<A: Node, D: Whole, C: Whole, R: Wait + Abort>(
+pub fn launches<A: Node, D: Whole, C: Whole, F: Whole, E: Whole, R: Wait + Abort>(
     rt: &R,
-    hub: &Hub<A, D, C>,
-    tie: &mut Tie<A, D, C>,
+    hub: &Hub<A, D, C, F, E>,
+    tie: &mut Tie<A, D, C, F, E>,
 ) -> Batch
-    requires { IsWhole D.all D.parts × IsWhole C.all C.parts }
+    requires { IsWhole D.all D.parts × IsWhole C.all C.parts × IsWhole F.all F.parts × IsWhole E.all E.parts }
 {
     match hub.launch(rt, tie) {
         Ok(Some(batch)) => batch,
@@ -106,13 +106,13 @@ pub fn commits<R: Abort>(rt: &R, journal: &mut Journal<MemDevice>, batch: Batch)
     }
 }
 
-pub fn lands<A: Node, D: Whole, C: Whole, R: Wait + Abort>(
+pub fn lands<A: Node, D: Whole, C: Whole, F: Whole, E: Whole, R: Wait + Abort>(
     rt: &R,
-    hub: &Hub<A, D, C>,
-    tie: &mut Tie<A, D, C>,
+    hub: &Hub<A, D, C, F, E>,
+    tie: &mut Tie<A, D, C, F, E>,
     receipt: Receipt,
 )
-    requires { IsWhole D.all D.parts × IsWhole C.all C.parts }
+    requires { IsWhole D.all D.parts × IsWhole C.all C.parts × IsWhole F.all F.parts × IsWhole E.all E.parts }
 {
     match hub.land(rt, tie, receipt) {
         Ok(landed) => assert!(rt; landed.count == 1),
@@ -121,13 +121,13 @@ pub fn lands<A: Node, D: Whole, C: Whole, R: Wait + Abort>(
 }
 
 /// The one input that waits becomes durable.
-pub fn flushes<A: Node, D: Whole, C: Whole, R: Wait + Abort>(
+pub fn flushes<A: Node, D: Whole, C: Whole, F: Whole, E: Whole, R: Wait + Abort>(
     rt: &R,
-    hub: &Hub<A, D, C>,
-    tie: &mut Tie<A, D, C>,
+    hub: &Hub<A, D, C, F, E>,
+    tie: &mut Tie<A, D, C, F, E>,
     journal: &mut Journal<MemDevice>,
 )
-    requires { IsWhole D.all D.parts × IsWhole C.all C.parts }
+    requires { IsWhole D.all D.parts × IsWhole C.all C.parts × IsWhole F.all F.parts × IsWhole E.all E.parts }
 {
     let batch = launches(rt, hub, tie);
     let receipt = commits(rt, journal, batch);

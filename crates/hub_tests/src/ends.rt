@@ -14,12 +14,12 @@ use test_rows::Ask;
 
 /// A closed hub takes no requests. What it accepted before is made durable and released, and then there is no batch any
 /// more.
-pub fn closes<A: Node, D: Whole, C: Whole, R: Wait + Abort + AllocGlobal>(
+pub fn closes<A: Node, D: Whole, C: Whole, F: Whole, E: Whole, R: Wait + Abort + AllocGlobal>(
     rt: &R,
-    hub: &Hub<A, D, C>,
-    tie: &mut Tie<A, D, C>,
+    hub: &Hub<A, D, C, F, E>,
+    tie: &mut Tie<A, D, C, F, E>,
 )
-    requires { IsWhole D.all D.parts × IsWhole C.all C.parts }
+    requires { IsWhole D.all D.parts × IsWhole C.all C.parts × IsWhole F.all F.parts × IsWhole E.all E.parts }
 {
     let mut journal = journal_of(rt);
     let mut share = hub.enter(rt).expect(rt, "a place");
@@ -36,14 +36,14 @@ pub fn closes<A: Node, D: Whole, C: Whole, R: Wait + Abort + AllocGlobal>(
 }
 
 /// The hub has failed: it takes and launches nothing, and this ticket, whose reply waits, is refused and forfeited.
-fn has_failed<A: Node, D: Whole, C: Whole, R: Wait + Abort>(
+fn has_failed<A: Node, D: Whole, C: Whole, F: Whole, E: Whole, R: Wait + Abort>(
     rt: &R,
-    hub: &Hub<A, D, C>,
-    tie: &mut Tie<A, D, C>,
+    hub: &Hub<A, D, C, F, E>,
+    tie: &mut Tie<A, D, C, F, E>,
     share: &mut Share<A>,
     ticket: Ticket,
 )
-    requires { IsWhole D.all D.parts × IsWhole C.all C.parts }
+    requires { IsWhole D.all D.parts × IsWhole C.all C.parts × IsWhole F.all F.parts × IsWhole E.all E.parts }
 {
     takes_nothing(rt, hub, share);
     launches_none(rt, hub, tie, Refusal::Failed);
@@ -57,12 +57,12 @@ fn has_failed<A: Node, D: Whole, C: Whole, R: Wait + Abort>(
 }
 
 /// An abandoned hub has failed; replies that rest on durable inputs are released.
-pub fn abandons<A: Node, D: Whole, C: Whole, R: Wait + Abort + AllocGlobal>(
+pub fn abandons<A: Node, D: Whole, C: Whole, F: Whole, E: Whole, R: Wait + Abort + AllocGlobal>(
     rt: &R,
-    hub: &Hub<A, D, C>,
-    tie: &mut Tie<A, D, C>,
+    hub: &Hub<A, D, C, F, E>,
+    tie: &mut Tie<A, D, C, F, E>,
 )
-    requires { IsWhole D.all D.parts × IsWhole C.all C.parts }
+    requires { IsWhole D.all D.parts × IsWhole C.all C.parts × IsWhole F.all F.parts × IsWhole E.all E.parts }
 {
     let mut journal = journal_of(rt);
     let mut share = hub.enter(rt).expect(rt, "a place");
@@ -75,12 +75,12 @@ pub fn abandons<A: Node, D: Whole, C: Whole, R: Wait + Abort + AllocGlobal>(
 }
 
 /// The spoiled batch of another journal is refused and comes back. With its own the hub has failed.
-pub fn fails<A: Node, D: Whole, C: Whole, R: Wait + Abort + AllocGlobal>(
+pub fn fails<A: Node, D: Whole, C: Whole, F: Whole, E: Whole, R: Wait + Abort + AllocGlobal>(
     rt: &R,
-    hub: &Hub<A, D, C>,
-    tie: &mut Tie<A, D, C>,
+    hub: &Hub<A, D, C, F, E>,
+    tie: &mut Tie<A, D, C, F, E>,
 )
-    requires { IsWhole D.all D.parts × IsWhole C.all C.parts }
+    requires { IsWhole D.all D.parts × IsWhole C.all C.parts × IsWhole F.all F.parts × IsWhole E.all E.parts }
 {
     let mut share = hub.enter(rt).expect(rt, "a place");
     let ticket = submits(rt, hub, &mut share);
@@ -101,9 +101,9 @@ pub fn fails<A: Node, D: Whole, C: Whole, R: Wait + Abort + AllocGlobal>(
 }
 
 /// A share of which so many Stands are accepted, for terms of this group.
-fn holder<A: Node, D: Whole, C: Whole, R: Wait + Abort>(
+fn holder<A: Node, D: Whole, C: Whole, F: Whole, E: Whole, R: Wait + Abort>(
     rt: &R,
-    hub: &Hub<A, D, C>,
+    hub: &Hub<A, D, C, F, E>,
     group: &'static str,
     count: u32,
 ) -> Share<A>
@@ -120,9 +120,9 @@ fn holder<A: Node, D: Whole, C: Whole, R: Wait + Abort>(
 
 /// Four shares of a hub count 0, 1, 0 and 2 inputs. It is settled with those of them that this mask names exactly where
 /// both that count some are among them, and else with the others too.
-pub fn settles_some<A: Node, D: Whole, C: Whole, R: Wait + Abort + AllocGlobal>(
+pub fn settles_some<A: Node, D: Whole, C: Whole, F: Whole, E: Whole, R: Wait + Abort + AllocGlobal>(
     rt: &R,
-    hub: Hub<A, D, C>,
+    hub: Hub<A, D, C, F, E>,
     mask: u8,
 ) {
     let mut named = Vec::with_capacity(rt.alloc(), 4).expect(rt, "ample memory");
@@ -155,9 +155,9 @@ pub fn settles_some<A: Node, D: Whole, C: Whole, R: Wait + Abort + AllocGlobal>(
 }
 
 /// All shares, of which three inputs were accepted, settle the hub.
-fn settles_all<A: Node, D: Whole, C: Whole, R: Abort>(
+fn settles_all<A: Node, D: Whole, C: Whole, F: Whole, E: Whole, R: Abort>(
     rt: &R,
-    hub: Hub<A, D, C>,
+    hub: Hub<A, D, C, F, E>,
     shares: Vec<Share<A>>,
     others: Vec<Share<A>>,
 ) {

@@ -19,13 +19,13 @@ invariant_of-self-in-Ok g c =
     record {
       of = ap (λ (d : DeskKept). d.view.member) next ∙ old.of;
       opening = ap (λ (d : DeskKept). d.opening) next ∙ old.opening;
-      base = ap (λ (d : DeskKept). d.view.state.base) next ∙ old.base;
       none = ap (λ (d : DeskKept). d.view.state.checkpoint) next ∙ old.none;
       counts = c.accepted.ensures.counts;
       counted = counted;
       first_is = old.first_is;
       spare_is = old.spare_is;
       durable_is = old.durable_is ∙ sym (ap (λ (d : DeskKept). d.opening.inputs + d.view.state.durable) next);
-      costs_is = old.costs_is
+      taken_is = old.taken_is
           ∙ sym (ap (λ (d : DeskKept). used d.view.state.base (durable_in d.view.state)) next ∙ ap (used desk.view.state.base) (durable_stays desk.view.state (cons_option s.more []) old.counts));
+      epoch_is = old.epoch_is ∙ sym (ap (λ (d : DeskKept). d.view.state.base.epoch) next);
     }

@@ -7,5 +7,5 @@ pub returns-clause-lawful : goal.returns-clause-lawful
 returns-clause-lawful g c =
     let old = c.args.self.now in
     let desk = old.shared.desk in
-    named (λ m opening base. IfOk c.window.result (λ list. IsWindow m opening base list.items)) desk _ _ _ old.of old.opening old.base
-    (is_window (λ list. list.items) c.window.result desk old.counts c.window.ensures.lawful c.window.ensures.packets)
+    named (λ m opening. IfOk c.window.result (λ list. IsWindow m opening list.items)) desk _ _ old.of old.opening
+    (is_window (λ list. list.items) c.window.result desk c.window.ensures.lawful c.window.ensures.packets)
