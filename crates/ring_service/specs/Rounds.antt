@@ -1,7 +1,6 @@
 -- What a round of a flusher does.
 use Rattle.std.specs.Prelude.{ℕ, ◌≡◌, ◌<◌, ◌≤◌, ◌⊎◌, Bool, true, List, length}
 use Rattle.disk_model.specs.Disk.{Disk, LeavesOnly}
-use Rattle.ring_records.specs.declared.base.Base.{Base}
 use Rattle.ring_records.specs.declared.input.Input.{Input}
 use Rattle.ring_records.specs.declared.limits.TheConstants.{BATCH_INPUTS}
 use Rattle.ring_records.specs.declared.refusal.Refusal.{Refusal}
@@ -15,12 +14,12 @@ use Rattle.commit_hub.specs.Told.{IsBrought}
 
 -- A round made these inputs of the node durable, at least one: the journal, which had so many inputs, has them behind
 -- those that it read as. This is what they let the node release.
-pub record IsRound (member : Member) (opening : Summary) (base : Base) (before after : Disk) (first : ℕ) (landed : Landed) : Type 0 where
+pub record IsRound (member : Member) (opening : Summary) (before after : Disk) (first : ℕ) (landed : Landed) : Type 0 where
   pub inputs : List Input
   pub some : 1 ≤ length inputs
   pub count : landed.count ≡ length inputs
   pub durable : (r : Reading) → AllReadAs member before r → AllReadAs member after (with_more r inputs)
-  pub brought : IsBrought member opening base first inputs landed
+  pub brought : IsBrought member opening first inputs landed
 
 -- A stop at any moment of a round leaves what the journal read as, or this with the inputs of one batch behind it.
 pub record IsStopped {V : Type 0} (clock : V → ℕ) (left_since : V → ℕ → List ℕ → Type 0) (old new : V) (member : Member) (r : Reading) : Type 0 where

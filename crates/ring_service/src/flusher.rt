@@ -5,11 +5,11 @@ ghost use Rattle.ring_records.specs.Admission.{costs_of as costs_in};
 ghost use Rattle.disk_model.specs.Disk.{LeavesOnly, Reaches};
 ghost use Rattle.gated_journal.specs.Areas.{AllReadAs, ReadsAsOneOf};
 ghost use Rattle.gated_journal.specs.Batch.{shown};
-ghost use Rattle.gated_journal.specs.Journal.{device_of, member_of, len_of, room_of, is_spoiled};
+ghost use Rattle.gated_journal.specs.Journal.{device_of, member_of, len_of, room_of, epoch_of as journal_epoch, is_spoiled};
 ghost use Rattle.gated_journal.specs.Reading.{Reading, device_size, with_more};
 ghost use Rattle.gated_journal.specs.Unread.{IsFault};
 ghost use Rattle.decision_board.specs.Boards.{published, pending};
-ghost use Rattle.commit_hub.specs.Holders.{durable_of, costs_of};
+ghost use Rattle.commit_hub.specs.Holders.{durable_of, spent_of, freed_of, epoch_of};
 ghost use Rattle.commit_hub.specs.Pages.{IsWhole};
 ghost use Rattle.commit_hub.specs.Told.{IsBrought};
 ghost use Rattle.ring_service.specs.Rounds.{IsRound, IsStopped, IsIdle, IsSpent};
@@ -27,9 +27,9 @@ use std::collections::VecDeque;
 use std::sync::Wait;
 
 /// The journal and the tie of a hub's node, the board of its decisions, and those that the board could not take yet.
-pub struct Flusher<V: Device, J: Naming, A: Node, D: Whole, C: Whole> {
+pub struct Flusher<V: Device, J: Naming, A: Node, D: Whole, C: Whole, F: Whole, E: Whole> {
     journal: Journal<V>,
-    tie: Tie<A, D, C>,
+    tie: Tie<A, D, C, F, E>,
     board: Board<J>,
     owed: VecDeque<Decision>,
     is_published: bool,
@@ -38,10 +38,19 @@ pub struct Flusher<V: Device, J: Naming, A: Node, D: Whole, C: Whole> {
     ghost ready: { has_ended ≡ false → is_spoiled journal ≡ false },
     ghost member: { has_ended ≡ false → member_of journal ≡ A.member },
     ghost len: { has_ended ≡ false → len_of journal ≡ durable_of tie },
-    ghost room: { has_ended ≡ false → room_of journal ≡ A.member.capacity - costs_of tie },
+    ghost room: { has_ended ≡ false → room_of journal ≡ (A.member.capacity + freed_of tie) - spent_of tie },
+    ghost epoch: { has_ended ≡ false → journal_epoch journal ≡ epoch_of tie },
 }
 
-impl<V: Device, J: Naming, A: Node, D: Whole, C: Whole> Flusher<V, J, A, D, C> {
+impl<V: Device, J: Naming, A: Node, D: Whole, C: Whole, F: Whole, E: Whole> Flusher<
+    V,
+    J,
+    A,
+    D,
+    C,
+    F,
+    E,
+> {
     ghost use Rattle.ring_service.specs.Flushers.{journal_of, device_in, board_of, owed_of, told_to, is_published, has_ended};
 
     /// A flusher that owes nothing. The journal is that of the node of the tie's hub, is not spoiled, and has what the
@@ -50,12 +59,13 @@ impl<V: Device, J: Naming, A: Node, D: Whole, C: Whole> Flusher<V, J, A, D, C> {
         alloc: Global,
         journal: Journal<V>,
         board: Board<J>,
-        tie: Tie<A, D, C>,
-    ) -> Flusher<V, J, A, D, C>
+        tie: Tie<A, D, C, F, E>,
+    ) -> Flusher<V, J, A, D, C, F, E>
         requires ready { is_spoiled journal ≡ false }
         requires member { member_of journal ≡ A.member }
         requires len { len_of journal ≡ durable_of tie }
-        requires room { room_of journal ≡ A.member.capacity - costs_of tie }
+        requires room { room_of journal ≡ (A.member.capacity + freed_of tie) - spent_of tie }
+        requires epoch { journal_epoch journal ≡ epoch_of tie }
         ensures journal { journal_of result ≡ journal }
         ensures board { board_of result ≡ board }
         ensures owed { owed_of result ≡ [] }
@@ -81,11 +91,11 @@ impl<V: Device, J: Naming, A: Node, D: Whole, C: Whole> Flusher<V, J, A, D, C> {
     pub fn flush_round<R: Wait, G: Gate>(
         &mut self,
         rt: &R,
-        hub: &Hub<A, D, C>,
+        hub: &Hub<A, D, C, F, E>,
         gate: &mut G,
     ) -> Result<Option<Landed>, Refusal>
-        requires whole { IsWhole D.all D.parts × IsWhole C.all C.parts }
-        ensures round { IfOk result (λ some. IfSome some (λ landed. IsRound A.member A.opening A.base (V.disk (device_in self.old)) (V.disk (device_in self.new)) (len_of (journal_of self.old)) landed)) }
+        requires whole { IsWhole D.all D.parts × IsWhole C.all C.parts × IsWhole F.all F.parts × IsWhole E.all E.parts }
+        ensures round { IfOk result (λ some. IfSome some (λ landed. IsRound A.member A.opening (V.disk (device_in self.old)) (V.disk (device_in self.new)) (len_of (journal_of self.old)) landed)) }
         ensures told { IfOk result (λ some. IfSome some (λ landed. told_to self.new ≡ told_to self.old ++ landed.decisions.items)) }
         ensures published { IsPrefix (published (board_of self.old)) (published (board_of self.new)) }
         ensures pending { is_published self.new ≡ true → pending (board_of self.new) ≡ [] }
@@ -171,30 +181,32 @@ impl<V: Device, J: Naming, A: Node, D: Whole, C: Whole> Flusher<V, J, A, D, C> {
 }
 
 /// Makes the batch durable, and tells the hub what became of it. What the hub refuses is ended.
-fn settle<V: Device, A: Node, D: Whole, C: Whole, R: Wait>(
+fn settle<V: Device, A: Node, D: Whole, C: Whole, F: Whole, E: Whole, R: Wait>(
     rt: &R,
-    hub: &Hub<A, D, C>,
+    hub: &Hub<A, D, C, F, E>,
     journal: &mut Journal<V>,
-    tie: &mut Tie<A, D, C>,
+    tie: &mut Tie<A, D, C, F, E>,
     batch: Batch,
 ) -> Result<Landed, Refusal>
-    requires whole { IsWhole D.all D.parts × IsWhole C.all C.parts }
+    requires whole { IsWhole D.all D.parts × IsWhole C.all C.parts × IsWhole F.all F.parts × IsWhole E.all E.parts }
     requires ready { is_spoiled journal.old ≡ false }
     requires member { member_of journal.old ≡ A.member }
     requires node { (shown batch).node ≡ A.member.node }
     requires first { (shown batch).first ≡ len_of journal.old }
     requires len { len_of journal.old ≡ durable_of tie.old }
-    requires used { costs_of tie.old + costs_in (shown batch).inputs ≤ A.member.capacity }
-    requires room { room_of journal.old ≡ A.member.capacity - costs_of tie.old }
+    requires fits { spent_of tie.old + costs_in (shown batch).inputs ≤ freed_of tie.old + A.member.capacity }
+    requires room { room_of journal.old ≡ (A.member.capacity + freed_of tie.old) - spent_of tie.old }
+    requires epoch { journal_epoch journal.old ≡ epoch_of tie.old }
     ensures count { IfOk result (λ landed. landed.count ≡ length (shown batch).inputs) }
-    ensures brought { IfOk result (λ landed. IsBrought A.member A.opening A.base (len_of journal.old) (shown batch).inputs landed) }
+    ensures brought { IfOk result (λ landed. IsBrought A.member A.opening (len_of journal.old) (shown batch).inputs landed) }
     ensures few { IfOk result (λ landed. length landed.decisions.items ≤ BATCH_INPUTS) }
     ensures durable { OnOk result ((r : Reading) → AllReadAs A.member (V.disk (device_of journal.old)) r
         → AllReadAs A.member (V.disk (device_of journal.new)) (with_more r (shown batch).inputs)) }
     ensures ready { OnOk result (is_spoiled journal.new ≡ false) }
     ensures member { member_of journal.new ≡ A.member }
     ensures len { OnOk result (len_of journal.new ≡ durable_of tie.new) }
-    ensures room { OnOk result (room_of journal.new ≡ A.member.capacity - costs_of tie.new) }
+    ensures room { OnOk result (room_of journal.new ≡ (A.member.capacity + freed_of tie.new) - spent_of tie.new) }
+    ensures epoch { OnOk result (journal_epoch journal.new ≡ epoch_of tie.new) }
     ensures refusal { IfErr result (λ why. IsFault (V.count (device_of journal.old)) (V.count (device_of journal.new)) why ⊎ (why ≡ Refusal.Foreign)) }
     ensures spoiled { IfErr result (λ why. IsFault (V.count (device_of journal.old)) (V.count (device_of journal.new)) why → is_spoiled journal.new ≡ true) }
     ensures foreign { IfErr result (λ why. why ≡ Refusal.Foreign → IsSpent (len_of journal.old) (len_of journal.new) (is_spoiled journal.new)) }

@@ -12,24 +12,33 @@ use std::sync::Wait;
 /// reply is released; it reads leaders from the board, whose reads take no handle to wait. A Stand is refused as 9 where
 /// the hub is closed or has failed, as 6 and as 8; a read as 20 after the board's end.
 #[derive(Drop)]
-pub struct HubService<'a, R, J: Naming, A: Node, D: Whole, C: Whole> {
+pub struct HubService<'a, R, J: Naming, A: Node, D: Whole, C: Whole, F: Whole, E: Whole> {
     rt: &'a R,
-    hub: &'a Hub<A, D, C>,
+    hub: &'a Hub<A, D, C, F, E>,
     share: Share<A>,
     reader: BoardReader<J>,
     last: Option<Stub>,
 }
 
-impl<'a, R, J: Naming, A: Node, D: Whole, C: Whole> HubService<'a, R, J, A, D, C> {
+impl<'a, R, J: Naming, A: Node, D: Whole, C: Whole, F: Whole, E: Whole> HubService<
+    'a,
+    R,
+    J,
+    A,
+    D,
+    C,
+    F,
+    E,
+> {
     ghost use Rattle.ring_service.specs.Services.{share_of, reader_of, last_of};
 
     /// A service that has released nothing yet.
     pub fn new(
         rt: &'a R,
-        hub: &'a Hub<A, D, C>,
+        hub: &'a Hub<A, D, C, F, E>,
         share: Share<A>,
         reader: BoardReader<J>,
-    ) -> HubService<'a, R, J, A, D, C>
+    ) -> HubService<'a, R, J, A, D, C, F, E>
         ensures share { share_of result ≡ share }
         ensures reader { reader_of result ≡ reader }
         ensures last { last_of result ≡ None }
@@ -67,8 +76,8 @@ impl<'a, R, J: Naming, A: Node, D: Whole, C: Whole> HubService<'a, R, J, A, D, C
     }
 }
 
-impl<'a, R: Wait, J: Naming, A: Node, D: Whole, C: Whole> Service
-    for HubService<'a, R, J, A, D, C> {
+impl<'a, R: Wait, J: Naming, A: Node, D: Whole, C: Whole, F: Whole, E: Whole> Service
+    for HubService<'a, R, J, A, D, C, F, E> {
     ghost use Rattle.ring_service.specs.Services.{HubAnswers};
 
     ghost answers = { HubAnswers A.member A.opening };
