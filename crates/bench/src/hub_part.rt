@@ -1,9 +1,9 @@
 // Hubs over new nodes, whose appenders stand and wait for the reply, in threads of their own beside one flusher.
 ghost use Rattle.std.specs.Prelude.{◌≡◌, ◌+◌, ◌-◌, ◌≤◌, false, length, None};
-ghost use Rattle.gated_journal.specs.Journal.{member_of, len_of, room_of, is_spoiled};
+ghost use Rattle.gated_journal.specs.Journal.{member_of, len_of, room_of, epoch_of, is_spoiled};
 ghost use Rattle.ring_records.specs.Admission.{used};
 ghost use Rattle.ring_records.specs.States.{durable_in};
-ghost use Rattle.commit_hub.specs.Pages.{places_of, ForAccepted, ForDurable, ForCosts, IsWhole};
+ghost use Rattle.commit_hub.specs.Pages.{places_of, ForAccepted, ForDurable, ForSpent, ForFreed, ForEpochs, IsWhole};
 
 use crate::devices::{CAPACITY, in_memory};
 use crate::fault::Fault;
@@ -129,7 +129,7 @@ fn one_hub<V: Device + Drop + Send, R: Threads + Wait + Sync>(
             let (desk, journal) = node.split();
             let blanks = Blanks::new(load.appenders);
             let opened = Opened::new();
-            on_hub::<V, Brand, Brand, Brand, Brand, R>(
+            on_hub::<V, Brand, Brand, Brand, Brand, Brand, Brand, R>(
                 rt, alloc, desk, journal, opened, blanks, load,
             )
         }
@@ -144,10 +144,10 @@ struct Appender<A: Node> {
 }
 
 /// The appenders of a hub, each with keys of its own.
-fn appenders<A: Node, D: Whole, C: Whole, R: Wait>(
+fn appenders<A: Node, D: Whole, C: Whole, F: Whole, E: Whole, R: Wait>(
     rt: &R,
     alloc: Global,
-    hub: &Hub<A, D, C>,
+    hub: &Hub<A, D, C, F, E>,
     load: Load,
 ) -> Result<Vec<Appender<A>>, Refusal> {
     let mut appenders = Vec::new(alloc);
@@ -162,9 +162,9 @@ fn appenders<A: Node, D: Whole, C: Whole, R: Wait>(
 }
 
 /// Stands for the key of this number, and waits for the reply. Whether the node stood.
-fn stand<A: Node, D: Whole, C: Whole, R: Wait>(
+fn stand<A: Node, D: Whole, C: Whole, F: Whole, E: Whole, R: Wait>(
     rt: &R,
-    hub: &Hub<A, D, C>,
+    hub: &Hub<A, D, C, F, E>,
     share: &mut Share<A>,
     index: u32,
 ) -> Result<bool, Refusal> {
@@ -180,9 +180,9 @@ fn stand<A: Node, D: Whole, C: Whole, R: Wait>(
 }
 
 /// Stands so often, in turn. Tells how often the node stood.
-fn append_all<A: Node, D: Whole, C: Whole, R: Wait>(
+fn append_all<A: Node, D: Whole, C: Whole, F: Whole, E: Whole, R: Wait>(
     rt: &R,
-    hub: &Hub<A, D, C>,
+    hub: &Hub<A, D, C, F, E>,
     appender: Appender<A>,
     stands: u32,
 ) -> Result<u32, Refusal> {
@@ -201,8 +201,15 @@ fn append_in_threads<
     A: Node + Send + Sync,
     D: Whole + Send + Sync,
     C: Whole + Send + Sync,
+    F: Whole + Send + Sync,
+    E: Whole + Send + Sync,
     R: Threads + Wait + Sync,
->(rt: &R, hub: &Hub<A, D, C>, appenders: Vec<Appender<A>>, stands: u32) -> Result<u32, Refusal> {
+>(
+    rt: &R,
+    hub: &Hub<A, D, C, F, E>,
+    appenders: Vec<Appender<A>>,
+    stands: u32,
+) -> Result<u32, Refusal> {
     let each = map_vec(
         rt,
         appenders,
@@ -221,12 +228,12 @@ fn append_in_threads<
 
 /// Flushes until the hub is closed and nothing waits, or a round is refused. Where a growth is refused it goes on. Tells
 /// how many rounds there were.
-fn flush_all<V: Device, J: Naming, A: Node, D: Whole, C: Whole, R: Wait>(
+fn flush_all<V: Device, J: Naming, A: Node, D: Whole, C: Whole, F: Whole, E: Whole, R: Wait>(
     rt: &R,
-    hub: &Hub<A, D, C>,
-    flusher: &mut Flusher<V, J, A, D, C>,
+    hub: &Hub<A, D, C, F, E>,
+    flusher: &mut Flusher<V, J, A, D, C, F, E>,
 ) -> u32
-    requires { IsWhole D.all D.parts × IsWhole C.all C.parts }
+    requires { IsWhole D.all D.parts × IsWhole C.all C.parts × IsWhole F.all F.parts × IsWhole E.all E.parts }
 {
     let mut rounds = 0u32;
     for _ in rt.forever() {
@@ -246,6 +253,8 @@ fn on_hub<
     A: Node + Send + Sync,
     D: Whole + Send + Sync,
     C: Whole + Send + Sync,
+    F: Whole + Send + Sync,
+    E: Whole + Send + Sync,
     R: Threads + Wait + Sync,
 >(
     rt: &R,
@@ -259,18 +268,20 @@ fn on_hub<
     requires history { opened ≡ J.book }
     requires desk { desk.view.member ≡ A.member }
     requires opening { desk.opening ≡ A.opening }
-    requires base { desk.view.state.base ≡ A.base }
     requires none { desk.view.state.checkpoint ≡ None }
     requires opened { desk.opening.inputs + length desk.view.state.inputs ≡ A.opened }
     requires accepted { ForAccepted blanks A.name A.parts }
     requires durable { ForDurable blanks D.name D.parts × IsWhole D.all D.parts }
-    requires costs { ForCosts blanks C.name C.parts × IsWhole C.all C.parts }
+    requires spent { ForSpent blanks C.name C.parts × IsWhole C.all C.parts }
+    requires freed { ForFreed blanks F.name F.parts × IsWhole F.all F.parts }
+    requires epochs { ForEpochs blanks E.name E.parts × IsWhole E.all E.parts }
     requires ready { is_spoiled journal ≡ false }
     requires member { member_of journal ≡ desk.view.member }
     requires len { len_of journal ≡ desk.opening.inputs + desk.view.state.durable }
     requires room { room_of journal ≡ desk.view.member.capacity - used desk.view.state.base (durable_in desk.view.state) }
+    requires epoch { epoch_of journal ≡ desk.view.state.base.epoch }
 {
-    let (hub, tie) = Hub::<A, D, C>::new(desk, blanks);
+    let (hub, tie) = Hub::<A, D, C, F, E>::new(desk, blanks);
     let appenders = appenders(rt, alloc, &hub, load)?;
     let board = Board::<J>::new(alloc, opened, &[], 1)?;
     let mut flusher = Flusher::new(alloc, journal, board, tie);
@@ -278,7 +289,7 @@ fn on_hub<
     let (batches, stood) = join(
         rt,
         || -> u32
-            requires { IsWhole D.all D.parts × IsWhole C.all C.parts }
+            requires { IsWhole D.all D.parts × IsWhole C.all C.parts × IsWhole F.all F.parts × IsWhole E.all E.parts }
         { flush_all(rt, shared, flushing) },
         || append_in_threads(rt, shared, appenders, load.stands),
     );

@@ -23,10 +23,10 @@ pub(crate) struct Seat<J: Naming, A: Node> {
 }
 
 /// A seat for each of so many doors, or `None` where memory or a place is wanting.
-pub(crate) fn take_seats<J: Naming, A: Node, D: Whole, C: Whole, R: Wait>(
+pub(crate) fn take_seats<J: Naming, A: Node, D: Whole, C: Whole, F: Whole, E: Whole, R: Wait>(
     rt: &R,
     alloc: Global,
-    hub: &Hub<A, D, C>,
+    hub: &Hub<A, D, C, F, E>,
     board: &Board<J>,
     count: u32,
 ) -> Option<Vec<Seat<J, A>>> {
@@ -41,9 +41,9 @@ pub(crate) fn take_seats<J: Naming, A: Node, D: Whole, C: Whole, R: Wait>(
 }
 
 /// Sends all that the successor has not credited durably: before the node takes its first input of a run.
-pub(crate) fn send_window<A: Node, D: Whole, C: Whole, R: Wait>(
+pub(crate) fn send_window<A: Node, D: Whole, C: Whole, F: Whole, E: Whole, R: Wait>(
     rt: &R,
-    hub: &Hub<A, D, C>,
+    hub: &Hub<A, D, C, F, E>,
     links: &Links<'_>,
 ) {
     let Ok(window) = hub.window(rt) else {
@@ -55,9 +55,9 @@ pub(crate) fn send_window<A: Node, D: Whole, C: Whole, R: Wait>(
 }
 
 /// Sends again what the successor may miss, if anything.
-fn send_what_may_miss<A: Node, D: Whole, C: Whole, R: Wait + Clock>(
+fn send_what_may_miss<A: Node, D: Whole, C: Whole, F: Whole, E: Whole, R: Wait + Clock>(
     rt: &R,
-    hub: &Hub<A, D, C>,
+    hub: &Hub<A, D, C, F, E>,
     links: &Links<'_>,
 ) {
     if !links.may_have_lost(rt) {
@@ -123,10 +123,19 @@ fn serve_client<S: Service, R: Wait + Clock>(
 
 /// Serves a door: one session after the other, while there are some left. The last door of the node says that all are
 /// done. Where the ring does not start, nothing is served.
-pub(crate) fn serve_door<'a, J: Naming, A: Node, D: Whole, C: Whole, R: Wait + Clock>(
+pub(crate) fn serve_door<
+    'a,
+    J: Naming,
+    A: Node,
+    D: Whole,
+    C: Whole,
+    F: Whole,
+    E: Whole,
+    R: Wait + Clock,
+>(
     rt: &'a R,
     alloc: Global,
-    hub: &'a Hub<A, D, C>,
+    hub: &'a Hub<A, D, C, F, E>,
     seat: Seat<J, A>,
     front: &Front,
     links: &Links<'_>,

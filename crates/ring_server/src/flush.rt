@@ -12,13 +12,22 @@ use std::time::{Clock, Duration};
 
 /// Flushes until the hub is closed and nothing waits, and sends what that releases. Where a growth is refused it tries
 /// again; whatever else is refused fails the node, which is told, so that nobody waits for ever. Whether it came to its end.
-pub(crate) fn flush_all<V: Device, J: Naming, A: Node, D: Whole, C: Whole, R: Wait + Clock>(
+pub(crate) fn flush_all<
+    V: Device,
+    J: Naming,
+    A: Node,
+    D: Whole,
+    C: Whole,
+    F: Whole,
+    E: Whole,
+    R: Wait + Clock,
+>(
     rt: &R,
-    hub: &Hub<A, D, C>,
-    flusher: &mut Flusher<V, J, A, D, C>,
+    hub: &Hub<A, D, C, F, E>,
+    flusher: &mut Flusher<V, J, A, D, C, F, E>,
     links: &Links<'_>,
 ) -> bool
-    requires { IsWhole D.all D.parts × IsWhole C.all C.parts }
+    requires { IsWhole D.all D.parts × IsWhole C.all C.parts × IsWhole F.all F.parts × IsWhole E.all E.parts }
 {
     for _ in rt.forever() {
         match flusher.flush_round(rt, hub, &mut ()) {

@@ -25,10 +25,10 @@ struct Intake<A: Node> {
 
 /// Takes packets until the letterbox is closed and empty. What is not taken, for want of memory or since the node has
 /// failed, is lost, and comes again with the sender's window. No ticket is left open.
-pub(crate) fn take_all<A: Node, D: Whole, C: Whole, R: Wait + Clock>(
+pub(crate) fn take_all<A: Node, D: Whole, C: Whole, F: Whole, E: Whole, R: Wait + Clock>(
     rt: &R,
     alloc: Global,
-    hub: &Hub<A, D, C>,
+    hub: &Hub<A, D, C, F, E>,
     share: Share<A>,
     inbox: &Receiver<Packet>,
     links: &Links<'_>,
@@ -60,9 +60,9 @@ pub(crate) fn take_all<A: Node, D: Whole, C: Whole, R: Wait + Clock>(
 }
 
 /// Takes what waits in the letterbox, as much as fits a batch, and tells of the credits that are due.
-fn take_waiting<A: Node, D: Whole, C: Whole, R: Wait>(
+fn take_waiting<A: Node, D: Whole, C: Whole, F: Whole, E: Whole, R: Wait>(
     rt: &R,
-    hub: &Hub<A, D, C>,
+    hub: &Hub<A, D, C, F, E>,
     intake: &mut Intake<A>,
     inbox: &Receiver<Packet>,
     links: &Links<'_>,
@@ -84,9 +84,9 @@ fn take_waiting<A: Node, D: Whole, C: Whole, R: Wait>(
 }
 
 /// Has the node take a message, or holds a credit back.
-fn take<A: Node, D: Whole, C: Whole, R: Wait>(
+fn take<A: Node, D: Whole, C: Whole, F: Whole, E: Whole, R: Wait>(
     rt: &R,
-    hub: &Hub<A, D, C>,
+    hub: &Hub<A, D, C, F, E>,
     intake: &mut Intake<A>,
     packet: Packet,
     links: &Links<'_>,
@@ -105,7 +105,11 @@ fn take<A: Node, D: Whole, C: Whole, R: Wait>(
 }
 
 /// Tells the node of the credits that are held back, where there are some.
-fn tell<A: Node, D: Whole, C: Whole, R: Wait>(rt: &R, hub: &Hub<A, D, C>, intake: &mut Intake<A>) {
+fn tell<A: Node, D: Whole, C: Whole, F: Whole, E: Whole, R: Wait>(
+    rt: &R,
+    hub: &Hub<A, D, C, F, E>,
+    intake: &mut Intake<A>,
+) {
     if let Some(upto) = intake.credits.held() {
         if submit(rt, hub, intake, Request::Acked(upto)) {
             intake.credits.tell(upto);
@@ -114,9 +118,9 @@ fn tell<A: Node, D: Whole, C: Whole, R: Wait>(rt: &R, hub: &Hub<A, D, C>, intake
 }
 
 /// Asks the node, and keeps the ticket. Whether there is one.
-fn submit<A: Node, D: Whole, C: Whole, R: Wait>(
+fn submit<A: Node, D: Whole, C: Whole, F: Whole, E: Whole, R: Wait>(
     rt: &R,
-    hub: &Hub<A, D, C>,
+    hub: &Hub<A, D, C, F, E>,
     intake: &mut Intake<A>,
     request: Request,
 ) -> bool {
@@ -133,9 +137,9 @@ fn submit<A: Node, D: Whole, C: Whole, R: Wait>(
 }
 
 /// Waits for the replies. The last one rests on all inputs before it, so there is one wait for all of them.
-fn release_all<A: Node, D: Whole, C: Whole, R: Wait>(
+fn release_all<A: Node, D: Whole, C: Whole, F: Whole, E: Whole, R: Wait>(
     rt: &R,
-    hub: &Hub<A, D, C>,
+    hub: &Hub<A, D, C, F, E>,
     tickets: &mut Vec<Ticket>,
     links: &Links<'_>,
 )
@@ -147,9 +151,9 @@ fn release_all<A: Node, D: Whole, C: Whole, R: Wait>(
 }
 
 /// Waits for the reply. A message that was taken before is answered with a credit again.
-fn release<A: Node, D: Whole, C: Whole, R: Wait>(
+fn release<A: Node, D: Whole, C: Whole, F: Whole, E: Whole, R: Wait>(
     rt: &R,
-    hub: &Hub<A, D, C>,
+    hub: &Hub<A, D, C, F, E>,
     ticket: Ticket,
     links: &Links<'_>,
 ) {

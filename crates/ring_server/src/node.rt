@@ -1,7 +1,7 @@
 //! One node in its threads: its flusher, its inbox and its doors, and its clerk where it may be asked.
 ghost use Rattle.std.specs.Prelude.{◌≡◌, ◌+◌, ◌-◌, ◌≤◌, false, length, None};
 ghost use denote.Param.Send.{IsSend};
-ghost use Rattle.commit_hub.specs.Pages.{places_of, ForAccepted, ForDurable, ForCosts, IsWhole};
+ghost use Rattle.commit_hub.specs.Pages.{places_of, ForAccepted, ForDurable, ForSpent, ForFreed, ForEpochs, IsWhole};
 
 use crate::clerk::{Clerk, serve_clerk, take_clerk};
 use crate::door::{Front, Seat, send_window, serve_door, take_seats};
@@ -45,18 +45,21 @@ pub(crate) fn serve_node<
     A: Node + Send + Sync,
     D: Whole + Send + Sync,
     C: Whole + Send + Sync,
+    F: Whole + Send + Sync,
+    E: Whole + Send + Sync,
     V: Device + Send + Drop,
     R: Threads + Wait + Clock + Sync,
 >(rt: &R, site: Site<V>, shared: &Shared) -> Option<Shown>
     requires member { site.opened.desk.view.member ≡ A.member }
     requires opening { site.opened.desk.opening ≡ A.opening }
-    requires base { site.opened.desk.view.state.base ≡ A.base }
     requires none { site.opened.desk.view.state.checkpoint ≡ None }
     requires opened { site.opened.desk.opening.inputs + length site.opened.desk.view.state.inputs ≡ A.opened }
     requires history { site.history ≡ J.book }
     requires accepted { ForAccepted site.blanks A.name A.parts }
     requires durable { ForDurable site.blanks D.name D.parts × IsWhole D.all D.parts }
-    requires costs { ForCosts site.blanks C.name C.parts × IsWhole C.all C.parts }
+    requires spent { ForSpent site.blanks C.name C.parts × IsWhole C.all C.parts }
+    requires freed { ForFreed site.blanks F.name F.parts × IsWhole F.all F.parts }
+    requires epochs { ForEpochs site.blanks E.name E.parts × IsWhole E.all E.parts }
 {
     let Site {
         alloc,
@@ -94,7 +97,7 @@ pub(crate) fn serve_node<
         latch.tell(rt, Err(RunFault::Memory(AllocError)));
         return None;
     };
-    let (hub, tie) = Hub::<A, D, C>::new(desk, blanks);
+    let (hub, tie) = Hub::<A, D, C, F, E>::new(desk, blanks);
     let (share, seats) = (
         hub.enter(rt),
         take_seats(rt, alloc, &hub, &board, doors.count),
@@ -151,10 +154,10 @@ fn reserve<A: Node>(
 
 /// Runs the inbox once all are let go, and closes the hub behind it and dismisses the clerk: the doors are done by then.
 /// Where the ring does not start, nothing is taken.
-fn serve_inbox<A: Node, D: Whole, C: Whole, R: Wait + Clock>(
+fn serve_inbox<A: Node, D: Whole, C: Whole, F: Whole, E: Whole, R: Wait + Clock>(
     rt: &R,
     alloc: Global,
-    hub: &Hub<A, D, C>,
+    hub: &Hub<A, D, C, F, E>,
     share: Share<A>,
     inbox: &Receiver<Packet>,
     links: &Links<'_>,
@@ -177,18 +180,20 @@ fn run_threads<
     A: Node + Send + Sync,
     D: Whole + Send + Sync,
     C: Whole + Send + Sync,
+    F: Whole + Send + Sync,
+    E: Whole + Send + Sync,
     V: Device,
     R: Threads + Wait + Clock + Sync,
 >(
     rt: &R,
     alloc: Global,
-    hub: &Hub<A, D, C>,
-    flusher: &mut Flusher<V, J, A, D, C>,
+    hub: &Hub<A, D, C, F, E>,
+    flusher: &mut Flusher<V, J, A, D, C, F, E>,
     ends: Ends<J, A>,
     links: &Links<'_>,
     latch: &StartLatch,
 ) -> Option<Vec<Share<A>>>
-    requires { IsWhole D.all D.parts × IsWhole C.all C.parts }
+    requires { IsWhole D.all D.parts × IsWhole C.all C.parts × IsWhole F.all F.parts × IsWhole E.all E.parts }
 {
     let Ends {
         inbox,
@@ -205,7 +210,8 @@ fn run_threads<
         scope_env(),
         rt,
         |scope|
-            requires { IsSend J.row × IsSend A.row × IsSend D.row × IsSend C.row × IsWhole D.all D.parts × IsWhole C.all C.parts }
+            requires { IsSend J.row × IsSend A.row × IsSend D.row × IsSend C.row × IsSend F.row × IsSend E.row
+                × IsWhole D.all D.parts × IsWhole C.all C.parts × IsWhole F.all F.parts × IsWhole E.all E.parts }
         {
             let mut handles = Vec::new(alloc);
             let mut shares = Vec::new(alloc);

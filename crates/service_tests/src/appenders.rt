@@ -3,8 +3,8 @@ ghost use Rattle.std.specs.Prelude.{◌≡◌, ◌+◌, ◌-◌, false, length, 
 ghost use Rattle.ring_records.specs.Admission.{used};
 ghost use Rattle.ring_records.specs.Snapshot.{IsSound};
 ghost use Rattle.ring_records.specs.States.{durable_in};
-ghost use Rattle.gated_journal.specs.Journal.{member_of, len_of, room_of, is_spoiled};
-ghost use Rattle.commit_hub.specs.Pages.{places_of, ForAccepted, ForDurable, ForCosts, IsWhole};
+ghost use Rattle.gated_journal.specs.Journal.{member_of, len_of, room_of, epoch_of, is_spoiled};
+ghost use Rattle.commit_hub.specs.Pages.{places_of, ForAccepted, ForDurable, ForSpent, ForFreed, ForEpochs, IsWhole};
 
 use crate::rounds::flush_all;
 use crate::rows::{empty_device, new_node, node, reply, request};
@@ -28,9 +28,9 @@ use std::time::Clock;
 use test_rows::{Ask, Note, Op, Say};
 
 /// Submits, tells so if it is to, and waits for the reply. A ticket that is refused is forfeited.
-fn append<A: Node, D: Whole, C: Whole, R: Wait>(
+fn append<A: Node, D: Whole, C: Whole, F: Whole, E: Whole, R: Wait>(
     rt: &R,
-    hub: &Hub<A, D, C>,
+    hub: &Hub<A, D, C, F, E>,
     share: &mut Share<A>,
     question: &Request,
     accepted: Option<&AtomicBool>,
@@ -71,6 +71,8 @@ fn play<
     A: Node + Send + Sync,
     D: Whole + Send + Sync,
     C: Whole + Send + Sync,
+    F: Whole + Send + Sync,
+    E: Whole + Send + Sync,
     R: Threads + Wait + Clock + Abort + Sync,
 >(
     rt: &R,
@@ -84,21 +86,23 @@ fn play<
 ) -> Outcome<V>
     requires member { desk.view.member ≡ A.member }
     requires opening { desk.opening ≡ A.opening }
-    requires base { desk.view.state.base ≡ A.base }
     requires none { desk.view.state.checkpoint ≡ None }
     requires opened { desk.opening.inputs + length desk.view.state.inputs ≡ A.opened }
     requires history { opened ≡ J.book }
     requires accepted { ForAccepted blanks A.name A.parts }
     requires durable { ForDurable blanks D.name D.parts × IsWhole D.all D.parts }
-    requires costs { ForCosts blanks C.name C.parts × IsWhole C.all C.parts }
+    requires spent { ForSpent blanks C.name C.parts × IsWhole C.all C.parts }
+    requires freed { ForFreed blanks F.name F.parts × IsWhole F.all F.parts }
+    requires epochs { ForEpochs blanks E.name E.parts × IsWhole E.all E.parts }
     requires places { places_of blanks ≡ 2 }
     requires ready { is_spoiled journal ≡ false }
     requires header { member_of journal ≡ desk.view.member }
     requires len { len_of journal ≡ desk.opening.inputs + desk.view.state.durable }
     requires room { room_of journal ≡ desk.view.member.capacity - used desk.view.state.base (durable_in desk.view.state) }
+    requires epoch { epoch_of journal ≡ desk.view.state.base.epoch }
 {
     let board = Board::<J>::new(alloc, opened, &[], 1).expect(rt, "ample memory");
-    let (hub, tie) = Hub::<A, D, C>::new(desk, blanks);
+    let (hub, tie) = Hub::<A, D, C, F, E>::new(desk, blanks);
     let mut flusher = Flusher::new(alloc, journal, board, tie);
     let mut one = hub.enter(rt).expect(rt, "the first place");
     let mut two = hub.enter(rt).expect(rt, "the second place");
@@ -107,7 +111,7 @@ fn play<
     let ((), (first, second)) = join(
         rt,
         || -> ()
-            requires { IsWhole D.all D.parts × IsWhole C.all C.parts }
+            requires { IsWhole D.all D.parts × IsWhole C.all C.parts × IsWhole F.all F.parts × IsWhole E.all E.parts }
         { flush_all(rt, shared, flushing, &mut (), &flags.closing) },
         || {
             let both = join(
@@ -200,7 +204,7 @@ fn play_on<V: Device + Drop + Send, R: Threads + Wait + Clock + Abort + AllocGlo
     ];
     let blanks = Blanks::new(2);
     let opened = Opened::new();
-    play::<V, Brand, Brand, Brand, Brand, R>(
+    play::<V, Brand, Brand, Brand, Brand, Brand, Brand, R>(
         rt,
         rt.alloc(),
         flags,

@@ -2,8 +2,8 @@
 ghost use Rattle.std.specs.Prelude.{◌≡◌, ◌+◌, ◌-◌, false, length, None};
 ghost use Rattle.ring_records.specs.Admission.{used};
 ghost use Rattle.ring_records.specs.States.{durable_in};
-ghost use Rattle.gated_journal.specs.Journal.{member_of, len_of, room_of, is_spoiled};
-ghost use Rattle.commit_hub.specs.Pages.{ForAccepted, ForDurable, ForCosts, IsWhole};
+ghost use Rattle.gated_journal.specs.Journal.{member_of, len_of, room_of, epoch_of, is_spoiled};
+ghost use Rattle.commit_hub.specs.Pages.{ForAccepted, ForDurable, ForSpent, ForFreed, ForEpochs, IsWhole};
 
 use crate::rounds::{elected, flush_all, reads};
 use crate::rows::{Latest, empty_device, latest, new_node, reply, request};
@@ -66,9 +66,9 @@ struct Seen {
 }
 
 /// Submits, and waits for the reply.
-fn append<A: Node, D: Whole, C: Whole, R: Wait + Abort>(
+fn append<A: Node, D: Whole, C: Whole, F: Whole, E: Whole, R: Wait + Abort>(
     rt: &R,
-    hub: &Hub<A, D, C>,
+    hub: &Hub<A, D, C, F, E>,
     share: &mut Share<A>,
     question: &Request,
 ) -> Reply {
@@ -100,6 +100,8 @@ fn play<
     A: Node + Send + Sync,
     D: Whole + Send + Sync,
     C: Whole + Send + Sync,
+    F: Whole + Send + Sync,
+    E: Whole + Send + Sync,
     R: Threads + Wait + Clock + Abort + Sync,
 >(
     rt: &R,
@@ -113,21 +115,23 @@ fn play<
 ) -> Seen
     requires member { desk.view.member ≡ A.member }
     requires opening { desk.opening ≡ A.opening }
-    requires base { desk.view.state.base ≡ A.base }
     requires none { desk.view.state.checkpoint ≡ None }
     requires opened { desk.opening.inputs + length desk.view.state.inputs ≡ A.opened }
     requires history { opened ≡ J.book }
     requires accepted { ForAccepted blanks A.name A.parts }
     requires durable { ForDurable blanks D.name D.parts × IsWhole D.all D.parts }
-    requires costs { ForCosts blanks C.name C.parts × IsWhole C.all C.parts }
+    requires spent { ForSpent blanks C.name C.parts × IsWhole C.all C.parts }
+    requires freed { ForFreed blanks F.name F.parts × IsWhole F.all F.parts }
+    requires epochs { ForEpochs blanks E.name E.parts × IsWhole E.all E.parts }
     requires ready { is_spoiled journal ≡ false }
     requires header { member_of journal ≡ desk.view.member }
     requires len { len_of journal ≡ desk.opening.inputs + desk.view.state.durable }
     requires room { room_of journal ≡ desk.view.member.capacity - used desk.view.state.base (durable_in desk.view.state) }
+    requires epoch { epoch_of journal ≡ desk.view.state.base.epoch }
 {
     let board = Board::<J>::new(alloc, opened, &[], 1).expect(rt, "ample memory");
     let mut reader = board.reader().expect(rt, "a place");
-    let (hub, tie) = Hub::<A, D, C>::new(desk, blanks);
+    let (hub, tie) = Hub::<A, D, C, F, E>::new(desk, blanks);
     let mut flusher = Flusher::new(alloc, journal, board, tie);
     let mut share = hub.enter(rt).expect(rt, "a place");
     let shared = &hub;
@@ -136,7 +140,7 @@ fn play<
     let ((), (replies, (red, blue))) = join(
         rt,
         || -> ()
-            requires { IsWhole D.all D.parts × IsWhole C.all C.parts }
+            requires { IsWhole D.all D.parts × IsWhole C.all C.parts × IsWhole F.all F.parts × IsWhole E.all E.parts }
         {
             let mut gate = HeldGate { rt, flags };
             flush_all(rt, shared, flushing, &mut gate, &flags.closing)
@@ -180,7 +184,7 @@ fn a_reader_reads_while_a_round_is_held(rt: HostRuntime) -> Result<(), Fail> {
     ];
     let (desk, journal) = new_node(&rt, empty_device(&rt));
     let (opened, blanks) = (Opened::new(), Blanks::new(1));
-    let seen = play::<_, Brand, Brand, Brand, Brand, _>(
+    let seen = play::<_, Brand, Brand, Brand, Brand, Brand, Brand, _>(
         &rt,
         rt.alloc(),
         &flags,

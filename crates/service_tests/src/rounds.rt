@@ -2,8 +2,8 @@
 ghost use Rattle.std.specs.Prelude.{◌≡◌, ◌+◌, ◌-◌, false, length, None};
 ghost use Rattle.ring_records.specs.Admission.{used};
 ghost use Rattle.ring_records.specs.States.{durable_in};
-ghost use Rattle.gated_journal.specs.Journal.{member_of, len_of, room_of, is_spoiled};
-ghost use Rattle.commit_hub.specs.Pages.{ForAccepted, ForDurable, ForCosts, IsWhole};
+ghost use Rattle.gated_journal.specs.Journal.{member_of, len_of, room_of, epoch_of, is_spoiled};
+ghost use Rattle.commit_hub.specs.Pages.{ForAccepted, ForDurable, ForSpent, ForFreed, ForEpochs, IsWhole};
 
 use crate::rows::{Latest, empty_device, group, key, latest, leader, node, request};
 use commit_hub::{Blanks, Hub, Node, Share, Whole};
@@ -23,14 +23,24 @@ use test_rows::{Ask, Note};
 
 /// Flushes until the hub is closed, which is told before, and nothing waits, or the device fails. Where a growth is
 /// refused it goes on.
-pub fn flush_all<V: Device, J: Naming, A: Node, D: Whole, C: Whole, R: Wait + Abort, G: Gate>(
+pub fn flush_all<
+    V: Device,
+    J: Naming,
+    A: Node,
+    D: Whole,
+    C: Whole,
+    F: Whole,
+    E: Whole,
+    R: Wait + Abort,
+    G: Gate,
+>(
     rt: &R,
-    hub: &Hub<A, D, C>,
-    flusher: &mut Flusher<V, J, A, D, C>,
+    hub: &Hub<A, D, C, F, E>,
+    flusher: &mut Flusher<V, J, A, D, C, F, E>,
     gate: &mut G,
     closing: &AtomicBool,
 )
-    requires { IsWhole D.all D.parts × IsWhole C.all C.parts }
+    requires { IsWhole D.all D.parts × IsWhole C.all C.parts × IsWhole F.all F.parts × IsWhole E.all E.parts }
 {
     for _ in rt.forever() {
         match flusher.flush_round(rt, hub, gate) {
@@ -77,9 +87,9 @@ enum Case {
 }
 
 /// A ticket for the request. Where a growth is refused it is asked again.
-fn submits<A: Node, D: Whole, C: Whole, R: Wait + Abort>(
+fn submits<A: Node, D: Whole, C: Whole, F: Whole, E: Whole, R: Wait + Abort>(
     rt: &R,
-    hub: &Hub<A, D, C>,
+    hub: &Hub<A, D, C, F, E>,
     share: &mut Share<A>,
     ask: Ask,
 ) -> Ticket {
@@ -95,9 +105,9 @@ fn submits<A: Node, D: Whole, C: Whole, R: Wait + Abort>(
     }
 }
 
-fn redeems<A: Node, D: Whole, C: Whole, R: Wait + Abort>(
+fn redeems<A: Node, D: Whole, C: Whole, F: Whole, E: Whole, R: Wait + Abort>(
     rt: &R,
-    hub: &Hub<A, D, C>,
+    hub: &Hub<A, D, C, F, E>,
     ticket: Ticket,
 ) {
     match hub.redeem_wait(rt, ticket) {
@@ -108,13 +118,23 @@ fn redeems<A: Node, D: Whole, C: Whole, R: Wait + Abort>(
 
 /// How many inputs a round makes durable, and how many leaders they make known. Where a growth is refused it is tried
 /// again.
-fn rounds<V: Device, J: Naming, A: Node, D: Whole, C: Whole, R: Wait + Abort, G: Gate>(
+fn rounds<
+    V: Device,
+    J: Naming,
+    A: Node,
+    D: Whole,
+    C: Whole,
+    F: Whole,
+    E: Whole,
+    R: Wait + Abort,
+    G: Gate,
+>(
     rt: &R,
-    hub: &Hub<A, D, C>,
-    flusher: &mut Flusher<V, J, A, D, C>,
+    hub: &Hub<A, D, C, F, E>,
+    flusher: &mut Flusher<V, J, A, D, C, F, E>,
     gate: &mut G,
 ) -> (u32, usize)
-    requires { IsWhole D.all D.parts × IsWhole C.all C.parts }
+    requires { IsWhole D.all D.parts × IsWhole C.all C.parts × IsWhole F.all F.parts × IsWhole E.all E.parts }
 {
     let mut landed = flusher.flush_round(rt, hub, gate);
     if matches!(landed, Err(Refusal::OutOfMemory)) {
@@ -127,13 +147,22 @@ fn rounds<V: Device, J: Naming, A: Node, D: Whole, C: Whole, R: Wait + Abort, G:
     }
 }
 
-fn publishes<V: Device, J: Naming, A: Node, D: Whole, C: Whole, R: Wait + Abort>(
+fn publishes<
+    V: Device,
+    J: Naming,
+    A: Node,
+    D: Whole,
+    C: Whole,
+    F: Whole,
+    E: Whole,
+    R: Wait + Abort,
+>(
     rt: &R,
-    hub: &Hub<A, D, C>,
-    flusher: &mut Flusher<V, J, A, D, C>,
+    hub: &Hub<A, D, C, F, E>,
+    flusher: &mut Flusher<V, J, A, D, C, F, E>,
     reader: &mut BoardReader<J>,
 )
-    requires { IsWhole D.all D.parts × IsWhole C.all C.parts }
+    requires { IsWhole D.all D.parts × IsWhole C.all C.parts × IsWhole F.all F.parts × IsWhole E.all E.parts }
 {
     let mut gate = Noted { first: 9, count: 0 };
     let mut share = hub.enter(rt).expect(rt, "a place");
@@ -156,13 +185,13 @@ fn publishes<V: Device, J: Naming, A: Node, D: Whole, C: Whole, R: Wait + Abort>
     assert!(rt; gate.first == 2);
 }
 
-fn fails<V: Device, J: Naming, A: Node, D: Whole, C: Whole, R: Wait + Abort>(
+fn fails<V: Device, J: Naming, A: Node, D: Whole, C: Whole, F: Whole, E: Whole, R: Wait + Abort>(
     rt: &R,
-    hub: &Hub<A, D, C>,
-    flusher: &mut Flusher<V, J, A, D, C>,
+    hub: &Hub<A, D, C, F, E>,
+    flusher: &mut Flusher<V, J, A, D, C, F, E>,
     reader: &mut BoardReader<J>,
 )
-    requires { IsWhole D.all D.parts × IsWhole C.all C.parts }
+    requires { IsWhole D.all D.parts × IsWhole C.all C.parts × IsWhole F.all F.parts × IsWhole E.all E.parts }
 {
     let mut share = hub.enter(rt).expect(rt, "a place");
     let ticket = submits(rt, hub, &mut share, elected(0, "red", 5));
@@ -187,27 +216,27 @@ fn fails<V: Device, J: Naming, A: Node, D: Whole, C: Whole, R: Wait + Abort>(
 const LED: [(u64, &str, u32); 3] = [(0, "red", 5), (1, "blue", 1), (2, "green", 7)];
 
 /// A round that makes a leader known.
-fn leads<V: Device, J: Naming, A: Node, D: Whole, C: Whole, R: Wait + Abort>(
+fn leads<V: Device, J: Naming, A: Node, D: Whole, C: Whole, F: Whole, E: Whole, R: Wait + Abort>(
     rt: &R,
-    hub: &Hub<A, D, C>,
-    flusher: &mut Flusher<V, J, A, D, C>,
+    hub: &Hub<A, D, C, F, E>,
+    flusher: &mut Flusher<V, J, A, D, C, F, E>,
     share: &mut Share<A>,
     ask: Ask,
 )
-    requires { IsWhole D.all D.parts × IsWhole C.all C.parts }
+    requires { IsWhole D.all D.parts × IsWhole C.all C.parts × IsWhole F.all F.parts × IsWhole E.all E.parts }
 {
     let ticket = submits(rt, hub, share, ask);
     assert!(rt; rounds(rt, hub, flusher, &mut ()) == (1, 1));
     redeems(rt, hub, ticket);
 }
 
-fn grows<V: Device, J: Naming, A: Node, D: Whole, C: Whole, R: Wait + Abort>(
+fn grows<V: Device, J: Naming, A: Node, D: Whole, C: Whole, F: Whole, E: Whole, R: Wait + Abort>(
     rt: &R,
-    hub: &Hub<A, D, C>,
-    flusher: &mut Flusher<V, J, A, D, C>,
+    hub: &Hub<A, D, C, F, E>,
+    flusher: &mut Flusher<V, J, A, D, C, F, E>,
     reader: &mut BoardReader<J>,
 )
-    requires { IsWhole D.all D.parts × IsWhole C.all C.parts }
+    requires { IsWhole D.all D.parts × IsWhole C.all C.parts × IsWhole F.all F.parts × IsWhole E.all E.parts }
 {
     let mut share = hub.enter(rt).expect(rt, "a place");
     for (no, group, term) in LED {
@@ -231,6 +260,8 @@ fn on_flusher<
     A: Node,
     D: Whole,
     C: Whole,
+    F: Whole,
+    E: Whole,
     R: Wait + Abort + AllocGlobal,
 >(
     rt: &R,
@@ -242,21 +273,23 @@ fn on_flusher<
 ) -> Result<(u64, bool, usize), Refusal>
     requires member { desk.view.member ≡ A.member }
     requires opening { desk.opening ≡ A.opening }
-    requires base { desk.view.state.base ≡ A.base }
     requires none { desk.view.state.checkpoint ≡ None }
     requires opened { desk.opening.inputs + length desk.view.state.inputs ≡ A.opened }
     requires history { opened ≡ J.book }
     requires accepted { ForAccepted blanks A.name A.parts }
     requires durable { ForDurable blanks D.name D.parts × IsWhole D.all D.parts }
-    requires costs { ForCosts blanks C.name C.parts × IsWhole C.all C.parts }
+    requires spent { ForSpent blanks C.name C.parts × IsWhole C.all C.parts }
+    requires freed { ForFreed blanks F.name F.parts × IsWhole F.all F.parts }
+    requires epochs { ForEpochs blanks E.name E.parts × IsWhole E.all E.parts }
     requires ready { is_spoiled journal ≡ false }
     requires header { member_of journal ≡ desk.view.member }
     requires len { len_of journal ≡ desk.opening.inputs + desk.view.state.durable }
     requires room { room_of journal ≡ desk.view.member.capacity - used desk.view.state.base (durable_in desk.view.state) }
+    requires epoch { epoch_of journal ≡ desk.view.state.base.epoch }
 {
     let board = Board::<J>::new(rt.alloc(), opened, &[], 1)?;
     let mut reader = board.reader().expect(rt, "a place");
-    let (hub, tie) = Hub::<A, D, C>::new(desk, blanks);
+    let (hub, tie) = Hub::<A, D, C, F, E>::new(desk, blanks);
     let mut flusher = Flusher::new(rt.alloc(), journal, board, tie);
     match case {
         Case::Publishes => publishes(rt, &hub, &mut flusher, &mut reader),
@@ -279,7 +312,9 @@ fn plays<V: Device + Drop, R: Wait + Abort + AllocGlobal>(
         Ok(made) => {
             let (desk, journal) = made.split();
             let (opened, blanks) = (Opened::new(), Blanks::new(1));
-            on_flusher::<V, Brand, Brand, Brand, Brand, R>(rt, desk, journal, opened, blanks, case)
+            on_flusher::<V, Brand, Brand, Brand, Brand, Brand, Brand, R>(
+                rt, desk, journal, opened, blanks, case,
+            )
         }
         Err((_device, refusal)) => Err(refusal),
     }

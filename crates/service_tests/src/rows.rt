@@ -2,7 +2,7 @@
 ghost use Rattle.std.specs.Prelude.{◌≡◌, ◌+◌, ◌-◌, false, None};
 ghost use Rattle.ring_records.specs.Admission.{used};
 ghost use Rattle.ring_records.specs.States.{durable_in};
-ghost use Rattle.gated_journal.specs.Journal.{member_of, len_of, room_of, is_spoiled};
+ghost use Rattle.gated_journal.specs.Journal.{member_of, len_of, room_of, epoch_of, is_spoiled};
 
 use disk_model::{Device, MemDevice};
 use gated_journal::{Journal, device_size};
@@ -65,6 +65,7 @@ pub fn new_node<V: Device + Drop, R: Abort + AllocGlobal>(rt: &R, device: V) -> 
     ensures none { result.0.view.state.checkpoint ≡ None }
     ensures len { len_of result.1 ≡ result.0.opening.inputs + result.0.view.state.durable }
     ensures room { room_of result.1 ≡ result.0.view.member.capacity - used result.0.view.state.base (durable_in result.0.view.state) }
+    ensures epoch { epoch_of result.1 ≡ result.0.view.state.base.epoch }
 {
     match Node::create(rt.alloc(), device, node(rt, 1), 3, 4096, 0) {
         Ok(made) => made.split(),

@@ -2,8 +2,8 @@
 ghost use Rattle.std.specs.Prelude.{◌≡◌, ◌+◌, ◌-◌, false, length, None};
 ghost use Rattle.ring_records.specs.Admission.{used};
 ghost use Rattle.ring_records.specs.States.{durable_in};
-ghost use Rattle.gated_journal.specs.Journal.{member_of, len_of, room_of, is_spoiled};
-ghost use Rattle.commit_hub.specs.Pages.{places_of, ForAccepted, ForDurable, ForCosts, IsWhole};
+ghost use Rattle.gated_journal.specs.Journal.{member_of, len_of, room_of, epoch_of, is_spoiled};
+ghost use Rattle.commit_hub.specs.Pages.{places_of, ForAccepted, ForDurable, ForSpent, ForFreed, ForEpochs, IsWhole};
 
 use crate::rounds::flush_all;
 use crate::rows::{bid, empty_device, group, key, new_node, reply};
@@ -38,9 +38,9 @@ struct Stood {
 }
 
 /// Stands twice with the same bid, and reads.
-fn stand_twice<J: Naming, A: Node, D: Whole, C: Whole, R: Wait + Abort>(
+fn stand_twice<J: Naming, A: Node, D: Whole, C: Whole, F: Whole, E: Whole, R: Wait + Abort>(
     rt: &R,
-    hub: &Hub<A, D, C>,
+    hub: &Hub<A, D, C, F, E>,
     share: Share<A>,
     reader: BoardReader<J>,
     name: &str,
@@ -76,27 +76,31 @@ fn play<
     A: Node + Send + Sync,
     D: Whole + Send + Sync,
     C: Whole + Send + Sync,
+    F: Whole + Send + Sync,
+    E: Whole + Send + Sync,
     R: Threads + Wait + Abort + Sync,
 >(rt: &R, alloc: Global, desk: Desk, journal: Journal<V>, opened: Opened, blanks: Blanks) -> Outcome
     requires member { desk.view.member ≡ A.member }
     requires opening { desk.opening ≡ A.opening }
-    requires base { desk.view.state.base ≡ A.base }
     requires none { desk.view.state.checkpoint ≡ None }
     requires opened { desk.opening.inputs + length desk.view.state.inputs ≡ A.opened }
     requires history { opened ≡ J.book }
     requires accepted { ForAccepted blanks A.name A.parts }
     requires durable { ForDurable blanks D.name D.parts × IsWhole D.all D.parts }
-    requires costs { ForCosts blanks C.name C.parts × IsWhole C.all C.parts }
+    requires spent { ForSpent blanks C.name C.parts × IsWhole C.all C.parts }
+    requires freed { ForFreed blanks F.name F.parts × IsWhole F.all F.parts }
+    requires epochs { ForEpochs blanks E.name E.parts × IsWhole E.all E.parts }
     requires places { places_of blanks ≡ 2 }
     requires ready { is_spoiled journal ≡ false }
     requires header { member_of journal ≡ desk.view.member }
     requires len { len_of journal ≡ desk.opening.inputs + desk.view.state.durable }
     requires room { room_of journal ≡ desk.view.member.capacity - used desk.view.state.base (durable_in desk.view.state) }
+    requires epoch { epoch_of journal ≡ desk.view.state.base.epoch }
 {
     let board = Board::<J>::new(alloc, opened, &[], 2).expect(rt, "ample memory");
     let (first, second) = (board.reader(), board.reader());
     let (first, second) = (first.expect(rt, "a place"), second.expect(rt, "a place"));
-    let (hub, tie) = Hub::<A, D, C>::new(desk, blanks);
+    let (hub, tie) = Hub::<A, D, C, F, E>::new(desk, blanks);
     let mut flusher = Flusher::new(alloc, journal, board, tie);
     let one = hub.enter(rt).expect(rt, "the first place");
     let two = hub.enter(rt).expect(rt, "the second place");
@@ -105,7 +109,7 @@ fn play<
     let ((), ((one, red), (two, blue))) = join(
         rt,
         || -> ()
-            requires { IsWhole D.all D.parts × IsWhole C.all C.parts }
+            requires { IsWhole D.all D.parts × IsWhole C.all C.parts × IsWhole F.all F.parts × IsWhole E.all E.parts }
         { flush_all(rt, shared, flushing, &mut (), closes) },
         move || {
             let both = join(
@@ -148,7 +152,7 @@ fn stood_once(rt: &impl Abort, desk: &Desk, seen: &Stood) {
 fn two_services_on_one_hub(rt: HostRuntime) -> Result<(), Fail> {
     let (desk, journal) = new_node(&rt, empty_device(&rt));
     let (opened, blanks) = (Opened::new(), Blanks::new(2));
-    let seen = play::<_, Brand, Brand, Brand, Brand, _>(
+    let seen = play::<_, Brand, Brand, Brand, Brand, Brand, Brand, _>(
         &rt,
         rt.alloc(),
         desk,

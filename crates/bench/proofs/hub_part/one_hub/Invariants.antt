@@ -10,7 +10,6 @@ abbrev pub ghosts-on_hub-A-Node : goal.ghosts-on_hub-A-Node
 ghosts-on_hub-A-Node g a = record {
   member = a.desk.view.member;
   opening = a.desk.opening;
-  base = a.desk.view.state.base;
   opened = a.desk.opening.inputs + length a.desk.view.state.inputs;
 }
 
@@ -21,10 +20,22 @@ abbrev pub ghosts-on_hub-D-Whole : goal.ghosts-on_hub-D-Whole
 ghosts-on_hub-D-Whole g a = record { all = a.blanks.durable.parts }
 
 abbrev pub ghosts-on_hub-C-Ledger : goal.ghosts-on_hub-C-Ledger
-ghosts-on_hub-C-Ledger g a = record { name = a.blanks.costs.name; parts = a.blanks.costs.parts }
+ghosts-on_hub-C-Ledger g a = record { name = a.blanks.spent.name; parts = a.blanks.spent.parts }
 
 abbrev pub ghosts-on_hub-C-Whole : goal.ghosts-on_hub-C-Whole
-ghosts-on_hub-C-Whole g a = record { all = a.blanks.costs.parts }
+ghosts-on_hub-C-Whole g a = record { all = a.blanks.spent.parts }
+
+abbrev pub ghosts-on_hub-F-Ledger : goal.ghosts-on_hub-F-Ledger
+ghosts-on_hub-F-Ledger g a = record { name = a.blanks.freed.name; parts = a.blanks.freed.parts }
+
+abbrev pub ghosts-on_hub-F-Whole : goal.ghosts-on_hub-F-Whole
+ghosts-on_hub-F-Whole g a = record { all = a.blanks.freed.parts }
+
+abbrev pub ghosts-on_hub-E-Ledger : goal.ghosts-on_hub-E-Ledger
+ghosts-on_hub-E-Ledger g a = record { name = a.blanks.epochs.name; parts = a.blanks.epochs.parts }
+
+abbrev pub ghosts-on_hub-E-Whole : goal.ghosts-on_hub-E-Whole
+ghosts-on_hub-E-Whole g a = record { all = a.blanks.epochs.parts }
 
 -- the history of the board is the one that was begun for it
 

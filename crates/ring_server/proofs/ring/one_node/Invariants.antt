@@ -10,7 +10,6 @@ abbrev pub ghosts-serve_node-A-Node : goal.ghosts-serve_node-A-Node
 ghosts-serve_node-A-Node g a = record {
   member = a.site.opened.desk.view.member;
   opening = a.site.opened.desk.opening;
-  base = a.site.opened.desk.view.state.base;
   opened = a.site.opened.desk.opening.inputs + length a.site.opened.desk.view.state.inputs;
 }
 
@@ -21,10 +20,22 @@ abbrev pub ghosts-serve_node-D-Whole : goal.ghosts-serve_node-D-Whole
 ghosts-serve_node-D-Whole g a = record { all = a.site.blanks.durable.parts }
 
 abbrev pub ghosts-serve_node-C-Ledger : goal.ghosts-serve_node-C-Ledger
-ghosts-serve_node-C-Ledger g a = record { name = a.site.blanks.costs.name; parts = a.site.blanks.costs.parts }
+ghosts-serve_node-C-Ledger g a = record { name = a.site.blanks.spent.name; parts = a.site.blanks.spent.parts }
 
 abbrev pub ghosts-serve_node-C-Whole : goal.ghosts-serve_node-C-Whole
-ghosts-serve_node-C-Whole g a = record { all = a.site.blanks.costs.parts }
+ghosts-serve_node-C-Whole g a = record { all = a.site.blanks.spent.parts }
+
+abbrev pub ghosts-serve_node-F-Ledger : goal.ghosts-serve_node-F-Ledger
+ghosts-serve_node-F-Ledger g a = record { name = a.site.blanks.freed.name; parts = a.site.blanks.freed.parts }
+
+abbrev pub ghosts-serve_node-F-Whole : goal.ghosts-serve_node-F-Whole
+ghosts-serve_node-F-Whole g a = record { all = a.site.blanks.freed.parts }
+
+abbrev pub ghosts-serve_node-E-Ledger : goal.ghosts-serve_node-E-Ledger
+ghosts-serve_node-E-Ledger g a = record { name = a.site.blanks.epochs.name; parts = a.site.blanks.epochs.parts }
+
+abbrev pub ghosts-serve_node-E-Whole : goal.ghosts-serve_node-E-Whole
+ghosts-serve_node-E-Whole g a = record { all = a.site.blanks.epochs.parts }
 
 -- the history of the board is the one that was begun for it
 
