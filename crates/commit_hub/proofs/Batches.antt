@@ -1,5 +1,5 @@
 -- A batch that a hub launches, and what it lets the node release.
-use Rattle.std.proofs.Common.{◌≡◌, ℕ, ◌+◌, ◌-◌, ◌≤◌, List, ◌++◌, length, append_assoc, Result, Ok, Err, Option, Some, None, IfOk, IfSome, OnOk, sym, ap, ◌∙◌, subst, arith, length-take}
+use Rattle.std.proofs.Common.{◌≡◌, ℕ, ◌+◌, ◌-◌, ◌≤◌, List, ◌++◌, length, append_assoc, Result, Ok, Err, None, IfOk, sym, ap, ◌∙◌, subst, arith, length-take}
 use Rattle.std.specs.Prelude.{unwrap_or}
 use Rattle.std.proofs.lemmas.List.{length-append}
 use Rattle.ring_records.specs.declared.base.Base.{Base}
@@ -12,8 +12,7 @@ use Rattle.ring_records.specs.Release.{packets, decisions, window}
 use Rattle.ring_records.specs.States.{NodeState, IsNodeState, IsLawfulState, launched_base, durable_in, flown_in, flying_in}
 use Rattle.ring_records.specs.States as states
 use Rattle.ring_records.proofs.Lists.{none≢some}
-use Rattle.gated_journal.specs.declared.batch.Batch.{Batch}
-use Rattle.gated_journal.specs.Batch.{Numbered, numbered, shown}
+use Rattle.gated_journal.specs.Batch.{Numbered, numbered}
 use Rattle.group_commit.specs.declared.landed.Landed.{Landed}
 use Rattle.group_commit.specs.Desk.{DeskKept, launched, landed, seen}
 use Rattle.group_commit.specs.Past.{IsPast, shifted}
@@ -36,18 +35,14 @@ launched_counts s none counts = record {
 }
 
 -- the batch that is launched fits behind the durable inputs
-pub room_left : {E : Type 0} (result : Result (Option Batch) E) (spent freed node first : ℕ) (old new : DeskKept) → old.view.state.checkpoint ≡ None → IsNodeState old.view.state
-    → spent ≡ freed + used old.view.state.base (durable_in old.view.state)
-    → OnOk result (new ≡ record old { view = launched old.view }) → IfOk result (λ some. IfSome some (λ batch. shown batch ≡ numbered node first (flying_in new.view.state)))
-    → IfOk result (λ some. IfSome some (λ batch. used new.view.state.base (flown_in new.view.state) ≤ new.view.member.capacity))
-    → IfOk result (λ some. IfSome some (λ batch. spent + costs_of (shown batch).inputs ≤ freed + old.view.member.capacity))
-room_left (Err e) spent freed node first old new none counts taken next is fits = tt
-room_left (Ok None) spent freed node first old new none counts taken next is fits = tt
-room_left (Ok (Some batch)) spent freed node first old new none counts taken next is fits =
+pub room_fits : (batch : Numbered) (node first : ℕ) (old new : DeskKept) → old.view.state.checkpoint ≡ None → IsNodeState old.view.state
+    → new ≡ record old { view = launched old.view } → batch ≡ numbered node first (flying_in new.view.state) → used new.view.state.base (flown_in new.view.state) ≤ new.view.member.capacity
+    → used old.view.state.base (durable_in old.view.state) + costs_of batch.inputs ≤ old.view.member.capacity
+room_fits batch node first old new none counts next is fits =
     let s = states.launched old.view.state in
-    let same : costs_of (shown batch).inputs ≡ costs_of (flying_in s) = ap costs_of (ap (λ (n : Numbered). n.inputs) is ∙ ap (λ (d : DeskKept). flying_in d.view.state) next) in
+    let same : costs_of batch.inputs ≡ costs_of (flying_in s) = ap costs_of (ap (λ (n : Numbered). n.inputs) is ∙ ap (λ (d : DeskKept). flying_in d.view.state) next) in
     let within : used s.base (flown_in s) ≤ old.view.member.capacity = subst (λ (d : DeskKept). used d.view.state.base (flown_in d.view.state) ≤ d.view.member.capacity) next fits in
-    omega (arith, same, taken, within, flown_costs s (launched_counts old.view.state none counts))
+    omega (arith, same, within, flown_costs s (launched_counts old.view.state none counts))
 
 -- ---- lands
 

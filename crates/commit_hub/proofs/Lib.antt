@@ -2,3 +2,4 @@ pub mod Costs
 pub mod Sums
 pub mod Batches
 pub mod Requests
+pub mod Works

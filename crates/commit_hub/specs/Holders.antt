@@ -40,3 +40,15 @@ module _ {A D C F E : Type 0} {a : node.Ghosts A} {la : ledger.Ghosts A} {d : wh
     pub spent : spent_of new ≡ spent_of old
     pub freed : freed_of new ≡ freed_of old
     pub epoch : epoch_of new ≡ epoch_of old
+
+  -- so many bytes more are taken
+  pub record CountMore (old new : Tie A D C F E a la d c f e) (bytes : ℕ) : Type 0 where
+    pub spent : spent_of new ≡ spent_of old + bytes
+    pub freed : freed_of new ≡ freed_of old
+    pub epoch : epoch_of new ≡ epoch_of old
+
+  -- all that was taken is freed, and a new area takes so many bytes
+  pub record CountAnew (old new : Tie A D C F E a la d c f e) (bytes : ℕ) : Type 0 where
+    pub spent : spent_of new ≡ spent_of old + bytes
+    pub freed : freed_of new ≡ spent_of old
+    pub epoch : epoch_of new ≡ epoch_of old + 1

@@ -3,3 +3,4 @@ pub mod Pages
 pub mod Props
 pub mod Told
 pub mod Totals
+pub mod Works

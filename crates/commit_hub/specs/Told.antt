@@ -1,5 +1,5 @@
 -- What a hub's calls tell without the state under its lock.
-use Rattle.std.specs.Prelude.{ℕ, ◌≡◌, ◌+◌, ◌⊎◌, Bool, true, false, List, ◌++◌, length}
+use Rattle.std.specs.Prelude.{ℕ, ◌≡◌, ◌+◌, ◌⊎◌, Bool, true, false, List, [], ◌++◌, length}
 use Rattle.ring_records.specs.declared.input.Input.{Input}
 use Rattle.ring_records.specs.declared.packet.Packet.{Packet}
 use Rattle.ring_records.specs.declared.refusal.Refusal.{Refusal}
@@ -13,6 +13,7 @@ use Rattle.ring_records.specs.Message.{is_outside}
 use Rattle.ring_records.specs.Release.{packets, decisions, window}
 use Rattle.ring_records.specs.States.{NodeState, IsLawfulState, launched_base, durable_in, shown_in}
 use Rattle.group_commit.specs.declared.landed.Landed.{Landed}
+use Rattle.group_commit.specs.Desk.{is_due}
 use Rattle.group_commit.specs.Past.{IsPast, shifted}
 use Rattle.group_commit.specs.Since.{IsKnownState}
 use Rattle.commit_hub.specs.declared.look.Look.{Look}
@@ -52,15 +53,24 @@ pub record IsWindowBehind (member : Member) (past : List Input) (list : List Pac
 abbrev pub IsWindow : Member → Summary → List Packet → Type 0
 IsWindow member opening list = (past : List Input) → IsPast member opening past → IsWindowBehind member past list
 
--- what is shown of a node in this state, where it takes requests or takes none
-abbrev pub look_of : Member → NodeState → Bool → Look
-look_of member s is_open = record {
+-- what is shown of a node in this state, where a checkpoint is due or not, and it takes requests or takes none
+abbrev pub look_of : Member → NodeState → Bool → Bool → Look
+look_of member s is_due is_open = record {
   shown = shown_in member.node s;
   used = used (launched_base s) s.inputs;
+  epoch = s.base.epoch;
   capacity = member.capacity;
   stands = stands s.inputs;
+  is_due = is_due;
   is_open = is_open;
 }
+
+-- whether a checkpoint is due of a node in this state since its opening: nothing else of its desk says so
+abbrev pub is_due_in : Member → Summary → NodeState → Bool
+is_due_in member opening s = is_due (record {
+  opening = opening;
+  view = record { member = member; run = 0; state = s; tickets = []; issued = 0; closed = false; failed = false };
+})
 
 -- This is what is shown of the node in some state since its opening: how many inputs it has and how many are durable,
 -- those that are summarised among them, and the bytes that are taken. Behind each past that the opening is of the state
@@ -71,6 +81,8 @@ pub record IsLook (member : Member) (opening : Summary) (look : Look) : Type 0 w
   pub inputs : look.shown.inputs ≡ opening.inputs + length state.inputs
   pub durable : look.shown.durable ≡ opening.inputs + state.durable
   pub used_is : look.used ≡ used (launched_base state) state.inputs
+  pub epoch : look.epoch ≡ state.base.epoch
   pub capacity : look.capacity ≡ member.capacity
+  pub due : look.is_due ≡ is_due_in member opening state
   pub lawful : (past : List Input) → IsPast member opening past → IsLawfulState member (shifted past state)
-  pub is : (past : List Input) → IsPast member opening past → look ≡ look_of member (shifted past state) look.is_open
+  pub is : (past : List Input) → IsPast member opening past → look ≡ look_of member (shifted past state) look.is_due look.is_open

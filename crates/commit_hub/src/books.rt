@@ -24,7 +24,7 @@ impl<D: Whole, C: Whole, F: Whole, E: Whole> Books<D, C, F, E> {
     ghost use Rattle.std.specs.Prelude.{None};
     ghost use Rattle.ring_records.specs.Admission.{used};
     ghost use Rattle.ring_records.specs.States.{durable_in};
-    ghost use Rattle.commit_hub.specs.Holders.{durable_of, spent_of, freed_of, epoch_of, CountSame};
+    ghost use Rattle.commit_hub.specs.Holders.{durable_of, CountSame, CountMore, CountAnew};
     ghost use Rattle.commit_hub.specs.Pages.{IsWhole};
     ghost use Rattle.commit_hub.specs.Totals.{IsToldBy, TotalsSame};
 
@@ -109,9 +109,7 @@ impl<D: Whole, C: Whole, F: Whole, E: Whole> Books<D, C, F, E> {
         ensures taken { self.new.taken ≡ self.old.taken + cost }
         ensures epochs { self.new.epochs.total ≡ self.old.epochs.total }
         ensures tie_durable { durable_of tie.new ≡ durable_of tie.old + count }
-        ensures tie_spent { spent_of tie.new ≡ spent_of tie.old + cost }
-        ensures tie_freed { freed_of tie.new ≡ freed_of tie.old }
-        ensures tie_epoch { epoch_of tie.new ≡ epoch_of tie.old }
+        ensures tie { CountMore tie.old tie.new cost }
     {
         let Books {
             durable,
@@ -127,5 +125,42 @@ impl<D: Whole, C: Whole, F: Whole, E: Whole> Books<D, C, F, E> {
         durable.add(mine, count);
         spent.add(paid, cost);
         *taken += cost;
+    }
+
+    /// So many inputs more are durable, in an area of their own, whose snapshot has so many bytes. All that was taken is
+    /// freed.
+    pub(crate) fn add_area<A: Node>(
+        &mut self,
+        tie: &mut Tie<A, D, C, F, E>,
+        count: u64,
+        snapshot: u64,
+    )
+        requires whole { IsWhole D.all D.parts × IsWhole C.all C.parts × IsWhole F.all F.parts × IsWhole E.all E.parts }
+        ensures durable { self.new.durable.total ≡ self.old.durable.total + count }
+        ensures taken { self.new.taken ≡ snapshot }
+        ensures epochs { self.new.epochs.total ≡ self.old.epochs.total + 1 }
+        ensures tie_durable { durable_of tie.new ≡ durable_of tie.old + count }
+        ensures tie { CountAnew tie.old tie.new snapshot }
+    {
+        self.audit(tie);
+        let Books {
+            durable,
+            spent,
+            freed,
+            epochs,
+            taken,
+        } = self;
+        let Tie {
+            durable: mine,
+            spent: paid,
+            freed: back,
+            epochs: reached,
+            of: _,
+        } = tie;
+        durable.add(mine, count);
+        freed.add(back, *taken);
+        spent.add(paid, snapshot);
+        epochs.add(reached, 1);
+        *taken = snapshot;
     }
 }

@@ -1,17 +1,18 @@
 //! One lock round a desk, for many appenders and one flusher.
-ghost use Rattle.std.specs.Prelude.{◌≡◌, ◌+◌, ◌≤◌, ◌⊎◌, List, length, map, false, IfOk, IfErr, IfSome, IsOk, OnOk, OnErr};
+ghost use Rattle.std.specs.Prelude.{ℕ, ◌≡◌, ◌+◌, ◌≤◌, ◌⊎◌, List, length, map, false, IfOk, IfErr, IfSome, IsOk, OnOk, OnErr};
 ghost use Rattle.std.specs.List.{sum_by};
 ghost use Rattle.ring_records.specs.declared.input.Input.{Input};
 ghost use Rattle.ring_records.specs.Admission.{used, costs_of as costs_in};
 ghost use Rattle.ring_records.specs.States.{IsLawfulState, durable_in};
 ghost use Rattle.ring_records.specs.Message.{is_outside};
-ghost use Rattle.gated_journal.specs.Batch.{shown as batch_shown, landed as receipted, lost};
+ghost use Rattle.gated_journal.specs.Batch.{landed as receipted, lost};
 ghost use Rattle.group_commit.specs.Desk.{IsAnswer, seen};
 ghost use Rattle.group_commit.specs.Past.{IsPast};
 ghost use Rattle.group_commit.specs.Ticket.{shown};
-ghost use Rattle.commit_hub.specs.Holders.{count_of, durable_of, spent_of, freed_of, epoch_of, CountSame};
+ghost use Rattle.commit_hub.specs.Holders.{count_of, durable_of, spent_of, freed_of, epoch_of, CountSame, CountMore, CountAnew};
 ghost use Rattle.commit_hub.specs.Pages.{ForAccepted, ForDurable, ForSpent, ForFreed, ForEpochs, IsWhole};
 ghost use Rattle.commit_hub.specs.Told.{IsUnasked, IsBrought, IsLook, IsWindow};
+ghost use Rattle.commit_hub.specs.Works.{IsNext};
 
 use crate::blanks::Blanks;
 use crate::ledgers::{Node, Whole};
@@ -19,7 +20,8 @@ use crate::locked::Locked;
 use crate::look::Look;
 use crate::share::{Share, Tie};
 use crate::waking::{Bells, Guarded};
-use gated_journal::{Batch, Receipt, Spoiled};
+use crate::work::Work;
+use gated_journal::{Receipt, Spoiled};
 use group_commit::{Desk, Landed, Stub, Ticket};
 use ring_records::{Packet, Refusal, Reply, Request};
 use std::alloc::AllocError;
@@ -137,18 +139,17 @@ impl<A: Node, D: Whole, C: Whole, F: Whole, E: Whole> Hub<A, D, C, F, E> {
         self.guarded.lock(rt).locked.forfeit(ticket)
     }
 
-    /// Waits until an input waits, and launches the first that do, at most 64, as a batch to be made durable. `None`
-    /// once the hub is closed and none waits. The batch fits a journal of the node that has what the tie counts.
-    /// Refused as 9 where the hub has failed, as 12 where a batch is flying, and as 8.
+    /// Waits until an input waits or a checkpoint is due, and launches what is to be made durable next: where one is due,
+    /// a checkpoint of all inputs; else the first that wait, at most 64, as a batch. `None` once the hub is closed and
+    /// none waits. It fits a journal of the node that has what the tie counts. Refused as 9 where the hub has failed, as
+    /// 12 where a batch or a checkpoint is flying, and as 8.
     pub fn launch<R: Wait>(
         &self,
         rt: &R,
         tie: &mut Tie<A, D, C, F, E>,
-    ) -> Result<Option<Batch>, Refusal>
+    ) -> Result<Option<Work>, Refusal>
         requires whole { IsWhole D.all D.parts × IsWhole C.all C.parts × IsWhole F.all F.parts × IsWhole E.all E.parts }
-        ensures node { IfOk result (λ some. IfSome some (λ batch. (batch_shown batch).node ≡ A.member.node)) }
-        ensures first { IfOk result (λ some. IfSome some (λ batch. (batch_shown batch).first ≡ durable_of tie.old)) }
-        ensures room { IfOk result (λ some. IfSome some (λ batch. spent_of tie.old + costs_in (batch_shown batch).inputs ≤ freed_of tie.old + A.member.capacity)) }
+        ensures next { IfOk result (λ some. IfSome some (λ work. IsNext A.member A.opening tie.old work)) }
         ensures taken { freed_of tie.old ≤ spent_of tie.old }
         ensures refusal { IfErr result (λ refusal. (refusal ≡ Refusal.Failed) ⊎ ((refusal ≡ Refusal.Busy) ⊎ (refusal ≡ Refusal.OutOfMemory))) }
         ensures tie { CountSame tie.old tie.new }
@@ -157,9 +158,9 @@ impl<A: Node, D: Whole, C: Whole, F: Whole, E: Whole> Hub<A, D, C, F, E> {
         guard.locked.launch(tie)
     }
 
-    /// The batch that flies is durable: what it lets the node release. The tie counts it, and those who wait for it are
-    /// woken. It takes no memory. Refused as 10 where this is not the receipt of that batch, or the hub has failed, and
-    /// it comes back.
+    /// What flies is durable, a batch or a checkpoint: what it lets the node release. The tie counts it, and those who
+    /// wait for it are woken. It takes no memory. Refused as 10 where this is not the receipt of what flies, or the hub has
+    /// failed, and it comes back.
     pub fn land<R: Wait>(
         &self,
         rt: &R,
@@ -171,9 +172,8 @@ impl<A: Node, D: Whole, C: Whole, F: Whole, E: Whole> Hub<A, D, C, F, E> {
         ensures few { IfOk result (λ landed. length landed.decisions.items ≤ landed.count) }
         ensures brought { IfOk result (λ landed. IsBrought A.member A.opening (durable_of tie.old) (receipted receipt).inputs landed) }
         ensures durable { OnOk result (durable_of tie.new ≡ durable_of tie.old + length (receipted receipt).inputs) }
-        ensures spent { OnOk result (spent_of tie.new ≡ spent_of tie.old + costs_in (receipted receipt).inputs) }
-        ensures freed { OnOk result (freed_of tie.new ≡ freed_of tie.old) }
-        ensures epoch { OnOk result (epoch_of tie.new ≡ epoch_of tie.old) }
+        ensures batch { OnOk result ((receipted receipt).snapshot ≡ None → CountMore tie.old tie.new (costs_in (receipted receipt).inputs)) }
+        ensures checkpoint { OnOk result ((bytes : ℕ) → (receipted receipt).snapshot ≡ Some bytes → CountAnew tie.old tie.new bytes) }
         ensures refusal { IfErr result (λ e. e.1 ≡ Refusal.Foreign) }
         ensures back { IfErr result (λ e. receipted e.0 ≡ receipted receipt) }
         ensures tie { OnErr result (CountSame tie.old tie.new) }
@@ -190,8 +190,8 @@ impl<A: Node, D: Whole, C: Whole, F: Whole, E: Whole> Hub<A, D, C, F, E> {
         }
     }
 
-    /// The device failed with the batch that flies: nothing more is launched, nor becomes durable, and those who wait
-    /// are told so. Refused as 10 where this is not that batch, and it comes back.
+    /// The device failed with what flies: nothing more is launched, nor becomes durable, and those who wait are told so.
+    /// Refused as 10 where this is not what flies, and it comes back.
     pub fn fail<R: Wait>(
         &self,
         rt: &R,

@@ -4,6 +4,7 @@
 mod blanks;
 mod books;
 mod hub;
+mod launching;
 mod ledgers;
 mod locked;
 mod look;
@@ -12,9 +13,11 @@ mod settling;
 mod share;
 mod used;
 mod waking;
+mod work;
 
 pub use blanks::Blanks;
 pub use hub::Hub;
 pub use ledgers::{Node, Whole};
 pub use look::Look;
 pub use share::{Share, Tie};
+pub use work::Work;

@@ -1,28 +1,31 @@
 //! What lies under a hub's lock: its desk, and the books of its ledgers.
-ghost use Rattle.std.specs.Prelude.{◌≡◌, ◌≢◌, ◌+◌, ◌-◌, ◌≤◌, ◌<◌, ◌⊎◌, ◌||◌, ◌&&◌, not, nat_eq, nat_le, ℕ, List, true, false, length, Some, None, IfOk, IfErr, IfSome, MatchOption, OnOk, OnErr};
+ghost use Rattle.std.specs.Prelude.{◌≡◌, ◌≢◌, ◌+◌, ◌-◌, ◌≤◌, ◌<◌, ◌⊎◌, ◌||◌, ◌&&◌, not, nat_eq, nat_le, nat_lt, ℕ, List, true, false, length, Some, None, IfOk, IfErr, IfSome, MatchOption, OnOk, OnErr};
 ghost use Rattle.ring_records.specs.declared.input.Input.{Input};
 ghost use Rattle.ring_records.specs.Admission.{used, costs_of as costs_in};
 ghost use Rattle.ring_records.specs.Answer.{Answered};
-ghost use Rattle.ring_records.specs.States.{IsNodeState, launched_base, durable_in, flying_in};
+ghost use Rattle.ring_records.specs.States.{IsNodeState, launched_base, durable_in};
 ghost use Rattle.ring_records.specs.Props.{IsNodeState-prop};
 ghost use Rattle.ring_records.specs.Release.{packets, decisions, window};
-ghost use Rattle.gated_journal.specs.Batch.{shown as batch_shown, landed as receipted, lost, numbered};
-ghost use Rattle.group_commit.specs.Desk.{seen, ended, launched, landed, objection, launch_objection, IsSubmitted, IsAnswer, IsHere, IsSealed, IsFlying};
+ghost use Rattle.gated_journal.specs.Batch.{landed as receipted, lost};
+ghost use Rattle.group_commit.specs.Desk.{seen, ended, landed, objection, is_due, launch_objection, IsSubmitted, IsAnswer, IsHere, IsSealed, IsFlying};
 ghost use Rattle.group_commit.specs.Past.{IsPast};
 ghost use Rattle.group_commit.specs.Ticket.{shown};
-ghost use Rattle.commit_hub.specs.Holders.{count_of, durable_of, spent_of, freed_of, epoch_of, CountSame};
+ghost use Rattle.commit_hub.specs.Holders.{count_of, durable_of, spent_of, freed_of, epoch_of, CountSame, CountMore, CountAnew};
 ghost use Rattle.commit_hub.specs.Pages.{places_of, ForAccepted, ForDurable, ForSpent, ForFreed, ForEpochs, IsWhole};
-ghost use Rattle.commit_hub.specs.Props.{member-prop, summary-prop, checkpoint-prop};
+ghost use Rattle.commit_hub.specs.Props.{member-prop, summary-prop, IsNextEpoch-prop};
 ghost use Rattle.commit_hub.specs.Told.{IsBrought, IsLook, IsWindow, look_of};
+ghost use Rattle.commit_hub.specs.Works.{IsLaunch, IsNext, IsNextEpoch, IsUnlaunched};
 
 use crate::blanks::Blanks;
 use crate::books::Books;
+use crate::launching::launch;
 use crate::ledgers::{Node, Whole};
 use crate::look::Look;
 use crate::places::Places;
 use crate::share::{Share, Tie};
 use crate::used::used_of;
-use gated_journal::{Batch, Receipt, Spoiled};
+use crate::work::Work;
+use gated_journal::{Receipt, Spoiled};
 use group_commit::{Desk, Landed, SharedDesk, Stub, Ticket};
 use ring_records::{Packet, Refusal, Reply, Request};
 use std::alloc::AllocError;
@@ -43,7 +46,6 @@ pub(crate) struct Locked<A: Node, D: Whole, C: Whole, F: Whole, E: Whole> {
     pub(crate) books: Books<D, C, F, E>,
     ghost of: { shared.desk.view.member ≡ A.member } by { member-prop shared.desk.view.member A.member },
     ghost opening: { shared.desk.opening ≡ A.opening } by { summary-prop shared.desk.opening A.opening },
-    ghost none: { shared.desk.view.state.checkpoint ≡ None } by { checkpoint-prop shared.desk.view.state.checkpoint None },
     ghost counts: { IsNodeState shared.desk.view.state } by { IsNodeState-prop shared.desk.view.state },
     ghost counted: { accepted.total ≡ shared.desk.opening.inputs + length shared.desk.view.state.inputs },
     ghost first_is: { (first.parts ≡ 1) × (first.amount ≡ opened) × (opened ≡ A.opened) },
@@ -51,6 +53,7 @@ pub(crate) struct Locked<A: Node, D: Whole, C: Whole, F: Whole, E: Whole> {
     ghost durable_is: { books.durable.total ≡ shared.desk.opening.inputs + shared.desk.view.state.durable },
     ghost taken_is: { books.taken ≡ used shared.desk.view.state.base (durable_in shared.desk.view.state) },
     ghost epoch_is: { books.epochs.total ≡ shared.desk.view.state.base.epoch },
+    ghost next_is: { IsNextEpoch shared.desk.view.state } by { IsNextEpoch-prop shared.desk.view.state },
 }
 
 impl<A: Node, D: Whole, C: Whole, F: Whole, E: Whole> Locked<A, D, C, F, E> {
@@ -173,17 +176,15 @@ impl<A: Node, D: Whole, C: Whole, F: Whole, E: Whole> Locked<A, D, C, F, E> {
         self.shared.forfeit(ticket)
     }
 
-    /// As on the desk. The batch fits a journal of the node that has what the tie counts.
-    pub(crate) fn launch(&mut self, tie: &mut Tie<A, D, C, F, E>) -> Result<Option<Batch>, Refusal>
+    /// A checkpoint where one is due and the desk takes requests or something waits, and else a batch, as on the desk. It
+    /// fits a journal of the node that has what the tie counts.
+    pub(crate) fn launch(&mut self, tie: &mut Tie<A, D, C, F, E>) -> Result<Option<Work>, Refusal>
         requires whole { IsWhole D.all D.parts × IsWhole C.all C.parts × IsWhole F.all F.parts × IsWhole E.all E.parts }
-        ensures batch { IfOk result (λ some. IfSome some (λ batch. batch_shown batch ≡ numbered A.member.node (durable_of tie.old) (flying_in self.new.shared.desk.view.state))) }
-        ensures room { IfOk result (λ some. IfSome some (λ batch. spent_of tie.old + costs_in (batch_shown batch).inputs ≤ freed_of tie.old + A.member.capacity)) }
+        ensures next { IfOk result (λ some. IfSome some (λ work. IsNext A.member A.opening tie.old work)) }
         ensures taken { freed_of tie.old ≤ spent_of tie.old }
-        ensures none { IfOk result (λ some. MatchOption some (self.old.shared.desk.view.state.durable ≡ length self.old.shared.desk.view.state.inputs)
-            (λ _. self.old.shared.desk.view.state.durable < length self.old.shared.desk.view.state.inputs)) }
-        ensures next { OnOk result (self.new.shared.desk ≡ record self.old.shared.desk { view = launched self.old.shared.desk.view }) }
+        ensures work { IfOk result (IsLaunch self.old.shared.desk self.new.shared.desk) }
         ensures free { OnOk result (launch_objection self.old.shared.desk.view ≡ None) }
-        ensures refusal { IfErr result (λ refusal. (launch_objection self.old.shared.desk.view ≡ Some refusal) ⊎ ((launch_objection self.old.shared.desk.view ≡ None) × (refusal ≡ Refusal.OutOfMemory))) }
+        ensures refusal { IfErr result (IsUnlaunched self.old.shared.desk) }
         ensures same { OnErr result (self.new.shared.desk ≡ self.old.shared.desk) }
         ensures tie { CountSame tie.old tie.new }
     {
@@ -193,7 +194,7 @@ impl<A: Node, D: Whole, C: Whole, F: Whole, E: Whole> Locked<A, D, C, F, E> {
             ..
         } = self;
         books.audit(tie);
-        desk.launch()
+        launch(desk)
     }
 
     /// As on the desk; the tie counts what became durable.
@@ -214,9 +215,8 @@ impl<A: Node, D: Whole, C: Whole, F: Whole, E: Whole> Locked<A, D, C, F, E> {
             → landed.decisions.items ≡ decisions A.member.node (durable_in (seen past self.old.shared.desk).state) (receipted receipt).inputs) }
         ensures next { OnOk result (self.new.shared.desk ≡ record self.old.shared.desk { view = landed self.old.shared.desk.view }) }
         ensures durable { OnOk result (durable_of tie.new ≡ durable_of tie.old + length (receipted receipt).inputs) }
-        ensures spent { OnOk result (spent_of tie.new ≡ spent_of tie.old + costs_in (receipted receipt).inputs) }
-        ensures freed { OnOk result (freed_of tie.new ≡ freed_of tie.old) }
-        ensures epoch { OnOk result (epoch_of tie.new ≡ epoch_of tie.old) }
+        ensures batch { OnOk result ((receipted receipt).snapshot ≡ None → CountMore tie.old tie.new (costs_in (receipted receipt).inputs)) }
+        ensures checkpoint { OnOk result ((bytes : ℕ) → (receipted receipt).snapshot ≡ Some bytes → CountAnew tie.old tie.new bytes) }
         ensures foreign { IfErr result (λ e. (e.1 ≡ Refusal.Foreign) × (IsFlying self.old.shared.desk (receipted receipt) → self.old.shared.desk.view.failed ≡ false → ⊥)) }
         ensures back { IfErr result (λ e. receipted e.0 ≡ receipted receipt) }
         ensures same { OnErr result (self.new.shared.desk ≡ self.old.shared.desk) }
@@ -229,14 +229,21 @@ impl<A: Node, D: Whole, C: Whole, F: Whole, E: Whole> Locked<A, D, C, F, E> {
         } = self;
         books.audit(tie);
         let before = desk.durable();
+        let snapshot = receipt.snapshot();
         match desk.land(receipt) {
             Err((receipt, refusal)) => Err((receipt, refusal)),
             Ok(landed) => {
                 let after = desk.durable();
-                let start = (before - desk.first()) as usize;
-                let end = (after - desk.first()) as usize;
-                let cost = used_of(&desk.history()[start..end], desk.capacity());
-                books.add_batch(tie, after - before, u64::from(cost));
+                let history = desk.history();
+                match snapshot {
+                    Some(length) => books.add_area(tie, after - before, length),
+                    None => {
+                        let start = (before - desk.first()) as usize;
+                        let end = (after - desk.first()) as usize;
+                        let cost = used_of(&history[start..end], desk.capacity());
+                        books.add_batch(tie, after - before, u64::from(cost));
+                    }
+                }
                 Ok(landed)
             }
         }
@@ -278,7 +285,9 @@ impl<A: Node, D: Whole, C: Whole, F: Whole, E: Whole> Locked<A, D, C, F, E> {
     /// What the desk shows.
     pub(crate) fn look(&self) -> Look
         ensures counts { (past : List Input) → IsPast A.member A.opening past
-            → result ≡ look_of A.member (seen past self.now.shared.desk).state (not (self.now.shared.desk.view.closed || self.now.shared.desk.view.failed)) }
+            → result ≡ look_of A.member (seen past self.now.shared.desk).state (is_due self.now.shared.desk) (not (self.now.shared.desk.view.closed || self.now.shared.desk.view.failed)) }
+        ensures due { result.is_due ≡ is_due self.now.shared.desk }
+        ensures epoch { result.epoch ≡ self.now.shared.desk.view.state.base.epoch }
         ensures is_open { result.is_open ≡ not (self.now.shared.desk.view.closed || self.now.shared.desk.view.failed) }
         ensures inputs { result.shown.inputs ≡ self.now.shared.desk.opening.inputs + length self.now.shared.desk.view.state.inputs }
         ensures durable { result.shown.durable ≡ self.now.shared.desk.opening.inputs + self.now.shared.desk.view.state.durable }
@@ -290,17 +299,19 @@ impl<A: Node, D: Whole, C: Whole, F: Whole, E: Whole> Locked<A, D, C, F, E> {
         Look {
             shown: desk.shown(),
             used: desk.used(),
+            epoch: desk.epoch(),
             capacity: desk.capacity(),
             stands: desk.stands(),
+            is_due: desk.due(),
             is_open: desk.is_open(),
         }
     }
 
-    /// Whether there is nothing to launch yet: all inputs are durable, and more may come.
+    /// Whether there is nothing to launch yet: all inputs are durable, more may come, and no checkpoint is due.
     pub(crate) fn is_idle(&self) -> bool
-        ensures { result ≡ (nat_eq self.now.shared.desk.view.state.durable (length self.now.shared.desk.view.state.inputs) && not (self.now.shared.desk.view.closed || self.now.shared.desk.view.failed)) }
+        ensures { result ≡ ((not (nat_lt self.now.shared.desk.view.state.durable (length self.now.shared.desk.view.state.inputs)) && not (self.now.shared.desk.view.closed || self.now.shared.desk.view.failed)) && not (is_due self.now.shared.desk)) }
     {
-        self.shared.desk.durable() == self.shared.desk.accepted() && self.shared.desk.is_open()
+        !self.shared.desk.waits() && self.shared.desk.is_open() && !self.shared.desk.due()
     }
 
     /// Whether so many inputs are durable once the next batch lands, as far as is known: they fly, or nothing flies

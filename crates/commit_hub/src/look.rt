@@ -6,12 +6,16 @@ use ring_records::Shown;
 pub struct Look {
     /// Its inputs, those of them that are durable, and how far its links are.
     pub shown: Shown,
-    /// The bytes of its capacity that its inputs take.
+    /// The bytes of its capacity that are taken, by a snapshot and by inputs.
     pub used: u64,
+    /// The epoch of its journal's area in use.
+    pub epoch: u64,
     /// The bytes that they may take.
     pub capacity: u32,
     /// How many of its inputs are Stands.
     pub stands: u32,
+    /// Whether a checkpoint is due, which makes room: it is the next that the hub has made durable.
+    pub is_due: bool,
     /// Whether it takes requests: it is not closed and has not failed.
     pub is_open: bool,
 }

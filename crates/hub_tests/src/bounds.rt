@@ -5,6 +5,7 @@ ghost use Rattle.commit_hub.specs.Pages.{ForAccepted, ForDurable, ForSpent, ForF
 
 use crate::calls::*;
 use crate::ends::{abandons, closes, fails, settles_some};
+use crate::renewals::renews;
 use crate::rows::{desk_behind, journal_of, new_desk, request};
 use commit_hub::{Blanks, Hub, Node, Tie, Whole};
 use group_commit::{Desk, Ticket};
@@ -36,6 +37,8 @@ enum Case {
     Answers,
     /// Its desk was opened with a summary.
     GoesOn,
+    /// A checkpoint is due.
+    Renews,
     /// The device fails with a batch.
     Fails,
     /// Its flusher goes on no more.
@@ -222,6 +225,7 @@ fn on_hub<A: Node, D: Whole, C: Whole, F: Whole, E: Whole, R: Wait + Abort + All
     case: Case,
 ) -> Option<Ticket>
     requires member { desk.view.member ≡ A.member }
+    requires ring { A.member.n ≡ 3 }
     requires opening { desk.opening ≡ A.opening }
     requires none { desk.view.state.checkpoint ≡ None }
     requires opened { desk.opening.inputs + length desk.view.state.inputs ≡ A.opened }
@@ -248,6 +252,7 @@ fn on_hub<A: Node, D: Whole, C: Whole, F: Whole, E: Whole, R: Wait + Abort + All
         Case::LandsAnother => lands_another(rt, &hub, &mut tie),
         Case::Answers => answers(rt, &hub),
         Case::GoesOn => goes_on(rt, hub, &mut tie),
+        Case::Renews => renews(rt, hub, &mut tie),
         Case::Fails => fails(rt, &hub, &mut tie),
         Case::Abandons => abandons(rt, &hub, &mut tie),
         Case::Closes => closes(rt, &hub, &mut tie),
@@ -320,6 +325,12 @@ fn an_open_hub_takes_requests(rt: HostRuntime) -> Result<(), Fail> {
 #[test]
 fn a_hub_goes_on_from_a_summary(rt: HostRuntime) -> Result<(), Fail> {
     ends(&rt, 1, Case::GoesOn);
+    Ok(())
+}
+
+#[test]
+fn a_checkpoint_that_is_due_is_launched_and_frees_room(rt: HostRuntime) -> Result<(), Fail> {
+    ends(&rt, 1, Case::Renews);
     Ok(())
 }
 

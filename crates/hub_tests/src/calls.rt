@@ -1,9 +1,10 @@
 // Calls of hubs that go well, or are refused as they are to be, and what these calls need.
 ghost use Rattle.std.specs.Prelude.{◌≡◌, ◌≤◌};
+ghost use Rattle.gated_journal.specs.Journal.{member_of};
 ghost use Rattle.commit_hub.specs.Pages.{IsWhole};
 
 use crate::rows::{broken_journal, node, request};
-use commit_hub::{Hub, Node, Share, Tie, Whole};
+use commit_hub::{Hub, Node, Share, Tie, Whole, Work};
 use disk_model::{Device, MemDevice};
 use gated_journal::{Batch, Journal, Receipt, Spoiled};
 use group_commit::Ticket;
@@ -57,7 +58,7 @@ pub fn redeems<A: Node, D: Whole, C: Whole, F: Whole, E: Whole, R: Wait + Abort>
     }
 }
 
-/// No batch is launched, for this cause.
+/// Nothing is launched, for this cause.
 pub fn launches_none<A: Node, D: Whole, C: Whole, F: Whole, E: Whole, R: Wait + Abort>(
     rt: &R,
     hub: &Hub<A, D, C, F, E>,
@@ -67,7 +68,7 @@ pub fn launches_none<A: Node, D: Whole, C: Whole, F: Whole, E: Whole, R: Wait + 
     requires { IsWhole D.all D.parts × IsWhole C.all C.parts × IsWhole F.all F.parts × IsWhole E.all E.parts }
 {
     match hub.launch(rt, tie) {
-        Ok(_some) => panic!(rt; "a batch, or none"),
+        Ok(_some) => panic!(rt; "work, or none"),
         Err(refusal) => assert!(rt; refusal == cause),
     }
 }
@@ -80,7 +81,8 @@ pub fn launches<A: Node, D: Whole, C: Whole, F: Whole, E: Whole, R: Wait + Abort
     requires { IsWhole D.all D.parts × IsWhole C.all C.parts × IsWhole F.all F.parts × IsWhole E.all E.parts }
 {
     match hub.launch(rt, tie) {
-        Ok(Some(batch)) => batch,
+        Ok(Some(Work::Batch(batch))) => batch,
+        Ok(Some(Work::Checkpoint(_made))) => panic!(rt; "a checkpoint"),
         Ok(None) => panic!(rt; "nothing waits"),
         Err(refusal) => panic!(rt; "{refusal}"),
     }
@@ -91,7 +93,9 @@ pub fn commit<V: Device>(
     rt: &impl Abort,
     journal: &mut Journal<V>,
     batch: Batch,
-) -> Result<Receipt, Spoiled> {
+) -> Result<Receipt, Spoiled>
+    ensures { member_of journal.new ≡ member_of journal.old }
+{
     assert!(rt; !journal.is_spoiled());
     assert!(rt; batch.node() == journal.node());
     assert!(rt; batch.first() == journal.len());
@@ -99,7 +103,9 @@ pub fn commit<V: Device>(
     journal.commit(batch)
 }
 
-pub fn commits<R: Abort>(rt: &R, journal: &mut Journal<MemDevice>, batch: Batch) -> Receipt {
+pub fn commits<R: Abort>(rt: &R, journal: &mut Journal<MemDevice>, batch: Batch) -> Receipt
+    ensures { member_of journal.new ≡ member_of journal.old }
+{
     match commit(rt, journal, batch) {
         Ok(receipt) => receipt,
         Err(_spoiled) => panic!(rt; "spoiled"),
@@ -114,8 +120,21 @@ pub fn lands<A: Node, D: Whole, C: Whole, F: Whole, E: Whole, R: Wait + Abort>(
 )
     requires { IsWhole D.all D.parts × IsWhole C.all C.parts × IsWhole F.all F.parts × IsWhole E.all E.parts }
 {
+    lands_all(rt, hub, tie, receipt, 1);
+}
+
+/// So many inputs land.
+pub fn lands_all<A: Node, D: Whole, C: Whole, F: Whole, E: Whole, R: Wait + Abort>(
+    rt: &R,
+    hub: &Hub<A, D, C, F, E>,
+    tie: &mut Tie<A, D, C, F, E>,
+    receipt: Receipt,
+    count: u32,
+)
+    requires { IsWhole D.all D.parts × IsWhole C.all C.parts × IsWhole F.all F.parts × IsWhole E.all E.parts }
+{
     match hub.land(rt, tie, receipt) {
-        Ok(landed) => assert!(rt; landed.count == 1),
+        Ok(landed) => assert!(rt; landed.count == count),
         Err((_receipt, refusal)) => panic!(rt; "{refusal}"),
     }
 }
@@ -128,6 +147,7 @@ pub fn flushes<A: Node, D: Whole, C: Whole, F: Whole, E: Whole, R: Wait + Abort>
     journal: &mut Journal<MemDevice>,
 )
     requires { IsWhole D.all D.parts × IsWhole C.all C.parts × IsWhole F.all F.parts × IsWhole E.all E.parts }
+    ensures { member_of journal.new ≡ member_of journal.old }
 {
     let batch = launches(rt, hub, tie);
     let receipt = commits(rt, journal, batch);

@@ -30,7 +30,7 @@ pub fn closes<A: Node, D: Whole, C: Whole, F: Whole, E: Whole, R: Wait + Abort +
     redeems(rt, hub, ticket);
     match hub.launch(rt, tie) {
         Ok(None) => {}
-        Ok(Some(_batch)) => panic!(rt; "a batch"),
+        Ok(Some(_work)) => panic!(rt; "work"),
         Err(refusal) => panic!(rt; "{refusal}"),
     }
 }

@@ -1,6 +1,7 @@
 // What hubs are given and give. All numbers and names of rows are in their ranges.
 ghost use Rattle.std.specs.Prelude.{◌≡◌, None};
 ghost use Rattle.ring_records.specs.Snapshot.{IsSound};
+ghost use Rattle.gated_journal.specs.Journal.{member_of};
 
 use disk_model::{FuseDevice, MemDevice};
 use gated_journal::{Journal, Opening, device_size};
@@ -29,7 +30,8 @@ fn opening<R: AllocGlobal>(rt: &R) -> Opening
 
 /// The desk of this node of 3, capacity 4,096, at this opening, with no inputs.
 pub fn new_desk<R: Abort + AllocGlobal>(rt: &R, number: u8, run: u64) -> Desk
-    ensures { result.view.state.checkpoint ≡ None }
+    ensures none { result.view.state.checkpoint ≡ None }
+    ensures ring { result.view.member.n ≡ 3 }
 {
     Desk::open(rt.alloc(), node(rt, number), 3, 4096, run, opening(rt)).expect(rt, "no inputs")
 }
@@ -55,7 +57,8 @@ fn opening_behind<R: Abort + AllocGlobal>(rt: &R) -> Opening
 
 /// The desk of node 1 of 3, capacity 4,096, whose opening summarises a Stand.
 pub fn desk_behind<R: Abort + AllocGlobal>(rt: &R) -> Desk
-    ensures { result.view.state.checkpoint ≡ None }
+    ensures none { result.view.state.checkpoint ≡ None }
+    ensures ring { result.view.member.n ≡ 3 }
 {
     Desk::open(rt.alloc(), node(rt, 1), 3, 4096, 0, opening_behind(rt)).expect(rt, "no inputs")
 }
@@ -66,7 +69,9 @@ pub fn empty_device<R: Abort + AllocGlobal>(rt: &R) -> MemDevice {
 }
 
 /// A new journal of node 1 of 3, capacity 4,096.
-pub fn journal_of<R: Abort + AllocGlobal>(rt: &R) -> Journal<MemDevice> {
+pub fn journal_of<R: Abort + AllocGlobal>(rt: &R) -> Journal<MemDevice>
+    ensures { (member_of result).n ≡ 3 }
+{
     match Journal::format(empty_device(rt), node(rt, 1), 3, 4096) {
         Ok(journal) => journal,
         Err((_device, refusal)) => panic!(rt; "{refusal}"),

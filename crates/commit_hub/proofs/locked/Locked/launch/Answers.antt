@@ -1,16 +1,34 @@
-use Rattle.std.proofs.Common.{rules, ◌≡◌, subst, IfOk, IfSome, ◌+◌, ◌≤◌}
-use Rattle.ring_records.specs.Admission.{costs_of as costs_in, used}
-use Rattle.ring_records.specs.Member.{Member}
+use Rattle.std.proofs.Common.{rules, ◌≡◌, ◌+◌, length, take, sym, ◌∙◌}
+use Rattle.ring_records.specs.Admission.{used}
 use Rattle.ring_records.specs.States.{durable_in}
-use Rattle.gated_journal.specs.Batch.{shown as batch_shown}
-use Rattle.commit_hub.specs.Holders.{spent_of, freed_of}
-use Rattle.commit_hub.proofs.Batches.{room_left}
+use Rattle.commit_hub.specs.Holders.{durable_of, spent_of, freed_of, epoch_of}
+use Rattle.commit_hub.proofs.Works.{fits_next, launches}
 use Rattle.commit_hub.proofs.locked.Locked.launch.Goals as goal
 
-pub returns-clause-room : goal.returns-clause-room
-returns-clause-room g c =
+pub invariant_of-self : goal.invariant_of-self
+invariant_of-self g c =
     let old = c.args.self.now in
+    let desk = old.shared.desk in
+    let l = launches c.launch.result desk c.launch.new.desk old.counts old.next_is c.launch.ensures.work c.launch.ensures.free c.launch.ensures.same in
+    record {
+      of = l.member ∙ old.of;
+      opening = l.opening ∙ old.opening;
+      counts = l.counts;
+      counted = old.counted ∙ sym (λ i. (l.opening i).inputs + length (l.inputs i));
+      first_is = old.first_is;
+      spare_is = old.spare_is;
+      durable_is = c.audit.ensures.same.durable ∙ (old.durable_is ∙ sym (λ i. (l.opening i).inputs + l.durable i));
+      taken_is = c.audit.ensures.same.taken ∙ (old.taken_is ∙ sym (λ i. used (l.base i) (take (l.durable i) (l.inputs i))));
+      epoch_is = c.audit.ensures.same.epochs ∙ (old.epoch_is ∙ sym (λ i. (l.base i).epoch));
+      next_is = l.next;
+    }
+
+pub returns-clause-next : goal.returns-clause-next
+returns-clause-next g c =
+    let old = c.args.self.now in
+    let desk = old.shared.desk in
     let tie = c.args.tie.now in
-    let taken : spent_of tie ≡ freed_of tie + used old.shared.desk.view.state.base (durable_in old.shared.desk.view.state) = search rules in
-    let room = room_left c.launch.result (spent_of tie) (freed_of tie) _ _ old.shared.desk c.launch.new.self old.none old.counts taken c.launch.ensures.next c.launch.ensures.batch c.launch.ensures.fits in
-    subst (λ (m : Member). IfOk c.launch.result (λ some. IfSome some (λ batch. spent_of tie + costs_in (batch_shown batch).inputs ≤ freed_of tie + m.capacity))) old.of room
+    let durable : durable_of tie ≡ desk.opening.inputs + desk.view.state.durable = search rules in
+    let taken : spent_of tie ≡ freed_of tie + used desk.view.state.base (durable_in desk.view.state) = search rules in
+    let epoch : epoch_of tie ≡ desk.view.state.base.epoch = search rules in
+    fits_next c.launch.result desk _ _ _ _ _ _ old.of old.opening durable taken epoch c.launch.ensures.fits

@@ -1,9 +1,10 @@
-use Rattle.std.proofs.Common.{rules, ◌≡◌, ◌+◌, [], length, sym, ap, ◌∙◌}
+use Rattle.std.proofs.Common.{rules, ◌≡◌, ◌+◌, [], length, sym, ap, ◌∙◌, subst}
 use Rattle.std.specs.List.{cons_option}
 use Rattle.ring_records.specs.Admission.{used}
 use Rattle.ring_records.specs.States.{durable_in}
 use Rattle.group_commit.specs.Desk.{DeskKept, IsSubmitted, with_ticket}
 use Rattle.group_commit.specs.Ticket.{shown}
+use Rattle.commit_hub.specs.Works.{IsNextEpoch}
 use Rattle.commit_hub.proofs.Requests.{durable_stays, grows}
 use Rattle.commit_hub.proofs.locked.Locked.submit.Goals as goal
 
@@ -19,7 +20,6 @@ invariant_of-self-in-Ok g c =
     record {
       of = ap (λ (d : DeskKept). d.view.member) next ∙ old.of;
       opening = ap (λ (d : DeskKept). d.opening) next ∙ old.opening;
-      none = ap (λ (d : DeskKept). d.view.state.checkpoint) next ∙ old.none;
       counts = c.accepted.ensures.counts;
       counted = counted;
       first_is = old.first_is;
@@ -28,4 +28,5 @@ invariant_of-self-in-Ok g c =
       taken_is = old.taken_is
           ∙ sym (ap (λ (d : DeskKept). used d.view.state.base (durable_in d.view.state)) next ∙ ap (used desk.view.state.base) (durable_stays desk.view.state (cons_option s.more []) old.counts));
       epoch_is = old.epoch_is ∙ sym (ap (λ (d : DeskKept). d.view.state.base.epoch) next);
+      next_is = subst (λ (d : DeskKept). IsNextEpoch d.view.state) (sym next) old.next_is;
     }

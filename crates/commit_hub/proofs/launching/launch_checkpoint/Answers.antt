@@ -1,0 +1,66 @@
+use Rattle.std.proofs.Common.{◌≡◌, ◌⊎◌, ◌+◌, ◌-◌, ◌*◌, ◌≤◌, length, Some, None, sym, ap, ◌∙◌, subst, arith, length-append, length-take, length-drop, Option}
+use Rattle.ring_records.specs.declared.refusal.Refusal.{Refusal}
+use Rattle.ring_records.specs.declared.summary.Summary.{Summary}
+use Rattle.ring_records.specs.Snapshot.{snapshot_len}
+use Rattle.ring_records.specs.Admission.{costs_of, used}
+use Rattle.ring_records.specs.declared.base.Base.{Base}
+use Rattle.ring_records.specs.States.{durable_in, flying_in, launched_base}
+use Rattle.ring_records.specs.Summary.{summary}
+use Rattle.gated_journal.specs.Batch.{Numbered, numbered_by, base_by}
+use Rattle.group_commit.specs.Desk.{DeskKept, launched_all}
+use Rattle.group_commit.proofs.Past.{durable-shifted}
+use Rattle.ring_records.proofs.States.{idle-none, idle-base}
+use Rattle.commit_hub.proofs.Costs.{durable_costs}
+use Rattle.commit_hub.proofs.Works.{due_objection, parts_due, idle_free, after-inputs, all_fly, all_joined, few_wait}
+use Rattle.commit_hub.proofs.launching.launch_checkpoint.Goals as goal
+
+pub returns-in-Ok-clause-work : goal.returns-in-Ok-clause-work
+returns-in-Ok-clause-work c =
+    let launch = c.in-Ok.ensures in
+    record { due = c.requires.due; is = launch.checkpoint; base = launch.summary; next = launch.next }
+
+pub returns-in-Ok-clause-fits : goal.returns-in-Ok-clause-fits
+returns-in-Ok-clause-fits c =
+    let desk = c.args.desk.now in
+    let s = desk.view.state in
+    let m = desk.view.member in
+    let launch = c.in-Ok.ensures in
+    let made = c.in-Ok.made in
+    let counts = c.accepted-accepted.ensures.counts in
+    let none = idle-none s (idle_free desk.view (sym (due_objection desk c.requires.due) ∙ launch.free)) in
+    let inputs : (numbered_by made).inputs ≡ flying_in (launched_all desk).state = ap (λ (n : Numbered). n.inputs) launch.checkpoint ∙ ap (λ (d : DeskKept). flying_in d.view.state) launch.next in
+    let long : length (numbered_by made).inputs ≡ length s.inputs - s.durable = ap length (inputs ∙ all_fly desk) ∙ length-drop s.durable s.inputs in
+    let known : (base_by made).inputs ≡ desk.opening.inputs + length s.inputs = ap (λ (b : Summary). b.inputs) launch.summary ∙ after-inputs m.node desk.opening s.inputs in
+    record {
+      node = ap (λ (n : Numbered). n.node) launch.checkpoint;
+      first = ap (λ (n : Numbered). n.first) launch.checkpoint;
+      snapshot = ap (λ (n : Numbered). n.snapshot) launch.checkpoint ∙ ap (λ (b : Summary). Some (snapshot_len b)) (sym launch.summary);
+      count = omega (arith, known, long, counts.durable, counts.flying);
+      few = subst (λ k. 16 * k ≤ m.capacity) (sym (ap length (inputs ∙ all_fly desk))) (few_wait m desk.opening s none c.accepted-accepted.ensures.known);
+      filled = (
+          let is = parts_due desk c.requires.due in
+          let base : used (launched_base s) s.inputs ≡ used s.base s.inputs = ap (λ (b : Base). used b s.inputs) (idle-base s (idle_free desk.view (sym (due_objection desk c.requires.due) ∙ launch.free))) in
+          omega (arith, is.filled, base, durable_costs s counts, ap costs_of (inputs ∙ all_fly desk))
+          );
+      short = subst (λ (b : Summary). 4 * snapshot_len b ≤ m.capacity) (sym launch.summary) (parts_due desk c.requires.due).short;
+      sound = launch.sound;
+      left = launch.epoch;
+      known = λ past is.
+          let front : desk.opening.inputs ≡ length past = λ i. (is.summed i).inputs in
+          record {
+            state = s;
+            since = durable_in s;
+            lawful = c.accepted-accepted.ensures.lawful past is;
+            before = durable-shifted past s;
+            count = omega (arith, front, length-append past (durable_in s), length-take s.durable s.inputs, counts.durable, counts.flying);
+            all = all_joined past desk (numbered_by made).inputs inputs;
+            summed = launch.known past is ∙ ap (summary m.node) (all_joined past desk (numbered_by made).inputs inputs);
+          };
+    }
+
+pub returns-in-Ok-clause-free : goal.returns-in-Ok-clause-free
+returns-in-Ok-clause-free c = sym (due_objection c.args.desk.now c.requires.due) ∙ c.in-Ok.ensures.free
+
+pub returns-in-Err-clause-refusal : goal.returns-in-Err-clause-refusal
+returns-in-Err-clause-refusal c =
+    subst (λ (o : Option Refusal). (o ≡ Some c.in-Err.refusal) ⊎ ((o ≡ None) × (c.in-Err.refusal ≡ Refusal.OutOfMemory))) (due_objection c.args.desk.now c.requires.due) c.in-Err.ensures.refusal

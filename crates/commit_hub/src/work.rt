@@ -1,0 +1,37 @@
+//! What a hub launches.
+ghost use Rattle.std.specs.Prelude.{◌≡◌, ◌≤◌, None, length};
+ghost use Rattle.ring_records.specs.declared.limits.TheConstants.{BATCH_INPUTS};
+ghost use Rattle.commit_hub.specs.Works.{flown_by, summary_by};
+
+use gated_journal::{Batch, Checkpoint};
+
+/// What is to be made durable next.
+pub enum Work {
+    /// The first inputs that wait, 1 to 64.
+    Batch(Batch),
+    /// All inputs that wait, any number, with the summary that stands for these and all before them.
+    Checkpoint(Checkpoint),
+}
+
+impl Work {
+    /// The number of the first of its inputs, counted from 0: so many are durable before it.
+    pub fn first(&self) -> u64
+        ensures { result ≡ (flown_by self.now).first }
+    {
+        match self {
+            Work::Batch(batch) => batch.first(),
+            Work::Checkpoint(made) => made.first(),
+        }
+    }
+
+    /// How many inputs it makes durable: 1 to 64 of a batch, any number of a checkpoint.
+    pub fn count(&self) -> usize
+        ensures value { result ≡ length (flown_by self.now).inputs }
+        ensures size { summary_by self.now ≡ None → (1 ≤ result) × (result ≤ BATCH_INPUTS) }
+    {
+        match self {
+            Work::Batch(batch) => batch.inputs().len(),
+            Work::Checkpoint(made) => made.inputs().len(),
+        }
+    }
+}
