@@ -1,27 +1,29 @@
 //! The flusher's end of a hub.
-ghost use Rattle.std.specs.Prelude.{◌≡◌, ◌+◌, ◌-◌, ◌<◌, ◌≤◌, ◌⊎◌, ◌++◌, [], true, false, is_err, length, IfOk, IfErr, IfSome, IfNone, IsErrOf, OnErr, OnOk};
+ghost use Rattle.std.specs.Prelude.{◌≡◌, ◌+◌, ◌-◌, ◌<◌, ◌≤◌, ◌⊎◌, ◌++◌, [], true, false, is_err, length, IfOk, IfErr, IfSome, IfNone, IsErrOf, IsOk, OnErr, OnOk};
 ghost use mathlib.Core.List.{IsPrefix};
 ghost use Rattle.ring_records.specs.Admission.{costs_of as costs_in};
-ghost use Rattle.disk_model.specs.Disk.{LeavesOnly, Reaches};
+ghost use Rattle.disk_model.specs.Disk.{LeavesOnly, HasCause, Reaches};
 ghost use Rattle.gated_journal.specs.Areas.{AllReadAs, ReadsAsOneOf};
-ghost use Rattle.gated_journal.specs.Batch.{shown};
+ghost use Rattle.gated_journal.specs.Batch.{landed, lost};
 ghost use Rattle.gated_journal.specs.Journal.{device_of, member_of, len_of, room_of, epoch_of as journal_epoch, is_spoiled};
-ghost use Rattle.gated_journal.specs.Reading.{Reading, device_size, with_more};
+ghost use Rattle.gated_journal.specs.Reading.{Reading, device_size};
 ghost use Rattle.gated_journal.specs.Unread.{IsFault};
 ghost use Rattle.decision_board.specs.Boards.{published, pending};
 ghost use Rattle.commit_hub.specs.Holders.{durable_of, spent_of, freed_of, epoch_of};
 ghost use Rattle.commit_hub.specs.Pages.{IsWhole};
 ghost use Rattle.commit_hub.specs.Told.{IsBrought};
-ghost use Rattle.ring_service.specs.Rounds.{IsRound, IsStopped, IsIdle, IsSpent};
+ghost use Rattle.commit_hub.specs.Works.{flown_by, summary_by, IsNext};
+ghost use Rattle.node_core.specs.Core.{IsNodeOf};
+ghost use Rattle.ring_service.specs.Rounds.{IsRound, IsStopped, IsIdle, IsSpent, IsTaken, epoch_after, reading_after, room_after};
 
 use crate::gate::Gate;
 use crate::owed::publish;
-use commit_hub::{Hub, Node, Tie, Whole};
+use commit_hub::{Hub, Node, Tie, Whole, Work};
 use decision_board::{Board, Naming};
 use disk_model::Device;
-use gated_journal::{Batch, Journal};
+use gated_journal::{Journal, Receipt, Spoiled};
 use group_commit::Landed;
-use ring_records::{BATCH_INPUTS, Decision, Refusal};
+use ring_records::{Decision, Refusal};
 use std::alloc::Global;
 use std::collections::VecDeque;
 use std::sync::Wait;
@@ -34,6 +36,7 @@ pub struct Flusher<V: Device, J: Naming, A: Node, D: Whole, C: Whole, F: Whole, 
     owed: VecDeque<Decision>,
     is_published: bool,
     has_ended: bool,
+    ghost inside: { IsNodeOf A.member.n A.member.node },
     ghost shown: { is_published ≡ true → pending board ≡ [] },
     ghost ready: { has_ended ≡ false → is_spoiled journal ≡ false },
     ghost member: { has_ended ≡ false → member_of journal ≡ A.member },
@@ -61,6 +64,7 @@ impl<V: Device, J: Naming, A: Node, D: Whole, C: Whole, F: Whole, E: Whole> Flus
         board: Board<J>,
         tie: Tie<A, D, C, F, E>,
     ) -> Flusher<V, J, A, D, C, F, E>
+        requires inside { IsNodeOf A.member.n A.member.node }
         requires ready { is_spoiled journal ≡ false }
         requires member { member_of journal ≡ A.member }
         requires len { len_of journal ≡ durable_of tie }
@@ -81,11 +85,12 @@ impl<V: Device, J: Naming, A: Node, D: Whole, C: Whole, F: Whole, E: Whole> Flus
         }
     }
 
-    /// One round on the hub of its tie: waits for inputs, makes the first of them durable, at most 64, and publishes the
-    /// leaders that they make known. Tells what it made durable; `None` once the hub is closed and nothing waits.
+    /// One round on the hub of its tie: waits for inputs, makes the first of them durable, at most 64, or all of them by a
+    /// checkpoint where one is due, and publishes the leaders that they make known. Tells what it made durable; `None` once
+    /// the hub is closed and nothing waits.
     ///
-    /// Refused as 8, 9 or 12, nothing was launched: a growth was refused; the flusher has ended or the hub has failed; a
-    /// batch flies. Refused as 15, the device failed, and as 10, the hub refused what came of the batch, which is ended.
+    /// Refused as 8, 9 or 12, nothing was launched: a growth was refused; the flusher has ended or the hub has failed;
+    /// something flies. Refused as 15, the device failed, and as 10, the hub refused what came of it, which is ended.
     /// After 15 and 10 the flusher has ended. Decisions that the board cannot take for memory stay owed, and go first in
     /// the next round; all that it took is published, but for want of memory, of which `is_published` tells.
     pub fn flush_round<R: Wait, G: Gate>(
@@ -95,7 +100,8 @@ impl<V: Device, J: Naming, A: Node, D: Whole, C: Whole, F: Whole, E: Whole> Flus
         gate: &mut G,
     ) -> Result<Option<Landed>, Refusal>
         requires whole { IsWhole D.all D.parts × IsWhole C.all C.parts × IsWhole F.all F.parts × IsWhole E.all E.parts }
-        ensures round { IfOk result (λ some. IfSome some (λ landed. IsRound A.member A.opening (V.disk (device_in self.old)) (V.disk (device_in self.new)) (len_of (journal_of self.old)) landed)) }
+        ensures round { IfOk result (λ some. IfSome some (λ landed. IsRound A.member A.opening (V.disk (device_in self.old)) (V.disk (device_in self.new))
+            (len_of (journal_of self.old)) (journal_epoch (journal_of self.old)) (len_of (journal_of self.new)) (journal_epoch (journal_of self.new)) landed)) }
         ensures told { IfOk result (λ some. IfSome some (λ landed. told_to self.new ≡ told_to self.old ++ landed.decisions.items)) }
         ensures published { IsPrefix (published (board_of self.old)) (published (board_of self.new)) }
         ensures pending { is_published self.new ≡ true → pending (board_of self.new) ≡ [] }
@@ -106,18 +112,19 @@ impl<V: Device, J: Naming, A: Node, D: Whole, C: Whole, F: Whole, E: Whole> Flus
         ensures refusal { IfErr result (λ why. IsIdle why ⊎ (IsFault (V.count (device_in self.old)) (V.count (device_in self.new)) why ⊎ (why ≡ Refusal.Foreign))) }
         ensures idle { IfErr result (λ why. IsIdle why → journal_of self.new ≡ journal_of self.old) }
         ensures spoiled { IfErr result (λ why. IsFault (V.count (device_in self.old)) (V.count (device_in self.new)) why → is_spoiled (journal_of self.new) ≡ true) }
-        ensures foreign { IfErr result (λ why. why ≡ Refusal.Foreign → IsSpent (len_of (journal_of self.old)) (len_of (journal_of self.new)) (is_spoiled (journal_of self.new))) }
+        ensures foreign { IfErr result (λ why. why ≡ Refusal.Foreign
+            → IsSpent (len_of (journal_of self.old)) (len_of (journal_of self.new)) (journal_epoch (journal_of self.old)) (journal_epoch (journal_of self.new)) (is_spoiled (journal_of self.new))) }
         ensures same { OnErr result (told_to self.new ≡ told_to self.old) }
         ensures in_reach { Reaches (V.reach (device_in self.old)) (device_size A.member.capacity) → IfErr result (λ why. IsIdle why ⊎ (why ≡ Refusal.Foreign)) }
 
-        // It ends where a batch did not land, and answers 9 then.
+        // It ends where what was written did not land, and answers 9 then.
         ensures ends { IfErr result (λ why. IsIdle why ⊎ (has_ended self.new ≡ true)) }
         ensures goes_on { OnOk result (has_ended self.new ≡ false) }
         ensures ended { has_ended self.old ≡ true → IsErrOf result Refusal.Failed }
 
-        // A stop at any moment leaves what the journal read as, or also the inputs of the batch.
+        // A stop at any moment leaves what the journal read as, or what it reads as behind the round.
         ensures any_moment { has_ended self.old ≡ false → (r : Reading) → AllReadAs A.member (V.disk (device_in self.old)) r
-            → IsStopped V.clock V.left_since (device_in self.old) (device_in self.new) A.member r }
+            → IsStopped V.clock V.left_since (device_in self.old) (device_in self.new) A.member A.opening (len_of (journal_of self.old)) (journal_epoch (journal_of self.old)) r }
     {
         if self.has_ended {
             return Err(Refusal::Failed);
@@ -130,16 +137,16 @@ impl<V: Device, J: Naming, A: Node, D: Whole, C: Whole, F: Whole, E: Whole> Flus
             is_published,
             has_ended,
         } = self;
-        // Each input of a batch makes one leader known at most.
-        if owed.reserve(BATCH_INPUTS).is_err() {
+        // Each input makes one leader known at most, and takes 16 bytes of the capacity at least, also where it waits.
+        if owed.reserve(journal.capacity() as usize / 16).is_err() {
             return Err(Refusal::OutOfMemory);
         }
         match hub.launch(rt, tie) {
             Err(refusal) => Err(refusal),
             Ok(None) => Ok(None),
-            Ok(Some(batch)) => {
-                gate.before_commit(batch.first(), batch.inputs().len());
-                match settle(rt, hub, journal, tie, batch) {
+            Ok(Some(work)) => {
+                gate.before_commit(work.first(), work.count());
+                match settle(rt, hub, journal, tie, work) {
                     Err(refusal) => {
                         *has_ended = true;
                         Err(refusal)
@@ -151,6 +158,13 @@ impl<V: Device, J: Naming, A: Node, D: Whole, C: Whole, F: Whole, E: Whole> Flus
                 }
             }
         }
+    }
+
+    /// The epoch of its journal's area in use, which each round that makes a checkpoint raises by 1.
+    pub fn epoch(&self) -> u64
+        ensures { result ≡ journal_epoch (journal_of self.now) }
+    {
+        self.journal.epoch()
     }
 
     /// Whether all that the board took is published. Before the first round it is not known; after a round it is not where
@@ -180,41 +194,68 @@ impl<V: Device, J: Naming, A: Node, D: Whole, C: Whole, F: Whole, E: Whole> Flus
     }
 }
 
-/// Makes the batch durable, and tells the hub what became of it. What the hub refuses is ended.
+/// Writes it to the journal, as a batch or as a checkpoint.
+fn write<V: Device>(journal: &mut Journal<V>, work: Work) -> Result<Receipt, Spoiled>
+    requires ready { is_spoiled journal.old ≡ false }
+    requires taken { IsTaken (member_of journal.old) (len_of journal.old) (room_of journal.old) (journal_epoch journal.old) work }
+    ensures durable { OnOk result ((r : Reading) → AllReadAs (member_of journal.old) (V.disk (device_of journal.old)) r
+        → AllReadAs (member_of journal.old) (V.disk (device_of journal.new)) (reading_after (journal_epoch journal.old) (summary_by work) (flown_by work).inputs r)) }
+    ensures spoils { is_spoiled journal.new ≡ is_err result }
+    ensures cause { HasCause (V.count (device_of journal.old)) (V.count (device_of journal.new)) result }
+    ensures works { Reaches (V.reach (device_of journal.old)) (device_size (member_of journal.old).capacity) → IsOk result }
+    ensures receipt { IfOk result (λ receipt. landed receipt ≡ flown_by work) }
+    ensures spoiled { IfErr result (λ spoiled. lost spoiled ≡ flown_by work) }
+    ensures header { member_of journal.new ≡ member_of journal.old }
+    ensures len { OnOk result (len_of journal.new ≡ len_of journal.old + length (flown_by work).inputs) }
+    ensures room { OnOk result (room_of journal.new ≡ room_after (flown_by work).snapshot (member_of journal.old).capacity (costs_in (flown_by work).inputs) (room_of journal.old)) }
+    ensures epoch { OnOk result (journal_epoch journal.new ≡ epoch_after (flown_by work).snapshot (journal_epoch journal.old)) }
+    ensures any_moment { (r : Reading) → AllReadAs (member_of journal.old) (V.disk (device_of journal.old)) r
+        → LeavesOnly V.clock V.left_since (device_of journal.old) (device_of journal.new)
+        (ReadsAsOneOf (member_of journal.old) r (reading_after (journal_epoch journal.old) (summary_by work) (flown_by work).inputs r)) }
+{
+    match work {
+        Work::Batch(batch) => journal.commit(batch),
+        Work::Checkpoint(checkpoint) => journal.checkpoint(checkpoint),
+    }
+}
+
+/// Makes it durable, and tells the hub what became of it. What the hub refuses is ended.
 fn settle<V: Device, A: Node, D: Whole, C: Whole, F: Whole, E: Whole, R: Wait>(
     rt: &R,
     hub: &Hub<A, D, C, F, E>,
     journal: &mut Journal<V>,
     tie: &mut Tie<A, D, C, F, E>,
-    batch: Batch,
+    work: Work,
 ) -> Result<Landed, Refusal>
     requires whole { IsWhole D.all D.parts × IsWhole C.all C.parts × IsWhole F.all F.parts × IsWhole E.all E.parts }
     requires ready { is_spoiled journal.old ≡ false }
     requires member { member_of journal.old ≡ A.member }
-    requires node { (shown batch).node ≡ A.member.node }
-    requires first { (shown batch).first ≡ len_of journal.old }
+    requires inside { IsNodeOf A.member.n A.member.node }
+    requires next { IsNext A.member A.opening tie.old work }
     requires len { len_of journal.old ≡ durable_of tie.old }
-    requires fits { spent_of tie.old + costs_in (shown batch).inputs ≤ freed_of tie.old + A.member.capacity }
     requires room { room_of journal.old ≡ (A.member.capacity + freed_of tie.old) - spent_of tie.old }
     requires epoch { journal_epoch journal.old ≡ epoch_of tie.old }
-    ensures count { IfOk result (λ landed. landed.count ≡ length (shown batch).inputs) }
-    ensures brought { IfOk result (λ landed. IsBrought A.member A.opening (len_of journal.old) (shown batch).inputs landed) }
-    ensures few { IfOk result (λ landed. length landed.decisions.items ≤ BATCH_INPUTS) }
+    ensures count { IfOk result (λ landed. landed.count ≡ length (flown_by work).inputs) }
+    ensures brought { IfOk result (λ landed. IsBrought A.member A.opening (len_of journal.old) (flown_by work).inputs landed) }
+    ensures few { IfOk result (λ landed. length landed.decisions.items ≤ length (flown_by work).inputs) }
     ensures durable { OnOk result ((r : Reading) → AllReadAs A.member (V.disk (device_of journal.old)) r
-        → AllReadAs A.member (V.disk (device_of journal.new)) (with_more r (shown batch).inputs)) }
+        → AllReadAs A.member (V.disk (device_of journal.new)) (reading_after (journal_epoch journal.old) (summary_by work) (flown_by work).inputs r)) }
     ensures ready { OnOk result (is_spoiled journal.new ≡ false) }
     ensures member { member_of journal.new ≡ A.member }
+    ensures behind { OnOk result (len_of journal.new ≡ len_of journal.old + length (flown_by work).inputs) }
+    ensures in_use { OnOk result (journal_epoch journal.new ≡ epoch_after (flown_by work).snapshot (journal_epoch journal.old)) }
     ensures len { OnOk result (len_of journal.new ≡ durable_of tie.new) }
     ensures room { OnOk result (room_of journal.new ≡ (A.member.capacity + freed_of tie.new) - spent_of tie.new) }
     ensures epoch { OnOk result (journal_epoch journal.new ≡ epoch_of tie.new) }
     ensures refusal { IfErr result (λ why. IsFault (V.count (device_of journal.old)) (V.count (device_of journal.new)) why ⊎ (why ≡ Refusal.Foreign)) }
     ensures spoiled { IfErr result (λ why. IsFault (V.count (device_of journal.old)) (V.count (device_of journal.new)) why → is_spoiled journal.new ≡ true) }
-    ensures foreign { IfErr result (λ why. why ≡ Refusal.Foreign → IsSpent (len_of journal.old) (len_of journal.new) (is_spoiled journal.new)) }
+    ensures foreign { IfErr result (λ why. why ≡ Refusal.Foreign → IsSpent (len_of journal.old) (len_of journal.new) (journal_epoch journal.old) (journal_epoch journal.new) (is_spoiled journal.new)) }
     ensures in_reach { Reaches (V.reach (device_of journal.old)) (device_size A.member.capacity) → IfErr result (λ why. why ≡ Refusal.Foreign) }
     ensures any_moment { (r : Reading) → AllReadAs (member_of journal.old) (V.disk (device_of journal.old)) r
-        → LeavesOnly V.clock V.left_since (device_of journal.old) (device_of journal.new) (ReadsAsOneOf (member_of journal.old) r (with_more r (shown batch).inputs)) }
+        → LeavesOnly V.clock V.left_since (device_of journal.old) (device_of journal.new)
+        (ReadsAsOneOf (member_of journal.old) r (reading_after (journal_epoch journal.old) (summary_by work) (flown_by work).inputs r)) }
 {
-    match journal.commit(batch) {
+    match write(journal, work) {
         Ok(receipt) => match hub.land(rt, tie, receipt) {
             Ok(landed) => Ok(landed),
             Err((receipt, refusal)) => {

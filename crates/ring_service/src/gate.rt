@@ -1,8 +1,9 @@
-//! What a flusher tells before each commit.
+//! What a flusher tells before each commit and each checkpoint.
 
-/// Is told of each batch before it is committed, and may wait. No lock is held then.
+/// Is told of each batch and each checkpoint before it is written, and may wait. No lock is held then.
 pub trait Gate {
-    /// A batch of so many inputs, 1 to 64, is committed next; the journal holds `first` inputs before it.
+    /// So many inputs are made durable next, 1 to 64 by a batch, any number by a checkpoint; the journal holds `first`
+    /// inputs before them.
     fn before_commit(&mut self, first: u64, count: usize);
 }
 

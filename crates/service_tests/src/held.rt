@@ -3,9 +3,10 @@ ghost use Rattle.std.specs.Prelude.{◌≡◌, ◌+◌, ◌-◌, false, length, 
 ghost use Rattle.ring_records.specs.Admission.{used};
 ghost use Rattle.ring_records.specs.States.{durable_in};
 ghost use Rattle.gated_journal.specs.Journal.{member_of, len_of, room_of, epoch_of, is_spoiled};
+ghost use Rattle.node_core.specs.Core.{IsNodeOf};
 ghost use Rattle.commit_hub.specs.Pages.{ForAccepted, ForDurable, ForSpent, ForFreed, ForEpochs, IsWhole};
 
-use crate::rounds::{elected, flush_all, reads};
+use crate::calls::{elected, flush_all, reads};
 use crate::rows::{Latest, empty_device, latest, new_node, reply, request};
 use crate::slow::await_flag;
 use commit_hub::{Blanks, Hub, Node, Share, Whole};
@@ -116,6 +117,7 @@ fn play<
     requires member { desk.view.member ≡ A.member }
     requires opening { desk.opening ≡ A.opening }
     requires none { desk.view.state.checkpoint ≡ None }
+    requires inside { IsNodeOf desk.view.member.n desk.view.member.node }
     requires opened { desk.opening.inputs + length desk.view.state.inputs ≡ A.opened }
     requires history { opened ≡ J.book }
     requires accepted { ForAccepted blanks A.name A.parts }

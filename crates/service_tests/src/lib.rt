@@ -4,6 +4,10 @@
 #[cfg(test)]
 mod appenders;
 #[cfg(test)]
+mod calls;
+#[cfg(test)]
+mod checkpoints;
+#[cfg(test)]
 mod held;
 #[cfg(test)]
 mod rounds;

@@ -1,78 +1,28 @@
 // Rounds by calls: the one thread that the tests have is appender and flusher in turn.
-ghost use Rattle.std.specs.Prelude.{◌≡◌, ◌+◌, ◌-◌, false, length, None};
+ghost use Rattle.std.specs.Prelude.{◌≡◌, ◌+◌, ◌-◌, ◌||◌, false, length, None};
 ghost use Rattle.ring_records.specs.Admission.{used};
 ghost use Rattle.ring_records.specs.States.{durable_in};
 ghost use Rattle.gated_journal.specs.Journal.{member_of, len_of, room_of, epoch_of, is_spoiled};
+ghost use Rattle.node_core.specs.Core.{IsNodeOf};
+ghost use Rattle.node_store.specs.Node.{desk_of};
 ghost use Rattle.commit_hub.specs.Pages.{ForAccepted, ForDurable, ForSpent, ForFreed, ForEpochs, IsWhole};
 
-use crate::rows::{Latest, empty_device, group, key, latest, leader, node, request};
-use commit_hub::{Blanks, Hub, Node, Share, Whole};
+use crate::calls::*;
+use crate::checkpoints::{all_durable, fails_due, renews};
+use crate::rows::{Told, empty_device, fills, key, latest, leader, node, reopened, told};
+use commit_hub::{Blanks, Hub, Node, Whole};
 use decision_board::{Board, BoardReader, Naming, Opened};
-use disk_model::{Device, FuseDevice, MemDevice};
+use disk_model::{Device, FuseDevice, MemDevice, Tear};
 use gated_journal::{Journal, device_size};
-use group_commit::{Desk, Ticket};
-use ring_records::Refusal;
-use ring_service::{Flusher, Gate};
+use group_commit::Desk;
+use ring_records::{Input, Refusal};
+use ring_service::Flusher;
 use std::alloc::AllocGlobal;
 use std::marker::Brand;
 use std::process::Abort;
 use std::sync::Wait;
-use std::sync::atomic::{AtomicBool, Ordering};
 use std::test::*;
-use test_rows::{Ask, Note};
-
-/// Flushes until the hub is closed, which is told before, and nothing waits, or the device fails. Where a growth is
-/// refused it goes on.
-pub fn flush_all<
-    V: Device,
-    J: Naming,
-    A: Node,
-    D: Whole,
-    C: Whole,
-    F: Whole,
-    E: Whole,
-    R: Wait + Abort,
-    G: Gate,
->(
-    rt: &R,
-    hub: &Hub<A, D, C, F, E>,
-    flusher: &mut Flusher<V, J, A, D, C, F, E>,
-    gate: &mut G,
-    closing: &AtomicBool,
-)
-    requires { IsWhole D.all D.parts × IsWhole C.all C.parts × IsWhole F.all F.parts × IsWhole E.all E.parts }
-{
-    for _ in rt.forever() {
-        match flusher.flush_round(rt, hub, gate) {
-            Ok(Some(_)) | Err(Refusal::OutOfMemory) => {}
-            Ok(None) => {
-                assert!(rt; closing.load(Ordering::SeqCst));
-                break;
-            }
-            Err(Refusal::Device(_)) => break,
-            Err(refusal) => panic!(rt; "{refusal}"),
-        }
-    }
-}
-
-/// The message of number `no`, by which node 2 leads the group with bid 30.
-pub fn elected(no: u64, group: &'static str, term: u32) -> Ask {
-    Ask::Take(no, Note::Elected(group, term, 30, 2))
-}
-
-/// Keeps what it was told last.
-#[derive(Drop)]
-struct Noted {
-    first: u64,
-    count: usize,
-}
-
-impl Gate for Noted {
-    fn before_commit(&mut self, first: u64, count: usize) {
-        self.first = first;
-        self.count = count;
-    }
-}
+use test_rows::{Ask, Note, Op};
 
 /// What is done with a flusher.
 #[derive(Drop)]
@@ -84,67 +34,19 @@ enum Case {
     /// Three leaders, a round for each, and one round more, after which nothing is owed. What is refused for memory is
     /// called again.
     Grows,
+    /// A round that makes a checkpoint, and two that make batches; then the hub is closed.
+    Renews,
+    /// A round; then the hub is closed, and the device fails with a checkpoint.
+    FailsDue,
+    /// A checkpoint is due, and nothing waits. The hub is closed behind the first round, or before it.
+    AllDurable { is_open: bool },
 }
 
-/// A ticket for the request. Where a growth is refused it is asked again.
-fn submits<A: Node, D: Whole, C: Whole, F: Whole, E: Whole, R: Wait + Abort>(
-    rt: &R,
-    hub: &Hub<A, D, C, F, E>,
-    share: &mut Share<A>,
-    ask: Ask,
-) -> Ticket {
-    let question = request(rt, ask);
-    let first = hub.submit(rt, share, question);
-    match first {
-        Ok(ticket) => ticket,
-        Err(refusal) => {
-            assert!(rt; refusal == Refusal::OutOfMemory);
-            let again = request(rt, ask);
-            hub.submit(rt, share, again).expect(rt, "ample memory")
-        }
-    }
-}
-
-fn redeems<A: Node, D: Whole, C: Whole, F: Whole, E: Whole, R: Wait + Abort>(
-    rt: &R,
-    hub: &Hub<A, D, C, F, E>,
-    ticket: Ticket,
-) {
-    match hub.redeem_wait(rt, ticket) {
-        Ok((reply, stub)) => assert!(rt; stub.reply() == reply),
-        Err((_ticket, refusal)) => panic!(rt; "{refusal}"),
-    }
-}
-
-/// How many inputs a round makes durable, and how many leaders they make known. Where a growth is refused it is tried
-/// again.
-fn rounds<
-    V: Device,
-    J: Naming,
-    A: Node,
-    D: Whole,
-    C: Whole,
-    F: Whole,
-    E: Whole,
-    R: Wait + Abort,
-    G: Gate,
->(
-    rt: &R,
-    hub: &Hub<A, D, C, F, E>,
-    flusher: &mut Flusher<V, J, A, D, C, F, E>,
-    gate: &mut G,
-) -> (u32, usize)
-    requires { IsWhole D.all D.parts × IsWhole C.all C.parts × IsWhole F.all F.parts × IsWhole E.all E.parts }
-{
-    let mut landed = flusher.flush_round(rt, hub, gate);
-    if matches!(landed, Err(Refusal::OutOfMemory)) {
-        landed = flusher.flush_round(rt, hub, gate);
-    }
-    match landed {
-        Ok(Some(landed)) => (landed.count, landed.decisions.len()),
-        Ok(None) => panic!(rt; "nothing waits"),
-        Err(refusal) => panic!(rt; "{refusal}"),
-    }
+/// What a flusher leaves: its journal, and how many decisions are owed.
+#[derive(Drop)]
+struct Ended<V: Device> {
+    journal: Journal<V>,
+    owed: usize,
 }
 
 fn publishes<
@@ -195,40 +97,11 @@ fn fails<V: Device, J: Naming, A: Node, D: Whole, C: Whole, F: Whole, E: Whole, 
 {
     let mut share = hub.enter(rt).expect(rt, "a place");
     let ticket = submits(rt, hub, &mut share, elected(0, "red", 5));
-    assert!(rt;
-        matches!(
-            flusher.flush_round(rt, hub, &mut ()),
-            Err(Refusal::Device(1))
-        )
-    );
-    assert!(rt; matches!(flusher.flush_round(rt, hub, &mut ()), Err(Refusal::Failed)));
-    assert!(rt; reads(rt, reader, "red") == Ok(None));
-    match hub.redeem_wait(rt, ticket) {
-        Ok(_) => panic!(rt; "redeemed"),
-        Err((ticket, refusal)) => {
-            assert!(rt; refusal == Refusal::Failed);
-            assert!(rt; hub.forfeit(rt, ticket).is_ok());
-        }
-    }
+    fails_next(rt, hub, flusher, reader, ticket);
 }
 
 /// The leaders of these groups, each with the number of its message.
 const LED: [(u64, &str, u32); 3] = [(0, "red", 5), (1, "blue", 1), (2, "green", 7)];
-
-/// A round that makes a leader known.
-fn leads<V: Device, J: Naming, A: Node, D: Whole, C: Whole, F: Whole, E: Whole, R: Wait + Abort>(
-    rt: &R,
-    hub: &Hub<A, D, C, F, E>,
-    flusher: &mut Flusher<V, J, A, D, C, F, E>,
-    share: &mut Share<A>,
-    ask: Ask,
-)
-    requires { IsWhole D.all D.parts × IsWhole C.all C.parts × IsWhole F.all F.parts × IsWhole E.all E.parts }
-{
-    let ticket = submits(rt, hub, share, ask);
-    assert!(rt; rounds(rt, hub, flusher, &mut ()) == (1, 1));
-    redeems(rt, hub, ticket);
-}
 
 fn grows<V: Device, J: Naming, A: Node, D: Whole, C: Whole, F: Whole, E: Whole, R: Wait + Abort>(
     rt: &R,
@@ -248,12 +121,7 @@ fn grows<V: Device, J: Naming, A: Node, D: Whole, C: Whole, F: Whole, E: Whole, 
     }
 }
 
-pub fn reads<J: Naming>(rt: &impl Abort, reader: &mut BoardReader<J>, name: &str) -> Latest {
-    reader.latest(&group(rt, name))
-}
-
-/// Does with a flusher what the case says, and ends it. How many inputs its journal has, whether that is spoiled, and
-/// how many decisions are owed.
+/// Does with a flusher what the case says, and ends it.
 fn on_flusher<
     V: Device + Drop,
     J: Naming,
@@ -270,10 +138,11 @@ fn on_flusher<
     opened: Opened,
     blanks: Blanks,
     case: Case,
-) -> Result<(u64, bool, usize), Refusal>
+) -> Result<Ended<V>, Refusal>
     requires member { desk.view.member ≡ A.member }
     requires opening { desk.opening ≡ A.opening }
     requires none { desk.view.state.checkpoint ≡ None }
+    requires inside { IsNodeOf desk.view.member.n desk.view.member.node }
     requires opened { desk.opening.inputs + length desk.view.state.inputs ≡ A.opened }
     requires history { opened ≡ J.book }
     requires accepted { ForAccepted blanks A.name A.parts }
@@ -295,10 +164,29 @@ fn on_flusher<
         Case::Publishes => publishes(rt, &hub, &mut flusher, &mut reader),
         Case::Fails => fails(rt, &hub, &mut flusher, &mut reader),
         Case::Grows => grows(rt, &hub, &mut flusher, &mut reader),
+        Case::Renews => renews(rt, &hub, &mut flusher, &mut reader),
+        Case::FailsDue => fails_due(rt, &hub, &mut flusher, &mut reader),
+        Case::AllDurable { is_open } => all_durable(rt, &hub, &mut flusher, is_open),
     }
     let (journal, board, owed) = flusher.into_parts();
     board.end(rt);
-    Ok((journal.len(), journal.is_spoiled(), owed.len()))
+    Ok(Ended {
+        journal,
+        owed: owed.len(),
+    })
+}
+
+/// The node as the case begins with it: one without inputs, or one of which a checkpoint is due.
+fn begun<V: Device, R: Abort>(rt: &R, made: node_store::Node<V>, case: &Case) -> node_store::Node<V>
+    ensures open { ((desk_of result).view.closed || (desk_of result).view.failed) ≡ false }
+    ensures spent { length (desk_of result).view.tickets ≡ 0 }
+{
+    let mut made = made;
+    if matches!(case, Case::AllDurable { .. }) {
+        fills(rt, &mut made);
+    }
+    assert!(rt; made.is_open() && made.open_tickets() == 0);
+    made
 }
 
 /// The case on a flusher for node 1 of 3 with this device.
@@ -306,11 +194,16 @@ fn plays<V: Device + Drop, R: Wait + Abort + AllocGlobal>(
     rt: &R,
     device: V,
     case: Case,
-) -> Result<(u64, bool, usize), Refusal> {
-    let made = node_store::Node::create(rt.alloc(), device, node(rt, 1), 3, 4096, 0);
+) -> Result<Ended<V>, Refusal> {
+    let capacity = if matches!(case, Case::Renews) {
+        8192
+    } else {
+        4096
+    };
+    let made = node_store::Node::create(rt.alloc(), device, node(rt, 1), 3, capacity, 0);
     match made {
         Ok(made) => {
-            let (desk, journal) = made.split();
+            let (desk, journal) = begun(rt, made, &case).split();
             let (opened, blanks) = (Opened::new(), Blanks::new(1));
             on_flusher::<V, Brand, Brand, Brand, Brand, Brand, Brand, R>(
                 rt, desk, journal, opened, blanks, case,
@@ -320,23 +213,34 @@ fn plays<V: Device + Drop, R: Wait + Abort + AllocGlobal>(
     }
 }
 
+/// How many inputs the journal has, whether it is spoiled, and how many decisions are owed.
+fn counts<V: Device + Drop>(
+    ended: Result<Ended<V>, Refusal>,
+) -> Result<(u64, bool, usize), Refusal> {
+    match ended {
+        Ok(ended) => Ok((ended.journal.len(), ended.journal.is_spoiled(), ended.owed)),
+        Err(refusal) => Err(refusal),
+    }
+}
+
 #[test]
 fn a_round_publishes_what_it_makes_durable(rt: HostRuntime) -> Result<(), Fail> {
-    assert!(rt; plays(&rt, empty_device(&rt), Case::Publishes) == Ok((3, false, 0)));
+    let ended = plays(&rt, empty_device(&rt), Case::Publishes);
+    assert!(rt; counts(ended) == Ok((3, false, 0)));
     Ok(())
 }
 
 #[test]
 fn a_flusher_ends_with_its_device(rt: HostRuntime) -> Result<(), Fail> {
     let device = FuseDevice::new(empty_device(&rt), 2, false);
-    assert!(rt; plays(&rt, device, Case::Fails) == Ok((0, true, 0)));
+    assert!(rt; counts(plays(&rt, device, Case::Fails)) == Ok((0, true, 0)));
     Ok(())
 }
 
 /// Leaders are made known on a new device.
 fn grown<R: Wait + Abort + AllocGlobal>(rt: &R) -> Result<(u64, bool, usize), Refusal> {
     match MemDevice::new(rt.alloc(), device_size(4096) as usize) {
-        Ok(device) => plays(rt, device, Case::Grows),
+        Ok(device) => counts(plays(rt, device, Case::Grows)),
         Err(_) => Err(Refusal::OutOfMemory),
     }
 }
@@ -350,5 +254,75 @@ fn refused_growths(rt: HostRuntime) -> Result<(), Fail> {
         seen => seen,
     };
     assert!(rt; seen == Ok((4, false, 0)));
+    Ok(())
+}
+
+/// What the device keeps of the node behind the case, after which nothing is owed.
+fn ends<V: Device + Drop, R: Wait + Abort + AllocGlobal>(rt: &R, device: V, case: Case) -> V {
+    match plays(rt, device, case) {
+        Ok(ended) => {
+            assert!(rt; ended.owed == 0);
+            ended.journal.into_device()
+        }
+        Err(refusal) => panic!(rt; "{refusal}"),
+    }
+}
+
+/// What comes behind the checkpoint.
+const GREEN: Op = Op::Stand("green", 1, 3);
+
+const BLUE: Op = Op::Take(140, Note::Elected("blue", 1, 30, 2));
+
+fn input(rt: &impl Abort, op: Op) -> Input {
+    op.input().expect(rt, "an input")
+}
+
+#[test]
+fn a_checkpoint_makes_all_that_waits_durable(rt: HostRuntime) -> Result<(), Fail> {
+    let made = reopened(&rt, ends(&rt, empty_device(&rt), Case::Renews));
+    assert_eq!(rt; told(&made), (2, 141, 143, 69));
+    assert!(rt; made.history() == [input(&rt, GREEN), input(&rt, BLUE)].as_slice());
+    assert!(rt; Ok(made.desk().who(&key(&rt, "red", 5))) == leader(&rt, 30, 2));
+    assert!(rt; Ok(made.desk().who(&key(&rt, "blue", 1))) == leader(&rt, 30, 2));
+    Ok(())
+}
+
+/// Which call of a checkpoint's six fails, counted from 0, what becomes of the bytes that were not synced, and what the
+/// node holds then. Its Stand and the message of that were released before.
+const STOPS: [(u64, Tear, Told); 10] = [
+    (0, Tear::New, (1, 0, 1, 1)),
+    (1, Tear::Old, (1, 0, 1, 1)),
+    (2, Tear::Old, (1, 0, 1, 1)),
+    (2, Tear::New, (1, 0, 1, 1)),
+    (3, Tear::Fill(1), (1, 0, 1, 1)),
+    (4, Tear::Old, (1, 0, 1, 1)),
+    (4, Tear::Fill(1), (2, 71, 71, 2)),
+    (4, Tear::New, (2, 71, 71, 2)),
+    (5, Tear::Old, (1, 0, 1, 1)),
+    (5, Tear::New, (2, 71, 71, 2)),
+];
+
+/// What the device keeps of the node where that call fails: two calls made the journal, and four the Stand durable.
+fn stopped<R: Wait + Abort + AllocGlobal>(rt: &R, call: u64, tear: Tear) -> Told {
+    let device = FuseDevice::new(empty_device(rt), call.saturating_add(2 + 4), true);
+    let mut device = ends(rt, device, Case::FailsDue).into_inner();
+    device.crash(tear);
+    told(&reopened(rt, device))
+}
+
+#[test]
+fn a_device_that_fails_within_a_checkpoint(rt: HostRuntime) -> Result<(), Fail> {
+    for (call, tear, left) in STOPS {
+        assert_eq!(rt; stopped(&rt, call, tear), left);
+    }
+    Ok(())
+}
+
+#[test]
+fn a_closed_hub_makes_no_checkpoint_of_nothing(rt: HostRuntime) -> Result<(), Fail> {
+    for (is_open, left) in [(false, (1, 0, 70, 1)), (true, (2, 70, 70, 1))] {
+        let device = ends(&rt, empty_device(&rt), Case::AllDurable { is_open });
+        assert_eq!(rt; told(&reopened(&rt, device)), left);
+    }
     Ok(())
 }

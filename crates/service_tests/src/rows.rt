@@ -3,6 +3,7 @@ ghost use Rattle.std.specs.Prelude.{◌≡◌, ◌+◌, ◌-◌, false, None};
 ghost use Rattle.ring_records.specs.Admission.{used};
 ghost use Rattle.ring_records.specs.States.{durable_in};
 ghost use Rattle.gated_journal.specs.Journal.{member_of, len_of, room_of, epoch_of, is_spoiled};
+ghost use Rattle.node_core.specs.Core.{IsNodeOf};
 
 use disk_model::{Device, MemDevice};
 use gated_journal::{Journal, device_size};
@@ -11,7 +12,7 @@ use node_store::Node;
 use ring_records::{Bid, Candidate, GroupName, Key, NodeNo, Refusal, Reply, Request, Term};
 use std::alloc::AllocGlobal;
 use std::process::Abort;
-use test_rows::{Ask, Say};
+use test_rows::{Ask, Note, Say};
 
 pub fn node(rt: &impl Abort, number: u8) -> NodeNo {
     NodeNo::new(number).expect(rt, "a node")
@@ -53,9 +54,9 @@ pub fn latest(rt: &impl Abort, term: u32, bid: u32, node: u8) -> Latest {
     Ok(Some((term, leader)))
 }
 
-/// A device that holds nothing, with room for a journal of capacity 4,096.
+/// A device that holds nothing, with room for a journal of capacity 8,192.
 pub fn empty_device<R: Abort + AllocGlobal>(rt: &R) -> MemDevice {
-    MemDevice::new(rt.alloc(), device_size(4096) as usize).expect(rt, "ample memory")
+    MemDevice::new(rt.alloc(), device_size(8192) as usize).expect(rt, "ample memory")
 }
 
 /// The desk and the journal of node 1 of 3, capacity 4,096, with no inputs, on this device.
@@ -63,6 +64,7 @@ pub fn new_node<V: Device + Drop, R: Abort + AllocGlobal>(rt: &R, device: V) -> 
     ensures ready { is_spoiled result.1 ≡ false }
     ensures member { member_of result.1 ≡ result.0.view.member }
     ensures none { result.0.view.state.checkpoint ≡ None }
+    ensures inside { IsNodeOf result.0.view.member.n result.0.view.member.node }
     ensures len { len_of result.1 ≡ result.0.opening.inputs + result.0.view.state.durable }
     ensures room { room_of result.1 ≡ result.0.view.member.capacity - used result.0.view.state.base (durable_in result.0.view.state) }
     ensures epoch { epoch_of result.1 ≡ result.0.view.state.base.epoch }
@@ -71,4 +73,44 @@ pub fn new_node<V: Device + Drop, R: Abort + AllocGlobal>(rt: &R, device: V) -> 
         Ok(made) => made.split(),
         Err((_device, refusal)) => panic!(rt; "{refusal}"),
     }
+}
+
+/// The message of number `no` that a node drops which stood for red 5 with bid 10. It takes 29 bytes of the capacity.
+pub fn dropped(no: u64) -> Ask {
+    Ask::Take(no, Note::Token("red", 5, 5, 3))
+}
+
+/// The input of the request becomes durable.
+fn lasts<V: Device>(rt: &impl Abort, made: &mut Node<V>, ask: Ask) {
+    let question = request(rt, ask);
+    let ticket = made.submit(question).expect(rt, "a ticket");
+    assert!(rt; made.flush().is_ok());
+    match made.redeem(ticket) {
+        Ok((reply, stub)) => assert!(rt; stub.reply() == reply),
+        Err((_ticket, refusal)) => panic!(rt; "{refusal}"),
+    }
+}
+
+/// A new node stands and takes 69 messages, all of which become durable: a checkpoint is due.
+pub fn fills<V: Device>(rt: &impl Abort, made: &mut Node<V>) {
+    lasts(rt, made, Ask::Stand("red", 5, 10));
+    for no in 0..69 {
+        lasts(rt, made, dropped(no));
+    }
+}
+
+/// The node that the device holds, node 1 of 3, opened again.
+pub fn reopened<V: Device + Drop, R: Abort + AllocGlobal>(rt: &R, device: V) -> Node<V> {
+    match Node::recover(rt.alloc(), device, NodeNo::first(), 3, 1) {
+        Ok(made) => made,
+        Err((_device, refusal)) => panic!(rt; "{refusal}"),
+    }
+}
+
+/// The node's epoch, how many inputs its summary stands for, how many it has in all, and how many messages they sent.
+pub type Told = (u64, u64, u64, u64);
+
+pub fn told<V: Device>(made: &Node<V>) -> Told {
+    let desk = made.desk();
+    (made.epoch(), desk.first(), made.durable(), desk.sent())
 }

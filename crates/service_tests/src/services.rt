@@ -3,9 +3,10 @@ ghost use Rattle.std.specs.Prelude.{◌≡◌, ◌+◌, ◌-◌, false, length, 
 ghost use Rattle.ring_records.specs.Admission.{used};
 ghost use Rattle.ring_records.specs.States.{durable_in};
 ghost use Rattle.gated_journal.specs.Journal.{member_of, len_of, room_of, epoch_of, is_spoiled};
+ghost use Rattle.node_core.specs.Core.{IsNodeOf};
 ghost use Rattle.commit_hub.specs.Pages.{places_of, ForAccepted, ForDurable, ForSpent, ForFreed, ForEpochs, IsWhole};
 
-use crate::rounds::flush_all;
+use crate::calls::flush_all;
 use crate::rows::{bid, empty_device, group, key, new_node, reply};
 use commit_hub::{Blanks, Hub, Node, Share, Whole};
 use decision_board::{Board, BoardReader, Naming, Opened};
@@ -83,6 +84,7 @@ fn play<
     requires member { desk.view.member ≡ A.member }
     requires opening { desk.opening ≡ A.opening }
     requires none { desk.view.state.checkpoint ≡ None }
+    requires inside { IsNodeOf desk.view.member.n desk.view.member.node }
     requires opened { desk.opening.inputs + length desk.view.state.inputs ≡ A.opened }
     requires history { opened ≡ J.book }
     requires accepted { ForAccepted blanks A.name A.parts }

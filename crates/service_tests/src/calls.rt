@@ -1,0 +1,193 @@
+// Calls of hubs and flushers that go well, or are refused as they are to be.
+ghost use Rattle.commit_hub.specs.Pages.{IsWhole};
+
+use crate::rows::{Latest, group, request};
+use commit_hub::{Hub, Node, Share, Whole};
+use decision_board::{BoardReader, Naming};
+use disk_model::Device;
+use group_commit::Ticket;
+use ring_records::Refusal;
+use ring_service::{Flusher, Gate};
+use std::process::Abort;
+use std::sync::Wait;
+use std::sync::atomic::{AtomicBool, Ordering};
+use test_rows::{Ask, Note};
+
+/// Flushes until the hub is closed, which is told before, and nothing waits, or the device fails. Where a growth is
+/// refused it goes on.
+pub fn flush_all<
+    V: Device,
+    J: Naming,
+    A: Node,
+    D: Whole,
+    C: Whole,
+    F: Whole,
+    E: Whole,
+    R: Wait + Abort,
+    G: Gate,
+>(
+    rt: &R,
+    hub: &Hub<A, D, C, F, E>,
+    flusher: &mut Flusher<V, J, A, D, C, F, E>,
+    gate: &mut G,
+    closing: &AtomicBool,
+)
+    requires { IsWhole D.all D.parts × IsWhole C.all C.parts × IsWhole F.all F.parts × IsWhole E.all E.parts }
+{
+    for _ in rt.forever() {
+        match flusher.flush_round(rt, hub, gate) {
+            Ok(Some(_)) | Err(Refusal::OutOfMemory) => {}
+            Ok(None) => {
+                assert!(rt; closing.load(Ordering::SeqCst));
+                break;
+            }
+            Err(Refusal::Device(_)) => break,
+            Err(refusal) => panic!(rt; "{refusal}"),
+        }
+    }
+}
+
+/// The message of number `no`, by which node 2 leads the group with bid 30.
+pub fn elected(no: u64, group: &'static str, term: u32) -> Ask {
+    Ask::Take(no, Note::Elected(group, term, 30, 2))
+}
+
+/// Keeps what it was told last.
+#[derive(Drop)]
+pub struct Noted {
+    pub first: u64,
+    pub count: usize,
+}
+
+impl Gate for Noted {
+    fn before_commit(&mut self, first: u64, count: usize) {
+        self.first = first;
+        self.count = count;
+    }
+}
+
+/// A ticket for the request. Where a growth is refused it is asked again.
+pub fn submits<A: Node, D: Whole, C: Whole, F: Whole, E: Whole, R: Wait + Abort>(
+    rt: &R,
+    hub: &Hub<A, D, C, F, E>,
+    share: &mut Share<A>,
+    ask: Ask,
+) -> Ticket {
+    let question = request(rt, ask);
+    let first = hub.submit(rt, share, question);
+    match first {
+        Ok(ticket) => ticket,
+        Err(refusal) => {
+            assert!(rt; refusal == Refusal::OutOfMemory);
+            let again = request(rt, ask);
+            hub.submit(rt, share, again).expect(rt, "ample memory")
+        }
+    }
+}
+
+pub fn redeems<A: Node, D: Whole, C: Whole, F: Whole, E: Whole, R: Wait + Abort>(
+    rt: &R,
+    hub: &Hub<A, D, C, F, E>,
+    ticket: Ticket,
+) {
+    match hub.redeem_wait(rt, ticket) {
+        Ok((reply, stub)) => assert!(rt; stub.reply() == reply),
+        Err((_ticket, refusal)) => panic!(rt; "{refusal}"),
+    }
+}
+
+/// How many inputs a round makes durable, and how many leaders they make known. Where a growth is refused it is tried
+/// again.
+pub fn rounds<
+    V: Device,
+    J: Naming,
+    A: Node,
+    D: Whole,
+    C: Whole,
+    F: Whole,
+    E: Whole,
+    R: Wait + Abort,
+    G: Gate,
+>(
+    rt: &R,
+    hub: &Hub<A, D, C, F, E>,
+    flusher: &mut Flusher<V, J, A, D, C, F, E>,
+    gate: &mut G,
+) -> (u32, usize)
+    requires { IsWhole D.all D.parts × IsWhole C.all C.parts × IsWhole F.all F.parts × IsWhole E.all E.parts }
+{
+    let mut landed = flusher.flush_round(rt, hub, gate);
+    if matches!(landed, Err(Refusal::OutOfMemory)) {
+        landed = flusher.flush_round(rt, hub, gate);
+    }
+    match landed {
+        Ok(Some(landed)) => (landed.count, landed.decisions.len()),
+        Ok(None) => panic!(rt; "nothing waits"),
+        Err(refusal) => panic!(rt; "{refusal}"),
+    }
+}
+
+/// A round that makes a leader known.
+pub fn leads<
+    V: Device,
+    J: Naming,
+    A: Node,
+    D: Whole,
+    C: Whole,
+    F: Whole,
+    E: Whole,
+    R: Wait + Abort,
+>(
+    rt: &R,
+    hub: &Hub<A, D, C, F, E>,
+    flusher: &mut Flusher<V, J, A, D, C, F, E>,
+    share: &mut Share<A>,
+    ask: Ask,
+)
+    requires { IsWhole D.all D.parts × IsWhole C.all C.parts × IsWhole F.all F.parts × IsWhole E.all E.parts }
+{
+    let ticket = submits(rt, hub, share, ask);
+    assert!(rt; rounds(rt, hub, flusher, &mut ()) == (1, 1));
+    redeems(rt, hub, ticket);
+}
+
+/// The device fails within the round that makes the ticket's input durable: no leader is known by it, the flusher has
+/// ended, and the ticket is given back with no reply.
+pub fn fails_next<
+    V: Device,
+    J: Naming,
+    A: Node,
+    D: Whole,
+    C: Whole,
+    F: Whole,
+    E: Whole,
+    R: Wait + Abort,
+>(
+    rt: &R,
+    hub: &Hub<A, D, C, F, E>,
+    flusher: &mut Flusher<V, J, A, D, C, F, E>,
+    reader: &mut BoardReader<J>,
+    ticket: Ticket,
+)
+    requires { IsWhole D.all D.parts × IsWhole C.all C.parts × IsWhole F.all F.parts × IsWhole E.all E.parts }
+{
+    assert!(rt;
+        matches!(
+            flusher.flush_round(rt, hub, &mut ()),
+            Err(Refusal::Device(1))
+        )
+    );
+    assert!(rt; matches!(flusher.flush_round(rt, hub, &mut ()), Err(Refusal::Failed)));
+    assert!(rt; reads(rt, reader, "red") == Ok(None));
+    match hub.redeem_wait(rt, ticket) {
+        Ok(_) => panic!(rt; "redeemed"),
+        Err((ticket, refusal)) => {
+            assert!(rt; refusal == Refusal::Failed);
+            assert!(rt; hub.forfeit(rt, ticket).is_ok());
+        }
+    }
+}
+
+pub fn reads<J: Naming>(rt: &impl Abort, reader: &mut BoardReader<J>, name: &str) -> Latest {
+    reader.latest(&group(rt, name))
+}
