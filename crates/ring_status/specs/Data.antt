@@ -31,10 +31,12 @@ abbrev pub journal_data : NodeStatus → Data
 journal_data node = object
     (member (codes "batches") (natural node.batches)
     (member (codes "capacity") (natural node.capacity)
+    (member (codes "checkpoints") (natural node.checkpoints)
     (member (codes "durable") (natural (node.shown).durable)
+    (member (codes "epoch") (natural node.epoch)
     (member (codes "inputs") (natural (node.shown).inputs)
     (member (codes "syncs") (natural node.syncs)
-    (member (codes "used") (natural node.used) no_members))))))
+    (member (codes "used") (natural node.used) no_members))))))))
 
 abbrev pub messages_data : NodeStatus → Data
 messages_data node = object

@@ -1,5 +1,5 @@
 -- Whether each node takes what it should.
-use Rattle.std.specs.Prelude.{ℕ, ◌+◌, ◌-◌, nat_lt, nat_le, Bool, true, false, not, if◌then◌else◌, List, [], ◌++◌, codes}
+use Rattle.std.specs.Prelude.{ℕ, ◌+◌, ◌-◌, nat_lt, nat_le, Bool, true, false, not, ◌&&◌, if◌then◌else◌, List, [], ◌++◌, codes}
 use Rattle.std.specs.Fmt.{decimal}
 use Rattle.std.specs.List.{flat_map, list_all}
 use Rattle.ring_status.specs.declared.holding.Holding.{Holding}
@@ -8,11 +8,11 @@ use Rattle.ring_status.specs.declared.values.Condition.TheVariants.{Well, Limit,
 use Rattle.ring_status.specs.declared.values.NodeStatus.{NodeStatus}
 
 -- What a node takes that holds so much: nothing where it takes no requests; a Stand or a message takes 42 bytes at most,
--- and a node takes 1,024 Stands at most.
+-- for which a checkpoint that is due makes room; and a node takes 1,024 Stands at most.
 abbrev pub condition_of : Holding → Bool → Condition
 condition_of held is_open =
     if not is_open then Failed
-    else (if nat_lt held.capacity (held.used + 42) then Full
+    else (if not held.is_due && nat_lt held.capacity (held.used + 42) then Full
     else (if nat_le 1024 held.stands then Limit
     else Well))
 

@@ -25,6 +25,8 @@ name_text of.Capacity = codes "cinoweta_journal_capacity_bytes"
 name_text of.Stands = codes "cinoweta_stands_total"
 name_text of.StandsLeft = codes "cinoweta_stands_left"
 name_text of.Batches = codes "cinoweta_batches_total"
+name_text of.Checkpoints = codes "cinoweta_checkpoints_total"
+name_text of.Epoch = codes "cinoweta_journal_epoch"
 name_text of.Syncs = codes "cinoweta_syncs_total"
 name_text of.Sessions = codes "cinoweta_sessions_total"
 name_text of.Doors = codes "cinoweta_doors"
@@ -45,6 +47,8 @@ help_text of.Capacity = codes "Bytes of inputs that the node takes."
 help_text of.Stands = codes "Stands that the node took."
 help_text of.StandsLeft = codes "Stands that the node may still take."
 help_text of.Batches = codes "Batches that the node wrote since the start."
+help_text of.Checkpoints = codes "Checkpoints that the node made since the start."
+help_text of.Epoch = codes "Epoch of its journal's area in use, which each checkpoint raises by 1."
 help_text of.Syncs = codes "Syncs of its device since the start."
 help_text of.Sessions = codes "Sessions begun at the node since the start."
 help_text of.Doors = codes "Doors of the node."
@@ -66,6 +70,8 @@ kind_text of.Capacity = codes "gauge"
 kind_text of.Stands = codes "counter"
 kind_text of.StandsLeft = codes "gauge"
 kind_text of.Batches = codes "counter"
+kind_text of.Checkpoints = codes "counter"
+kind_text of.Epoch = codes "gauge"
 kind_text of.Syncs = codes "counter"
 kind_text of.Sessions = codes "counter"
 kind_text of.Doors = codes "gauge"
@@ -105,6 +111,8 @@ value_of of.Capacity node = node.capacity
 value_of of.Stands node = node.stands
 value_of of.StandsLeft node = node.stands_left
 value_of of.Batches node = node.batches
+value_of of.Checkpoints node = node.checkpoints
+value_of of.Epoch node = node.epoch
 value_of of.Syncs node = node.syncs
 value_of of.Sessions node = node.sessions
 value_of of.Doors node = node.doors
@@ -116,7 +124,7 @@ unfoldable pub metrics : List Metric
 metrics =
     of.Failed ∷ of.Full ∷ of.AtLimit ∷ of.Inputs ∷ of.Durable ∷ of.Sent
     ∷ of.Taken ∷ of.Credit ∷ of.Used ∷ of.Capacity ∷ of.Stands ∷ of.StandsLeft
-    ∷ of.Batches ∷ of.Syncs ∷ of.Sessions ∷ of.Doors ∷ of.BusyDoors ∷ of.Letters ∷ []
+    ∷ of.Batches ∷ of.Checkpoints ∷ of.Epoch ∷ of.Syncs ∷ of.Sessions ∷ of.Doors ∷ of.BusyDoors ∷ of.Letters ∷ []
 
 -- ---- the text
 

@@ -1,5 +1,5 @@
 // What a node holds, and what that says of what it takes.
-ghost use Rattle.std.specs.Prelude.{◌≡◌, ◌-◌};
+ghost use Rattle.std.specs.Prelude.{◌≡◌, ◌+◌, ◌-◌, nat_lt};
 ghost use Rattle.ring_status.specs.Health.{condition_of, stands_left};
 
 use crate::values::Condition;
@@ -19,6 +19,8 @@ pub struct Holding {
     pub capacity: u64,
     /// How many Stands it has taken.
     pub stands: u64,
+    /// Whether a checkpoint is due, which makes room.
+    pub is_due: bool,
 }
 
 impl Holding {
@@ -28,13 +30,20 @@ impl Holding {
     {
         if !is_open {
             Condition::Failed
-        } else if self.used > self.capacity || self.capacity - self.used < MOST {
+        } else if !self.is_due && self.is_filled() {
             Condition::Full
         } else if self.stands >= STANDS {
             Condition::Limit
         } else {
             Condition::Well
         }
+    }
+
+    // Whether there is no room for the longest message.
+    fn is_filled(&self) -> bool
+        ensures { result ≡ nat_lt self.now.capacity (self.now.used + 42) }
+    {
+        self.used > self.capacity || self.capacity - self.used < MOST
     }
 
     /// How many more Stands it may take.

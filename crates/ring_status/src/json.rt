@@ -44,7 +44,9 @@ fn journal_json(alloc: Global, node: &NodeStatus) -> Result<Value, AllocError>
     json!(in alloc; {
         "batches": node.batches,
         "capacity": node.capacity,
+        "checkpoints": node.checkpoints,
         "durable": node.shown.durable,
+        "epoch": node.epoch,
         "inputs": node.shown.inputs,
         "syncs": node.syncs,
         "used": node.used

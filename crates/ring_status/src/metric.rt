@@ -20,6 +20,8 @@ pub enum Metric {
     Stands,
     StandsLeft,
     Batches,
+    Checkpoints,
+    Epoch,
     Syncs,
     Sessions,
     Doors,
@@ -28,7 +30,7 @@ pub enum Metric {
 }
 
 /// All of them, in the order in which they are told.
-const METRICS: [Metric; 18] = [
+const METRICS: [Metric; 20] = [
     Metric::Failed,
     Metric::Full,
     Metric::AtLimit,
@@ -42,6 +44,8 @@ const METRICS: [Metric; 18] = [
     Metric::Stands,
     Metric::StandsLeft,
     Metric::Batches,
+    Metric::Checkpoints,
+    Metric::Epoch,
     Metric::Syncs,
     Metric::Sessions,
     Metric::Doors,
@@ -76,6 +80,8 @@ impl Metric {
             Metric::Stands => "cinoweta_stands_total",
             Metric::StandsLeft => "cinoweta_stands_left",
             Metric::Batches => "cinoweta_batches_total",
+            Metric::Checkpoints => "cinoweta_checkpoints_total",
+            Metric::Epoch => "cinoweta_journal_epoch",
             Metric::Syncs => "cinoweta_syncs_total",
             Metric::Sessions => "cinoweta_sessions_total",
             Metric::Doors => "cinoweta_doors",
@@ -102,6 +108,9 @@ impl Metric {
             Metric::Stands => "Stands that the node took.",
             Metric::StandsLeft => "Stands that the node may still take.",
             Metric::Batches => "Batches that the node wrote since the start.",
+            Metric::Checkpoints => "Checkpoints that the node made since the start.",
+            Metric::Epoch =>
+                "Epoch of its journal's area in use, which each checkpoint raises by 1.",
             Metric::Syncs => "Syncs of its device since the start.",
             Metric::Sessions => "Sessions begun at the node since the start.",
             Metric::Doors => "Doors of the node.",
@@ -122,6 +131,7 @@ impl Metric {
             | Metric::Credit
             | Metric::Stands
             | Metric::Batches
+            | Metric::Checkpoints
             | Metric::Syncs
             | Metric::Sessions => "counter",
             _ => "gauge",
@@ -146,6 +156,8 @@ impl Metric {
             Metric::Stands => node.stands,
             Metric::StandsLeft => node.stands_left,
             Metric::Batches => node.batches,
+            Metric::Checkpoints => node.checkpoints,
+            Metric::Epoch => node.epoch,
             Metric::Syncs => node.syncs,
             Metric::Sessions => node.sessions,
             Metric::Doors => node.doors,

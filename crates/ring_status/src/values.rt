@@ -41,6 +41,10 @@ pub struct NodeStatus {
     pub stands_left: u64,
     /// How many batches it wrote.
     pub batches: u64,
+    /// The epoch of its journal's area in use, which each checkpoint raises by 1.
+    pub epoch: u64,
+    /// How many checkpoints it made.
+    pub checkpoints: u64,
     /// How many syncs of its device it waited for.
     pub syncs: u64,
     /// The refusals that its clients were told.

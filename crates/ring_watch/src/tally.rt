@@ -7,13 +7,17 @@ use std::sync::atomic::{AtomicU64, Ordering};
 const REFUSALS: u8 = 25;
 
 /// A batch is written with a sync behind its frame, and one behind its gate.
-const SYNCS: u64 = 2;
+const BATCH_SYNCS: u64 = 2;
+
+/// A checkpoint is written with a sync behind the gate that it closes, one behind its snapshot, and one behind its gate.
+const CHECKPOINT_SYNCS: u64 = 3;
 
 /// What the threads of a node count since the start. It is read while they count, so two numbers of it may be of two
 /// moments.
 #[derive(Drop)]
 pub struct Tally {
     batches: AtomicU64,
+    checkpoints: AtomicU64,
     sessions: AtomicU64,
     busy: AtomicU64,
     // by their numbers, from 1 on
@@ -29,6 +33,7 @@ impl Tally {
         }
         Ok(Tally {
             batches: AtomicU64::new(0),
+            checkpoints: AtomicU64::new(0),
             sessions: AtomicU64::new(0),
             busy: AtomicU64::new(0),
             refusals,
@@ -38,6 +43,11 @@ impl Tally {
     /// A batch is durable.
     pub fn count_batch(&self) {
         self.batches.fetch_add(1, Ordering::SeqCst);
+    }
+
+    /// A checkpoint is durable.
+    pub fn count_checkpoint(&self) {
+        self.checkpoints.fetch_add(1, Ordering::SeqCst);
     }
 
     /// A session begins at one of the doors.
@@ -64,9 +74,16 @@ impl Tally {
         self.batches.load(Ordering::SeqCst)
     }
 
-    /// How many syncs these took.
+    /// How many checkpoints are durable.
+    pub fn checkpoints(&self) -> u64 {
+        self.checkpoints.load(Ordering::SeqCst)
+    }
+
+    /// How many syncs all of these took.
     pub fn syncs(&self) -> u64 {
-        self.batches().saturating_mul(SYNCS)
+        let batches = self.batches().saturating_mul(BATCH_SYNCS);
+        let checkpoints = self.checkpoints().saturating_mul(CHECKPOINT_SYNCS);
+        batches.saturating_add(checkpoints)
     }
 
     /// How many sessions were begun.

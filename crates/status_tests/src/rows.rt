@@ -37,6 +37,8 @@ pub fn node(
         stands: 7,
         stands_left: 1_017,
         batches: 5,
+        epoch: 14,
+        checkpoints: 13,
         syncs: 6,
         refusals,
         sessions: 8,
