@@ -1,11 +1,12 @@
 //! The clerk's thread: what an operator is told of a node.
+use crate::held::held_by;
 use crate::links::Links;
 use crate::start_latch::StartLatch;
 use commit_hub::{Hub, Node, Whole};
 use crossbeam_channel::{Receiver, Sender};
 use decision_board::{Board, BoardReader, Naming};
 use ring_records::{Decision, GroupName, Key, Refusal};
-use ring_status::{Holding, NodeStatus};
+use ring_status::NodeStatus;
 use ring_watch::{Inquiry, Page};
 use std::alloc::{AllocError, Global};
 use std::sync::Wait;
@@ -53,11 +54,7 @@ fn status<A: Node, D: Whole, C: Whole, F: Whole, E: Whole, R: Wait>(
     links: &Links<'_>,
 ) -> Result<NodeStatus, AllocError> {
     let look = hub.look(rt);
-    let held = Holding {
-        used: look.used,
-        capacity: u64::from(look.capacity),
-        stands: u64::from(look.stands),
-    };
+    let held = held_by(&look);
     let tally = links.tally;
     Ok(NodeStatus {
         node: links.node,
@@ -69,6 +66,8 @@ fn status<A: Node, D: Whole, C: Whole, F: Whole, E: Whole, R: Wait>(
         stands: held.stands,
         stands_left: held.stands_left(),
         batches: tally.batches(),
+        epoch: look.epoch,
+        checkpoints: tally.checkpoints(),
         syncs: tally.syncs(),
         refusals: tally.refusals(alloc)?,
         sessions: tally.sessions(),

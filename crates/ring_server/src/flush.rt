@@ -30,9 +30,14 @@ pub(crate) fn flush_all<
     requires { IsWhole D.all D.parts × IsWhole C.all C.parts × IsWhole F.all F.parts × IsWhole E.all E.parts }
 {
     for _ in rt.forever() {
+        let epoch = flusher.epoch();
         match flusher.flush_round(rt, hub, &mut ()) {
             Ok(Some(landed)) => {
-                links.tally.count_batch();
+                if flusher.epoch() > epoch {
+                    links.tally.count_checkpoint();
+                } else {
+                    links.tally.count_batch();
+                }
                 for packet in &landed.packets {
                     links.send(rt, *packet);
                 }

@@ -2,6 +2,7 @@
 ghost use Rattle.std.specs.Prelude.{◌≡◌, []};
 
 use crate::credits::Credits;
+use crate::held::{awaits_room, has_little_room, is_full};
 use crate::links::Links;
 use crate::pace::Pace;
 use commit_hub::{Hub, Node, Share, Whole};
@@ -10,10 +11,13 @@ use group_commit::Ticket;
 use ring_records::{Packet, Refusal, Reply, Request};
 use std::alloc::Global;
 use std::sync::Wait;
-use std::time::Clock;
+use std::time::{Clock, Duration};
 
 /// How many packets are taken before it is waited for them, so that they become durable together.
 const PACKETS: u32 = 64;
+
+/// For how many microseconds a message waits before it is looked again whether there is room.
+const LOOK_AGAIN: u64 = 50;
 
 /// What an inbox has at hand: its share, the tickets of what it asked, the credits that it holds back, and its pace.
 struct Intake<A: Node> {
@@ -45,22 +49,22 @@ pub(crate) fn take_all<A: Node, D: Whole, C: Whole, F: Whole, E: Whole, R: Wait 
         };
         take(rt, hub, &mut intake, packet, links);
         take_waiting(rt, hub, &mut intake, inbox, links);
-        release_all(rt, hub, &mut intake.tickets, links);
+        release_all(rt, hub, &mut intake, links);
     }
     tell(rt, hub, &mut intake);
+    release_all(rt, hub, &mut intake, links);
     let Intake {
         share,
-        mut tickets,
+        tickets,
         credits: _,
         pace: _,
     } = intake;
-    release_all(rt, hub, &mut tickets, links);
     tickets.destroy_empty();
     share
 }
 
 /// Takes what waits in the letterbox, as much as fits a batch, and tells of the credits that are due.
-fn take_waiting<A: Node, D: Whole, C: Whole, F: Whole, E: Whole, R: Wait>(
+fn take_waiting<A: Node, D: Whole, C: Whole, F: Whole, E: Whole, R: Wait + Clock>(
     rt: &R,
     hub: &Hub<A, D, C, F, E>,
     intake: &mut Intake<A>,
@@ -78,13 +82,13 @@ fn take_waiting<A: Node, D: Whole, C: Whole, F: Whole, E: Whole, R: Wait>(
         }
     }
     intake.pace.leave(leaves_some);
-    if intake.credits.are_due() {
+    if intake.credits.are_due(&hub.look(rt)) {
         tell(rt, hub, intake);
     }
 }
 
 /// Has the node take a message, or holds a credit back.
-fn take<A: Node, D: Whole, C: Whole, F: Whole, E: Whole, R: Wait>(
+fn take<A: Node, D: Whole, C: Whole, F: Whole, E: Whole, R: Wait + Clock>(
     rt: &R,
     hub: &Hub<A, D, C, F, E>,
     intake: &mut Intake<A>,
@@ -93,7 +97,9 @@ fn take<A: Node, D: Whole, C: Whole, F: Whole, E: Whole, R: Wait>(
 ) {
     match packet {
         Packet::Carry { no, msg } => {
-            if !submit(rt, hub, intake, Request::Take(no, msg)) {
+            if has_little_room(&hub.look(rt)) {
+                take_alone(rt, hub, intake, &Request::Take(no, msg), links);
+            } else if !submit(rt, hub, intake, Request::Take(no, msg)) {
                 links.done();
             }
         }
@@ -101,6 +107,64 @@ fn take<A: Node, D: Whole, C: Whole, F: Whole, E: Whole, R: Wait>(
             links.hear(upto);
             intake.credits.hear(upto);
         }
+    }
+}
+
+/// Has the node take a message where there is little room. What came of it is known before the next message, which would be a
+/// gap behind one that was refused: it is asked again as long as there is room, or a checkpoint is due.
+fn take_alone<A: Node, D: Whole, C: Whole, F: Whole, E: Whole, R: Wait + Clock>(
+    rt: &R,
+    hub: &Hub<A, D, C, F, E>,
+    intake: &mut Intake<A>,
+    question: &Request,
+    links: &Links<'_>,
+) {
+    for _ in rt.forever() {
+        if ends_alone(rt, hub, intake, question, links) {
+            break;
+        }
+    }
+}
+
+/// Asks the node to take the message, and whether that is its end. The credits that are held back come first, since they may make
+/// a checkpoint due, and the message waits for one that is due.
+fn ends_alone<A: Node, D: Whole, C: Whole, F: Whole, E: Whole, R: Wait + Clock>(
+    rt: &R,
+    hub: &Hub<A, D, C, F, E>,
+    intake: &mut Intake<A>,
+    question: &Request,
+    links: &Links<'_>,
+) -> bool {
+    tell(rt, hub, intake);
+    wait_for_room(rt, hub);
+    release_all(rt, hub, intake, links);
+    if !submit(rt, hub, intake, *question) {
+        links.done();
+        return true;
+    }
+    let reply = match intake.tickets.pop() {
+        Some(ticket) => reply_to(rt, hub, ticket),
+        None => None,
+    };
+    let lacks_room = lacks_room(&reply);
+    let is_full = lacks_room && is_full(&hub.look(rt));
+    let ends = is_full || !lacks_room;
+    if ends {
+        end_message(rt, reply, links, is_full);
+    }
+    ends
+}
+
+/// Waits while there is little room and a checkpoint is due, until it is launched.
+fn wait_for_room<A: Node, D: Whole, C: Whole, F: Whole, E: Whole, R: Wait + Clock>(
+    rt: &R,
+    hub: &Hub<A, D, C, F, E>,
+) {
+    for _ in rt.forever() {
+        if !awaits_room(&hub.look(rt)) {
+            break;
+        }
+        rt.sleep(Duration::from_micros(LOOK_AGAIN));
     }
 }
 
@@ -136,41 +200,56 @@ fn submit<A: Node, D: Whole, C: Whole, F: Whole, E: Whole, R: Wait>(
     }
 }
 
-/// Waits for the replies. The last one rests on all inputs before it, so there is one wait for all of them.
+/// Waits for the replies. The last one rests on all inputs before it, so there is one wait for all of them. A credit that was
+/// refused for room is held back again.
 fn release_all<A: Node, D: Whole, C: Whole, F: Whole, E: Whole, R: Wait>(
     rt: &R,
     hub: &Hub<A, D, C, F, E>,
-    tickets: &mut Vec<Ticket>,
+    intake: &mut Intake<A>,
     links: &Links<'_>,
 )
-    ensures { tickets.new.items ≡ [] }
+    ensures { intake.new.tickets.items ≡ [] }
 {
-    while let Some(ticket) = tickets.pop() {
-        release(rt, hub, ticket, links);
+    while let Some(ticket) = intake.tickets.pop() {
+        let is_message = matches!(ticket.question(), Request::Take(..));
+        let reply = reply_to(rt, hub, ticket);
+        let lacks_room = lacks_room(&reply);
+        if is_message {
+            let is_full = lacks_room && is_full(&hub.look(rt));
+            end_message(rt, reply, links, is_full);
+        } else if lacks_room {
+            intake.credits.take_back();
+        }
     }
 }
 
-/// Waits for the reply. A message that was taken before is answered with a credit again.
-fn release<A: Node, D: Whole, C: Whole, F: Whole, E: Whole, R: Wait>(
+/// Waits for the reply, and ends the ticket; `None` where the hub has failed.
+fn reply_to<A: Node, D: Whole, C: Whole, F: Whole, E: Whole, R: Wait>(
     rt: &R,
     hub: &Hub<A, D, C, F, E>,
     ticket: Ticket,
-    links: &Links<'_>,
-) {
-    let is_message = matches!(ticket.question(), Request::Take(..));
-    let reply = match hub.redeem_wait(rt, ticket) {
+) -> Option<Reply> {
+    match hub.redeem_wait(rt, ticket) {
         Ok((reply, _stub)) => Some(reply),
         Err((ticket, _)) => {
             let _ = hub.forfeit(rt, ticket);
             None
         }
-    };
-    if is_message {
-        match reply {
-            Some(Reply::Refused(Refusal::Old(upto))) => links.send(rt, Packet::Credit { upto }),
-            Some(Reply::Refused(Refusal::Full)) => links.fill(rt),
-            _ => {}
-        }
-        links.done();
     }
+}
+
+/// Whether it was refused for want of room.
+fn lacks_room(reply: &Option<Reply>) -> bool {
+    matches!(reply, Some(Reply::Refused(Refusal::Full)))
+}
+
+/// A message has its reply. One that was taken before is answered with a credit again. Where one was refused for want of room,
+/// it is said that the node is full, if it is: there may be room again, or a checkpoint be due, which makes some.
+fn end_message<R: Wait>(rt: &R, reply: Option<Reply>, links: &Links<'_>, is_full: bool) {
+    match reply {
+        Some(Reply::Refused(Refusal::Old(upto))) => links.send(rt, Packet::Credit { upto }),
+        Some(Reply::Refused(Refusal::Full)) if is_full => links.fill(rt),
+        _ => {}
+    }
+    links.done();
 }

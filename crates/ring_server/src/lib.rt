@@ -8,6 +8,7 @@ mod credits;
 mod door;
 mod flush;
 mod folder;
+mod held;
 mod inbox;
 mod links;
 mod look_over;

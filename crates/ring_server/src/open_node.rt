@@ -3,6 +3,7 @@ ghost use Rattle.std.specs.Prelude.{◌≡◌, ◌≤◌, ◌+◌, ◌-◌, ◌|
 ghost use Rattle.ring_records.specs.Admission.{used};
 ghost use Rattle.ring_records.specs.States.{durable_in};
 ghost use Rattle.gated_journal.specs.Journal.{member_of, len_of, room_of, epoch_of, is_spoiled};
+ghost use Rattle.node_core.specs.Core.{IsNodeOf};
 ghost use Rattle.node_store.specs.Node.{desk_of, state_of};
 
 use disk_model::Device;
@@ -24,6 +25,7 @@ pub struct OpenNode<V: Device> {
     ghost member: { member_of journal ≡ desk.view.member },
     ghost durable: { desk.view.state.durable ≡ length desk.view.state.inputs },
     ghost none: { desk.view.state.checkpoint ≡ None },
+    ghost ring: { IsNodeOf desk.view.member.n desk.view.member.node },
     ghost len: { len_of journal ≡ desk.opening.inputs + desk.view.state.durable },
     ghost room: { room_of journal ≡ desk.view.member.capacity - used desk.view.state.base (durable_in desk.view.state) },
     ghost epoch: { epoch_of journal ≡ desk.view.state.base.epoch },

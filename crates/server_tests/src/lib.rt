@@ -4,6 +4,8 @@
 #[cfg(test)]
 mod backups;
 #[cfg(test)]
+mod checkpoints;
+#[cfg(test)]
 mod clients;
 #[cfg(test)]
 mod devices;

@@ -1,10 +1,10 @@
 // What is told of nodes while a ring serves, and what reaches their successors.
-use crate::clients::{answers_at_last, connect};
+use crate::checkpoints::{Stands, leads};
+use crate::clients::{answers, answers_at_last, connect};
 use crate::devices::{Served, awaits, serve_three, stands_until_it_fails};
 use crate::programs::{anew, asks, run};
 use std::alloc::AllocGlobal;
 use std::fs;
-use std::io::Write;
 use std::net::{Net, TcpStream};
 use std::sync::atomic::AtomicU64;
 use std::test::*;
@@ -79,29 +79,31 @@ fn the_first_failure_is_the_end(rt: HostRuntime) {
     assert!(rt; ends_so(ended, 1, FAILED));
 }
 
-/// Stands so often for terms of `red` from this one on, without looking at the answers, and waits until so much is told.
-fn fills<R: AllocGlobal + Clock + Net<Stream = TcpStream>>(
-    rt: &R,
-    port: u16,
-    count: u32,
-    seen: &AtomicU64,
-) -> bool {
-    let Some(stream) = connect(rt, port) else {
+/// Fills node 1, behind 7182, and waits until it is told that it is full. A client stands there for one term after the
+/// other, as long as each has a leader, and then there is no room for a Stand, or for what came of the last one. So there is
+/// none for a message either, and node 3, behind 7184, stands twice and sends some.
+fn fills<R: AllocGlobal + Clock + Net<Stream = TcpStream>>(rt: &R, seen: &AtomicU64) -> bool {
+    let Some(first) = connect(rt, 7182) else {
         return false;
     };
-    let mut lines = Vec::new(rt.alloc());
-    for term in 1..=count {
-        if writeln!(lines, "stand red {term} 10").is_err() {
-            return false;
+    for term in 1..=200 {
+        if !leads(rt, &first, term, Stands::First) {
+            break;
         }
     }
-    let mut writer = &stream;
-    writer.write_all(&lines).is_ok() && awaits(rt, seen, FULL.len() as u64)
+    let Some(third) = connect(rt, 7184) else {
+        return false;
+    };
+    let stands = answers(&third, b"stand a 201 10\n", b"stood")
+        && answers(&third, b"stand a 202 10\n", b"stood");
+    let is_told = awaits(rt, seen, FULL.len() as u64);
+    answers(&third, b"bye\n", b"bye") && is_told && stands
 }
 
 #[test]
 fn a_full_node_is_told_once(rt: HostRuntime) {
-    // A term takes 78 bytes of node 1 and 58 of the others.
+    // A term takes 72 bytes of node 1 and 54 of the others, and 16 and 12 of their snapshots: so node 1 is the first of which no
+    // checkpoint is due any more.
     let served = Served {
         port: 7181,
         capacity: 4096,
@@ -116,9 +118,8 @@ fn a_full_node_is_told_once(rt: HostRuntime) {
     let (told, ended) = join(
         rt,
         move || {
-            let full = fills(rt, 7182, 60, seen);
-            let second = asks(rt, 7183, b"who blue 1\n", b"none");
-            asks(rt, 7184, b"who blue 1\n", b"none") && second && full
+            let full = fills(rt, seen);
+            asks(rt, 7183, b"who blue 1\n", b"none") && full
         },
         move || serve_three(rt, served, seen),
     );
