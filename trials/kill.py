@@ -1,11 +1,13 @@
 #!/usr/bin/env python3
 """Kills ringd at random moments, starts it again on the same folder, and holds it to all that it ever told a client.
 
-kill.py [--ringd PATH] [--rounds N] [--seed S] [--doors D]
+kill.py [--ringd PATH] [--rounds N] [--seed S] [--doors D] [--capacity C]
 
 PATH is a built ringd, bin/ringd where none is named; N, 1 to 100,000, how often it is killed, 100 by default; S a
 number that the choices begin with, but not the moments at which threads run; D, 1 to 32, how many doors a node has and
-how many clients it is asked by at a time, 1 by default, which gives ringd no word for it.
+how many clients it is asked by at a time, 1 by default, which gives ringd no word for it; C, 4,096 to 1,048,576, the
+capacity of all nodes, in place of one of three by chance. With 8,192 or less a trial without a checkpoint says so, and
+its status is 1: it did not try them.
 
 A round starts ringd, asks again what is known, in random order, has a client in a thread for each door of each node ask
 `stand`, `who` and `latest`, and kills ringd with signal 9: while it opens its nodes, while it is asked again, or later.
@@ -47,11 +49,14 @@ class Ended(Exception):
 class Ring:
     """A folder, the settings of a ring that lies in it, and what is known of it."""
 
-    def __init__(self, ringd: str, folder: str, doors: int, rng: random.Random) -> None:
+    def __init__(self, ringd: str, folder: str, doors: int, capacity: int | None, rng: random.Random) -> None:
         self.ringd, self.folder, self.doors = ringd, folder, doors
         self.nodes = rng.choice([2, 3, 3, 3, 5])
         self.capacity = rng.choice([8_192, 65_536, 1_048_576, 1_048_576])
-        self.rounds = rng.randint(3, 10)
+        if capacity is not None:
+            self.capacity = capacity
+        # A small node is soon full for good.
+        self.rounds = rng.randint(3, 10) if self.capacity > 8_192 else rng.randint(1, 3)
         self.known = Known(self.nodes, doors == 1)
         self.port = 0
         os.mkdir(os.path.join(folder, "ring"))
@@ -69,6 +74,15 @@ class Ring:
             words += ["--doors", str(self.doors)]
         with open(os.path.join(self.folder, "err"), "wb") as err:
             return subprocess.Popen(words, stdin=subprocess.DEVNULL, stdout=subprocess.PIPE, stderr=err, bufsize=0)
+
+    def checkpoints(self) -> int:
+        """How many its nodes made: each raises the epoch of a journal by 1. A node that was not made has none."""
+        made = 0
+        for node in range(1, self.nodes + 1):
+            path = os.path.join(self.folder, "ring", f"node-{node}.crj")
+            if os.path.exists(path):
+                made += max(epochs(path, self.capacity), default=1) - 1
+        return made
 
     def await_line(self, process: subprocess.Popen[bytes], line: bytes) -> None:
         """Waits until ringd printed this line. `Ended` where it ended before or does not come so far."""
@@ -88,14 +102,26 @@ class Ring:
             return f"ringd {what}; status {status}, standard error {file.read()!r}"
 
 
+def epochs(path: str, capacity: int) -> list[int]:
+    """Those of a journal's areas whose gate is open."""
+    found = []
+    with open(path, "rb") as file:
+        for start in (16, 31 + capacity):
+            file.seek(start)
+            head = file.read(10)
+            if head[:1] == b"\1":
+                found.append(int.from_bytes(head[2:], "big"))
+    return found
+
+
 class Trial:
     """Rounds, and what came of them."""
 
-    def __init__(self, ringd: str, seed: int, doors: int) -> None:
-        self.ringd, self.seed, self.doors = ringd, seed, doors
+    def __init__(self, ringd: str, seed: int, doors: int, capacity: int | None) -> None:
+        self.ringd, self.seed, self.doors, self.capacity = ringd, seed, doors, capacity
         self.rng = random.Random(seed)
         self.kills = {"opening": 0, "asked again": 0, "asked": 0}
-        self.rounds = self.answers = self.stands = self.leaders = self.unanswered = self.faults = 0
+        self.rounds = self.answers = self.stands = self.leaders = self.unanswered = self.faults = self.checkpoints = 0
         self.opening = 0.01
         self.process: subprocess.Popen[bytes] | None = None
 
@@ -167,13 +193,14 @@ class Trial:
         """So many rounds at most, over a folder of their own."""
         folder, is_kept = tempfile.mkdtemp(prefix="ringd-kill-"), False
         try:
-            ring = Ring(self.ringd, folder, self.doors, self.rng)
+            ring = Ring(self.ringd, folder, self.doors, self.capacity, self.rng)
             known = ring.known
             for _ in range(min(rounds, ring.rounds)):
                 if not known.faults and not known.is_used_up():
                     self.round(ring, False)
             if not known.faults:
                 self.round(ring, True)
+            self.checkpoints += ring.checkpoints()
             is_kept = bool(known.faults) and self.faults == 0
         finally:
             if not is_kept:
@@ -193,10 +220,13 @@ class Trial:
         while self.rounds < rounds:
             self.folder(rounds - self.rounds)
         kills = ", ".join(f"{count} while {kind}" for kind, count in self.kills.items())
-        print(f"killed {kills}; {self.unanswered} Stands without an answer")
+        print(f"killed {kills}; {self.unanswered} Stands without an answer; {self.checkpoints} checkpoints")
         print(f"rounds {self.rounds} answers {self.answers} stands {self.stands} leaders {self.leaders} "
               f"faults {self.faults}")
-        return 1 if self.faults or not self.stands or not self.leaders else 0
+        lacks_some = self.capacity is not None and self.capacity <= 8_192 and not self.checkpoints
+        if lacks_some:
+            print("no checkpoint was made")
+        return 1 if self.faults or not self.stands or not self.leaders or lacks_some else 0
 
 
 def number(low: int, high: int):
@@ -214,10 +244,11 @@ def main() -> int:
     parser.add_argument("--rounds", type=number(1, 100_000), default=100, metavar="N")
     parser.add_argument("--seed", type=number(0, 2**63), default=random.randrange(1_000_000), metavar="S")
     parser.add_argument("--doors", type=number(1, 32), default=1, metavar="D")
+    parser.add_argument("--capacity", type=number(4_096, 1_048_576), metavar="C")
     words = parser.parse_args()
     if not os.access(words.ringd, os.X_OK):
         parser.error(f"{words.ringd} is not there; make ringd builds bin/ringd")
-    trial = Trial(os.path.abspath(words.ringd), words.seed, words.doors)
+    trial = Trial(os.path.abspath(words.ringd), words.seed, words.doors, words.capacity)
 
     def end(_signal: int, _frame: object) -> None:
         sys.exit(1)

@@ -5,7 +5,8 @@ answer, earlier or later:
 
 - A node that stands for a key (`stood`, or `no 3 already` with a bid that it was asked with) has that bid for ever, and
   answers each later Stand for it with `no 3 already` and this bid.
-- A node that refuses a Stand for a key as 4, 5, 6 or 7 does not stand for it and never will.
+- A node that refuses a Stand for a key as 4, 5, 6 or 7 does not stand for it, and but for 7, which a checkpoint may end,
+  never will.
 - All that name a leader of a key name one. It is a candidate that was asked to stand, it is not one that was refused,
   and no candidate that stands for the key is greater: candidates are ordered by bid, then by node.
 - Once a leader was named nobody stands anew for its key: its token has passed every other node.
@@ -178,7 +179,7 @@ class Known:
             self.fault(f"{told} is no answer that is looked for")
 
     def refuses(self, node: int, question: Question, before: Before, words: list[str], told: str) -> None:
-        """The node does not stand, and never will."""
+        """The node does not stand, and never will, unless it has room again."""
         key = (question.group, question.term)
         if (node, key) in self.stood:
             self.fault(f"{told}, and the node stands: {self.stood[node, key][1]}")
@@ -194,7 +195,8 @@ class Known:
             self.fault(f"{told}, and before it was asked the node told of a leader for term {before.above}")
         if words[1] == "6" and sum(at == node for at, _ in self.asked) < 1024:
             self.fault(f"{told}, and it was not asked to stand for so many keys")
-        self.never.setdefault((node, key), told)
+        if words[1] != "7":
+            self.never.setdefault((node, key), told)
 
     def stands(self, node: int, key: Key, bid: int, told: str) -> None:
         """The node stands for the key with this bid."""
