@@ -1,5 +1,5 @@
 #!/usr/bin/env python3
-"""load.py [--ringd PATH] [--folder PATH] [--runs N] [--against PROGRAM]: times `ringd` under load, over sockets, on files.
+"""load.py [--ringd PATH] [--folder PATH] [--runs N] [--against PROGRAM] [--capacity C] [--scrape MS]: times `ringd` under load, over sockets, on files.
 
 It prints figures and asserts nothing of them. All of it stands in one run: the answers that clients get, an election, and the cost of
 a bare append with a sync in the same folder, to which the ratios are given.
@@ -16,6 +16,10 @@ a bare append with a sync in the same folder, to which the ratios are given.
                        sockets, N: X us an answer
                      Other lines, and what follows on these, are not looked at. Of each way the two times are averaged, and the least is
                      the best for N clients. Where N has such a line the ratio to it is printed.
+  --capacity C       the capacity of each node, 1,048,576 by default, where no node makes a checkpoint in a run. With 131,072 bytes each
+                     makes one at some 780 elections. The rows at three nodes, with 3,072, want 262,144: in less, nodes get full.
+  --scrape MS        `/metrics` is read at the start of each row's run, and every so many milliseconds then, 1 to 60,000. A node has 31
+                     doors at most then, and so many clients in place of 32.
 
 A row is so many clients at node 1, or at each of three nodes. A client asks in a loop, and waits for each answer: `stand` in a group of
 its own for a greater term each time, or that and `who` in turn. Each run has a new folder, since a node takes 1,024 Stands at most, and
@@ -26,7 +30,8 @@ table in Markdown, with
   answers, and Stands among them, a second by the clock, until the last client has its last answer;
   Stands an append: how many were answered in the time of a bare append, of 600 made just before and behind the run, least to most;
   the 50th and 99th percentile of the time of a Stand's answer, and of a who's, in microseconds;
-  inputs a batch: the inputs that the three nodes hold in the end, by how often a journal was written twice;
+  inputs a batch: the inputs that the three nodes hold in the end, by how often a journal was written twice, as for a batch; a
+  checkpoint writes three times;
   processor: user plus system time of the server, less that of a run with the same sessions and no lines, for each answer;
   done: how long it took from the first line until nothing more was written; then all those elections are over.
 
@@ -52,6 +57,7 @@ import statistics
 import subprocess
 import sys
 import tempfile
+import threading
 import time
 from dataclasses import dataclass, field
 
@@ -60,6 +66,7 @@ RING = 3
 STANDS = 1024
 CAPACITY = 1 << 20
 COUNTS = (1, 4, 16, 32)
+MOST_SCRAPED = 31
 APPENDS = 300
 ELECTIONS = 20
 SECONDS = 60
@@ -97,7 +104,7 @@ def free_ports() -> int:
     for _ in range(100):
         port = random.randrange(20000, 32000)
         try:
-            for place in range(RING):
+            for place in range(RING + 1):
                 with socket.socket() as probe:
                     probe.bind(("127.0.0.1", port + place))
             return port
@@ -106,18 +113,69 @@ def free_ports() -> int:
     raise Failed("no free ports")
 
 
+class Scraper:
+    """Reads `/metrics` at a port again and again, until it is ended."""
+
+    def __init__(self, port: int, pause: float) -> None:
+        self.port, self.pause, self.count, self.is_answered = port, pause, 0, False
+        self.ends = threading.Event()
+        self.thread = threading.Thread(target=self.scrape, daemon=True)
+        self.thread.start()
+
+    def read(self) -> bytes:
+        """What is told."""
+        text = b""
+        with socket.create_connection(("127.0.0.1", self.port), SECONDS) as client:
+            client.sendall(b"GET /metrics HTTP/1.1\r\nHost: ring\r\n\r\n")
+            while piece := client.recv(1 << 16):
+                text += piece
+        return text
+
+    def scrape(self) -> None:
+        """Reads until it is ended, or is not answered."""
+        try:
+            while self.read().startswith(b"HTTP/1.1 200 "):
+                self.count += 1
+                if self.ends.wait(self.pause):
+                    self.is_answered = True
+                    break
+        except OSError:
+            pass
+
+    def end(self) -> int:
+        """How often it was answered, which it always was."""
+        self.ends.set()
+        self.thread.join()
+        if not self.is_answered:
+            raise Failed("ringd: no answer to a scrape")
+        return self.count
+
+
+@dataclass
+class Rings:
+    """What the rings of all runs have: their program, their capacity, and how many seconds lie between two scrapes."""
+
+    ringd: str
+    folder: str
+    capacity: int
+    pause: float | None
+
+
 class Server:
     """A ring of three new nodes in a folder, which serves so many sessions at each and then ends."""
 
-    def __init__(self, ringd: str, folder: str, sessions: int, doors: int) -> None:
+    def __init__(self, rings: Rings, sessions: int, doors: int) -> None:
+        ringd, folder = rings.ringd, rings.folder
         self.port = free_ports()
         self.path = tempfile.mkdtemp(prefix="ring-", dir=folder)
         settings = os.path.join(folder, "settings.toml")
         with open(settings, "w", encoding="utf-8") as file:
-            file.write(f'nodes = {RING}\ndir = "{self.path}"\nport = {self.port}\ncapacity = {CAPACITY}\n')
+            file.write(f'nodes = {RING}\ndir = "{self.path}"\nport = {self.port}\ncapacity = {rings.capacity}\n')
         words = [ringd, "--settings", settings, "--serve", str(sessions)]
         if doors > 1:
             words += ["--doors", str(doors)]
+        if rings.pause is not None:
+            words += ["--status", str(self.port + RING)]
         self.process = subprocess.Popen(words, stdout=subprocess.PIPE)
         self.text = b""
         try:
@@ -208,11 +266,12 @@ class Row:
 class Bench:
     """What all rows are run with."""
 
-    def __init__(self, ringd: str, folder: str, runs: int) -> None:
-        self.ringd, self.folder, self.runs = ringd, folder, runs
-        self.load = compiled(folder)
-        self.has_doors = "--doors" in call([ringd, "--help"])
+    def __init__(self, rings: Rings, runs: int) -> None:
+        self.rings, self.folder, self.runs = rings, rings.folder, runs
+        self.load = compiled(self.folder)
+        self.has_doors = "--doors" in call([rings.ringd, "--help"])
         self.bases: list[float] = []
+        self.scrapes = 0
 
     def bare(self, grows: bool) -> float:
         """The microseconds of a bare append."""
@@ -230,9 +289,12 @@ class Bench:
     def serve(self, row: Row, rounds: int) -> dict[str, float]:
         """One run of a row; with no rounds its sessions say nothing."""
         # one session more at each node, so that the server goes on until it is at rest
-        server = Server(self.ringd, self.folder, row.clients + 1, row.clients)
+        server = Server(self.rings, row.clients + 1, row.clients)
         given: dict[str, float] = {}
+        scraper = None
         try:
+            if self.rings.pause is not None and rounds:
+                scraper = Scraper(server.port + RING, self.rings.pause)
             here = 0
             if rounds:
                 here = row.clients
@@ -243,11 +305,16 @@ class Bench:
                     given[name] = int(figures[0])
                     for part, figure in zip(("50", "90", "99"), figures[1:]):
                         given[name + part] = int(figure) / 1e3
+                if scraper:
+                    self.scrapes += scraper.end()
+                    scraper = None
                 given["writes"], seen = server.rest()
                 given["done"] = seen - begun
             sessions = [row.clients + 1 - (here if place < row.nodes else 0) for place in range(RING)]
             given["inputs"], given["processor"] = server.end(sessions)
         finally:
+            if scraper:
+                scraper.ends.set()
             server.stop()
         return given
 
@@ -273,7 +340,7 @@ class Bench:
         """One run of elections: a bare append, their microseconds, and how many Stands were late."""
 
         def work() -> str:
-            server = Server(self.ringd, self.folder, 1, 1)
+            server = Server(self.rings, 1, 1)
             try:
                 text = call([self.load, "elections", str(server.port), str(RING), str(ELECTIONS)])
                 server.end([0] * RING)
@@ -375,7 +442,8 @@ def busy() -> tuple[float, float]:
 
 def run(words: argparse.Namespace, folder: str) -> None:
     begun, all_before, mine_before = time.monotonic(), *busy()
-    bench = Bench(os.path.abspath(words.ringd), folder, words.runs)
+    pause = words.scrape / 1e3 if words.scrape else None
+    bench = Bench(Rings(os.path.abspath(words.ringd), folder, words.capacity, pause), words.runs)
     before = best_times(os.path.abspath(words.against), folder) if words.against else {}
     grows = statistics.median(bench.bare(True) for _ in range(9))
     holds = statistics.median(bench.bare(False) for _ in range(9))
@@ -385,6 +453,8 @@ def run(words: argparse.Namespace, folder: str) -> None:
         flush=True,
     )
     counts = COUNTS if bench.has_doors else COUNTS[:1]
+    if pause is not None:
+        counts = tuple(min(count, MOST_SCRAPED) for count in counts)
     print(f"\n| {' | '.join(HEADS)} |\n|{'---|' * len(HEADS)}", flush=True)
     rows = [Row(nodes, clients, asks) for nodes in (1, RING) for clients in counts for asks in (False, True)]
     for row in rows:
@@ -392,6 +462,8 @@ def run(words: argparse.Namespace, folder: str) -> None:
             bench.run(row)
         print_row(row)
     print()
+    if pause is not None:
+        print(f"scraped {bench.scrapes} times in these runs")
     if not bench.has_doors:
         print("no rows of more than one client at a node: this server has no --doors")
     print_elections(bench)
@@ -410,9 +482,15 @@ def main() -> int:
     parser.add_argument("--folder", default=".")
     parser.add_argument("--runs", type=int, default=9, metavar="N")
     parser.add_argument("--against", metavar="PROGRAM")
+    parser.add_argument("--capacity", type=int, default=CAPACITY, metavar="C")
+    parser.add_argument("--scrape", type=int, metavar="MS")
     words = parser.parse_args()
     if not 1 <= words.runs <= 100:
         parser.error("--runs is 1 to 100")
+    if not 4096 <= words.capacity <= CAPACITY:
+        parser.error("--capacity is 4,096 to 1,048,576")
+    if words.scrape is not None and not 1 <= words.scrape <= 60_000:
+        parser.error("--scrape is 1 to 60,000")
     folder = ""
     try:
         folder = tempfile.mkdtemp(prefix="load-", dir=os.path.abspath(words.folder))
