@@ -1,5 +1,5 @@
 -- A checkpoint of a node: what is objected to it, and what it makes of the node.
-use Rattle.std.proofs.Common.{arith, ◌≡◌, ◌⊎◌, ⊎_elim, ℕ, ◌+◌, ◌-◌, ◌≤◌, Bool, true, false, cond, List, [], ◌++◌, length, Option, Some, None, inl, inr, refl, sym, ap, subst, ◌∙◌}
+use Rattle.std.proofs.Common.{arith, ◌≡◌, ◌⊎◌, ⊎_elim, ℕ, ◌+◌, ◌-◌, ◌≤◌, Bool, true, false, cond, List, ◌++◌, length, Option, Some, None, inl, inr, refl, sym, ap, subst, ◌∙◌}
 use Rattle.std.specs.Prelude.{nat_le, nat_lt, IfSome}
 use Rattle.std.specs.Option.{option_map}
 use Rattle.disk_model.specs.Disk.{Reach}
@@ -15,7 +15,6 @@ use Rattle.ring_records.specs.Lists.{or_else}
 use Rattle.ring_records.specs.Member.{Member}
 use Rattle.ring_records.specs.Release.{packets}
 use Rattle.ring_records.specs.Snapshot.{snapshot_len}
-use Rattle.ring_records.specs.States as states
 use Rattle.ring_records.specs.States.{NodeState, IsLawfulState, is_idle, launched_base, durable_in, flying_in, landed, launched_all}
 use Rattle.ring_records.specs.Summary.{summary}
 use Rattle.ring_records.proofs.Lists.{none≢some}
@@ -28,7 +27,7 @@ use Rattle.group_commit.proofs.Seen.{landed_seen, lawful_launched_all}
 use Rattle.node_store.specs.Recovery.{IsUnbegun}
 use Rattle.ring_node.specs.Held.{HeldView, view_with, AreInside, IsServed, IsWhole}
 use Rattle.ring_node.specs.Messages.{carried_in}
-use Rattle.ring_node.specs.Node.{NodeView, checkpoint_refusal, checkpointed}
+use Rattle.ring_node.specs.Node.{checkpoint_refusal, checkpointed}
 use Rattle.ring_node.proofs.Ring.{me_within}
 use Rattle.ring_node.proofs.Sending.{sent-flying, flying-few, inside-front}
 use Rattle.ring_node.proofs.Serving.{is_idle_state, within_served}

@@ -1,5 +1,5 @@
 -- A snapshot that is taken part after part: how it goes on, and when it is whole.
-use Rattle.std.proofs.Common.{ℕ, suc, ◌≡◌, ◌+◌, ◌-◌, ◌^◌, ◌<◌, ◌≤◌, ◌⊎◌, inl, inr, ⊎_elim, Option, Some, None, is_some, if◌then◌else◌, Bool, true, false, List, [], ◌∷◌, ◌++◌, length, take, drop, Ok, Err, refl, sym, ap, subst, ◌∙◌, append_assoc, append-nil, arith, length-append}
+use Rattle.std.proofs.Common.{ℕ, ◌≡◌, ◌+◌, ◌-◌, ◌^◌, ◌<◌, ◌≤◌, ◌⊎◌, inl, inr, ⊎_elim, Option, Some, None, is_some, if◌then◌else◌, Bool, true, false, List, [], ◌∷◌, ◌++◌, length, take, Ok, Err, refl, sym, ap, subst, ◌∙◌, append_assoc, append-nil, arith, length-append}
 use Rattle.std.proofs.lemmas.Bool.{cases_lt}
 use Rattle.std.proofs.lemmas.List.{take_at}
 use Rattle.std.specs.FinMap as fin
@@ -11,9 +11,9 @@ use Rattle.ring_records.specs.declared.record.RecordFault.{RecordFault}
 use Rattle.ring_records.specs.declared.snapshot_read.Counts.{Counts}
 use Rattle.ring_records.specs.declared.summary.Summary.{Summary}
 use Rattle.ring_records.specs.Message.{key_of}
-use Rattle.ring_records.specs.Snapshot.{counts_bytes, state_bytes, msg_bytes, state_len, msg_len, snapshot_of, keys_bytes, window_bytes, IsMessageOf, Spells}
+use Rattle.ring_records.specs.Snapshot.{counts_bytes, state_bytes, msg_bytes, snapshot_of, IsMessageOf, Spells}
 use Rattle.ring_records.specs.Record.{AreBytes}
-use Rattle.ring_records.specs.SnapshotPart.{SnapshotPart, number_bytes, taken_of, AreCounts, IsOwnStateOf, AreRead, IsReading, TakesCounts, NoCounts, TakesState, NoState, TakesMessage, NoMessage, TakesPart, NoPart, NoMore, IsSoundPart}
+use Rattle.ring_records.specs.SnapshotPart.{SnapshotPart, number_bytes, taken_of, AreCounts, IsOwnStateOf, AreRead, IsReading, TakesCounts, NoCounts, TakesState, NoState, TakesMessage, NoMessage, TakesPart, NoPart, IsSoundPart}
 use Rattle.ring_records.specs.SnapshotRead.{state_at, msg_at, counts_at, AreFitting}
 use Rattle.ring_records.proofs.Fields.{same_ok}
 use Rattle.ring_records.proofs.Records.{name-short}

@@ -1,4 +1,4 @@
-use Rattle.std.proofs.Common.{◌≡◌, ◌++◌, ◌∷◌, [], refl, arith}
+use Rattle.std.proofs.Common.{refl, arith}
 use Rattle.ring_records.proofs.SnapshotParts.{takes_state, no_state_at}
 use Rattle.ring_records.proofs.summary_reader.take_state.Goals as goal
 

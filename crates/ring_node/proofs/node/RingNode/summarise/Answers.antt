@@ -1,4 +1,4 @@
-use Rattle.std.proofs.Common.{arith, ◌≡◌, ◌≤◌, ◌++◌, ◌+◌, ◌-◌, None, List, length, length-append, ap, ◌∙◌, refl}
+use Rattle.std.proofs.Common.{arith, ◌≡◌, ◌++◌, ◌+◌, ◌-◌, List, length, length-append, ap, ◌∙◌, refl}
 use Rattle.ring_records.specs.declared.msg.Msg.{Msg}
 use Rattle.ring_records.specs.Release.{packets}
 use Rattle.ring_records.specs.States.{durable_in, flying_in, launched_all}
@@ -7,7 +7,7 @@ use Rattle.ring_node.specs.Held.{reach_of}
 use Rattle.ring_node.specs.Messages.{carried_in}
 use Rattle.ring_node.specs.Node.{NodeView, state_of, checkpoint_refusal, checkpointed}
 use Rattle.ring_node.proofs.Ring.{by_name, keeps_past}
-use Rattle.ring_node.proofs.Serving.{same_view, count_past}
+use Rattle.ring_node.proofs.Serving.{same_view}
 use Rattle.ring_node.proofs.Summaries.{objection_here, short_alone, summarised, summarised_seen, summarised_shown, no_more, summarises}
 use Rattle.ring_node.proofs.node.RingNode.summarise.Goals as goal
 use Rattle.ring_node.proofs.node.RingNode.summarise.Goals.{In-Ok}

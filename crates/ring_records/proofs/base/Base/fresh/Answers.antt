@@ -1,5 +1,4 @@
 use Rattle.std.proofs.Common.{ℕ, sym, ap}
-use Rattle.ring_records.specs.declared.base.Base.{Base}
 use Rattle.ring_records.proofs.Snapshots.{length-empty}
 use Rattle.ring_records.proofs.base.Base.fresh.Goals as goal
 

@@ -1,4 +1,4 @@
-use Rattle.std.proofs.Common.{Option, Some, List, refl, sym, subst}
+use Rattle.std.proofs.Common.{Option, refl, sym, subst}
 use Rattle.ring_records.specs.declared.snapshot_read.Counts.{Counts}
 use Rattle.ring_records.specs.Snapshot.{Spells}
 use Rattle.ring_records.specs.SnapshotPart.{SnapshotPart, taken_of}

@@ -1,6 +1,5 @@
-use Rattle.std.proofs.Common.{◌++◌, List, sym, ap, subst}
+use Rattle.std.proofs.Common.{◌++◌, List, subst}
 use Rattle.ring_records.specs.Snapshot.{Spells}
-use Rattle.ring_records.specs.SnapshotPart.{SnapshotPart, taken_of}
 use Rattle.ring_records.proofs.SnapshotParts.{no_counts, none_taken}
 use Rattle.ring_records.proofs.summary_reader.SummaryReader.take.Goals as goal
 

@@ -1,4 +1,4 @@
-use Rattle.std.proofs.Common.{ap, ◌∙◌}
+use Rattle.std.proofs.Common.{◌∙◌}
 use Rattle.ring_node.specs.Node.{checkpoint_refusal}
 use Rattle.ring_world.proofs.working.Working.checkpoint_refusal.Goals as goal
 
