@@ -8,6 +8,7 @@
 mod board;
 mod history;
 mod leaders;
+mod owed;
 mod reader;
 mod rule;
 mod store;

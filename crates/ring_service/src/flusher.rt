@@ -17,7 +17,6 @@ ghost use Rattle.node_core.specs.Core.{IsNodeOf};
 ghost use Rattle.ring_service.specs.Rounds.{IsRound, IsStopped, IsIdle, IsSpent, IsTaken, epoch_after, reading_after, room_after};
 
 use crate::gate::Gate;
-use crate::owed::publish;
 use commit_hub::{Hub, Node, Tie, Whole, Work};
 use decision_board::{Board, Naming};
 use disk_model::Device;
@@ -152,7 +151,7 @@ impl<V: Device, J: Naming, A: Node, D: Whole, C: Whole, F: Whole, E: Whole> Flus
                         Err(refusal)
                     }
                     Ok(landed) => {
-                        *is_published = publish(rt, board, owed, &landed.decisions).is_ok();
+                        *is_published = board.publish_owed(rt, owed, &landed.decisions).is_ok();
                         Ok(Some(landed))
                     }
                 }

@@ -1,6 +1,6 @@
 use Rattle.std.proofs.Common.{◌≡◌, ◌++◌, length}
 use Rattle.decision_board.specs.Boards.{published, pending}
-use Rattle.ring_service.proofs.owed.hand_over.Given as goal
+use Rattle.decision_board.proofs.owed.hand_over.Given as goal
 
 -- what the board took stands before what is still owed
 abbrev pub invariant-loop-decision : goal.invariant-loop-decision

@@ -1,6 +1,6 @@
 use Rattle.std.proofs.Common.{◌≡◌, ◌+◌, ◌≤◌, ◌++◌, length, take}
 use Rattle.std.specs.VecDeque.{deque_len, deque_capacity}
-use Rattle.ring_service.proofs.owed.owe.Given as goal
+use Rattle.decision_board.proofs.owed.owe.Given as goal
 
 -- the first decisions are owed too, and there is room for the others
 abbrev pub invariant-loop-decision : goal.invariant-loop-decision

@@ -1,30 +1,33 @@
-//! Decisions that a board is still to take.
+// Decisions that a board is still to take.
 ghost use Rattle.std.specs.Prelude.{◌≡◌, ◌+◌, ◌≤◌, ◌++◌, [], length, OnOk};
 ghost use mathlib.Core.List.{IsPrefix};
 ghost use Rattle.std.specs.VecDeque.{deque_len, deque_capacity};
 ghost use Rattle.decision_board.specs.Boards.{published, pending};
 
-use decision_board::{Board, Naming};
+use crate::board::Board;
+use crate::history::Naming;
 use ring_records::{Decision, Refusal};
 use std::collections::VecDeque;
 use std::sync::Wait;
 
-/// Owes these too, for which there is room, and publishes what is owed, as far as there is memory. Refused as 8, the
-/// board published nothing, and what it took of them waits there for the next time.
-pub(crate) fn publish<J: Naming, R: Wait>(
-    rt: &R,
-    board: &mut Board<J>,
-    owed: &mut VecDeque<Decision>,
-    decisions: &[Decision],
-) -> Result<(), Refusal>
-    requires { deque_len owed.old + length decisions.now ≤ deque_capacity owed.old }
-    ensures told { published board.new ++ (pending board.new ++ owed.new.items) ≡ (published board.old ++ (pending board.old ++ owed.old.items)) ++ decisions.now }
-    ensures published { IsPrefix (published board.old) (published board.new) }
-    ensures pending { OnOk result (pending board.new ≡ []) }
-{
-    owe(owed, decisions);
-    hand_over(board, owed);
-    board.publish(rt)
+impl<J: Naming> Board<J> {
+    /// Owes these decisions too, for which there is room, takes what is owed as far as there is memory, and publishes all
+    /// that it took. Refused as 8, it published nothing, and what it took waits for the next `publish`.
+    pub fn publish_owed<R: Wait>(
+        &mut self,
+        rt: &R,
+        owed: &mut VecDeque<Decision>,
+        decisions: &[Decision],
+    ) -> Result<(), Refusal>
+        requires { deque_len owed.old + length decisions.now ≤ deque_capacity owed.old }
+        ensures told { published self.new ++ (pending self.new ++ owed.new.items) ≡ (published self.old ++ (pending self.old ++ owed.old.items)) ++ decisions.now }
+        ensures published { IsPrefix (published self.old) (published self.new) }
+        ensures pending { OnOk result (pending self.new ≡ []) }
+    {
+        owe(owed, decisions);
+        hand_over(self, owed);
+        self.publish(rt)
+    }
 }
 
 /// Owes these too, for which there is room.
