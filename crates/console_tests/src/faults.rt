@@ -1,6 +1,6 @@
 // Readers and writers that fail, or that do little at a time.
 use crate::session::{FIRST_ELECTION, Line, Session};
-use fault_console::run::{RunFault, run};
+use script_run::{RunFault, run};
 use std::alloc::AllocGlobal;
 use std::io::{self, ErrorKind, Read, Write};
 use std::process::Abort;

@@ -1,6 +1,6 @@
 // How long a line and a script may be.
 use crate::session::{assert_prints, played};
-use fault_console::run::RunFault;
+use script_run::RunFault;
 use std::alloc::{AllocError, Global};
 use std::process::Abort;
 use std::test::Fail;

@@ -1,5 +1,5 @@
 // A script beside the text that it prints.
-use fault_console::run::{RunFault, run};
+use script_run::{RunFault, run};
 use std::alloc::{AllocError, AllocGlobal, Global};
 use std::process::Abort;
 

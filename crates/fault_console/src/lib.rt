@@ -25,5 +25,5 @@
 mod commands;
 mod console;
 mod print;
-/// Runs of a whole script, from a reader to a writer.
-pub mod run;
+
+pub use console::Console;

@@ -1,7 +1,7 @@
 //! `ringctl` reads a script from standard input and prints what it brings to standard output.
 #![tactic(auto)]
 
-use fault_console::run::{RunFault, run};
+use script_run::{RunFault, run};
 use std::io::ErrorKind;
 use std::process::ExitCode;
 use std::{env, io};

@@ -11,7 +11,8 @@ use Rattle.line_words.proofs.Texts.{text_of-append}
 use Rattle.fault_console.proofs.Runs.{MayPrint-append, MayPrint-one, some_run, prints_a_line}
 use Rattle.fault_console.specs.Commands.{is_silent}
 use Rattle.fault_console.specs.Progress.{tickets_of}
-use Rattle.fault_console.specs.Script.{LinePrints, MayPrint, IsWhole, IsCut, IsUpTo, Wrote}
+use Rattle.fault_console.specs.Script.{LinePrints, MayPrint}
+use Rattle.script_run.specs.Written.{IsWhole, IsCut, IsUpTo, Wrote}
 
 -- the lines up to the next one, and those after it
 cut_more : {A : Type 0} (xs : List A) (n : ℕ) (x : A) (more : List A) → drop n xs ≡ x ∷ more → (take (n + 1) xs ≡ take n xs ++ (x ∷ [])) × (drop (n + 1) xs ≡ more)

@@ -1,9 +1,9 @@
 // Reading a script, and writing what it prints.
 ghost use Rattle.std.specs.Prelude.{◌≡◌, ◌⊎◌, ◌<◌, ◌≤◌, [], None, IfOk, IfSome, IsErrOf, length};
 ghost use Rattle.std.specs.Io.KnownBytes.{Appends};
-ghost use Rattle.fault_console.specs.Script.{IsCut, IsUpTo, IsWhole, Wrote, WroteOf};
+ghost use Rattle.script_run.specs.Written.{IsCut, IsUpTo, IsWhole, Wrote, WroteOf};
 
-use crate::console::Console;
+use fault_console::Console;
 use line_words::{first_line, write_whole};
 use std::alloc::Global;
 use std::io::{Read, Write};
@@ -105,7 +105,7 @@ fn play<W: Write>(alloc: Global, script: &[u8], writer: &mut W) -> Result<u64, R
     answer
 }
 
-/// Reads a script to its end and writes what it prints, of specs/Script; gives the number of lines printed. A script
+/// Reads a script to its end and writes what it prints, of `specs/Written`; gives the number of lines printed. A script
 /// has at most 1,000,000 bytes, and is read whole, by at most 1,000,001 reads, before the first byte is written.
 /// Refused as `Long` above that, and as `Read`, with nothing written; as `Write` after a front of the text; as `Memory`
 /// after the lines of the commands before. A read or write that was interrupted counts as failed.

@@ -1,7 +1,7 @@
 use Rattle.std.proofs.Common.{subst, rules}
 use Rattle.std.specs.Io.KnownBytes.{Appends}
-use Rattle.fault_console.proofs.Progress.{go_on, ends_whole, ends_up_to, ends_cut, fresh_text, nothing_left}
-use Rattle.fault_console.proofs.run.obey_all.Goals as goal
+use Rattle.script_run.proofs.Progress.{go_on, ends_whole, ends_up_to, ends_cut, fresh_text, nothing_left}
+use Rattle.script_run.proofs.runs.obey_all.Goals as goal
 
 pub returns-in-Err-clause-memory : goal.returns-in-Err-clause-memory
 returns-in-Err-clause-memory g c same =
