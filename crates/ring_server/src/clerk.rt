@@ -83,6 +83,14 @@ fn add(leads: &mut Vec<Decision>, lead: &Decision) -> Result<GroupName, AllocErr
     Ok(lead.key.group)
 }
 
+/// The leader of the first group behind this one, where there is one, or `None` where the board has ended.
+fn next<J: Naming>(
+    reader: &mut BoardReader<J>,
+    after: Option<GroupName>,
+) -> Option<Option<Decision>> {
+    reader.next_group(after).ok()
+}
+
 /// The first groups behind this one, in order of name, or `None` where the board has ended or memory is wanting.
 fn page<J: Naming>(
     alloc: Global,
@@ -92,24 +100,13 @@ fn page<J: Naming>(
     let mut leads = Vec::new(alloc);
     let mut last = after;
     for _ in 0..GROUPS {
-        let Ok(next) = reader.next_group(last) else {
-            return None;
-        };
-        let Some(lead) = next else {
+        let Some(lead) = next(reader, last)? else {
             return Some(Page { leads, more: false });
         };
-        match add(&mut leads, &lead) {
-            Ok(group) => last = Some(group),
-            Err(_) => return None,
-        }
+        last = Some(add(&mut leads, &lead).ok()?);
     }
-    match reader.next_group(last) {
-        Ok(next) => Some(Page {
-            leads,
-            more: next.is_some(),
-        }),
-        Err(_) => None,
-    }
+    let more = next(reader, last)?.is_some();
+    Some(Page { leads, more })
 }
 
 /// The latest leader of the group, where there is one, or `None` where the board has ended.
@@ -125,7 +122,7 @@ fn latest<J: Naming>(reader: &mut BoardReader<J>, group: GroupName) -> Option<Op
 }
 
 /// Sends an answer back, where there is one.
-fn send_back<T: Drop, R: Wait>(rt: &R, back: &Sender<T>, answer: Option<T>) {
+fn send_back<T: Drop, R: Wait>(rt: &R, back: Sender<T>, answer: Option<T>) {
     if let Some(answer) = answer {
         let _ = back.send(rt, answer);
     }
@@ -144,16 +141,12 @@ impl<J: Naming> Clerk<J> {
         match inquiry {
             Inquiry::Status(back) => {
                 let answer = status(rt, alloc, hub, self.port, self.doors, links).ok();
-                send_back(rt, &back, answer);
+                send_back(rt, back, answer)
             }
             Inquiry::Page(after, back) => {
-                let answer = page(alloc, &mut self.reader, after);
-                send_back(rt, &back, answer);
+                send_back(rt, back, page(alloc, &mut self.reader, after))
             }
-            Inquiry::Latest(group, back) => {
-                let answer = latest(&mut self.reader, group);
-                send_back(rt, &back, answer);
-            }
+            Inquiry::Latest(group, back) => { send_back(rt, back, latest(&mut self.reader, group)) }
         }
     }
 }

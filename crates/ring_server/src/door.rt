@@ -46,11 +46,8 @@ pub(crate) fn send_window<A: Node, D: Whole, C: Whole, F: Whole, E: Whole, R: Wa
     hub: &Hub<A, D, C, F, E>,
     links: &Links<'_>,
 ) {
-    let Ok(window) = hub.window(rt) else {
-        return;
-    };
-    for packet in &window {
-        links.send(rt, *packet);
+    if let Ok(window) = hub.window(rt) {
+        links.send_all(rt, &window);
     }
 }
 
@@ -121,6 +118,29 @@ fn serve_client<S: Service, R: Wait + Clock>(
     part(rt, stream);
 }
 
+/// Serves the next session, where there is one more, and then sends what the successor may miss. Whether there was one.
+fn serve_next<S: Service, A: Node, D: Whole, C: Whole, F: Whole, E: Whole, R: Wait + Clock>(
+    rt: &R,
+    alloc: Global,
+    hub: &Hub<A, D, C, F, E>,
+    front: &Front,
+    links: &Links<'_>,
+    service: &mut S,
+) -> bool {
+    if !front.takes_turn() {
+        return false;
+    }
+    let Some(stream) = next_client(rt, &front.listener) else {
+        return false;
+    };
+    links.tally.begin_session();
+    serve_client(rt, alloc, &stream, front.idle, links.tally, service);
+    drop(stream);
+    links.tally.end_session();
+    send_what_may_miss(rt, hub, links);
+    true
+}
+
 /// Serves a door: one session after the other, while there are some left. The last door of the node says that all are
 /// done. Where the ring does not start, nothing is served.
 pub(crate) fn serve_door<
@@ -147,17 +167,9 @@ pub(crate) fn serve_door<
     }
     let mut service = HubService::new(rt, hub, share, reader);
     for _ in rt.forever() {
-        if !front.takes_turn() {
+        if !serve_next(rt, alloc, hub, front, links, &mut service) {
             break;
         }
-        let Some(stream) = next_client(rt, &front.listener) else {
-            break;
-        };
-        links.tally.begin_session();
-        serve_client(rt, alloc, &stream, front.idle, links.tally, &mut service);
-        drop(stream);
-        links.tally.end_session();
-        send_what_may_miss(rt, hub, links);
     }
     let (share, _reader, _last) = service.into_parts();
     if front.closes() {

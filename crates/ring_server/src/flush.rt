@@ -5,10 +5,32 @@ use crate::links::Links;
 use commit_hub::{Hub, Node, Whole};
 use decision_board::Naming;
 use disk_model::Device;
+use group_commit::Landed;
 use ring_records::Refusal;
 use ring_service::Flusher;
 use std::sync::Wait;
 use std::time::{Clock, Duration};
+
+/// One round of the flusher, and what it landed.
+fn flush_once<V: Device, J: Naming, A: Node, D: Whole, C: Whole, F: Whole, E: Whole, R: Wait>(
+    rt: &R,
+    hub: &Hub<A, D, C, F, E>,
+    flusher: &mut Flusher<V, J, A, D, C, F, E>,
+) -> Result<Option<Landed>, Refusal>
+    requires { IsWhole D.all D.parts × IsWhole C.all C.parts × IsWhole F.all F.parts × IsWhole E.all E.parts }
+{
+    flusher.flush_round(rt, hub, &mut ())
+}
+
+/// Counts what landed, and sends what that releases.
+fn release<R: Wait>(rt: &R, landed: &Landed, is_checkpoint: bool, links: &Links<'_>) {
+    if is_checkpoint {
+        links.tally.count_checkpoint();
+    } else {
+        links.tally.count_batch();
+    }
+    links.send_all(rt, &landed.packets);
+}
 
 /// Flushes until the hub is closed and nothing waits, and sends what that releases. Where a growth is refused it tries
 /// again; whatever else is refused fails the node, which is told, so that nobody waits for ever. Whether it came to its end.
@@ -31,17 +53,8 @@ pub(crate) fn flush_all<
 {
     for _ in rt.forever() {
         let epoch = flusher.epoch();
-        match flusher.flush_round(rt, hub, &mut ()) {
-            Ok(Some(landed)) => {
-                if flusher.epoch() > epoch {
-                    links.tally.count_checkpoint();
-                } else {
-                    links.tally.count_batch();
-                }
-                for packet in &landed.packets {
-                    links.send(rt, *packet);
-                }
-            }
+        match flush_once(rt, hub, flusher) {
+            Ok(Some(landed)) => release(rt, &landed, flusher.epoch() > epoch, links),
             Ok(None) => return true,
             Err(Refusal::OutOfMemory) => rt.sleep(Duration::from_millis(1)),
             Err(_) => break,

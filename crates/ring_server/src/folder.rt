@@ -8,7 +8,7 @@ use disk_model::{Device, DeviceFault, FILE_LIMIT, FileDevice, OpenFault};
 use gated_journal::device_size;
 use node_store::Node;
 use ring_records::{NodeNo, Refusal};
-use std::alloc::{AllocError, Global};
+use std::alloc::Global;
 use std::fs::{File, OpenOptions};
 use std::io::{ErrorKind, Read};
 use std::os::unix::fs::FileExt;
@@ -29,10 +29,8 @@ fn lengthen<V: Device>(device: &mut V, length: u64) -> Result<(), DeviceFault> {
     device.write_at(length - rest, &zeros[..rest as usize])
 }
 
-/// What the system answers now of a file that could not be used: it is opened, locked, read and synced once more.
-fn read_again<R: Files<File = File>>(rt: &R, alloc: Global, path: &str) -> Result<(), Answer> {
-    let mut file = OpenOptions::new().read(true).write(true).open(rt, path)?;
-    file.try_lock()?;
+/// Reads the file to its end, and syncs it.
+fn read_whole(file: &mut File, alloc: Global) -> Result<(), Answer> {
     if file.metadata()?.len() > FILE_LIMIT as u64 {
         return Err(Answer::Error(ErrorKind::FileTooLarge));
     }
@@ -41,11 +39,86 @@ fn read_again<R: Files<File = File>>(rt: &R, alloc: Global, path: &str) -> Resul
     Ok(file.sync_all()?)
 }
 
+/// What the system answers now of a file that could not be used: it is opened, locked, read and synced once more.
+fn read_again<R: Files<File = File>>(rt: &R, alloc: Global, path: &str) -> Result<(), Answer> {
+    let mut file = OpenOptions::new().read(true).write(true).open(rt, path)?;
+    file.try_lock()?;
+    read_whole(&mut file, alloc)
+}
+
 /// What the system answers now of a new file that could not be made: it is opened, grown and synced once more.
 fn grow_again<R: Files<File = File>>(rt: &R, path: &str, length: u64) -> Result<(), Answer> {
     let file = OpenOptions::new().write(true).create(true).open(rt, path)?;
     file.write_all_at(&[0; PIECE as usize], length)?;
     Ok(file.sync_all()?)
+}
+
+/// The refusal of a file that the system refused, or for which memory was wanting.
+fn refusal_of(fault: &OpenFault) -> Refusal {
+    match fault {
+        OpenFault::Memory => Refusal::OutOfMemory,
+        OpenFault::Device => Refusal::Device(1),
+    }
+}
+
+/// The node of this file, which is there.
+fn recover<R: Files<File = File>>(
+    rt: &R,
+    alloc: Global,
+    path: &str,
+    node: NodeNo,
+    nodes: u8,
+) -> Result<OpenNode<FileDevice>, Refusal>
+    requires { (node ≤ nodes) × (nodes ≤ 16) }
+    ensures { IfOk result (λ opened. number_of opened ≡ node) }
+{
+    let device = match FileDevice::open(alloc, rt, path) {
+        Ok(device) => device,
+        Err(fault) => return Err(refusal_of(&fault)),
+    };
+    match Node::recover(alloc, device, node, nodes, 0) {
+        Ok(made) => Ok(OpenNode::new(node, nodes, made)),
+        Err((_device, refusal)) => Err(refusal),
+    }
+}
+
+/// A new node over this device, which gets its full length first.
+fn format(
+    alloc: Global,
+    device: FileDevice,
+    node: NodeNo,
+    nodes: u8,
+    capacity: u32,
+) -> Result<OpenNode<FileDevice>, Refusal>
+    requires { (node ≤ nodes) × (nodes ≤ 16) }
+    ensures { IfOk result (λ opened. number_of opened ≡ node) }
+{
+    let mut device = device;
+    if lengthen(&mut device, device_size(capacity)).is_err() {
+        return Err(Refusal::Device(device.failures()));
+    }
+    match Node::create(alloc, device, node, nodes, capacity, 0) {
+        Ok(made) => Ok(OpenNode::new(node, nodes, made)),
+        Err((_device, refusal)) => Err(refusal),
+    }
+}
+
+/// A new node in a new file.
+fn create<R: Files<File = File>>(
+    rt: &R,
+    alloc: Global,
+    path: &str,
+    node: NodeNo,
+    nodes: u8,
+    capacity: u32,
+) -> Result<OpenNode<FileDevice>, Refusal>
+    requires { (node ≤ nodes) × (nodes ≤ 16) }
+    ensures { IfOk result (λ opened. number_of opened ≡ node) }
+{
+    match FileDevice::create(alloc, rt, path) {
+        Ok(device) => format(alloc, device, node, nodes, capacity),
+        Err(fault) => Err(refusal_of(&fault)),
+    }
 }
 
 /// A folder whose exclusive lock is held: nobody else who asks for it makes or opens nodes there.
@@ -116,13 +189,9 @@ impl<'a> Folder<'a> {
         if !self.has_node(rt, alloc, node)? {
             return self.make(rt, alloc, path.as_str(), node, nodes, capacity);
         }
-        let refusal = match FileDevice::open(alloc, rt, path.as_str()) {
-            Err(OpenFault::Memory) => return Err(Unopened::from(AllocError)),
-            Err(OpenFault::Device) => Refusal::Device(1),
-            Ok(device) => match Node::recover(alloc, device, node, nodes, 0) {
-                Ok(made) => return Ok(OpenNode::new(node, nodes, made)),
-                Err((_device, refusal)) => refusal,
-            },
+        let refusal = match recover(rt, alloc, path.as_str(), node, nodes) {
+            Ok(opened) => return Ok(opened),
+            Err(refusal) => refusal,
         };
         let again = match refusal {
             Refusal::Device(_) => read_again(rt, alloc, path.as_str()),
@@ -147,22 +216,12 @@ impl<'a> Folder<'a> {
     {
         let new = format!(in alloc; "{path}.new")?;
         remove(rt, new.as_str())?;
-        let refusal = match FileDevice::create(alloc, rt, new.as_str()) {
-            Err(OpenFault::Memory) => return Err(Unopened::from(AllocError)),
-            Err(OpenFault::Device) => Refusal::Device(1),
-            Ok(mut device) => {
-                if lengthen(&mut device, device_size(capacity)).is_err() {
-                    Refusal::Device(device.failures())
-                } else {
-                    match Node::create(alloc, device, node, nodes, capacity, 0) {
-                        Err((_device, refusal)) => refusal,
-                        Ok(made) => {
-                            self.name(rt, new.as_str(), path)?;
-                            return Ok(OpenNode::new(node, nodes, made));
-                        }
-                    }
-                }
+        let refusal = match create(rt, alloc, new.as_str(), node, nodes, capacity) {
+            Ok(opened) => {
+                self.name(rt, new.as_str(), path)?;
+                return Ok(opened);
             }
+            Err(refusal) => refusal,
         };
         let again = match refusal {
             Refusal::Device(_) => grow_again(rt, new.as_str(), device_size(capacity)),

@@ -200,6 +200,25 @@ fn submit<A: Node, D: Whole, C: Whole, F: Whole, E: Whole, R: Wait>(
     }
 }
 
+/// Waits for the reply, and ends the message, or holds a credit back again that was refused for room.
+fn release<A: Node, D: Whole, C: Whole, F: Whole, E: Whole, R: Wait>(
+    rt: &R,
+    hub: &Hub<A, D, C, F, E>,
+    credits: &mut Credits,
+    ticket: Ticket,
+    links: &Links<'_>,
+) {
+    let is_message = matches!(ticket.question(), Request::Take(..));
+    let reply = reply_to(rt, hub, ticket);
+    let lacks_room = lacks_room(&reply);
+    if is_message {
+        let is_full = lacks_room && is_full(&hub.look(rt));
+        end_message(rt, reply, links, is_full);
+    } else if lacks_room {
+        credits.take_back();
+    }
+}
+
 /// Waits for the replies. The last one rests on all inputs before it, so there is one wait for all of them. A credit that was
 /// refused for room is held back again.
 fn release_all<A: Node, D: Whole, C: Whole, F: Whole, E: Whole, R: Wait>(
@@ -211,15 +230,7 @@ fn release_all<A: Node, D: Whole, C: Whole, F: Whole, E: Whole, R: Wait>(
     ensures { intake.new.tickets.items ≡ [] }
 {
     while let Some(ticket) = intake.tickets.pop() {
-        let is_message = matches!(ticket.question(), Request::Take(..));
-        let reply = reply_to(rt, hub, ticket);
-        let lacks_room = lacks_room(&reply);
-        if is_message {
-            let is_full = lacks_room && is_full(&hub.look(rt));
-            end_message(rt, reply, links, is_full);
-        } else if lacks_room {
-            intake.credits.take_back();
-        }
+        release(rt, hub, &mut intake.credits, ticket, links);
     }
 }
 

@@ -54,6 +54,13 @@ impl Links<'_> {
         self.post.send(rt, to, packet);
     }
 
+    /// Sends all of them, in this order.
+    pub(crate) fn send_all<R: Wait>(&self, rt: &R, packets: &[Packet]) {
+        for packet in packets {
+            self.send(rt, *packet);
+        }
+    }
+
     /// The node has done with a message of its predecessor, however. The inbox alone calls it, once for each.
     pub(crate) fn done(&self) {
         self.post.done(self.node);

@@ -15,26 +15,32 @@ use crate::site::{Doors, Site};
 use crate::start_latch::StartLatch;
 use commit_hub::{Hub, Node, Share, Whole};
 use crossbeam_channel::Receiver;
-use decision_board::Naming;
+use decision_board::{Board, Naming};
 use disk_model::Device;
 use ring_records::{Packet, Shown};
 use ring_service::{Flusher, opened_board};
-use ring_watch::Tally;
+use ring_watch::{Inquiry, Tally};
 use std::alloc::{AllocError, Global};
 use std::net::TcpListener;
 use std::sync::Wait;
-use std::thread::{JoinHandle, Threads, scope, scope_env};
+use std::thread::{JoinHandle, Scope, Threads, scope, scope_env};
 use std::time::Clock;
+
+/// What the threads of the inbox, the doors and the clerk of a node take each for themselves.
+#[derive(Drop)]
+struct Crew<J: Naming, A: Node> {
+    share: Share<A>,
+    seats: Vec<Seat<J, A>>,
+    clerk: Option<Clerk<J>>,
+}
 
 /// What the inbox, the doors and the clerk of a node take with them.
 #[derive(Drop)]
 struct Ends<J: Naming, A: Node> {
     inbox: Receiver<Packet>,
-    share: Share<A>,
     listener: TcpListener,
-    seats: Vec<Seat<J, A>>,
     doors: Doors,
-    clerk: Option<Clerk<J>>,
+    crew: Crew<J, A>,
 }
 
 /// Runs a node until the last door of the ring is done, and shows what it holds then. `None` where its device failed: the
@@ -98,32 +104,54 @@ pub(crate) fn serve_node<
         return None;
     };
     let (hub, tie) = Hub::<A, D, C, F, E>::new(desk, blanks);
-    let (share, seats) = (
-        hub.enter(rt),
-        take_seats(rt, alloc, &hub, &board, doors.count),
-    );
-    let clerk = take_clerk(&board, asked, port_of(&listener), doors.count);
+    let ends = take_ends(rt, alloc, &hub, &board, inbox, listener, doors, asked);
     let mut flusher = Flusher::new(alloc, journal, board, tie);
-    let shares = match (share, seats, clerk) {
-        (Ok(share), Some(seats), Ok(clerk)) => {
-            let ends = Ends {
-                inbox,
-                share,
-                listener,
-                seats,
-                doors,
-                clerk,
-            };
-            run_threads(rt, alloc, &hub, &mut flusher, ends, &links, latch)
-        }
-        _ => {
+    let shares = match ends {
+        Some(ends) => run_threads(rt, alloc, &hub, &mut flusher, ends, &links, latch),
+        None => {
             latch.tell(rt, Err(RunFault::Memory(AllocError)));
             None
         }
     };
     let (_journal, board, _owed) = flusher.into_parts();
     board.end(rt);
-    let shares = shares?;
+    settle(hub, shares?, doors)
+}
+
+/// What the threads of a node take, or `None` where memory or a place is wanting.
+fn take_ends<J: Naming, A: Node, D: Whole, C: Whole, F: Whole, E: Whole, R: Wait>(
+    rt: &R,
+    alloc: Global,
+    hub: &Hub<A, D, C, F, E>,
+    board: &Board<J>,
+    inbox: Receiver<Packet>,
+    listener: TcpListener,
+    doors: Doors,
+    asked: Option<Receiver<Inquiry>>,
+) -> Option<Ends<J, A>> {
+    let share = hub.enter(rt).ok()?;
+    let seats = take_seats(rt, alloc, hub, board, doors.count)?;
+    let clerk = take_clerk(board, asked, port_of(&listener), doors.count).ok()?;
+    Some(Ends {
+        inbox,
+        listener,
+        doors,
+        crew: Crew {
+            share,
+            seats,
+            clerk,
+        },
+    })
+}
+
+/// What the node holds, where the shares of all places are back.
+fn settle<A: Node, D: Whole, C: Whole, F: Whole, E: Whole>(
+    hub: Hub<A, D, C, F, E>,
+    shares: Vec<Share<A>>,
+    doors: Doors,
+) -> Option<Shown>
+    requires { 1 + (doors.count + 1) ≡ A.parts }
+{
     if shares.len() != doors.count as usize + 1 {
         return None;
     }
@@ -173,6 +201,155 @@ fn serve_inbox<A: Node, D: Whole, C: Whole, F: Whole, E: Whole, R: Wait + Clock>
     share
 }
 
+/// Keeps the handle of a thread that was started.
+fn keep<A: Node>(
+    handles: &mut Vec<JoinHandle<Share<A>>>,
+    started: Option<JoinHandle<Share<A>>>,
+) -> Result<(), RunFault> {
+    match started {
+        Some(handle) => match handles.push(handle) {
+            Ok(()) => Ok(()),
+            Err(_) => Err(RunFault::Memory(AllocError)),
+        },
+        None => Err(RunFault::Thread),
+    }
+}
+
+/// Starts the inbox in a thread.
+fn start_inbox<
+    's,
+    N: 's,
+    A: Node + Send + Sync + 's,
+    D: Whole + Send + Sync + 's,
+    C: Whole + Send + Sync + 's,
+    F: Whole + Send + Sync + 's,
+    E: Whole + Send + Sync + 's,
+    R: Wait + Clock + Sync,
+>(
+    scope: &Scope<'s, N>,
+    rt: &'s R,
+    alloc: Global,
+    hub: &'s Hub<A, D, C, F, E>,
+    share: Share<A>,
+    inbox: &'s Receiver<Packet>,
+    links: &'s Links<'s>,
+    latch: &'s StartLatch,
+    handles: &mut Vec<JoinHandle<Share<A>>>,
+) -> Result<(), RunFault> {
+    let started = scope
+        .spawn(move || serve_inbox(rt, alloc, hub, share, inbox, links, latch))
+        .ok();
+    keep(handles, started)
+}
+
+/// Starts each door in a thread.
+fn start_doors<
+    's,
+    N: 's,
+    J: Naming + Send + Sync + 's,
+    A: Node + Send + Sync + 's,
+    D: Whole + Send + Sync + 's,
+    C: Whole + Send + Sync + 's,
+    F: Whole + Send + Sync + 's,
+    E: Whole + Send + Sync + 's,
+    R: Wait + Clock + Sync,
+>(
+    scope: &Scope<'s, N>,
+    rt: &'s R,
+    alloc: Global,
+    hub: &'s Hub<A, D, C, F, E>,
+    seats: Vec<Seat<J, A>>,
+    front: &'s Front,
+    links: &'s Links<'s>,
+    latch: &'s StartLatch,
+    handles: &mut Vec<JoinHandle<Share<A>>>,
+) -> Result<(), RunFault> {
+    for seat in seats {
+        let started = scope
+            .spawn(move || serve_door(rt, alloc, hub, seat, front, links, latch))
+            .ok();
+        keep(handles, started)?;
+    }
+    Ok(())
+}
+
+/// Starts the clerk in a thread, where there is one.
+fn start_clerk<
+    's,
+    N: 's,
+    J: Naming + Send + Sync + 's,
+    A: Node + Send + Sync + 's,
+    D: Whole + Send + Sync + 's,
+    C: Whole + Send + Sync + 's,
+    F: Whole + Send + Sync + 's,
+    E: Whole + Send + Sync + 's,
+    R: Wait + Clock + Sync,
+>(
+    scope: &Scope<'s, N>,
+    rt: &'s R,
+    alloc: Global,
+    hub: &'s Hub<A, D, C, F, E>,
+    clerk: Option<Clerk<J>>,
+    links: &'s Links<'s>,
+    latch: &'s StartLatch,
+) -> Result<(), RunFault> {
+    let Some(clerk) = clerk else {
+        return Ok(());
+    };
+    match scope.spawn(move || serve_clerk(rt, alloc, hub, clerk, links, latch)) {
+        Ok(_) => Ok(()),
+        Err(_) => Err(RunFault::Thread),
+    }
+}
+
+/// Starts the inbox, the doors and the clerk in threads.
+fn start_crew<
+    's,
+    N: 's,
+    J: Naming + Send + Sync + 's,
+    A: Node + Send + Sync + 's,
+    D: Whole + Send + Sync + 's,
+    C: Whole + Send + Sync + 's,
+    F: Whole + Send + Sync + 's,
+    E: Whole + Send + Sync + 's,
+    R: Wait + Clock + Sync,
+>(
+    scope: &Scope<'s, N>,
+    rt: &'s R,
+    alloc: Global,
+    hub: &'s Hub<A, D, C, F, E>,
+    crew: Crew<J, A>,
+    inbox: &'s Receiver<Packet>,
+    front: &'s Front,
+    links: &'s Links<'s>,
+    latch: &'s StartLatch,
+    handles: &mut Vec<JoinHandle<Share<A>>>,
+    shares: &mut Vec<Share<A>>,
+) -> Result<(), RunFault> {
+    reserve(handles, shares, crew.seats.len())?;
+    let Crew {
+        share,
+        seats,
+        clerk,
+    } = crew;
+    start_inbox(scope, rt, alloc, hub, share, inbox, links, latch, handles)?;
+    start_doors(scope, rt, alloc, hub, seats, front, links, latch, handles)?;
+    start_clerk(scope, rt, alloc, hub, clerk, links, latch)
+}
+
+/// Waits for the threads, and takes their shares. Whether there is room for all.
+fn join_all<A: Node, R: Threads>(
+    rt: &R,
+    handles: Vec<JoinHandle<Share<A>>>,
+    shares: &mut Vec<Share<A>>,
+) -> bool {
+    let mut are_back = true;
+    for handle in handles {
+        are_back = shares.push(handle.join(rt)).is_ok() && are_back;
+    }
+    are_back
+}
+
 /// Starts the inbox, the doors and the clerk in threads, tells the latch, and flushes here once all are let go. Gives the shares
 /// back, or `None` where the ring did not start or the flusher did not come to its end.
 fn run_threads<
@@ -197,11 +374,9 @@ fn run_threads<
 {
     let Ends {
         inbox,
-        share,
         listener,
-        seats,
         doors,
-        clerk,
+        crew,
     } = ends;
     let inbox = &inbox;
     let front = Front::new(listener, doors);
@@ -215,44 +390,29 @@ fn run_threads<
         {
             let mut handles = Vec::new(alloc);
             let mut shares = Vec::new(alloc);
-            let mut outcome = reserve(&mut handles, &mut shares, seats.len());
-            match scope.spawn(move || serve_inbox(rt, alloc, hub, share, inbox, links, latch)) {
-                Ok(handle) => {
-                    if handles.push(handle).is_err() {
-                        outcome = Err(RunFault::Memory(AllocError));
-                    }
-                }
-                Err(_) => outcome = Err(RunFault::Thread),
-            }
-            for seat in seats {
-                if outcome.is_err() {
-                    break;
-                }
-                match scope.spawn(move || serve_door(rt, alloc, hub, seat, front, links, latch)) {
-                    Ok(handle) => {
-                        if handles.push(handle).is_err() {
-                            outcome = Err(RunFault::Memory(AllocError));
-                        }
-                    }
-                    Err(_) => outcome = Err(RunFault::Thread),
-                }
-            }
-            if let Some(clerk) = clerk {
-                if scope
-                    .spawn(move || serve_clerk(rt, alloc, hub, clerk, links, latch))
-                    .is_err()
-                {
-                    outcome = Err(RunFault::Thread);
-                }
-            }
+            let outcome = start_crew(
+                scope,
+                rt,
+                alloc,
+                hub,
+                crew,
+                inbox,
+                front,
+                links,
+                latch,
+                &mut handles,
+                &mut shares,
+            );
             // No message of this run may come to the successor before these.
             send_window(rt, hub, links);
             latch.tell(rt, outcome);
-            let mut works = latch.wait(rt) && flush_all(rt, hub, flusher, links);
-            for handle in handles {
-                works = shares.push(handle.join(rt)).is_ok() && works;
+            let works = latch.wait(rt) && flush_all(rt, hub, flusher, links);
+            let are_back = join_all(rt, handles, &mut shares);
+            if works && are_back {
+                Some(shares)
+            } else {
+                None
             }
-            if works { Some(shares) } else { None }
         },
     )
 }

@@ -15,7 +15,7 @@ use std::marker::Brand;
 use std::net::{Net, TcpStream};
 use std::sync::{Arc, Wait};
 use std::thread;
-use std::thread::{JoinHandle, Threads};
+use std::thread::{JoinHandle, Scope, Threads};
 use std::time::Clock;
 
 /// What each node of a ring holds at the end, in their order, `None` where it failed.
@@ -44,6 +44,28 @@ fn watched_node<V: Device + Send + Drop, R: Threads + Wait + Clock + Sync>(
     end
 }
 
+/// Starts each node in a thread. One that does not start is told.
+fn start_nodes<'s, N: 's, V: Device + Send + Drop + 's, R: Threads + Wait + Clock + Sync>(
+    scope: &Scope<'s, N>,
+    rt: &'s R,
+    sites: Vec<Site<V>>,
+    shared: &'s Shared,
+    handles: &mut Vec<Option<JoinHandle<Option<Shown>>>>,
+) {
+    for site in sites {
+        let node = site.node();
+        let started = scope
+            .spawn(move || watched_node(rt, node, site, shared))
+            .ok();
+        if started.is_none() {
+            shared.latch.tell(rt, Err(RunFault::Thread));
+        }
+        if let Err(refused) = handles.push(started) {
+            drop(refused);
+        }
+    }
+}
+
 /// Runs all nodes until the last door is done. All memory of its own is had before the first thread.
 fn run_nodes<V: Device + Send + Drop, R: Threads + Wait + Clock + Sync>(
     rt: &R,
@@ -57,18 +79,7 @@ fn run_nodes<V: Device + Send + Drop, R: Threads + Wait + Clock + Sync>(
     )?;
     let mut ends: Vec<Option<Shown>> = Vec::with_capacity(alloc, sites.len())?;
     thread::scope(thread::scope_env(), rt, |scope| {
-        for site in sites {
-            let node = site.node();
-            let started = scope
-                .spawn(move || watched_node(rt, node, site, shared))
-                .ok();
-            if started.is_none() {
-                shared.latch.tell(rt, Err(RunFault::Thread));
-            }
-            if let Err(refused) = handles.push(started) {
-                drop(refused);
-            }
-        }
+        start_nodes(scope, rt, sites, shared, &mut handles);
         for started in handles {
             let end = match started {
                 Some(handle) => handle.join(rt),
@@ -78,6 +89,21 @@ fn run_nodes<V: Device + Send + Drop, R: Threads + Wait + Clock + Sync>(
         }
     });
     Ok(ends)
+}
+
+/// Runs all nodes, and tells where memory was wanting, and that no node runs any more.
+fn run_ring<V: Device + Send + Drop, R: Threads + Wait + Clock + Sync>(
+    rt: &R,
+    alloc: Global,
+    sites: Vec<Site<V>>,
+    shared: &Shared,
+) -> Ends {
+    let ends = run_nodes(rt, alloc, sites, shared);
+    if let Err(fault) = &ends {
+        shared.latch.fail(rt, RunFault::Memory(*fault));
+    }
+    shared.watch.end(rt);
+    ends
 }
 
 /// Prints `serving` once all threads of all nodes are there, and those that tell of the ring, and lets them go: to serve,
@@ -174,14 +200,7 @@ pub fn serve_ring<
     let shared = Arc::new(alloc, shared)?;
     let theirs = Arc::try_clone(&shared)?;
     let own = *rt;
-    let ring = thread::spawn(rt, move || {
-        let ends = run_nodes(&own, alloc, sites, &theirs);
-        if let Err(fault) = &ends {
-            theirs.latch.fail(&own, RunFault::Memory(*fault));
-        }
-        theirs.watch.end(&own);
-        ends
-    });
+    let ring = thread::spawn(rt, move || run_ring(&own, alloc, sites, &theirs));
     let ring = match ring {
         Ok(ring) => ring,
         Err(_) => return Err(RunFault::Thread),

@@ -15,7 +15,7 @@ use crate::site::{Doors, Site};
 use crate::unopened::Unopened;
 use crossbeam_channel::Receiver;
 use disk_model::FileDevice;
-use ring_records::{NodeNo, Refusal};
+use ring_records::{NodeNo, Packet, Refusal};
 use ring_service::{Settings, VERSION, Words, read_settings, read_words};
 use ring_watch::{Facts, Inquiry, Reception, StatusPort};
 use std::alloc::{AllocError, Global};
@@ -183,12 +183,25 @@ where
     let listeners = listen(rt, alloc, settings)?;
     let (status, clerks) = listen_for_questions(rt, alloc, settings, words.status)?;
     let (post, inboxes) = Post::new(alloc, settings.nodes)?;
+    let sites = take_sites(alloc, opened, inboxes, listeners, clerks, doors)?;
+    serve_ring(rt, alloc, sites, post, status, words.fail_stop, out, err)
+}
+
+/// A site for each node, in their order, with a clerk where there is one.
+fn take_sites(
+    alloc: Global,
+    opened: Vec<OpenNode<FileDevice>>,
+    inboxes: Vec<Receiver<Packet>>,
+    listeners: Vec<TcpListener>,
+    clerks: Vec<Receiver<Inquiry>>,
+    doors: Doors,
+) -> Result<Vec<Site<FileDevice>>, AllocError> {
     let mut clerks = clerks.into_iter();
     let mut sites = Vec::new(alloc);
     for ((opened, inbox), listener) in opened.into_iter().zip(inboxes).zip(listeners) {
         sites.push(Site::new(alloc, opened, inbox, listener, doors, clerks.next()))?;
     }
-    serve_ring(rt, alloc, sites, post, status, words.fail_stop, out, err)
+    Ok(sites)
 }
 
 /// All nodes of the ring, which fit. Each has to be there already where they were all made once, or where `existing`

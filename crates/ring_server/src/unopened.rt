@@ -18,6 +18,18 @@ pub enum Place {
     New,
 }
 
+impl Place {
+    /// Its path within the folder, where it is not the folder itself.
+    fn print<E: Write>(self, err: &mut E, node: NodeNo) -> io::Result<()> {
+        match self {
+            Place::Folder => Ok(()),
+            Place::Mark => write!(err, "/ring.made"),
+            Place::Journal => write!(err, "/node-{node}.crj"),
+            Place::New => write!(err, "/node-{node}.crj.new"),
+        }
+    }
+}
+
 /// What the system answered.
 #[derive(Clone, Copy, Debug, PartialEq, Eq)]
 pub enum Answer {
@@ -92,12 +104,9 @@ impl Unopened {
         let Some((place, answer)) = &self.told else {
             return Ok(());
         };
-        match place {
-            Place::Folder => writeln!(err, "ringd: {dir}: {answer}"),
-            Place::Mark => writeln!(err, "ringd: {dir}/ring.made: {answer}"),
-            Place::Journal => writeln!(err, "ringd: {dir}/node-{node}.crj: {answer}"),
-            Place::New => writeln!(err, "ringd: {dir}/node-{node}.crj.new: {answer}"),
-        }
+        write!(err, "ringd: {dir}")?;
+        place.print(err, node)?;
+        writeln!(err, ": {answer}")
     }
 }
 

@@ -3,7 +3,7 @@ use ring_records::NodeNo;
 use std::sync::{Condvar, Mutex, Wait};
 
 /// What is to be told of the ring.
-#[derive(Clone, Copy, Debug)]
+#[derive(Clone, Copy)]
 pub(crate) enum News {
     /// This node has failed.
     Failed(NodeNo),
@@ -14,7 +14,7 @@ pub(crate) enum News {
 }
 
 /// Whether something of a node is to be told.
-#[derive(Clone, Copy, PartialEq)]
+#[derive(Clone, Copy)]
 enum Word {
     Silent,
     Due,
@@ -24,14 +24,14 @@ enum Word {
 impl Word {
     /// It is to be told, where it never was.
     fn ask(&mut self) {
-        if *self == Word::Silent {
+        if matches!(*self, Word::Silent) {
             *self = Word::Due;
         }
     }
 
     /// Whether it is to be told, which is told once.
     fn take(&mut self) -> bool {
-        let is_due = *self == Word::Due;
+        let is_due = matches!(*self, Word::Due);
         if is_due {
             *self = Word::Told;
         }

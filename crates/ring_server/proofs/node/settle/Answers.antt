@@ -1,5 +1,5 @@
 use Rattle.std.proofs.Common.{rules}
-use Rattle.ring_server.proofs.node.serve_node.Goals as goal
+use Rattle.ring_server.proofs.node.settle.Goals as goal
 
 -- each place of the hub is here
 pub unreachable-requires : goal.unreachable-requires
