@@ -9,10 +9,10 @@ pub const CAPACITY: u32 = 1 << 20;
 
 /// A device in memory for a journal of this capacity. Refused for want of memory.
 pub fn in_memory(alloc: Global) -> Result<MemDevice, Refusal> {
-    match MemDevice::new(alloc, device_size(CAPACITY) as usize) {
-        Ok(device) => Ok(device),
-        Err(_) => Err(Refusal::OutOfMemory),
-    }
+    let Ok(size) = usize::try_from(device_size(CAPACITY)) else {
+        return Err(Refusal::OutOfMemory);
+    };
+    MemDevice::new(alloc, size).map_err(|_| Refusal::OutOfMemory)
 }
 
 /// Where the gate of a new journal stands: behind its header, and the head and the snapshot of its first area.
