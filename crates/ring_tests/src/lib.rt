@@ -1,9 +1,11 @@
-//! Tests of a ring in memory: its nodes, and the events that happen to it.
+//! Tests of a ring in memory: its nodes, the events that happen to it, and its console.
 //!
 //! What no clause says: that each call succeeds with ample memory, and what a stop leaves of a batch. The rows of
-//! scripts are in console_tests.
+//! scripts are in `console`.
 #![tactic(auto)]
 
+#[cfg(test)]
+mod console;
 #[cfg(test)]
 mod crashes;
 #[cfg(test)]
@@ -14,5 +16,7 @@ mod packets;
 mod rings;
 #[cfg(test)]
 mod sealed;
+#[cfg(test)]
+mod stops;
 #[cfg(test)]
 mod worlds;

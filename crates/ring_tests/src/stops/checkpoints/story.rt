@@ -1,7 +1,8 @@
 // What a node accepts in a run, and what it shows of that.
 use super::node::{Round, Stored, answers, lasts};
 use group_commit::Desk;
-use ring_records::{Packet, Reply};
+use ring_records::Packet;
+use std::process::Abort;
 use test_rows::{Ask, Cause, Note, Say, Sends};
 
 const RED: Note = Note::Token("red", 5, 10, 1);
@@ -9,7 +10,7 @@ const RED: Note = Note::Token("red", 5, 10, 1);
 const BLUE: Note = Note::Token("blue", 5, 20, 3);
 
 /// What the node is asked, and what it answers. Each is an input, and is accepted behind those before it.
-const INPUTS: [(Ask, Say); 5] = [
+static INPUTS: [(Ask, Say); 5] = [
     (Ask::Stand("red", 5, 10), Say::Stood),
     (Ask::Take(0, BLUE), Say::Taken),
     (Ask::Take(1, RED), Say::Taken),
@@ -18,7 +19,7 @@ const INPUTS: [(Ask, Say); 5] = [
 ];
 
 /// What is asked of the node for each input that it has, and what it answers; it accepts no input then.
-const KNOWN: [(Ask, Say); 5] = [
+static KNOWN: [(Ask, Say); 5] = [
     (Ask::Stand("red", 5, 40), Say::Refused(Cause::Already(10))),
     (Ask::Stand("blue", 5, 40), Say::Refused(Cause::Late)),
     (Ask::Who("red", 5), Say::Leader(10, 1)),
@@ -30,7 +31,7 @@ const KNOWN: [(Ask, Say); 5] = [
 type Numbers = [u64; 4];
 
 /// These with no input, with the first, and so on.
-const COUNTS: [Numbers; 6] = [
+static COUNTS: [Numbers; 6] = [
     [0, 0, 0, 0],
     [1, 0, 0, 1],
     [2, 1, 0, 1],
@@ -40,7 +41,7 @@ const COUNTS: [Numbers; 6] = [
 ];
 
 /// The messages that the inputs send.
-const SENT: [Note; 4] = [
+static SENT: [Note; 4] = [
     RED,
     BLUE,
     Note::Elected("red", 5, 10, 1),
@@ -77,10 +78,9 @@ impl Place {
         self.epoch = self.epoch.saturating_add(1);
     }
 
-    /// What the node is asked next.
-    pub fn ask(self) -> Option<Ask> {
-        let (ask, _) = INPUTS.get(self.inputs as usize)?;
-        Some(*ask)
+    /// What the node is asked next, and what it answers.
+    pub fn input(self, rt: &impl Abort) -> (Ask, Say) {
+        *INPUTS.get(self.inputs as usize).expect(rt, "an input")
     }
 
     // Whether the desk of a node that was recovered shows this.
@@ -98,42 +98,24 @@ impl Place {
 }
 
 /// The node accepts its next input, makes it durable by such a round, and answers as it has to.
-pub fn next(node: &mut Stored, round: Round, place: &mut Place) -> Option<()> {
-    let (ask, say) = *INPUTS.get(place.inputs as usize)?;
+pub fn next(rt: &impl Abort, node: &mut Stored, round: Round, place: &mut Place) {
+    let (ask, say) = place.input(rt);
+    let reply = say.reply().expect(rt, "a reply");
+    assert!(rt; lasts(rt, node, ask, round) == reply);
     place.accept();
-    if is_said(lasts(node, ask, round), say) {
-        Some(())
-    } else {
-        None
+}
+
+/// A node that was recovered is at this place, by what it shows and answers.
+pub fn is_at(rt: &impl Abort, node: &mut Stored, place: Place) {
+    assert!(rt; place.is_shown_by(node.desk()));
+    for (ask, say) in KNOWN.iter().take(place.inputs as usize) {
+        knows(rt, node, *ask, *say);
     }
 }
 
-/// Whether a node that was recovered is at this place, by what it shows and answers.
-pub fn is_at(node: &mut Stored, place: Place) -> bool {
-    place.is_shown_by(node.desk()) && knows(node, place.inputs)
-}
-
-// Whether the node knows so many inputs.
-fn knows(node: &mut Stored, inputs: u64) -> bool {
-    for number in 0..inputs {
-        let Some((ask, say)) = KNOWN.get(number as usize) else {
-            return false;
-        };
-        if !is_said(answers(node, *ask), *say) {
-            return false;
-        }
-    }
-    true
-}
-
-fn is_said(reply: Option<Reply>, say: Say) -> bool {
-    let Ok(want) = say.reply() else {
-        return false;
-    };
-    match reply {
-        Some(reply) => reply == want,
-        None => false,
-    }
+fn knows(rt: &impl Abort, node: &mut Stored, ask: Ask, say: Say) {
+    let reply = say.reply().expect(rt, "a reply");
+    assert!(rt; answers(rt, node, ask) == reply);
 }
 
 fn counted(desk: &Desk) -> Numbers {

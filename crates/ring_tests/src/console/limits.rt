@@ -1,5 +1,5 @@
 // Worked sessions of many lines.
-use crate::session::{Line, Session, assert_played};
+use crate::console::session::{Line, Session, assert_played};
 use std::alloc::{AllocError, Global};
 
 // Node 1 stands for terms 1 to `terms` of group `red` with this bid, and each ticket is answered so.

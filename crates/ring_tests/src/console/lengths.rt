@@ -1,5 +1,5 @@
 // How long a line and a script may be.
-use crate::session::{assert_prints, played};
+use crate::console::session::{assert_prints, played};
 use script_run::RunFault;
 use std::alloc::{AllocError, Global};
 use std::process::Abort;

@@ -1,5 +1,5 @@
 // What a line is.
-use crate::session::{Ended, Session, assert_played};
+use crate::console::session::{Ended, Session, assert_played};
 use std::alloc::AllocGlobal;
 use std::process::Abort;
 

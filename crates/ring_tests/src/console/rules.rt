@@ -1,5 +1,5 @@
 // Sessions of a few lines, each of which shows one rule.
-use crate::session::{Line, assert_named, assert_session};
+use crate::console::session::{Line, assert_named, assert_session};
 
 const ROWS: &[(&str, &[Line])] = &[
     (

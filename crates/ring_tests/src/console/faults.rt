@@ -1,5 +1,5 @@
 // Readers and writers that fail, or that do little at a time.
-use crate::session::{FIRST_ELECTION, Line, Session};
+use crate::console::session::{FIRST_ELECTION, Line, Session};
 use script_run::{RunFault, run};
 use std::alloc::AllocGlobal;
 use std::io::{self, ErrorKind, Read, Write};

@@ -1,5 +1,7 @@
 // Worked sessions, whose text is known by the protocol.
-use crate::session::{FIRST_ELECTION, Line, Session, assert_named, assert_session, played};
+use crate::console::session::{
+    FIRST_ELECTION, Line, Session, assert_named, assert_session, played,
+};
 use std::test::Fail;
 
 #[test]

@@ -1,5 +1,5 @@
 // Which lines are commands, and the fault that is told of one that is none.
-use crate::session::{Line, assert_session};
+use crate::console::session::{Line, assert_session};
 
 #[test]
 fn ring_is_the_only_first_command(rt: HostRuntime) {
