@@ -1,10 +1,86 @@
-// The devices of disk_model.
-use disk_model::{FileDevice, FuseDevice, MemDevice};
+// The devices of disk_model. A test is a script: what is done with a device step by step, and what comes of each step.
+use disk_model::{Device, FileDevice, FuseDevice, MemDevice};
+use std::alloc::AllocGlobal;
+use std::process::Abort;
 
-mod file;
+pub mod file;
 mod fuse;
 mod memory;
 mod through;
+
+/// What is done with a device, and what comes of it.
+#[derive(Clone, Copy)]
+pub enum Step<'a> {
+    /// These bytes are written at this offset.
+    Write(u64, &'a [u8]),
+    /// The same write is a fault.
+    WriteFails(u64, &'a [u8]),
+    Sync,
+    SyncFails,
+    /// A read of as many bytes from this offset on gives these.
+    Reads(u64, &'a [u8]),
+    /// A read from this offset on, of so many bytes, is a fault.
+    ReadFails(u64, usize),
+    /// It has so many bytes.
+    HasSize(u64),
+    /// The whole device has these bytes.
+    Holds(&'a [u8]),
+    /// So many calls have failed.
+    Failed(u64),
+}
+
+/// This is done with the device, step by step.
+pub fn plays<D: Device, R: Abort + AllocGlobal>(rt: &R, device: &mut D, steps: &[Step<'_>]) {
+    for step in steps {
+        does(rt, device, step);
+    }
+}
+
+fn does<D: Device, R: Abort + AllocGlobal>(rt: &R, device: &mut D, step: &Step<'_>) {
+    match *step {
+        Step::Write(off, bytes) => assert!(rt; device.write_at(off, bytes).is_ok()),
+        Step::WriteFails(off, bytes) => assert!(rt; device.write_at(off, bytes).is_err()),
+        Step::Sync => assert!(rt; device.sync().is_ok()),
+        Step::SyncFails => assert!(rt; device.sync().is_err()),
+        Step::Reads(off, wanted) => reads(rt, device, off, wanted),
+        Step::ReadFails(off, len) => assert!(rt; read(rt, device, off, len).0),
+        Step::HasSize(size) => assert_eq!(rt; device.size(), size),
+        Step::Holds(wanted) => {
+            assert_eq!(rt; device.size(), wanted.len() as u64);
+            reads(rt, device, 0, wanted)
+        }
+        Step::Failed(calls) => assert_eq!(rt; device.failures(), calls),
+    }
+}
+
+/// Whether a read from `off` on, of so many bytes, fails; and the buffer then, which has nines at first.
+fn read<D: Device, R: Abort + AllocGlobal>(
+    rt: &R,
+    device: &mut D,
+    off: u64,
+    len: usize,
+) -> (bool, Vec<u8>) {
+    let mut bytes = vec![in rt.alloc(); 9; len].expect(rt, "ample memory");
+    let fails = device.read_at(off, &mut bytes).is_err();
+    (fails, bytes)
+}
+
+pub fn reads<D: Device, R: Abort + AllocGlobal>(rt: &R, device: &mut D, off: u64, wanted: &[u8]) {
+    let (fails, bytes) = read(rt, device, off, wanted.len());
+    assert!(rt; !fails);
+    assert_eq!(rt; bytes.as_slice(), wanted);
+}
+
+/// A device of at most so many bytes, with which this was done.
+pub fn memory_device<R: Abort + AllocGlobal>(
+    rt: &R,
+    limit: usize,
+    steps: &[Step<'_>],
+) -> MemDevice {
+    let mut device = MemDevice::new(rt.alloc(), limit).expect(rt, "ample memory");
+    plays(rt, &mut device, steps);
+    device
+}
 
 fn may_go_to_another_thread<D: Send>() {}
 

@@ -1,14 +1,17 @@
 // The journals of gated_journal: what no clause says, which is the bytes on the device, and that calls succeed with ample
 // memory. The bytes are worked out by hand from the layout.
 ghost use Rattle.std.specs.Prelude.{◌≡◌};
+ghost use Rattle.ring_records.specs.Snapshot.{IsSound};
+ghost use Rattle.gated_journal.specs.Batch.{base_by};
 ghost use Rattle.gated_journal.specs.Journal.{member_of};
 
+use crate::devices::{self, memory_device, reads};
 use disk_model::{Device, FuseDevice, MemDevice, Tear};
-use gated_journal::{Batch, Checkpoint, Journal, Opening, device_size};
+use gated_journal::{Batch, Checkpoint, Journal, Opening, Receipt, Spoiled, device_size};
 use ring_records::{Input, NodeNo, Refusal, read_summary, summary_len};
 use std::alloc::{AllocGlobal, Global};
 use std::process::Abort;
-use test_rows::Op;
+use test_rows::{Note, Op};
 
 mod checkpoints;
 mod cuts;
@@ -42,22 +45,34 @@ const SECOND: [u8; 80] = [
     1, 0, 0, 0, 10, 2, 3, 0x72, 0x65, 0x64, 0, 0, 0, 5, 0, 0, 0, 10, 1, 0,
 ];
 
-fn stand(rt: &impl Abort) -> Input {
-    Op::Stand("red", 5, 10).input().expect(rt, "a Stand")
+const STOOD: Op = Op::Stand("red", 5, 10);
+
+const ACKED: Op = Op::Acked(1);
+
+fn input(rt: &impl Abort, op: Op) -> Input {
+    op.input().expect(rt, "an input")
 }
 
-/// A read of the device from this offset on gives these bytes.
-fn holds<D: Device, R: Abort + AllocGlobal>(rt: &R, device: &mut D, from: u64, wanted: &[u8]) {
-    let mut bytes = vec![in rt.alloc(); 9; wanted.len()].expect(rt, "ample memory");
-    assert!(rt; device.read_at(from, &mut bytes).is_ok());
-    assert_eq!(rt; bytes.as_slice(), wanted);
+fn inputs<R: Abort + AllocGlobal>(rt: &R, ops: &[Op]) -> Vec<Input> {
+    let mut inputs = Vec::new(rt.alloc());
+    for op in ops {
+        inputs.push(input(rt, *op)).expect(rt, "ample memory");
+    }
+    inputs
+}
+
+/// The device has these bytes at these offsets.
+fn holds<D: Device, R: Abort + AllocGlobal>(rt: &R, device: &mut D, parts: &[(u64, &[u8])]) {
+    for (from, wanted) in parts {
+        reads(rt, device, *from, wanted);
+    }
 }
 
 /// A device with these bytes at these offsets, written one after the other.
 fn device<R: Abort + AllocGlobal>(rt: &R, puts: &[(u64, &[u8])]) -> MemDevice {
-    let mut device = MemDevice::new(rt.alloc(), 10_000).expect(rt, "ample memory");
+    let mut device = memory_device(rt, 10_000, &[]);
     for (at, bytes) in puts {
-        assert!(rt; device.write_at(*at, bytes).is_ok());
+        devices::plays(rt, &mut device, &[devices::Step::Write(*at, bytes)]);
     }
     device
 }
@@ -76,8 +91,36 @@ fn formatted<D: Device + Drop>(rt: &impl Abort, device: D, capacity: u32) -> Jou
 fn fresh<R: Abort + AllocGlobal>(rt: &R) -> Journal<FuseDevice<MemDevice>>
     ensures { (member_of result).n ≡ 3 }
 {
-    let device = MemDevice::new(rt.alloc(), device_size(4096) as usize).expect(rt, "ample memory");
+    let device = memory_device(rt, device_size(4096) as usize, &[]);
     formatted(rt, FuseDevice::idle(device), 4096)
+}
+
+/// They are of node 1, and these inputs from this number on.
+fn are_parts(rt: &impl Abort, parts: (NodeNo, u64, Vec<Input>), first: u64, inputs: &[Input]) {
+    assert_eq!(rt; (parts.0.number(), parts.1), (1, first));
+    assert_eq!(rt; parts.2.as_slice(), inputs);
+}
+
+/// What was to become durable has a snapshot of so many bytes, or none, and these inputs; whether it is durable.
+fn is_spent(
+    rt: &impl Abort,
+    ended: Result<Receipt, Spoiled>,
+    first: u64,
+    inputs: &[Input],
+    snapshot: Option<u64>,
+) -> bool {
+    match ended {
+        Ok(receipt) => {
+            assert_eq!(rt; receipt.snapshot(), snapshot);
+            are_parts(rt, receipt.into_parts(), first, inputs);
+            true
+        }
+        Err(spoiled) => {
+            assert_eq!(rt; spoiled.snapshot(), snapshot);
+            are_parts(rt, spoiled.into_parts(), first, inputs);
+            false
+        }
+    }
 }
 
 /// Commits the inputs as the journal's next ones, and tells whether that succeeded.
@@ -94,14 +137,32 @@ fn commits<D: Device, R: Abort + AllocGlobal>(
     assert!(rt; batch.node() == journal.node());
     assert!(rt; batch.first() == journal.len());
     assert!(rt; journal.room() >= batch.cost());
-    let (committed, snapshot, parts) = match journal.commit(batch) {
-        Ok(receipt) => (true, receipt.snapshot(), receipt.into_parts()),
-        Err(spoiled) => (false, spoiled.snapshot(), spoiled.into_parts()),
-    };
+    let committed = is_spent(rt, journal.commit(batch), first, inputs, None);
     assert_eq!(rt; journal.is_spoiled(), !committed);
-    assert_eq!(rt; (parts.0.number(), parts.1, snapshot), (1, first, None));
-    assert_eq!(rt; parts.2.as_slice(), inputs);
     committed
+}
+
+/// The checkpoint of node 1 with this snapshot, which stands for these inputs too, from this number on.
+fn checkpoint<R: Abort + AllocGlobal>(
+    rt: &R,
+    first: u64,
+    inputs: &[Input],
+    snapshot: &[u8],
+) -> Checkpoint
+    ensures { IsSound 3 (base_by result) }
+{
+    let summary = read_summary(rt.alloc(), snapshot, 3).expect(rt, "a snapshot");
+    assert!(rt; summary_len(&summary) <= u64::from(u32::MAX));
+    assert!(rt; summary.keys.len() <= u32::MAX as usize);
+    let counted = summary.inputs;
+    let made = Checkpoint::new(rt.alloc(), NodeNo::first(), first, inputs, summary);
+    let made = made.expect(rt, "ample memory");
+    assert_eq!(rt; made.inputs(), inputs);
+    assert_eq!(rt;
+        (made.base().inputs, made.cost() as usize),
+        (counted, snapshot.len())
+    );
+    made
 }
 
 /// Makes the summary of this snapshot durable, which stands for these inputs too, and tells whether that succeeded.
@@ -114,34 +175,97 @@ fn takes_checkpoint<D: Device, R: Abort + AllocGlobal>(
     requires { (member_of journal.old).n ≡ 3 }
     ensures { member_of journal.new ≡ member_of journal.old }
 {
-    let summary = read_summary(rt.alloc(), snapshot, 3).expect(rt, "a snapshot");
-    assert!(rt; summary_len(&summary) <= u64::from(journal.capacity()));
-    assert!(rt; summary.keys.len() <= u32::MAX as usize);
-    let (first, counted) = (journal.len(), summary.inputs);
-    let checkpoint = Checkpoint::new(rt.alloc(), journal.node(), first, inputs, summary).expect(
-        rt,
-        "ample memory",
-    );
+    let first = journal.len();
+    let checkpoint = checkpoint(rt, first, inputs, snapshot);
     assert!(rt; !journal.is_spoiled());
     assert!(rt; checkpoint.node() == journal.node());
     assert!(rt; checkpoint.first() == journal.len());
+    assert!(rt; checkpoint.cost() <= journal.capacity());
     assert!(rt; journal.epoch() + 1 < 1 << 40);
-    assert_eq!(rt; checkpoint.inputs(), inputs);
-    assert_eq!(rt;
-        (checkpoint.base().inputs, checkpoint.cost() as usize),
-        (counted, snapshot.len())
+    let done = is_spent(
+        rt,
+        journal.checkpoint(checkpoint),
+        first,
+        inputs,
+        Some(snapshot.len() as u64),
     );
-    let (done, kept, parts) = match journal.checkpoint(checkpoint) {
-        Ok(receipt) => (true, receipt.snapshot(), receipt.into_parts()),
-        Err(spoiled) => (false, spoiled.snapshot(), spoiled.into_parts()),
-    };
     assert_eq!(rt; journal.is_spoiled(), !done);
-    assert_eq!(rt;
-        (parts.0.number(), parts.1, kept),
-        (1, first, Some(snapshot.len() as u64))
-    );
-    assert_eq!(rt; parts.2.as_slice(), inputs);
     done
+}
+
+/// What is done with a journal, and what comes of it.
+#[derive(Clone, Copy)]
+enum Step {
+    /// These inputs become durable.
+    Commits(&'static [Op]),
+    /// The device fails at that.
+    CommitFails(&'static [Op]),
+    /// The summary in this area becomes durable, which stands for these inputs too.
+    Checkpoints(&'static [Op], &'static [u8]),
+    /// The device fails at that.
+    CheckpointFails(&'static [Op], &'static [u8]),
+    /// It is of node 1, of capacity 4,096 and not spoiled, and tells how many inputs it holds, the bytes that are left, and
+    /// the epoch.
+    Tells(u64, u32, u64),
+}
+
+/// This is done with the journal, step by step.
+fn plays<D: Device, R: Abort + AllocGlobal>(rt: &R, journal: &mut Journal<D>, steps: &[Step])
+    requires { (member_of journal.old).n ≡ 3 }
+    ensures { (member_of journal.new).n ≡ 3 }
+{
+    for step in steps {
+        does(rt, journal, *step);
+    }
+}
+
+fn does<D: Device, R: Abort + AllocGlobal>(rt: &R, journal: &mut Journal<D>, step: Step)
+    requires { (member_of journal.old).n ≡ 3 }
+    ensures { (member_of journal.new).n ≡ 3 }
+{
+    match step {
+        Step::Commits(ops) => assert!(rt; commits(rt, journal, &inputs(rt, ops))),
+        Step::CommitFails(ops) => assert!(rt; !commits(rt, journal, &inputs(rt, ops))),
+        Step::Checkpoints(ops, area) => {
+            assert!(rt; takes_checkpoint(rt, journal, &inputs(rt, ops), snapshot_in(rt, area)))
+        }
+        Step::CheckpointFails(ops, area) => {
+            assert!(rt; !takes_checkpoint(rt, journal, &inputs(rt, ops), snapshot_in(rt, area)))
+        }
+        Step::Tells(len, room, epoch) => tells(rt, journal, (len, room, epoch)),
+    }
+}
+
+/// The snapshot in an area that has nothing behind it: 14 bytes stand before it, and its first gate behind it.
+fn snapshot_in<'a>(rt: &impl Abort, area: &'a [u8]) -> &'a [u8] {
+    assert!(rt; area.len() > 14);
+    &area[14..area.len() - 1]
+}
+
+fn tells<D: Device>(rt: &impl Abort, journal: &Journal<D>, wanted: (u64, u32, u64)) {
+    assert_eq!(rt; told(journal), wanted);
+    assert_eq!(rt; (journal.node().number(), journal.capacity()), (1, 4096));
+    assert!(rt; !journal.is_spoiled());
+}
+
+/// What a stop with this tear leaves of the journal's device.
+fn left(journal: Journal<FuseDevice<MemDevice>>, tear: Tear) -> MemDevice {
+    let mut device = journal.into_device().into_inner();
+    device.crash(tear);
+    device
+}
+
+/// What is stable of the journal's device: so many bytes, with these at these offsets.
+fn stable<R: Abort + AllocGlobal>(
+    rt: &R,
+    journal: Journal<FuseDevice<MemDevice>>,
+    size: u64,
+    parts: &[(u64, &[u8])],
+) -> MemDevice {
+    let mut device = left(journal, Tear::Old);
+    assert_eq!(rt; device.size(), size);
+    holds(rt, &mut device, parts);
+    device
 }
 
 /// The journal of node 1 of 3 on a device, and what it holds.
@@ -154,12 +278,80 @@ fn reopened<D: Device + Drop, R: Abort + AllocGlobal>(rt: &R, device: D) -> (Jou
     }
 }
 
-/// How many inputs node 1 of 3 finds on a device, and in which epoch.
-fn found(alloc: Global, device: MemDevice) -> Result<(u64, u64), Refusal> {
-    match Journal::reopen(alloc, device, NodeNo::first(), 3) {
+/// The opening is of this epoch, with a summary of so many inputs, and these behind it.
+fn opens_with<R: Abort + AllocGlobal>(
+    rt: &R,
+    opening: &Opening,
+    epoch: u64,
+    base: u64,
+    ops: &[Op],
+) {
+    let found = (opening.layout, opening.epoch, opening.base.inputs);
+    assert_eq!(rt; found, (2, epoch, base));
+    assert_eq!(rt; opening.inputs.as_slice(), inputs(rt, ops).as_slice());
+}
+
+/// On the device is the journal of node 1, of capacity 4,096, that tells this, and opens with a summary of so many inputs,
+/// and these behind it.
+fn is_reopened<D: Device + Drop, R: Abort + AllocGlobal>(
+    rt: &R,
+    device: D,
+    wanted: (u64, u32, u64),
+    base: u64,
+    ops: &[Op],
+) {
+    let (journal, opening) = reopened(rt, device);
+    tells(rt, &journal, wanted);
+    opens_with(rt, &opening, wanted.2, base, ops);
+}
+
+/// How many inputs this node of 3 finds on a device, and in which epoch.
+fn found_by(alloc: Global, device: MemDevice, node: NodeNo) -> Result<(u64, u64), Refusal> {
+    match Journal::reopen(alloc, device, node, 3) {
         Ok((journal, opening)) => Ok((journal.len(), opening.epoch)),
         Err((_device, refusal)) => Err(refusal),
     }
+}
+
+/// The same of node 1.
+fn found(alloc: Global, device: MemDevice) -> Result<(u64, u64), Refusal> {
+    found_by(alloc, device, NodeNo::first())
+}
+
+/// The device at which the journal is not reopened, since one call of it fails.
+fn refused(rt: &impl Abort, alloc: Global, device: FuseDevice<MemDevice>) -> FuseDevice<MemDevice> {
+    match Journal::reopen(alloc, device, NodeNo::first(), 3) {
+        Ok(_) => panic!(rt; "no call failed"),
+        Err((device, refusal)) => {
+            assert_eq!(rt; refusal, Refusal::Device(1));
+            device
+        }
+    }
+}
+
+/// Where one call of the device fails, behind so many, the journal is not reopened; the next time it tells this.
+fn fault_is_told<R: Abort + AllocGlobal>(
+    rt: &R,
+    device: MemDevice,
+    after: u64,
+    wanted: (u64, u32, u64),
+) {
+    let size = device.size();
+    let device = refused(rt, rt.alloc(), FuseDevice::new(device, after, true));
+    assert_eq!(rt; device.size(), size);
+    assert_eq!(rt; told(&reopened(rt, device).0), wanted);
+}
+
+/// The device of a journal of this capacity, with so many frames of 64 of the longest inputs: its closed gate is at 68
+/// and 2,247 for each frame.
+fn with_longest<R: Abort + AllocGlobal>(rt: &R, capacity: u32, frames: usize) -> MemDevice {
+    let mut journal = formatted(rt, device(rt, &[]), capacity);
+    let longest = [Op::Take(0, Note::Token("abcdefghijklmnop", 1, 1, 1)); 64];
+    let inputs = inputs(rt, &longest);
+    for _ in 0..frames {
+        assert!(rt; commits(rt, &mut journal, &inputs));
+    }
+    journal.into_device()
 }
 
 /// What the journal tells: how many inputs it holds, the bytes that are left, and the epoch.

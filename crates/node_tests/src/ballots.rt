@@ -56,22 +56,19 @@ type Row = (
     Option<(u32, u8)>,
 );
 
+/// At the row's candidate this is sent on, and the ballot then is the row's.
+fn passes_on(rt: &impl Abort, row: Row, sent: Option<Msg>, at: Ballot) {
+    let (stood, _, (bid, number), on, known) = row;
+    assert_eq!(rt; sent, on.msg(rt, bid, number), "{bid} {number}");
+    assert_eq!(rt; at, ballot(rt, stood, known), "{bid} {number}");
+}
+
 /// Node 2 hears the candidate's token.
 fn hears_token(rt: &impl Abort, row: Row) {
-    let (stood, leads, (bid, number), on, known) = row;
-    let mut at = ballot(rt, stood, leads);
-    let heard = candidate(rt, (bid, number));
+    let mut at = ballot(rt, row.0, row.1);
+    let heard = candidate(rt, row.2);
     let sent = at.hear_token(node(rt, 2), key(rt, "red", 5), heard);
-    assert_eq!(rt;
-        sent,
-        on.msg(rt, bid, number),
-        "{bid} {number} where {stood:?} stood"
-    );
-    assert_eq!(rt;
-        at,
-        ballot(rt, stood, known),
-        "{bid} {number} where {stood:?} stood"
-    );
+    passes_on(rt, row, sent, at);
 }
 
 #[test]
@@ -95,20 +92,10 @@ fn tokens_pass_stop_or_come_home(rt: HostRuntime) {
 
 /// Node 2 hears that the candidate leads.
 fn hears_elected(rt: &impl Abort, row: Row) {
-    let (stood, leads, (bid, number), on, known) = row;
-    let mut at = ballot(rt, stood, leads);
-    let heard = candidate(rt, (bid, number));
+    let mut at = ballot(rt, row.0, row.1);
+    let heard = candidate(rt, row.2);
     let sent = at.hear_elected(node(rt, 2), key(rt, "red", 5), heard);
-    assert_eq!(rt;
-        sent,
-        on.msg(rt, bid, number),
-        "{bid} {number} where {leads:?} leads"
-    );
-    assert_eq!(rt;
-        at,
-        ballot(rt, stood, known),
-        "{bid} {number} where {leads:?} leads"
-    );
+    passes_on(rt, row, sent, at);
 }
 
 #[test]

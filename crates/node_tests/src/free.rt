@@ -1,7 +1,7 @@
 // Each public call of a core that has no capacity, with ample memory.
-use crate::rows::{bid, candidate, input, key, msg, node};
+use crate::rows::{bid, candidate, input, key, msg, node, read, written};
 use node_core::{Effects, FreeCore};
-use ring_records::{KeyState, Packet, Refusal, read_summary, write_summary};
+use ring_records::{KeyState, Packet, Refusal};
 use std::alloc::Global;
 use std::process::Abort;
 use test_rows::Note::{Elected, Token};
@@ -19,12 +19,8 @@ fn accept(rt: &impl Abort, core: &mut FreeCore, op: Op) -> Effects {
 /// The core that is restored from the snapshot of what this one knows.
 fn restored(rt: &impl Abort, alloc: Global, core: &FreeCore) -> FreeCore {
     let summary = core.summary(alloc).expect(rt, "ample memory");
-    assert!(rt; summary.keys.len() <= u32::MAX as usize, "few keys");
-    let bytes = write_summary(alloc, &summary).expect(rt, "ample memory");
-    match read_summary(alloc, &bytes, 3) {
-        Ok(from) => FreeCore::restore(alloc, node(rt, 2), 3, &from).expect(rt, "ample memory"),
-        Err(refusal) => panic!(rt; "{refusal}"),
-    }
+    let from = read(rt, alloc, &written(rt, alloc, &summary));
+    FreeCore::restore(alloc, node(rt, 2), 3, &from).expect(rt, "ample memory")
 }
 
 /// It stood for red with a bid of 30, which came home; its two messages are in its window.
@@ -41,7 +37,10 @@ fn has_won(rt: &impl Abort, core: &FreeCore) {
     );
     assert_eq!(rt; core.state(&key(rt, "red", 4)), None);
     assert_eq!(rt; core.who(&red), leader);
-    assert_eq!(rt; core.latest(&red.group).map(|led| led.1), leader);
+    assert_eq!(rt;
+        core.latest(&red.group),
+        Some((red.term, candidate(rt, (30, 2))))
+    );
     assert_eq!(rt; (core.inputs(), core.sent(), core.taken()), (2, 2, 1));
     assert_eq!(rt;
         (core.credit(), core.stands(), core.window().len()),

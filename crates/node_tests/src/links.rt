@@ -22,20 +22,37 @@ fn queue(rt: &impl Abort, link: &mut Outlink, first: u32, end: u32) {
     }
 }
 
+/// The tokens with bids from `first` to below `end`.
+fn are_tokens(rt: &impl Abort, window: &[Msg], first: u32, end: u32) {
+    assert_eq!(rt; window.len(), end.saturating_sub(first) as usize);
+    for bid in first..end {
+        let kept = window.get((bid - first) as usize).copied();
+        assert_eq!(rt; kept, Some(token(rt, bid)), "number {bid} behind {first}");
+    }
+}
+
 /// The link has the tokens with bids from `credited` to below `sent` in its window.
 fn shows(rt: &impl Abort, link: &Outlink, credited: u32, sent: u32) {
     assert_eq!(rt; link.credited(), credited as u64);
     assert_eq!(rt; link.sent(), sent as u64);
-    let mut window = link.window();
-    for bid in credited..sent {
-        assert_eq!(rt;
-            window.first().copied(),
-            Some(token(rt, bid)),
-            "number {bid} behind {credited}"
-        );
-        window = window.split_at(1).1;
+    are_tokens(rt, link.window(), credited, sent);
+}
+
+/// The link by which so many messages were taken.
+fn taken(rt: &impl Abort, count: u64) -> Inlink {
+    let mut link = Inlink::new();
+    for _ in 0..count {
+        assert!(rt; link.expected() < u64::MAX);
+        link.take();
     }
-    assert!(rt; window.is_empty(), "more than {sent}");
+    link
+}
+
+/// Where so many messages were taken, the number is judged so.
+fn judges(rt: &impl Abort, link: &Inlink, row: (u64, u64, Judged)) {
+    let (taken, no, judged) = row;
+    assert_eq!(rt; link.expected(), taken);
+    assert_eq!(rt; link.judge(no), judged, "{no} where {taken} were taken");
 }
 
 #[test]
@@ -50,16 +67,9 @@ fn the_expected_number_alone_is_next(rt: HostRuntime) {
         (2, 2, Judged::Next),
         (2, 3, Judged::Gap),
     ];
-    for (taken, no, judged) in rows {
-        let mut link = Inlink::new();
-        for _ in 0..taken {
-            assert!(&rt; link.expected() < u64::MAX);
-            link.take();
-        }
-        for link in [link, Inlink::restore(taken)] {
-            assert_eq!(rt; link.expected(), taken);
-            assert_eq!(rt; link.judge(no), judged, "{no} where {taken} were taken");
-        }
+    for row in rows {
+        judges(&rt, &taken(&rt, row.0), row);
+        judges(&rt, &Inlink::restore(row.0), row);
     }
 }
 
@@ -119,6 +129,15 @@ fn restored(rt: &impl Abort, alloc: Global, link: &Outlink) -> Outlink {
     Outlink::restore(alloc, sent, window).expect(rt, "ample memory")
 }
 
+/// The credit comes when the tokens with bids to below `end` are sent.
+fn is_credited(rt: &impl Abort, alloc: Global, link: &mut Outlink, end: u32, upto: u32) {
+    link.credit(upto as u64).expect(rt, "a credit");
+    shows(rt, link, upto, end);
+    let copy = link.try_copy().expect(rt, "ample memory");
+    shows(rt, &copy, upto, end);
+    shows(rt, &restored(rt, alloc, link), upto, end);
+}
+
 #[test]
 fn the_window_begins_at_the_credit(rt: HostRuntime) {
     let mut link = Outlink::new(rt.alloc());
@@ -130,10 +149,6 @@ fn the_window_begins_at_the_credit(rt: HostRuntime) {
     for (end, upto) in [(5, 1), (5, 2), (5, 3), (6, 4), (9, 8), (9, 9), (12, 10)] {
         queue(&rt, &mut link, sent, end);
         sent = end;
-        link.credit(upto as u64).expect(&rt, "a credit");
-        shows(&rt, &link, upto, end);
-        let copy = link.try_copy().expect(&rt, "ample memory");
-        shows(&rt, &copy, upto, end);
-        shows(&rt, &restored(&rt, rt.alloc(), &link), upto, end);
+        is_credited(&rt, rt.alloc(), &mut link, end, upto);
     }
 }

@@ -1,5 +1,10 @@
 // What rows name, as values.
-use ring_records::{Bid, Candidate, Input, Key, Msg, NodeNo, Refusal};
+ghost use Rattle.ring_records.specs.Snapshot.{IsSound};
+
+use ring_records::{
+    Bid, Candidate, Input, Key, Msg, NodeNo, Refusal, Summary, read_summary, write_summary,
+};
+use std::alloc::Global;
 use std::process::Abort;
 use test_rows::{Cause, Note, Op};
 
@@ -41,5 +46,21 @@ pub fn refusal(rt: &impl Abort, cause: Option<Cause>) -> Option<Refusal> {
     match cause {
         Some(cause) => Some(cause.refusal().expect(rt, "a cause")),
         None => None,
+    }
+}
+
+/// The snapshot of this summary.
+pub fn written(rt: &impl Abort, alloc: Global, summary: &Summary) -> Vec<u8> {
+    assert!(rt; summary.keys.len() <= u32::MAX as usize, "few keys");
+    write_summary(alloc, summary).expect(rt, "ample memory")
+}
+
+/// The summary whose snapshot these bytes are, in a ring of three.
+pub fn read(rt: &impl Abort, alloc: Global, bytes: &[u8]) -> Summary
+    ensures { IsSound 3 result }
+{
+    match read_summary(alloc, bytes, 3) {
+        Ok(summary) => summary,
+        Err(refusal) => panic!(rt; "{refusal}"),
     }
 }

@@ -3,7 +3,7 @@
 // desk step by step, and what comes of each step.
 ghost use Rattle.ring_records.specs.Snapshot.{IsSound};
 
-use crate::journal::{commit, commits, journal_of};
+use crate::journal::{commit, commits, commits_all, journal_of};
 use crate::rows::{Leads, No, inputs, leads_are, node, reply, request, sends_are};
 use disk_model::{FuseDevice, MemDevice};
 use gated_journal::{Batch, Journal, Opening, Receipt, Spoiled};
@@ -52,6 +52,8 @@ enum Step {
     Closes,
     /// It has so many inputs, of which so many are durable or fly, and so many are durable.
     Has(usize, u64, u64),
+    /// Its inputs are these, oldest first.
+    Holds(&'static [Op]),
     /// So many inputs are launched, and the journal makes them durable.
     Launches(usize),
     /// The same, at the second call where the first finds no memory, which changes nothing.
@@ -66,6 +68,8 @@ enum Step {
     IsForeign(u8, &'static [Op], &'static [Op]),
     /// The receipt of what flies is not taken.
     LandsNot,
+    /// What flies is of this node, and is so many inputs behind so many. It never lands.
+    IsLost(u8, u64, usize),
     /// A device fails with this one input, which was launched, and so does the desk.
     Fails(Op),
     /// The device fails with the one input that waits, and so does the desk, and no other desk.
@@ -94,6 +98,12 @@ fn opened<R: Abort + AllocGlobal>(rt: &R, number: u8, run: u64, ops: &[Op]) -> D
 /// How many inputs the desk has, how many are durable or fly, and how many are durable.
 fn counts(desk: &Desk) -> (usize, u64, u64) {
     (desk.history().len(), desk.flying(), desk.durable())
+}
+
+/// The node of a receipt, how many inputs were before its own, and how many are its own.
+fn numbers_of(receipt: &Receipt) -> (u8, u64, usize) {
+    let node = receipt.node();
+    (node.number(), receipt.first(), receipt.inputs().len())
 }
 
 /// What a call that is refused leaves: the counts, how many tickets are open, and whether it takes requests.
@@ -163,6 +173,12 @@ fn knows(rt: &impl Abort, desk: &Desk, numbers: Option<(u32, u8)>) {
     assert_eq!(rt; desk.who(&red), leader);
 }
 
+/// The inputs of the desk are these, oldest first.
+fn holds<R: Abort + AllocGlobal>(rt: &R, desk: &Desk, ops: &[Op]) {
+    let inputs = inputs(rt, rt.alloc(), ops);
+    assert_eq!(rt; desk.history(), inputs.as_slice());
+}
+
 /// The desk has launched the spoiled batch, and fails.
 fn fails(rt: &impl Abort, desk: &mut Desk, spoiled: Spoiled) {
     match desk.fail(spoiled) {
@@ -184,9 +200,7 @@ fn station_of<R: Abort + AllocGlobal>(rt: &R, number: u8, run: u64, ops: &[Op]) 
     let desk = opened(rt, number, run, ops);
     let mut journal = journal_of(rt, node(rt, number));
     if !ops.is_empty() {
-        let batch = Batch::new(rt.alloc(), node(rt, number), 0, desk.history());
-        let batch = batch.expect(rt, "1 to 64 inputs");
-        commits(rt, &mut journal, batch).into_parts();
+        commits_all(rt, &mut journal, ops).into_parts();
     }
     Station {
         desk,
@@ -238,6 +252,7 @@ impl Station {
             Step::Has(inputs, flying, durable) => {
                 assert_eq!(rt; counts(&self.desk), (inputs, flying, durable))
             }
+            Step::Holds(ops) => holds(rt, &self.desk, ops),
             Step::Launches(count) => self.launches(rt, count),
             Step::LaunchesAtLast(count) => self.launches_at_last(rt, count),
             Step::LaunchesNone(no) => launches_none(rt, &mut self.desk, no),
@@ -248,6 +263,7 @@ impl Station {
             }
             Step::IsForeign(number, before, ops) => self.is_foreign(rt, number, before, ops),
             Step::LandsNot => self.lands_not(rt),
+            Step::IsLost(number, first, count) => self.is_lost(rt, (number, first, count)),
             Step::Fails(op) => self.fails(rt, op),
             Step::Spoils => self.spoils(rt),
             Step::Decides(leads) => decides(rt, &self.desk, leads),

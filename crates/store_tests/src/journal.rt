@@ -1,25 +1,45 @@
 // Journals in memory, whose devices fail where a test wants it.
 ghost use Rattle.std.specs.Prelude.{◌≡◌};
+ghost use Rattle.ring_records.specs.Snapshot.{IsSound};
+ghost use Rattle.gated_journal.specs.Batch.{base_by};
 ghost use Rattle.gated_journal.specs.Journal.{member_of};
 
+use crate::rows::inputs;
 use disk_model::{FuseDevice, MemDevice};
 use gated_journal::{Batch, Checkpoint, Journal, Receipt, Spoiled, device_size};
 use ring_records::{NodeNo, read_summary, summary_len};
 use std::alloc::AllocGlobal;
 use std::process::Abort;
+use test_rows::Op;
 
-/// A device that holds nothing, with room for a journal of capacity 4,096.
-pub fn empty_device<R: Abort + AllocGlobal>(rt: &R) -> FuseDevice<MemDevice> {
-    let size = device_size(4096) as usize;
+/// A device that holds nothing, with room for a journal of this capacity.
+fn device_for<R: Abort + AllocGlobal>(rt: &R, capacity: u32) -> FuseDevice<MemDevice> {
+    let size = device_size(capacity) as usize;
     let device = MemDevice::new(rt.alloc(), size).expect(rt, "ample memory");
     FuseDevice::idle(device)
+}
+
+/// The same of capacity 4,096.
+pub fn empty_device<R: Abort + AllocGlobal>(rt: &R) -> FuseDevice<MemDevice> {
+    device_for(rt, 4096)
 }
 
 /// A new journal of this node of 3, capacity 4,096.
 pub fn journal_of<R: Abort + AllocGlobal>(rt: &R, node: NodeNo) -> Journal<FuseDevice<MemDevice>>
     ensures { (member_of result).n ≡ 3 }
 {
-    match Journal::format(empty_device(rt), node, 3, 4096) {
+    journal_with(rt, node, 4096)
+}
+
+/// The same of this capacity.
+pub fn journal_with<R: Abort + AllocGlobal>(
+    rt: &R,
+    node: NodeNo,
+    capacity: u32,
+) -> Journal<FuseDevice<MemDevice>>
+    ensures { (member_of result).n ≡ 3 }
+{
+    match Journal::format(device_for(rt, capacity), node, 3, capacity) {
         Ok(journal) => journal,
         Err((_device, refusal)) => panic!(rt; "{refusal}"),
     }
@@ -50,6 +70,32 @@ pub fn commits(
     }
 }
 
+/// The journal commits the inputs as its next ones.
+pub fn commits_all<R: Abort + AllocGlobal>(
+    rt: &R,
+    journal: &mut Journal<FuseDevice<MemDevice>>,
+    ops: &[Op],
+) -> Receipt {
+    let inputs = inputs(rt, rt.alloc(), ops);
+    let batch = Batch::new(rt.alloc(), journal.node(), journal.len(), &inputs);
+    commits(rt, journal, batch.expect(rt, "1 to 64 inputs"))
+}
+
+/// A summary of this snapshot, of a ring of 3, that stands for what the journal holds.
+fn checkpoint_of<R: Abort + AllocGlobal>(
+    rt: &R,
+    journal: &Journal<FuseDevice<MemDevice>>,
+    snapshot: &[u8],
+) -> Checkpoint
+    ensures { IsSound 3 (base_by result) }
+{
+    let base = read_summary(rt.alloc(), snapshot, 3).expect(rt, "a snapshot");
+    assert!(rt; summary_len(&base) <= u64::from(u32::MAX));
+    assert!(rt; base.keys.len() <= u32::MAX as usize);
+    let made = Checkpoint::new(rt.alloc(), journal.node(), journal.len(), &[], base);
+    made.expect(rt, "ample memory")
+}
+
 /// The journal, of a ring of 3, makes the summary of this snapshot durable in place of what it holds.
 pub fn checkpoints<R: Abort + AllocGlobal>(
     rt: &R,
@@ -58,11 +104,8 @@ pub fn checkpoints<R: Abort + AllocGlobal>(
 )
     requires { (member_of journal.old).n ≡ 3 }
 {
-    let base = read_summary(rt.alloc(), snapshot, 3).expect(rt, "a snapshot");
-    assert!(rt; summary_len(&base) <= u64::from(journal.capacity()));
-    assert!(rt; base.keys.len() <= u32::MAX as usize);
-    let made = Checkpoint::new(rt.alloc(), journal.node(), journal.len(), &[], base);
-    let checkpoint = made.expect(rt, "ample memory");
+    let checkpoint = checkpoint_of(rt, journal, snapshot);
+    assert!(rt; checkpoint.cost() <= journal.capacity());
     assert!(rt; !journal.is_spoiled());
     assert!(rt; checkpoint.node() == journal.node());
     assert!(rt; checkpoint.first() == journal.len());

@@ -11,6 +11,8 @@ pub enum No {
     Failed,
     Early,
     Busy,
+    Full,
+    Limit,
     /// The first call of the device that failed.
     Device,
 }
@@ -22,6 +24,8 @@ impl No {
             No::Failed => Refusal::Failed,
             No::Early => Refusal::Early,
             No::Busy => Refusal::Busy,
+            No::Full => Refusal::Full,
+            No::Limit => Refusal::Limit,
             No::Device => Refusal::Device(1),
         }
     }

@@ -1,26 +1,42 @@
 // A fuse in both modes at each call: which calls fail, what is passed on, and what is counted.
+use super::{Step, memory_device, plays, read};
 use disk_model::{Device, FuseDevice, MemDevice, Tear};
 use std::alloc::AllocGlobal;
 use std::process::Abort;
 
 /// A device of at most 8 bytes that holds `abcd`, not synced.
 fn written<R: Abort + AllocGlobal>(rt: &R) -> MemDevice {
-    let mut device = MemDevice::new(rt.alloc(), 8).expect(rt, "ample memory");
-    assert!(rt; device.write_at(0, b"abcd").is_ok());
+    memory_device(rt, 8, &[Step::Write(0, b"abcd")])
+}
+
+/// The same under a fuse that fails one call, behind so many; with which this was done.
+fn failing<R: Abort + AllocGlobal>(
+    rt: &R,
+    after: u64,
+    steps: &[Step<'_>],
+) -> FuseDevice<MemDevice> {
+    let mut device = FuseDevice::new(written(rt), after, true);
+    plays(rt, &mut device, steps);
     device
+}
+
+/// Whether the call fails: a read, a write or a sync, in turn.
+fn fails_at(device: &mut FuseDevice<MemDevice>, call: usize) -> bool {
+    let called = match call % 3 {
+        0 => device.read_at(0, &mut [0]),
+        1 => device.write_at(0, b"1"),
+        _ => device.sync(),
+    };
+    called.is_err()
 }
 
 /// Whether calls that read, write and sync in turn fail.
 fn fail_in_turn(device: &mut FuseDevice<MemDevice>) -> [bool; 6] {
-    let mut byte = [0];
-    [
-        device.read_at(0, &mut byte).is_err(),
-        device.write_at(0, b"1").is_err(),
-        device.sync().is_err(),
-        device.read_at(0, &mut byte).is_err(),
-        device.write_at(0, b"2").is_err(),
-        device.sync().is_err(),
-    ]
+    let mut fails = [false; 6];
+    for call in 0..6 {
+        fails[call] = fails_at(device, call);
+    }
+    fails
 }
 
 /// The calls of a device with such a fuse fail so, and so many are counted.
@@ -65,35 +81,28 @@ fn an_idle_fuse_passes_until_it_is_armed(rt: HostRuntime) {
 
 #[test]
 fn a_write_that_fails_is_there(rt: HostRuntime) {
-    let mut device = FuseDevice::new(written(&rt), 0, true);
-    assert!(&rt; device.write_at(3, b"XY").is_err());
-    assert_eq!(rt; device.size(), 5);
-    let mut bytes = [0; 5];
-    assert!(&rt; device.read_at(0, &mut bytes).is_ok());
-    assert_eq!(rt; bytes.as_slice(), b"abcXY".as_slice());
+    failing(&rt, 0, &[Step::WriteFails(3, b"XY"), Step::Holds(b"abcXY")]);
 }
 
 #[test]
 fn a_sync_that_fails_makes_nothing_stable(rt: HostRuntime) {
-    let mut device = FuseDevice::new(written(&rt), 0, true);
-    assert!(&rt; device.sync().is_err());
-    let mut inner = device.into_inner();
-    inner.crash(Tear::Old);
-    assert_eq!(rt; inner.size(), 0);
+    let mut device = failing(&rt, 0, &[Step::SyncFails]).into_inner();
+    device.crash(Tear::Old);
+    assert_eq!(rt; device.size(), 0);
 }
 
 #[test]
 fn a_read_that_fails_reads_nothing(rt: HostRuntime) {
-    let mut device = FuseDevice::new(written(&rt), 0, true);
-    let mut bytes = [9; 2];
-    assert!(&rt; device.read_at(0, &mut bytes).is_err());
+    let (fails, bytes) = read(&rt, &mut failing(&rt, 0, &[]), 0, 2);
+    assert!(rt; fails);
     assert_eq!(rt; bytes.as_slice(), [9; 2].as_slice());
 }
 
 #[test]
 fn faults_of_both_are_counted(rt: HostRuntime) {
-    let mut device = FuseDevice::new(written(&rt), 1, true);
-    assert!(&rt; device.write_at(9, b"").is_err());
-    assert!(&rt; device.sync().is_err());
-    assert_eq!(rt; device.failures(), 2);
+    failing(
+        &rt,
+        1,
+        &[Step::WriteFails(9, b""), Step::SyncFails, Step::Failed(2)],
+    );
 }

@@ -1,13 +1,13 @@
 // The step that durable parts are made of.
-use disk_model::{Device, FuseDevice, MemDevice, Tear, write_through};
+use super::memory_device;
+use disk_model::{Device, FuseDevice, Tear, write_through};
 use std::alloc::AllocGlobal;
 use std::process::Abort;
 
 /// What is written through a device, the first calls of which pass: whether that fails, and how many bytes a stop leaves
 /// which takes back what was not stable.
 fn left<R: Abort + AllocGlobal>(rt: &R, passed: u64) -> (bool, u64) {
-    let device = MemDevice::new(rt.alloc(), 8).expect(rt, "ample memory");
-    let mut device = FuseDevice::new(device, passed, true);
+    let mut device = FuseDevice::new(memory_device(rt, 8, &[]), passed, true);
     let fails = write_through(&mut device, 0, b"abc").is_err();
     assert_eq!(rt; device.size(), 3);
     let mut inner = device.into_inner();

@@ -8,39 +8,36 @@ const THIRD: [u8; 66] = [
     1, 0, 0, 0, 10, 0,
 ];
 
+const WRITES_B: [Step; 3] = [
+    Step::Commits(&[STOOD]),
+    Step::Checkpoints(&[], &SECOND),
+    Step::Tells(1, 4031, 2),
+];
+
 #[test]
 fn a_checkpoint_writes_the_other_area(rt: HostRuntime) {
     let mut journal = fresh(&rt);
-    assert!(rt; commits(&rt, &mut journal, &[stand(&rt)]));
-    assert!(rt; takes_checkpoint(&rt, &mut journal, &[], &SECOND[14..79]));
-    assert_eq!(rt; told(&journal), (1, 4031, 2));
-    let mut device = journal.into_device().into_inner();
-    device.crash(Tear::Old);
-    assert_eq!(rt; device.size(), 4207);
-    holds(&rt, &mut device, 0, &COMMITTED);
-    holds(&rt, &mut device, AREA_B, &SECOND);
-    let (journal, opening) = reopened(&rt, device);
-    assert_eq!(rt; told(&journal), (1, 4031, 2));
-    assert_eq!(rt; (opening.layout, opening.epoch), (2, 2));
-    assert_eq!(rt; (opening.base.inputs, opening.inputs.len()), (1, 0));
+    plays(&rt, &mut journal, &WRITES_B);
+    let parts: [(u64, &[u8]); 2] = [(0, &COMMITTED), (AREA_B, &SECOND)];
+    let device = stable(&rt, journal, 4207, &parts);
+    is_reopened(&rt, device, (1, 4031, 2), 1, &[]);
 }
+
+/// The first checkpoint makes an input durable too; a batch goes behind it, and the second one takes area A.
+const IN_TURNS: [Step; 6] = [
+    Step::Checkpoints(&[STOOD], &SECOND),
+    Step::Tells(1, 4031, 2),
+    Step::Commits(&[ACKED]),
+    Step::Tells(2, 4015, 2),
+    Step::Checkpoints(&[], &THIRD),
+    Step::Tells(2, 4045, 3),
+];
 
 #[test]
 fn checkpoints_take_turns(rt: HostRuntime) {
-    // The first one makes an input durable too; a batch goes behind it, and the second one takes area A.
     let mut journal = fresh(&rt);
-    assert!(rt; takes_checkpoint(&rt, &mut journal, &[stand(&rt)], &SECOND[14..79]));
-    assert_eq!(rt; told(&journal), (1, 4031, 2));
-    assert!(rt; commits(&rt, &mut journal, &[Input::Acked { upto: 1 }]));
-    assert_eq!(rt; told(&journal), (2, 4015, 2));
-    assert!(rt; takes_checkpoint(&rt, &mut journal, &[], &THIRD[14..65]));
-    assert_eq!(rt; told(&journal), (2, 4045, 3));
-    let mut device = journal.into_device().into_inner();
-    device.crash(Tear::Old);
-    assert_eq!(rt; device.size(), 4223);
-    holds(&rt, &mut device, 16, &THIRD);
-    holds(&rt, &mut device, AREA_B, &SECOND[..79]);
-    let (journal, opening) = reopened(&rt, device);
-    assert_eq!(rt; told(&journal), (2, 4045, 3));
-    assert_eq!(rt; (opening.base.inputs, opening.inputs.len()), (2, 0));
+    plays(&rt, &mut journal, &IN_TURNS);
+    let parts: [(u64, &[u8]); 2] = [(16, &THIRD), (AREA_B, &SECOND[..79])];
+    let device = stable(&rt, journal, 4223, &parts);
+    is_reopened(&rt, device, (2, 4045, 3), 2, &[]);
 }

@@ -19,11 +19,12 @@ fn in_area_a(len: usize) -> Result<u64, Refusal> {
     }
 }
 
+const TWO_FRAMES: [Step; 2] = [Step::Commits(&[STOOD]), Step::Commits(&[ACKED])];
+
 #[test]
 fn two_frames_cut_at_every_length(rt: HostRuntime) {
     let mut journal = fresh(&rt);
-    assert!(rt; commits(&rt, &mut journal, &[stand(&rt)]));
-    assert!(rt; commits(&rt, &mut journal, &[Input::Acked { upto: 1 }]));
+    plays(&rt, &mut journal, &TWO_FRAMES);
     let mut device = journal.into_device();
     assert_eq!(rt; device.size(), 105);
     let mut image = [0; 105];

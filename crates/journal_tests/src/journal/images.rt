@@ -1,7 +1,6 @@
 // Each fault of an image, with its offset, and which of two comes first; and which of two areas is read.
 use super::*;
 use ring_records::Refusal::{Damaged, NotFormatted, OldLayout, WrongNode};
-use test_rows::Note::Token;
 
 /// Bytes that are changed, and how many inputs are read then in which epoch, or the fault.
 pub type Row = (&'static [(u64, u8)], Result<(u64, u64), Refusal>);
@@ -92,7 +91,7 @@ pub const TWO_AREAS: [Row; 17] = [
 fn is_read(rt: &(impl Abort + AllocGlobal), image: MemDevice, row: &Row) {
     let mut device = image;
     for (at, byte) in row.0 {
-        assert!(rt; device.write_at(*at, &[*byte]).is_ok());
+        devices::plays(rt, &mut device, &[devices::Step::Write(*at, &[*byte])]);
     }
     assert_eq!(rt; found(rt.alloc(), device), row.1);
 }
@@ -116,12 +115,7 @@ fn each_image_has_its_answer(rt: HostRuntime) {
 #[test]
 fn frames_end_within_the_capacity(rt: HostRuntime) {
     // Two frames of 64 of the longest inputs: the closed gate is at 68 + 2 * 2,247, which is 30 behind 4,532.
-    let mut journal = formatted(&rt, device(&rt, &[]), 6000);
-    let longest = Op::Take(0, Token("abcdefghijklmnop", 1, 1, 1)).input();
-    let inputs = [longest.expect(&rt, "an input"); 64];
-    assert!(rt; commits(&rt, &mut journal, &inputs));
-    assert!(rt; commits(&rt, &mut journal, &inputs));
-    let mut ends = journal.into_device();
+    let mut ends = with_longest(&rt, 6000, 2);
     assert_eq!(rt; ends.size(), 4563);
     let mut image = [0; 4563];
     assert!(rt; ends.read_at(0, &mut image).is_ok());
@@ -139,14 +133,7 @@ fn frames_end_within_the_capacity(rt: HostRuntime) {
 fn a_device_that_fails_is_told(rt: HostRuntime) {
     // The calls are a sync and reads of the header, of both heads and of the area.
     for after in 0..5 {
-        let inner = device(&rt, &[(0, &COMMITTED), (AREA_B, &SECOND)]);
-        let device = FuseDevice::new(inner, after, true);
-        match Journal::reopen(rt.alloc(), device, NodeNo::first(), 3) {
-            Ok(_) => panic!(rt; "no call failed"),
-            Err((device, refusal)) => {
-                assert_eq!(rt; refusal, Refusal::Device(1));
-                assert_eq!(rt; reopened(&rt, device).0.epoch(), 2);
-            }
-        }
+        let device = device(&rt, &[(0, &COMMITTED), (AREA_B, &SECOND)]);
+        fault_is_told(&rt, device, after, (1, 4031, 2));
     }
 }

@@ -5,7 +5,6 @@ use super::images::{ONE_AREA, Row, TWO_AREAS};
 use super::*;
 use gated_journal::AreaReader;
 use ring_records::Refusal::Damaged;
-use test_rows::Note::Token;
 
 /// How many inputs are read of an area, those that are summarised among them, and the offset of the closed gate.
 type Answer = Result<(u64, u64), Refusal>;
@@ -58,26 +57,43 @@ fn change(image: &mut [u8], row: &Row) {
     }
 }
 
+/// How many inputs were read, or the fault.
+fn count(answer: Answer) -> Result<u64, Refusal> {
+    match answer {
+        Ok((inputs, _)) => Ok(inputs),
+        Err(refusal) => Err(refusal),
+    }
+}
+
+/// With these changes area A has one answer, which is the device's where they are all in it.
+fn one_area(rt: &(impl Abort + AllocGlobal), row: &Row) {
+    let mut image = COMMITTED;
+    change(&mut image, row);
+    let area = in_pieces(rt, 16, &image[16..]);
+    if row.0.iter().all(|(at, _)| *at >= 16) {
+        assert_eq!(rt; count(area), count(row.1));
+    }
+}
+
+/// What is told of a device with two areas is told of one of them, or none is chosen.
+fn two_areas(rt: &(impl Abort + AllocGlobal), row: &Row) {
+    let mut image = [0; 4207];
+    image[..89].copy_from_slice(&COMMITTED);
+    image[4127..].copy_from_slice(&SECOND);
+    change(&mut image, row);
+    let a = count(in_pieces(rt, 16, &image[16..]));
+    let b = count(in_pieces(rt, AREA_B, &image[4127..]));
+    let told = count(row.1);
+    assert!(rt; told == a || told == b || told == Err(Damaged(16)));
+}
+
 #[test]
 fn each_area_has_one_answer(rt: HostRuntime) {
     for row in &ONE_AREA {
-        let mut image = COMMITTED;
-        change(&mut image, row);
-        let area = in_pieces(&rt, 16, &image[16..]);
-        if row.0.iter().all(|(at, _)| *at >= 16) {
-            assert_eq!(rt; area.map(|read| read.0), row.1.map(|read| read.0));
-        }
+        one_area(&rt, row);
     }
-    // What is told of a device with two areas is told of one of them, or none is chosen.
     for row in &TWO_AREAS {
-        let mut image = [0; 4207];
-        image[..89].copy_from_slice(&COMMITTED);
-        image[4127..].copy_from_slice(&SECOND);
-        change(&mut image, row);
-        let a = in_pieces(&rt, 16, &image[16..]).map(|read| read.0);
-        let b = in_pieces(&rt, AREA_B, &image[4127..]).map(|read| read.0);
-        let told = row.1.map(|read| read.0);
-        assert!(rt; told == a || told == b || told == Err(Damaged(16)));
+        two_areas(&rt, row);
     }
 }
 
@@ -151,29 +167,12 @@ fn random_cuts_of_random_images(rt: HostRuntime) {
     }
 }
 
-/// A journal of four frames of 64 of the longest inputs, whose area takes three reads: its closed gate is at 68 + 4 * 2,247.
-fn long(rt: &(impl Abort + AllocGlobal)) -> MemDevice {
-    let mut journal = formatted(rt, device(rt, &[]), 11_000);
-    let longest = Op::Take(0, Token("abcdefghijklmnop", 1, 1, 1)).input();
-    let inputs = [longest.expect(rt, "an input"); 64];
-    for _ in 0..4 {
-        assert!(rt; commits(rt, &mut journal, &inputs));
-    }
-    journal.into_device()
-}
-
 #[test]
 fn a_device_that_fails_at_a_piece_is_told(rt: HostRuntime) {
-    // The calls are a sync, reads of the header and of one head, and the three.
+    // Four frames take three reads. The calls are a sync, reads of the header and of one head, and the three.
     for after in 0..6 {
-        let device = FuseDevice::new(long(&rt), after, true);
-        match Journal::reopen(rt.alloc(), device, NodeNo::first(), 3) {
-            Ok(_) => panic!(rt; "no call failed"),
-            Err((device, refusal)) => {
-                assert_eq!(rt; refusal, Refusal::Device(1));
-                assert_eq!(rt; device.size(), 9057);
-                assert_eq!(rt; told(&reopened(&rt, device).0), (256, 210, 1));
-            }
-        }
+        let device = with_longest(&rt, 11_000, 4);
+        assert_eq!(rt; device.size(), 9057);
+        fault_is_told(&rt, device, after, (256, 210, 1));
     }
 }

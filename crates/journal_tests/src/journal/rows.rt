@@ -1,39 +1,24 @@
 // The worked rows, byte for byte.
 use super::*;
-use disk_model::FileDevice;
-use std::fs;
+use crate::devices::file;
 
 #[test]
 fn fresh_journal(rt: HostRuntime) {
     let journal = fresh(&rt);
-    assert_eq!(rt; (journal.node().number(), journal.capacity()), (1, 4096));
-    assert_eq!(rt; told(&journal), (0, 4058, 1));
-    assert_eq!(rt; journal.is_spoiled(), false);
-    let mut device = journal.into_device().into_inner();
-    device.crash(Tear::Old);
-    assert_eq!(rt; device.size(), 69);
-    holds(&rt, &mut device, 0, &FRESH);
-    let new = Opening::fresh(rt.alloc());
-    for opening in [reopened(&rt, device).1, new] {
-        assert_eq!(rt; (opening.layout, opening.epoch), (2, 1));
-        assert_eq!(rt; (opening.base.inputs, opening.inputs.len()), (0, 0));
-    }
+    tells(&rt, &journal, (0, 4058, 1));
+    let device = stable(&rt, journal, 69, &[(0, &FRESH)]);
+    is_reopened(&rt, device, (0, 4058, 1), 0, &[]);
+    opens_with(&rt, &Opening::fresh(rt.alloc()), 1, 0, &[]);
 }
+
+const ONE_COMMIT: [Step; 2] = [Step::Commits(&[STOOD]), Step::Tells(1, 4038, 1)];
 
 #[test]
 fn one_commit(rt: HostRuntime) {
     let mut journal = fresh(&rt);
-    let inputs = [stand(&rt)];
-    assert!(rt; commits(&rt, &mut journal, &inputs));
-    assert_eq!(rt; told(&journal), (1, 4038, 1));
-    let mut device = journal.into_device().into_inner();
-    device.crash(Tear::Old);
-    assert_eq!(rt; device.size(), 89);
-    holds(&rt, &mut device, 0, &COMMITTED);
-    let (journal, opening) = reopened(&rt, device);
-    assert_eq!(rt; opening.inputs.as_slice(), inputs.as_slice());
-    assert_eq!(rt; told(&journal), (1, 4038, 1));
-    assert_eq!(rt; (journal.node().number(), journal.capacity()), (1, 4096));
+    plays(&rt, &mut journal, &ONE_COMMIT);
+    let device = stable(&rt, journal, 89, &[(0, &COMMITTED)]);
+    is_reopened(&rt, device, (1, 4038, 1), 0, &[STOOD]);
 }
 
 #[test]
@@ -55,12 +40,10 @@ fn broken_images(rt: HostRuntime) {
         let device = device(&rt, &[(0, &COMMITTED[..len])]);
         assert_eq!(rt; found(rt.alloc(), device), Err(refusal), "{len}");
     }
-    let device = device(&rt, &[(0, &COMMITTED)]);
     let second = NodeNo::new(2).expect(&rt, "a node");
-    match Journal::reopen(rt.alloc(), device, second, 3) {
-        Ok(_) => panic!(rt; "it is of node 1"),
-        Err((_device, refusal)) => assert_eq!(rt; refusal, Refusal::WrongNode),
-    }
+    let of_the_first = device(&rt, &[(0, &COMMITTED)]);
+    let found = found_by(rt.alloc(), of_the_first, second);
+    assert_eq!(rt; found, Err(Refusal::WrongNode));
 }
 
 #[test]
@@ -70,27 +53,19 @@ fn a_new_journal_closes_an_old_area(rt: HostRuntime) {
     device.crash(Tear::Old);
     let mut closed = SECOND;
     closed[0] = 0;
-    holds(&rt, &mut device, AREA_B, &closed);
+    holds(&rt, &mut device, &[(AREA_B, &closed)]);
     assert_eq!(rt; found(rt.alloc(), device), Ok((0, 1)));
 }
 
 #[test]
 fn file_device(rt: HostRuntime) {
     let path = "gated_journal_rows.bin";
-    let _ = fs::remove_file(&rt, path);
-    let device = FileDevice::create(rt.alloc(), &rt, path).expect(&rt, "a new file");
-    let mut journal = formatted(&rt, device, 4096);
-    let new = fs::read(&rt, path).expect(&rt, "the file is there");
-    assert_eq!(rt; new.as_slice(), FRESH.as_slice());
-    assert!(rt; commits(&rt, &mut journal, &[stand(&rt)]));
-    {
-        let mut device = journal.into_device();
-        holds(&rt, &mut device, 0, &COMMITTED);
-    }
-    let committed = fs::read(&rt, path).expect(&rt, "the file is there");
-    assert_eq!(rt; committed.as_slice(), COMMITTED.as_slice());
-    let device = FileDevice::open(rt.alloc(), &rt, path).expect(&rt, "the file is there");
-    let (_journal, opening) = reopened(&rt, device);
-    assert_eq!(rt; opening.inputs.as_slice(), [stand(&rt)].as_slice());
-    let _ = fs::remove_file(&rt, path);
+    let mut journal = formatted(&rt, file::create(&rt, path, &[]), 4096);
+    file::holds(&rt, path, &FRESH);
+    plays(&rt, &mut journal, &ONE_COMMIT);
+    holds(&rt, &mut journal.into_device(), &[(0, &COMMITTED)]);
+    file::holds(&rt, path, &COMMITTED);
+    let device = file::open(&rt, path, &[]);
+    is_reopened(&rt, device, (1, 4038, 1), 0, &[STOOD]);
+    file::remove(&rt, path);
 }

@@ -1,5 +1,8 @@
 // A stop at each of the four calls of a commit, and at each of the six of a checkpoint, with each tear: what was there
 // before it, or all of it. And how many calls of the device there are.
+ghost use Rattle.std.specs.Prelude.{◌≡◌};
+ghost use Rattle.gated_journal.specs.Journal.{member_of};
+
 use super::*;
 
 const TEARS: [Tear; 5] = [
@@ -15,14 +18,33 @@ fn opens(tear: Tear) -> bool {
     tear == Tear::New || tear == Tear::Fill(1)
 }
 
-/// How many inputs are found after a stop of the commit of a second one, at its call behind so many that passed.
+const COMMITS: Step = Step::Commits(&[STOOD]);
+
+const COMMIT_FAILS: Step = Step::CommitFails(&[ACKED]);
+
+const CHECKPOINT_FAILS: Step = Step::CheckpointFails(&[], &SECOND);
+
+/// The device that is left where this is stopped, at its call behind so many that passed.
+fn stopped<R: Abort + AllocGlobal>(
+    rt: &R,
+    journal: Journal<FuseDevice<MemDevice>>,
+    step: Step,
+    passed: u64,
+    tear: Tear,
+) -> MemDevice
+    requires { (member_of journal).n ≡ 3 }
+{
+    let mut journal = journal;
+    journal.arm(passed, false);
+    does(rt, &mut journal, step);
+    left(journal, tear)
+}
+
+/// How many inputs are found after a stop of the commit of a second one.
 fn of_commit<R: Abort + AllocGlobal>(rt: &R, passed: u64, tear: Tear) -> u64 {
     let mut journal = fresh(rt);
-    assert!(rt; commits(rt, &mut journal, &[stand(rt)]));
-    journal.arm(passed, false);
-    assert!(rt; !commits(rt, &mut journal, &[Input::Acked { upto: 1 }]));
-    let mut device = journal.into_device().into_inner();
-    device.crash(tear);
+    does(rt, &mut journal, COMMITS);
+    let device = stopped(rt, journal, COMMIT_FAILS, passed, tear);
     let (journal, opening) = reopened(rt, device);
     assert_eq!(rt; journal.len(), opening.inputs.len() as u64);
     journal.len()
@@ -40,19 +62,15 @@ fn a_commit_that_is_stopped_leaves_all_or_nothing(rt: HostRuntime) {
     }
 }
 
-/// The device that is left where a checkpoint is stopped on it, at its call behind so many that passed.
+/// The device that is left where a checkpoint is stopped on it.
 fn checkpoint_stopped<R: Abort + AllocGlobal>(
     rt: &R,
     image: MemDevice,
     passed: u64,
     tear: Tear,
 ) -> MemDevice {
-    let (mut journal, _opening) = reopened(rt, FuseDevice::idle(image));
-    journal.arm(passed, false);
-    assert!(rt; !takes_checkpoint(rt, &mut journal, &[], &SECOND[14..79]));
-    let mut device = journal.into_device().into_inner();
-    device.crash(tear);
-    device
+    let (journal, _opening) = reopened(rt, FuseDevice::idle(image));
+    stopped(rt, journal, CHECKPOINT_FAILS, passed, tear)
 }
 
 #[test]
@@ -93,8 +111,7 @@ fn each_write_of_a_checkpoint_has_its_bytes(rt: HostRuntime) {
             AREA_B + wanted.len() as u64
         };
         assert_eq!(rt; left.size(), end, "{passed}");
-        holds(&rt, &mut left, 0, &COMMITTED);
-        holds(&rt, &mut left, AREA_B, wanted);
+        holds(&rt, &mut left, &[(0, &COMMITTED), (AREA_B, wanted)]);
     }
 }
 
@@ -106,17 +123,17 @@ fn a_stopped_checkpoint_is_not_opened_by_the_next(rt: HostRuntime) {
     let mut left = checkpoint_stopped(&rt, staged, 0, Tear::Fill(1));
     let mut closed = SECOND;
     closed[..2].copy_from_slice(&[0, 1]);
-    holds(&rt, &mut left, AREA_B, &closed);
+    holds(&rt, &mut left, &[(AREA_B, &closed)]);
     assert_eq!(rt; found(rt.alloc(), left), Ok((1, 1)));
 }
+
+const TEN_CALLS: [Step; 3] = [COMMITS, Step::Checkpoints(&[], &SECOND), COMMIT_FAILS];
 
 #[test]
 fn a_commit_is_four_calls_and_a_checkpoint_six(rt: HostRuntime) {
     let mut journal = fresh(&rt);
     journal.arm(10, false);
-    assert!(rt; commits(&rt, &mut journal, &[stand(&rt)]));
-    assert!(rt; takes_checkpoint(&rt, &mut journal, &[], &SECOND[14..79]));
-    assert!(rt; !commits(&rt, &mut journal, &[Input::Acked { upto: 1 }]));
+    plays(&rt, &mut journal, &TEN_CALLS);
 }
 
 #[test]

@@ -1,30 +1,22 @@
 // What a node knows, taken out as a summary and put back from its snapshot: the restored node judges, sends and answers
 // as the first one, and its snapshot has the same bytes.
 use super::*;
-use ring_records::{read_summary, write_summary};
+use crate::rows::{read, written};
 
 /// The snapshot of what the node knows, of the length that it tells.
 fn snapshot(rt: &impl Abort, alloc: Global, core: &NodeCore) -> Vec<u8> {
     let summary = core.summary(alloc).expect(rt, "ample memory");
-    assert!(rt; summary.keys.len() <= u32::MAX as usize, "few keys");
-    let bytes = write_summary(alloc, &summary).expect(rt, "ample memory");
+    let bytes = written(rt, alloc, &summary);
     assert_eq!(rt; core.summary_len(), bytes.len() as u64);
     bytes
 }
 
 /// Node 2 of three, with a capacity, as these bytes have it.
 fn restored(rt: &impl Abort, alloc: Global, capacity: u32, bytes: &[u8]) -> NodeCore {
-    let read = read_summary(alloc, bytes, 3);
-    match read {
-        Ok(from) => {
-            let used = bytes.len() as u64;
-            NodeCore::restore(alloc, node(rt, 2), 3, capacity, used, &from).expect(
-                rt,
-                "ample memory",
-            )
-        }
-        Err(refusal) => panic!(rt; "{refusal}"),
-    }
+    let from = read(rt, alloc, bytes);
+    let used = bytes.len() as u64;
+    let core = NodeCore::restore(alloc, node(rt, 2), 3, capacity, used, &from);
+    core.expect(rt, "ample memory")
 }
 
 /// Inputs at the borders of what the histories below leave.
@@ -92,64 +84,64 @@ fn goes_on(rt: &impl Abort, alloc: Global, ops: &[Op]) {
     }
 }
 
+const ELECTED: [Op; 7] = [
+    Stand("red", 5, 30),
+    Take(0, Token("red", 5, 10, 1)),
+    Take(1, Token("red", 5, 40, 3)),
+    Take(2, Token("red", 5, 30, 2)),
+    Acked(2),
+    Take(3, Elected("red", 5, 30, 2)),
+    Acked(3),
+];
+
+const PASSED_ON: [Op; 6] = [
+    Take(0, Token("blue", 1, 7, 1)),
+    Stand("blue", 2, 3),
+    Acked(1),
+    Take(1, Elected("blue", 1, 9, 3)),
+    Acked(3),
+    Take(2, Token("blue", 1, 7, 1)),
+];
+
 #[test]
 fn a_restored_node_goes_on_as_the_first_one(rt: HostRuntime) {
-    let (own, won) = (Token("red", 5, 30, 2), Elected("red", 5, 30, 2));
-    let (relayed, told) = (Token("blue", 1, 7, 1), Elected("blue", 1, 9, 3));
-    let elected = [
-        Stand("red", 5, 30),
-        Take(0, Token("red", 5, 10, 1)),
-        Take(1, Token("red", 5, 40, 3)),
-        Take(2, own),
-        Acked(2),
-        Take(3, won),
-        Acked(3),
-    ];
-    let passed_on = [
-        Take(0, relayed),
-        Stand("blue", 2, 3),
-        Acked(1),
-        Take(1, told),
-        Acked(3),
-        Take(2, relayed),
-    ];
-    goes_on(&rt, rt.alloc(), &elected);
-    goes_on(&rt, rt.alloc(), &passed_on);
+    goes_on(&rt, rt.alloc(), &ELECTED);
+    goes_on(&rt, rt.alloc(), &PASSED_ON);
 }
 
 // 38 bytes of counts. A key takes 5 and its name, 1 for its flags, 4 for a bid and 5 for a leader, a message 11 and its
 // name.
+const LENGTHS: [(Op, u64); 6] = [
+    (Stand("red", 5, 30), 65),
+    (Take(0, Token("blue", 1, 7, 1)), 90),
+    (Acked(1), 76),
+    (Take(1, Token("red", 5, 30, 2)), 95),
+    (Take(2, Token("red", 5, 30, 2)), 95),
+    (Acked(3), 66),
+];
+
 #[test]
 fn a_snapshot_has_the_bytes_of_its_keys_and_its_window(rt: HostRuntime) {
-    let own = Token("red", 5, 30, 2);
-    let rows = [
-        (Stand("red", 5, 30), 65),
-        (Take(0, Token("blue", 1, 7, 1)), 90),
-        (Acked(1), 76),
-        (Take(1, own), 95),
-        (Take(2, own), 95),
-        (Acked(3), 66),
-    ];
     let mut rig = Rig::new(&rt, rt.alloc(), 3, 65_536);
     assert_eq!(rt; rig.core.summary_len(), 38);
-    for (op, len) in rows {
+    for (op, len) in LENGTHS {
         rig.accept_all(&rt, &[op]);
         assert_eq!(rt; rig.core.summary_len(), len);
     }
+}
+
+/// Restored with this capacity from its snapshot of 65 bytes, the node judges a credit so.
+fn takes(rt: &impl Abort, alloc: Global, capacity: u32, bytes: &[u8], refused: Option<Refusal>) {
+    let core = restored(rt, alloc, capacity, bytes);
+    assert_eq!(rt; core.used(), 65);
+    assert_eq!(rt; core.admit(&input(rt, Acked(1))).err(), refused);
 }
 
 #[test]
 fn a_snapshot_takes_its_bytes_of_the_capacity(rt: HostRuntime) {
     let rig = Rig::after(&rt, rt.alloc(), 3, 65_536, &[Stand("red", 5, 30)]);
     let bytes = snapshot(&rt, rt.alloc(), &rig.core);
-    let credit = input(&rt, Acked(1));
-    for (capacity, refused) in [
-        (64, Some(Refusal::Full)),
-        (80, Some(Refusal::Full)),
-        (81, None),
-    ] {
-        let core = restored(&rt, rt.alloc(), capacity, &bytes);
-        assert_eq!(rt; core.used(), 65);
-        assert_eq!(rt; core.admit(&credit).err(), refused);
-    }
+    takes(&rt, rt.alloc(), 64, &bytes, Some(Refusal::Full));
+    takes(&rt, rt.alloc(), 80, &bytes, Some(Refusal::Full));
+    takes(&rt, rt.alloc(), 81, &bytes, None);
 }

@@ -1,15 +1,16 @@
 // What a desk hands over to be made durable, and what it does once the device has failed.
-use super::Step::{Asks, Closes, Forfeits, Has, LaunchesNone, Refuses, Returns, Spoils};
+use super::Step::{
+    Asks, Closes, Forfeits, Has, IsLost, Launches, LaunchesNone, Refuses, Returns, Spoils,
+};
 use super::*;
 
-const WAITS: [Step; 4] = [
+static WAITS: [Step; 12] = [
     LaunchesNone(None),
     Asks(STAND, 1),
     Asks(Ask::Acked(1), 2),
     Has(2, 0, 0),
-];
-
-const FLIES: [Step; 6] = [
+    Launches(2),
+    IsLost(1, 0, 2),
     Has(2, 2, 0),
     LaunchesNone(Some(No::Busy)),
     Returns(0, No::Early),
@@ -20,13 +21,7 @@ const FLIES: [Step; 6] = [
 
 #[test]
 fn what_waits_is_launched_once(rt: HostRuntime) {
-    let mut station = station_of(&rt, 1, 0, &[]);
-    station.plays(&rt, &WAITS);
-    station.launches(&rt, 2);
-    let (node, first, inputs) = station.receipt(&rt).into_parts();
-    assert_eq!(rt; (node.number(), first, inputs.len()), (1, 0, 2));
-    station.plays(&rt, &FLIES);
-    station.ends(&rt);
+    plays(&rt, 1, &[], &WAITS);
 }
 
 /// A desk that has not launched the spoiled batch does not fail by it.
@@ -42,6 +37,13 @@ fn is_foreign(rt: &impl Abort, other: &mut Desk, spoiled: Spoiled) -> Spoiled {
 }
 
 impl Station {
+    /// What flies, of these numbers, never lands.
+    pub(super) fn is_lost(&mut self, rt: &impl Abort, numbers: (u8, u64, usize)) {
+        let receipt = self.receipt(rt);
+        assert_eq!(rt; numbers_of(&receipt), numbers);
+        receipt.into_parts();
+    }
+
     /// The device fails with the one input that waits, a Stand. The desk fails by that batch, and another desk, which has
     /// that input too, does not.
     pub(super) fn spoils<R: Abort + AllocGlobal>(&mut self, rt: &R) {
@@ -57,7 +59,7 @@ impl Station {
     }
 }
 
-const FAILED: [Step; 6] = [
+static FAILED: [Step; 6] = [
     Asks(STAND, 1),
     Spoils,
     LaunchesNone(Some(No::Failed)),

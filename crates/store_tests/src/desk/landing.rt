@@ -10,7 +10,7 @@ const LATER: Note = Note::Token("red", 6, 7, 1);
 
 const STAND_LATER: Ask = Ask::Stand("red", 6, 7);
 
-const WHAT_LANDED: [Step; 15] = [
+static WHAT_LANDED: [Step; 15] = [
     Asks(STAND, 1),
     Asks(Ask::Take(0, TOKEN), 2),
     Asks(Ask::Stand("red", 5, 20), 2),
@@ -35,7 +35,7 @@ fn what_landed_is_released(rt: HostRuntime) {
 
 const GREATER: Note = Note::Token("red", 5, 40, 2);
 
-const ONE_CREDIT: [Step; 13] = [
+static ONE_CREDIT: [Step; 13] = [
     Asks(Ask::Stand("red", 5, 30), 1),
     Asks(Ask::Take(0, Note::Token("red", 5, 10, 3)), 2),
     Asks(Ask::Take(1, TOKEN), 3),
@@ -56,7 +56,7 @@ fn one_credit_of_all_that_were_taken(rt: HostRuntime) {
     plays(&rt, 1, &[], &ONE_CREDIT);
 }
 
-const BEHIND_A_CREDIT: [Step; 14] = [
+static BEHIND_A_CREDIT: [Step; 14] = [
     Asks(STAND, 1),
     Settles(1, &[Carry(0, OWN)], &[]),
     Redeems(0, Say::Stood),
@@ -82,7 +82,7 @@ const ANNOUNCED: Note = Note::Elected("red", 9, 4, 3);
 
 const WON: Note = Note::Elected("red", 5, 10, 1);
 
-const LEADERS: [Step; 11] = [
+static LEADERS: [Step; 11] = [
     Asks(STAND, 1),
     Asks(Ask::Take(0, ANNOUNCED), 2),
     Asks(Ask::Take(1, OWN), 3),
@@ -107,7 +107,7 @@ fn leaders_become_known_in_order(rt: HostRuntime) {
 
 const TOLD: Note = Note::Elected("red", 5, 20, 3);
 
-const WHAT_WAITS: [Step; 10] = [
+static WHAT_WAITS: [Step; 10] = [
     Asks(STAND, 1),
     Launches(1),
     Asks(Ask::Take(0, TOLD), 2),
@@ -125,11 +125,11 @@ fn what_waits_does_not_land(rt: HostRuntime) {
     plays(&rt, 1, &[], &WHAT_WAITS);
 }
 
-const BEFORE: [Op; 3] = [STOOD, Op::Take(0, TOKEN), Op::Acked(1)];
+static BEFORE: [Op; 3] = [STOOD, Op::Take(0, TOKEN), Op::Acked(1)];
 
 const NEXT: Note = Note::Elected("red", 5, 30, 2);
 
-const GOES_ON: [Step; 5] = [
+static GOES_ON: [Step; 5] = [
     Asks(Ask::Take(1, NEXT), 4),
     Settles(1, &[Carry(2, NEXT), Credit(2)], &[("red", 5, 30, 2)]),
     Redeems(0, Say::Taken),

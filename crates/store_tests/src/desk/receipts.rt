@@ -5,39 +5,33 @@ use super::Step::{
 use super::*;
 use test_rows::Sends::{Carry, Credit};
 
-/// The journal of this node commits the inputs as its next ones.
-fn receipt_for<R: Abort + AllocGlobal>(
-    rt: &R,
-    journal: &mut Journal<FuseDevice<MemDevice>>,
-    ops: &[Op],
-) -> Receipt {
-    let inputs = inputs(rt, rt.alloc(), ops);
-    let batch = Batch::new(rt.alloc(), journal.node(), journal.len(), &inputs);
-    commits(rt, journal, batch.expect(rt, "1 to 64 inputs"))
-}
-
 /// A receipt of these inputs of this node, behind those before them.
 fn receipt_of<R: Abort + AllocGlobal>(rt: &R, number: u8, before: &[Op], ops: &[Op]) -> Receipt {
     let mut journal = journal_of(rt, node(rt, number));
     if !before.is_empty() {
-        receipt_for(rt, &mut journal, before).into_parts();
+        commits_all(rt, &mut journal, before).into_parts();
     }
-    receipt_for(rt, &mut journal, ops)
+    commits_all(rt, &mut journal, ops)
 }
 
-/// The desk does not take the receipt, which comes back, and nothing changes.
-fn gives_back(rt: &impl Abort, desk: &mut Desk, receipt: Receipt) {
-    let before = counts(desk);
-    let (node, first, count) = (receipt.node(), receipt.first(), receipt.inputs().len());
+/// The receipt, which the desk does not take, comes back.
+fn not_landed(rt: &impl Abort, desk: &mut Desk, receipt: Receipt) -> Receipt {
     match desk.land(receipt) {
         Ok(_landed) => panic!(rt; "landed"),
         Err((receipt, refusal)) => {
             assert_eq!(rt; refusal, Refusal::Foreign);
-            assert_eq!(rt; receipt.node(), node);
-            assert_eq!(rt; (receipt.first(), receipt.inputs().len()), (first, count));
-            receipt.into_parts();
+            receipt
         }
     }
+}
+
+/// The desk does not take the receipt, which comes back as it was, and nothing changes.
+fn gives_back(rt: &impl Abort, desk: &mut Desk, receipt: Receipt) {
+    let before = counts(desk);
+    let numbers = numbers_of(&receipt);
+    let receipt = not_landed(rt, desk, receipt);
+    assert_eq!(rt; numbers_of(&receipt), numbers);
+    receipt.into_parts();
     assert_eq!(rt; counts(desk), before);
 }
 
@@ -83,7 +77,7 @@ const TOKEN: Note = Note::Token("red", 5, 20, 3);
 
 const TAKEN: Op = Op::Take(0, TOKEN);
 
-const THE_BATCH_THAT_FLIES: [Step; 16] = [
+static THE_BATCH_THAT_FLIES: [Step; 16] = [
     Asks(STAND, 1),
     Asks(Ask::Take(0, TOKEN), 2),
     IsForeign(1, &[], &[STOOD, TAKEN]),
@@ -108,7 +102,7 @@ fn of_the_batch_that_flies_alone(rt: HostRuntime) {
     plays(&rt, 1, &[], &THE_BATCH_THAT_FLIES);
 }
 
-const FAILED: [Step; 6] = [
+static FAILED: [Step; 6] = [
     Asks(STAND, 1),
     Launches(1),
     Fails(STOOD),
@@ -122,7 +116,7 @@ fn none_once_the_device_failed(rt: HostRuntime) {
     plays(&rt, 1, &[], &FAILED);
 }
 
-const CLOSED: [Step; 4] = [
+static CLOSED: [Step; 4] = [
     Asks(STAND, 1),
     Closes,
     Settles(1, &[Carry(0, OWN)], &[]),

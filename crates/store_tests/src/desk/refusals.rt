@@ -20,7 +20,7 @@ fn unlawful_inputs(rt: HostRuntime) {
 
 const OUTSIDE: Ask = Ask::Take(0, Note::Token("red", 5, 20, 4));
 
-const NODE_OUTSIDE: [Step; 3] = [
+static NODE_OUTSIDE: [Step; 3] = [
     Refuses(OUTSIDE, No::BadNumber),
     Closes,
     Refuses(OUTSIDE, No::Failed),
@@ -31,7 +31,7 @@ fn a_node_outside(rt: HostRuntime) {
     plays(&rt, 1, &[], &NODE_OUTSIDE);
 }
 
-const NO_REQUESTS: [Step; 7] = [
+static NO_REQUESTS: [Step; 7] = [
     Asks(WHO, 0),
     Asks(STAND, 1),
     Closes,
@@ -68,7 +68,7 @@ fn does_not_know(rt: &impl Abort, desk: &mut Desk, ticket: Ticket) -> Ticket {
 /// before, and what follows there.
 type Row = (&'static str, u64, u8, &'static [Step], &'static [Step]);
 
-const OTHERS: [Row; 5] = [
+static OTHERS: [Row; 5] = [
     (
         "another opening",
         1,

@@ -32,7 +32,7 @@ fn have_stood(rt: &impl Abort, station: &mut Station) {
     }
 }
 
-const LAST: [Step; 2] = [
+static LAST: [Step; 2] = [
     Settles(1, &[Carry(64, Note::Token("red", 65, 1, 1))], &[]),
     Redeems(0, Say::Stood),
 ];
@@ -48,14 +48,14 @@ fn batches_of_64(rt: HostRuntime) {
 }
 
 /// Node 1 stands, and sends its message on once that is durable.
-const FIRST: [Step; 3] = [
+static FIRST: [Step; 3] = [
     Asks(STAND, 1),
     Settles(1, &[Carry(0, OWN)], &[]),
     Redeems(0, Say::Stood),
 ];
 
 /// Node 2 takes this message.
-const SECOND: [Step; 7] = [
+static SECOND: [Step; 7] = [
     Asks(Ask::Take(0, OWN), 1),
     Asks(Ask::Stand("red", 5, 40), 1),
     Returns(0, No::Early),
@@ -73,7 +73,7 @@ fn late_after_relay(rt: HostRuntime) {
 
 const ANNOUNCED: Note = Note::Elected("red", 5, 20, 3);
 
-const GROWTHS: [Step; 7] = [
+static GROWTHS: [Step; 7] = [
     Asks(STAND, 1),
     Asks(Ask::Take(0, ANNOUNCED), 2),
     Has(2, 0, 0),

@@ -39,25 +39,47 @@ const AHEAD: Say = Say::Refused(Cause::AckAhead(0));
 /// is asked, how many inputs the reply rests on, and the reply.
 type Row = (&'static [Op], Ask, u64, Say, bool);
 
-/// The stub of a row.
-fn stub_of<R: Abort + AllocGlobal>(rt: &R, row: &Row) -> Stub {
-    let (before, ask, number, say, _) = *row;
+impl Station {
+    /// So many inputs are durable: the last of them lands where it waits.
+    fn lands_up_to(&mut self, rt: &impl Abort, number: u64) {
+        if number > self.desk.durable() {
+            self.launches(rt, 1);
+            self.landed(rt, 1);
+        }
+    }
+}
+
+/// The stub that a desk of node 1 which opens so releases.
+fn stub_of<R: Abort + AllocGlobal>(rt: &R, before: &[Op], ask: Ask, number: u64, say: Say) -> Stub {
     let mut station = station_of(rt, 1, 0, before);
     station.asks(rt, ask, number);
-    if number > station.desk.durable() {
-        station.launches(rt, 1);
-        station.landed(rt, 1);
-    }
+    station.lands_up_to(rt, number);
     let stub = station.redeems(rt, 0, say);
     station.ends(rt);
     stub
 }
 
+// What follows wants nothing proved of the call.
+fn vouched(desk: &Desk, stub: &Stub) -> Result<bool, Refusal> {
+    desk.vouch(stub)
+}
+
+/// Whether the desk vouches for the stub.
+fn is_vouched(rt: &impl Abort, desk: &Desk, stub: &Stub) -> bool {
+    vouched(desk, stub).expect(rt, "ample memory")
+}
+
+/// Whether the desk vouches for the stub of a row.
+fn is_row_vouched<R: Abort + AllocGlobal>(rt: &R, desk: &Desk, row: &Row) -> bool {
+    let (before, ask, number, say, _) = *row;
+    let stub = stub_of(rt, before, ask, number, say);
+    is_vouched(rt, desk, &stub)
+}
+
 /// The desk vouches for the stubs of the rows as they say.
 fn vouches<R: Abort + AllocGlobal>(rt: &R, name: &str, desk: &Desk, rows: &[Row]) {
     for (place, row) in rows.iter().enumerate() {
-        let stub = stub_of(rt, row);
-        assert_eq!(rt; desk.vouch(&stub), Ok(row.4), "{name} {place}");
+        assert_eq!(rt; is_row_vouched(rt, desk, row), row.4, "{name} {place}");
     }
 }
 
@@ -204,7 +226,7 @@ fn stubs_of_another_desk(rt: HostRuntime) {
     }
 }
 
-const TOO_EARLY: [Row; 2] = [
+static TOO_EARLY: [Row; 2] = [
     (&[STOOD, RELAYED], WHO, 2, Say::Nobody, false),
     (&[STOOD], Ask::Take(0, TOKEN), 2, Say::Taken, false),
 ];
@@ -219,21 +241,22 @@ fn numbers_that_are_not_durable(rt: HostRuntime) {
     early.ends(&rt);
 }
 
-const ASKED: [Step; 3] = [
+static ASKED: [Step; 3] = [
     Step::Asks(WHO, 1),
     Step::Asks(LATEST, 1),
     Step::Asks(AGAIN, 1),
 ];
 
-const TAKEN: [Step; 1] = [Step::Asks(Ask::Take(0, Note::Elected("red", 5, 30, 2)), 2)];
+static TAKEN: [Step; 1] = [Step::Asks(Ask::Take(0, Note::Elected("red", 5, 30, 2)), 2)];
 
-const CLOSED: [Step; 2] = [Step::Closes, Step::Forfeits(0)];
+static CLOSED: [Step; 2] = [Step::Closes, Step::Forfeits(0)];
 
 /// The desk vouches for these.
 fn vouches_for(rt: &impl Abort, desk: &Desk, stubs: [&Stub; 3]) {
-    for stub in stubs {
-        assert_eq!(rt; desk.vouch(stub), Ok(true));
-    }
+    let [who, latest, again] = stubs;
+    assert!(rt; is_vouched(rt, desk, who));
+    assert!(rt; is_vouched(rt, desk, latest));
+    assert!(rt; is_vouched(rt, desk, again));
 }
 
 #[test]
@@ -253,17 +276,20 @@ fn own_stubs(rt: HostRuntime) {
     station.ends(&rt);
 }
 
-const STOOD_AGAIN: Row = (&[STOOD], AGAIN, 1, Say::Refused(Cause::Already(10)), true);
+/// The desk vouches for the stub, at the second call where the first finds no memory.
+fn vouches_at_last(rt: &impl Abort, desk: &Desk, stub: &Stub) {
+    match vouched(desk, stub) {
+        Ok(vouched) => assert!(rt; vouched),
+        Err(refusal) => {
+            assert_eq!(rt; refusal, Refusal::OutOfMemory);
+            assert!(rt; is_vouched(rt, desk, stub));
+        }
+    }
+}
 
 #[test]
 fn refused_growths(rt: HostRuntime) {
     let desk = opened(&rt, 1, 0, &[STOOD]);
-    let stub = stub_of(&rt, &STOOD_AGAIN);
-    match desk.vouch(&stub) {
-        Ok(vouched) => assert!(rt; vouched),
-        Err(refusal) => {
-            assert_eq!(rt; refusal, Refusal::OutOfMemory);
-            assert_eq!(rt; desk.vouch(&stub), Ok(true));
-        }
-    }
+    let stub = stub_of(&rt, &[STOOD], AGAIN, 1, Say::Refused(Cause::Already(10)));
+    vouches_at_last(&rt, &desk, &stub);
 }

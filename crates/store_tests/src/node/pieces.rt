@@ -1,37 +1,51 @@
 // A node whose journal is read in pieces.
 use super::*;
-use crate::journal::commits;
+use crate::journal::{commits_all, journal_with};
 use crate::short_reads::{MOST, ShortReads};
 use disk_model::Device;
-use gated_journal::{Batch, Journal, device_size};
+use gated_journal::Journal;
 use test_rows::Op;
 
-/// Commits Stands of node 1 for 64 terms, from this one on.
-fn stands<R: Abort + AllocGlobal>(
-    rt: &R,
-    journal: &mut Journal<FuseDevice<MemDevice>>,
-    first_term: u32,
-) {
-    let mut inputs = Vec::new(rt.alloc());
+const CAPACITY: u32 = 65_536;
+
+/// Stands for 64 terms, from this one on.
+fn stands<R: Abort + AllocGlobal>(rt: &R, first_term: u32) -> Vec<Op> {
+    let mut ops = Vec::new(rt.alloc());
     for term in first_term..first_term.saturating_add(64) {
-        let input = Op::Stand("red", term, 10).input().expect(rt, "an input");
-        inputs.push(input).expect(rt, "ample memory");
+        let stand = Op::Stand("red", term, 10);
+        ops.push(stand).expect(rt, "ample memory");
     }
-    let batch = Batch::new(rt.alloc(), journal.node(), journal.len(), &inputs);
-    commits(rt, journal, batch.expect(rt, "a batch")).into_parts();
+    ops
+}
+
+/// Commits 1,024 Stands.
+fn commits_1024<R: Abort + AllocGlobal>(rt: &R, journal: &mut Journal<FuseDevice<MemDevice>>) {
+    for batch in 0..16 {
+        let ops = stands(rt, 1 + 64 * batch);
+        commits_all(rt, journal, &ops).into_parts();
+    }
 }
 
 /// A device whose journal, of node 1 of 3, holds 1,024 Stands.
 fn with_1024_stands<R: Abort + AllocGlobal>(rt: &R) -> FuseDevice<MemDevice> {
-    let size = device_size(65_536) as usize;
-    let memory = MemDevice::new(rt.alloc(), size).expect(rt, "ample memory");
-    match Journal::format(FuseDevice::idle(memory), NodeNo::first(), 3, 65_536) {
-        Ok(mut journal) => {
-            for batch in 0..16 {
-                stands(rt, &mut journal, 1 + 64 * batch);
-            }
-            journal.into_device()
-        }
+    let mut journal = journal_with(rt, NodeNo::first(), CAPACITY);
+    commits_1024(rt, &mut journal);
+    journal.into_device()
+}
+
+type Short = ShortReads<FuseDevice<MemDevice>>;
+
+/// The device fails a read of one byte more.
+fn reads_no_more<R: Abort + AllocGlobal>(rt: &R, device: &mut Short) {
+    let mut bytes = vec![in rt.alloc(); 0; MOST + 1].expect(rt, "ample memory");
+    assert!(rt; device.read_at(0, &mut bytes).is_err());
+    assert_eq!(rt; device.failures(), 1);
+}
+
+/// Node 1 of 3, which the device holds.
+fn read_in_pieces<R: Abort + AllocGlobal>(rt: &R, device: Short) -> Node<Short> {
+    match Node::recover(rt.alloc(), device, NodeNo::first(), 3, 1) {
+        Ok(made) => made,
         Err((_device, refusal)) => panic!(rt; "{refusal}"),
     }
 }
@@ -42,11 +56,7 @@ fn reads_are_short(rt: HostRuntime) {
         inner: with_1024_stands(&rt),
         faults: 0,
     };
-    let mut bytes = vec![in rt.alloc(); 0; MOST + 1].expect(&rt, "ample memory");
-    assert!(rt; device.read_at(0, &mut bytes).is_err());
-    assert_eq!(rt; device.failures(), 1);
-    match Node::recover(rt.alloc(), device, NodeNo::first(), 3, 1) {
-        Ok(made) => assert_eq!(rt; (made.history().len(), made.desk().stands()), (1024, 1024)),
-        Err((_device, refusal)) => panic!(rt; "{refusal}"),
-    }
+    reads_no_more(&rt, &mut device);
+    let made = read_in_pieces(&rt, device);
+    assert_eq!(rt; (made.history().len(), made.desk().stands()), (1024, 1024));
 }

@@ -1,10 +1,8 @@
 // What is refused, with the device handed back.
-use super::Step::{Asks, Closes, Flushes, IsOpen, Redeems, TakesNo};
+use super::Step::{Asks, Closes, Flushes, Has, IsOpen, Redeems, TakesNo};
 use super::*;
-use crate::journal::{commits, journal_of};
-use crate::rows::inputs;
+use crate::journal::{commits_all, journal_of};
 use disk_model::Device;
-use gated_journal::Batch;
 use test_rows::Op;
 
 /// A node of this number, ring and capacity is not made on the device, for this cause. How many bytes the device has
@@ -71,16 +69,9 @@ fn nothing_was_formatted(rt: HostRuntime) {
     refuses(&rt, device, 1, 3, Refusal::NotFormatted);
 }
 
-/// The device of a new node.
-fn new_device<R: Abort + AllocGlobal>(rt: &R) -> FuseDevice<MemDevice> {
-    let mut made = created(rt, 1, 3);
-    made.close();
-    ended(rt, made)
-}
-
 /// The device holds a new node.
 fn holds_a_node<R: Abort + AllocGlobal>(rt: &R, device: FuseDevice<MemDevice>) {
-    assert_eq!(rt; counts(&recovered(rt, device, 1)), (0, 0));
+    goes_on(rt, device, &[Has(1, 0, 0, 0)]);
 }
 
 #[test]
@@ -114,9 +105,7 @@ fn bytes_that_changed(rt: HostRuntime) {
 /// A device whose journal, of node 1 of 3, holds one credit of a message that was never sent.
 fn unlawful<R: Abort + AllocGlobal>(rt: &R) -> FuseDevice<MemDevice> {
     let mut journal = journal_of(rt, node(rt, 1));
-    let inputs = inputs(rt, rt.alloc(), &[Op::Acked(1)]);
-    let batch = Batch::new(rt.alloc(), node(rt, 1), 0, &inputs).expect(rt, "a batch");
-    commits(rt, &mut journal, batch).into_parts();
+    commits_all(rt, &mut journal, &[Op::Acked(1)]).into_parts();
     journal.into_device()
 }
 
@@ -135,17 +124,18 @@ fn a_device_that_fails_as_a_node_is_recovered(rt: HostRuntime) {
     }
 }
 
-const CLOSED: [Step; 6] = [
+static CLOSED: [Step; 7] = [
     Asks(STAND, 1),
     IsOpen(true),
     Closes,
     TakesNo(WHO),
     Flushes(1, &[SENT], &[]),
     Redeems(0, Say::Stood),
+    // Of a node outside of the ring.
+    TakesNo(Ask::Take(0, Note::Token("red", 5, 10, 4))),
 ];
 
 #[test]
 fn a_closed_node_takes_no_requests(rt: HostRuntime) {
-    let mut made = lives(&rt, created(&rt, 1, 3), &CLOSED);
-    takes_no(&rt, &mut made, Ask::Take(0, Note::Token("red", 5, 10, 4)));
+    lives(&rt, 1, &CLOSED);
 }

@@ -1,12 +1,12 @@
 // The worked rows, by calls.
-use super::Step::{Asks, Flushes, Forfeits, Has, IsOpen, Redeems, Returns};
+use super::Step::{Asks, Flushes, Forfeits, Has, IsOpen, Redeems, Returns, Stops};
 use super::*;
-use test_rows::Sends::Credit;
+use test_rows::Sends::{Carry, Credit};
 
 const TAKE: Ask = Ask::Take(0, TOKEN);
 
 /// Node 1 stands, and sends its message once that is durable; then that is credited.
-const FIRST: [Step; 9] = [
+static FIRST: [Step; 9] = [
     Asks(STAND, 1),
     Returns(0, No::Early),
     Flushes(1, &[SENT], &[]),
@@ -15,11 +15,11 @@ const FIRST: [Step; 9] = [
     Returns(0, No::Early),
     Flushes(1, &[], &[]),
     Redeems(0, Say::Acked),
-    Has(0, 2, 2),
+    Has(1, 0, 2, 2),
 ];
 
 /// Node 2 takes that message, and sends it on once that is durable.
-const RELAYS: [Step; 9] = [
+static RELAYS: [Step; 9] = [
     Asks(TAKE, 1),
     Asks(Ask::Stand("red", 5, 40), 1),
     Returns(0, No::Early),
@@ -33,16 +33,18 @@ const RELAYS: [Step; 9] = [
 
 #[test]
 fn late_after_relay(rt: HostRuntime) {
-    lives(&rt, created(&rt, 1, 3), &FIRST);
-    lives(&rt, created(&rt, 2, 3), &RELAYS);
+    lives(&rt, 1, &FIRST);
+    lives(&rt, 2, &RELAYS);
 }
 
-/// Node 2 takes that message, and crashes before it is durable.
-const LOSES: [Step; 3] = [Asks(TAKE, 1), Returns(0, No::Early), Forfeits(0)];
-
-/// It takes the message again, and credits it once that is durable.
-const TAKES: [Step; 4] = [
-    Has(0, 0, 0),
+/// Node 2 takes that message, and crashes before it is durable. It takes the message again, and credits it once that is
+/// durable.
+static TAKES_AGAIN: [Step; 8] = [
+    Asks(TAKE, 1),
+    Returns(0, No::Early),
+    Forfeits(0),
+    Stops(Tear::Old),
+    Has(1, 0, 0, 0),
     Asks(TAKE, 1),
     Flushes(1, &[SENT, Credit(1)], &[]),
     Redeems(0, Say::Taken),
@@ -50,8 +52,8 @@ const TAKES: [Step; 4] = [
 
 #[test]
 fn credit_after_sync(rt: HostRuntime) {
-    outlives(&rt, 2, &LOSES, Tear::Old, &TAKES);
-    lives(&rt, created(&rt, 1, 3), &FIRST);
+    lives(&rt, 2, &TAKES_AGAIN);
+    lives(&rt, 1, &FIRST);
 }
 
 /// The node is asked to stand for each term from 1 to 65.
@@ -75,15 +77,20 @@ fn have_stood(rt: &impl Abort, rig: &mut Rig, count: usize) {
     }
 }
 
+/// The last of the 65 Stands.
+static LAST: [Step; 3] = [
+    Flushes(1, &[Carry(64, Note::Token("red", 65, 1, 1))], &[]),
+    Redeems(0, Say::Stood),
+    Has(1, 0, 65, 65),
+];
+
 #[test]
 fn batches_of_64(rt: HostRuntime) {
-    let mut rig = Rig::new(rt.alloc(), created(&rt, 1, 2));
+    let mut rig = Rig::of(&rt, created(&rt, 1, 2), 1);
     stands_for_65(&rt, &mut rig);
     all_wait(&rt, &mut rig, 65);
-    flushes(&rt, &mut rig.made, 64);
+    rig.lands(&rt, 64);
     rig.returns(&rt, 64, No::Early);
     have_stood(&rt, &mut rig, 64);
-    flushes(&rt, &mut rig.made, 1);
-    have_stood(&rt, &mut rig, 1);
-    assert_eq!(rt; counts(&rig.end(&rt)), (65, 65));
+    rig.plays(&rt, &LAST);
 }

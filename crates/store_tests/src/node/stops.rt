@@ -1,5 +1,5 @@
 // A stop within a flush, and what the node remembers.
-use super::Step::{Arms, Asks, Fails, Flushes, Forfeits, Has, IsOpen, Redeems, Returns};
+use super::Step::{Arms, Asks, Fails, Flushes, Forfeits, Has, IsOpen, Redeems, Returns, Stops};
 use super::*;
 use test_rows::Sends::Credit;
 
@@ -14,12 +14,14 @@ fn stops_at<R: Abort + AllocGlobal>(rt: &R, passed: u64, tear: Tear, behind: &[S
         Fails(No::Failed),
         Returns(0, No::Failed),
         Forfeits(0),
+        Stops(tear),
     ];
-    outlives(rt, 1, &before, tear, behind);
+    let rig = Rig::of(rt, created(rt, 1, 3), 1);
+    rig.goes_through(rt, &before).plays(rt, behind);
 }
 
-const KEPT: [Step; 3] = [
-    Has(0, 1, 1),
+static KEPT: [Step; 3] = [
+    Has(1, 0, 1, 1),
     Asks(STAND, 1),
     Redeems(0, Say::Refused(Cause::Already(10))),
 ];
@@ -29,8 +31,8 @@ fn stopped_at_the_gate(rt: HostRuntime) {
     stops_at(&rt, 2, Tear::Fill(1), &KEPT);
 }
 
-const LOST: [Step; 5] = [
-    Has(0, 0, 0),
+static LOST: [Step; 5] = [
+    Has(1, 0, 0, 0),
     Asks(STAND, 1),
     Returns(0, No::Early),
     Flushes(1, &[SENT], &[]),
@@ -44,14 +46,12 @@ fn stopped_before_the_gate(rt: HostRuntime) {
     }
 }
 
-const RELAYS: [Step; 3] = [
+static RELAYS: [Step; 9] = [
     Asks(Ask::Take(0, TOKEN), 1),
     Flushes(1, &[SENT, Credit(1)], &[]),
     Redeems(0, Say::Taken),
-];
-
-const REMEMBERS: [Step; 5] = [
-    Has(0, 1, 1),
+    Stops(Tear::Old),
+    Has(1, 0, 1, 1),
     Asks(Ask::Stand("red", 5, 40), 1),
     Redeems(0, Say::Refused(Cause::Late)),
     Asks(Ask::Take(0, TOKEN), 1),
@@ -60,7 +60,7 @@ const REMEMBERS: [Step; 5] = [
 
 #[test]
 fn a_relay_outlives_a_stop(rt: HostRuntime) {
-    outlives(&rt, 2, &RELAYS, Tear::Old, &REMEMBERS);
+    lives(&rt, 2, &RELAYS);
 }
 
 /// Once closed, the node does not end the ticket, which is not of it and comes back.
@@ -76,20 +76,25 @@ fn holds_no(rt: &impl Abort, made: &mut Stored, ticket: Ticket) -> Ticket {
     }
 }
 
-/// The node, which has a ticket of its own, does not know this one of the opening before.
-fn does_not_know<R: Abort + AllocGlobal>(rt: &R, ticket: Ticket) -> Ticket {
-    let mut again = stopped(rt, created(rt, 1, 3), Tear::New, 1);
-    let here = asks(rt, &mut again, WHO, 0);
-    let ticket = comes_back(rt, &mut again, ticket, Refusal::Foreign);
-    let ticket = holds_no(rt, &mut again, ticket);
-    redeems(rt, &mut again, here, Say::Nobody);
-    ticket
+/// The node does not know the ticket, neither while it is open nor once it is closed.
+fn does_not_know(rt: &impl Abort, made: &mut Stored, ticket: Ticket) -> Ticket {
+    let ticket = comes_back(rt, made, ticket, Refusal::Foreign);
+    holds_no(rt, made, ticket)
 }
+
+/// The next opening has a ticket of its own.
+static NEXT: [Step; 2] = [Stops(Tear::New), Asks(WHO, 0)];
+
+static ENDS: [Step; 1] = [Redeems(0, Say::Nobody)];
 
 #[test]
 fn a_ticket_of_the_opening_before_is_foreign(rt: HostRuntime) {
-    let mut made = created(&rt, 1, 3);
-    let who = asks(&rt, &mut made, WHO, 0);
-    let who = does_not_know(&rt, who);
-    redeems(&rt, &mut made, who, Say::Nobody);
+    let mut made = Rig::of(&rt, created(&rt, 1, 3), 1);
+    let mut again = Rig::of(&rt, created(&rt, 1, 3), 1).goes_through(&rt, &NEXT);
+    made.asks(&rt, WHO, 0);
+    let who = made.takes_out(&rt, 0);
+    let who = does_not_know(&rt, &mut again.made, who);
+    made.keeps(&rt, 0, who);
+    again.plays(&rt, &ENDS);
+    made.plays(&rt, &ENDS);
 }

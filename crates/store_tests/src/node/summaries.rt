@@ -1,10 +1,8 @@
 // Nodes that go on from a summary: over a device whose journal holds a snapshot, and inputs behind it.
-use super::Step::{Asks, Flushes, Has, Redeems, Returns, Window};
+use super::Step::{Asks, Flushes, Has, Redeems, Returns, Stops, Window};
 use super::*;
-use crate::journal::{checkpoints, commits, journal_of};
-use crate::rows::inputs;
+use crate::journal::{checkpoints, commits_all, journal_of};
 use disk_model::Device;
-use gated_journal::Batch;
 use test_rows::Op;
 use test_rows::Sends::{Carry, Credit};
 
@@ -35,9 +33,7 @@ fn summarised<R: Abort + AllocGlobal>(
     let mut journal = journal_of(rt, node(rt, 1));
     checkpoints(rt, &mut journal, snapshot);
     if !ops.is_empty() {
-        let inputs = inputs(rt, rt.alloc(), ops);
-        let batch = Batch::new(rt.alloc(), node(rt, 1), journal.len(), &inputs);
-        commits(rt, &mut journal, batch.expect(rt, "a batch")).into_parts();
+        commits_all(rt, &mut journal, ops).into_parts();
     }
     journal.into_device()
 }
@@ -50,7 +46,7 @@ const ROWS: [Row; 4] = [
         &STOOD,
         &[],
         &[
-            Has(1, 0, 1),
+            Has(2, 1, 0, 1),
             Asks(Ask::Stand("red", 5, 20), 1),
             Redeems(0, Say::Refused(Cause::Already(10))),
         ],
@@ -59,7 +55,7 @@ const ROWS: [Row; 4] = [
         &STOOD,
         &[Op::Take(0, SECOND)],
         &[
-            Has(1, 1, 2),
+            Has(2, 1, 1, 2),
             Asks(Ask::Take(0, SECOND), 2),
             Redeems(0, Say::Refused(Cause::Old(1))),
         ],
@@ -68,7 +64,7 @@ const ROWS: [Row; 4] = [
         &OF_NONE,
         &[],
         &[
-            Has(1000, 0, 1000),
+            Has(2, 1000, 0, 1000),
             Asks(WHO, 1000),
             Redeems(0, Say::Leader(30, 2)),
         ],
@@ -77,42 +73,34 @@ const ROWS: [Row; 4] = [
         &OF_NONE,
         &[Op::Take(7, SECOND)],
         &[
-            Has(1000, 1, 1001),
+            Has(2, 1000, 1, 1001),
             Asks(Ask::Take(9, SECOND), 1001),
             Redeems(0, Say::Refused(Cause::Gap(8))),
         ],
     ),
 ];
 
-/// Node 1, recovered with this snapshot and these inputs behind it, goes on so.
-fn goes_on<R: Abort + AllocGlobal>(rt: &R, snapshot: &[u8], ops: &[Op], steps: &[Step]) -> Stored {
-    let device = summarised(rt, snapshot, ops);
-    lives(rt, recovered(rt, device, 1), steps)
-}
-
 #[test]
 fn goes_on_from_the_summary(rt: HostRuntime) {
     for (snapshot, ops, steps) in ROWS {
-        goes_on(&rt, snapshot, ops, steps);
+        goes_on(&rt, summarised(&rt, snapshot, ops), steps);
     }
 }
 
-const TAKES: [Step; 4] = [
+static TAKES: [Step; 7] = [
     Asks(Ask::Take(1, ANNOUNCED), 3),
     Returns(0, No::Early),
     Flushes(1, &[Carry(2, ANNOUNCED), Credit(2)], &[("red", 5, 30, 2)]),
     Redeems(0, Say::Taken),
-];
-
-const STOPPED: [Step; 2] = [
-    Has(1, 2, 3),
+    Stops(Tear::Old),
+    Has(2, 1, 2, 3),
     Window(&[SENT, Carry(1, SECOND), Carry(2, ANNOUNCED)]),
 ];
 
 #[test]
 fn numbers_go_on_behind_a_summary(rt: HostRuntime) {
-    let made = goes_on(&rt, &STOOD, &[Op::Take(0, SECOND)], &TAKES);
-    lives(&rt, stopped(&rt, made, Tear::Old, 1), &STOPPED);
+    let device = summarised(&rt, &STOOD, &[Op::Take(0, SECOND)]);
+    goes_on(&rt, device, &TAKES);
 }
 
 /// The node is not recovered for this cause.

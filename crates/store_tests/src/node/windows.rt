@@ -11,7 +11,7 @@ const WON: Note = Note::Elected("red", 5, 30, 2);
 
 const LED: [Leads; 1] = [("red", 5, 30, 2)];
 
-const AT_NODE_1: [Step; 14] = [
+static AT_NODE_1: [Step; 14] = [
     Asks(STAND, 1),
     Flushes(1, &[SENT], &[]),
     Redeems(0, Say::Stood),
@@ -28,7 +28,7 @@ const AT_NODE_1: [Step; 14] = [
     Decides(&LED),
 ];
 
-const AT_NODE_2: [Step; 17] = [
+static AT_NODE_2: [Step; 17] = [
     Asks(Ask::Stand("red", 5, 30), 1),
     Flushes(1, &[Carry(0, SECOND)], &[]),
     Redeems(0, Say::Stood),
@@ -48,7 +48,7 @@ const AT_NODE_2: [Step; 17] = [
     Decides(&LED),
 ];
 
-const AT_NODE_3: [Step; 11] = [
+static AT_NODE_3: [Step; 11] = [
     Asks(Ask::Stand("red", 5, 20), 1),
     Flushes(1, &[Carry(0, THIRD)], &[]),
     Redeems(0, Say::Stood),
@@ -64,7 +64,7 @@ const AT_NODE_3: [Step; 11] = [
 
 #[test]
 fn copies_and_windows(rt: HostRuntime) {
-    lives(&rt, created(&rt, 1, 3), &AT_NODE_1);
-    lives(&rt, created(&rt, 2, 3), &AT_NODE_2);
-    lives(&rt, created(&rt, 3, 3), &AT_NODE_3);
+    lives(&rt, 1, &AT_NODE_1);
+    lives(&rt, 2, &AT_NODE_2);
+    lives(&rt, 3, &AT_NODE_3);
 }

@@ -1,16 +1,7 @@
-use Rattle.std.proofs.Common.{◌≡◌, ℕ, Result, Ok, IfOk, sym, subst}
-use Rattle.ring_records.specs.declared.summary.Summary.{Summary}
-use Rattle.ring_records.specs.Snapshot.{IsSound, Spells}
-use Rattle.gated_journal.specs.declared.checkpoint.Checkpoint.{Checkpoint}
+use Rattle.std.proofs.Common.{ℕ, sym, subst}
+use Rattle.ring_records.specs.Snapshot.{IsSound}
 use Rattle.store_tests.proofs.journal.checkpoints.Goals as goal
-
-of_ok : {T E : Type 0} (r : Result T E) (x : T) (P : T → Type 0) → r ≡ Ok x → IfOk r P → P x
-of_ok r x P is holds = subst (λ (q : Result _ _). IfOk q P) is holds
 
 pub checkpoint-requires-clause-sound : goal.checkpoint-requires-clause-sound
 checkpoint-requires-clause-sound g c =
-    let base = c.expect-base.result in
-    let read = of_ok c.read_summary.result base (λ s. Spells 3 c.args.snapshot.now s) c.expect-base.ensures c.read_summary.ensures.found in
-    let same = of_ok c.new-made.result c.expect-checkpoint.result (λ (made : Checkpoint). made.base ≡ base) c.expect-checkpoint.ensures c.new-made.ensures.base in
-    let n : c.args.journal.now.n ≡ 3 = c.requires in
-    subst (λ (s : Summary). IsSound c.args.journal.now.n s) (sym same) (subst (λ (k : ℕ). IsSound k base) (sym n) read.sound)
+    subst (λ (n : ℕ). IsSound n c.checkpoint_of-checkpoint.result.base) (sym c.requires) c.checkpoint_of-checkpoint.ensures
