@@ -1,20 +1,20 @@
 // Calls of hubs that go well, or are refused as they are to be, and what these calls need.
 ghost use Rattle.std.specs.Prelude.{◌≡◌, ◌≤◌};
+ghost use Rattle.ring_records.specs.Snapshot.{IsSound};
+ghost use Rattle.gated_journal.specs.Batch.{base_by};
 ghost use Rattle.gated_journal.specs.Journal.{member_of};
 ghost use Rattle.commit_hub.specs.Pages.{IsWhole};
 
-use crate::rows::{broken_journal, node, request};
+use crate::rows::{No, broken_journal, journal_of, node, request};
 use commit_hub::{Hub, Node, Share, Tie, Whole, Work};
 use disk_model::{Device, MemDevice};
-use gated_journal::{Batch, Journal, Receipt, Spoiled};
-use group_commit::Ticket;
+use gated_journal::{Batch, Checkpoint, Journal, Receipt, Spoiled};
+use group_commit::{Desk, Ticket};
 use ring_records::{Input, Refusal};
 use std::alloc::AllocGlobal;
 use std::process::Abort;
 use std::sync::Wait;
 use test_rows::{Ask, Op};
-
-const STAND: Ask = Ask::Stand("red", 5, 10);
 
 pub fn asks<A: Node, D: Whole, C: Whole, F: Whole, E: Whole, R: Wait + Abort>(
     rt: &R,
@@ -26,24 +26,17 @@ pub fn asks<A: Node, D: Whole, C: Whole, F: Whole, E: Whole, R: Wait + Abort>(
     hub.submit(rt, share, question).expect(rt, "a ticket")
 }
 
-/// The node stands for red 5.
-pub fn submits<A: Node, D: Whole, C: Whole, F: Whole, E: Whole, R: Wait + Abort>(
+/// The request is refused for this cause.
+pub fn refuses<A: Node, D: Whole, C: Whole, F: Whole, E: Whole, R: Wait + Abort>(
     rt: &R,
     hub: &Hub<A, D, C, F, E>,
     share: &mut Share<A>,
-) -> Ticket {
-    asks(rt, hub, share, STAND)
-}
-
-/// No request is taken any more.
-pub fn takes_nothing<A: Node, D: Whole, C: Whole, F: Whole, E: Whole, R: Wait + Abort>(
-    rt: &R,
-    hub: &Hub<A, D, C, F, E>,
-    share: &mut Share<A>,
+    ask: Ask,
+    no: No,
 ) {
-    match hub.submit(rt, share, request(rt, STAND)) {
+    match hub.submit(rt, share, request(rt, ask)) {
         Ok(_ticket) => panic!(rt; "a ticket"),
-        Err(refusal) => assert!(rt; refusal == Refusal::Failed),
+        Err(refusal) => assert!(rt; refusal == no.refusal()),
     }
 }
 
@@ -58,18 +51,46 @@ pub fn redeems<A: Node, D: Whole, C: Whole, F: Whole, E: Whole, R: Wait + Abort>
     }
 }
 
-/// Nothing is launched, for this cause.
+/// The hub has failed: the ticket is refused, and forfeited.
+pub fn fails<A: Node, D: Whole, C: Whole, F: Whole, E: Whole, R: Wait + Abort>(
+    rt: &R,
+    hub: &Hub<A, D, C, F, E>,
+    ticket: Ticket,
+) {
+    match hub.redeem_wait(rt, ticket) {
+        Ok(_) => panic!(rt; "redeemed"),
+        Err((ticket, refusal)) => {
+            assert!(rt; refusal == Refusal::Failed);
+            assert!(rt; hub.forfeit(rt, ticket).is_ok());
+        }
+    }
+}
+
+/// The ticket is no open one of the hub, or the hub takes requests.
+pub fn forfeits<A: Node, D: Whole, C: Whole, F: Whole, E: Whole, R: Wait + Abort>(
+    rt: &R,
+    hub: &Hub<A, D, C, F, E>,
+    ticket: Ticket,
+) {
+    assert!(rt; hub.forfeit(rt, ticket) == Err(Refusal::Foreign));
+}
+
+/// Nothing is launched, for this cause; where there is none, since nothing waits.
 pub fn launches_none<A: Node, D: Whole, C: Whole, F: Whole, E: Whole, R: Wait + Abort>(
     rt: &R,
     hub: &Hub<A, D, C, F, E>,
     tie: &mut Tie<A, D, C, F, E>,
-    cause: Refusal,
+    no: Option<No>,
 )
     requires { IsWhole D.all D.parts × IsWhole C.all C.parts × IsWhole F.all F.parts × IsWhole E.all E.parts }
 {
     match hub.launch(rt, tie) {
-        Ok(_some) => panic!(rt; "work, or none"),
-        Err(refusal) => assert!(rt; refusal == cause),
+        Ok(Some(_work)) => panic!(rt; "work"),
+        Ok(None) => assert!(rt; no.is_none()),
+        Err(refusal) => match no {
+            Some(no) => assert!(rt; refusal == no.refusal()),
+            None => panic!(rt; "{refusal}"),
+        },
     }
 }
 
@@ -112,19 +133,8 @@ pub fn commits<R: Abort>(rt: &R, journal: &mut Journal<MemDevice>, batch: Batch)
     }
 }
 
-pub fn lands<A: Node, D: Whole, C: Whole, F: Whole, E: Whole, R: Wait + Abort>(
-    rt: &R,
-    hub: &Hub<A, D, C, F, E>,
-    tie: &mut Tie<A, D, C, F, E>,
-    receipt: Receipt,
-)
-    requires { IsWhole D.all D.parts × IsWhole C.all C.parts × IsWhole F.all F.parts × IsWhole E.all E.parts }
-{
-    lands_all(rt, hub, tie, receipt, 1);
-}
-
 /// So many inputs land.
-pub fn lands_all<A: Node, D: Whole, C: Whole, F: Whole, E: Whole, R: Wait + Abort>(
+pub fn lands<A: Node, D: Whole, C: Whole, F: Whole, E: Whole, R: Wait + Abort>(
     rt: &R,
     hub: &Hub<A, D, C, F, E>,
     tie: &mut Tie<A, D, C, F, E>,
@@ -139,19 +149,61 @@ pub fn lands_all<A: Node, D: Whole, C: Whole, F: Whole, E: Whole, R: Wait + Abor
     }
 }
 
-/// The one input that waits becomes durable.
-pub fn flushes<A: Node, D: Whole, C: Whole, F: Whole, E: Whole, R: Wait + Abort>(
+/// The checkpoint that is due. The node is one of a ring of 3.
+pub fn launches_all<A: Node, D: Whole, C: Whole, F: Whole, E: Whole, R: Wait + Abort>(
     rt: &R,
     hub: &Hub<A, D, C, F, E>,
     tie: &mut Tie<A, D, C, F, E>,
-    journal: &mut Journal<MemDevice>,
-)
-    requires { IsWhole D.all D.parts × IsWhole C.all C.parts × IsWhole F.all F.parts × IsWhole E.all E.parts }
+) -> Checkpoint
+    requires whole { IsWhole D.all D.parts × IsWhole C.all C.parts × IsWhole F.all F.parts × IsWhole E.all E.parts }
+    requires ring { A.member.n ≡ 3 }
+    ensures { IsSound 3 (base_by result) }
+{
+    match hub.launch(rt, tie) {
+        Ok(Some(Work::Checkpoint(made))) => {
+            assert!(rt; made.node().number() <= 3);
+            made
+        }
+        Ok(Some(Work::Batch(_batch))) => panic!(rt; "a batch"),
+        Ok(None) => panic!(rt; "nothing waits"),
+        Err(refusal) => panic!(rt; "{refusal}"),
+    }
+}
+
+/// Makes the checkpoint, which is the journal's next.
+pub fn replaces<R: Abort>(rt: &R, journal: &mut Journal<MemDevice>, made: Checkpoint) -> Receipt
+    requires ring { (member_of journal.old).n ≡ 3 }
+    requires sound { IsSound 3 (base_by made) }
     ensures { member_of journal.new ≡ member_of journal.old }
 {
-    let batch = launches(rt, hub, tie);
-    let receipt = commits(rt, journal, batch);
-    lands(rt, hub, tie, receipt);
+    assert!(rt; !journal.is_spoiled());
+    assert!(rt; made.node() == journal.node());
+    assert!(rt; made.first() == journal.len());
+    assert!(rt; made.cost() <= journal.capacity());
+    assert!(rt; journal.epoch() + 1 < 1 << 40);
+    match journal.checkpoint(made) {
+        Ok(receipt) => receipt,
+        Err(_spoiled) => panic!(rt; "spoiled"),
+    }
+}
+
+pub fn keeps<A: Node, R: Abort>(rt: &R, shares: &mut Vec<Share<A>>, share: Share<A>) {
+    match shares.push(share) {
+        Ok(()) => {}
+        Err(_share) => panic!(rt; "ample memory"),
+    }
+}
+
+/// The desk of the hub, which these shares settle.
+pub fn settled<A: Node, D: Whole, C: Whole, F: Whole, E: Whole, R: Abort>(
+    rt: &R,
+    hub: Hub<A, D, C, F, E>,
+    shares: Vec<Share<A>>,
+) -> Desk {
+    match hub.settle(shares) {
+        Ok(desk) => desk,
+        Err(_) => panic!(rt; "not settled"),
+    }
 }
 
 /// The input of another journal.
@@ -170,5 +222,46 @@ pub fn spoils<R: Abort + AllocGlobal>(rt: &R, batch: Batch) -> Spoiled {
     match commit(rt, &mut broken_journal(rt), batch) {
         Ok(_receipt) => panic!(rt; "committed"),
         Err(spoiled) => spoiled,
+    }
+}
+
+/// The receipt of another journal's batch is refused, and comes back.
+pub fn lands_another<
+    A: Node,
+    D: Whole,
+    C: Whole,
+    F: Whole,
+    E: Whole,
+    R: Wait + Abort + AllocGlobal,
+>(rt: &R, hub: &Hub<A, D, C, F, E>, tie: &mut Tie<A, D, C, F, E>)
+    requires { IsWhole D.all D.parts × IsWhole C.all C.parts × IsWhole F.all F.parts × IsWhole E.all E.parts }
+{
+    let foreign = commits(rt, &mut journal_of(rt), other_batch(rt));
+    match hub.land(rt, tie, foreign) {
+        Ok(_landed) => panic!(rt; "landed"),
+        Err((receipt, refusal)) => {
+            assert!(rt; refusal == Refusal::Foreign);
+            assert!(rt; receipt.inputs() == [other_input(rt)].as_slice());
+            receipt.into_parts();
+        }
+    }
+}
+
+/// The spoiled batch of another journal is refused, and comes back.
+pub fn spoils_another<
+    A: Node,
+    D: Whole,
+    C: Whole,
+    F: Whole,
+    E: Whole,
+    R: Wait + Abort + AllocGlobal,
+>(rt: &R, hub: &Hub<A, D, C, F, E>, tie: &mut Tie<A, D, C, F, E>) {
+    match hub.fail(rt, tie, spoils(rt, other_batch(rt))) {
+        Ok(()) => panic!(rt; "failed"),
+        Err((spoiled, refusal)) => {
+            assert!(rt; refusal == Refusal::Foreign);
+            assert!(rt; spoiled.inputs() == [other_input(rt)].as_slice());
+            spoiled.into_parts();
+        }
     }
 }

@@ -8,6 +8,6 @@ mod calls;
 #[cfg(test)]
 mod ends;
 #[cfg(test)]
-mod renewals;
-#[cfg(test)]
 mod rows;
+#[cfg(test)]
+mod station;

@@ -7,7 +7,7 @@ use disk_model::{FuseDevice, MemDevice};
 use gated_journal::{Journal, Opening, device_size};
 use group_commit::Desk;
 use ring_records::laws::summary_sound;
-use ring_records::{NodeNo, Request, read_summary};
+use ring_records::{NodeNo, Refusal, Request, read_summary};
 use std::alloc::AllocGlobal;
 use std::process::Abort;
 use test_rows::Ask;
@@ -18,6 +18,24 @@ pub fn node(rt: &impl Abort, number: u8) -> NodeNo {
 
 pub fn request(rt: &impl Abort, ask: Ask) -> Request {
     ask.request().expect(rt, "a request")
+}
+
+/// Why a hub refuses a call.
+#[derive(Clone, Copy)]
+pub enum No {
+    BadNumber,
+    Failed,
+    Busy,
+}
+
+impl No {
+    pub fn refusal(self) -> Refusal {
+        match self {
+            No::BadNumber => Refusal::BadNumber,
+            No::Failed => Refusal::Failed,
+            No::Busy => Refusal::Busy,
+        }
+    }
 }
 
 /// What a new journal holds: no inputs.
@@ -65,7 +83,8 @@ pub fn desk_behind<R: Abort + AllocGlobal>(rt: &R) -> Desk
 
 /// A device that holds nothing, with room for a journal of capacity 4,096.
 pub fn empty_device<R: Abort + AllocGlobal>(rt: &R) -> MemDevice {
-    MemDevice::new(rt.alloc(), device_size(4096) as usize).expect(rt, "ample memory")
+    let size = usize::try_from(device_size(4096)).expect(rt, "a size");
+    MemDevice::new(rt.alloc(), size).expect(rt, "ample memory")
 }
 
 /// A new journal of node 1 of 3, capacity 4,096.

@@ -1,17 +1,17 @@
 // Calls of hubs and flushers that go well, or are refused as they are to be.
 ghost use Rattle.commit_hub.specs.Pages.{IsWhole};
 
-use crate::rows::{Latest, group, request};
+use crate::rows::request;
 use commit_hub::{Hub, Node, Share, Whole};
-use decision_board::{BoardReader, Naming};
+use decision_board::Naming;
 use disk_model::Device;
-use group_commit::Ticket;
+use group_commit::{Stub, Ticket};
 use ring_records::Refusal;
 use ring_service::{Flusher, Gate};
 use std::process::Abort;
 use std::sync::Wait;
 use std::sync::atomic::{AtomicBool, Ordering};
-use test_rows::{Ask, Note};
+use test_rows::Ask;
 
 /// Flushes until the hub is closed, which is told before, and nothing waits, or the device fails. Where a growth is
 /// refused it goes on.
@@ -47,11 +47,6 @@ pub fn flush_all<
     }
 }
 
-/// The message of number `no`, by which node 2 leads the group with bid 30.
-pub fn elected(no: u64, group: &'static str, term: u32) -> Ask {
-    Ask::Take(no, Note::Elected(group, term, 30, 2))
-}
-
 /// Keeps what it was told last.
 #[derive(Drop)]
 pub struct Noted {
@@ -85,14 +80,21 @@ pub fn submits<A: Node, D: Whole, C: Whole, F: Whole, E: Whole, R: Wait + Abort>
     }
 }
 
-pub fn redeems<A: Node, D: Whole, C: Whole, F: Whole, E: Whole, R: Wait + Abort>(
+/// The stub of the ticket's reply. A ticket that is refused is forfeited.
+pub fn released<A: Node, D: Whole, C: Whole, F: Whole, E: Whole, R: Wait + Abort>(
     rt: &R,
     hub: &Hub<A, D, C, F, E>,
     ticket: Ticket,
-) {
+) -> Result<Stub, Refusal> {
     match hub.redeem_wait(rt, ticket) {
-        Ok((reply, stub)) => assert!(rt; stub.reply() == reply),
-        Err((_ticket, refusal)) => panic!(rt; "{refusal}"),
+        Ok((reply, stub)) => {
+            assert!(rt; stub.reply() == reply);
+            Ok(stub)
+        }
+        Err((ticket, refusal)) => {
+            assert!(rt; hub.forfeit(rt, ticket).is_ok());
+            Err(refusal)
+        }
     }
 }
 
@@ -148,11 +150,11 @@ pub fn leads<
 {
     let ticket = submits(rt, hub, share, ask);
     assert!(rt; rounds(rt, hub, flusher, &mut ()) == (1, 1));
-    redeems(rt, hub, ticket);
+    assert!(rt; released(rt, hub, ticket).is_ok());
 }
 
-/// The device fails within the round that makes the ticket's input durable: no leader is known by it, the flusher has
-/// ended, and the ticket is given back with no reply.
+/// The device fails within the round that makes the ticket's input durable: the flusher has ended, and the ticket is given
+/// back with no reply.
 pub fn fails_next<
     V: Device,
     J: Naming,
@@ -162,13 +164,7 @@ pub fn fails_next<
     F: Whole,
     E: Whole,
     R: Wait + Abort,
->(
-    rt: &R,
-    hub: &Hub<A, D, C, F, E>,
-    flusher: &mut Flusher<V, J, A, D, C, F, E>,
-    reader: &mut BoardReader<J>,
-    ticket: Ticket,
-)
+>(rt: &R, hub: &Hub<A, D, C, F, E>, flusher: &mut Flusher<V, J, A, D, C, F, E>, ticket: Ticket)
     requires { IsWhole D.all D.parts × IsWhole C.all C.parts × IsWhole F.all F.parts × IsWhole E.all E.parts }
 {
     assert!(rt;
@@ -178,16 +174,5 @@ pub fn fails_next<
         )
     );
     assert!(rt; matches!(flusher.flush_round(rt, hub, &mut ()), Err(Refusal::Failed)));
-    assert!(rt; reads(rt, reader, "red") == Ok(None));
-    match hub.redeem_wait(rt, ticket) {
-        Ok(_) => panic!(rt; "redeemed"),
-        Err((ticket, refusal)) => {
-            assert!(rt; refusal == Refusal::Failed);
-            assert!(rt; hub.forfeit(rt, ticket).is_ok());
-        }
-    }
-}
-
-pub fn reads<J: Naming>(rt: &impl Abort, reader: &mut BoardReader<J>, name: &str) -> Latest {
-    reader.latest(&group(rt, name))
+    assert!(rt; matches!(released(rt, hub, ticket), Err(Refusal::Failed)));
 }

@@ -1,4 +1,4 @@
-//! The tests of rounds: by calls, and with appenders and readers beside a flusher, in threads of their own.
+//! The tests of rounds: by calls, and with clients beside a flusher, in threads of their own.
 #![tactic(auto)]
 
 #[cfg(test)]
@@ -6,9 +6,11 @@ mod appenders;
 #[cfg(test)]
 mod calls;
 #[cfg(test)]
-mod checkpoints;
+mod clients;
 #[cfg(test)]
 mod held;
+#[cfg(test)]
+mod hubs;
 #[cfg(test)]
 mod rounds;
 #[cfg(test)]
@@ -19,3 +21,7 @@ mod services;
 mod settings;
 #[cfg(test)]
 mod slow;
+#[cfg(test)]
+mod station;
+#[cfg(test)]
+mod together;

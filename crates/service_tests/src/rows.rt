@@ -1,16 +1,9 @@
 // What nodes are given and give. All numbers and names of rows are in their ranges.
-ghost use Rattle.std.specs.Prelude.{◌≡◌, ◌+◌, ◌-◌, false, None};
-ghost use Rattle.ring_records.specs.Admission.{used};
-ghost use Rattle.ring_records.specs.States.{durable_in};
-ghost use Rattle.gated_journal.specs.Journal.{member_of, len_of, room_of, epoch_of, is_spoiled};
-ghost use Rattle.node_core.specs.Core.{IsNodeOf};
-
 use disk_model::{Device, MemDevice};
-use gated_journal::{Journal, device_size};
-use group_commit::Desk;
+use gated_journal::device_size;
 use node_store::Node;
 use ring_records::{Bid, Candidate, GroupName, Key, NodeNo, Refusal, Reply, Request, Term};
-use std::alloc::AllocGlobal;
+use std::alloc::{AllocError, AllocGlobal};
 use std::process::Abort;
 use test_rows::{Ask, Note, Say};
 
@@ -47,32 +40,30 @@ pub fn leader(rt: &impl Abort, bid: u32, node: u8) -> Result<Option<Candidate>, 
 /// What a read of the latest leader answers.
 pub type Latest = Result<Option<(Term, Candidate)>, Refusal>;
 
-/// What a read answers where this node leads the group with the bid in this term, its latest with a leader.
-pub fn latest(rt: &impl Abort, term: u32, bid: u32, node: u8) -> Latest {
-    let term = Term::new(term).expect(rt, "a term");
-    let leader = test_rows::candidate(bid, node).expect(rt, "a candidate");
-    Ok(Some((term, leader)))
+/// The term, the bid and the node of a leader.
+pub type Leads = (u32, u32, u8);
+
+/// What a read of the latest leader answers where this one leads, or none.
+pub fn latest(rt: &impl Abort, leads: Option<Leads>) -> Latest {
+    match leads {
+        None => Ok(None),
+        Some((term, bid, node)) => {
+            let term = Term::new(term).expect(rt, "a term");
+            let leader = test_rows::candidate(bid, node).expect(rt, "a candidate");
+            Ok(Some((term, leader)))
+        }
+    }
+}
+
+/// A device that holds nothing, with room for a journal of this capacity.
+pub fn device_for<R: Abort + AllocGlobal>(rt: &R, capacity: u32) -> Result<MemDevice, AllocError> {
+    let size = usize::try_from(device_size(capacity)).expect(rt, "a size");
+    MemDevice::new(rt.alloc(), size)
 }
 
 /// A device that holds nothing, with room for a journal of capacity 8,192.
 pub fn empty_device<R: Abort + AllocGlobal>(rt: &R) -> MemDevice {
-    MemDevice::new(rt.alloc(), device_size(8192) as usize).expect(rt, "ample memory")
-}
-
-/// The desk and the journal of node 1 of 3, capacity 4,096, with no inputs, on this device.
-pub fn new_node<V: Device + Drop, R: Abort + AllocGlobal>(rt: &R, device: V) -> (Desk, Journal<V>)
-    ensures ready { is_spoiled result.1 ≡ false }
-    ensures member { member_of result.1 ≡ result.0.view.member }
-    ensures none { result.0.view.state.checkpoint ≡ None }
-    ensures inside { IsNodeOf result.0.view.member.n result.0.view.member.node }
-    ensures len { len_of result.1 ≡ result.0.opening.inputs + result.0.view.state.durable }
-    ensures room { room_of result.1 ≡ result.0.view.member.capacity - used result.0.view.state.base (durable_in result.0.view.state) }
-    ensures epoch { epoch_of result.1 ≡ result.0.view.state.base.epoch }
-{
-    match Node::create(rt.alloc(), device, node(rt, 1), 3, 4096, 0) {
-        Ok(made) => made.split(),
-        Err((_device, refusal)) => panic!(rt; "{refusal}"),
-    }
+    device_for(rt, 8192).expect(rt, "ample memory")
 }
 
 /// The message of number `no` that a node drops which stood for red 5 with bid 10. It takes 29 bytes of the capacity.

@@ -1,118 +1,120 @@
 // Settings and words, well told and badly.
-use ring_service::{Setting, StartFault, read_settings, read_words};
+use ring_service::{Setting, StartFault, Words, read_settings, read_words};
+use std::alloc::AllocGlobal;
 use std::process::Abort;
 use std::test::*;
 
-/// The settings of this text are refused so.
-fn refused(rt: &(impl Abort + std::alloc::AllocGlobal), text: &str, why: StartFault) {
-    match read_settings(rt.alloc(), text) {
-        Ok(_) => panic!(rt; "read"),
-        Err(fault) => assert_eq!(rt; fault, why),
-    }
-}
+/// Texts that are read: the nodes, the port, the capacity and the folder that they tell.
+const READ: [(&str, (u8, u16, u32), &str); 2] = [
+    (
+        "nodes = 3\ndir = \"state\"\nport = 7101\n",
+        (3, 7101, 65_536),
+        "state",
+    ),
+    (
+        "capacity = 1048576\nport = 65520\ndir = \"/a\"\nnodes = 16\n",
+        (16, 65_520, 1_048_576),
+        "/a",
+    ),
+];
 
 #[test]
 fn settings(rt: HostRuntime) -> Result<(), Fail> {
-    let read = read_settings(rt.alloc(), "nodes = 3\ndir = \"state\"\nport = 7101\n")?;
-    assert_eq!(rt; (read.nodes, read.port, read.capacity), (3, 7101, 65_536));
-    assert_eq!(rt; read.dir.as_str(), "state");
-    let read = read_settings(
-        rt.alloc(),
-        "capacity = 1048576\nport = 65520\ndir = \"/a\"\nnodes = 16\n",
-    )?;
-    assert_eq!(rt;
-        (read.nodes, read.port, read.capacity),
-        (16, 65_520, 1_048_576)
-    );
+    for (text, numbers, dir) in READ {
+        let read = read_settings(rt.alloc(), text)?;
+        assert_eq!(rt; (read.nodes, read.port, read.capacity), numbers);
+        assert_eq!(rt; read.dir.as_str(), dir);
+    }
     Ok(())
 }
 
-#[test]
-fn refused_settings(rt: HostRuntime) {
-    refused(&rt, "nodes = ", StartFault::Toml);
-    refused(&rt, "", StartFault::Missing(Setting::Nodes));
-    refused(&rt, "dir = 1", StartFault::Missing(Setting::Nodes));
-    refused(&rt, "nodes = 1\ndir = 1", StartFault::Wrong(Setting::Nodes));
-    refused(&rt, "nodes = 0", StartFault::Wrong(Setting::Nodes));
-    refused(&rt, "nodes = 17", StartFault::Wrong(Setting::Nodes));
-    refused(&rt, "nodes = -1", StartFault::Wrong(Setting::Nodes));
-    refused(&rt, "nodes = 1.5", StartFault::Wrong(Setting::Nodes));
-    refused(&rt, "nodes = \"3\"", StartFault::Wrong(Setting::Nodes));
-    refused(
-        &rt,
-        "nodes = 3\nport = 0",
-        StartFault::Missing(Setting::Dir),
-    );
-    refused(&rt, "nodes = 3\ndir = 3", StartFault::Wrong(Setting::Dir));
-    refused(
-        &rt,
-        "nodes = 3\ndir = \"\"",
-        StartFault::Wrong(Setting::Dir),
-    );
-    refused(
-        &rt,
-        "nodes = 3\ndir = \"a b\"",
-        StartFault::Wrong(Setting::Dir),
-    );
-    refused(
-        &rt,
+/// Texts that are refused, and why.
+const REFUSED: [(&str, StartFault); 19] = [
+    ("nodes = ", StartFault::Toml),
+    ("", StartFault::Missing(Setting::Nodes)),
+    ("dir = 1", StartFault::Missing(Setting::Nodes)),
+    ("nodes = 1\ndir = 1", StartFault::Wrong(Setting::Nodes)),
+    ("nodes = 0", StartFault::Wrong(Setting::Nodes)),
+    ("nodes = 17", StartFault::Wrong(Setting::Nodes)),
+    ("nodes = -1", StartFault::Wrong(Setting::Nodes)),
+    ("nodes = 1.5", StartFault::Wrong(Setting::Nodes)),
+    ("nodes = \"3\"", StartFault::Wrong(Setting::Nodes)),
+    ("nodes = 3\nport = 0", StartFault::Missing(Setting::Dir)),
+    ("nodes = 3\ndir = 3", StartFault::Wrong(Setting::Dir)),
+    ("nodes = 3\ndir = \"\"", StartFault::Wrong(Setting::Dir)),
+    ("nodes = 3\ndir = \"a b\"", StartFault::Wrong(Setting::Dir)),
+    (
         "nodes = 3\ndir = \"\u{e9}\"",
         StartFault::Wrong(Setting::Dir),
-    );
-    refused(
-        &rt,
+    ),
+    (
         "nodes = 3\ndir = \"a\"\nx = 1",
         StartFault::Missing(Setting::Port),
-    );
-    refused(
-        &rt,
+    ),
+    (
         "nodes = 3\ndir = \"a\"\nport = 0",
         StartFault::Wrong(Setting::Port),
-    );
-    refused(
-        &rt,
+    ),
+    (
         "nodes = 3\ndir = \"a\"\nport = 65534",
         StartFault::Wrong(Setting::Port),
-    );
-    refused(
-        &rt,
+    ),
+    (
         "nodes = 3\ndir = \"a\"\nport = 1\ncapacity = 4095\nx = 1",
         StartFault::Wrong(Setting::Capacity),
-    );
-    refused(
-        &rt,
+    ),
+    (
         "nodes = 3\ndir = \"a\"\nport = 1\nx = 1",
         StartFault::Unknown,
-    );
+    ),
+];
+
+#[test]
+fn refused_settings(rt: HostRuntime) {
+    for (text, why) in REFUSED {
+        match read_settings(rt.alloc(), text) {
+            Ok(_) => panic!(rt; "read: {text}"),
+            Err(fault) => assert_eq!(rt; fault, why, "{text}"),
+        }
+    }
 }
 
 #[test]
 fn texts(rt: HostRuntime) -> Result<(), Fail> {
-    let missing = StartFault::Missing(Setting::Dir).to_string(rt.alloc())?;
-    assert_eq!(rt; missing.as_str(), "setting dir is missing");
-    let wrong = StartFault::Wrong(Setting::Nodes).to_string(rt.alloc())?;
-    assert_eq!(rt; wrong.as_str(), "setting nodes is wrong");
-    let unknown = StartFault::Unknown.to_string(rt.alloc())?;
-    assert_eq!(rt; unknown.as_str(), "a setting is unknown");
+    for (fault, text) in [
+        (StartFault::Missing(Setting::Dir), "setting dir is missing"),
+        (StartFault::Wrong(Setting::Nodes), "setting nodes is wrong"),
+        (StartFault::Unknown, "a setting is unknown"),
+    ] {
+        assert_eq!(rt; fault.to_string(rt.alloc())?.as_str(), text);
+    }
     Ok(())
 }
 
-#[test]
-fn words(rt: HostRuntime) {
-    match read_words(rt.alloc(), &["ringd"]) {
-        Ok(words) => {
-            assert!(rt; words.settings == "-" && words.serve == None && !words.always);
-            assert!(rt; !words.existing && !words.fail_stop);
-            assert_eq!(rt; (words.doors, words.idle, words.status), (1, 0, None));
-        }
-        Err(_) => panic!(rt; "refused"),
-    }
-    match read_words(rt.alloc(), &["ringd", "--serve", "7", "--settings=x"]) {
-        Ok(words) => assert!(rt; words.settings == "x" && words.serve == Some(7)),
-        Err(_) => panic!(rt; "refused"),
-    }
-    match read_words(
-        rt.alloc(),
+/// What no word but the program's name asks.
+const ALONE: Words<'static> = Words {
+    settings: "-",
+    serve: None,
+    always: false,
+    existing: false,
+    fail_stop: false,
+    doors: 1,
+    idle: 0,
+    status: None,
+};
+
+/// Words that are taken, and what they ask.
+const TAKEN: [(&[&str], Words<'static>); 5] = [
+    (&["ringd"], ALONE),
+    (
+        &["ringd", "--serve", "7", "--settings=x"],
+        Words {
+            settings: "x",
+            serve: Some(7),
+            ..ALONE
+        },
+    ),
+    (
         &[
             "ringd",
             "--always",
@@ -121,56 +123,72 @@ fn words(rt: HostRuntime) {
             "--idle",
             "86400",
         ],
-    ) {
-        Ok(words) => {
-            assert!(rt; words.always && words.serve == None && words.existing && !words.fail_stop);
-            assert_eq!(rt; (words.doors, words.idle), (32, 86_400));
-        }
-        Err(_) => panic!(rt; "refused"),
-    }
-    match read_words(rt.alloc(), &["ringd", "--fail-stop", "--serve=1000"]) {
-        Ok(words) => {
-            assert!(rt; words.fail_stop && !words.existing && words.serve == Some(1000));
-        }
-        Err(_) => panic!(rt; "refused"),
-    }
-    match read_words(rt.alloc(), &["ringd", "--status", "65535", "--doors=31"]) {
-        Ok(words) => assert_eq!(rt; (words.doors, words.status), (31, Some(65_535))),
-        Err(_) => panic!(rt; "refused"),
-    }
-    for bad in [
-        "--serve=0",
-        "--serve=1001",
-        "--serve=5000",
-        "--existing=1",
-        "--fail-stop=no",
-        "--doors=0",
-        "--doors=33",
-        "--idle=-1",
-        "--idle=86401",
-        "--status=0",
-        "--status=65536",
-        "--always=1",
-        "--other",
-        "x",
-    ] {
-        match read_words(rt.alloc(), &["ringd", bad]) {
-            Ok(_) => panic!(rt; "taken"),
-            Err(error) => assert!(rt; error.exit_code() == 2 && error.use_stderr()),
-        }
-    }
-    match read_words(rt.alloc(), &["ringd", "--always", "--serve=1"]) {
+        Words {
+            always: true,
+            existing: true,
+            doors: 32,
+            idle: 86_400,
+            ..ALONE
+        },
+    ),
+    (
+        &["ringd", "--fail-stop", "--serve=1000"],
+        Words {
+            fail_stop: true,
+            serve: Some(1000),
+            ..ALONE
+        },
+    ),
+    (
+        &["ringd", "--status", "65535", "--doors=31"],
+        Words {
+            doors: 31,
+            status: Some(65_535),
+            ..ALONE
+        },
+    ),
+];
+
+/// Words that are wrong.
+const WRONG: [&[&str]; 16] = [
+    &["ringd", "--serve=0"],
+    &["ringd", "--serve=1001"],
+    &["ringd", "--serve=5000"],
+    &["ringd", "--existing=1"],
+    &["ringd", "--fail-stop=no"],
+    &["ringd", "--doors=0"],
+    &["ringd", "--doors=33"],
+    &["ringd", "--idle=-1"],
+    &["ringd", "--idle=86401"],
+    &["ringd", "--status=0"],
+    &["ringd", "--status=65536"],
+    &["ringd", "--always=1"],
+    &["ringd", "--other"],
+    &["ringd", "x"],
+    &["ringd", "--always", "--serve=1"],
+    &["ringd", "--status=1", "--doors=32"],
+];
+
+/// The words are refused with this status, and a text for standard error or for standard output.
+fn refuses<R: Abort + AllocGlobal>(rt: &R, words: &[&str], status: i32, is_error: bool) {
+    match read_words(rt.alloc(), words) {
         Ok(_) => panic!(rt; "taken"),
-        Err(error) => assert!(rt; error.exit_code() == 2 && error.use_stderr()),
+        Err(error) => assert!(rt; error.exit_code() == status && error.use_stderr() == is_error),
     }
-    match read_words(rt.alloc(), &["ringd", "--status=1", "--doors=32"]) {
-        Ok(_) => panic!(rt; "taken"),
-        Err(error) => assert!(rt; error.exit_code() == 2 && error.use_stderr()),
+}
+
+#[test]
+fn words(rt: HostRuntime) {
+    for (words, asked) in TAKEN {
+        match read_words(rt.alloc(), words) {
+            Ok(read) => assert_eq!(rt; read, asked),
+            Err(_) => panic!(rt; "refused"),
+        }
+    }
+    for words in WRONG {
+        refuses(&rt, words, 2, true);
     }
     for asks in ["--help", "--version"] {
-        match read_words(rt.alloc(), &["ringd", asks]) {
-            Ok(_) => panic!(rt; "taken"),
-            Err(error) => assert!(rt; error.exit_code() == 0 && !error.use_stderr()),
-        }
+        refuses(&rt, &["ringd", asks], 0, false);
     }
 }

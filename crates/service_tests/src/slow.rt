@@ -1,20 +1,21 @@
-// A device one of whose syncs lasts until a test has done something else.
+// A sync of a device, and a round of a flusher, that last until a test has done something else.
 ghost use Rattle.std.specs.Prelude.{◌≡◌};
 
 use disk_model::{Device, DeviceFault};
+use ring_service::Gate;
 use std::sync::atomic::{AtomicBool, Ordering};
 use std::time::{Clock, Duration};
 
-/// What a test and its device tell each other.
+/// What a test and what is held tell each other.
 #[derive(Drop)]
 pub struct Flags {
-    /// The next sync is to last.
+    /// The next sync is to be held.
     pub armed: AtomicBool,
-    /// It has begun.
-    pub syncing: AtomicBool,
-    /// It may end.
-    pub accepted: AtomicBool,
-    /// It ended before it was told to.
+    /// A sync or a round is held.
+    pub held: AtomicBool,
+    /// It may go on.
+    pub freed: AtomicBool,
+    /// It went on before it was told to.
     pub late: AtomicBool,
     /// The hub is being closed.
     pub closing: AtomicBool,
@@ -24,10 +25,18 @@ impl Flags {
     pub fn new() -> Flags {
         Flags {
             armed: AtomicBool::new(false),
-            syncing: AtomicBool::new(false),
-            accepted: AtomicBool::new(false),
+            held: AtomicBool::new(false),
+            freed: AtomicBool::new(false),
             late: AtomicBool::new(false),
             closing: AtomicBool::new(false),
+        }
+    }
+
+    /// Tells that the caller is held, and waits until it may go on.
+    fn hold<R: Clock>(&self, rt: &R) {
+        self.held.store(true, Ordering::SeqCst);
+        if !await_flag(rt, &self.freed) {
+            self.late.store(true, Ordering::SeqCst);
         }
     }
 }
@@ -43,7 +52,7 @@ pub fn await_flag<R: Clock>(rt: &R, flag: &AtomicBool) -> bool {
     false
 }
 
-/// Passes all calls on. The first sync once it is armed lasts until it is told that an input was accepted.
+/// Passes all calls on. The first sync once it is armed is held.
 #[derive(Drop)]
 pub struct SlowDevice<'a, R: Clock, D: Device> {
     pub rt: &'a R,
@@ -86,11 +95,23 @@ impl<R: Clock, D: Device> Device for SlowDevice<'_, R, D> {
 
     fn sync(&mut self) -> Result<(), DeviceFault> {
         if self.flags.armed.swap(false, Ordering::SeqCst) {
-            self.flags.syncing.store(true, Ordering::SeqCst);
-            if !await_flag(self.rt, &self.flags.accepted) {
-                self.flags.late.store(true, Ordering::SeqCst);
-            }
+            self.flags.hold(self.rt);
         }
         self.inner.sync()
+    }
+}
+
+/// Holds each round but the first.
+#[derive(Drop)]
+pub struct HeldGate<'a, R: Clock> {
+    pub rt: &'a R,
+    pub flags: &'a Flags,
+}
+
+impl<R: Clock> Gate for HeldGate<'_, R> {
+    fn before_commit(&mut self, first: u64, _count: usize) {
+        if first > 0 {
+            self.flags.hold(self.rt);
+        }
     }
 }

@@ -1,0 +1,149 @@
+// The clients of a hub: each with a share of it and a reader of its board.
+use crate::calls::{released, submits};
+use crate::rows::{Leads, bid, group, key, latest, leader, reply};
+use crate::slow::{Flags, await_flag};
+use commit_hub::{Hub, Node, Share, Whole};
+use decision_board::{Board, BoardReader, Naming};
+use group_commit::Stub;
+use ring_records::Refusal;
+use ring_service::HubService;
+use sessions::Service;
+use std::process::Abort;
+use std::sync::Wait;
+use std::sync::atomic::{AtomicBool, Ordering};
+use std::time::Clock;
+use test_rows::{Ask, Cause, Say};
+
+/// What a client does, and what comes of it.
+#[derive(Clone, Copy)]
+pub enum Act {
+    /// It submits, and waits for this reply; where there is none it is told that the hub has failed.
+    Appends(Ask, Option<Say>),
+    /// The same, and what is held goes on once the input is accepted.
+    AppendsAndFrees(Ask, Option<Say>),
+    /// It reads that this leads the group, or nobody.
+    Reads(&'static str, Option<Leads>),
+    /// It waits until something is held.
+    AwaitsHold,
+    /// What is held goes on.
+    Frees,
+    /// By a service it stands for term 5 of the group twice, and reads.
+    StandsTwice(&'static str),
+}
+
+/// A share, a reader, and the stub of the last reply, if there was one.
+#[derive(Drop)]
+pub struct Client<J: Naming, A: Node> {
+    pub share: Share<A>,
+    pub reader: BoardReader<J>,
+    pub last: Option<Stub>,
+}
+
+impl<J: Naming, A: Node> Client<J, A> {
+    /// A client of the hub and the board, which have a place left.
+    pub fn enters<D: Whole, C: Whole, F: Whole, E: Whole, R: Wait + Abort>(
+        rt: &R,
+        hub: &Hub<A, D, C, F, E>,
+        board: &Board<J>,
+    ) -> Client<J, A> {
+        Client {
+            share: hub.enter(rt).expect(rt, "a place"),
+            reader: board.reader().expect(rt, "a place"),
+            last: None,
+        }
+    }
+
+    /// Does so, in turn.
+    pub fn plays<D: Whole, C: Whole, F: Whole, E: Whole, R: Wait + Clock + Abort>(
+        self,
+        rt: &R,
+        hub: &Hub<A, D, C, F, E>,
+        flags: &Flags,
+        acts: &[Act],
+    ) -> Client<J, A> {
+        let mut client = self;
+        for act in acts {
+            client = client.does(rt, hub, flags, *act);
+        }
+        client
+    }
+
+    fn does<D: Whole, C: Whole, F: Whole, E: Whole, R: Wait + Clock + Abort>(
+        self,
+        rt: &R,
+        hub: &Hub<A, D, C, F, E>,
+        flags: &Flags,
+        act: Act,
+    ) -> Client<J, A> {
+        let mut client = self;
+        match act {
+            Act::Appends(ask, say) => client.appends(rt, hub, ask, say, None),
+            Act::AppendsAndFrees(ask, say) => {
+                client.appends(rt, hub, ask, say, Some(&flags.freed));
+            }
+            Act::Reads(name, leads) => client.reads(rt, name, leads),
+            Act::AwaitsHold => assert!(rt; await_flag(rt, &flags.held)),
+            Act::Frees => flags.freed.store(true, Ordering::SeqCst),
+            Act::StandsTwice(name) => return client.stands_twice(rt, hub, name),
+        }
+        client
+    }
+
+    fn appends<D: Whole, C: Whole, F: Whole, E: Whole, R: Wait + Abort>(
+        &mut self,
+        rt: &R,
+        hub: &Hub<A, D, C, F, E>,
+        ask: Ask,
+        say: Option<Say>,
+        accepted: Option<&AtomicBool>,
+    ) {
+        let ticket = submits(rt, hub, &mut self.share, ask);
+        if let Some(accepted) = accepted {
+            accepted.store(true, Ordering::SeqCst);
+        }
+        match (released(rt, hub, ticket), say) {
+            (Ok(stub), Some(say)) => {
+                assert_eq!(rt; stub.reply(), reply(rt, say));
+                self.last = Some(stub);
+            }
+            (Err(refusal), None) => assert_eq!(rt; refusal, Refusal::Failed),
+            _ => panic!(rt; "another end"),
+        }
+    }
+
+    /// The reader is told that this leads the group, or nobody.
+    pub fn reads(&mut self, rt: &impl Abort, name: &str, leads: Option<Leads>) {
+        assert!(rt; self.reader.latest(&group(rt, name)) == latest(rt, leads));
+    }
+
+    /// The reader is told that this leads the group in the term.
+    pub fn knows(&mut self, rt: &impl Abort, name: &str, term: u32, bid: u32, node: u8) {
+        assert!(rt; self.reader.who(&key(rt, name, term)) == leader(rt, bid, node));
+    }
+
+    /// Stands twice with bid 10: the second is refused, and no leader is known.
+    fn stands_twice<D: Whole, C: Whole, F: Whole, E: Whole, R: Wait + Abort>(
+        self,
+        rt: &R,
+        hub: &Hub<A, D, C, F, E>,
+        name: &str,
+    ) -> Client<J, A> {
+        let again = reply(rt, Say::Refused(Cause::Already(10)));
+        let Client { share, reader, .. } = self;
+        let mut service = HubService::new(rt, hub, share, reader);
+        assert!(rt; service.stand(key(rt, name, 5), bid(rt, 10)) == Ok(reply(rt, Say::Stood)));
+        assert!(rt; service.stand(key(rt, name, 5), bid(rt, 10)) == Ok(again));
+        assert!(rt; service.who(&key(rt, name, 5)) == Ok(reply(rt, Say::Nobody)));
+        assert!(rt; service.latest(&group(rt, name)) == Ok(reply(rt, Say::NoTerm)));
+        let (share, reader, last) = service.into_parts();
+        match &last {
+            Some(stub) => assert!(rt; stub.reply() == again),
+            None => panic!(rt; "no stub"),
+        }
+        Client {
+            share,
+            reader,
+            last,
+        }
+    }
+}

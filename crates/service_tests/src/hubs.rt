@@ -1,0 +1,216 @@
+// Hubs of new nodes, with a flusher and two clients each.
+ghost use Rattle.std.specs.Prelude.{◌≡◌, ◌+◌, ◌-◌, ◌||◌, false, length, None};
+ghost use Rattle.ring_records.specs.Admission.{used};
+ghost use Rattle.ring_records.specs.States.{durable_in};
+ghost use Rattle.gated_journal.specs.Journal.{member_of, len_of, room_of, epoch_of, is_spoiled};
+ghost use Rattle.node_core.specs.Core.{IsNodeOf};
+ghost use Rattle.node_store.specs.Node.{desk_of};
+ghost use Rattle.commit_hub.specs.Pages.{ForAccepted, ForDurable, ForSpent, ForFreed, ForEpochs, IsWhole};
+
+use crate::calls::Noted;
+use crate::clients::Client;
+use crate::rows::{fills, node};
+use crate::slow::Flags;
+use crate::station::{Station, Step};
+use crate::together::{Duo, Settled, settles, together};
+use commit_hub::{Blanks, Hub, Node, Whole};
+use decision_board::{Board, Naming, Opened};
+use disk_model::Device;
+use gated_journal::Journal;
+use group_commit::Desk;
+use ring_records::Refusal;
+use ring_service::Flusher;
+use std::alloc::AllocGlobal;
+use std::marker::Brand;
+use std::process::Abort;
+use std::sync::Wait;
+use std::sync::atomic::Ordering;
+use std::thread::Threads;
+use std::time::Clock;
+
+/// What is done with a hub.
+#[derive(Clone, Copy)]
+pub enum Play<'a> {
+    /// These steps, in turn.
+    Alone(&'static [Step]),
+    /// The same, where a checkpoint is due and all inputs are durable.
+    Filled(&'static [Step]),
+    /// What both clients do beside the flusher.
+    Together(&'a Flags, Duo),
+}
+
+/// What a hub leaves: its journal, how many decisions are owed, and what it was settled with where its clients were
+/// together.
+#[derive(Drop)]
+pub struct Ended<V: Device> {
+    pub journal: Journal<V>,
+    pub owed: usize,
+    pub settled: Option<Settled>,
+}
+
+/// Plays the steps.
+fn alone<
+    V: Device,
+    J: Naming,
+    A: Node,
+    D: Whole,
+    C: Whole,
+    F: Whole,
+    E: Whole,
+    R: Wait + Abort + AllocGlobal,
+>(
+    rt: &R,
+    hub: Hub<A, D, C, F, E>,
+    flusher: Flusher<V, J, A, D, C, F, E>,
+    client: Client<J, A>,
+    steps: &[Step],
+) -> Ended<V>
+    requires { IsWhole D.all D.parts × IsWhole C.all C.parts × IsWhole F.all F.parts × IsWhole E.all E.parts }
+{
+    let mut station = Station {
+        hub,
+        flusher,
+        client,
+        tickets: Vec::new(rt.alloc()),
+        gate: Noted { first: 9, count: 9 },
+    };
+    station.plays(rt, steps);
+    let Station {
+        flusher,
+        tickets,
+        hub: _hub,
+        client: _client,
+        gate: _gate,
+    } = station;
+    assert!(rt; tickets.is_empty());
+    tickets.destroy_empty();
+    ends(rt, flusher)
+}
+
+fn ends<V: Device, J: Naming, A: Node, D: Whole, C: Whole, F: Whole, E: Whole, R: Wait>(
+    rt: &R,
+    flusher: Flusher<V, J, A, D, C, F, E>,
+) -> Ended<V> {
+    let (journal, board, owed) = flusher.into_parts();
+    board.end(rt);
+    Ended {
+        journal,
+        owed: owed.len(),
+        settled: None,
+    }
+}
+
+/// Does with a hub what the play says, and ends it.
+fn on_hub<
+    V: Device + Drop + Send,
+    J: Naming + Send + Sync,
+    A: Node + Send + Sync,
+    D: Whole + Send + Sync,
+    C: Whole + Send + Sync,
+    F: Whole + Send + Sync,
+    E: Whole + Send + Sync,
+    R: Threads + Wait + Clock + Abort + AllocGlobal + Sync,
+>(
+    rt: &R,
+    desk: Desk,
+    journal: Journal<V>,
+    opened: Opened,
+    blanks: Blanks,
+    play: Play<'_>,
+) -> Result<Ended<V>, Refusal>
+    requires member { desk.view.member ≡ A.member }
+    requires opening { desk.opening ≡ A.opening }
+    requires none { desk.view.state.checkpoint ≡ None }
+    requires inside { IsNodeOf desk.view.member.n desk.view.member.node }
+    requires opened { desk.opening.inputs + length desk.view.state.inputs ≡ A.opened }
+    requires history { opened ≡ J.book }
+    requires accepted { ForAccepted blanks A.name A.parts }
+    requires durable { ForDurable blanks D.name D.parts × IsWhole D.all D.parts }
+    requires spent { ForSpent blanks C.name C.parts × IsWhole C.all C.parts }
+    requires freed { ForFreed blanks F.name F.parts × IsWhole F.all F.parts }
+    requires epochs { ForEpochs blanks E.name E.parts × IsWhole E.all E.parts }
+    requires ready { is_spoiled journal ≡ false }
+    requires header { member_of journal ≡ desk.view.member }
+    requires len { len_of journal ≡ desk.opening.inputs + desk.view.state.durable }
+    requires room { room_of journal ≡ desk.view.member.capacity - used desk.view.state.base (durable_in desk.view.state) }
+    requires epoch { epoch_of journal ≡ desk.view.state.base.epoch }
+{
+    let board = Board::<J>::new(rt.alloc(), opened, &[], 2)?;
+    let (hub, tie) = Hub::<A, D, C, F, E>::new(desk, blanks);
+    let first = Client::enters(rt, &hub, &board);
+    let second = Client::enters(rt, &hub, &board);
+    let mut flusher = Flusher::new(rt.alloc(), journal, board, tie);
+    match play {
+        Play::Alone(steps) | Play::Filled(steps) => Ok(alone(rt, hub, flusher, first, steps)),
+        Play::Together(flags, duo) => {
+            let both = together(rt, &hub, &mut flusher, first, second, flags, duo);
+            let (first, second) = both;
+            let second = second.plays(rt, &hub, flags, duo.later);
+            let mut ended = ends(rt, flusher);
+            ended.settled = Some(settles(rt, hub, first, second));
+            Ok(ended)
+        }
+    }
+}
+
+/// The node as the play begins with it.
+fn begun<V: Device, R: Abort>(
+    rt: &R,
+    made: node_store::Node<V>,
+    play: Play<'_>,
+) -> node_store::Node<V>
+    ensures open { ((desk_of result).view.closed || (desk_of result).view.failed) ≡ false }
+    ensures spent { length (desk_of result).view.tickets ≡ 0 }
+{
+    let mut made = made;
+    match play {
+        Play::Alone(_) => {}
+        Play::Filled(_) => fills(rt, &mut made),
+        Play::Together(flags, _) => flags.armed.store(true, Ordering::SeqCst),
+    }
+    assert!(rt; made.is_open() && made.open_tickets() == 0);
+    made
+}
+
+/// Plays on the hub of node 1 of 3 with this device and capacity.
+pub fn plays<V: Device + Drop + Send, R: Threads + Wait + Clock + Abort + AllocGlobal + Sync>(
+    rt: &R,
+    device: V,
+    capacity: u32,
+    play: Play<'_>,
+) -> Result<Ended<V>, Refusal> {
+    match node_store::Node::create(rt.alloc(), device, node(rt, 1), 3, capacity, 0) {
+        Ok(made) => {
+            let (desk, journal) = begun(rt, made, play).split();
+            let (opened, blanks) = (Opened::new(), Blanks::new(2));
+            on_hub::<V, Brand, Brand, Brand, Brand, Brand, Brand, R>(
+                rt, desk, journal, opened, blanks, play,
+            )
+        }
+        Err((_device, refusal)) => Err(refusal),
+    }
+}
+
+/// What both clients do beside the flusher of a hub with this device, of capacity 4,096: what they leave, and what the hub
+/// was settled with. What was held was not late.
+pub fn plays_duo<V: Device + Drop + Send, R: Threads + Wait + Clock + Abort + AllocGlobal + Sync>(
+    rt: &R,
+    device: V,
+    flags: &Flags,
+    duo: Duo,
+) -> (Journal<V>, Settled) {
+    let ended = match plays(rt, device, 4096, Play::Together(flags, duo)) {
+        Ok(ended) => ended,
+        Err(refusal) => panic!(rt; "{refusal}"),
+    };
+    assert!(rt; !flags.late.load(Ordering::SeqCst));
+    let Ended {
+        journal,
+        settled,
+        owed: _,
+    } = ended;
+    match settled {
+        Some(settled) => (journal, settled),
+        None => panic!(rt; "not settled"),
+    }
+}

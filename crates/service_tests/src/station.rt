@@ -1,0 +1,169 @@
+// A hub and its flusher by calls: the one thread that the tests have is client and flusher in turn.
+ghost use Rattle.commit_hub.specs.Pages.{IsWhole};
+
+use crate::calls::*;
+use crate::clients::Client;
+use crate::rows::{Leads, dropped};
+use commit_hub::{Hub, Node, Share, Whole};
+use decision_board::Naming;
+use disk_model::Device;
+use group_commit::Ticket;
+use ring_service::Flusher;
+use std::alloc::AllocGlobal;
+use std::process::Abort;
+use std::sync::Wait;
+use test_rows::{Ask, Note};
+
+/// What is done, and what comes of it. What is refused for memory is called again.
+#[derive(Clone, Copy)]
+pub enum Step {
+    /// The request gets a ticket.
+    Submits(Ask),
+    /// The oldest ticket that is open is redeemed.
+    Redeems,
+    /// The messages of these numbers are taken, from the first up to the second, and dropped.
+    Takes(u64, u64),
+    /// The messages 1 to 65 are taken, by which node 2 leads `red` 6 to 70 with bid 30.
+    TakesLeaders,
+    /// A round makes inputs durable: so many are before them, so many they are, and so many leaders they make known.
+    Rounds(u64, u32, usize),
+    /// There is no round any more.
+    RoundsNot,
+    /// The request gets a ticket, a round makes a leader known, and the ticket is redeemed.
+    Leads(Ask),
+    /// The device fails within the round of the one ticket that is open.
+    Fails,
+    /// The hub is closed.
+    Closes,
+    /// A reader is told that this leads the group, or nobody.
+    Reads(&'static str, Option<Leads>),
+    /// A reader is told who leads the group in the term: the bid and the node.
+    Leader(&'static str, u32, u32, u8),
+    /// Whether all that the board took is published.
+    IsPublished(bool),
+    /// The epoch of the journal's area in use.
+    Epoch(u64),
+    /// How many bytes are taken.
+    Used(u64),
+    /// Whether a checkpoint is due.
+    IsDue(bool),
+}
+
+/// A hub, its flusher, a client, the tickets that are open, oldest first, and what the gate was told.
+pub struct Station<V: Device, J: Naming, A: Node, D: Whole, C: Whole, F: Whole, E: Whole> {
+    pub hub: Hub<A, D, C, F, E>,
+    pub flusher: Flusher<V, J, A, D, C, F, E>,
+    pub client: Client<J, A>,
+    pub tickets: Vec<Ticket>,
+    pub gate: Noted,
+}
+
+fn keeps(rt: &impl Abort, tickets: &mut Vec<Ticket>, ticket: Ticket) {
+    match tickets.push(ticket) {
+        Ok(()) => {}
+        Err(_ticket) => panic!(rt; "ample memory"),
+    }
+}
+
+/// The oldest ticket that is open.
+fn oldest(rt: &impl Abort, tickets: &mut Vec<Ticket>) -> Ticket {
+    assert!(rt; !tickets.is_empty());
+    tickets.remove(0)
+}
+
+/// The message is taken, and its ticket is refused and ends.
+fn takes<A: Node, D: Whole, C: Whole, F: Whole, E: Whole, R: Wait + Abort>(
+    rt: &R,
+    hub: &Hub<A, D, C, F, E>,
+    share: &mut Share<A>,
+    ask: Ask,
+) {
+    let ticket = submits(rt, hub, share, ask);
+    assert!(rt; hub.forfeit(rt, ticket).is_err());
+}
+
+impl<V: Device, J: Naming, A: Node, D: Whole, C: Whole, F: Whole, E: Whole> Station<
+    V,
+    J,
+    A,
+    D,
+    C,
+    F,
+    E,
+> {
+    pub fn plays<R: Wait + Abort + AllocGlobal>(&mut self, rt: &R, steps: &[Step])
+        requires { IsWhole D.all D.parts × IsWhole C.all C.parts × IsWhole F.all F.parts × IsWhole E.all E.parts }
+    {
+        for step in steps {
+            self.does(rt, *step);
+        }
+    }
+
+    fn does<R: Wait + Abort + AllocGlobal>(&mut self, rt: &R, step: Step)
+        requires { IsWhole D.all D.parts × IsWhole C.all C.parts × IsWhole F.all F.parts × IsWhole E.all E.parts }
+    {
+        match step {
+            Step::Submits(ask) => {
+                let ticket = submits(rt, &self.hub, &mut self.client.share, ask);
+                keeps(rt, &mut self.tickets, ticket);
+            }
+            Step::Redeems => {
+                let ticket = oldest(rt, &mut self.tickets);
+                assert!(rt; released(rt, &self.hub, ticket).is_ok());
+            }
+            Step::Takes(first, end) => self.takes(rt, first, end),
+            Step::TakesLeaders => self.takes_leaders(rt),
+            Step::Rounds(first, count, leaders) => self.rounds(rt, first, count, leaders),
+            Step::RoundsNot => self.rounds_not(rt),
+            Step::Leads(ask) => {
+                leads(
+                    rt,
+                    &self.hub,
+                    &mut self.flusher,
+                    &mut self.client.share,
+                    ask,
+                );
+            }
+            Step::Fails => {
+                let ticket = oldest(rt, &mut self.tickets);
+                fails_next(rt, &self.hub, &mut self.flusher, ticket);
+            }
+            Step::Closes => self.hub.close(rt),
+            Step::Reads(name, leads) => self.client.reads(rt, name, leads),
+            Step::Leader(name, term, bid, node) => self.client.knows(rt, name, term, bid, node),
+            Step::IsPublished(is) => assert!(rt; self.flusher.is_published() == is),
+            Step::Epoch(epoch) => assert!(rt; self.flusher.epoch() == epoch),
+            Step::Used(bytes) => assert!(rt; self.hub.look(rt).used == bytes),
+            Step::IsDue(is_due) => assert!(rt; self.hub.look(rt).is_due == is_due),
+        }
+    }
+
+    fn takes<R: Wait + Abort>(&mut self, rt: &R, first: u64, end: u64) {
+        for no in first..end {
+            takes(rt, &self.hub, &mut self.client.share, dropped(no));
+        }
+    }
+
+    fn takes_leaders<R: Wait + Abort>(&mut self, rt: &R) {
+        for no in 1..66 {
+            let ask = Ask::Take(no, Note::Elected("red", 5 + no as u32, 30, 2));
+            takes(rt, &self.hub, &mut self.client.share, ask);
+        }
+    }
+
+    fn rounds<R: Wait + Abort>(&mut self, rt: &R, first: u64, count: u32, leaders: usize)
+        requires { IsWhole D.all D.parts × IsWhole C.all C.parts × IsWhole F.all F.parts × IsWhole E.all E.parts }
+    {
+        let landed = rounds(rt, &self.hub, &mut self.flusher, &mut self.gate);
+        assert!(rt; landed == (count, leaders) && self.flusher.is_published());
+        assert!(rt; self.gate.first == first && self.gate.count == count as usize);
+    }
+
+    fn rounds_not<R: Wait + Abort>(&mut self, rt: &R)
+        requires { IsWhole D.all D.parts × IsWhole C.all C.parts × IsWhole F.all F.parts × IsWhole E.all E.parts }
+    {
+        let first = self.gate.first;
+        let landed = self.flusher.flush_round(rt, &self.hub, &mut self.gate);
+        assert!(rt; matches!(landed, Ok(None)) && self.gate.first == first);
+    }
+}

@@ -1,0 +1,153 @@
+// Two clients of a hub beside its flusher, each in a thread of its own.
+ghost use Rattle.commit_hub.specs.Pages.{IsWhole};
+
+use crate::calls::flush_all;
+use crate::clients::{Act, Client};
+use crate::slow::{Flags, HeldGate};
+use commit_hub::{Hub, Node, Whole};
+use decision_board::Naming;
+use disk_model::Device;
+use group_commit::{Desk, Stub};
+use ring_service::Flusher;
+use std::alloc::AllocGlobal;
+use std::process::Abort;
+use std::sync::Wait;
+use std::sync::atomic::Ordering;
+use std::thread::{Threads, join};
+use std::time::Clock;
+
+/// What two clients do, and what the second one does once the flusher has ended.
+#[derive(Clone, Copy)]
+pub struct Duo {
+    pub first: &'static [Act],
+    pub second: &'static [Act],
+    pub later: &'static [Act],
+    /// Whether each round but the first is held.
+    pub holds_rounds: bool,
+}
+
+/// The desk of a hub that was settled, the stubs of the clients' last replies, and how many packets the window had.
+#[derive(Drop)]
+pub struct Settled {
+    pub desk: Desk,
+    pub first: Option<Stub>,
+    pub second: Option<Stub>,
+    pub window: usize,
+}
+
+impl Settled {
+    /// Whether the desk vouches for the stub, if there is one.
+    fn vouched(&self, stub: &Option<Stub>) -> Option<bool> {
+        match stub {
+            Some(stub) => Some(self.desk.vouch(stub) == Ok(true)),
+            None => None,
+        }
+    }
+
+    /// The desk has two inputs, and vouches for each stub; whether the first and the second client have one.
+    pub fn vouches(&self, rt: &impl Abort, first: bool, second: bool) {
+        assert_eq!(rt; self.desk.history().len(), 2);
+        assert!(rt; self.vouched(&self.first) == first.then_some(true));
+        assert!(rt; self.vouched(&self.second) == second.then_some(true));
+    }
+}
+
+/// Both clients do what they are to, and then the hub is closed.
+pub fn together<
+    V: Device + Send,
+    J: Naming + Send + Sync,
+    A: Node + Send + Sync,
+    D: Whole + Send + Sync,
+    C: Whole + Send + Sync,
+    F: Whole + Send + Sync,
+    E: Whole + Send + Sync,
+    R: Threads + Wait + Clock + Abort + Sync,
+>(
+    rt: &R,
+    hub: &Hub<A, D, C, F, E>,
+    flusher: &mut Flusher<V, J, A, D, C, F, E>,
+    first: Client<J, A>,
+    second: Client<J, A>,
+    flags: &Flags,
+    duo: Duo,
+) -> (Client<J, A>, Client<J, A>)
+    requires { IsWhole D.all D.parts × IsWhole C.all C.parts × IsWhole F.all F.parts × IsWhole E.all E.parts }
+{
+    let ((), both) = join(
+        rt,
+        || -> ()
+            requires { IsWhole D.all D.parts × IsWhole C.all C.parts × IsWhole F.all F.parts × IsWhole E.all E.parts }
+        { flushes(rt, hub, flusher, flags, duo.holds_rounds) },
+        move || {
+            let both = join(
+                rt,
+                move || first.plays(rt, hub, flags, duo.first),
+                move || second.plays(rt, hub, flags, duo.second),
+            );
+            flags.closing.store(true, Ordering::SeqCst);
+            hub.close(rt);
+            both
+        },
+    );
+    both
+}
+
+/// Flushes until the hub is closed or the device fails.
+fn flushes<
+    V: Device,
+    J: Naming,
+    A: Node,
+    D: Whole,
+    C: Whole,
+    F: Whole,
+    E: Whole,
+    R: Wait + Clock + Abort,
+>(
+    rt: &R,
+    hub: &Hub<A, D, C, F, E>,
+    flusher: &mut Flusher<V, J, A, D, C, F, E>,
+    flags: &Flags,
+    holds_rounds: bool,
+)
+    requires { IsWhole D.all D.parts × IsWhole C.all C.parts × IsWhole F.all F.parts × IsWhole E.all E.parts }
+{
+    if holds_rounds {
+        let mut gate = HeldGate { rt, flags };
+        flush_all(rt, hub, flusher, &mut gate, &flags.closing);
+    } else {
+        flush_all(rt, hub, flusher, &mut (), &flags.closing);
+    }
+}
+
+/// The shares of both clients settle the hub.
+pub fn settles<
+    J: Naming,
+    A: Node,
+    D: Whole,
+    C: Whole,
+    F: Whole,
+    E: Whole,
+    R: Wait + Abort + AllocGlobal,
+>(rt: &R, hub: Hub<A, D, C, F, E>, first: Client<J, A>, second: Client<J, A>) -> Settled {
+    let window = hub.window(rt).expect(rt, "ample memory").len();
+    let Client {
+        share: one,
+        last: first,
+        ..
+    } = first;
+    let Client {
+        share: two,
+        last: second,
+        ..
+    } = second;
+    let shares = Vec::from_array(rt.alloc(), [one, two]).expect(rt, "ample memory");
+    match hub.settle(shares) {
+        Ok(desk) => Settled {
+            desk,
+            first,
+            second,
+            window,
+        },
+        Err(_) => panic!(rt; "not settled"),
+    }
+}
