@@ -1,97 +1,64 @@
 // Files of another time that are brought back.
-use crate::clients::{answers, answers_at_last, connect};
-use crate::programs::{anew, ends, run, serves};
-use std::alloc::AllocGlobal;
-use std::fs;
-use std::fs::File;
-use std::net::{Net, TcpListener, TcpStream};
-use std::process::Abort;
-use std::rt::Files;
-use std::sync::Wait;
+use crate::steps::Change::{Anew, Clears, Copies, Renames};
+use crate::steps::Step::{Changes, Elects, Ends, Serves};
+use crate::steps::{SERVE, plays};
+use crate::visits::Say;
+use crate::visits::Say::{AtLast, Line};
 use std::test::*;
-use std::thread::{Threads, join};
-use std::time::Clock;
 
-const SERVE: [&str; 3] = ["ringd", "--serve", "1"];
+const OLD_COPY: &[u8] = b"nodes = 2\ndir = \"old-copy\"\nport = 7225\n";
 
-/// Whether the node at this port answers `stood` to this line, if it is no empty one, and at last tells this leader.
-fn follows<R: Net<Stream = TcpStream> + Clock>(rt: &R, port: u16, line: &[u8], led: &[u8]) -> bool {
-    let Some(stream) = connect(rt, port) else {
-        return false;
-    };
-    (line.is_empty() || answers(&stream, line, b"stood"))
-        && answers_at_last(rt, &stream, b"latest red\n", led)
-        && answers(&stream, b"bye\n", b"bye")
-}
+const LEADER_10: &[u8] = b"nodes = 2\ndir = \"leader-10\"\nport = 7227\n";
 
-/// Serves a ring of two for one session each, in which node 1 is elected so. It ends well.
-fn elects<R>(rt: &R, settings: &[u8], port: u16, line: &[u8], led: &[u8])
-where
-    R: Threads
-        + Wait
-        + Sync
-        + Send
-        + Copy
-        + 'static
-        + Clock
-        + Abort
-        + AllocGlobal
-        + Files<File = File>
-        + Net<Listener = TcpListener, Stream = TcpStream>,
-{
-    let (told, (status, _, err)) = join(
-        rt,
-        move || {
-            let (one, two) = join(
-                rt,
-                move || follows(rt, port, line, led),
-                move || follows(rt, port.saturating_add(1), b"", led),
-            );
-            one && two
-        },
-        || run(rt, &SERVE, settings),
-    );
-    assert!(rt; err.is_empty());
-    assert_eq!(rt; status, 0);
-    assert!(rt; told);
+const LEADER_20: &[u8] = b"nodes = 2\ndir = \"leader-20\"\nport = 7227\n";
+
+const APART: &[u8] = b"ringd: nodes 1 and 2 do not fit\n";
+
+const BYE: Say = Line(b"bye\n", b"bye");
+
+const LEADS_BY_10: Say = AtLast(b"latest red\n", b"term 5 leader 1 10");
+
+const LEADS_BY_20: Say = AtLast(b"latest red\n", b"term 5 leader 1 20");
+
+/// What a client of node 1 says, which stands with a bid of 10 or of 20, and what one of node 2 says.
+const STANDS_10: &[Say] = &[Line(b"stand red 5 10\n", b"stood"), LEADS_BY_10, BYE];
+
+const STANDS_20: &[Say] = &[Line(b"stand red 5 20\n", b"stood"), LEADS_BY_20, BYE];
+
+const ASKS_10: &[Say] = &[LEADS_BY_10, BYE];
+
+const ASKS_20: &[Say] = &[LEADS_BY_20, BYE];
+
+#[test]
+fn an_old_copy_of_one_file(rt: HostRuntime) {
+    let steps = [
+        Changes(&[Anew("old-copy")]),
+        Serves(OLD_COPY, 7225, b"who red 1\n", b"none"),
+        Changes(&[Copies("old-copy/node-2.crj", "old-copy/old")]),
+        Elects(OLD_COPY, 7225, STANDS_10, ASKS_10),
+        Changes(&[
+            Renames("old-copy/node-2.crj", "old-copy/whole"),
+            Renames("old-copy/old", "old-copy/node-2.crj"),
+        ]),
+        Ends(SERVE, OLD_COPY, 1, APART),
+        Ends(SERVE, OLD_COPY, 1, APART),
+        Changes(&[Renames("old-copy/whole", "old-copy/node-2.crj")]),
+        Serves(OLD_COPY, 7225, b"stand red 5 10\n", b"no 3 already 10"),
+        Changes(&[Clears("old-copy")]),
+    ];
+    plays(&rt, &steps);
 }
 
 #[test]
-fn an_old_copy_of_one_file(rt: HostRuntime) -> Result<(), Fail> {
-    let settings = b"nodes = 2\ndir = \"old-copy\"\nport = 7225\n".as_slice();
-    anew(&rt, "old-copy");
-    serves(&rt, settings, 7225, b"who red 1\n", b"none");
-    fs::copy(&rt, "old-copy/node-2.crj", "old-copy/old")?;
-    elects(
-        &rt,
-        settings,
-        7225,
-        b"stand red 5 10\n",
-        b"term 5 leader 1 10",
-    );
-    fs::rename(&rt, "old-copy/node-2.crj", "old-copy/whole")?;
-    fs::rename(&rt, "old-copy/old", "old-copy/node-2.crj")?;
-    let text = b"ringd: nodes 1 and 2 do not fit\n";
-    ends(&rt, &SERVE, settings, 1, text);
-    ends(&rt, &SERVE, settings, 1, text);
-    fs::rename(&rt, "old-copy/whole", "old-copy/node-2.crj")?;
-    serves(&rt, settings, 7225, b"stand red 5 10\n", b"no 3 already 10");
-    fs::remove_dir_all(&rt, "old-copy")?;
-    Ok(())
-}
-
-#[test]
-fn a_file_of_another_ring(rt: HostRuntime) -> Result<(), Fail> {
-    let one = b"nodes = 2\ndir = \"leader-10\"\nport = 7227\n".as_slice();
-    let two = b"nodes = 2\ndir = \"leader-20\"\nport = 7227\n".as_slice();
-    anew(&rt, "leader-10");
-    anew(&rt, "leader-20");
-    elects(&rt, one, 7227, b"stand red 5 10\n", b"term 5 leader 1 10");
-    elects(&rt, two, 7227, b"stand red 5 20\n", b"term 5 leader 1 20");
-    // as many messages were sent and taken in both
-    fs::rename(&rt, "leader-20/node-2.crj", "leader-10/node-2.crj")?;
-    ends(&rt, &SERVE, one, 1, b"ringd: nodes 1 and 2 do not fit\n");
-    fs::remove_dir_all(&rt, "leader-10")?;
-    fs::remove_dir_all(&rt, "leader-20")?;
-    Ok(())
+fn a_file_of_another_ring(rt: HostRuntime) {
+    let steps = [
+        Changes(&[Anew("leader-10"), Anew("leader-20")]),
+        Elects(LEADER_10, 7227, STANDS_10, ASKS_10),
+        Elects(LEADER_20, 7227, STANDS_20, ASKS_20),
+        // as many messages were sent and taken in both
+        Changes(&[Renames("leader-20/node-2.crj", "leader-10/node-2.crj")]),
+        Ends(SERVE, LEADER_10, 1, APART),
+        Changes(&[Clears("leader-10"), Clears("leader-20")]),
+    ];
+    plays(&rt, &steps);
 }

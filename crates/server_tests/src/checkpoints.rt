@@ -1,16 +1,15 @@
 // Rings whose nodes take more inputs than they have room for, as checkpoints make room again.
 use crate::clients::{answers, answers_at_last, connect};
-use crate::programs::{anew, run};
+use crate::programs::{Ring, Scenario};
+use crate::steps::Change::{Anew, Clears, IsRenewed};
+use crate::steps::Step::{Changes, Runs};
+use crate::steps::{SERVE, Step, plays};
+use crate::visits::Say::{AtLast, Line};
+use crate::visits::Visit;
 use std::alloc::AllocGlobal;
-use std::fs;
-use std::fs::File;
 use std::io::Write;
-use std::net::{Net, TcpListener, TcpStream};
-use std::process::Abort;
-use std::rt::Files;
-use std::sync::Wait;
+use std::net::{Net, TcpStream};
 use std::test::*;
-use std::thread::{Threads, join};
 use std::time::Clock;
 
 /// How many terms of the group are elected. Each takes 72 bytes of node 1, a Stand and two messages, and 54 of node 2: so
@@ -46,24 +45,21 @@ pub fn leads<R: Net<Stream = TcpStream> + Clock + AllocGlobal>(
         && answers_at_last(rt, stream, &who, b"leader 1 10")
 }
 
-/// How many terms in a row, from the first one on, node 1 at this port leads, for which the client stands there.
-fn count_led<R: Net<Stream = TcpStream> + Clock + AllocGlobal>(
+/// Whether node 1 at this port leads all terms in a row, for which the client stands there.
+pub fn leads_all_terms<R: Net<Stream = TcpStream> + Clock + AllocGlobal>(
     rt: &R,
     port: u16,
     stands: Stands,
-) -> u32 {
+) -> bool {
     let Some(stream) = connect(rt, port) else {
-        return 0;
+        return false;
     };
-    let mut count = 0;
     for term in 1..=TERMS {
         if !leads(rt, &stream, term, stands) {
-            break;
+            return false;
         }
-        count = term;
     }
-    let _ = answers(&stream, b"bye\n", b"bye");
-    count
+    answers(&stream, b"bye\n", b"bye")
 }
 
 /// The epoch in the head of the area of a journal that begins there, 0 where none is open.
@@ -79,60 +75,54 @@ fn epoch_at(journal: &[u8], start: usize) -> u64 {
 }
 
 /// The epoch of a journal with a capacity of 4,096.
-fn epoch_of(journal: &[u8]) -> u64 {
+pub fn epoch_of(journal: &[u8]) -> u64 {
     epoch_at(journal, 16).max(epoch_at(journal, 31 + 4_096))
 }
 
-/// Whether the node at this port tells the leader of the last term at last.
-fn is_told<R: Net<Stream = TcpStream> + Clock>(rt: &R, port: u16) -> bool {
-    match connect(rt, port) {
-        Some(stream) => {
-            answers_at_last(rt, &stream, b"latest a\n", b"term 77 leader 1 10")
-                && answers(&stream, b"bye\n", b"bye")
-        }
-        None => false,
-    }
-}
+const RING: Ring = Ring::Program(
+    SERVE,
+    b"nodes = 2\ndir = \"renewed\"\nport = 7261\ncapacity = 4096\n",
+);
 
-/// Serves a ring of two for one session each. Node 1 leads each term, in which a Stand there is answered so.
-fn serves_all_terms<R>(rt: &R, stands: Stands)
-where
-    R: Threads
-        + Wait
-        + Sync
-        + Send
-        + Copy
-        + 'static
-        + Clock
-        + Abort
-        + AllocGlobal
-        + Files<File = File>
-        + Net<Listener = TcpListener, Stream = TcpStream>,
-{
-    let settings = b"nodes = 2\ndir = \"renewed\"\nport = 7261\ncapacity = 4096\n".as_slice();
-    let words = ["ringd", "--serve", "1"];
-    let (told, (status, _, err)) = join(
-        rt,
-        move || {
-            let count = count_led(rt, 7261, stands);
-            (count, is_told(rt, 7262))
-        },
-        || run(rt, &words, settings),
-    );
-    assert!(rt; err.is_empty());
-    assert_eq!(rt; status, 0);
-    assert_eq!(rt; told, (TERMS, true));
-}
+/// The last term's leader is told of at node 2.
+const IS_TOLD: Visit = Visit::Says(
+    7262,
+    &[
+        AtLast(b"latest a\n", b"term 77 leader 1 10"),
+        Line(b"bye\n", b"bye"),
+    ],
+);
+
+/// Serves a ring of two for one session each. Node 1 leads each term, in which it stands.
+const FIRST: Scenario = Scenario {
+    ring: RING,
+    visits: [&[Visit::LeadsAll(7261, Stands::First), IS_TOLD], &[], &[]],
+    status: 0,
+    out: b"",
+    err: Some(b""),
+};
+
+/// Started again behind the checkpoints: it had stood.
+const AGAIN: Scenario = Scenario {
+    ring: RING,
+    visits: [&[Visit::LeadsAll(7261, Stands::Again), IS_TOLD], &[], &[]],
+    status: 0,
+    out: b"",
+    err: Some(b""),
+};
+
+const RENEWALS: [Step; 5] = [
+    Changes(&[Anew("renewed")]),
+    Runs(&FIRST),
+    Changes(&[
+        IsRenewed("renewed/node-1.crj"),
+        IsRenewed("renewed/node-2.crj"),
+    ]),
+    Runs(&AGAIN),
+    Changes(&[Clears("renewed")]),
+];
 
 #[test]
-fn more_inputs_than_a_node_has_room_for(rt: HostRuntime) -> Result<(), Fail> {
-    anew(&rt, "renewed");
-    serves_all_terms(&rt, Stands::First);
-    for path in ["renewed/node-1.crj", "renewed/node-2.crj"] {
-        assert!(rt; epoch_of(&fs::read(&rt, path)?) > 1);
-    }
-    // started again behind the checkpoints
-    serves_all_terms(&rt, Stands::Again);
-    fs::remove_dir_all(&rt, "renewed")?;
-    Ok(())
+fn more_inputs_than_a_node_has_room_for(rt: HostRuntime) {
+    plays(&rt, &RENEWALS);
 }

@@ -54,6 +54,16 @@ pub fn answers_at_last<R: Clock>(rt: &R, stream: &TcpStream, line: &[u8], text: 
     false
 }
 
+/// Whether the session ends, though the client says nothing more.
+pub fn is_ended(stream: &TcpStream) -> bool {
+    let mut reader = stream;
+    let mut byte = [0u8; 1];
+    match reader.read(&mut byte) {
+        Ok(count) => count == 0,
+        Err(_) => false,
+    }
+}
+
 /// Whether these bytes come, and then the end.
 pub fn reads_to_the_end(stream: &TcpStream, text: &[u8]) -> bool {
     let mut reader = stream;

@@ -2,12 +2,13 @@
 ghost use Rattle.std.specs.Prelude.{◌≤◌};
 
 use crate::clients::{answers, connect};
+use crate::programs::Ended;
 use disk_model::{FuseDevice, MemDevice};
 use node_store::Node;
 use ring_records::{Bid, GroupName, Key, NodeNo, Refusal, Request, Term};
 use ring_server::{Doors, OpenNode, Post, Site, serve_ring};
 use ring_watch::{Facts, Reception, StatusPort};
-use std::alloc::AllocGlobal;
+use std::alloc::{AllocGlobal, Global};
 use std::io;
 use std::io::Write;
 use std::net::{Ipv4Addr, Net, TcpListener, TcpStream};
@@ -51,11 +52,18 @@ impl Write for Seen<'_> {
     }
 }
 
-/// The Stand of node 1 for this term of `red`.
-fn stand(term: u32) -> Result<Request, Refusal> {
+/// The key of this term of `red`.
+fn key(term: u32) -> Result<Key, Refusal> {
     let group = GroupName::read(b"red")?;
     let term = Term::new(term)?;
-    Ok(Request::Stand(Key { group, term }, Bid::new(10)?))
+    Ok(Key { group, term })
+}
+
+/// The Stand of node 1 for this term of `red`.
+fn stand(term: u32) -> Result<Request, Refusal> {
+    let key = key(term)?;
+    let bid = Bid::new(10)?;
+    Ok(Request::Stand(key, bid))
 }
 
 /// Has the node stand for terms 1 to `count`, durably, and gives its device.
@@ -81,49 +89,85 @@ fn stand_before<R: Abort>(
     Some(node.into_device())
 }
 
-/// A new node of three.
-fn opened<R: Abort + AllocGlobal>(
-    rt: &R,
+/// A new node of three over this device.
+fn fresh(
+    alloc: Global,
+    device: FuseDevice<MemDevice>,
     node: NodeNo,
-    served: Served,
+    capacity: u32,
 ) -> Option<OpenNode<FuseDevice<MemDevice>>>
     requires { node ≤ 3 }
 {
-    let alloc = rt.alloc();
-    let fails_after = if node.number() == 2 {
-        served.fails_after
-    } else {
-        u64::MAX
-    };
-    let capacity = served.capacity.clamp(4096, 1 << 20);
-    let memory = MemDevice::new(alloc, 46 + 2 * capacity as usize).ok()?;
-    let device = FuseDevice::new(memory, fails_after, false);
-    let made = match Node::create(alloc, device, node, 3, capacity, 0) {
-        Ok(made) => made,
-        Err((_device, _)) => return None,
-    };
-    if node.number() != 1 || served.stood == 0 {
-        return Some(OpenNode::new(node, 3, made));
-    }
-    let device = stand_before(rt, made, served.stood)?;
-    match Node::recover(alloc, device, NodeNo::first(), 3, 1) {
+    match Node::create(alloc, device, node, 3, capacity, 0) {
         Ok(made) => Some(OpenNode::new(node, 3, made)),
         Err((_device, _)) => None,
     }
 }
 
-fn site_of<R: Abort + AllocGlobal + Net<Listener = TcpListener, Stream = TcpStream>>(
+/// Node 1 of three over this device, which stood for so many terms and is recovered.
+fn recovered<R: Abort>(
+    rt: &R,
+    alloc: Global,
+    device: FuseDevice<MemDevice>,
+    capacity: u32,
+    stood: u32,
+) -> Option<OpenNode<FuseDevice<MemDevice>>> {
+    let device = match Node::create(alloc, device, NodeNo::first(), 3, capacity, 0) {
+        Ok(made) => stand_before(rt, made, stood)?,
+        Err((_device, _)) => return None,
+    };
+    match Node::recover(alloc, device, NodeNo::first(), 3, 1) {
+        Ok(made) => Some(OpenNode::new(NodeNo::first(), 3, made)),
+        Err((_device, _)) => None,
+    }
+}
+
+/// The device of this node.
+fn device_of(
+    alloc: Global,
+    number: u8,
+    served: Served,
+    capacity: u32,
+) -> Option<FuseDevice<MemDevice>>
+    requires { capacity ≤ 1048576 }
+{
+    let fails_after = if number == 2 {
+        served.fails_after
+    } else {
+        u64::MAX
+    };
+    let memory = MemDevice::new(alloc, 46 + 2 * capacity as usize).ok()?;
+    Some(FuseDevice::new(memory, fails_after, false))
+}
+
+/// This node of three.
+fn opened<R: Abort + AllocGlobal>(
     rt: &R,
     number: u8,
     served: Served,
-) -> Option<(OpenNode<FuseDevice<MemDevice>>, TcpListener)> {
+) -> Option<OpenNode<FuseDevice<MemDevice>>> {
     let node = NodeNo::new(number).ok()?;
     if node.number() > 3 {
         return None;
     }
+    let alloc = rt.alloc();
+    let capacity = served.capacity.clamp(4096, 1 << 20);
+    let device = device_of(alloc, number, served, capacity)?;
+    if number == 1 && served.stood > 0 {
+        recovered(rt, alloc, device, capacity, served.stood)
+    } else {
+        fresh(alloc, device, node, capacity)
+    }
+}
+
+/// The port of this node.
+fn listen<R: Abort + Net<Listener = TcpListener, Stream = TcpStream>>(
+    rt: &R,
+    number: u8,
+    served: Served,
+) -> TcpListener {
     let port = served.port.saturating_add(u16::from(number));
-    let listener = TcpListener::bind(rt, (Ipv4Addr::LOCALHOST, port)).ok()?;
-    Some((opened(rt, node, served)?, listener))
+    TcpListener::bind(rt, (Ipv4Addr::LOCALHOST, port)).expect(rt, "a port")
 }
 
 /// The port where an operator is told of them.
@@ -141,8 +185,7 @@ fn port_of<R: AllocGlobal + Net<Listener = TcpListener, Stream = TcpStream>>(
     Some(StatusPort::new(listener, facts, reception))
 }
 
-/// Serves the three nodes, and gives the status and what was printed, to standard error last; how long that is stands
-/// in `len` meanwhile.
+/// Serves the three nodes to their end. How long standard error is stands in `len` meanwhile.
 pub fn serve_three<
     R: Threads
         + Wait
@@ -154,27 +197,27 @@ pub fn serve_three<
         + Abort
         + AllocGlobal
         + Net<Listener = TcpListener, Stream = TcpStream>,
->(rt: &R, served: Served, len: &AtomicU64) -> Option<(u8, Vec<u8>, Vec<u8>)> {
+>(rt: &R, served: Served, len: &AtomicU64) -> Ended {
     let alloc = rt.alloc();
     let mut out = Vec::new(alloc);
     let mut err = Seen {
         text: Vec::new(alloc),
         len,
     };
-    let (post, inboxes) = Post::new(alloc, 3).ok()?;
-    let (reception, clerks) = Reception::new(alloc, 3).ok()?;
+    let (post, inboxes) = Post::new(alloc, 3).expect(rt, "ample memory");
+    let (reception, clerks) = Reception::new(alloc, 3).expect(rt, "ample memory");
     let told = port_of(rt, served, reception);
     let mut clerks = clerks.into_iter();
     let mut sites = Vec::new(alloc);
     let mut number = 0u8;
     for inbox in inboxes {
         number = number.saturating_add(1);
-        let (opened, listener) = site_of(rt, number, served)?;
+        let opened = opened(rt, number, served).expect(rt, "a node");
+        let listener = listen(rt, number, served);
         let doors = Doors::new(1, served.sessions, 0);
         let asked = if told.is_some() { clerks.next() } else { None };
-        sites
-            .push(Site::new(alloc, opened, inbox, listener, doors, asked))
-            .ok()?;
+        let site = Site::new(alloc, opened, inbox, listener, doors, asked);
+        assert!(rt; sites.push(site).is_ok());
     }
     let status = serve_ring(
         rt,
@@ -185,10 +228,13 @@ pub fn serve_three<
         served.fail_stop,
         &mut out,
         &mut err,
-    )
-    .ok()?;
+    );
     let Seen { text, len: _ } = err;
-    Some((status, out, text))
+    Ended {
+        status: status.expect(rt, "a ring that is served"),
+        out,
+        err: text,
+    }
 }
 
 /// Stands for one term after the other until the node has failed. Whether it is told so, and asks on.

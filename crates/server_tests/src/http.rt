@@ -1,12 +1,25 @@
-// A client of the port at which an operator is told of a ring.
+// An operator, who asks at the port where one is told of a ring.
 use crate::clients::connect;
 use std::alloc::AllocGlobal;
 use std::io::{Read, Write};
 use std::net::{Net, TcpStream};
-use std::time::Clock;
+use std::time::{Clock, Duration};
+
+/// What is asked, and what is answered.
+#[derive(Clone, Copy)]
+pub enum Question {
+    /// These bytes are answered with those.
+    Whole(&'static [u8], &'static [u8]),
+    /// These bytes are answered with a status that begins so, and with a text that ends so.
+    Status(&'static [u8], &'static [u8], &'static [u8]),
+    /// This target is answered with 200 and a text in which that stands.
+    Target(&'static str, &'static [u8]),
+    /// This is told at last of what is not well; it is asked at most 5,000 times.
+    NotWell(&'static [u8]),
+}
 
 /// What is answered to these bytes, up to its end.
-pub fn answer_to<R: Net<Stream = TcpStream> + Clock + AllocGlobal>(
+fn answer_to<R: Net<Stream = TcpStream> + Clock + AllocGlobal>(
     rt: &R,
     port: u16,
     head: &[u8],
@@ -20,8 +33,21 @@ pub fn answer_to<R: Net<Stream = TcpStream> + Clock + AllocGlobal>(
     Some(bytes)
 }
 
+/// Whether this is answered to these bytes.
+pub fn is_whole<R: Net<Stream = TcpStream> + Clock + AllocGlobal>(
+    rt: &R,
+    port: u16,
+    head: &[u8],
+    answer: &[u8],
+) -> bool {
+    match answer_to(rt, port, head) {
+        Some(bytes) => bytes.as_slice() == answer,
+        None => false,
+    }
+}
+
 /// Whether the text stands somewhere in the bytes.
-pub fn has(bytes: &[u8], text: &[u8]) -> bool {
+fn has(bytes: &[u8], text: &[u8]) -> bool {
     for start in 0..bytes.len() {
         if bytes[start..].starts_with(text) {
             return true;
@@ -31,7 +57,7 @@ pub fn has(bytes: &[u8], text: &[u8]) -> bool {
 }
 
 /// Whether these bytes are answered with a status that begins so, and with a text that ends so.
-pub fn is_answered<R: Net<Stream = TcpStream> + Clock + AllocGlobal>(
+pub fn has_status<R: Net<Stream = TcpStream> + Clock + AllocGlobal>(
     rt: &R,
     port: u16,
     head: &[u8],
@@ -49,7 +75,7 @@ pub fn is_answered<R: Net<Stream = TcpStream> + Clock + AllocGlobal>(
 }
 
 /// Whether a target is answered with 200 and a text in which this stands.
-pub fn is_told<R: Net<Stream = TcpStream> + Clock + AllocGlobal>(
+fn is_told<R: Net<Stream = TcpStream> + Clock + AllocGlobal>(
     rt: &R,
     port: u16,
     target: &str,
@@ -61,5 +87,34 @@ pub fn is_told<R: Net<Stream = TcpStream> + Clock + AllocGlobal>(
     match answer_to(rt, port, head.as_bytes()) {
         Some(bytes) => bytes.starts_with(b"HTTP/1.1 200 OK\r\n") && has(&bytes, text),
         None => false,
+    }
+}
+
+/// Whether this is told at last of what is not well; it is asked at most 5,000 times.
+pub fn is_told_at_last<R: Net<Stream = TcpStream> + Clock + AllocGlobal>(
+    rt: &R,
+    port: u16,
+    text: &[u8],
+) -> bool {
+    for _ in 0..5_000 {
+        if has_status(rt, port, b"GET /health HTTP/1.1\r\n\r\n", b"503 ", text) {
+            return true;
+        }
+        rt.sleep(Duration::from_millis(1));
+    }
+    false
+}
+
+/// Whether it is answered so at this port.
+pub fn is_answered<R: Net<Stream = TcpStream> + Clock + AllocGlobal>(
+    rt: &R,
+    port: u16,
+    question: Question,
+) -> bool {
+    match question {
+        Question::Whole(head, answer) => is_whole(rt, port, head, answer),
+        Question::Status(head, status, end) => has_status(rt, port, head, status, end),
+        Question::Target(target, text) => is_told(rt, port, target, text),
+        Question::NotWell(text) => is_told_at_last(rt, port, text),
     }
 }

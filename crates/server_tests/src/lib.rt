@@ -27,3 +27,7 @@ mod refusals;
 mod sessions_ends;
 #[cfg(test)]
 mod status;
+#[cfg(test)]
+mod steps;
+#[cfg(test)]
+mod visits;

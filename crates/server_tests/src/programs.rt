@@ -1,20 +1,49 @@
-// The program, run on words and settings.
-use crate::clients::{answers, connect};
+// The program and rings, run to their end.
+use crate::devices::{Served, serve_three};
+use crate::visits::{Visit, come_out};
 use ring_server::start;
 use std::alloc::AllocGlobal;
-use std::fs;
 use std::fs::File;
 use std::net::{Net, TcpListener, TcpStream};
 use std::process::Abort;
 use std::rt::Files;
 use std::sync::Wait;
-use std::test::*;
+use std::sync::atomic::AtomicU64;
 use std::thread::{Threads, join};
 use std::time::Clock;
 
-/// Runs the program on these words and settings, to its end. Gives the status, and what was written to standard output
-/// and standard error.
-pub fn run<R>(rt: &R, words: &[&str], settings: &[u8]) -> (u8, Vec<u8>, Vec<u8>)
+/// How a run ended: the status, and what was written to standard output and standard error.
+#[derive(Drop)]
+pub struct Ended {
+    pub status: u8,
+    pub out: Vec<u8>,
+    pub err: Vec<u8>,
+}
+
+/// What serves.
+#[derive(Clone, Copy)]
+pub enum Ring {
+    /// The program, on these words and settings.
+    Program(&'static [&'static str], &'static [u8]),
+    /// Three nodes over devices in memory.
+    Three(Served),
+}
+
+/// A ring, and how it ends.
+#[derive(Clone, Copy)]
+pub struct Scenario {
+    pub ring: Ring,
+    /// What clients do meanwhile, each row in a thread of its own.
+    pub visits: [&'static [Visit]; 3],
+    pub status: u8,
+    /// What standard output begins with.
+    pub out: &'static [u8],
+    /// What standard error is, if that is to be known.
+    pub err: Option<&'static [u8]>,
+}
+
+/// Runs the program on these words and settings, to its end.
+pub fn run<R>(rt: &R, words: &[&str], settings: &[u8]) -> Ended
 where
     R: Threads
         + Wait
@@ -23,7 +52,6 @@ where
         + Copy
         + 'static
         + Clock
-        + Abort
         + AllocGlobal
         + Files<File = File>
         + Net<Listener = TcpListener, Stream = TcpStream>,
@@ -31,11 +59,11 @@ where
     let mut out = Vec::new(rt.alloc());
     let mut err = Vec::new(rt.alloc());
     let status = start(rt, rt.alloc(), words, &mut &*settings, &mut out, &mut err);
-    (status, out, err)
+    Ended { status, out, err }
 }
 
-/// The program ends so on these words and settings, with this text on standard error.
-pub fn ends<R>(rt: &R, words: &[&str], settings: &[u8], status: u8, text: &[u8])
+/// Runs the ring to its end. How long standard error is stands in `seen` meanwhile, where it is over devices in memory.
+fn serve<R>(rt: &R, ring: Ring, seen: &AtomicU64) -> Ended
 where
     R: Threads
         + Wait
@@ -49,27 +77,25 @@ where
         + Files<File = File>
         + Net<Listener = TcpListener, Stream = TcpStream>,
 {
-    let (ended, _, err) = run(rt, words, settings);
-    assert_eq!(rt; ended, status);
-    assert!(rt; err.as_slice() == text);
-}
-
-/// Whether a client that asks this of the node at this port is answered so, and then says `bye`.
-pub fn asks<R: Net<Stream = TcpStream> + Clock>(
-    rt: &R,
-    port: u16,
-    line: &[u8],
-    text: &[u8],
-) -> bool {
-    match connect(rt, port) {
-        Some(stream) => answers(&stream, line, text) && answers(&stream, b"bye\n", b"bye"),
-        None => false,
+    match ring {
+        Ring::Program(words, settings) => run(rt, words, settings),
+        Ring::Three(served) => serve_three(rt, served, seen),
     }
 }
 
-/// Serves a ring of two for one session each, in which nothing is asked but this of node 1. It ends well, and the client
-/// is answered so.
-pub fn serves<R>(rt: &R, settings: &[u8], port: u16, line: &[u8], text: &[u8])
+impl Scenario {
+    /// It ended so.
+    fn ends(&self, rt: &impl Abort, ended: &Ended) {
+        if let Some(err) = self.err {
+            assert!(rt; ended.err.as_slice() == err);
+        }
+        assert_eq!(rt; ended.status, self.status);
+        assert!(rt; ended.out.starts_with(self.out));
+    }
+}
+
+/// The ring serves one row of clients. Whether they are answered as they are to be.
+fn serve_one<R>(rt: &R, ring: Ring, row: &[Visit], seen: &AtomicU64) -> (bool, Ended)
 where
     R: Threads
         + Wait
@@ -83,23 +109,84 @@ where
         + Files<File = File>
         + Net<Listener = TcpListener, Stream = TcpStream>,
 {
-    let words = ["ringd", "--serve", "1"];
-    let (told, (status, out, err)) = join(
+    join(
         rt,
-        move || {
-            let first = asks(rt, port, line, text);
-            asks(rt, port.saturating_add(1), b"who red 1\n", b"none") && first
-        },
-        || run(rt, &words, settings),
-    );
-    assert!(rt; err.is_empty());
-    assert_eq!(rt; status, 0);
-    assert!(rt; told);
-    assert!(rt; out.starts_with(b"nodes 2\n"));
+        move || come_out(rt, row, seen),
+        move || serve(rt, ring, seen),
+    )
 }
 
-/// An empty folder.
-pub fn anew<R: Abort + AllocGlobal + Files<File = File>>(rt: &R, folder: &str) {
-    let _ = fs::remove_dir_all(rt, folder);
-    fs::create_dir(rt, folder).expect(rt, "a folder that can be made");
+/// The ring serves two rows of clients beside each other. Whether they are answered as they are to be.
+fn serve_two<R>(
+    rt: &R,
+    ring: Ring,
+    first: &[Visit],
+    second: &[Visit],
+    seen: &AtomicU64,
+) -> (bool, Ended)
+where
+    R: Threads
+        + Wait
+        + Sync
+        + Send
+        + Copy
+        + 'static
+        + Clock
+        + Abort
+        + AllocGlobal
+        + Files<File = File>
+        + Net<Listener = TcpListener, Stream = TcpStream>,
+{
+    let (one, (two, ended)) = join(
+        rt,
+        move || come_out(rt, first, seen),
+        move || serve_one(rt, ring, second, seen),
+    );
+    (one && two, ended)
+}
+
+/// The ring serves the clients, who are answered as they are to be, each row of them in a thread of its own.
+pub fn beside<R>(rt: &R, ring: Ring, first: &[Visit], second: &[Visit], third: &[Visit]) -> Ended
+where
+    R: Threads
+        + Wait
+        + Sync
+        + Send
+        + Copy
+        + 'static
+        + Clock
+        + Abort
+        + AllocGlobal
+        + Files<File = File>
+        + Net<Listener = TcpListener, Stream = TcpStream>,
+{
+    let seen = AtomicU64::new(0);
+    let seen = &seen;
+    let (one, (others, ended)) = join(
+        rt,
+        move || come_out(rt, first, seen),
+        move || serve_two(rt, ring, second, third, seen),
+    );
+    assert!(rt; one && others);
+    ended
+}
+
+/// The ring serves the clients, and ends so.
+pub fn runs<R>(rt: &R, scenario: &Scenario)
+where
+    R: Threads
+        + Wait
+        + Sync
+        + Send
+        + Copy
+        + 'static
+        + Clock
+        + Abort
+        + AllocGlobal
+        + Files<File = File>
+        + Net<Listener = TcpListener, Stream = TcpStream>,
+{
+    let rows = &scenario.visits;
+    let ended = beside(rt, scenario.ring, rows[0], rows[1], rows[2]);
+    scenario.ends(rt, &ended);
 }

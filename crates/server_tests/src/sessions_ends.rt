@@ -1,16 +1,18 @@
 // How sessions end where a client is slow, takes nothing, or sends more than is read.
 use crate::clients::{connect, reads_to_the_end};
-use crate::programs::{anew, asks, run};
+use crate::programs::{Ring, Scenario};
+use crate::steps::{anew, runs_anew};
+use crate::visits::{Visit, asks};
 use ring_server::start;
+use std::alloc::AllocGlobal;
 use std::io::Write;
 use std::net::{Net, TcpStream};
 use std::test::*;
-use std::thread::join;
 use std::time::{Clock, Duration};
 use std::{fs, io};
 
 /// Whether a client that sends a byte every 0.4 seconds is left before its line is whole.
-fn is_left_within_a_line<R: Net<Stream = TcpStream> + Clock>(rt: &R, port: u16) -> bool {
+pub fn is_left_within_a_line<R: Net<Stream = TcpStream> + Clock>(rt: &R, port: u16) -> bool {
     let Some(stream) = connect(rt, port) else {
         return false;
     };
@@ -25,113 +27,106 @@ fn is_left_within_a_line<R: Net<Stream = TcpStream> + Clock>(rt: &R, port: u16) 
     reads_to_the_end(&stream, b"")
 }
 
+const SLOW: Scenario = Scenario {
+    ring: Ring::Program(
+        &["ringd", "--serve", "1", "--idle", "1"],
+        b"nodes = 2\ndir = \"slow\"\nport = 7201\n",
+    ),
+    visits: [&[Visit::IsSlow(7201)], &[Visit::IsSlow(7202)], &[]],
+    status: 0,
+    out: b"",
+    err: Some(b""),
+};
+
 #[test]
-fn a_slow_line(rt: HostRuntime) -> Result<(), Fail> {
-    anew(&rt, "slow");
-    let settings = b"nodes = 2\ndir = \"slow\"\nport = 7201\n".as_slice();
-    let words = ["ringd", "--serve", "1", "--idle", "1"];
-    let (rt, words) = (&rt, &words);
-    let (told, (status, _, err)) = join(
-        rt,
-        move || {
-            let (one, two) = join(
-                rt,
-                move || is_left_within_a_line(rt, 7201),
-                move || is_left_within_a_line(rt, 7202),
-            );
-            one && two
-        },
-        move || run(rt, words, settings),
-    );
-    assert!(rt; told);
-    assert_eq!(rt; status, 0);
-    assert!(rt; err.is_empty());
-    fs::remove_dir_all(rt, "slow")?;
-    Ok(())
+fn a_slow_line(rt: HostRuntime) {
+    runs_anew(&rt, "slow", &SLOW);
 }
 
-/// Whether all answers come where as many bytes as this stand behind `bye`, in so many sessions.
-fn is_answered_whole<R: Net<Stream = TcpStream> + Clock>(
+/// The first line, and so many times the second.
+fn repeated<R: AllocGlobal>(rt: &R, first: &[u8], line: &[u8], count: u32) -> Option<Vec<u8>> {
+    let mut lines = Vec::new(rt.alloc());
+    lines.extend_from_slice(first).ok()?;
+    for _ in 0..count {
+        lines.extend_from_slice(line).ok()?;
+    }
+    Some(lines)
+}
+
+/// Whether all answers come where these bytes stand behind `bye`.
+fn is_answered_before<R: Net<Stream = TcpStream> + Clock>(rt: &R, port: u16, lines: &[u8]) -> bool {
+    let Some(stream) = connect(rt, port) else {
+        return false;
+    };
+    let mut writer = &stream;
+    writer.write_all(lines).is_ok() && reads_to_the_end(&stream, b"none\nnone\nbye\n")
+}
+
+/// Whether all answers come where 31,000 bytes stand behind `bye`, in so many sessions.
+pub fn is_answered_whole<R: Net<Stream = TcpStream> + Clock + AllocGlobal>(
     rt: &R,
     port: u16,
-    lines: &[u8],
     sessions: u32,
 ) -> bool {
+    let first = b"latest red\nlatest blue\nbye\n";
+    let Some(lines) = repeated(rt, first, b"latest red and nobody reads it\n", 1_000) else {
+        return false;
+    };
     for _ in 0..sessions {
-        let Some(stream) = connect(rt, port) else {
-            return false;
-        };
-        let mut writer = &stream;
-        if writer.write_all(lines).is_err() || !reads_to_the_end(&stream, b"none\nnone\nbye\n") {
+        if !is_answered_before(rt, port, &lines) {
             return false;
         }
     }
     true
 }
 
+const BEHIND: Scenario = Scenario {
+    ring: Ring::Program(
+        &["ringd", "--serve", "100"],
+        b"nodes = 2\ndir = \"behind\"\nport = 7204\n",
+    ),
+    visits: [
+        &[Visit::SendsMore(7204, 100), Visit::SendsMore(7205, 100)],
+        &[],
+        &[],
+    ],
+    status: 0,
+    out: b"",
+    err: Some(b""),
+};
+
 #[test]
-fn answers_before_a_close(rt: HostRuntime) -> Result<(), Fail> {
-    anew(&rt, "behind");
-    let settings = b"nodes = 2\ndir = \"behind\"\nport = 7204\n".as_slice();
-    let words = ["ringd", "--serve", "100"];
-    let mut lines = Vec::new(rt.alloc());
-    lines.extend_from_slice(b"latest red\nlatest blue\nbye\n")?;
-    for _ in 0..1_000 {
-        lines.extend_from_slice(b"latest red and nobody reads it\n")?;
-    }
-    let (rt, words, lines) = (&rt, &words, lines.as_slice());
-    let (told, (status, _, err)) = join(
-        rt,
-        move || {
-            let first = is_answered_whole(rt, 7204, lines, 100);
-            is_answered_whole(rt, 7205, lines, 100) && first
-        },
-        move || run(rt, words, settings),
-    );
-    assert!(rt; told);
-    assert_eq!(rt; status, 0);
-    assert!(rt; err.is_empty());
-    fs::remove_dir_all(rt, "behind")?;
-    Ok(())
+fn answers_before_a_close(rt: HostRuntime) {
+    runs_anew(&rt, "behind", &BEHIND);
 }
 
-/// Whether the only door of a node is free again behind a client that asks and takes no answer, and stays.
-fn is_passed_over<R: Net<Stream = TcpStream> + Clock>(rt: &R, port: u16, lines: &[u8]) -> bool {
-    let Some(stream) = connect(rt, port) else {
+/// Whether the only door of a node is free again behind a client that asks 11,000 times and takes no answer, and stays.
+pub fn is_passed_over<R: Net<Stream = TcpStream> + Clock + AllocGlobal>(rt: &R, port: u16) -> bool {
+    let (Some(lines), Some(stream)) = (
+        repeated(rt, b"", b"latest red\n", 11_000),
+        connect(rt, port),
+    ) else {
         return false;
     };
     let mut writer = &stream;
-    let _ = writer.write_all(lines);
+    let _ = writer.write_all(&lines);
     asks(rt, port, b"who red 1\n", b"none") && stream.local_addr().is_ok()
 }
 
+const FULL: Scenario = Scenario {
+    ring: Ring::Program(
+        &["ringd", "--serve", "2", "--idle", "1"],
+        b"nodes = 2\ndir = \"full\"\nport = 7207\n",
+    ),
+    visits: [&[Visit::TakesNone(7207)], &[Visit::TakesNone(7208)], &[]],
+    status: 0,
+    out: b"",
+    err: Some(b""),
+};
+
 #[test]
-fn a_client_that_takes_no_answer(rt: HostRuntime) -> Result<(), Fail> {
-    anew(&rt, "full");
-    let settings = b"nodes = 2\ndir = \"full\"\nport = 7207\n".as_slice();
-    let words = ["ringd", "--serve", "2", "--idle", "1"];
-    let mut lines = Vec::new(rt.alloc());
-    for _ in 0..11_000 {
-        lines.extend_from_slice(b"latest red\n")?;
-    }
-    let (rt, words, lines) = (&rt, &words, lines.as_slice());
-    let (told, (status, _, err)) = join(
-        rt,
-        move || {
-            let (one, two) = join(
-                rt,
-                move || is_passed_over(rt, 7207, lines),
-                move || is_passed_over(rt, 7208, lines),
-            );
-            one && two
-        },
-        move || run(rt, words, settings),
-    );
-    assert!(rt; told);
-    assert_eq!(rt; status, 0);
-    assert!(rt; err.is_empty());
-    fs::remove_dir_all(rt, "full")?;
-    Ok(())
+fn a_client_that_takes_no_answer(rt: HostRuntime) {
+    runs_anew(&rt, "full", &FULL);
 }
 
 /// Takes all but the line `serving`.

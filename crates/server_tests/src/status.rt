@@ -1,16 +1,19 @@
 // What an operator is told of a ring while it serves.
-use crate::clients::{answers, answers_at_last, connect};
-use crate::devices::{Served, serve_three, stands_until_it_fails};
-use crate::http::{answer_to, has, is_answered, is_told};
-use crate::programs::{anew, asks, ends, run};
+use crate::clients::connect;
+use crate::devices::Served;
+use crate::http::Question::{NotWell, Status, Target, Whole};
+use crate::http::{has_status, is_told_at_last, is_whole};
+use crate::programs::{Ring, Scenario, runs};
+use crate::steps::Change::{Anew, Clears};
+use crate::steps::Step::{Changes, Ends, EndsBesidePort};
+use crate::steps::{Step, plays, runs_anew};
+use crate::visits::Say::{AtLast, Line, Meanwhile};
+use crate::visits::{Say, Visit};
 use std::alloc::AllocGlobal;
-use std::fs;
 use std::io::{Read, Write};
-use std::net::{Ipv4Addr, Net, TcpListener, TcpStream};
-use std::sync::atomic::AtomicU64;
+use std::net::{Net, TcpStream};
 use std::test::*;
-use std::thread::join;
-use std::time::{Clock, Duration};
+use std::time::Clock;
 
 const WELL: &[u8] =
     b"HTTP/1.1 200 OK\r\nContent-Type: text/plain; charset=utf-8\r\nContent-Length: 5\r\nCache-Control: no-store\r\nConnection: close\r\n\r\nwell\n";
@@ -18,212 +21,191 @@ const WELL: &[u8] =
 const HEAD_OF_WELL: &[u8] =
     b"HTTP/1.1 200 OK\r\nContent-Type: text/plain; charset=utf-8\r\nContent-Length: 5\r\nCache-Control: no-store\r\nConnection: close\r\n\r\n";
 
-/// Whether this is answered to these bytes.
-fn is_whole<R: Net<Stream = TcpStream> + Clock + AllocGlobal>(
-    rt: &R,
-    port: u16,
-    head: &[u8],
-    answer: &[u8],
-) -> bool {
-    match answer_to(rt, port, head) {
-        Some(bytes) => bytes.as_slice() == answer,
-        None => false,
-    }
-}
+/// Node 1 of two stands, and while its session is open an operator asks at 7230 what is told of that.
+const OPEN: &[Say] = &[
+    Line(b"stand red 5 10\n", b"stood"),
+    Line(b"stand red 5 10\n", b"no 3 already 10"),
+    Line(b"stand RED 5 10\n", b"no 1 name"),
+    AtLast(b"latest red\n", b"term 5 leader 1 10"),
+    Meanwhile(
+        7230,
+        Target(
+            "/status",
+            b"{\"dir\":\"told\",\"nodes\":[{\"journal\":{\"batches\":",
+        ),
+    ),
+    Meanwhile(
+        7230,
+        Target(
+            "/status",
+            b"\"sessions\":{\"begun\":1,\"busy\":1,\"doors\":2,\"refusals\":[{\"count\":1,\"number\":1},{\"count\":1,\"number\":3}]},\"stands\":{\"left\":1023,\"taken\":1},\"state\":\"well\"},",
+        ),
+    ),
+    Meanwhile(
+        7230,
+        Target(
+            "/status",
+            b"\"sessions\":{\"begun\":0,\"busy\":0,\"doors\":2,\"refusals\":[]},\"stands\":{\"left\":1024,\"taken\":0},\"state\":\"well\"}],\"started\":",
+        ),
+    ),
+    Meanwhile(7230, Target("/status", b",\"version\":\"0.1.0\"}")),
+    Meanwhile(
+        7230,
+        Target(
+            "/metrics",
+            b"\ncinoweta_stands_total{node=\"1\"} 1\ncinoweta_stands_total{node=\"2\"} 0\n",
+        ),
+    ),
+    Meanwhile(
+        7230,
+        Target("/metrics", b"\ncinoweta_doors_busy{node=\"1\"} 1\n"),
+    ),
+    Meanwhile(
+        7230,
+        Target(
+            "/metrics",
+            b"\ncinoweta_refusals_total{node=\"1\",number=\"1\"} 1\ncinoweta_refusals_total{node=\"1\",number=\"3\"} 1\n",
+        ),
+    ),
+    Meanwhile(
+        7230,
+        Target(
+            "/leaders",
+            b"{\"by\":1,\"leaders\":[{\"bid\":10,\"group\":\"red\",\"node\":1,\"term\":5}],\"more\":false}",
+        ),
+    ),
+    Meanwhile(
+        7230,
+        Target(
+            "/leaders?after=red",
+            b"{\"by\":1,\"leaders\":[],\"more\":false}",
+        ),
+    ),
+    Meanwhile(
+        7230,
+        Target(
+            "/leaders/red",
+            b"{\"by\":1,\"leader\":{\"bid\":10,\"group\":\"red\",\"node\":1,\"term\":5}}",
+        ),
+    ),
+    Meanwhile(7230, Whole(b"GET /health HTTP/1.1\r\n\r\n", WELL)),
+    Meanwhile(7230, Whole(b"HEAD /health HTTP/1.1\r\n\r\n", HEAD_OF_WELL)),
+    Line(b"bye\n", b"bye"),
+];
 
-/// Stands at node 1 of two, of which a session is open then, and asks what is told of that at this port.
-fn asks_of_two<R: Net<Stream = TcpStream> + Clock + AllocGlobal>(
-    rt: &R,
-    first: u16,
-    port: u16,
-) -> bool {
-    let Some(stream) = connect(rt, first) else {
-        return false;
-    };
-    let stood = answers(&stream, b"stand red 5 10\n", b"stood")
-        && answers(&stream, b"stand red 5 10\n", b"no 3 already 10")
-        && answers(&stream, b"stand RED 5 10\n", b"no 1 name")
-        && answers_at_last(rt, &stream, b"latest red\n", b"term 5 leader 1 10");
-    let status = is_told(
-        rt,
-        port,
-        "/status",
-        b"{\"dir\":\"told\",\"nodes\":[{\"journal\":{\"batches\":",
-    ) && is_told(
-        rt,
-        port,
-        "/status",
-        b"\"sessions\":{\"begun\":1,\"busy\":1,\"doors\":2,\"refusals\":[{\"count\":1,\"number\":1},{\"count\":1,\"number\":3}]},\"stands\":{\"left\":1023,\"taken\":1},\"state\":\"well\"},",
-    ) && is_told(
-        rt,
-        port,
-        "/status",
-        b"\"sessions\":{\"begun\":0,\"busy\":0,\"doors\":2,\"refusals\":[]},\"stands\":{\"left\":1024,\"taken\":0},\"state\":\"well\"}],\"started\":",
-    ) && is_told(rt, port, "/status", b",\"version\":\"0.1.0\"}");
-    let metrics = is_told(
-        rt,
-        port,
-        "/metrics",
-        b"\ncinoweta_stands_total{node=\"1\"} 1\ncinoweta_stands_total{node=\"2\"} 0\n",
-    ) && is_told(
-        rt,
-        port,
-        "/metrics",
-        b"\ncinoweta_doors_busy{node=\"1\"} 1\n",
-    ) && is_told(
-        rt,
-        port,
-        "/metrics",
-        b"\ncinoweta_refusals_total{node=\"1\",number=\"1\"} 1\ncinoweta_refusals_total{node=\"1\",number=\"3\"} 1\n",
-    );
-    let leaders = is_told(
-        rt,
-        port,
-        "/leaders",
-        b"{\"by\":1,\"leaders\":[{\"bid\":10,\"group\":\"red\",\"node\":1,\"term\":5}],\"more\":false}",
-    ) && is_told(
-        rt,
-        port,
-        "/leaders?after=red",
-        b"{\"by\":1,\"leaders\":[],\"more\":false}",
-    ) && is_told(
-        rt,
-        port,
-        "/leaders/red",
-        b"{\"by\":1,\"leader\":{\"bid\":10,\"group\":\"red\",\"node\":1,\"term\":5}}",
-    );
-    let well = is_whole(rt, port, b"GET /health HTTP/1.1\r\n\r\n", WELL)
-        && is_whole(rt, port, b"HEAD /health HTTP/1.1\r\n\r\n", HEAD_OF_WELL);
-    answers(&stream, b"bye\n", b"bye") && stood && status && metrics && leaders && well
-}
+const TOLD: Scenario = Scenario {
+    ring: Ring::Program(
+        &["ringd", "--serve", "1", "--doors", "2", "--status", "7230"],
+        b"nodes = 2\ndir = \"told\"\nport = 7231\n",
+    ),
+    visits: [
+        &[
+            Visit::Says(7231, OPEN),
+            Visit::Asks(7232, b"who blue 4\n", b"none"),
+        ],
+        &[],
+        &[],
+    ],
+    status: 0,
+    out: b"nodes 2\ndir told\nport 7231\ncapacity 65536\nserving\nnode 1 inputs ",
+    err: Some(b""),
+};
 
 #[test]
-fn a_ring_is_told_of(rt: HostRuntime) -> Result<(), Fail> {
-    anew(&rt, "told");
-    let settings = b"nodes = 2\ndir = \"told\"\nport = 7231\n".as_slice();
-    let words = ["ringd", "--serve", "1", "--doors", "2", "--status", "7230"];
-    let (rt, words) = (&rt, &words);
-    let (told, (status, out, err)) = join(
-        rt,
-        move || {
-            let first = asks_of_two(rt, 7231, 7230);
-            asks(rt, 7232, b"who blue 4\n", b"none") && first
-        },
-        move || run(rt, words, settings),
-    );
-    assert!(rt; told);
-    assert_eq!(rt; status, 0);
-    assert!(rt; err.is_empty());
-    assert!(rt;
-        out.starts_with(b"nodes 2\ndir told\nport 7231\ncapacity 65536\nserving\nnode 1 inputs ")
-    );
-    fs::remove_dir_all(rt, "told")?;
-    Ok(())
+fn a_ring_is_told_of(rt: HostRuntime) {
+    runs_anew(&rt, "told", &TOLD);
 }
 
-/// How many of these eight are refused, up to the first that is not.
-fn refuses<R: Net<Stream = TcpStream> + Clock + AllocGlobal>(rt: &R, port: u16) -> usize {
-    let rows: [(&[u8], &[u8], &[u8]); 8] = [
-        (
-            b"GET /x HTTP/1.1\r\n\r\n",
-            b"404 ",
-            b"\r\n\r\n404 Not Found\n",
-        ),
-        (
-            b"GET /leaders/red HTTP/1.1\r\n\r\n",
-            b"404 ",
-            b"\r\n\r\n404 Not Found\n",
-        ),
-        (
-            b"GET /leaders?node=3 HTTP/1.1\r\n\r\n",
-            b"404 ",
-            b"\r\n\r\n404 Not Found\n",
-        ),
-        (
-            b"GET /leaders?node=0 HTTP/1.1\r\n\r\n",
-            b"400 ",
-            b"\r\n\r\n400 Bad Request\n",
-        ),
-        (
-            b"GET /leaders/RED HTTP/1.1\r\n\r\n",
-            b"400 ",
-            b"\r\n\r\n400 Bad Request\n",
-        ),
-        (b"\x01\r\n\r\n", b"400 ", b"\r\n\r\n400 Bad Request\n"),
-        (
-            b"POST /health HTTP/1.1\r\n\r\n",
-            b"405 Method Not Allowed\r\n",
-            b"\r\n\r\n405 Method Not Allowed\n",
-        ),
-        (
-            b"HEAD /x HTTP/1.1\r\n\r\n",
-            b"404 ",
-            b"\r\nConnection: close\r\n\r\n",
-        ),
-    ];
-    let mut count = 0usize;
-    for (head, status, end) in rows {
-        if !is_answered(rt, port, head, status, end) {
-            break;
-        }
-        count = count.saturating_add(1);
+const NOT_FOUND: &[u8] = b"\r\n\r\n404 Not Found\n";
+
+const BAD_REQUEST: &[u8] = b"\r\n\r\n400 Bad Request\n";
+
+const ASKED: Scenario = Scenario {
+    ring: Ring::Program(
+        &["ringd", "--serve", "1", "--status", "7235"],
+        b"nodes = 2\ndir = \"asked\"\nport = 7236\n",
+    ),
+    visits: [
+        &[
+            Visit::Operator(7235, Status(b"GET /x HTTP/1.1\r\n\r\n", b"404 ", NOT_FOUND)),
+            Visit::Operator(
+                7235,
+                Status(b"GET /leaders/red HTTP/1.1\r\n\r\n", b"404 ", NOT_FOUND),
+            ),
+            Visit::Operator(
+                7235,
+                Status(b"GET /leaders?node=3 HTTP/1.1\r\n\r\n", b"404 ", NOT_FOUND),
+            ),
+            Visit::Operator(
+                7235,
+                Status(
+                    b"GET /leaders?node=0 HTTP/1.1\r\n\r\n",
+                    b"400 ",
+                    BAD_REQUEST,
+                ),
+            ),
+            Visit::Operator(
+                7235,
+                Status(b"GET /leaders/RED HTTP/1.1\r\n\r\n", b"400 ", BAD_REQUEST),
+            ),
+            Visit::Operator(7235, Status(b"\x01\r\n\r\n", b"400 ", BAD_REQUEST)),
+            Visit::Operator(
+                7235,
+                Status(
+                    b"POST /health HTTP/1.1\r\n\r\n",
+                    b"405 Method Not Allowed\r\n",
+                    b"\r\n\r\n405 Method Not Allowed\n",
+                ),
+            ),
+            Visit::Operator(
+                7235,
+                Status(
+                    b"HEAD /x HTTP/1.1\r\n\r\n",
+                    b"404 ",
+                    b"\r\nConnection: close\r\n\r\n",
+                ),
+            ),
+            Visit::MeasuresHeads(7235),
+            Visit::Asks(7236, b"who blue 4\n", b"none"),
+            Visit::Asks(7237, b"who blue 4\n", b"none"),
+        ],
+        &[],
+        &[],
+    ],
+    status: 0,
+    out: b"",
+    err: Some(b""),
+};
+
+#[test]
+fn requests_that_are_refused(rt: HostRuntime) {
+    runs_anew(&rt, "asked", &ASKED);
+}
+
+/// A head of so many bytes.
+fn head_of<R: AllocGlobal>(rt: &R, len: usize) -> Option<Vec<u8>> {
+    let mut head = Vec::new(rt.alloc());
+    head.extend_from_slice(b"GET /health HTTP/1.1\r\nA: ").ok()?;
+    for _ in head.len()..len.saturating_sub(4) {
+        head.push(b'a').ok()?;
     }
-    count
+    head.extend_from_slice(b"\r\n\r\n").ok()?;
+    Some(head)
 }
 
 /// Whether a head of 8,192 bytes is answered, and a longer one is too large.
-fn measures_heads<R: Net<Stream = TcpStream> + Clock + AllocGlobal>(rt: &R, port: u16) -> bool {
-    let mut head = Vec::new(rt.alloc());
-    if head
-        .extend_from_slice(b"GET /health HTTP/1.1\r\nA: ")
-        .is_err()
-    {
+pub fn measures_heads<R: Net<Stream = TcpStream> + Clock + AllocGlobal>(rt: &R, port: u16) -> bool {
+    let (Some(head), Some(long)) = (head_of(rt, 8_192), head_of(rt, 8_197)) else {
         return false;
-    }
-    for _ in head.len()..8_188 {
-        if head.push(b'a').is_err() {
-            return false;
-        }
-    }
-    let mut long = Vec::new(rt.alloc());
-    if long.extend_from_slice(&head).is_err() || long.extend_from_slice(b"aaaaa\r\n\r\n").is_err() {
-        return false;
-    }
-    if head.extend_from_slice(b"\r\n\r\n").is_err() {
-        return false;
-    }
+    };
     is_whole(rt, port, &head, WELL)
-        && is_answered(
+        && has_status(
             rt,
             port,
             &long,
             b"431 ",
             b"\r\n\r\n431 Request Header Fields Too Large\n",
         )
-}
-
-#[test]
-fn requests_that_are_refused(rt: HostRuntime) -> Result<(), Fail> {
-    anew(&rt, "asked");
-    let settings = b"nodes = 2\ndir = \"asked\"\nport = 7236\n".as_slice();
-    let words = ["ringd", "--serve", "1", "--status", "7235"];
-    let (rt, words) = (&rt, &words);
-    let (told, (status, _, err)) = join(
-        rt,
-        move || {
-            let refused = refuses(rt, 7235);
-            let measured = measures_heads(rt, 7235);
-            let first = asks(rt, 7236, b"who blue 4\n", b"none");
-            let second = asks(rt, 7237, b"who blue 4\n", b"none");
-            (refused, measured, first && second)
-        },
-        move || run(rt, words, settings),
-    );
-    assert_eq!(rt; told, (8, true, true));
-    assert_eq!(rt; status, 0);
-    assert!(rt; err.is_empty());
-    fs::remove_dir_all(rt, "asked")?;
-    Ok(())
 }
 
 /// Whether a client that is silent is left without an answer.
@@ -237,7 +219,10 @@ fn is_left(stream: &TcpStream) -> bool {
 }
 
 /// Whether one client is served beside seven that send half a head, and these are left then.
-fn is_served_beside<R: Net<Stream = TcpStream> + Clock + AllocGlobal>(rt: &R, port: u16) -> bool {
+pub fn is_served_beside<R: Net<Stream = TcpStream> + Clock + AllocGlobal>(
+    rt: &R,
+    port: u16,
+) -> bool {
     let mut silent = Vec::new(rt.alloc());
     for _ in 0..7 {
         let Some(stream) = connect(rt, port) else {
@@ -259,48 +244,34 @@ fn is_served_beside<R: Net<Stream = TcpStream> + Clock + AllocGlobal>(rt: &R, po
     served && left
 }
 
+const UNASKED: Scenario = Scenario {
+    ring: Ring::Program(
+        &["ringd", "--serve", "1", "--status", "7240"],
+        b"nodes = 2\ndir = \"unasked\"\nport = 7241\n",
+    ),
+    visits: [
+        &[
+            Visit::IsBesideSilent(7240),
+            Visit::Asks(7241, b"who blue 4\n", b"none"),
+            Visit::Asks(7242, b"who blue 4\n", b"none"),
+        ],
+        &[],
+        &[],
+    ],
+    status: 0,
+    out: b"",
+    err: Some(b""),
+};
+
 #[test]
-fn clients_that_do_not_ask(rt: HostRuntime) -> Result<(), Fail> {
-    anew(&rt, "unasked");
-    let settings = b"nodes = 2\ndir = \"unasked\"\nport = 7241\n".as_slice();
-    let words = ["ringd", "--serve", "1", "--status", "7240"];
-    let (rt, words) = (&rt, &words);
-    let (told, (status, _, err)) = join(
-        rt,
-        move || {
-            let beside = is_served_beside(rt, 7240);
-            let first = asks(rt, 7241, b"who blue 4\n", b"none");
-            asks(rt, 7242, b"who blue 4\n", b"none") && first && beside
-        },
-        move || run(rt, words, settings),
-    );
-    assert!(rt; told);
-    assert_eq!(rt; status, 0);
-    assert!(rt; err.is_empty());
-    fs::remove_dir_all(rt, "unasked")?;
-    Ok(())
+fn clients_that_do_not_ask(rt: HostRuntime) {
+    runs_anew(&rt, "unasked", &UNASKED);
 }
 
-/// Whether this is told at last of what is not well; it is asked at most 5,000 times.
-fn is_told_at_last<R: Net<Stream = TcpStream> + Clock + AllocGlobal>(
+/// Stands for 250 terms of `red`, without a look at the answers, until this is told at that port of what is not well.
+pub fn stands_until<R: AllocGlobal + Clock + Net<Stream = TcpStream>>(
     rt: &R,
     port: u16,
-    text: &[u8],
-) -> bool {
-    for _ in 0..5_000 {
-        if is_answered(rt, port, b"GET /health HTTP/1.1\r\n\r\n", b"503 ", text) {
-            return true;
-        }
-        rt.sleep(Duration::from_millis(1));
-    }
-    false
-}
-
-/// Stands for so many terms of `red`, without a look at the answers, until this is told of what is not well.
-fn stands_until<R: AllocGlobal + Clock + Net<Stream = TcpStream>>(
-    rt: &R,
-    port: u16,
-    count: u32,
     told_at: u16,
     text: &[u8],
 ) -> bool {
@@ -308,7 +279,7 @@ fn stands_until<R: AllocGlobal + Clock + Net<Stream = TcpStream>>(
         return false;
     };
     let mut lines = Vec::new(rt.alloc());
-    for term in 1..=count {
+    for term in 1..=250u32 {
         if writeln!(lines, "stand red {term} 10").is_err() {
             return false;
         }
@@ -317,9 +288,8 @@ fn stands_until<R: AllocGlobal + Clock + Net<Stream = TcpStream>>(
     writer.write_all(&lines).is_ok() && is_told_at_last(rt, told_at, text)
 }
 
-#[test]
-fn nodes_that_are_not_well(rt: HostRuntime) {
-    let served = Served {
+const NOT_WELL: Scenario = Scenario {
+    ring: Ring::Three(Served {
         port: 7246,
         capacity: 4096,
         sessions: Some(1),
@@ -327,51 +297,47 @@ fn nodes_that_are_not_well(rt: HostRuntime) {
         fails_after: 40,
         fail_stop: false,
         status: Some(7245),
-    };
-    let len = AtomicU64::new(0);
-    let (rt, seen) = (&rt, &len);
-    let (told, ended) = join(
-        rt,
-        move || {
-            let fails = stands_until_it_fails(rt, 7248);
-            let failed = is_told_at_last(rt, 7245, b"\r\n\r\nnode 2 failed\n");
-            let both = b"\r\n\r\nnode 1 full\nnode 2 failed\n".as_slice();
-            let fills = stands_until(rt, 7247, 250, 7245, both);
-            asks(rt, 7249, b"latest green\n", b"none") && fails && failed && fills
-        },
-        move || serve_three(rt, served, seen),
-    );
-    assert!(rt; told);
-    match ended {
-        Some((status, _, _)) => assert_eq!(rt; status, 1),
-        None => panic!(rt; "not served"),
-    }
-}
+    }),
+    visits: [
+        &[
+            Visit::StandsUntilItFails(7248),
+            Visit::Operator(7245, NotWell(b"\r\n\r\nnode 2 failed\n")),
+            Visit::StandsUntil(7247, 7245, b"\r\n\r\nnode 1 full\nnode 2 failed\n"),
+            Visit::Asks(7249, b"latest green\n", b"none"),
+        ],
+        &[],
+        &[],
+    ],
+    status: 1,
+    out: b"",
+    err: None,
+};
 
 #[test]
-fn a_port_that_is_in_use(rt: HostRuntime) -> Result<(), Fail> {
-    anew(&rt, "port");
-    let settings = b"nodes = 2\ndir = \"port\"\nport = 7252\n".as_slice();
-    let words = ["ringd", "--serve", "1", "--status", "7251"];
-    {
-        let listener = TcpListener::bind(&rt, (Ipv4Addr::LOCALHOST, 7251))?;
-        ends(
-            &rt,
-            &words,
-            settings,
-            1,
-            b"ringd: port 7251 cannot be used\n",
-        );
-        assert!(rt; listener.local_addr().is_ok());
-    }
-    let words = ["ringd", "--serve", "1", "--status", "7252"];
-    ends(
-        &rt,
-        &words,
-        settings,
+fn nodes_that_are_not_well(rt: HostRuntime) {
+    runs(&rt, &NOT_WELL);
+}
+
+const IN_USE: &[u8] = b"nodes = 2\ndir = \"port\"\nport = 7252\n";
+
+const PORTS_IN_USE: [Step; 4] = [
+    Changes(&[Anew("port")]),
+    EndsBesidePort(
+        7251,
+        &["ringd", "--serve", "1", "--status", "7251"],
+        IN_USE,
+        b"ringd: port 7251 cannot be used\n",
+    ),
+    Ends(
+        &["ringd", "--serve", "1", "--status", "7252"],
+        IN_USE,
         1,
         b"ringd: port 7252 cannot be used\n",
-    );
-    fs::remove_dir_all(&rt, "port")?;
-    Ok(())
+    ),
+    Changes(&[Clears("port")]),
+];
+
+#[test]
+fn a_port_that_is_in_use(rt: HostRuntime) {
+    plays(&rt, &PORTS_IN_USE);
 }
