@@ -1,7 +1,8 @@
 // Decisions that a board is still to take.
-ghost use Rattle.std.specs.Prelude.{◌≡◌, ◌+◌, ◌≤◌, ◌++◌, [], length, OnOk};
+ghost use Rattle.std.specs.Prelude.{◌≡◌, ◌+◌, ◌≤◌, ◌++◌, [], length, OnOk, IfErr};
 ghost use mathlib.Core.List.{IsPrefix};
 ghost use Rattle.std.specs.VecDeque.{deque_len, deque_capacity};
+ghost use Rattle.ring_records.specs.declared.refusal.Refusal.TheVariants.{OutOfMemory};
 ghost use Rattle.decision_board.specs.Boards.{published, pending};
 
 use crate::board::Board;
@@ -23,6 +24,7 @@ impl<J: Naming> Board<J> {
         ensures told { published self.new ++ (pending self.new ++ owed.new.items) ≡ (published self.old ++ (pending self.old ++ owed.old.items)) ++ decisions.now }
         ensures published { IsPrefix (published self.old) (published self.new) }
         ensures pending { OnOk result (pending self.new ≡ []) }
+        ensures refused { IfErr result (λ e. (e ≡ OutOfMemory) × (published self.new ≡ published self.old)) }
     {
         owe(owed, decisions);
         hand_over(self, owed);
