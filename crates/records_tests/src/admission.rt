@@ -8,12 +8,12 @@ use test_rows::Cause;
 use test_rows::Note::{Elected, Token};
 use test_rows::Op::{self, Acked, Stand, Take};
 
-/// What was accepted before, an input, and why it is refused, if it is.
-type Row<'a> = (&'a str, &'a [Op], Op, Option<Cause>);
+/// What is asked, the capacity, what was accepted before, an input, and why it is refused, if it is.
+type Row = (&'static str, u32, &'static [Op], Op, Option<Cause>);
 
 /// Node 1 of three, with this capacity, judges the input after these so.
-fn judges(rt: &impl Abort, alloc: Global, capacity: u32, row: Row<'_>) {
-    let (name, before, op, cause) = row;
+fn judges(rt: &impl Abort, alloc: Global, row: &Row) {
+    let (name, capacity, before, op, cause) = *row;
     let history = inputs(rt, alloc, before);
     let refused = refusal(
         node(rt, 1),
@@ -30,29 +30,140 @@ fn judges(rt: &impl Abort, alloc: Global, capacity: u32, row: Row<'_>) {
     assert_eq!(rt; refused, want, "{name}");
 }
 
-/// The capacity is judged last.
-fn a_cost_has_to_fit(rt: &impl Abort, alloc: Global) {
-    let (stood, other) = (Stand("red", 5, 10), Stand("blue", 4, 5));
-    let before = [stood, Acked(1)];
-    let full = Some(Cause::Full);
-    let already = Some(Cause::Already(10));
-    judges(rt, alloc, 94, ("one byte too many", &before, other, full));
-    judges(rt, alloc, 95, ("it just fits", &before, other, None));
-    judges(rt, alloc, 0, ("full comes last", &[stood], stood, already));
+fn judge(rt: &impl Abort, alloc: Global, rows: &[Row]) {
+    for row in rows {
+        judges(rt, alloc, row);
+    }
 }
+
+/// Ample capacity.
+const AMPLE: u32 = 65_536;
+
+const STOOD: Op = Stand("red", 5, 10);
+
+const OTHER: Op = Stand("blue", 4, 5);
+
+const ALREADY: Option<Cause> = Some(Cause::Already(10));
+
+const STALE: Option<Cause> = Some(Cause::Stale(9));
+
+const PASSED_ON: Op = Take(0, Token("red", 5, 10, 2));
+
+/// It stood, and won.
+const LEADS: [Op; 3] = [
+    Stand("red", 9, 5),
+    Take(0, Token("red", 9, 5, 1)),
+    Take(1, Elected("red", 9, 5, 1)),
+];
+
+static STANDS: [Row; 7] = [
+    ("the first Stand", AMPLE, &[], STOOD, None),
+    ("already", AMPLE, &[STOOD], STOOD, ALREADY),
+    (
+        "already, and a message came",
+        AMPLE,
+        &[STOOD, PASSED_ON],
+        STOOD,
+        ALREADY,
+    ),
+    (
+        "late after relay",
+        AMPLE,
+        &[PASSED_ON],
+        Stand("red", 5, 40),
+        Some(Cause::Late),
+    ),
+    ("stale", AMPLE, &LEADS, Stand("red", 4, 5), STALE),
+    ("a greater term", AMPLE, &LEADS, Stand("red", 10, 5), None),
+    ("another group", AMPLE, &LEADS, OTHER, None),
+];
+
+const SECOND: Op = Take(1, Token("blue", 1, 3, 2));
+
+const OLD: Option<Cause> = Some(Cause::Old(2));
+
+static TAKES: [Row; 6] = [
+    ("gap", AMPLE, &[], SECOND, Some(Cause::Gap(0))),
+    ("the next message", AMPLE, &[PASSED_ON], SECOND, None),
+    (
+        "the message before",
+        AMPLE,
+        &[PASSED_ON, SECOND],
+        SECOND,
+        OLD,
+    ),
+    (
+        "the first message again",
+        AMPLE,
+        &[PASSED_ON, SECOND],
+        PASSED_ON,
+        OLD,
+    ),
+    (
+        "no such node",
+        AMPLE,
+        &[],
+        Take(7, Token("red", 5, 10, 4)),
+        Some(Cause::BadNumber),
+    ),
+    (
+        "the last node",
+        AMPLE,
+        &[],
+        Take(0, Token("red", 5, 10, 3)),
+        None,
+    ),
+];
+
+const CREDITED: [Op; 2] = [STOOD, Acked(1)];
+
+static CREDITS: [Row; 4] = [
+    (
+        "credit of nothing",
+        AMPLE,
+        &[STOOD],
+        Acked(0),
+        Some(Cause::Old(0)),
+    ),
+    ("credit", AMPLE, &[STOOD], Acked(1), None),
+    (
+        "credit ahead",
+        AMPLE,
+        &[STOOD],
+        Acked(2),
+        Some(Cause::AckAhead(1)),
+    ),
+    (
+        "credit again",
+        AMPLE,
+        &CREDITED,
+        Acked(1),
+        Some(Cause::Old(1)),
+    ),
+];
+
+/// The capacity is judged last.
+static COSTS: [Row; 3] = [
+    ("one byte too many", 94, &CREDITED, OTHER, Some(Cause::Full)),
+    ("it just fits", 95, &CREDITED, OTHER, None),
+    ("full comes last", 0, &[STOOD], STOOD, ALREADY),
+];
+
+/// For how many inputs a base stands, the capacity, and whether it is too little.
+static BASES: [(&str, u64, u32, bool); 5] = [
+    ("one byte too many", 1, 101, true),
+    ("it just fits", 1, 102, false),
+    ("behind no inputs", 2, 85, true),
+    ("it fits behind none", 2, 86, false),
+    ("the base stands for it", 3, 0, false),
+];
 
 /// What a base stands for takes its bytes and no others, and of an input that it stands for nothing is asked.
 fn a_base_takes_its_bytes(rt: &impl Abort, alloc: Global) {
-    let before = inputs(rt, alloc, &[Stand("red", 5, 10), Acked(1)]);
-    let other = input(rt, Stand("blue", 4, 5));
-    let rows = [
-        ("one byte too many", 1, 101, true),
-        ("it just fits", 1, 102, false),
-        ("behind no inputs", 2, 85, true),
-        ("it fits behind none", 2, 86, false),
-        ("the base stands for it", 3, 0, false),
-    ];
-    for (name, summarised, capacity, is_full) in rows {
+    let before = inputs(rt, alloc, &CREDITED);
+    let other = input(rt, OTHER);
+    for row in &BASES {
+        let (name, summarised, capacity, is_full) = *row;
         let base = Base {
             layout: 2,
             epoch: 1,
@@ -67,69 +178,12 @@ fn a_base_takes_its_bytes(rt: &impl Abort, alloc: Global) {
     }
 }
 
-fn judges_stands(rt: &impl Abort, alloc: Global) {
-    let (stood, other) = (Stand("red", 5, 10), Stand("blue", 4, 5));
-    let one = [stood, Take(0, Token("red", 5, 10, 2))];
-    let home = Take(0, Token("red", 9, 5, 1));
-    let leads = [Stand("red", 9, 5), home, Take(1, Elected("red", 9, 5, 1))];
-    let (already, late) = (Some(Cause::Already(10)), Some(Cause::Late));
-    let stale = Some(Cause::Stale(9));
-    let rows: [Row<'_>; 7] = [
-        ("the first Stand", &[], stood, None),
-        ("already", &one[..1], stood, already),
-        ("already, and a message came", &one, stood, already),
-        ("late after relay", &one[1..], Stand("red", 5, 40), late),
-        ("stale", &leads, Stand("red", 4, 5), stale),
-        ("a greater term", &leads, Stand("red", 10, 5), None),
-        ("another group", &leads, other, None),
-    ];
-    for row in rows {
-        judges(rt, alloc, 65536, row);
-    }
-}
-
-fn judges_takes(rt: &impl Abort, alloc: Global) {
-    let (relayed, named) = (
-        Take(0, Token("red", 5, 10, 2)),
-        Take(1, Token("blue", 1, 3, 2)),
-    );
-    let two = [relayed, named];
-    let old = Some(Cause::Old(2));
-    let (nobody, none) = (Take(7, Token("red", 5, 10, 4)), Some(Cause::BadNumber));
-    let rows: [Row<'_>; 6] = [
-        ("gap", &[], named, Some(Cause::Gap(0))),
-        ("the next message", &two[..1], named, None),
-        ("the message before", &two, named, old),
-        ("the first message again", &two, relayed, old),
-        ("no such node", &[], nobody, none),
-        ("the last node", &[], Take(0, Token("red", 5, 10, 3)), None),
-    ];
-    for row in rows {
-        judges(rt, alloc, 65536, row);
-    }
-}
-
-fn judges_credits(rt: &impl Abort, alloc: Global) {
-    let sent = [Stand("red", 5, 10), Acked(1)];
-    let ahead = Some(Cause::AckAhead(1));
-    let (again, nothing) = (Some(Cause::Old(1)), Some(Cause::Old(0)));
-    let rows: [Row<'_>; 4] = [
-        ("credit of nothing", &sent[..1], Acked(0), nothing),
-        ("credit", &sent[..1], Acked(1), None),
-        ("credit ahead", &sent[..1], Acked(2), ahead),
-        ("credit again", &sent, Acked(1), again),
-    ];
-    for row in rows {
-        judges(rt, alloc, 65536, row);
-    }
-}
-
 #[test]
 fn refuses_by_the_first_cause(rt: HostRuntime) {
-    judges_stands(&rt, rt.alloc());
-    judges_takes(&rt, rt.alloc());
-    judges_credits(&rt, rt.alloc());
-    a_cost_has_to_fit(&rt, rt.alloc());
+    judge(&rt, rt.alloc(), &STANDS);
+    judge(&rt, rt.alloc(), &TAKES);
+    judge(&rt, rt.alloc(), &CREDITS);
+    judge(&rt, rt.alloc(), &COSTS);
     a_base_takes_its_bytes(&rt, rt.alloc());
 }
 

@@ -6,14 +6,14 @@ use std::process::Abort;
 use test_rows::Note::Token;
 
 /// The snapshot of node 1 that stood for red 5 with bid 10, and whose token is not credited yet.
-const STOOD: [u8; 65] = [
+static STOOD: [u8; 65] = [
     0, 0, 0, 0, 0, 0, 0, 1, 0, 0, 0, 0, 0, 0, 0, 0, 0, 0, 0, 0, 0, 0, 0, 0, 0, 0, 0, 0, 0, 0, 0, 1,
     0, 1, 0, 0, 0, 1, 3, 0x72, 0x65, 0x64, 0, 0, 0, 5, 1, 0, 0, 0, 10, 2, 3, 0x72, 0x65, 0x64, 0,
     0, 0, 5, 0, 0, 0, 10, 1,
 ];
 
 /// That of a node that took a message for a 1 and one for b 1, and passed none on.
-const TOOK: [u8; 52] = [
+static TOOK: [u8; 52] = [
     0, 0, 0, 0, 0, 0, 0, 2, 0, 0, 0, 0, 0, 0, 0, 2, 0, 0, 0, 0, 0, 0, 0, 0, 0, 0, 0, 0, 0, 0, 0, 0,
     0, 0, 0, 0, 0, 2, 1, 0x61, 0, 0, 0, 1, 0, 1, 0x62, 0, 0, 0, 1, 0,
 ];
@@ -106,31 +106,33 @@ fn each_byte_counts(rt: HostRuntime) {
     }
 }
 
+static BREAKS: [(u8, &[u8]); 19] = [
+    (0, &[1]), // 2^56 + 1 inputs
+    (7, &[0]), // fewer inputs than Stands
+    (15, &[1]), // fewer inputs than Takes and Stands
+    (23, &[2]), // more credited than sent
+    (23, &[1]), // all is credited, and a message is left over
+    (31, &[2]), // more sent than inputs
+    (33, &[0]), // a Stand that is not counted
+    (33, &[2]), // a Stand too many
+    (34, &[255, 255, 255, 255]), // 2^32 - 1 keys
+    (37, &[0]), // the key is not counted
+    (38, &[0]), // no name
+    (39, &[0x52]), // a capital
+    (45, &[0]), // term 0
+    (46, &[0]), // no flag, and a bid
+    (46, &[5]), // another flag
+    (47, &[0x3B, 0x9A, 0xCA, 0]), // bid 1,000,000,000
+    (51, &[1]), // a kind of input that is no message
+    (64, &[0]), // node 0
+    (64, &[4]), // a node above the last
+];
+
 #[test]
 fn broken_snapshots(rt: HostRuntime) {
     let alloc = rt.alloc();
-    let rows: [(u8, &[u8]); 19] = [
-        (0, &[1]), // 2^56 + 1 inputs
-        (7, &[0]), // fewer inputs than Stands
-        (15, &[1]), // fewer inputs than Takes and Stands
-        (23, &[2]), // more credited than sent
-        (23, &[1]), // all is credited, and a message is left over
-        (31, &[2]), // more sent than inputs
-        (33, &[0]), // a Stand that is not counted
-        (33, &[2]), // a Stand too many
-        (34, &[255; 4]), // 2^32 - 1 keys
-        (37, &[0]), // the key is not counted
-        (38, &[0]), // no name
-        (39, &[0x52]), // a capital
-        (45, &[0]), // term 0
-        (46, &[0]), // no flag, and a bid
-        (46, &[5]), // another flag
-        (47, &[0x3B, 0x9A, 0xCA, 0]), // bid 1,000,000,000
-        (51, &[1]), // a kind of input that is no message
-        (64, &[0]), // node 0
-        (64, &[4]), // a node above the last
-    ];
-    for (at, put) in rows {
+    for row in &BREAKS {
+        let (at, put) = *row;
         let bytes = with(&rt, alloc, &STOOD, at, put);
         is_damaged(&rt, alloc, &bytes);
     }

@@ -12,19 +12,21 @@ fn replies(rt: &impl Abort, alloc: Global, say: Say, want: &str) {
     assert_eq!(rt; text.as_str(), want);
 }
 
+static REPLIES: [(Say, &str); 8] = [
+    (Say::Stood, "stood"),
+    (Say::Taken, "taken"),
+    (Say::Acked, "acked"),
+    (Say::Nobody, "none"),
+    (Say::Leader(30, 2), "leader 2 30"),
+    (Say::NoTerm, "none"),
+    (Say::Latest(5, 30, 2), "term 5 leader 2 30"),
+    (Say::Refused(Cause::Stale(5)), "no 5 stale 5"),
+];
+
 #[test]
 fn prints_replies(rt: HostRuntime) {
-    let rows = [
-        (Say::Stood, "stood"),
-        (Say::Taken, "taken"),
-        (Say::Acked, "acked"),
-        (Say::Nobody, "none"),
-        (Say::Leader(30, 2), "leader 2 30"),
-        (Say::NoTerm, "none"),
-        (Say::Latest(5, 30, 2), "term 5 leader 2 30"),
-        (Say::Refused(Cause::Stale(5)), "no 5 stale 5"),
-    ];
-    for (say, want) in rows {
+    for row in &REPLIES {
+        let (say, want) = *row;
         replies(&rt, rt.alloc(), say, want);
     }
 }

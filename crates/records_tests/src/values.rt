@@ -3,23 +3,25 @@ use crate::rows::{candidate, key};
 use ring_records::{Bid, GroupName, NodeNo, Term};
 use std::process::Abort;
 
+static NAMES: [(&str, bool); 12] = [
+    ("a", true),
+    ("a-1", true),
+    ("a-", true),
+    ("abcdefghijklmnop", true),
+    ("abcdefghijklmnopq", false),
+    ("", false),
+    ("1a", false),
+    ("-a", false),
+    ("Red", false),
+    ("rEd", false),
+    ("re d", false),
+    ("re_d", false),
+];
+
 #[test]
 fn reads_names_within_their_borders(rt: HostRuntime) {
-    let names = [
-        ("a", true),
-        ("a-1", true),
-        ("a-", true),
-        ("abcdefghijklmnop", true),
-        ("abcdefghijklmnopq", false),
-        ("", false),
-        ("1a", false),
-        ("-a", false),
-        ("Red", false),
-        ("rEd", false),
-        ("re d", false),
-        ("re_d", false),
-    ];
-    for (text, is_name) in names {
+    for row in &NAMES {
+        let (text, is_name) = *row;
         let read = GroupName::read(text.as_bytes());
         assert_eq!(rt; read.is_ok(), is_name, "{text}");
         if let Ok(name) = read {
@@ -29,20 +31,26 @@ fn reads_names_within_their_borders(rt: HostRuntime) {
     }
 }
 
+/// Numbers, and whether they are terms and bids.
+static NUMBERS: [(u32, bool, bool); 5] = [
+    (0, false, true),
+    (1, true, true),
+    (999_999_999, true, true),
+    (1_000_000_000, false, false),
+    (4_294_967_295, false, false),
+];
+
+static NODES: [(u8, bool); 5] = [(0, false), (1, true), (16, true), (17, false), (255, false)];
+
 #[test]
 fn takes_numbers_within_their_borders(rt: HostRuntime) {
-    let numbers = [
-        (0, false, true),
-        (1, true, true),
-        (999_999_999, true, true),
-        (1_000_000_000, false, false),
-        (4_294_967_295, false, false),
-    ];
-    for (number, is_term, is_bid) in numbers {
+    for row in &NUMBERS {
+        let (number, is_term, is_bid) = *row;
         let (term, bid) = (Term::new(number), Bid::new(number));
         assert_eq!(rt; (term.is_ok(), bid.is_ok()), (is_term, is_bid), "{number}");
     }
-    for (number, is_node) in [(0, false), (1, true), (16, true), (17, false), (255, false)] {
+    for row in &NODES {
+        let (number, is_node) = *row;
         let node = NodeNo::new(number);
         assert_eq!(rt; node.is_ok(), is_node, "{number}");
     }
