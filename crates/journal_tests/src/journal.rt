@@ -21,14 +21,14 @@ mod rows;
 mod stops;
 
 /// A new journal of node 1 of 3, capacity 4,096: the header, and area A with a snapshot of 38 zeros.
-const FRESH: [u8; 69] = [
+static FRESH: [u8; 69] = [
     0x43, 0x52, 0x4A, 0x52, 0x4E, 0x4C, 0x30, 0x32, 1, 3, 0, 0, 0x10, 0, 0, 0, 1, 2, 0, 0, 0, 0, 0,
     0, 0, 1, 0, 0, 0, 38, 0, 0, 0, 0, 0, 0, 0, 0, 0, 0, 0, 0, 0, 0, 0, 0, 0, 0, 0, 0, 0, 0, 0, 0,
     0, 0, 0, 0, 0, 0, 0, 0, 0, 0, 0, 0, 0, 0, 0,
 ];
 
 /// The same with one frame: a Stand of group `red`, term 5, bid 10.
-const COMMITTED: [u8; 89] = [
+static COMMITTED: [u8; 89] = [
     0x43, 0x52, 0x4A, 0x52, 0x4E, 0x4C, 0x30, 0x32, 1, 3, 0, 0, 0x10, 0, 0, 0, 1, 2, 0, 0, 0, 0, 0,
     0, 0, 1, 0, 0, 0, 38, 0, 0, 0, 0, 0, 0, 0, 0, 0, 0, 0, 0, 0, 0, 0, 0, 0, 0, 0, 0, 0, 0, 0, 0,
     0, 0, 0, 0, 0, 0, 0, 0, 0, 0, 0, 0, 0, 0, 1, 0, 1, 0, 0, 0, 0x0D, 1, 3, 0x72, 0x65, 0x64, 0, 0,
@@ -91,8 +91,8 @@ fn formatted<D: Device + Drop>(rt: &impl Abort, device: D, capacity: u32) -> Jou
 fn fresh<R: Abort + AllocGlobal>(rt: &R) -> Journal<FuseDevice<MemDevice>>
     ensures { (member_of result).n ≡ 3 }
 {
-    let device = memory_device(rt, device_size(4096) as usize, &[]);
-    formatted(rt, FuseDevice::idle(device), 4096)
+    let size = usize::try_from(device_size(4096)).expect(rt, "a size");
+    formatted(rt, FuseDevice::idle(memory_device(rt, size, &[])), 4096)
 }
 
 /// They are of node 1, and these inputs from this number on.
@@ -303,6 +303,28 @@ fn is_reopened<D: Device + Drop, R: Abort + AllocGlobal>(
     let (journal, opening) = reopened(rt, device);
     tells(rt, &journal, wanted);
     opens_with(rt, &opening, wanted.2, base, ops);
+}
+
+/// What is read of a device: so many inputs, in this epoch, or the fault.
+#[derive(Clone, Copy)]
+pub enum Verdict {
+    Reads(u64, u64),
+    NotFormatted,
+    OldLayout(u8),
+    WrongNode,
+    Damaged(u64),
+}
+
+impl Verdict {
+    pub fn answer(self) -> Result<(u64, u64), Refusal> {
+        match self {
+            Verdict::Reads(inputs, epoch) => Ok((inputs, epoch)),
+            Verdict::NotFormatted => Err(Refusal::NotFormatted),
+            Verdict::OldLayout(layout) => Err(Refusal::OldLayout(layout)),
+            Verdict::WrongNode => Err(Refusal::WrongNode),
+            Verdict::Damaged(at) => Err(Refusal::Damaged(at)),
+        }
+    }
 }
 
 /// How many inputs this node of 3 finds on a device, and in which epoch.

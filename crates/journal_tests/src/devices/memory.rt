@@ -25,7 +25,7 @@ fn goes_through<R: Abort + AllocGlobal>(rt: &R, limit: usize, stops: &[Stop]) {
 /// Writes over `abcdefgh`, what is there then, and what the tear Fill(7) leaves.
 type Row = (&'static [Step<'static>], &'static [u8], &'static [u8]);
 
-const ROWS: [Row; 5] = [
+static ROWS: [Row; 5] = [
     // Writes that overlap, that grow, that lie apart; and no bytes, which change nothing.
     (
         &[Step::Write(2, b"123"), Step::Write(4, b"45")],
@@ -54,7 +54,7 @@ const ROWS: [Row; 5] = [
     ),
 ];
 
-const SETTLED: [Step<'static>; 2] = [Step::Write(0, b"abcdefgh"), Step::Sync];
+static SETTLED: [Step<'static>; 2] = [Step::Write(0, b"abcdefgh"), Step::Sync];
 
 #[test]
 fn what_tears_leave(rt: HostRuntime) {
@@ -106,28 +106,29 @@ fn past_the_end_are_zeros(rt: HostRuntime) {
     );
 }
 
+static STOPS: [Stop; 5] = [
+    (
+        &[
+            Step::Write(0, b"abcdefgh"),
+            Step::Sync,
+            Step::Write(0, b"ABC"),
+        ],
+        Tear::New,
+        b"ABCdefgh",
+    ),
+    (
+        &[Step::Write(7, b"HIJ")],
+        Tear::Fill(0),
+        b"\x00\x00\x00defg\x00\x00\x00",
+    ),
+    (&[], Tear::Old, b"abcdefgh"),
+    (&[Step::Write(3, b"D"), Step::Sync], Tear::Old, b"abcDefgh"),
+    (&[], Tear::Fill(7), b"abcDefgh"),
+];
+
 #[test]
 fn only_a_sync_makes_stable(rt: HostRuntime) {
-    let stops: [Stop; 5] = [
-        (
-            &[
-                Step::Write(0, b"abcdefgh"),
-                Step::Sync,
-                Step::Write(0, b"ABC"),
-            ],
-            Tear::New,
-            b"ABCdefgh",
-        ),
-        (
-            &[Step::Write(7, b"HIJ")],
-            Tear::Fill(0),
-            b"\x00\x00\x00defg\x00\x00\x00",
-        ),
-        (&[], Tear::Old, b"abcdefgh"),
-        (&[Step::Write(3, b"D"), Step::Sync], Tear::Old, b"abcDefgh"),
-        (&[], Tear::Fill(7), b"abcDefgh"),
-    ];
-    goes_through(&rt, 12, &stops);
+    goes_through(&rt, 12, &STOPS);
 }
 
 #[test]

@@ -8,7 +8,7 @@ const THIRD: [u8; 66] = [
     1, 0, 0, 0, 10, 0,
 ];
 
-const WRITES_B: [Step; 3] = [
+static WRITES_B: [Step; 3] = [
     Step::Commits(&[STOOD]),
     Step::Checkpoints(&[], &SECOND),
     Step::Tells(1, 4031, 2),
@@ -24,7 +24,7 @@ fn a_checkpoint_writes_the_other_area(rt: HostRuntime) {
 }
 
 /// The first checkpoint makes an input durable too; a batch goes behind it, and the second one takes area A.
-const IN_TURNS: [Step; 6] = [
+static IN_TURNS: [Step; 6] = [
     Step::Checkpoints(&[STOOD], &SECOND),
     Step::Tells(1, 4031, 2),
     Step::Commits(&[ACKED]),

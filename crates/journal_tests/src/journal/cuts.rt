@@ -19,7 +19,7 @@ fn in_area_a(len: usize) -> Result<u64, Refusal> {
     }
 }
 
-const TWO_FRAMES: [Step; 2] = [Step::Commits(&[STOOD]), Step::Commits(&[ACKED])];
+static TWO_FRAMES: [Step; 2] = [Step::Commits(&[STOOD]), Step::Commits(&[ACKED])];
 
 #[test]
 fn two_frames_cut_at_every_length(rt: HostRuntime) {

@@ -1,90 +1,90 @@
 // Each fault of an image, with its offset, and which of two comes first; and which of two areas is read.
+use super::Verdict::{Damaged, NotFormatted, OldLayout, Reads, WrongNode};
 use super::*;
-use ring_records::Refusal::{Damaged, NotFormatted, OldLayout, WrongNode};
 
-/// Bytes that are changed, and how many inputs are read then in which epoch, or the fault.
-pub type Row = (&'static [(u64, u8)], Result<(u64, u64), Refusal>);
+/// Bytes that are changed, and what is read then.
+pub type Row = (&'static [(u64, u8)], Verdict);
 
 /// Changes of row `one_commit`.
-pub const ONE_AREA: [Row; 43] = [
+pub static ONE_AREA: [Row; 43] = [
     // The mark, the node, the ring's size.
-    (&[(0, b'c')], Err(NotFormatted)),
-    (&[(7, b'1')], Err(OldLayout(1))),
-    (&[(7, b'3')], Err(NotFormatted)),
-    (&[(8, 2)], Err(WrongNode)),
-    (&[(9, 4)], Err(WrongNode)),
+    (&[(0, b'c')], NotFormatted),
+    (&[(7, b'1')], OldLayout(1)),
+    (&[(7, b'3')], NotFormatted),
+    (&[(8, 2)], WrongNode),
+    (&[(9, 4)], WrongNode),
     // A capacity of 4,095 and of 1,048,577, and the blank bytes.
-    (&[(12, 0x0F), (13, 0xFF)], Err(Damaged(10))),
-    (&[(11, 0x10), (12, 0), (13, 1)], Err(Damaged(10))),
-    (&[(14, 1)], Err(Damaged(14))),
-    (&[(15, 1)], Err(Damaged(14))),
+    (&[(12, 0x0F), (13, 0xFF)], Damaged(10)),
+    (&[(11, 0x10), (12, 0), (13, 1)], Damaged(10)),
+    (&[(14, 1)], Damaged(14)),
+    (&[(15, 1)], Damaged(14)),
     // The gate and the layout of the area.
-    (&[(16, 0)], Err(Damaged(16))),
-    (&[(16, 2)], Err(Damaged(16))),
-    (&[(17, 1)], Err(Damaged(16))),
-    (&[(17, 3)], Err(Damaged(16))),
+    (&[(16, 0)], Damaged(16)),
+    (&[(16, 2)], Damaged(16)),
+    (&[(17, 1)], Damaged(16)),
+    (&[(17, 3)], Damaged(16)),
     // Epochs of 0, 2^39, 2^40 and 2^56.
-    (&[(25, 0)], Ok((1, 0))),
-    (&[(21, 0x80), (25, 0)], Ok((1, 1 << 39))),
-    (&[(20, 1)], Err(Damaged(16))),
-    (&[(18, 1)], Err(Damaged(16))),
+    (&[(25, 0)], Reads(1, 0)),
+    (&[(21, 0x80), (25, 0)], Reads(1, 1 << 39)),
+    (&[(20, 1)], Damaged(16)),
+    (&[(18, 1)], Damaged(16)),
     // A size one too small, one too large, all there is, one more, and far too large.
-    (&[(29, 37)], Err(Damaged(16))),
-    (&[(29, 39)], Err(Damaged(16))),
-    (&[(29, 59)], Err(Damaged(16))),
-    (&[(29, 60)], Err(Damaged(16))),
-    (&[(26, 255)], Err(Damaged(16))),
+    (&[(29, 37)], Damaged(16)),
+    (&[(29, 39)], Damaged(16)),
+    (&[(29, 59)], Damaged(16)),
+    (&[(29, 60)], Damaged(16)),
+    (&[(26, 255)], Damaged(16)),
     // A snapshot of one input, of a Take among none, of a key that is not there.
-    (&[(37, 1)], Ok((2, 1))),
-    (&[(45, 1)], Err(Damaged(16))),
-    (&[(67, 1)], Err(Damaged(16))),
+    (&[(37, 1)], Reads(2, 1)),
+    (&[(45, 1)], Damaged(16)),
+    (&[(67, 1)], Damaged(16)),
     // A first gate that is closed by another byte; counts of 0, 2, 65 and 257.
-    (&[(68, 7)], Ok((0, 1))),
-    (&[(70, 0)], Err(Damaged(68))),
-    (&[(70, 2)], Err(Damaged(68))),
-    (&[(70, 65)], Err(Damaged(68))),
-    (&[(69, 1)], Err(Damaged(68))),
+    (&[(68, 7)], Reads(0, 1)),
+    (&[(70, 0)], Damaged(68)),
+    (&[(70, 2)], Damaged(68)),
+    (&[(70, 65)], Damaged(68)),
+    (&[(69, 1)], Damaged(68)),
     // A length one too small, one too large, and far too large.
-    (&[(74, 12)], Err(Damaged(68))),
-    (&[(74, 14)], Err(Damaged(68))),
-    (&[(71, 1)], Err(Damaged(68))),
+    (&[(74, 12)], Damaged(68)),
+    (&[(74, 14)], Damaged(68)),
+    (&[(71, 1)], Damaged(68)),
     // A record's kind, name and term; and a next gate with nothing behind it.
-    (&[(75, 5)], Err(Damaged(68))),
-    (&[(77, b'R')], Err(Damaged(68))),
-    (&[(83, 0)], Err(Damaged(68))),
-    (&[(88, 1)], Err(Damaged(88))),
+    (&[(75, 5)], Damaged(68)),
+    (&[(77, b'R')], Damaged(68)),
+    (&[(83, 0)], Damaged(68)),
+    (&[(88, 1)], Damaged(88)),
     // Two faults: the first one.
-    (&[(0, 0), (8, 2)], Err(NotFormatted)),
-    (&[(7, b'1'), (8, 2)], Err(OldLayout(1))),
-    (&[(8, 2), (12, 0)], Err(WrongNode)),
-    (&[(12, 0), (14, 1)], Err(Damaged(10))),
-    (&[(14, 1), (16, 0)], Err(Damaged(14))),
-    (&[(20, 1), (70, 0)], Err(Damaged(16))),
+    (&[(0, 0), (8, 2)], NotFormatted),
+    (&[(7, b'1'), (8, 2)], OldLayout(1)),
+    (&[(8, 2), (12, 0)], WrongNode),
+    (&[(12, 0), (14, 1)], Damaged(10)),
+    (&[(14, 1), (16, 0)], Damaged(14)),
+    (&[(20, 1), (70, 0)], Damaged(16)),
 ];
 
 /// Changes of the same with area B behind it, which is read.
-pub const TWO_AREAS: [Row; 17] = [
+pub static TWO_AREAS: [Row; 17] = [
     // Area B in epoch 2, in A's epoch, and in an earlier one.
-    (&[], Ok((1, 2))),
-    (&[(4136, 1)], Err(Damaged(16))),
-    (&[(4136, 0)], Ok((1, 1))),
+    (&[], Reads(1, 2)),
+    (&[(4136, 1)], Damaged(16)),
+    (&[(4136, 0)], Reads(1, 1)),
     // One of them does not count, or none.
-    (&[(4127, 0)], Ok((1, 1))),
-    (&[(4127, 7)], Ok((1, 1))),
-    (&[(4128, 1)], Ok((1, 1))),
-    (&[(4128, 3)], Ok((1, 1))),
-    (&[(16, 0)], Ok((1, 2))),
-    (&[(17, 3), (4136, 0)], Ok((1, 0))),
-    (&[(16, 0), (4127, 0)], Err(Damaged(16))),
+    (&[(4127, 0)], Reads(1, 1)),
+    (&[(4127, 7)], Reads(1, 1)),
+    (&[(4128, 1)], Reads(1, 1)),
+    (&[(4128, 3)], Reads(1, 1)),
+    (&[(16, 0)], Reads(1, 2)),
+    (&[(17, 3), (4136, 0)], Reads(1, 0)),
+    (&[(16, 0), (4127, 0)], Damaged(16)),
     // The one that is read is broken: its epoch, its size, its snapshot, its first gate.
-    (&[(4131, 1)], Err(Damaged(4127))),
-    (&[(20, 1)], Err(Damaged(16))),
-    (&[(4140, 64)], Err(Damaged(4127))),
-    (&[(4140, 66)], Err(Damaged(4127))),
-    (&[(4205, 4)], Err(Damaged(4127))),
-    (&[(4206, 1)], Err(Damaged(4206))),
+    (&[(4131, 1)], Damaged(4127)),
+    (&[(20, 1)], Damaged(16)),
+    (&[(4140, 64)], Damaged(4127)),
+    (&[(4140, 66)], Damaged(4127)),
+    (&[(4205, 4)], Damaged(4127)),
+    (&[(4206, 1)], Damaged(4206)),
     // The one that is not read is broken.
-    (&[(26, 255), (70, 0)], Ok((1, 2))),
+    (&[(26, 255), (70, 0)], Reads(1, 2)),
 ];
 
 /// With these changes the device is read so.
@@ -93,7 +93,7 @@ fn is_read(rt: &(impl Abort + AllocGlobal), image: MemDevice, row: &Row) {
     for (at, byte) in row.0 {
         devices::plays(rt, &mut device, &[devices::Step::Write(*at, &[*byte])]);
     }
-    assert_eq!(rt; found(rt.alloc(), device), row.1);
+    assert_eq!(rt; found(rt.alloc(), device), row.1.answer());
 }
 
 #[test]
@@ -108,7 +108,7 @@ fn each_image_has_its_answer(rt: HostRuntime) {
     is_read(
         &rt,
         device(&rt, &[(0, &[1; 200]), (0, &COMMITTED)]),
-        &(&[], Ok((1, 1))),
+        &(&[], Reads(1, 1)),
     );
 }
 
@@ -120,12 +120,12 @@ fn frames_end_within_the_capacity(rt: HostRuntime) {
     let mut image = [0; 4563];
     assert!(rt; ends.read_at(0, &mut image).is_ok());
     for (capacity, read) in [
-        ([0x11, 0xB4], Ok((128, 1))),
-        ([0x11, 0xB3], Err(Damaged(16))),
-        ([0x10, 0], Err(Damaged(16))),
+        ([0x11, 0xB4], Reads(128, 1)),
+        ([0x11, 0xB3], Damaged(16)),
+        ([0x10, 0], Damaged(16)),
     ] {
         let device = device(&rt, &[(0, &image), (12, &capacity)]);
-        assert_eq!(rt; found(rt.alloc(), device), read);
+        assert_eq!(rt; found(rt.alloc(), device), read.answer());
     }
 }
 

@@ -71,7 +71,7 @@ fn one_area(rt: &(impl Abort + AllocGlobal), row: &Row) {
     change(&mut image, row);
     let area = in_pieces(rt, 16, &image[16..]);
     if row.0.iter().all(|(at, _)| *at >= 16) {
-        assert_eq!(rt; count(area), count(row.1));
+        assert_eq!(rt; count(area), count(row.1.answer()));
     }
 }
 
@@ -83,7 +83,7 @@ fn two_areas(rt: &(impl Abort + AllocGlobal), row: &Row) {
     change(&mut image, row);
     let a = count(in_pieces(rt, 16, &image[16..]));
     let b = count(in_pieces(rt, AREA_B, &image[4127..]));
-    let told = count(row.1);
+    let told = count(row.1.answer());
     assert!(rt; told == a || told == b || told == Err(Damaged(16)));
 }
 

@@ -11,7 +11,7 @@ fn fresh_journal(rt: HostRuntime) {
     opens_with(&rt, &Opening::fresh(rt.alloc()), 1, 0, &[]);
 }
 
-const ONE_COMMIT: [Step; 2] = [Step::Commits(&[STOOD]), Step::Tells(1, 4038, 1)];
+static ONE_COMMIT: [Step; 2] = [Step::Commits(&[STOOD]), Step::Tells(1, 4038, 1)];
 
 #[test]
 fn one_commit(rt: HostRuntime) {

@@ -89,6 +89,20 @@ fn a_checkpoint_that_is_stopped_leaves_all_or_nothing(rt: HostRuntime) {
     }
 }
 
+/// A checkpoint that is stopped there leaves area A as it was, and these bytes of area B.
+fn leaves<R: Abort + AllocGlobal>(rt: &R, passed: u64, tear: Tear, wanted: &[u8]) {
+    let image = device(rt, &[(0, &COMMITTED)]);
+    let mut left = checkpoint_stopped(rt, image, passed, tear);
+    let end = if wanted.is_empty() {
+        89
+    } else {
+        AREA_B + wanted.len() as u64
+    };
+    assert_eq!(rt; left.size(), end, "{passed}");
+    holds(rt, &mut left, &[(0, &COMMITTED)]);
+    holds(rt, &mut left, &[(AREA_B, wanted)]);
+}
+
 #[test]
 fn each_write_of_a_checkpoint_has_its_bytes(rt: HostRuntime) {
     // What stands in area B before and after each of its writes, by a tear that keeps none or all of it.
@@ -103,15 +117,7 @@ fn each_write_of_a_checkpoint_has_its_bytes(rt: HostRuntime) {
         (4, Tear::New, &SECOND),
     ];
     for (passed, tear, wanted) in rows {
-        let image = device(&rt, &[(0, &COMMITTED)]);
-        let mut left = checkpoint_stopped(&rt, image, passed, tear);
-        let end = if wanted.is_empty() {
-            89
-        } else {
-            AREA_B + wanted.len() as u64
-        };
-        assert_eq!(rt; left.size(), end, "{passed}");
-        holds(&rt, &mut left, &[(0, &COMMITTED), (AREA_B, wanted)]);
+        leaves(&rt, passed, tear, wanted);
     }
 }
 
@@ -127,7 +133,7 @@ fn a_stopped_checkpoint_is_not_opened_by_the_next(rt: HostRuntime) {
     assert_eq!(rt; found(rt.alloc(), left), Ok((1, 1)));
 }
 
-const TEN_CALLS: [Step; 3] = [COMMITS, Step::Checkpoints(&[], &SECOND), COMMIT_FAILS];
+static TEN_CALLS: [Step; 3] = [COMMITS, Step::Checkpoints(&[], &SECOND), COMMIT_FAILS];
 
 #[test]
 fn a_commit_is_four_calls_and_a_checkpoint_six(rt: HostRuntime) {
