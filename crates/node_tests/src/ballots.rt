@@ -71,22 +71,22 @@ fn hears_token(rt: &impl Abort, row: Row) {
     passes_on(rt, row, sent, at);
 }
 
+static TOKENS: [Row; 9] = [
+    (None, None, (0, 1), On::Token, None),
+    (Some(10), None, (10, 3), On::Token, None),
+    (Some(10), None, (10, 1), On::Nothing, None),
+    (Some(10), None, (9, 3), On::Nothing, None),
+    (Some(10), Some((40, 3)), (11, 1), On::Token, Some((40, 3))),
+    (Some(10), None, (10, 2), On::Elected, Some((10, 2))),
+    (Some(10), Some((10, 2)), (10, 2), On::Nothing, Some((10, 2))),
+    (Some(10), None, (11, 2), On::Nothing, None),
+    (None, None, (11, 2), On::Nothing, None),
+];
+
 #[test]
 fn tokens_pass_stop_or_come_home(rt: HostRuntime) {
-    let led = Some((40, 3));
-    let rows = [
-        (None, None, (0, 1), On::Token, None),
-        (Some(10), None, (10, 3), On::Token, None),
-        (Some(10), None, (10, 1), On::Nothing, None),
-        (Some(10), None, (9, 3), On::Nothing, None),
-        (Some(10), led, (11, 1), On::Token, led),
-        (Some(10), None, (10, 2), On::Elected, Some((10, 2))),
-        (Some(10), Some((10, 2)), (10, 2), On::Nothing, Some((10, 2))),
-        (Some(10), None, (11, 2), On::Nothing, None),
-        (None, None, (11, 2), On::Nothing, None),
-    ];
-    for row in rows {
-        hears_token(&rt, row);
+    for row in &TOKENS {
+        hears_token(&rt, *row);
     }
 }
 
@@ -98,16 +98,18 @@ fn hears_elected(rt: &impl Abort, row: Row) {
     passes_on(rt, row, sent, at);
 }
 
+const LED: Option<(u32, u8)> = Some((30, 3));
+
+static NEWS: [Row; 4] = [
+    (None, None, (30, 3), On::Elected, LED),
+    (None, None, (30, 2), On::Nothing, None),
+    (None, LED, (30, 3), On::Nothing, LED),
+    (None, LED, (40, 1), On::Nothing, LED),
+];
+
 #[test]
 fn the_news_goes_round_once(rt: HostRuntime) {
-    let led = Some((30, 3));
-    let rows = [
-        (None, None, (30, 3), On::Elected, led),
-        (None, None, (30, 2), On::Nothing, None),
-        (None, led, (30, 3), On::Nothing, led),
-        (None, led, (40, 1), On::Nothing, led),
-    ];
-    for row in rows {
-        hears_elected(&rt, row);
+    for row in &NEWS {
+        hears_elected(&rt, *row);
     }
 }

@@ -55,21 +55,22 @@ fn judges(rt: &impl Abort, link: &Inlink, row: (u64, u64, Judged)) {
     assert_eq!(rt; link.judge(no), judged, "{no} where {taken} were taken");
 }
 
+/// Messages taken, a number, and what it is.
+static NUMBERS: [(u64, u64, Judged); 7] = [
+    (0, 0, Judged::Next),
+    (0, 1, Judged::Gap),
+    (0, u64::MAX, Judged::Gap),
+    (2, 0, Judged::Old),
+    (2, 1, Judged::Old),
+    (2, 2, Judged::Next),
+    (2, 3, Judged::Gap),
+];
+
 #[test]
 fn the_expected_number_alone_is_next(rt: HostRuntime) {
-    // Messages taken, a number, and what it is.
-    let rows = [
-        (0, 0, Judged::Next),
-        (0, 1, Judged::Gap),
-        (0, u64::MAX, Judged::Gap),
-        (2, 0, Judged::Old),
-        (2, 1, Judged::Old),
-        (2, 2, Judged::Next),
-        (2, 3, Judged::Gap),
-    ];
-    for row in rows {
-        judges(&rt, &taken(&rt, row.0), row);
-        judges(&rt, &Inlink::restore(row.0), row);
+    for row in &NUMBERS {
+        judges(&rt, &taken(&rt, row.0), *row);
+        judges(&rt, &Inlink::restore(row.0), *row);
     }
 }
 
@@ -102,23 +103,24 @@ fn credits(rt: &impl Abort, alloc: Global, row: Row) {
     shows(rt, &link, now, sent);
 }
 
+static CREDITS: [Row; 11] = [
+    (0, 0, 0, Some(Cause::Old(0))),
+    (0, 0, 1, Some(Cause::AckAhead(0))),
+    (3, 0, 0, Some(Cause::Old(0))),
+    (3, 0, 1, None),
+    (3, 0, 3, None),
+    (3, 0, 4, Some(Cause::AckAhead(3))),
+    (3, 2, 1, Some(Cause::Old(2))),
+    (3, 2, 2, Some(Cause::Old(2))),
+    (3, 2, 3, None),
+    (3, 3, 3, Some(Cause::Old(3))),
+    (3, 3, 4, Some(Cause::AckAhead(3))),
+];
+
 #[test]
 fn credits_are_above_the_last_and_not_above_the_sent(rt: HostRuntime) {
-    let rows = [
-        (0, 0, 0, Some(Cause::Old(0))),
-        (0, 0, 1, Some(Cause::AckAhead(0))),
-        (3, 0, 0, Some(Cause::Old(0))),
-        (3, 0, 1, None),
-        (3, 0, 3, None),
-        (3, 0, 4, Some(Cause::AckAhead(3))),
-        (3, 2, 1, Some(Cause::Old(2))),
-        (3, 2, 2, Some(Cause::Old(2))),
-        (3, 2, 3, None),
-        (3, 3, 3, Some(Cause::Old(3))),
-        (3, 3, 4, Some(Cause::AckAhead(3))),
-    ];
-    for row in rows {
-        credits(&rt, rt.alloc(), row);
+    for row in &CREDITS {
+        credits(&rt, rt.alloc(), *row);
     }
 }
 

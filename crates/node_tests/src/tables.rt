@@ -54,20 +54,24 @@ fn is_led(rt: &impl Abort, table: &Table, key: &Key, numbers: (u32, u8)) {
     assert_eq!(rt; table.stands(), 0);
 }
 
+const GREATEST: (u32, (u32, u8)) = (9, (90, 3));
+
+/// What is heard, and the latest leader of red then.
+static HEARD: [(Note, (u32, (u32, u8))); 5] = [
+    (Elected("red", 7, 70, 3), (7, (70, 3))),
+    (Elected("red", 9, 90, 3), GREATEST),
+    (Elected("red", 8, 80, 3), GREATEST),
+    (Elected("blu", 99, 99, 3), GREATEST),
+    (Elected("red", 9, 91, 3), GREATEST),
+];
+
 #[test]
 fn the_latest_is_of_the_greatest_term(rt: HostRuntime) {
     let mut table = Table::new(rt.alloc(), node(&rt, 2));
     let red = key(&rt, "red", 8);
     assert_eq!(rt; table.latest(&red.group), None);
-    let greatest = (9, (90, 3));
-    let rows = [
-        (Elected("red", 7, 70, 3), (7, (70, 3))),
-        (Elected("red", 9, 90, 3), greatest),
-        (Elected("red", 8, 80, 3), greatest),
-        (Elected("blu", 99, 99, 3), greatest),
-        (Elected("red", 9, 91, 3), greatest),
-    ];
-    for (note, latest) in rows {
+    for row in &HEARD {
+        let (note, latest) = *row;
         hears(&rt, &mut table, &red.group, note, latest);
     }
     is_led(&rt, &table, &red, (80, 3));

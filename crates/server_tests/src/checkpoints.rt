@@ -111,7 +111,7 @@ const AGAIN: Scenario = Scenario {
     err: Some(b""),
 };
 
-const RENEWALS: [Step; 5] = [
+static RENEWALS: [Step; 5] = [
     Changes(&[Anew("renewed")]),
     Runs(&FIRST),
     Changes(&[

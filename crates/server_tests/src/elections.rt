@@ -45,7 +45,7 @@ const HELD: Scenario = Scenario {
     err: Some(b""),
 };
 
-const ELECTIONS: [Step; 4] = [
+static ELECTIONS: [Step; 4] = [
     Changes(&[Anew("ring-state")]),
     Runs(&ELECTED),
     Runs(&HELD),

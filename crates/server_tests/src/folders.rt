@@ -19,7 +19,7 @@ const OLD_LAYOUT: &[u8] = b"CRJRNL01\x01\x02\x00\x01\x00\x00\x00\x00\x00";
 
 const KILLED: &[u8] = b"nodes = 2\ndir = \"killed\"\nport = 7151\n";
 
-const KILLS: [Step; 11] = [
+static KILLS: [Step; 11] = [
     // no file
     Changes(&[Anew("killed")]),
     Serves(KILLED, 7151, b"who red 1\n", b"none"),
@@ -60,7 +60,7 @@ const LOCKED_FILE: &[u8] = b"ringd: node 2: device 1\nringd: refused/node-2.crj:
 
 const LOCKED_FOLDER: &[u8] = b"ringd: node 1: device 1\nringd: refused: in use\n";
 
-const REFUSALS: [Step; 18] = [
+static REFUSALS: [Step; 18] = [
     Changes(&[Anew("refused")]),
     Serves(REFUSED, 7155, b"stand red 5 10\n", b"stood"),
     // a file in use, and the folder
@@ -96,7 +96,7 @@ fn journals_that_are_refused(rt: HostRuntime) {
 
 const EARLIER: &[u8] = b"nodes = 2\ndir = \"earlier\"\nport = 7255\n";
 
-const OLD_LAYOUTS: [Step; 6] = [
+static OLD_LAYOUTS: [Step; 6] = [
     Changes(&[Anew("earlier")]),
     Serves(EARLIER, 7255, b"stand red 5 10\n", b"stood"),
     Changes(&[Writes("earlier/node-1.crj", OLD_LAYOUT)]),
@@ -113,7 +113,7 @@ fn a_folder_of_an_earlier_version(rt: HostRuntime) {
 
 const GONE: &[u8] = b"nodes = 2\ndir = \"gone\"\nport = 7221\n";
 
-const ONE_GONE: [Step; 9] = [
+static ONE_GONE: [Step; 9] = [
     Changes(&[Anew("gone")]),
     Serves(GONE, 7221, b"stand red 5 10\n", b"stood"),
     Changes(&[Renames("gone/node-2.crj", "gone/held")]),
@@ -142,7 +142,7 @@ const EXISTING: &[u8] = b"nodes = 2\ndir = \"existing\"\nport = 7223\n";
 
 const ALL_EXISTING: &[&str] = &["ringd", "--existing", "--serve", "1"];
 
-const NOT_THERE: [Step; 7] = [
+static NOT_THERE: [Step; 7] = [
     Changes(&[Anew("existing")]),
     Ends(ALL_EXISTING, EXISTING, 1, b"ringd: node 1: unformatted\n"),
     Changes(&[IsEmpty("existing")]),
@@ -173,7 +173,7 @@ const FOLDER_NEW: &[u8] =
 
 const NO_FOLDER: &[u8] = b"ringd: node 1: device 1\nringd: answers/ring.made: not a directory\n";
 
-const SYSTEM: [Step; 9] = [
+static SYSTEM: [Step; 9] = [
     // a folder where a file is to be, old and new
     Changes(&[Anew("answers"), MakesFolder("answers/node-1.crj")]),
     Ends(SERVE, ANSWERS, 1, FOLDER_OLD),

@@ -22,7 +22,7 @@ const NO_FILE: &[&str] = &["ringd", "--settings", "no-such-file"];
 const UNREAD: &[u8] = b"ringd: settings cannot be read\n";
 
 /// What the settings are, and what is told of them.
-const SETTINGS: [(&[u8], &[u8]); 10] = [
+static SETTINGS: [(&[u8], &[u8]); 10] = [
     (b"nodes = ", b"ringd: settings are not TOML\n"),
     (b"\xff", UNREAD),
     (b"", b"ringd: setting nodes is missing\n"),
@@ -49,7 +49,8 @@ const SETTINGS: [(&[u8], &[u8]); 10] = [
 
 #[test]
 fn settings_that_are_refused(rt: HostRuntime) {
-    for (settings, text) in SETTINGS {
+    for row in &SETTINGS {
+        let (settings, text) = *row;
         plays(&rt, &[Ends(NONE, settings, 2, text)]);
     }
     plays(&rt, &[Ends(NO_FILE, b"", 2, UNREAD)]);
@@ -108,7 +109,7 @@ where
 }
 
 /// Words, and the status that they end with.
-const WORDS: [(&[&str], u8); 7] = [
+static WORDS: [(&[&str], u8); 7] = [
     (&["ringd", "--help"], 0),
     (&["ringd", "--always", "--status", "1", "--doors", "32"], 2),
     (&["ringd", "--serve", "0"], 2),
@@ -120,7 +121,8 @@ const WORDS: [(&[&str], u8); 7] = [
 
 #[test]
 fn words(rt: HostRuntime) {
-    for (words, status) in WORDS {
+    for row in &WORDS {
+        let (words, status) = *row;
         told(&rt, words, status);
     }
     shows(&rt, &["ringd", "--version"], b"", b"ringd 0.1.0\n");
@@ -132,7 +134,7 @@ const NOT_FOUND: &[u8] = b"ringd: node 1: device 1\nringd: no-such-folder: entit
 
 const IN_USE: &[u8] = b"nodes = 2\ndir = \"in-use\"\nport = 7143\n";
 
-const NOT_THERE: [Step; 4] = [
+static NOT_THERE: [Step; 4] = [
     Ends(SERVE, NO_FOLDER, 1, NOT_FOUND),
     Changes(&[Anew("in-use")]),
     EndsBesidePort(7144, SERVE, IN_USE, b"ringd: port 7144 cannot be used\n"),

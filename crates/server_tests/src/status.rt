@@ -320,7 +320,7 @@ fn nodes_that_are_not_well(rt: HostRuntime) {
 
 const IN_USE: &[u8] = b"nodes = 2\ndir = \"port\"\nport = 7252\n";
 
-const PORTS_IN_USE: [Step; 4] = [
+static PORTS_IN_USE: [Step; 4] = [
     Changes(&[Anew("port")]),
     EndsBesidePort(
         7251,

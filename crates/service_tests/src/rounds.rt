@@ -190,7 +190,7 @@ const FAILS_DUE: &[Step] = &[
 
 /// Which call of a checkpoint's six fails, counted from 0, what becomes of the bytes that were not synced, and what the
 /// node holds then. Its Stand and the message of that were released before.
-const STOPS: [(u64, Tear, Told); 10] = [
+static STOPS: [(u64, Tear, Told); 10] = [
     (0, Tear::New, (1, 0, 1, 1)),
     (1, Tear::Old, (1, 0, 1, 1)),
     (2, Tear::Old, (1, 0, 1, 1)),
@@ -217,7 +217,8 @@ fn stopped<R: Threads + Wait + Clock + Abort + AllocGlobal + Sync>(
 
 #[test]
 fn a_device_that_fails_within_a_checkpoint(rt: HostRuntime) -> Result<(), Fail> {
-    for (call, tear, left) in STOPS {
+    for row in &STOPS {
+        let (call, tear, left) = *row;
         assert_eq!(rt; stopped(&rt, call, tear), left);
     }
     Ok(())

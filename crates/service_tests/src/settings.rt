@@ -5,7 +5,7 @@ use std::process::Abort;
 use std::test::*;
 
 /// Texts that are read: the nodes, the port, the capacity and the folder that they tell.
-const READ: [(&str, (u8, u16, u32), &str); 2] = [
+static READ: [(&str, (u8, u16, u32), &str); 2] = [
     (
         "nodes = 3\ndir = \"state\"\nport = 7101\n",
         (3, 7101, 65_536),
@@ -20,7 +20,8 @@ const READ: [(&str, (u8, u16, u32), &str); 2] = [
 
 #[test]
 fn settings(rt: HostRuntime) -> Result<(), Fail> {
-    for (text, numbers, dir) in READ {
+    for row in &READ {
+        let (text, numbers, dir) = *row;
         let read = read_settings(rt.alloc(), text)?;
         assert_eq!(rt; (read.nodes, read.port, read.capacity), numbers);
         assert_eq!(rt; read.dir.as_str(), dir);
@@ -29,7 +30,7 @@ fn settings(rt: HostRuntime) -> Result<(), Fail> {
 }
 
 /// Texts that are refused, and why.
-const REFUSED: [(&str, StartFault); 19] = [
+static REFUSED: [(&str, StartFault); 19] = [
     ("nodes = ", StartFault::Toml),
     ("", StartFault::Missing(Setting::Nodes)),
     ("dir = 1", StartFault::Missing(Setting::Nodes)),
@@ -71,7 +72,8 @@ const REFUSED: [(&str, StartFault); 19] = [
 
 #[test]
 fn refused_settings(rt: HostRuntime) {
-    for (text, why) in REFUSED {
+    for row in &REFUSED {
+        let (text, why) = *row;
         match read_settings(rt.alloc(), text) {
             Ok(_) => panic!(rt; "read: {text}"),
             Err(fault) => assert_eq!(rt; fault, why, "{text}"),
@@ -104,7 +106,7 @@ const ALONE: Words<'static> = Words {
 };
 
 /// Words that are taken, and what they ask.
-const TAKEN: [(&[&str], Words<'static>); 5] = [
+static TAKEN: [(&[&str], Words<'static>); 5] = [
     (&["ringd"], ALONE),
     (
         &["ringd", "--serve", "7", "--settings=x"],
@@ -150,7 +152,7 @@ const TAKEN: [(&[&str], Words<'static>); 5] = [
 ];
 
 /// Words that are wrong.
-const WRONG: [&[&str]; 16] = [
+static WRONG: [&[&str]; 16] = [
     &["ringd", "--serve=0"],
     &["ringd", "--serve=1001"],
     &["ringd", "--serve=5000"],
@@ -179,13 +181,14 @@ fn refuses<R: Abort + AllocGlobal>(rt: &R, words: &[&str], status: i32, is_error
 
 #[test]
 fn words(rt: HostRuntime) {
-    for (words, asked) in TAKEN {
+    for row in &TAKEN {
+        let (words, asked) = *row;
         match read_words(rt.alloc(), words) {
             Ok(read) => assert_eq!(rt; read, asked),
             Err(_) => panic!(rt; "refused"),
         }
     }
-    for words in WRONG {
+    for words in &WRONG {
         refuses(&rt, words, 2, true);
     }
     for asks in ["--help", "--version"] {

@@ -15,23 +15,26 @@ fn long_question(alloc: Global, bytes: usize, end: &[u8]) -> Result<Vec<u8>, All
     Ok(line)
 }
 
+/// A line's length, its end, the answers, and how many bytes are left.
+static LINES: [(&str, usize, &[u8], &str, usize); 12] = [
+    ("200, LF", 200, b"\nbye\n", "none\nbye\n", 0),
+    ("200, CR, LF", 200, b"\r\nbye\n", "none\nbye\n", 0),
+    ("201, LF", 201, b"\nbye\n", "no 25 line\nbye\n", 0),
+    ("201, CR, LF", 201, b"\r\nbye\n", "no 25 line\n", 5),
+    ("202, LF", 202, b"\nbye\n", "no 25 line\n", 5),
+    ("202, CR, LF", 202, b"\r\nbye\n", "no 25 line\n", 6),
+    ("300, LF", 300, b"\nbye\n", "no 25 line\n", 103),
+    ("200", 200, b"", "", 0),
+    ("200, CR", 200, b"\r", "", 0),
+    ("201", 201, b"", "", 0),
+    ("201, CR", 201, b"\r", "no 25 line\n", 0),
+    ("202", 202, b"", "no 25 line\n", 0),
+];
+
 #[test]
 fn lines_have_200_bytes(rt: HostRuntime) -> Result<(), Fail> {
-    let table: [(&str, usize, &[u8], &str, usize); 12] = [
-        ("200, LF", 200, b"\nbye\n", "none\nbye\n", 0),
-        ("200, CR, LF", 200, b"\r\nbye\n", "none\nbye\n", 0),
-        ("201, LF", 201, b"\nbye\n", "no 25 line\nbye\n", 0),
-        ("201, CR, LF", 201, b"\r\nbye\n", "no 25 line\n", 5),
-        ("202, LF", 202, b"\nbye\n", "no 25 line\n", 5),
-        ("202, CR, LF", 202, b"\r\nbye\n", "no 25 line\n", 6),
-        ("300, LF", 300, b"\nbye\n", "no 25 line\n", 103),
-        ("200", 200, b"", "", 0),
-        ("200, CR", 200, b"\r", "", 0),
-        ("201", 201, b"", "", 0),
-        ("201, CR", 201, b"\r", "no 25 line\n", 0),
-        ("202", 202, b"", "no 25 line\n", 0),
-    ];
-    for (name, bytes, end, text, left) in table {
+    for row in &LINES {
+        let (name, bytes, end, text, left) = *row;
         let input = long_question(rt.alloc(), bytes, end)?;
         assert_says(&rt, name, &input, text, left);
     }

@@ -1,7 +1,7 @@
 // What lines are commands, and how they are answered.
 use crate::talk::assert_says;
 
-const LINES: [(&str, &[u8], &str); 16] = [
+static LINES: [(&str, &[u8], &str); 16] = [
     (
         "a carriage return is dropped",
         b"stand red 5 10\r\nbye\r\n",
@@ -78,7 +78,8 @@ const LINES: [(&str, &[u8], &str); 16] = [
 
 #[test]
 fn lines(rt: HostRuntime) {
-    for (name, input, text) in LINES {
+    for row in &LINES {
+        let (name, input, text) = *row;
         assert_says(&rt, name, input, text, 0);
     }
 }

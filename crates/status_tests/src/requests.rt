@@ -30,18 +30,20 @@ fn heads_that_ask(rt: HostRuntime) {
     }
 }
 
+static REFUSED: [(&str, Status); 7] = [
+    ("POST /health HTTP/1.1\r\n\r\n", Status::NotAllowed),
+    ("get /health HTTP/1.1\r\n\r\n", Status::NotAllowed),
+    ("DELETE /nothing HTTP/1.1\r\n\r\n", Status::NotAllowed),
+    ("GET / HTTP/1.1\r\n\r\n", Status::NotFound),
+    ("GET /leaders/Red HTTP/1.1\r\n\r\n", Status::BadRequest),
+    ("GET /health HTTP/2.0\r\n\r\n", Status::BadRequest),
+    ("stand red 5 10\n", Status::BadRequest),
+];
+
 #[test]
 fn heads_that_are_refused(rt: HostRuntime) {
-    let table: [(&str, Status); 7] = [
-        ("POST /health HTTP/1.1\r\n\r\n", Status::NotAllowed),
-        ("get /health HTTP/1.1\r\n\r\n", Status::NotAllowed),
-        ("DELETE /nothing HTTP/1.1\r\n\r\n", Status::NotAllowed),
-        ("GET / HTTP/1.1\r\n\r\n", Status::NotFound),
-        ("GET /leaders/Red HTTP/1.1\r\n\r\n", Status::BadRequest),
-        ("GET /health HTTP/2.0\r\n\r\n", Status::BadRequest),
-        ("stand red 5 10\n", Status::BadRequest),
-    ];
-    for (head, why) in table {
+    for row in &REFUSED {
+        let (head, why) = *row;
         assert_eq!(rt; read_request(head.as_bytes()), Err(why), "{head}");
     }
 }
@@ -104,26 +106,28 @@ fn targets(rt: HostRuntime) {
     }
 }
 
+static NO_TARGETS: [(&str, Status); 15] = [
+    ("/leaders?", Status::BadRequest),
+    ("/leaders?node=0", Status::BadRequest),
+    ("/leaders?node=17", Status::BadRequest),
+    ("/leaders?after=Red", Status::BadRequest),
+    ("/leaders?after=red&node=2", Status::BadRequest),
+    ("/leaders?node=2&after=red&", Status::BadRequest),
+    ("/leaders?node=2&", Status::BadRequest),
+    ("/leaders/", Status::BadRequest),
+    ("/leaders/a-name-of-17-byte", Status::BadRequest),
+    ("/leaders/red/", Status::BadRequest),
+    ("/leaders/red?after=red", Status::BadRequest),
+    ("*", Status::NotFound),
+    ("/health/", Status::NotFound),
+    ("/leader", Status::NotFound),
+    ("health", Status::NotFound),
+];
+
 #[test]
 fn targets_that_ask_nothing(rt: HostRuntime) {
-    let table: [(&str, Status); 15] = [
-        ("/leaders?", Status::BadRequest),
-        ("/leaders?node=0", Status::BadRequest),
-        ("/leaders?node=17", Status::BadRequest),
-        ("/leaders?after=Red", Status::BadRequest),
-        ("/leaders?after=red&node=2", Status::BadRequest),
-        ("/leaders?node=2&after=red&", Status::BadRequest),
-        ("/leaders?node=2&", Status::BadRequest),
-        ("/leaders/", Status::BadRequest),
-        ("/leaders/a-name-of-17-byte", Status::BadRequest),
-        ("/leaders/red/", Status::BadRequest),
-        ("/leaders/red?after=red", Status::BadRequest),
-        ("*", Status::NotFound),
-        ("/health/", Status::NotFound),
-        ("/leader", Status::NotFound),
-        ("health", Status::NotFound),
-    ];
-    for (target, why) in table {
+    for row in &NO_TARGETS {
+        let (target, why) = *row;
         assert_eq!(rt; read_target(target.as_bytes()), Err(why), "{target}");
     }
 }

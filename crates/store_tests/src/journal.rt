@@ -14,7 +14,7 @@ use test_rows::Op;
 
 /// A device that holds nothing, with room for a journal of this capacity.
 fn device_for<R: Abort + AllocGlobal>(rt: &R, capacity: u32) -> FuseDevice<MemDevice> {
-    let size = device_size(capacity) as usize;
+    let size = usize::try_from(device_size(capacity)).expect(rt, "a size");
     let device = MemDevice::new(rt.alloc(), size).expect(rt, "ample memory");
     FuseDevice::idle(device)
 }

@@ -20,7 +20,7 @@ fn restored(rt: &impl Abort, alloc: Global, capacity: u32, bytes: &[u8]) -> Node
 }
 
 /// Inputs at the borders of what the histories below leave.
-const ASKED: [Op; 12] = [
+static ASKED: [Op; 12] = [
     Stand("red", 5, 31),
     Stand("red", 4, 1),
     Stand("red", 6, 1),
@@ -37,8 +37,8 @@ const ASKED: [Op; 12] = [
 
 /// Both admit the same, and refuse the rest for the same causes.
 fn judge_alike(rt: &impl Abort, core: &NodeCore, other: &NodeCore) {
-    for op in ASKED {
-        let input = input(rt, op);
+    for op in &ASKED {
+        let input = input(rt, *op);
         assert_eq!(rt; core.admit(&input), other.admit(&input));
     }
 }
@@ -84,7 +84,7 @@ fn goes_on(rt: &impl Abort, alloc: Global, ops: &[Op]) {
     }
 }
 
-const ELECTED: [Op; 7] = [
+static ELECTED: [Op; 7] = [
     Stand("red", 5, 30),
     Take(0, Token("red", 5, 10, 1)),
     Take(1, Token("red", 5, 40, 3)),
@@ -94,7 +94,7 @@ const ELECTED: [Op; 7] = [
     Acked(3),
 ];
 
-const PASSED_ON: [Op; 6] = [
+static PASSED_ON: [Op; 6] = [
     Take(0, Token("blue", 1, 7, 1)),
     Stand("blue", 2, 3),
     Acked(1),
@@ -111,7 +111,7 @@ fn a_restored_node_goes_on_as_the_first_one(rt: HostRuntime) {
 
 // 38 bytes of counts. A key takes 5 and its name, 1 for its flags, 4 for a bid and 5 for a leader, a message 11 and its
 // name.
-const LENGTHS: [(Op, u64); 6] = [
+static LENGTHS: [(Op, u64); 6] = [
     (Stand("red", 5, 30), 65),
     (Take(0, Token("blue", 1, 7, 1)), 90),
     (Acked(1), 76),
@@ -124,7 +124,8 @@ const LENGTHS: [(Op, u64); 6] = [
 fn a_snapshot_has_the_bytes_of_its_keys_and_its_window(rt: HostRuntime) {
     let mut rig = Rig::new(&rt, rt.alloc(), 3, 65_536);
     assert_eq!(rt; rig.core.summary_len(), 38);
-    for (op, len) in LENGTHS {
+    for row in &LENGTHS {
+        let (op, len) = *row;
         rig.accept_all(&rt, &[op]);
         assert_eq!(rt; rig.core.summary_len(), len);
     }

@@ -17,19 +17,22 @@ fn long_ring(alloc: Global, bytes: usize, end: &[u8]) -> Result<Vec<u8>, AllocEr
     Ok(line)
 }
 
+/// A line's length, its end, and what is printed.
+static LINES: [(&str, usize, &[u8], &str); 8] = [
+    ("200", 200, b"", "ring 2\n"),
+    ("200, LF", 200, b"\n", "ring 2\n"),
+    ("200, CR, LF", 200, b"\r\n", "ring 2\n"),
+    ("199, CR", 199, b"\r", "no 2 number\n"),
+    ("200, CR", 200, b"\r", "no 25 line\n"),
+    ("201", 201, b"", "no 25 line\n"),
+    ("201, LF", 201, b"\n", "no 25 line\n"),
+    ("201, CR, LF", 201, b"\r\n", "no 25 line\n"),
+];
+
 #[test]
 fn lines_have_200_bytes(rt: HostRuntime) -> Result<(), Fail> {
-    let table: [(&str, usize, &[u8], &str); 8] = [
-        ("200", 200, b"", "ring 2\n"),
-        ("200, LF", 200, b"\n", "ring 2\n"),
-        ("200, CR, LF", 200, b"\r\n", "ring 2\n"),
-        ("199, CR", 199, b"\r", "no 2 number\n"),
-        ("200, CR", 200, b"\r", "no 25 line\n"),
-        ("201", 201, b"", "no 25 line\n"),
-        ("201, LF", 201, b"\n", "no 25 line\n"),
-        ("201, CR, LF", 201, b"\r\n", "no 25 line\n"),
-    ];
-    for (name, bytes, end, text) in table {
+    for row in &LINES {
+        let (name, bytes, end, text) = *row;
         let line = long_ring(rt.alloc(), bytes, end)?;
         assert_prints(&rt, rt.alloc(), name, &line, text);
     }

@@ -3,7 +3,7 @@ use super::Step::{Asks, Closes, Forfeits, Redeems, Refuses, Returns};
 use super::*;
 
 /// What a desk does not open with, and where it is refused.
-const UNLAWFUL: [(&'static [Op], u64); 3] = [
+static UNLAWFUL: [(&'static [Op], u64); 3] = [
     (&[STOOD, STOOD], 1),
     (&[Op::Acked(1)], 0),
     (&[Op::Take(0, Note::Token("red", 5, 20, 2)), STOOD], 1),
@@ -11,7 +11,8 @@ const UNLAWFUL: [(&'static [Op], u64); 3] = [
 
 #[test]
 fn unlawful_inputs(rt: HostRuntime) {
-    for (ops, place) in UNLAWFUL {
+    for row in &UNLAWFUL {
+        let (ops, place) = *row;
         let opening = opening_of(&rt, ops);
         let desk = Desk::open(rt.alloc(), node(&rt, 1), 3, 4096, 0, opening);
         assert_eq!(rt; desk.err(), Some(Refusal::Unlawful(place)));

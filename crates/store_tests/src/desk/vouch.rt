@@ -86,7 +86,7 @@ fn vouches<R: Abort + AllocGlobal>(rt: &R, name: &str, desk: &Desk, rows: &[Row]
 /// What is asked, what the desk that is asked opens with, later, and the stubs.
 type Case = (&'static str, &'static [Op], &'static [Row]);
 
-const CASES: [Case; 10] = [
+static CASES: [Case; 10] = [
     (
         "after more inputs",
         &[STOOD, ANNOUNCED],
@@ -220,7 +220,8 @@ const CASES: [Case; 10] = [
 
 #[test]
 fn stubs_of_another_desk(rt: HostRuntime) {
-    for (name, before, rows) in CASES {
+    for case in &CASES {
+        let (name, before, rows) = *case;
         let desk = opened(&rt, 1, 1, before);
         vouches(&rt, name, &desk, rows);
     }

@@ -41,7 +41,7 @@ fn summarised<R: Abort + AllocGlobal>(
 /// What a node is recovered with, a snapshot and inputs behind it, and what is done with it then.
 type Row = (&'static [u8], &'static [Op], &'static [Step]);
 
-const ROWS: [Row; 4] = [
+static ROWS: [Row; 4] = [
     (
         &STOOD,
         &[],
@@ -82,7 +82,8 @@ const ROWS: [Row; 4] = [
 
 #[test]
 fn goes_on_from_the_summary(rt: HostRuntime) {
-    for (snapshot, ops, steps) in ROWS {
+    for row in &ROWS {
+        let (snapshot, ops, steps) = *row;
         goes_on(&rt, summarised(&rt, snapshot, ops), steps);
     }
 }
@@ -112,14 +113,15 @@ fn refuses<R: Abort + AllocGlobal>(rt: &R, device: FuseDevice<MemDevice>, cause:
 }
 
 /// A snapshot, inputs behind it, and which of them is not admitted.
-const UNSENT: [(&'static [u8], &'static [Op], u64); 2] = [
+static UNSENT: [(&'static [u8], &'static [Op], u64); 2] = [
     (&STOOD, &[Op::Acked(2)], 0),
     (&OF_NONE, &[Op::Take(7, ANNOUNCED), Op::Acked(5)], 1),
 ];
 
 #[test]
 fn inputs_that_a_summary_does_not_admit(rt: HostRuntime) {
-    for (snapshot, ops, place) in UNSENT {
+    for row in &UNSENT {
+        let (snapshot, ops, place) = *row;
         refuses(
             &rt,
             summarised(&rt, snapshot, ops),
