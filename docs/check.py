@@ -11,13 +11,15 @@ ROOT is the repository, by default the one that this file stands in. Nothing is 
 - every edit of the tree, a wrong body or a program that must not compile: docs/PROMISES.md names it, or names all edits
   of its folder, as `wrong_bodies/CRATE/*`;
 - every relative link of README.md and docs/*.md, its heading too, and every page of docs/ that one of them names;
-- the lines of README.md, of which there may be 150.
+- the lines of README.md, of which there may be 150;
+- the logic that README.md trusts, which is the one that `rt version` prints.
 
 Each fault is a line `FILE:LINE: what is wrong`. The last line is `N names, M not found`, where links, pages and edits
 count as names. The status is 0 where there is no fault, 1 where there is one, and 2 where ROOT has no docs/PROMISES.md."""
 
 import pathlib
 import re
+import subprocess
 import sys
 from collections import defaultdict
 from dataclasses import dataclass, field
@@ -36,6 +38,7 @@ CODE = re.compile(r"`([^`]+)`")
 CRATE_AFTER = re.compile(r"\s*(?:of|in)\s+`?(\w+)`?")
 LINK = re.compile(r"\[[^\]]*\]\(([^)\s]+)\)")
 PAGE = re.compile(r"\bdocs/[A-Za-z_]+\.\w+")
+LOGIC = re.compile(r"\blogic [0-9a-f]+\b")
 WORD = re.compile(r"[A-Za-z_]\w*")
 
 
@@ -314,6 +317,17 @@ def links(root: pathlib.Path, path: pathlib.Path) -> Iterator[tuple[bool, int, s
             yield (root / name).exists(), number, f"there is no {name}"
 
 
+def logics(path: pathlib.Path) -> Iterator[tuple[bool, int, str]]:
+    """Each logic that a page names: whether it is the toolchain's, its line, and what is wrong; one that it does not name is at line 1."""
+    try:
+        version = subprocess.run(["rt", "version"], capture_output=True, text=True, check=True).stdout.strip()
+    except (OSError, subprocess.CalledProcessError) as error:
+        version = f"nothing: {error}"
+    named = [(number, it) for number, line in enumerate(path.read_text().splitlines(), 1) for it in LOGIC.findall(line)]
+    for number, it in named or [(1, "no logic")]:
+        yield it in LOGIC.findall(version), number, f"{it} is named, and rt version prints {version}"
+
+
 def main() -> int:
     root = pathlib.Path(sys.argv[1] if len(sys.argv) > 1 else pathlib.Path(__file__).parent.parent).resolve()
     if not (root / "docs" / "PROMISES.md").is_file():
@@ -328,8 +342,10 @@ def main() -> int:
         promises.ask((crate, name) in promises.told, 1, f"the edit {name} of {crate} is not named")
     faults = promises.faults + readme.faults
     count = promises.count + readme.count
-    for path in [root / "README.md", *sorted((root / "docs").glob("*.md"))]:
-        for is_there, line, what in links(root, path):
+    pages = [root / "README.md", *sorted((root / "docs").glob("*.md"))]
+    looked_at = [(path, links(root, path)) for path in pages] + [(pages[0], logics(pages[0]))]
+    for path, found in looked_at:
+        for is_there, line, what in found:
             count += 1
             if not is_there:
                 faults.append(f"{path.relative_to(root)}:{line}: {what}")
