@@ -301,12 +301,17 @@ fn on_hub<
     Ok((journal.into_device(), Counts { stood, batches }))
 }
 
-/// Appends 64 bytes and syncs, so often, in a part of the file that has its bytes before. Tells how many it has.
-fn append_bare<D: Device>(device: &mut D, appends: u32) -> Result<u64, DeviceFault> {
+/// Gives the file the bytes that are appended to.
+fn lengthen<D: Device>(device: &mut D) -> Result<(), DeviceFault> {
     for no in 0..APPENDS {
         device.write_at(64 * no, &APPEND)?;
     }
-    device.sync()?;
+    device.sync()
+}
+
+/// Appends 64 bytes and syncs, so often, in a part of the file that has its bytes before. Tells how many it has.
+fn append_bare<D: Device>(device: &mut D, appends: u32) -> Result<u64, DeviceFault> {
+    lengthen(device)?;
     for no in 0..u64::from(appends) {
         device.write_at(64 * (no % APPENDS), &APPEND)?;
         device.sync()?;
