@@ -3,7 +3,8 @@ import secrets
 from collections.abc import Iterator
 from typing import TYPE_CHECKING, NamedTuple
 
-from .errors import AlreadyStands, Late, LimitReached, NoLeader, Stale, WrongRing
+from . import status
+from .errors import AlreadyStands, CinowetaError, Late, LimitReached, NoAnswer, NoLeader, Stale, WrongRing
 from .pause import Pause
 
 if TYPE_CHECKING:
@@ -54,7 +55,7 @@ class Campaign:
                 self.stand(term)
                 known = self.wait(seconds)
         if known is None:
-            raise NoLeader(f"{self.group}: no leader in {terms} terms above {self.gone}")
+            raise NoLeader(f"{self.group}: no leader in {terms} terms above {self.gone}{self.fault()}")
         is_mine = known in self.stood
         if not is_mine and known.leader.bid == self.bid and any(term == known.term for term, _ in self.stood):
             raise WrongRing(f"who stood at node {self.places[0]} leads at node {known.leader.node}: give all ports")
@@ -64,10 +65,15 @@ class Campaign:
         """Stands for the term where it may. Not where somebody else does, who comes to be known then. A node that stood
         as often as it may is passed by, where another one may be taken."""
         for number, place in enumerate(self.places, 1):
+            candidate = Leader(place, self.bid)
             try:
                 self.ring.stand(self.group, term, self.bid, place)
-                self.stood.add((term, Leader(place, self.bid)))
+                self.stood.add((term, candidate))
                 return
+            except NoAnswer:
+                # It may have been accepted, and nobody else has the bid.
+                self.stood.add((term, candidate))
+                raise
             except (AlreadyStands, Late, Stale):
                 return
             except LimitReached:
@@ -79,6 +85,14 @@ class Campaign:
         while (known := self.known()) is None and pause.take():
             pass
         return known
+
+    def fault(self) -> str:
+        """Which nodes are not well, as `: node 3 full`, where the ring's status port is known and tells."""
+        try:
+            faults = [] if self.ring.status is None else status.health(self.ring.status)
+        except CinowetaError:
+            faults = []
+        return f": {', '.join(faults)}" if faults else ""
 
     def known(self) -> Led | None:
         """The latest leader, where its term is above the one that is gone."""

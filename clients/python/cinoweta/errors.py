@@ -14,6 +14,10 @@ class NoLeader(CinowetaError):
     again and again uses the Stands of the nodes up, and helps nothing."""
 
 
+class LockTaken(CinowetaError):
+    """Another process held the lock for as long as was waited."""
+
+
 class WrongRing(CinowetaError):
     """The ports are not those of a ring, from its node 1 on."""
 

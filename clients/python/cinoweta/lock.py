@@ -1,127 +1,149 @@
-"""A lock: a command runs while who started it leads.
+"""A lock: who leads for a group holds it, in a term of its own.
 
 Whoever waits for the lock has to see whether the leader is still there. The ring does not tell; but all its clients are
 on one host. So who leads listens at a port of 127.0.0.1, which its bid names, and answers there with its bid.
 """
-import contextlib
-import secrets
-import socket
-import threading
 import time
 from collections.abc import Callable
+from typing import NamedTuple
 
-from .errors import NoAnswer
+from .beacon import Beacon, ask, is_there
+from .election import Campaign, Leader, Led
+from .errors import LockTaken, NoAnswer
 from .pause import Pause
 from .process import EVERY, run
 from .ring import Ring
 
-# A bid is rank * RANK + port * SPREAD + a random number below SPREAD.
-RANK, SPREAD = 100_000_000, 1_525
-# The line of a bid is no longer, in bytes.
-LONGEST = 32
+# For so many terms a campaign stands at most, and so long it waits in each, in seconds.
+TERMS, SECONDS = 3, 5.0
 
 
-def port_of(bid: int) -> int:
-    return bid % RANK // SPREAD
+class Holder(NamedTuple):
+    """Who holds a lock: its term and leader, its process, and what it tells of itself."""
+    term: int
+    leader: Leader
+    pid: int
+    text: str
 
 
-class Beacon:
-    """Answers at a port of 127.0.0.1 while this process runs, and is neither paused nor killed."""
-
-    def __init__(self, rank: int) -> None:
-        if not 0 <= rank <= 9:
-            raise ValueError("a lock's rank is 0 to 9")
-        self.server = socket.create_server(("127.0.0.1", 0))
-        self.bid = rank * RANK + self.server.getsockname()[1] * SPREAD + secrets.randbelow(SPREAD)
-        threading.Thread(target=self.serve, daemon=True).start()
-
-    def serve(self) -> None:
-        with contextlib.suppress(OSError):
-            while True:
-                connection, _ = self.server.accept()
-                with connection, contextlib.suppress(OSError):
-                    connection.settimeout(0.5)
-                    if connection.recv(LONGEST) == b"%d\n" % self.bid:
-                        connection.sendall(b"%d\n" % self.bid)
-
-    def close(self) -> None:
-        # A thread that waits in `accept` is woken by this, and not by `close` alone.
-        with contextlib.suppress(OSError):
-            self.server.shutdown(socket.SHUT_RDWR)
-        self.server.close()
+def holder_of(known: Led, seconds: float) -> Holder | None:
+    """Who leads so, where it holds a lock and answers within so many seconds."""
+    bid = known.leader.bid
+    words = ask(bid, b"holder %d\n" % bid, seconds).decode("utf-8", "replace").rstrip("\n").split(" ", 2)
+    if len(words) < 3 or words[0] != str(bid) or not words[1].isdecimal():
+        return None
+    return Holder(known.term, known.leader, int(words[1]), words[2])
 
 
-def is_there(bid: int, seconds: float) -> bool:
-    """Whether who stood with this bid answers within so many seconds."""
-    line, answer = b"%d\n" % bid, b""
-    until = time.monotonic() + seconds
-    try:
-        with socket.create_connection(("127.0.0.1", port_of(bid)), seconds) as connection:
-            # Where nobody listens, the system may join a connection to itself, which would answer all that is sent.
-            if connection.getsockname() == connection.getpeername():
-                return False
-            connection.sendall(line)
-            while len(answer) < len(line):
-                connection.settimeout(max(0.001, until - time.monotonic()))
-                part = connection.recv(LONGEST)
-                if not part:
-                    return False
-                answer += part
-    except OSError:
-        return False
-    return answer == line
+def holder(ring: Ring, group: str, patience: float = 5.0) -> Holder | None:
+    """Who holds the lock of the group and answers within `patience` seconds, or None."""
+    known = ring.latest(group)
+    return None if known is None else holder_of(known, patience)
 
 
 class Lock:
-    """The lock of a group, for which this process campaigns until it leads."""
+    """The lock of a group: `with Lock(ring, "jobs") as held:` waits until this process leads, in `held.term`, which it
+    sends with each write as a fencing number, and resigns at the end. A holder is gone once its process has ended, or
+    did not answer for `patience` seconds, as a paused one. Waited is for `wait` seconds, or for ever: then `LockTaken`;
+    0 tries once. A ring that answered before is waited for just so; then `NoAnswer`. Others are told `text`."""
 
-    def __init__(self, ring: Ring, group: str, rank: int = 0, patience: float = 5.0) -> None:
-        self.ring, self.group, self.patience = ring, group, patience
-        self.beacon = Beacon(rank)
-        self.term = 0
+    def __init__(self, ring: Ring, group: str, rank: int = 0, patience: float = 5.0, wait: float | None = None,
+                 text: str = "") -> None:
+        self.ring, self.group, self.rank, self.patience, self.text = ring, group, rank, patience, text
+        self.wait = float("inf") if wait is None else wait
+        # What looks whether the lock is lost waits for no other question, and is not waited for long.
+        self.looks = Ring(ring.first, ring.first + ring.nodes - 1, timeout=min(ring.timeout, EVERY))
+        self.beacon: Beacon | None = None
+        # The term in which it leads or led, the greatest one that is over for it, and when the ring was asked.
+        self.term, self.gone, self.asked = 0, 0, 0.0
 
-    def acquire(self, tell: Callable[[str], None]) -> None:
-        """Waits until this process leads, and sets `term`. A leader counts as gone once it does not answer any more."""
+    def acquire(self, tell: Callable[[str], object] = lambda _text: None) -> None:
+        """Waits until this process leads, and sets `term`; `tell` is told for whom it waits."""
+        if self.beacon is not None:
+            raise ValueError(f"{self.group}: the lock is held")
+        self.beacon = Beacon(self.rank, self.text)
+        try:
+            self.contend(Campaign(self.ring, self.group, self.gone, self.beacon.bid, None), tell)
+        except BaseException:
+            self.resign()
+            raise
+
+    def contend(self, campaign: Campaign, tell: Callable[[str], object]) -> None:
+        """Stands for the term above that of each holder that is gone, until it leads itself."""
+        pause = Pause(self.ring, self.wait)
         known = self.ring.latest(self.group)
         while True:
-            if known is not None:
-                if known.term > self.term:
-                    tell(f"waits for node {known.leader.node}, which leads in term {known.term}")
-                self.await_end(known.leader.bid)
-                self.term = known.term
-            election = self.ring.campaign_with(self.beacon.bid, self.group, self.term)
-            if election.is_mine:
-                self.term = election.term
-                return
-            known = election
+            try:
+                if known is not None and known.term > campaign.gone:
+                    self.await_end(known, pause, tell)
+                    campaign.gone = known.term
+                election = campaign.run(TERMS, SECONDS)
+                if election.is_mine:
+                    self.term, self.asked = election.term, time.monotonic()
+                    return
+                known = Led(election.term, election.leader)
+            except NoAnswer as fault:
+                tell(f"waits for the ring: {fault}")
+                if not pause.take():
+                    raise
+            finally:
+                self.ring.close()
 
-    def await_end(self, bid: int) -> None:
+    def await_end(self, known: Led, pause: Pause, tell: Callable[[str], object]) -> None:
+        """Waits until who leads so is gone. `LockTaken` where the time is over before."""
         self.ring.close()
-        pause = Pause(self.ring)
-        while is_there(bid, self.patience):
-            pause.take()
+        bid = known.leader.bid
+        if is_there(bid, self.patience):
+            tell(f"waits for {said(known, holder_of(known, self.patience))}")
+            while pause.take():
+                if not is_there(bid, self.patience):
+                    return
+            raise LockTaken(f"{self.group}: held by {said(known, holder_of(known, self.patience))}")
 
     def is_lost(self) -> bool:
-        """Whether a greater term is known. Not where no node answers: nobody is elected by it then either."""
-        try:
-            known = self.ring.latest(self.group)
-        except NoAnswer:
+        """Whether this process does not hold the lock any more: it resigned, or a greater term is known. The ring is
+        asked once a second at most. Where no node answers nobody is elected either, so nothing is lost then."""
+        if self.beacon is None:
+            return True
+        if time.monotonic() - self.asked < EVERY:
             return False
+        try:
+            known = self.looks.latest(self.group)
+        except NoAnswer:
+            known = None
         finally:
-            self.ring.close()
-        return known is not None and known.term > self.term
+            self.looks.close()
+            self.asked = time.monotonic()
+        if known is not None and known.term > self.term:
+            self.resign()
+        return self.beacon is None
 
     def run(self, command: list[str], grace: float) -> int | None:
         """Runs the command while this process leads: its exit status, or None where the lock was lost, and it was sent
         TERM, and after so many seconds KILL. Who waits sees the end at once."""
         try:
-            # What is waited for here holds up that the command's end is seen.
-            self.ring.timeout = min(self.ring.timeout, EVERY)
             names = {"CINOWETA_GROUP": self.group, "CINOWETA_TERM": str(self.term)}
             return run(command, names, self.is_lost, grace)
         finally:
-            self.release()
+            self.resign()
 
-    def release(self) -> None:
-        self.beacon.close()
-        self.ring.close()
+    def resign(self, above: int = 0) -> None:
+        """Gives the lock back: who waits sees it at once. Where this one takes it again its term is above this number,
+        as the one that turned a write away."""
+        self.gone = max(self.gone, self.term, above)
+        if self.beacon is not None:
+            self.beacon.close()
+            self.beacon = None
+
+    def __enter__(self) -> "Lock":
+        self.acquire()
+        return self
+
+    def __exit__(self, *_fault: object) -> None:
+        self.resign()
+
+
+def said(known: Led, told: Holder | None) -> str:
+    """Who leads, in words."""
+    process = f"process {told.pid}{f' ({told.text})' if told.text else ''}, which leads at " if told else ""
+    return f"{process}node {known.leader.node} in term {known.term}"

@@ -22,12 +22,13 @@ LATEST = re.compile(r"term (\d+) leader (\d+) (\d+)")
 class Ring:
     """A ring of 127.0.0.1: node 1 listens at the port `first`, the last one at `last`. Questions are asked of any node,
     over one session at a time; where one breaks off, of the next node, until `timeout` seconds are over: `NoAnswer`.
-    A Stand stays with its node. Threads may share it; one waits for the other."""
+    A Stand stays with its node. At the port `status`, if any, `ringd --status` tells of the ring: then `NoLeader` says
+    which node is not well. Threads may share it; one waits for the other."""
 
-    def __init__(self, first: int, last: int, timeout: float = 10.0) -> None:
+    def __init__(self, first: int, last: int, *, timeout: float = 10.0, status: int | None = None) -> None:
         if not 1 <= first < last <= 65_535 or last - first > 15:
             raise WrongRing(f"{first}-{last}: the ports of 2 to 16 nodes are 1 to 65,535")
-        self.first, self.nodes, self.timeout = first, last - first + 1, timeout
+        self.first, self.nodes, self.timeout, self.status = first, last - first + 1, timeout, status
         self.place = 1
         self.session: Session | None = None
         self.lock = threading.RLock()
@@ -35,12 +36,12 @@ class Ring:
         self.unanswered: dict[tuple[int, int, str], None] = {}
 
     @classmethod
-    def parse(cls, text: str, timeout: float = 10.0) -> "Ring":
+    def parse(cls, text: str, *, timeout: float = 10.0, status: int | None = None) -> "Ring":
         """The ring of a text as `7101-7103`."""
         ports = re.fullmatch(r"(\d{1,5})-(\d{1,5})", text, re.ASCII)
         if ports is None:
             raise WrongRing(f"{text}: ports are told as 7101-7103")
-        return cls(int(ports[1]), int(ports[2]), timeout)
+        return cls(int(ports[1]), int(ports[2]), timeout=timeout, status=status)
 
     def stand(self, group: str, term: int, bid: int, node: int = 1) -> None:
         """The node stands for the group and term with this bid, for who asked. Else `Refused`: `AlreadyStands`, with

@@ -7,6 +7,7 @@ from unittest import mock
 
 from cinoweta import (AlreadyStands, Election, Full, Leader, Led, LimitReached, NoAnswer, NodeFailed, NoLeader, Refused,
                       Ring, WrongRing)
+from cinoweta.election import Campaign
 from cinoweta.errors import KINDS, refusal
 
 from .lines import Node, Votes, first, serve
@@ -19,7 +20,7 @@ def deaf(_line: str) -> None:
 class Beside(unittest.TestCase):
     def ring(self, *answers: Callable[[str], str | None], timeout: float = 3.0) -> tuple[Ring, list[Node]]:
         nodes = serve(*answers)
-        ring = Ring(nodes[0].server_address[1], nodes[-1].server_address[1], timeout)
+        ring = Ring(nodes[0].server_address[1], nodes[-1].server_address[1], timeout=timeout)
         self.addCleanup(ring.close)
         for node in nodes:
             self.addCleanup(node.end)
@@ -112,6 +113,9 @@ class RingTest(Beside):
         for ports in ("7101", "7103-7101", "7101-7101", "7101-7117", "0-2", "65535-65536", "a-b", "", "7101-7103 "):
             with self.assertRaises(WrongRing, msg=ports):
                 Ring.parse(ports)
+        # A third port is no time to wait.
+        with self.assertRaises(TypeError):
+            Ring(7101, 7102, 7103)
 
     def test_lines_that_are_none(self) -> None:
         ring, nodes = self.ring(Votes(), Votes())
@@ -179,6 +183,26 @@ class CampaignTest(Beside):
             with self.assertRaises(NoLeader):
                 self.campaign(ring, gone=6, terms=2)
         self.assertEqual([int(line.split()[2]) for line in nodes[0].stands()], [7, 8, 7, 8])
+
+    def test_who_is_not_well_is_told_where_nobody_comes_to_lead(self) -> None:
+        votes = Votes(elects=False)
+        ring, _ = self.ring(votes, votes)
+        ring.status = 7100
+        for health, told in ((["node 2 failed", "node 3 full"], ": node 2 failed, node 3 full"), ([], ""),
+                             (NoAnswer("7100"), "")):
+            answer = {"side_effect": health} if isinstance(health, Exception) else {"return_value": health}
+            with mock.patch("cinoweta.status.health", **answer), self.assertRaises(NoLeader) as caught:
+                self.campaign(ring)
+            self.assertEqual(str(caught.exception), f"red: no leader in 3 terms above 0{told}")
+
+    def test_a_stand_without_an_answer_may_lead(self) -> None:
+        votes = Votes()
+        ring, nodes = self.ring(votes, votes, timeout=0.2)
+        nodes[0].answer = lambda line: votes(line) and None if line.startswith("stand") else votes(line)
+        campaign = Campaign(ring, "red", 0, 10, 1)
+        with self.assertRaises(NoAnswer):
+            campaign.run(1, 0.1)
+        self.assertEqual(campaign.run(1, 0.1), Election(1, Leader(1, 10), True))
 
     def test_ports_that_do_not_begin_with_node_1_are_seen(self) -> None:
         votes = Votes()

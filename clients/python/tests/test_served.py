@@ -157,9 +157,10 @@ class LockTest(ServedTest):
             locker.stdout.close()
 
     def lock(self, script: str, *words: str) -> subprocess.Popen[str]:
-        """Starts a locker of a shell's script."""
+        """Starts a locker of a shell's script, what is told of whom it waits for among what it prints."""
         command = self.served.command("lock", "red", "--patience", "1", "--grace", "1", *words, "--", "sh", "-c", script)
-        locker = subprocess.Popen(command, cwd=HERE.parent, stdout=subprocess.PIPE, stderr=subprocess.DEVNULL, text=True)
+        errors = subprocess.STDOUT if "--timeout" in words else subprocess.DEVNULL
+        locker = subprocess.Popen(command, cwd=HERE.parent, stdout=subprocess.PIPE, stderr=errors, text=True)
         self.lockers.append(locker)
         return locker
 
@@ -217,6 +218,35 @@ class LockTest(ServedTest):
         self.served.kill()
         self.assertEqual((first.stdout.read(), first.wait(10)), ("out\n", 0))
         self.served.start()
+
+    def test_who_waits_waits_for_a_ring_that_is_down(self) -> None:
+        first = self.lock("echo $CINOWETA_TERM; exec sleep 60")
+        self.assertEqual(first.stdout.readline(), "1\n")
+        second = self.lock("echo $CINOWETA_TERM", "--timeout", "0.5")
+        self.assertIn("waits for process", second.stdout.readline())
+        self.served.kill()
+        first.kill()
+        for _ in range(3):
+            self.assertIn("waits for the ring", second.stdout.readline())
+        self.served.start()
+        self.assertEqual(second.stdout.read().splitlines()[-1], "2")
+        self.assertEqual(second.wait(10), 0)
+
+    def test_the_holder_is_told(self) -> None:
+        told = self.served.run("holder", "red")
+        self.assertEqual((told.returncode, told.stdout), (1, "none\n"))
+        first = self.lock("echo in; exec sleep 60", "--text", "the nightly job")
+        self.assertEqual(first.stdout.readline(), "in\n")
+        told = self.served.run("holder", "red")
+        self.assertRegex(told.stdout, rf"\Aterm 1 leader \d \d+ process {first.pid} the nightly job\n\Z")
+        self.assertEqual(json.loads(self.served.run("--json", "holder", "red").stdout)["pid"], first.pid)
+        before = time.monotonic()
+        ended = self.served.run("lock", "red", "--wait", "0", "--", "echo", "in")
+        self.assertEqual((ended.returncode, ended.stdout), (6, ""))
+        self.assertRegex(ended.stderr, rf"\Acinoweta: red: waits for .*\ncinoweta: red: held by process {first.pid} ")
+        self.assertLess(time.monotonic() - before, 3.0)
+        first.kill()
+        self.assertEqual(self.served.run("holder", "red").stdout, "none\n")
 
 
 if __name__ == "__main__":

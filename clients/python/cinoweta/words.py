@@ -1,0 +1,79 @@
+"""The words of the command `cinoweta`."""
+import argparse
+import os
+
+from . import __version__
+
+EPILOG = """exit status: 0 done; 1 no leader is known, another one leads, nobody holds the lock, or a node is not well;
+2 wrong words; 3 no answer; 4 no leader in so many terms; 5 the lock was lost; 6 it was not had in time; 10 + N refused
+as `no N`, as 16 for `no 6 limit` and 17 for `no 7 full`; of lock else that of COMMAND. Fencing at what COMMAND writes
+to makes a lock safe: it turns away each write with a lower term than one that it has seen, which COMMAND finds in
+CINOWETA_TERM."""
+
+
+def arguments() -> argparse.ArgumentParser:
+    parser = argparse.ArgumentParser(prog="cinoweta", description="Asks a ring of ringd.", epilog=EPILOG)
+    parser.add_argument("--version", action="version", version=f"cinoweta {__version__}")
+    add_common(parser, ring=os.environ.get("CINOWETA_RING"), json=False, timeout=10.0)
+    commands = parser.add_subparsers(dest="command", required=True, metavar="COMMAND")
+
+    def command(name: str, told: str, *places: str, is_of_a_node: bool = False) -> argparse.ArgumentParser:
+        added = commands.add_parser(name, help=told, description=told)
+        for place in places:
+            added.add_argument(place, metavar=place.upper(), type=str if place == "group" else int)
+        # These may stand before the command or behind it.
+        add_common(added, ring=argparse.SUPPRESS, json=argparse.SUPPRESS, timeout=argparse.SUPPRESS)
+        if is_of_a_node:
+            added.add_argument("--node", type=int, metavar="I", default=1 if name == "stand" else None)
+        return added
+
+    command("stand", "a node, 1 where none is told, stands with a bid", "group", "term", "bid", is_of_a_node=True)
+    command("who", "who leads in a term", "group", "term", is_of_a_node=True)
+    command("latest", "the greatest term that has a leader", "group", is_of_a_node=True)
+    add_campaign(command("campaign", "stands until there is a leader above the one that is gone", "group",
+                         is_of_a_node=True))
+    watch = command("watch", "prints each new leader", "group")
+    watch.add_argument("--after", type=int, default=0, metavar="TERM")
+    watch.add_argument("--count", type=int, default=0, metavar="N", help="ends after so many; 0 for never")
+    asked = command("status", "what ringd --status PORT tells")
+    asked.add_argument("--port", type=int, default=os.environ.get("CINOWETA_STATUS"), help="or CINOWETA_STATUS")
+    add_lock(command("lock", "runs the COMMAND behind -- while it leads", "group"))
+    add_patience(command("holder", "who holds a lock", "group"))
+    return parser
+
+
+def add_common(parser: argparse.ArgumentParser, ring: str | None, json: bool | str, timeout: float | str) -> None:
+    parser.add_argument("--ring", metavar="PORTS", default=ring,
+                        help="the ports of all nodes, as 7101-7103; CINOWETA_RING where it is left out")
+    parser.add_argument("--json", action="store_true", default=json, help="prints an object a line")
+    parser.add_argument("--timeout", type=float, default=timeout, metavar="SECONDS",
+                        help="how long an answer is waited for")
+
+
+def add_campaign(parser: argparse.ArgumentParser) -> None:
+    parser.add_argument("--gone", type=int, default=0, metavar="TERM", help="whose leader is gone; 0 for none")
+    parser.add_argument("--rank", type=int, default=0, help="0 to 999: of who stands at once the greatest leads")
+    parser.add_argument("--terms", type=int, default=3, metavar="N", help="for how many terms it stands at most")
+    parser.add_argument("--wait", type=float, default=5.0, metavar="SECONDS", help="how long it waits in each")
+    add_status(parser)
+
+
+def add_lock(parser: argparse.ArgumentParser) -> None:
+    parser.usage = "cinoweta lock [OPTION..] GROUP -- COMMAND"
+    parser.add_argument("--rank", type=int, default=0, help="0 to 9")
+    add_patience(parser)
+    parser.add_argument("--wait", type=float, metavar="SECONDS",
+                        help="how long it waits for who holds the lock; 0 tries once; for ever where it is left out")
+    parser.add_argument("--grace", type=float, default=10.0, metavar="SECONDS", help="from TERM to KILL")
+    parser.add_argument("--text", default="", help="what `holder` tells of this one, 200 bytes at most")
+    add_status(parser)
+
+
+def add_patience(parser: argparse.ArgumentParser) -> None:
+    parser.add_argument("--patience", type=float, default=5.0, metavar="SECONDS",
+                        help="a holder that does not answer for so long is gone, as one that is paused")
+
+
+def add_status(parser: argparse.ArgumentParser) -> None:
+    parser.add_argument("--status", type=int, metavar="PORT", default=os.environ.get("CINOWETA_STATUS"),
+                        help="that of ringd --status, or CINOWETA_STATUS: where nobody comes to lead, it is asked why")
