@@ -25,9 +25,14 @@ def record(path: str, content: bytes) -> str:
     return f"{path},sha256={digest},{len(content)}\n"
 
 
+def modules() -> list[pathlib.Path]:
+    """The files of the package, with the mark that its types are stated."""
+    return sorted(path for path in (HERE / NAME).iterdir() if path.is_file())
+
+
 def build_wheel(wheel_directory: str, config_settings: object = None, metadata_directory: object = None) -> str:
     info = f"{NAME}-{VERSION}.dist-info"
-    files = {f"{NAME}/{path.name}": path.read_bytes() for path in sorted((HERE / NAME).iterdir()) if path.is_file()}
+    files = {f"{NAME}/{path.name}": path.read_bytes() for path in modules()}
     files |= {f"{info}/METADATA": METADATA.encode(), f"{info}/WHEEL": WHEEL.encode()}
     files |= {f"{info}/entry_points.txt": SCRIPTS.encode()}
     records = "".join(record(path, content) for path, content in files.items()) + f"{info}/RECORD,,\n"
@@ -45,7 +50,7 @@ def build_sdist(sdist_directory: str, config_settings: object = None) -> str:
     information.write_text(METADATA, encoding="utf-8")
     with tarfile.open(pathlib.Path(sdist_directory) / archive, "w:gz") as packed:
         packed.add(information, f"{top}/PKG-INFO")
-        for path in [HERE / "pyproject.toml", pathlib.Path(__file__).resolve(), *sorted((HERE / NAME).glob("*.py"))]:
+        for path in [HERE / "pyproject.toml", pathlib.Path(__file__).resolve(), *modules()]:
             packed.add(path, f"{top}/{path.relative_to(HERE)}")
     information.unlink()
     return archive
