@@ -7,6 +7,7 @@ import sys
 from collections.abc import Callable
 from typing import Any
 
+from . import move as moving
 from . import status
 from .errors import CinowetaError, LockTaken, NoAnswer, NoLeader, Refused
 from .lock import Lock
@@ -146,7 +147,17 @@ def holder(told: argparse.Namespace) -> int:
     return 0
 
 
+def move(told: argparse.Namespace) -> int:
+    count = 0
+    with ring_of(told) as ring:
+        for count, (group, known) in enumerate(moving.move(told.old, ring), 1):
+            text = f"{group} term {known.term} leader {known.leader.node} {known.leader.bid}"
+            show(told, text, group=group, term=known.term, leader=known.leader._asdict())
+    show(told, f"moved {count}", moved=count)
+    return 0
+
+
 COMMANDS: dict[str, Callable[[argparse.Namespace], int]] = {
     "stand": stand, "who": who, "latest": latest, "campaign": campaign, "watch": watch, "status": show_status,
-    "lock": lock, "holder": holder,
+    "lock": lock, "holder": holder, "move": move,
 }

@@ -71,21 +71,18 @@ class Lock:
     def contend(self, campaign: Campaign, tell: Callable[[str], object]) -> None:
         """Stands for the term above that of each holder that is gone, until it leads itself."""
         pause = Pause(self.ring, self.wait)
-        known = self.ring.latest(self.group)
         while True:
             try:
-                if known is not None and known.term > campaign.gone:
-                    self.await_end(known, pause, tell)
-                    campaign.gone = known.term
                 election = campaign.run(TERMS, SECONDS)
                 if election.is_mine:
                     self.term, self.asked = election.term, time.monotonic()
                     return
-                known = Led(election.term, election.leader)
+                self.await_end(Led(election.term, election.leader), pause, tell)
+                campaign.gone = election.term
             except NoAnswer as fault:
-                tell(f"waits for the ring: {fault}")
-                if not pause.take():
+                if not self.ring.has_answered or not pause.take():
                     raise
+                tell(f"waits for the ring: {fault}")
             finally:
                 self.ring.close()
 

@@ -29,7 +29,10 @@ class Ring:
         if not 1 <= first < last <= 65_535 or last - first > 15:
             raise WrongRing(f"{first}-{last}: the ports of 2 to 16 nodes are 1 to 65,535")
         self.first, self.nodes, self.timeout, self.status = first, last - first + 1, timeout, status
+        self.ports = range(first, last + 1)
         self.place = 1
+        # Whether any question was answered, so that there is such a ring.
+        self.has_answered = False
         self.session: Session | None = None
         self.lock = threading.RLock()
         # Stands that this process sent, and that got no answer, the oldest first: each may have been accepted.
@@ -103,6 +106,7 @@ class Ring:
                 place = node or self.place
                 try:
                     answer = self.ask_once(line, place, min(PATIENCE, self.timeout))
+                    self.has_answered = True
                     break
                 except OSError as fault:
                     self.close()

@@ -2,6 +2,7 @@
 import http.client
 import json
 import time
+from collections.abc import Iterator
 from typing import Any
 
 from .errors import NoAnswer, WrongRing
@@ -37,14 +38,31 @@ def health(port: int, seconds: float = 5.0) -> list[str]:
 
 def status(port: int, seconds: float = 5.0) -> dict[str, Any]:
     """What is told of the ring and of each node."""
-    code, text = ask(port, "/status", seconds)
+    return ask_rows(port, "/status", "nodes", seconds)
+
+
+def leaders(port: int, node: int, seconds: float = 5.0) -> Iterator[tuple[str, int]]:
+    """Each group that a node knows a leader of, in order of name, and its latest term."""
+    path: str | None = f"/leaders?node={node}"
+    while path is not None:
+        told = ask_rows(port, path, "leaders", seconds)
+        rows = [(row.get("group"), row.get("term")) for row in told["leaders"]]
+        if not all(isinstance(group, str) and isinstance(term, int) for group, term in rows):
+            raise WrongRing(f"127.0.0.1:{port}{path} tells no leaders")
+        yield from rows
+        path = f"/leaders?node={node}&after={rows[-1][0]}" if told.get("more") and rows else None
+
+
+def ask_rows(port: int, path: str, name: str, seconds: float) -> dict[str, Any]:
+    """An answer in JSON that has a list of objects of this name."""
+    code, text = ask(port, path, seconds)
     try:
         told = json.loads(text)
     except ValueError:
         told = None
-    nodes = told.get("nodes", []) if isinstance(told, dict) else None
-    if code != 200 or not isinstance(nodes, list) or not all(isinstance(node, dict) for node in nodes):
-        raise WrongRing(f"127.0.0.1:{port}/status answers {code}: is it that of ringd --status?")
+    rows = told.get(name) if isinstance(told, dict) else None
+    if code != 200 or not isinstance(rows, list) or not all(isinstance(row, dict) for row in rows):
+        raise WrongRing(f"127.0.0.1:{port}{path} answers {code}: is it that of ringd --status?")
     return told
 
 

@@ -39,6 +39,8 @@ def arguments() -> argparse.ArgumentParser:
     asked.add_argument("--port", type=int, default=os.environ.get("CINOWETA_STATUS"), help="or CINOWETA_STATUS")
     add_lock(command("lock", "runs the COMMAND behind -- while it leads", "group"))
     add_patience(command("holder", "who holds a lock", "group"))
+    move = command("move", "stands in the ring, which is a new one, one term above in each group of another one")
+    move.add_argument("--from", type=int, required=True, metavar="PORT", dest="old", help="that of its ringd --status")
     return parser
 
 

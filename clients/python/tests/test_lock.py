@@ -75,7 +75,7 @@ class LockTest(Beside):
         self.assertEqual((second.term, len(told)), (2, 1))
 
     def test_a_ring_that_is_away_is_waited_for(self) -> None:
-        # The first two lines ask who leads, the third one stands.
+        # The first line asks who leads, the second one stands, the third one asks again.
         for first in (2, 3):
             self.votes = Votes()
             ring, nodes = self.votes_ring(timeout=0.1)
@@ -92,6 +92,14 @@ class LockTest(Beside):
         with self.assertRaises(NoAnswer):
             lock.acquire()
         self.assertIsNone(lock.beacon)
+
+    def test_who_takes_it_again_waits_for_a_ring_that_is_away(self) -> None:
+        ring, nodes = self.votes_ring(timeout=0.1)
+        lock = self.lock(ring)
+        for term, outage in ((1, Outage(self.votes, range(0))), (2, Outage(self.votes, range(1, 12)))):
+            nodes[0].answer = nodes[1].answer = outage
+            with lock as held:
+                self.assertEqual(held.term, term)
 
     def test_a_ring_that_is_away_is_waited_for_so_long(self) -> None:
         ring, nodes = self.votes_ring(timeout=0.1)

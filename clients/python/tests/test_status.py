@@ -48,6 +48,17 @@ class StatusTest(unittest.TestCase):
         with self.assertRaises(NoAnswer):
             status.status(1)
 
+    def test_leaders(self) -> None:
+        def page(more: bool, *groups: str) -> tuple[int, str]:
+            return 200, json.dumps({"by": 2, "leaders": [{"group": group, "term": 5} for group in groups], "more": more})
+
+        port = self.serve({"/leaders?node=2": page(True, "a", "b"), "/leaders?node=2&after=b": page(True, "c-d"),
+                           "/leaders?node=2&after=c-d": page(False)})
+        self.assertEqual([*status.leaders(port, 2)], [("a", 5), ("b", 5), ("c-d", 5)])
+        for text in ("{}", '{"leaders": [1]}', '{"leaders": [{"group": "a"}]}', '{"leaders": [{"group": 1, "term": 1}]}'):
+            with self.assertRaises(WrongRing):
+                [*status.leaders(self.serve({"/leaders?node=1": (200, text)}), 1)]
+
     def test_table(self) -> None:
         self.assertEqual(status.table(TOLD).split("\n"), [
             "version 0.1.0",
