@@ -1,7 +1,7 @@
 # run: an example, before any proof. test: the names in the documents, and the merge gate. wrong_bodies: the wrong bodies that the gate does not try, of CRATES or of all.
 # bin/NAME: a proved program. bench: the times of ringctl and of the works of bench.
 # ringd: bin/ringd. serve: runs ringd on examples/ring.toml, unproved where bin/ringd is not built.
-# install: bin/ringd, its man page and its unit file, under PREFIX, below DESTDIR.
+# install: bin/ringd, its man page, its unit file, an example of settings, alerts and the package's wheel, under PREFIX, below DESTDIR.
 # fencing: a leader that is paused and wakes late is turned away, over bin/ringd.
 # clients: the tests of the clients, over bin/ringd.
 # picture: the run of SCRIPT by ringctl, drawn as text and, to the file SVG, as SVG. pictures: the tests of that, and the pictures of the docs, over bin/ringctl.
@@ -34,13 +34,16 @@ ringd: bin/ringd
 
 PREFIX ?= /usr/local
 
-# What was proved and linked is installed, and nothing is built: this may be run as another user.
+# What was proved and linked is installed, and no program is built: this may be run as another user.
+install: shared = $(DESTDIR)$(PREFIX)/share/ringd
 install:
 	@test -x bin/ringd || { echo "make install: bin/ringd is not there: make ringd builds it" >&2; exit 1; }
 	install -D -m 755 bin/ringd $(DESTDIR)$(PREFIX)/bin/ringd
-	@mkdir -p $(DESTDIR)$(PREFIX)/share/man/man8 $(DESTDIR)$(PREFIX)/lib/systemd/system
+	@mkdir -p $(DESTDIR)$(PREFIX)/share/man/man8 $(DESTDIR)$(PREFIX)/lib/systemd/system $(shared)
 	docs/man.py > $(DESTDIR)$(PREFIX)/share/man/man8/ringd.8
 	sed 's|/usr/local/bin|$(PREFIX)/bin|' examples/ringd.service > $(DESTDIR)$(PREFIX)/lib/systemd/system/ringd.service
+	install -m 644 examples/ringd.toml examples/alerts.yml $(shared)
+	python3 clients/python/wheel_backend.py $(shared)
 
 serve:
 	@bench/serve.sh

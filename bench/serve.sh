@@ -6,7 +6,7 @@
 # script says when it serves. ringd or rt try runs in this script's process, so a signal that ends the one ends the
 # other. Ends with their status; 2 where RINGD is no program, 1 where rt try would find the first port in use.
 set -eu
-words=(--always --doors 4)
+words=(--always --doors 4 --status 7100)
 
 root=$(realpath "$(dirname "$0")/..")
 ringd=$root/bin/ringd

@@ -2,9 +2,12 @@
 """man.py: prints the man page ringd(8), which is docs/OPERATING.md, and its words as ringd --help tells them, in roff.
 
 It knows the forms that the page has: headings, paragraphs, lists, tables and code, with `code`, **strong** and links in
-a line. A table is a list of its first cells, each with what stands beside it."""
+a line. A table is a list of its first cells, each with what stands beside it. What stands between a block
+`<!-- repository -->` and a block `<!-- -->` is left out. Status 1 where the page then still names a path or a command
+of the repository, which who reads it does not have."""
 import pathlib
 import re
+import sys
 
 PAGE = pathlib.Path(__file__).resolve().parent / "OPERATING.md"
 HEAD = r""".TH RINGD 8
@@ -22,6 +25,7 @@ ringd \- a ring of durable nodes on 127.0.0.1 that elect a leader for each group
 .br
 .BR "ringd \-\-help" " | " \-\-version
 .SH DESCRIPTION"""
+HERE_ALONE = re.compile(r"(?<![\w/])(?:\.ci|bench|bin|clients|crates|docs|examples|pictures|trials)/|\.md\b|(?:^|\\fB)make ")
 
 
 def escaped(text: str) -> str:
@@ -67,7 +71,18 @@ def blocks(text: str) -> list[list[str]]:
             made[-1].append(line)
         else:
             made.append([])
-    return [block for block in made if block]
+    return [block for block in kept(made) if block]
+
+
+def kept(made: list[list[str]]) -> list[list[str]]:
+    """The blocks without what is of the repository alone."""
+    is_kept, left = True, []
+    for block in made:
+        if block[:1] in (["<!-- repository -->"], ["<!-- -->"]):
+            is_kept = block == ["<!-- -->"]
+        elif is_kept:
+            left.append(block)
+    return left
 
 
 def page() -> str:
@@ -89,5 +104,14 @@ def page() -> str:
     return "\n".join(made) + "\n"
 
 
+def main() -> int:
+    text = page()
+    named = [line for line in text.splitlines() if HERE_ALONE.search(line)]
+    print(text, end="")
+    for line in named:
+        print(f"man.py: of the repository alone: {line}", file=sys.stderr)
+    return 1 if named else 0
+
+
 if __name__ == "__main__":
-    print(page(), end="")
+    sys.exit(main())

@@ -1,8 +1,11 @@
-"""Builds the package's wheel and source archive by the standard library, as PEP 517 asks it of a backend."""
+"""Builds the package's wheel and source archive by the standard library, as PEP 517 asks it of a backend.
+
+wheel_backend.py FOLDER builds the wheel in that folder."""
 import base64
 import hashlib
 import pathlib
 import re
+import sys
 import tarfile
 import zipfile
 
@@ -54,3 +57,7 @@ def build_sdist(sdist_directory: str, config_settings: object = None) -> str:
             packed.add(path, f"{top}/{path.relative_to(HERE)}")
     information.unlink()
     return archive
+
+
+if __name__ == "__main__":
+    build_wheel(sys.argv[1])
