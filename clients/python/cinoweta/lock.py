@@ -9,7 +9,7 @@ from typing import NamedTuple
 
 from .beacon import Beacon, ask, is_there
 from .election import Campaign, Leader, Led
-from .errors import LockTaken, NoAnswer
+from .errors import LockTaken, NoAnswer, OutOfMemory
 from .pause import Pause
 from .process import EVERY, run
 from .ring import Ring
@@ -99,14 +99,14 @@ class Lock:
 
     def is_lost(self) -> bool:
         """Whether this process does not hold the lock any more: it resigned, or a greater term is known. The ring is
-        asked once a second at most. Where no node answers nobody is elected either, so nothing is lost then."""
+        asked once a second at most. Where no node answers, or one finds no memory to, nothing is known to be lost."""
         if self.beacon is None:
             return True
         if time.monotonic() - self.asked < EVERY:
             return False
         try:
             known = self.looks.latest(self.group)
-        except NoAnswer:
+        except (NoAnswer, OutOfMemory):
             known = None
         finally:
             self.looks.close()

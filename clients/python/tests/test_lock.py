@@ -119,9 +119,10 @@ class LockTest(Beside):
         ring, nodes = self.votes_ring(timeout=0.2)
         lock = self.lock(ring)
         with mock.patch("cinoweta.lock.EVERY", 0.0), lock as held:
-            for node in nodes:
-                node.answer = deaf
-            self.assertFalse(held.is_lost())
+            for answer in (deaf, lambda _line: "no 8 memory"):
+                for node in nodes:
+                    node.answer = answer
+                self.assertFalse(held.is_lost())
             for node in nodes:
                 node.answer = self.votes
             self.assertFalse(held.is_lost())
