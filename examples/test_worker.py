@@ -34,6 +34,10 @@ class WorkerTest(unittest.TestCase):
         for worker in self.workers.values():
             self.readers.append(threading.Thread(target=self.read, args=(worker,), daemon=True))
             self.readers[-1].start()
+        # Who was never answered does not wait for a server that is away.
+        starts = 0
+        while starts < len(NAMES):
+            starts += self.lines.get(timeout=30.0).split()[1] == "starts,"
 
     def start(self, *words: object) -> "subprocess.Popen[str]":
         process = subprocess.Popen([sys.executable, *map(str, words)], stdout=subprocess.PIPE, text=True)
@@ -45,7 +49,8 @@ class WorkerTest(unittest.TestCase):
             self.lines.put(line)
 
     def end_all(self) -> None:
-        for process in self.processes:
+        # The storage last, which the others write to.
+        for process in reversed(self.processes):
             process.kill()
             process.wait()
         for reader in self.readers:

@@ -11,7 +11,9 @@ from cinoweta import Lock, Ring
 from storage import Refused, StorageClient
 
 name, ports, port = sys.argv[1:]
-storage, lock = StorageClient(int(port)), Lock(Ring.parse(ports), "jobs", patience=1.0, text=name)
+storage, ring = StorageClient(int(port)), Ring.parse(ports)
+lock = Lock(ring, "jobs", patience=1.0, text=name)
+print(f"{name} starts, and knows of {ring.latest('jobs')}", flush=True)
 while True:
     with lock as held:
         print(f"{name} leads in term {held.term}", flush=True)
