@@ -13,6 +13,7 @@ use std::process::Abort;
 use test_rows::{Ask, Cause, Note, Say, Sends};
 
 mod checkpoints;
+mod faults;
 mod memory;
 mod pieces;
 mod refusals;

@@ -208,6 +208,22 @@ fn stopped_checkpoint(rt: HostRuntime) {
 }
 
 #[test]
+fn hostile_script(rt: HostRuntime) {
+    const SESSION: &[Line] = &[
+        ("stand 1 red 5 10", &["no 25 line"]),
+        ("ring 17", &["no 2 number"]),
+        ("ring 2", &["ring 2"]),
+        ("ring 2", &["no 25 line"]),
+        ("stand 3 red 5 1", &["no 2 number"]),
+        ("stand 1 Red 0 5", &["no 1 name"]),
+        ("stand 1 red 0 5", &["no 2 number"]),
+        ("deliver 1 9999999999", &["no 21 unknown"]),
+        ("stop 1 5 new", &["no 2 number"]),
+    ];
+    assert_session(&rt, SESSION);
+}
+
+#[test]
 fn empty_script(rt: HostRuntime) {
     assert_session(&rt, &[]);
 }

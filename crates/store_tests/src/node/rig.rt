@@ -46,7 +46,7 @@ impl Rig {
     }
 
     /// The node, which has no open ticket.
-    fn end(self, rt: &impl Abort) -> Stored {
+    pub(super) fn end(self, rt: &impl Abort) -> Stored {
         let Rig {
             made,
             number: _,
