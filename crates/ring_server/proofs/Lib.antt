@@ -1,4 +1,5 @@
 pub mod Fits
 pub mod Leaders
 pub mod LinkFits
+pub mod Opened
 pub mod Order

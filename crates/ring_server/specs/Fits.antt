@@ -6,48 +6,58 @@ use Rattle.ring_records.specs.declared.candidate.Candidate.{Candidate}
 use Rattle.ring_records.specs.declared.decision.Decision.{Decision}
 use Rattle.ring_records.specs.declared.input.Input.{Input}
 use Rattle.ring_records.specs.declared.key.Key.{Key}
-use Rattle.ring_records.specs.declared.summary.Summary.{Summary}
-use Rattle.ring_records.specs.Fitting.{LinkFits}
+use Rattle.ring_records.specs.Fitting.{LinkFits, RingFits}
 use Rattle.ring_records.specs.Leader.{leader}
 use Rattle.ring_records.specs.Place.{after}
+use Rattle.group_commit.specs.Desk.{DeskKept}
 use Rattle.group_commit.specs.Past.{IsPast}
+use Rattle.node_store.specs.Node.{desk_of}
+use Rattle.ring_server.specs.declared.found.Found.{Found}
+use Rattle.ring_server.specs.declared.found.Found.TheVariants as found
 use Rattle.ring_server.specs.declared.open_node.OpenNode.{OpenNode}
 use Rattle.ring_server.specs.declared.run_fault.RunFault.{RunFault}
 use Rattle.ring_server.specs.declared.run_fault.RunFault.TheVariants as fault
 
 -- ---- the nodes
 
+-- the place of an open node in the ring, from 1 on, and its desk
 module _ {D : Type 0} {g : Ghosts D} where
-  -- its place in the ring, from 1 on
   abbrev pub number_of : OpenNode D g → ℕ
-  number_of opened = opened.node
+  number_of opened = opened.number
 
-  -- the summary that it goes on from, and the inputs behind it, all of them durable
-  abbrev pub opening_of : OpenNode D g → Summary
-  opening_of opened = opened.desk.opening
+  abbrev pub kept_by : OpenNode D g → DeskKept
+  kept_by opened = desk_of opened.node
 
-  abbrev pub inputs_of : OpenNode D g → List Input
-  inputs_of opened = opened.desk.view.state.inputs
+  -- the desk of a node as a start finds it: one that has no file has that of a new node
+  abbrev pub found_as : Found D g → DeskKept
+  found_as (found.There opened) = kept_by opened
+  found_as (found.New new) = new.desk
 
+-- a ring of which each node has a desk
+module _ {A : Type 0} (desk_in : A → DeskKept) where
   -- they are nodes 1, 2, 3 and so on
-  abbrev pub IsInOrder : List (OpenNode D g) → Type 0
-  IsInOrder ring = (k : ℕ) (opened : OpenNode D g) → slice_get ring k ≡ Some opened → number_of opened ≡ k + 1
+  abbrev pub IsInOrder : List A → Type 0
+  IsInOrder ring = (k : ℕ) (node : A) → slice_get ring k ≡ Some node → (desk_in node).view.member.node ≡ k + 1
 
-  abbrev pub inputs_there : Option (OpenNode D g) → List Input
+  abbrev pub inputs_there : Option A → List Input
   inputs_there None = []
-  inputs_there (Some opened) = inputs_of opened
+  inputs_there (Some node) = (desk_in node).view.state.inputs
 
-  -- the inputs since its opening of node i, the i-th of them
-  abbrev pub since : List (OpenNode D g) → ℕ → List Input
+  -- the inputs since its opening of node i, the i-th of them, all of them durable
+  abbrev pub since : List A → ℕ → List Input
   since ring i = inputs_there (slice_get ring (i - 1))
 
   -- the opening of each node is the summary of its past: that of node i is pasts i
-  abbrev pub ArePasts : (ℕ → List Input) → List (OpenNode D g) → Type 0
-  ArePasts pasts ring = (k : ℕ) (opened : OpenNode D g) → slice_get ring k ≡ Some opened → IsPast opened.desk.view.member (opening_of opened) (pasts (k + 1))
+  abbrev pub ArePasts : (ℕ → List Input) → List A → Type 0
+  ArePasts pasts ring = (k : ℕ) (node : A) → slice_get ring k ≡ Some node → IsPast (desk_in node).view.member (desk_in node).opening (pasts (k + 1))
 
   -- the whole history of node i with this past
-  abbrev pub history : (ℕ → List Input) → List (OpenNode D g) → ℕ → List Input
+  abbrev pub history : (ℕ → List Input) → List A → ℕ → List Input
   history pasts ring i = pasts i ++ since ring i
+
+  -- Ring fits, whatever pasts its openings are summaries of.
+  abbrev pub Fits : ℕ → List A → Type 0
+  Fits n ring = (pasts : ℕ → List Input) → ArePasts pasts ring → RingFits n (history pasts ring)
 
 -- ---- leaders beside decisions
 

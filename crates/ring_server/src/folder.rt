@@ -1,14 +1,22 @@
 //! The folder of the nodes' files.
 ghost use Rattle.std.specs.Prelude.{◌≡◌, ◌≤◌, IfOk};
-ghost use Rattle.ring_server.specs.Fits.{number_of};
+ghost use Rattle.ring_records.specs.Member.{member};
+ghost use Rattle.ring_records.specs.Admission.{newest};
+ghost use Rattle.ring_records.specs.Summary.{empty};
+ghost use Rattle.gated_journal.specs.Reading.{fresh_area};
+ghost use Rattle.group_commit.specs.Desk.{new_desk};
+ghost use Rattle.ring_server.specs.Fits.{found_as, kept_by, number_of};
+ghost use Rattle.ring_server.specs.Written.{HoldsAll, IsReady};
 
+use crate::found::{Found, NewNode};
 use crate::open_node::OpenNode;
+use crate::ready::Ready;
 use crate::unopened::{Answer, Place, Unopened};
 use disk_model::{Device, DeviceFault, FILE_LIMIT, FileDevice, OpenFault};
 use gated_journal::device_size;
 use node_store::Node;
 use ring_records::{NodeNo, Refusal};
-use std::alloc::Global;
+use std::alloc::{AllocError, Global};
 use std::fs::{File, OpenOptions};
 use std::io::{ErrorKind, Read};
 use std::os::unix::fs::FileExt;
@@ -44,6 +52,20 @@ fn read_again<R: Files<File = File>>(rt: &R, alloc: Global, path: &str) -> Resul
     let mut file = OpenOptions::new().read(true).write(true).open(rt, path)?;
     file.try_lock()?;
     read_whole(&mut file, alloc)
+}
+
+/// Why the node of this file is refused so. Where the system refused something, it is asked once more.
+fn look_again<R: Files<File = File>>(
+    rt: &R,
+    alloc: Global,
+    path: &str,
+    refusal: Refusal,
+) -> Unopened {
+    let again = match refusal {
+        Refusal::Device(_) => read_again(rt, alloc, path),
+        _ => Ok(()),
+    };
+    Unopened::because(refusal, Place::Journal, again)
 }
 
 /// What the system answers now of a new file that could not be made: it is opened, grown and synced once more.
@@ -91,7 +113,8 @@ fn format(
     capacity: u32,
 ) -> Result<OpenNode<FileDevice>, Refusal>
     requires { (node ≤ nodes) × (nodes ≤ 16) }
-    ensures { IfOk result (λ opened. number_of opened ≡ node) }
+    ensures desk { IfOk result (λ opened. kept_by opened ≡ new_desk (member node nodes capacity) 0 (fresh_area newest 1 empty)) }
+    ensures holds { IfOk result (λ opened. HoldsAll 1 (kept_by opened) opened) }
 {
     let mut device = device;
     if lengthen(&mut device, device_size(capacity)).is_err() {
@@ -113,7 +136,8 @@ fn create<R: Files<File = File>>(
     capacity: u32,
 ) -> Result<OpenNode<FileDevice>, Refusal>
     requires { (node ≤ nodes) × (nodes ≤ 16) }
-    ensures { IfOk result (λ opened. number_of opened ≡ node) }
+    ensures desk { IfOk result (λ opened. kept_by opened ≡ new_desk (member node nodes capacity) 0 (fresh_area newest 1 empty)) }
+    ensures holds { IfOk result (λ opened. HoldsAll 1 (kept_by opened) opened) }
 {
     match FileDevice::create(alloc, rt, path) {
         Ok(device) => format(alloc, device, node, nodes, capacity),
@@ -121,16 +145,23 @@ fn create<R: Files<File = File>>(
     }
 }
 
+/// What a start makes: these nodes, and `ring.made` where it was not there.
+#[derive(Drop)]
+pub(crate) struct Made {
+    pub(crate) nodes: Vec<NodeNo>,
+    pub(crate) is_first: bool,
+}
+
 /// A folder whose exclusive lock is held: nobody else who asks for it makes or opens nodes there.
 #[derive(Drop)]
-pub struct Folder<'a> {
+pub(crate) struct Folder<'a> {
     path: &'a str,
     file: File,
 }
 
 impl<'a> Folder<'a> {
     /// The folder at this path. Refused where it is not there, or is in use.
-    pub fn open<R: Files<File = File>>(rt: &R, path: &'a str) -> Result<Folder<'a>, Unopened> {
+    pub(crate) fn open<R: Files<File = File>>(rt: &R, path: &'a str) -> Result<Folder<'a>, Unopened> {
         let file = match File::open(rt, path) {
             Ok(file) => file,
             Err(error) => return Err(Unopened::at(Place::Folder, Answer::from(error))),
@@ -142,7 +173,7 @@ impl<'a> Folder<'a> {
     }
 
     /// Whether `ring.made` is there: all nodes of a first start were made.
-    pub fn is_made<R: Files<File = File>>(&self, rt: &R, alloc: Global) -> Result<bool, Unopened> {
+    pub(crate) fn is_made<R: Files<File = File>>(&self, rt: &R, alloc: Global) -> Result<bool, Unopened> {
         let path = format!(in alloc; "{}/ring.made", self.path)?;
         match fs::exists(rt, path.as_str()) {
             Ok(is_made) => Ok(is_made),
@@ -151,7 +182,7 @@ impl<'a> Folder<'a> {
     }
 
     /// Makes `ring.made`, which is there for good then.
-    pub fn mark_made<R: Files<File = File>>(&self, rt: &R, alloc: Global) -> Result<(), Unopened> {
+    pub(crate) fn mark_made<R: Files<File = File>>(&self, rt: &R, alloc: Global) -> Result<(), Unopened> {
         let path = format!(in alloc; "{}/ring.made", self.path)?;
         match File::create(rt, path.as_str()) {
             Ok(_) => self.sync(),
@@ -160,7 +191,7 @@ impl<'a> Folder<'a> {
     }
 
     /// Whether the file `node-I.crj` is there.
-    pub fn has_node<R: Files<File = File>>(
+    pub(crate) fn has_node<R: Files<File = File>>(
         &self,
         rt: &R,
         alloc: Global,
@@ -173,31 +204,90 @@ impl<'a> Folder<'a> {
         }
     }
 
-    /// The node of the file `node-I.crj`, which is recovered where it is there, and else made with this capacity.
-    pub fn node<R: Files<File = File>>(
+    /// The node of the file `node-I.crj`, which is recovered where it is there. Where it is not, nothing is made.
+    pub(crate) fn find<R: Files<File = File>>(
         &self,
         rt: &R,
         alloc: Global,
         node: NodeNo,
         nodes: u8,
         capacity: u32,
-    ) -> Result<OpenNode<FileDevice>, Unopened>
+    ) -> Result<Found<FileDevice>, Unopened>
         requires { (node ≤ nodes) × (nodes ≤ 16) }
-        ensures { IfOk result (λ opened. number_of opened ≡ node) }
+        ensures { IfOk result (λ found. (found_as found).view.member.node ≡ node) }
     {
-        let path = format!(in alloc; "{}/node-{node}.crj", self.path)?;
         if !self.has_node(rt, alloc, node)? {
-            return self.make(rt, alloc, path.as_str(), node, nodes, capacity);
+            return match NewNode::new(alloc, node, nodes, capacity) {
+                Ok(new) => Ok(Found::New(new)),
+                Err(refusal) => Err(Unopened::new(refusal)),
+            };
         }
-        let refusal = match recover(rt, alloc, path.as_str(), node, nodes) {
-            Ok(opened) => return Ok(opened),
-            Err(refusal) => refusal,
+        let path = format!(in alloc; "{}/node-{node}.crj", self.path)?;
+        match recover(rt, alloc, path.as_str(), node, nodes) {
+            Ok(opened) => Ok(Found::There(opened)),
+            Err(refusal) => Err(look_again(rt, alloc, path.as_str(), refusal)),
+        }
+    }
+
+    /// The node as it may be served: one that has no file is made, another one makes a checkpoint.
+    pub(crate) fn ready<R: Files<File = File>>(
+        &self,
+        rt: &R,
+        alloc: Global,
+        found: Found<FileDevice>,
+    ) -> Result<Ready<FileDevice>, Unopened>
+        ensures { IfOk result (λ ready. IsReady found ready) }
+    {
+        match found {
+            Found::New(new) => Ok(Ready {
+                opened: self.make(rt, alloc, &new)?,
+                is_written: true,
+            }),
+            Found::There(opened) => self.renew(rt, alloc, opened),
+        }
+    }
+
+    /// Has the node make a checkpoint.
+    fn renew<R: Files<File = File>>(
+        &self,
+        rt: &R,
+        alloc: Global,
+        opened: OpenNode<FileDevice>,
+    ) -> Result<Ready<FileDevice>, Unopened>
+        ensures { IfOk result (λ ready. IsReady (found.There opened) ready) }
+    {
+        let node = opened.number;
+        match opened.renew() {
+            Ok(ready) => Ok(ready),
+            Err((device, refusal)) => {
+                // its lock ends
+                drop(device);
+                Err(self.why_unwritten(rt, alloc, node, refusal)?)
+            }
+        }
+    }
+
+    /// Why no checkpoint could be written. Where the system refused it, it is asked once more for the file, and then for
+    /// a new one, which is gone behind that.
+    fn why_unwritten<R: Files<File = File>>(
+        &self,
+        rt: &R,
+        alloc: Global,
+        node: NodeNo,
+        refusal: Refusal,
+    ) -> Result<Unopened, AllocError> {
+        let path = format!(in alloc; "{}/node-{node}.crj", self.path)?;
+        let why = look_again(rt, alloc, path.as_str(), refusal);
+        let Refusal::Device(_) = refusal else {
+            return Ok(why);
         };
-        let again = match refusal {
-            Refusal::Device(_) => read_again(rt, alloc, path.as_str()),
-            _ => Ok(()),
-        };
-        Err(Unopened::because(refusal, Place::Journal, again))
+        if why.told.is_some() {
+            return Ok(why);
+        }
+        let new = format!(in alloc; "{}/node-{node}.crj.new", self.path)?;
+        let again = grow_again(rt, new.as_str(), 0);
+        let _ = remove(rt, new.as_str());
+        Ok(Unopened::because(refusal, Place::New, again))
     }
 
     /// A new node. Its file has its full length, and its name only once it is formatted and synced, so that a stop at
@@ -206,28 +296,56 @@ impl<'a> Folder<'a> {
         &self,
         rt: &R,
         alloc: Global,
-        path: &str,
-        node: NodeNo,
-        nodes: u8,
-        capacity: u32,
+        new: &NewNode,
     ) -> Result<OpenNode<FileDevice>, Unopened>
-        requires { (node ≤ nodes) × (nodes ≤ 16) }
-        ensures { IfOk result (λ opened. number_of opened ≡ node) }
+        ensures desk { IfOk result (λ opened. kept_by opened ≡ new.now.desk) }
+        ensures holds { IfOk result (λ opened. HoldsAll 1 new.now.desk opened) }
     {
-        let new = format!(in alloc; "{path}.new")?;
-        remove(rt, new.as_str())?;
-        let refusal = match create(rt, alloc, new.as_str(), node, nodes, capacity) {
+        let node = new.number;
+        let path = format!(in alloc; "{}/node-{node}.crj", self.path)?;
+        let first = format!(in alloc; "{}/node-{node}.crj.new", self.path)?;
+        remove(rt, first.as_str())?;
+        let refusal = match create(rt, alloc, first.as_str(), node, new.nodes, new.capacity) {
             Ok(opened) => {
-                self.name(rt, new.as_str(), path)?;
+                self.name(rt, first.as_str(), path.as_str())?;
                 return Ok(opened);
             }
             Err(refusal) => refusal,
         };
         let again = match refusal {
-            Refusal::Device(_) => grow_again(rt, new.as_str(), device_size(capacity)),
+            Refusal::Device(_) => grow_again(rt, first.as_str(), device_size(new.capacity)),
             _ => Ok(()),
         };
         Err(Unopened::because(refusal, Place::New, again))
+    }
+
+    /// Takes back what a start made that is refused: first `ring.made`, where it was not there before, then the files of
+    /// these nodes. What the system does not let go is left, and goes with the next start.
+    pub(crate) fn take_back<R: Files<File = File>>(&self, rt: &R, alloc: Global, made: &Made) {
+        if made.is_first && self.unmark(rt, alloc).is_err() {
+            return;
+        }
+        for node in &made.nodes {
+            if self.unmake(rt, alloc, *node).is_err() {
+                break;
+            }
+        }
+        let _ = self.sync();
+    }
+
+    /// There is no `ring.made` then, for good.
+    fn unmark<R: Files<File = File>>(&self, rt: &R, alloc: Global) -> Result<(), Unopened> {
+        let path = format!(in alloc; "{}/ring.made", self.path)?;
+        remove(rt, path.as_str())?;
+        self.sync()
+    }
+
+    /// There is no file of this node then.
+    fn unmake<R: Files<File = File>>(&self, rt: &R, alloc: Global, node: NodeNo) -> Result<(), Unopened> {
+        let path = format!(in alloc; "{}/node-{node}.crj", self.path)?;
+        let new = format!(in alloc; "{}/node-{node}.crj.new", self.path)?;
+        remove(rt, new.as_str())?;
+        remove(rt, path.as_str())
     }
 
     /// Gives a new file its name, for good.

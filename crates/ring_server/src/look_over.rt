@@ -6,9 +6,9 @@ ghost use Rattle.ring_records.specs.Fitting.{LinkFits, LeadersFit, RingFits};
 ghost use Rattle.ring_records.specs.Place.{after};
 ghost use Rattle.group_commit.specs.Desk.{seen};
 ghost use Rattle.group_commit.specs.Past.{IsPast};
-ghost use Rattle.ring_server.specs.Fits.{number_of, opening_of, IsInOrder, since, ArePasts, history, Agrees, Differs, IsCause, IsMemory};
+ghost use Rattle.ring_server.specs.Fits.{found_as, IsInOrder, since, ArePasts, history, Fits, Agrees, Differs, IsCause, IsMemory};
 
-use crate::open_node::OpenNode;
+use crate::found::Found;
 use crate::run_fault::RunFault;
 use disk_model::Device;
 use group_commit::Desk;
@@ -18,11 +18,11 @@ use std::alloc::AllocError;
 /// Refused with the first two nodes that do not fit, where two do not: a link, of which the node behind it took more
 /// than the node before it sent, or less than was credited, or two leaders that are known for one key. What is said of
 /// histories is said of those whose openings are summaries of pasts.
-pub(crate) fn look_over<V: Device>(ring: &[OpenNode<V>]) -> Result<(), RunFault>
-    requires order { IsInOrder ring.now }
-    ensures fits { OnOk result ((pasts : ℕ → List Input) → ArePasts pasts ring.now → RingFits (length ring.now) (history pasts ring.now)) }
-    ensures apart { IfErr result (λ fault. (pasts : ℕ → List Input) → ArePasts pasts ring.now → IsCause (length ring.now) (history pasts ring.now) fault) }
-    ensures memory { (pasts : ℕ → List Input) → ArePasts pasts ring.now → RingFits (length ring.now) (history pasts ring.now) → IfErr result (λ fault. IsMemory fault) }
+pub(crate) fn look_over<V: Device>(ring: &[Found<V>]) -> Result<(), RunFault>
+    requires order { IsInOrder found_as ring.now }
+    ensures fits { OnOk result (Fits found_as (length ring.now) ring.now) }
+    ensures apart { IfErr result (λ fault. (pasts : ℕ → List Input) → ArePasts found_as pasts ring.now → IsCause (length ring.now) (history found_as pasts ring.now) fault) }
+    ensures memory { (pasts : ℕ → List Input) → ArePasts found_as pasts ring.now → RingFits (length ring.now) (history found_as pasts ring.now) → IfErr result (λ fault. IsMemory fault) }
 {
     match look_at_links(ring) {
         Ok(()) => look_at_leaders(ring),
@@ -30,16 +30,15 @@ pub(crate) fn look_over<V: Device>(ring: &[OpenNode<V>]) -> Result<(), RunFault>
     }
 }
 
-fn look_at_links<V: Device>(ring: &[OpenNode<V>]) -> Result<(), RunFault>
-    requires order { IsInOrder ring.now }
-    ensures fit { OnOk result ((pasts : ℕ → List Input) → ArePasts pasts ring.now → (i : ℕ) → 1 ≤ i → i ≤ length ring.now → LinkFits i (history pasts ring.now i) (history pasts ring.now (after (length ring.now) i))) }
-    ensures apart { IfErr result (λ fault. (pasts : ℕ → List Input) → ArePasts pasts ring.now → IsCause (length ring.now) (history pasts ring.now) fault) }
+fn look_at_links<V: Device>(ring: &[Found<V>]) -> Result<(), RunFault>
+    requires order { IsInOrder found_as ring.now }
+    ensures fit { OnOk result ((pasts : ℕ → List Input) → ArePasts found_as pasts ring.now → (i : ℕ) → 1 ≤ i → i ≤ length ring.now → LinkFits i (history found_as pasts ring.now i) (history found_as pasts ring.now (after (length ring.now) i))) }
+    ensures apart { IfErr result (λ fault. (pasts : ℕ → List Input) → ArePasts found_as pasts ring.now → IsCause (length ring.now) (history found_as pasts ring.now) fault) }
 {
     for place in 0..ring.len() {
-        let own = node_at(ring, place);
-        let next = node_at(ring, behind(place, ring.len()));
-        if !link_fits(&own.desk, &next.desk) {
-            return Err(RunFault::Apart(own.node, next.node));
+        let next = behind(place, ring.len());
+        if !link_fits(desk_at(ring, place), desk_at(ring, next)) {
+            return Err(RunFault::Apart(number_at(ring, place), number_at(ring, next)));
         }
     }
     Ok(())
@@ -54,18 +53,17 @@ fn link_fits(own: &Desk, next: &Desk) -> bool
 }
 
 /// Each node is compared with those before it.
-fn look_at_leaders<V: Device>(ring: &[OpenNode<V>]) -> Result<(), RunFault>
-    requires order { IsInOrder ring.now }
-    ensures fit { OnOk result ((pasts : ℕ → List Input) → ArePasts pasts ring.now → (i j : ℕ) → 1 ≤ i → i ≤ length ring.now → 1 ≤ j → j ≤ length ring.now → LeadersFit i j (history pasts ring.now i) (history pasts ring.now j)) }
-    ensures apart { IfErr result (λ fault. (pasts : ℕ → List Input) → ArePasts pasts ring.now → IsCause (length ring.now) (history pasts ring.now) fault) }
+fn look_at_leaders<V: Device>(ring: &[Found<V>]) -> Result<(), RunFault>
+    requires order { IsInOrder found_as ring.now }
+    ensures fit { OnOk result ((pasts : ℕ → List Input) → ArePasts found_as pasts ring.now → (i j : ℕ) → 1 ≤ i → i ≤ length ring.now → 1 ≤ j → j ≤ length ring.now → LeadersFit i j (history found_as pasts ring.now i) (history found_as pasts ring.now j)) }
+    ensures apart { IfErr result (λ fault. (pasts : ℕ → List Input) → ArePasts found_as pasts ring.now → IsCause (length ring.now) (history found_as pasts ring.now) fault) }
 {
     for place in 0..ring.len() {
-        let own = node_at(ring, place);
-        let Ok(decisions) = own.desk.decisions() else {
+        let Ok(decisions) = desk_at(ring, place).decisions() else {
             return Err(RunFault::Memory(AllocError));
         };
         if let Some(other) = differing(ring, place, &decisions) {
-            return Err(RunFault::Apart(other, own.node));
+            return Err(RunFault::Apart(other, number_at(ring, place)));
         }
     }
     Ok(())
@@ -73,19 +71,18 @@ fn look_at_leaders<V: Device>(ring: &[OpenNode<V>]) -> Result<(), RunFault>
 
 /// The first node before a place that knows another leader for the key of a decision.
 fn differing<V: Device>(
-    ring: &[OpenNode<V>],
+    ring: &[Found<V>],
     place: usize,
     decisions: &[Decision],
 ) -> Option<NodeNo>
-    requires order { IsInOrder ring.now }
+    requires order { IsInOrder found_as ring.now }
     requires inside { place ≤ length ring.now }
-    ensures none { IfNone result ((pasts : ℕ → List Input) → ArePasts pasts ring.now → (i : ℕ) → 1 ≤ i → i ≤ place → Agrees i (history pasts ring.now i) decisions.now) }
-    ensures some { IfSome result (λ i. (1 ≤ i) × (i ≤ place) × ((pasts : ℕ → List Input) → ArePasts pasts ring.now → Differs i (history pasts ring.now i) decisions.now)) }
+    ensures none { IfNone result ((pasts : ℕ → List Input) → ArePasts found_as pasts ring.now → (i : ℕ) → 1 ≤ i → i ≤ place → Agrees i (history found_as pasts ring.now i) decisions.now) }
+    ensures some { IfSome result (λ i. (1 ≤ i) × (i ≤ place) × ((pasts : ℕ → List Input) → ArePasts found_as pasts ring.now → Differs i (history found_as pasts ring.now i) decisions.now)) }
 {
     for before in 0..place {
-        let other = node_at(ring, before);
-        if !agrees(&other.desk, decisions) {
-            return Some(other.node);
+        if !agrees(desk_at(ring, before), decisions) {
+            return Some(number_at(ring, before));
         }
     }
     None
@@ -106,17 +103,25 @@ fn agrees(desk: &Desk, decisions: &[Decision]) -> bool
     true
 }
 
-/// The node at a place, counted from 0.
-fn node_at<V: Device>(ring: &[OpenNode<V>], place: usize) -> &OpenNode<V>
-    requires order { IsInOrder ring.now }
+/// The number of the node at a place, counted from 0.
+fn number_at<V: Device>(ring: &[Found<V>], place: usize) -> NodeNo
+    requires order { IsInOrder found_as ring.now }
     requires inside { place < length ring.now }
-    ensures number { number_of result.now ≡ place + 1 }
-    ensures desk { result.now.desk.view.member.node ≡ place + 1 }
-    ensures past { (pasts : ℕ → List Input) → ArePasts pasts ring.now → IsPast result.now.desk.view.member (opening_of result.now) (pasts (place + 1)) }
-    ensures inputs { result.now.desk.view.state.inputs ≡ since ring.now (place + 1) }
-    ensures durable { (past : List Input) → durable_in (seen past result.now.desk).state ≡ past ++ since ring.now (place + 1) }
+    ensures { result ≡ place + 1 }
 {
-    &ring[place]
+    ring[place].number()
+}
+
+/// The desk of the node at a place, counted from 0.
+fn desk_at<V: Device>(ring: &[Found<V>], place: usize) -> &Desk
+    requires order { IsInOrder found_as ring.now }
+    requires inside { place < length ring.now }
+    ensures number { result.now.view.member.node ≡ place + 1 }
+    ensures past { (pasts : ℕ → List Input) → ArePasts found_as pasts ring.now → IsPast result.now.view.member result.now.opening (pasts (place + 1)) }
+    ensures inputs { result.now.view.state.inputs ≡ since found_as ring.now (place + 1) }
+    ensures durable { (past : List Input) → durable_in (seen past result.now).state ≡ past ++ since found_as ring.now (place + 1) }
+{
+    ring[place].desk()
 }
 
 /// The place of the node that the one at this place sends to, of so many.

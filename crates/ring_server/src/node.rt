@@ -1,7 +1,8 @@
 //! One node in its threads: its flusher, its inbox and its doors, and its clerk where it may be asked.
-ghost use Rattle.std.specs.Prelude.{◌≡◌, ◌+◌, ◌-◌, ◌≤◌, false, length, None};
+ghost use Rattle.std.specs.Prelude.{◌≡◌, ◌+◌, length};
 ghost use denote.Param.Send.{IsSend};
-ghost use Rattle.commit_hub.specs.Pages.{places_of, ForAccepted, ForDurable, ForSpent, ForFreed, ForEpochs, IsWhole};
+ghost use Rattle.commit_hub.specs.Pages.{ForAccepted, ForDurable, ForSpent, ForFreed, ForEpochs, IsWhole};
+ghost use Rattle.ring_server.specs.Fits.{kept_by};
 
 use crate::clerk::{Clerk, serve_clerk, take_clerk};
 use crate::door::{Front, Seat, send_window, serve_door, take_seats};
@@ -56,10 +57,9 @@ pub(crate) fn serve_node<
     V: Device + Send + Drop,
     R: Threads + Wait + Clock + Sync,
 >(rt: &R, site: Site<V>, shared: &Shared) -> Option<Shown>
-    requires member { site.opened.desk.view.member ≡ A.member }
-    requires opening { site.opened.desk.opening ≡ A.opening }
-    requires none { site.opened.desk.view.state.checkpoint ≡ None }
-    requires opened { site.opened.desk.opening.inputs + length site.opened.desk.view.state.inputs ≡ A.opened }
+    requires member { (kept_by site.opened).view.member ≡ A.member }
+    requires opening { (kept_by site.opened).opening ≡ A.opening }
+    requires opened { (kept_by site.opened).opening.inputs + length (kept_by site.opened).view.state.inputs ≡ A.opened }
     requires history { site.history ≡ J.book }
     requires accepted { ForAccepted site.blanks A.name A.parts }
     requires durable { ForDurable site.blanks D.name D.parts × IsWhole D.all D.parts }
@@ -80,11 +80,11 @@ pub(crate) fn serve_node<
     } = site;
     let latch = &shared.latch;
     let OpenNode {
-        node,
+        number,
         nodes,
-        desk,
-        journal,
+        node,
     } = opened;
+    let (desk, journal) = node.split();
     let Ok(tally) = Tally::new(alloc) else {
         latch.tell(rt, Err(RunFault::Memory(AllocError)));
         return None;
@@ -96,7 +96,7 @@ pub(crate) fn serve_node<
         successor: &successor,
         tally: &tally,
         reception: shared.reception(),
-        node,
+        node: number,
         nodes,
     };
     let Ok(board) = opened_board::<J>(alloc, history, &desk, readers as usize) else {

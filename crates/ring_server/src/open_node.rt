@@ -1,57 +1,100 @@
 //! A node that is ready to be shared.
-ghost use Rattle.std.specs.Prelude.{◌≡◌, ◌≤◌, ◌+◌, ◌-◌, ◌||◌, false, None, length};
-ghost use Rattle.ring_records.specs.Admission.{used};
-ghost use Rattle.ring_records.specs.States.{durable_in};
-ghost use Rattle.gated_journal.specs.Journal.{member_of, len_of, room_of, epoch_of, is_spoiled};
-ghost use Rattle.node_core.specs.Core.{IsNodeOf};
-ghost use Rattle.node_store.specs.Node.{desk_of, state_of};
+ghost use Rattle.std.specs.Prelude.{◌≡◌, ◌≤◌, ◌||◌, ◌⊎◌, true, false, None, Some, length, IfOk, IfErr};
+ghost use Rattle.disk_model.specs.Disk.{LeavesOnly, Reaches};
+ghost use Rattle.gated_journal.specs.Reading.{device_size};
+ghost use Rattle.gated_journal.specs.Unread.{IsFault};
+ghost use Rattle.group_commit.specs.Desk.{launched_all, checkpoint_objection};
+ghost use Rattle.node_store.specs.Node.{desk_of, member_of, state_of, device_of};
+ghost use Rattle.node_store.specs.State.{MayBeLeft};
 
+use crate::ready::Ready;
 use disk_model::Device;
-use gated_journal::Journal;
-use group_commit::Desk;
 use node_store::Node;
-use ring_records::NodeNo;
+use ring_records::{NodeNo, Refusal};
 
-/// A node's place in the ring, its desk, and the journal that has the desk's durable inputs.
+/// A node with its place in the ring, which takes requests, has no open ticket, and whose inputs are all durable.
 #[derive(Drop)]
 pub struct OpenNode<V: Device> {
-    pub(crate) node: NodeNo,
+    pub(crate) number: NodeNo,
     pub(crate) nodes: u8,
-    pub(crate) desk: Desk,
-    pub(crate) journal: Journal<V>,
-    ghost inside: { (node ≤ nodes) × (nodes ≤ 16) },
-    ghost place: { (desk.view.member.node ≡ node) × (desk.view.member.n ≡ nodes) },
-    ghost ready: { is_spoiled journal ≡ false },
-    ghost member: { member_of journal ≡ desk.view.member },
-    ghost durable: { desk.view.state.durable ≡ length desk.view.state.inputs },
-    ghost none: { desk.view.state.checkpoint ≡ None },
-    ghost ring: { IsNodeOf desk.view.member.n desk.view.member.node },
-    ghost len: { len_of journal ≡ desk.opening.inputs + desk.view.state.durable },
-    ghost room: { room_of journal ≡ desk.view.member.capacity - used desk.view.state.base (durable_in desk.view.state) },
-    ghost epoch: { epoch_of journal ≡ desk.view.state.base.epoch },
+    pub(crate) node: Node<V>,
+    ghost inside: { (number ≤ nodes) × (nodes ≤ 16) },
+    ghost place: { ((desk_of node).view.member.node ≡ number) × ((desk_of node).view.member.n ≡ nodes) },
+    ghost open: { ((desk_of node).view.closed || (desk_of node).view.failed) ≡ false },
+    ghost spent: { length (desk_of node).view.tickets ≡ 0 },
+    ghost durable: { (state_of node).durable ≡ length (state_of node).inputs },
 }
 
 impl<V: Device> OpenNode<V> {
-    ghost use Rattle.ring_server.specs.Fits.{number_of, opening_of, inputs_of};
+    ghost use Rattle.ring_server.specs.Fits.{kept_by};
+    ghost use Rattle.ring_server.specs.Written.{GoesOn, IsRenewed};
 
-    /// The parts of this node of a ring of so many, which takes requests, has no open ticket, and whose inputs are all
-    /// durable.
+    /// This node of a ring of so many.
     pub fn new(number: NodeNo, nodes: u8, node: Node<V>) -> OpenNode<V>
         requires inside { (number ≤ nodes) × (nodes ≤ 16) }
         requires place { ((desk_of node).view.member.node ≡ number) × ((desk_of node).view.member.n ≡ nodes) }
         requires open { ((desk_of node).view.closed || (desk_of node).view.failed) ≡ false }
         requires spent { length (desk_of node).view.tickets ≡ 0 }
         requires durable { (state_of node).durable ≡ length (state_of node).inputs }
-        ensures number { number_of result ≡ number }
-        ensures opening { opening_of result ≡ (desk_of node).opening }
-        ensures inputs { inputs_of result ≡ (state_of node).inputs }
+        ensures { result.node ≡ node }
     {
-        let (desk, journal) = node.split();
         OpenNode {
-            node: number,
+            number,
             nodes,
-            desk,
-            journal,
+            node,
         }
     }
+
+    /// Makes a checkpoint of what the node holds, so that all that it releases from now on stands on bytes that this
+    /// process wrote and synced. It goes on without one where the snapshot does not fit, or no epoch is left. Refused as
+    /// 15 where the device fails, and as 8; the node ends then.
+    pub fn renew(self) -> Result<Ready<V>, (V, Refusal)>
+        ensures goes_on { IfOk result (λ ready. GoesOn (kept_by self) (kept_by ready.opened)) }
+        ensures written { IfOk result (λ ready. ready.is_written ≡ true → IsRenewed self ready.opened) }
+        ensures kept { IfOk result (λ ready. ready.is_written ≡ false → ready.opened.node ≡ self.node) }
+        ensures objection { IfOk result (λ ready. ready.is_written ≡ false
+            → (checkpoint_objection (kept_by self) ≡ Some Refusal.Limit) ⊎ (checkpoint_objection (kept_by self) ≡ Some Refusal.Full)) }
+
+        // A stop at any moment leaves what the node held before, or the summary of it.
+        ensures any_moment { IfOk result (λ ready. ready.is_written ≡ true → LeavesOnly V.clock V.left_since (device_of self.node) (device_of ready.opened.node)
+            (MayBeLeft (record (desk_of self.node) { view = launched_all (desk_of self.node) }))) }
+        ensures refusal { IfErr result (λ e. IsFault (V.count (device_of self.node)) (V.count e.0) e.1 ⊎ ((e.1 ≡ Refusal.OutOfMemory) × (e.0 ≡ device_of self.node))) }
+        ensures in_reach { Reaches (V.reach (device_of self.node)) (device_size (member_of self.node).capacity) → IfErr result (λ e. e.1 ≡ Refusal.OutOfMemory) }
+    {
+        let OpenNode {
+            number,
+            nodes,
+            node,
+        } = self;
+        let mut node = node;
+        match node.checkpoint() {
+            Ok(_) => Ok(Ready {
+                opened: OpenNode {
+                    number,
+                    nodes,
+                    node,
+                },
+                is_written: true,
+            }),
+            Err(Refusal::Limit | Refusal::Full) => Ok(Ready {
+                opened: OpenNode {
+                    number,
+                    nodes,
+                    node,
+                },
+                is_written: false,
+            }),
+            Err(refusal) => Err((end(node), refusal)),
+        }
+    }
+}
+
+/// Ends a node that has no open ticket, and gives its device.
+fn end<V: Device>(node: Node<V>) -> V
+    requires { length (desk_of node).view.tickets ≡ 0 }
+    ensures { result ≡ device_of node }
+{
+    let mut node = node;
+    node.close();
+    node.into_device()
 }

@@ -166,12 +166,28 @@ fn print_ends<O: Write>(out: &mut O, ends: &[Option<Shown>]) -> Result<u8, RunFa
     Ok(status)
 }
 
-/// Serves with all nodes of a ring until the last door is done, and gives the status: 0, or 1 where a node failed.
-/// Prints `serving` first, and at the end for each node in order what it holds, to `out`; that a node has failed or is
-/// full once it is, to `err`. Meanwhile it tells of the ring at the port of `status`, where there is one: the nodes have
-/// clerks then. With `fail_stop` it ends with the first node that fails, and leaves the threads of the ring to the end of
-/// the program. Refused where memory or a thread is wanting, or `out` does not take a line; but for the last line no
-/// thread of a node goes on then, and none of the port beyond the client that it serves.
+/// Tells how a ring ended that was served, and gives the status.
+fn tell_end<O: Write, E: Write>(out: &mut O, err: &mut E, ends: Ends) -> u8 {
+    let told = match ends {
+        Ok(ends) => print_ends(out, &ends),
+        Err(fault) => Err(RunFault::Memory(fault)),
+    };
+    match told {
+        Ok(status) => status,
+        Err(fault) => {
+            let _ = writeln!(err, "ringd: {fault}");
+            fault.status()
+        }
+    }
+}
+
+/// Serves with all nodes of a ring until the last door is done, and gives the status: 0, or 1 where a node failed, or
+/// `out` does not take what is printed at the end. Prints `serving` first, and at the end for each node in order what it
+/// holds, to `out`; that a node has failed or is full once it is, to `err`. Meanwhile it tells of the ring at the port of
+/// `status`, where there is one: the nodes have clerks then. With `fail_stop` it ends with the first node that fails, and
+/// leaves the threads of the ring to the end of the program. Refused where memory or a thread is wanting, or `out` does
+/// not take `serving`: nothing was served then, no thread of a node goes on, and none of the port beyond the client that
+/// it serves.
 pub fn serve_ring<
     V: Device + Send + Drop + 'static,
     R: Threads + Wait + Clock + Sync + Send + Copy + 'static + Net<Stream = TcpStream>,
@@ -213,7 +229,7 @@ pub fn serve_ring<
     if tell_of_nodes(rt, &shared.watch, fail_stop, err) {
         return Ok(1);
     }
-    let ends = ring.join(rt)?;
+    let ends = ring.join(rt);
     shared.end_status(rt);
-    print_ends(out, &ends)
+    Ok(tell_end(out, err, ends))
 }

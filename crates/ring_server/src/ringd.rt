@@ -1,27 +1,26 @@
 //! The program `ringd`, over readers and writers.
-ghost use Rattle.std.specs.Prelude.{ℕ, ◌≡◌, ◌≤◌, List, length, IfOk};
-ghost use Rattle.ring_records.specs.declared.input.Input.{Input};
-ghost use Rattle.ring_records.specs.Fitting.{RingFits};
+ghost use Rattle.std.specs.Prelude.{◌≡◌, length};
 ghost use Rattle.ring_service.specs.Words.{IsIn};
-ghost use Rattle.ring_server.specs.Fits.{IsInOrder, ArePasts, history};
+ghost use Rattle.ring_server.specs.Fits.{found_as, IsInOrder, Fits};
 
-use crate::folder::Folder;
-use crate::look_over::look_over;
-use crate::open_node::OpenNode;
+use crate::folder::{Folder, Made};
+use crate::found::Found;
+use crate::opening::{find_ring, new_among, open_ring};
+use crate::ports::Ports;
 use crate::post::Post;
+use crate::ready::Ready;
 use crate::ring::serve_ring;
 use crate::run_fault::RunFault;
 use crate::site::{Doors, Site};
-use crate::unopened::Unopened;
 use crossbeam_channel::Receiver;
 use disk_model::FileDevice;
-use ring_records::{NodeNo, Packet, Refusal};
-use ring_service::{Settings, VERSION, Words, read_settings, read_words};
-use ring_watch::{Facts, Inquiry, Reception, StatusPort};
+use ring_records::{NodeNo, Packet};
+use ring_service::{Settings, Words, read_settings, read_words};
+use ring_watch::Inquiry;
 use std::alloc::{AllocError, Global};
 use std::fs::File;
 use std::io::{ErrorKind, Read, Write};
-use std::net::{Ipv4Addr, Net, TcpListener, TcpStream};
+use std::net::{Net, TcpListener, TcpStream};
 use std::rt::Files;
 use std::sync::Wait;
 use std::thread::Threads;
@@ -153,7 +152,8 @@ fn print_settings<O: Write>(out: &mut O, settings: &Settings) -> io::Result<()> 
     out.flush()
 }
 
-/// Opens the nodes and then their doors, and serves; with `fail_stop` until a node fails.
+/// Finds the nodes, has their ports, makes the nodes ready, and serves; with `fail_stop` until a node fails. Where the
+/// start is refused, what it made is gone.
 fn serve<R, O: Write, E: Write>(
     rt: &R,
     alloc: Global,
@@ -179,18 +179,84 @@ where
         Ok(folder) => folder,
         Err(why) => return Err(RunFault::Node(NodeNo::first(), why)),
     };
-    let opened = open_ring(rt, alloc, &folder, settings, words.existing)?;
-    let listeners = listen(rt, alloc, settings)?;
-    let (status, clerks) = listen_for_questions(rt, alloc, settings, words.status)?;
+    let is_made = match folder.is_made(rt, alloc) {
+        Ok(is_made) => is_made,
+        Err(why) => return Err(RunFault::Node(NodeNo::first(), why)),
+    };
+    let found = find_ring(rt, alloc, &folder, settings, is_made || words.existing)?;
+    let ports = Ports::listen(rt, alloc, settings, words.status)?;
+    let made = Made {
+        nodes: new_among(alloc, &found)?,
+        is_first: !is_made,
+    };
+    let end = serve_found(
+        rt, alloc, settings, words, doors, &folder, found, ports, &made, out, err,
+    );
+    if end.is_err() {
+        folder.take_back(rt, alloc, &made);
+    }
+    end
+}
+
+/// Makes the nodes ready that were found, and serves with them. Refused only where nothing was served.
+fn serve_found<R, O: Write, E: Write>(
+    rt: &R,
+    alloc: Global,
+    settings: &Settings,
+    words: &Words<'_>,
+    doors: Doors,
+    folder: &Folder<'_>,
+    found: Vec<Found<FileDevice>>,
+    ports: Ports,
+    made: &Made,
+    out: &mut O,
+    err: &mut E,
+) -> Result<u8, RunFault>
+where
+    R: Threads
+        + Wait
+        + Sync
+        + Send
+        + Copy
+        + 'static
+        + Clock
+        + Files<File = File>
+        + Net<Listener = TcpListener, Stream = TcpStream>,
+    requires order { IsInOrder found_as found.items }
+    requires count { length found.items ≡ settings.now.nodes }
+    requires fits { Fits found_as settings.now.nodes found.items }
+{
+    let ring = open_ring(rt, alloc, folder, settings, found)?;
+    tell_kept(err, &ring);
+    if made.is_first {
+        if let Err(why) = folder.mark_made(rt, alloc) {
+            return Err(RunFault::Node(NodeNo::first(), why));
+        }
+    }
+    let Ports {
+        listeners,
+        status,
+        clerks,
+    } = ports;
     let (post, inboxes) = Post::new(alloc, settings.nodes)?;
-    let sites = take_sites(alloc, opened, inboxes, listeners, clerks, doors)?;
+    let sites = take_sites(alloc, ring, inboxes, listeners, clerks, doors)?;
     serve_ring(rt, alloc, sites, post, status, words.fail_stop, out, err)
+}
+
+/// Names each node of which no checkpoint could be made.
+fn tell_kept<E: Write>(err: &mut E, ring: &[Ready<FileDevice>]) {
+    for ready in ring {
+        if !ready.is_written {
+            let node = ready.opened.number;
+            let _ = writeln!(err, "ringd: node {node} holds what an earlier start wrote");
+        }
+    }
 }
 
 /// A site for each node, in their order, with a clerk where there is one.
 fn take_sites(
     alloc: Global,
-    opened: Vec<OpenNode<FileDevice>>,
+    ring: Vec<Ready<FileDevice>>,
     inboxes: Vec<Receiver<Packet>>,
     listeners: Vec<TcpListener>,
     clerks: Vec<Receiver<Inquiry>>,
@@ -198,126 +264,8 @@ fn take_sites(
 ) -> Result<Vec<Site<FileDevice>>, AllocError> {
     let mut clerks = clerks.into_iter();
     let mut sites = Vec::new(alloc);
-    for ((opened, inbox), listener) in opened.into_iter().zip(inboxes).zip(listeners) {
-        sites.push(Site::new(alloc, opened, inbox, listener, doors, clerks.next()))?;
+    for ((ready, inbox), listener) in ring.into_iter().zip(inboxes).zip(listeners) {
+        sites.push(Site::new(alloc, ready.opened, inbox, listener, doors, clerks.next()))?;
     }
     Ok(sites)
-}
-
-/// All nodes of the ring, which fit. Each has to be there already where they were all made once, or where `existing`
-/// says so: then nothing is made or changed where one is not.
-fn open_ring<R: Files<File = File>>(
-    rt: &R,
-    alloc: Global,
-    folder: &Folder<'_>,
-    settings: &Settings,
-    existing: bool,
-) -> Result<Vec<OpenNode<FileDevice>>, RunFault>
-    ensures order { IfOk result (λ opened. IsInOrder opened.items) }
-    ensures count { IfOk result (λ opened. length opened.items ≡ settings.now.nodes) }
-    ensures fits { IfOk result (λ opened. (pasts : ℕ → List Input) → ArePasts pasts opened.items → RingFits settings.now.nodes (history pasts opened.items)) }
-{
-    let is_made = match folder.is_made(rt, alloc) {
-        Ok(is_made) => is_made,
-        Err(why) => return Err(RunFault::Node(NodeNo::first(), why)),
-    };
-    if is_made || existing {
-        look_for_nodes(rt, alloc, folder, settings)?;
-    }
-    let opened = open_nodes(rt, alloc, folder, settings)?;
-    look_over(&opened)?;
-    if !is_made {
-        if let Err(why) = folder.mark_made(rt, alloc) {
-            return Err(RunFault::Node(NodeNo::first(), why));
-        }
-    }
-    Ok(opened)
-}
-
-/// Refused where a node has no file.
-fn look_for_nodes<R: Files<File = File>>(
-    rt: &R,
-    alloc: Global,
-    folder: &Folder<'_>,
-    settings: &Settings,
-) -> Result<(), RunFault> {
-    for number in 1..=settings.nodes {
-        let Ok(node) = NodeNo::new(number) else {
-            break;
-        };
-        match folder.has_node(rt, alloc, node) {
-            Ok(true) => {}
-            Ok(false) => {
-                return Err(RunFault::Node(node, Unopened::new(Refusal::NotFormatted)));
-            }
-            Err(why) => return Err(RunFault::Node(node, why)),
-        }
-    }
-    Ok(())
-}
-
-/// Nodes 1 to the last, in this order.
-fn open_nodes<R: Files<File = File>>(
-    rt: &R,
-    alloc: Global,
-    folder: &Folder<'_>,
-    settings: &Settings,
-) -> Result<Vec<OpenNode<FileDevice>>, RunFault>
-    ensures order { IfOk result (λ opened. IsInOrder opened.items) }
-    ensures count { IfOk result (λ opened. length opened.items ≡ settings.now.nodes) }
-{
-    let mut nodes = Vec::new(alloc);
-    for place in 0..settings.nodes {
-        let Ok(node) = NodeNo::new(place + 1) else {
-            unreachable!();
-        };
-        match folder.node(rt, alloc, node, settings.nodes, settings.capacity) {
-            Ok(opened) => nodes.push(opened)?,
-            Err(why) => return Err(RunFault::Node(node, why)),
-        }
-    }
-    Ok(nodes)
-}
-
-/// Each node listens at a port of its own, the first one at the port that is set.
-fn listen<R: Net<Listener = TcpListener, Stream = TcpStream>>(
-    rt: &R,
-    alloc: Global,
-    settings: &Settings,
-) -> Result<Vec<TcpListener>, RunFault> {
-    let mut listeners = Vec::new(alloc);
-    for place in 0..settings.nodes {
-        let port = settings.port + u16::from(place);
-        match TcpListener::bind(rt, (Ipv4Addr::LOCALHOST, port)) {
-            Ok(listener) => listeners.push(listener)?,
-            Err(_) => return Err(RunFault::Port(port)),
-        }
-    }
-    Ok(listeners)
-}
-
-/// The port at which an operator is told of the ring, and what the clerks of its nodes are asked, in their order; none
-/// where no port is said.
-fn listen_for_questions<R: Clock + Net<Listener = TcpListener, Stream = TcpStream>>(
-    rt: &R,
-    alloc: Global,
-    settings: &Settings,
-    port: Option<u16>,
-) -> Result<(Option<StatusPort>, Vec<Receiver<Inquiry>>), RunFault> {
-    let Some(port) = port else {
-        return Ok((None, Vec::new(alloc)));
-    };
-    let Ok(listener) = TcpListener::bind(rt, (Ipv4Addr::LOCALHOST, port)) else {
-        return Err(RunFault::Port(port));
-    };
-    let facts = Facts {
-        version: VERSION,
-        dir: String::from_str(alloc, settings.dir.as_str())?,
-        started: match rt.since_1970() {
-            Ok(now) => now.as_secs(),
-            Err(_) => 0,
-        },
-    };
-    let (reception, clerks) = Reception::new(alloc, settings.nodes)?;
-    Ok((Some(StatusPort::new(listener, facts, reception)), clerks))
 }

@@ -87,6 +87,6 @@ impl<V: Device> Site<V> {
 
     /// Which node it is.
     pub(crate) fn node(&self) -> NodeNo {
-        self.opened.node
+        self.opened.number
     }
 }

@@ -3,7 +3,7 @@ ghost use Rattle.std.specs.Prelude.{◌≤◌};
 
 use crate::clients::{answers, connect};
 use crate::programs::Ended;
-use disk_model::{FuseDevice, MemDevice};
+use disk_model::{Device, FuseDevice, MemDevice};
 use node_store::Node;
 use ring_records::{Bid, GroupName, Key, NodeNo, Refusal, Request, Term};
 use ring_server::{Doors, OpenNode, Post, Site, serve_ring};
@@ -67,11 +67,7 @@ fn stand(term: u32) -> Result<Request, Refusal> {
 }
 
 /// Has the node stand for terms 1 to `count`, durably, and gives its device.
-fn stand_before<R: Abort>(
-    rt: &R,
-    made: Node<FuseDevice<MemDevice>>,
-    count: u32,
-) -> Option<FuseDevice<MemDevice>> {
+fn stand_before<D: Device, R: Abort>(rt: &R, made: Node<D>, count: u32) -> Option<D> {
     let mut node = made;
     for term in 1..=count {
         let question = stand(term).expect(rt, "a Stand");
@@ -87,6 +83,19 @@ fn stand_before<R: Abort>(
         return None;
     }
     Some(node.into_device())
+}
+
+/// This device with node 1 of a ring of so many, of a capacity of 4,096, which stood so often.
+pub fn stood<D: Device + Drop, R: Abort + AllocGlobal>(
+    rt: &R,
+    device: D,
+    nodes: u8,
+    count: u32,
+) -> Option<D> {
+    match Node::create(rt.alloc(), device, NodeNo::first(), nodes, 4096, 0) {
+        Ok(made) => stand_before(rt, made, count),
+        Err((_device, _)) => None,
+    }
 }
 
 /// A new node of three over this device.

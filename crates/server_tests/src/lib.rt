@@ -26,6 +26,8 @@ mod refusals;
 #[cfg(test)]
 mod sessions_ends;
 #[cfg(test)]
+mod starts;
+#[cfg(test)]
 mod status;
 #[cfg(test)]
 mod steps;

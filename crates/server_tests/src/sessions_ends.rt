@@ -162,6 +162,7 @@ fn a_start_that_is_not_told(rt: HostRuntime) -> Result<(), Fail> {
     );
     assert_eq!(rt; status, 1);
     assert!(rt; err.as_slice() == b"ringd: output cannot be written\n".as_slice());
-    fs::remove_dir_all(&rt, "untold")?;
+    // what it made is gone
+    fs::remove_dir(&rt, "untold")?;
     Ok(())
 }

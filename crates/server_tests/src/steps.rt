@@ -35,6 +35,10 @@ pub enum Change {
     IsEmpty(&'static str),
     /// The journal, of a capacity of 4,096, stands behind a checkpoint.
     IsRenewed(&'static str),
+    /// The journal, of a capacity of 4,096, is in this epoch.
+    IsInEpoch(&'static str, u64),
+    /// The one file holds what the other does.
+    IsCopy(&'static str, &'static str),
 }
 
 /// What is done, and what comes of it. The program has these words and settings, and writes this to standard error.
@@ -84,6 +88,18 @@ fn is_renewed<R: Abort + AllocGlobal + Files<File = File>>(rt: &R, path: &str) {
     assert!(rt; epoch_of(&journal) > 1);
 }
 
+/// The journal is in this epoch.
+fn is_in_epoch<R: Abort + AllocGlobal + Files<File = File>>(rt: &R, path: &str, epoch: u64) {
+    let journal = fs::read(rt, path).expect(rt, "a journal");
+    assert_eq!(rt; epoch_of(&journal), epoch);
+}
+
+/// The one file holds what the other does.
+fn is_copy<R: Abort + AllocGlobal + Files<File = File>>(rt: &R, path: &str, other: &str) {
+    let bytes = fs::read(rt, other).expect(rt, "a file");
+    holds(rt, path, &bytes);
+}
+
 /// It is found so, or done.
 fn changes<R: Abort + AllocGlobal + Files<File = File> + Copy>(rt: &R, change: Change) {
     let done = match change {
@@ -92,6 +108,8 @@ fn changes<R: Abort + AllocGlobal + Files<File = File> + Copy>(rt: &R, change: C
         Change::Holds(path, bytes) => return holds(rt, path, bytes),
         Change::IsEmpty(path) => return is_empty(rt, path),
         Change::IsRenewed(path) => return is_renewed(rt, path),
+        Change::IsInEpoch(path, epoch) => return is_in_epoch(rt, path, epoch),
+        Change::IsCopy(path, other) => return is_copy(rt, path, other),
         Change::Clears(path) => fs::remove_dir_all(rt, path).is_ok(),
         Change::MakesFolder(path) => fs::create_dir(rt, path).is_ok(),
         Change::RemovesFolder(path) => fs::remove_dir(rt, path).is_ok(),

@@ -1,21 +1,22 @@
 use Rattle.std.proofs.Common.{◌+◌, ◌++◌, below_more, sym, ap, ◌∙◌, refl, arith}
-use Rattle.ring_server.specs.Fits.{history}
+use Rattle.ring_server.specs.Fits.{found_as, history}
 use Rattle.ring_server.proofs.Leaders.{Agrees-along, Differs-along}
 use Rattle.ring_server.proofs.look_over.differing.Goals as goal
 
 pub returns-then-not-agrees-clause-some : goal.returns-then-not-agrees-clause-some
 returns-then-not-agrees-clause-some g c =
-    let own = c.node_at-other.ensures in
+    let own = c.desk_at.ensures in
+    let number = c.number_at.ensures in
     let i = c.loop-before.before + 1 in (
-      omega (arith, own.number),
-      omega (arith, own.number, c.loop-before-test.true, c.requires.inside),
-      λ pasts are. Differs-along _ _ _ _ c.args.decisions.now (own.desk ∙ sym own.number) (ap (λ l. pasts i ++ l) own.inputs ∙ ap (history pasts c.args.ring.now) (sym own.number))
+      omega (arith, number),
+      omega (arith, number, c.loop-before-test.true, c.requires.inside),
+      λ pasts are. Differs-along _ _ _ _ c.args.decisions.now (own.number ∙ sym number) (ap (λ l. pasts i ++ l) own.inputs ∙ ap (history found_as pasts c.args.ring.now) (sym number))
           (c.if-not-agrees.ensures.no refl (pasts i) (own.past pasts are)),
     )
 
 pub loop-before-preserved : goal.loop-before-preserved
 loop-before-preserved g c pasts are =
-    let own = c.node_at-other.ensures in
+    let own = c.desk_at.ensures in
     let i = c.loop-before.before + 1 in
     below_more _ _ (c.loop-before.invariant pasts are)
-    (Agrees-along _ i _ (history pasts c.args.ring.now i) c.args.decisions.now own.desk (ap (λ l. pasts i ++ l) own.inputs) (c.if-not-agrees.ensures.yes refl (pasts i) (own.past pasts are)))
+    (Agrees-along _ i _ (history found_as pasts c.args.ring.now i) c.args.decisions.now own.number (ap (λ l. pasts i ++ l) own.inputs) (c.if-not-agrees.ensures.yes refl (pasts i) (own.past pasts are)))

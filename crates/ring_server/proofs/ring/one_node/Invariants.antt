@@ -1,4 +1,5 @@
 use Rattle.std.specs.Prelude.{◌+◌, length}
+use Rattle.ring_server.specs.Fits.{kept_by}
 use Rattle.ring_server.proofs.ring.one_node.Given as goal
 
 -- the ledgers are named by the pages and the desk
@@ -8,9 +9,9 @@ ghosts-serve_node-A-Ledger g a = record { name = a.site.blanks.accepted.name; pa
 
 abbrev pub ghosts-serve_node-A-Node : goal.ghosts-serve_node-A-Node
 ghosts-serve_node-A-Node g a = record {
-  member = a.site.opened.desk.view.member;
-  opening = a.site.opened.desk.opening;
-  opened = a.site.opened.desk.opening.inputs + length a.site.opened.desk.view.state.inputs;
+  member = (kept_by a.site.opened).view.member;
+  opening = (kept_by a.site.opened).opening;
+  opened = (kept_by a.site.opened).opening.inputs + length (kept_by a.site.opened).view.state.inputs;
 }
 
 abbrev pub ghosts-serve_node-D-Ledger : goal.ghosts-serve_node-D-Ledger

@@ -1,0 +1,56 @@
+-- That all that a node releases stands on bytes that this process wrote.
+use Rattle.std.specs.Prelude.{◌≡◌, ◌+◌, ◌⊎◌, ℕ, true, false, Some, List}
+use Rattle.std.specs.List.{AllZip}
+use Rattle.disk_model.specs.declared.device.Device.{Ghosts}
+use Rattle.ring_records.specs.declared.refusal.Refusal.TheVariants as refused
+use Rattle.ring_records.specs.Admission.{newest}
+use Rattle.gated_journal.specs.Areas.{AllReadAs}
+use Rattle.gated_journal.specs.Reading.{fresh_area}
+use Rattle.group_commit.specs.Desk.{DeskKept, known_all, checkpoint_objection}
+use Rattle.node_store.specs.Node.{member_of, device_of}
+use Rattle.ring_server.specs.declared.found.Found.{Found}
+use Rattle.ring_server.specs.declared.found.Found.TheVariants as found
+use Rattle.ring_server.specs.declared.open_node.OpenNode.{OpenNode}
+use Rattle.ring_server.specs.declared.ready.Ready.{Ready}
+use Rattle.ring_server.specs.Fits.{kept_by, found_as}
+
+-- the same node, with the same history behind each past
+pub record GoesOn (old new : DeskKept) : Type 0 where
+  pub member : new.view.member ≡ old.view.member
+  pub opening : new.opening ≡ old.opening
+  pub inputs : new.view.state.inputs ≡ old.view.state.inputs
+
+module _ {D : Type 0} {g : Ghosts D} where
+  -- Every image that a stop may leave reads as the summary of all that this desk accepted, in the area of this epoch.
+  abbrev pub HoldsAll : ℕ → DeskKept → OpenNode D g → Type 0
+  HoldsAll epoch desk opened = AllReadAs (member_of opened.node) (g.disk (device_of opened.node)) (fresh_area newest epoch (known_all desk))
+
+  -- It made a checkpoint: that is so in the epoch behind the one that it had.
+  pub record IsRenewed (old new : OpenNode D g) : Type 0 where
+    pub epoch : (kept_by new).view.state.base.epoch ≡ (kept_by old).view.state.base.epoch + 1
+    pub holds : HoldsAll ((kept_by old).view.state.base.epoch + 1) (kept_by old) new
+
+  -- It was made, or made a checkpoint: what it holds was written by this process.
+  abbrev pub IsWritten : Found D g → OpenNode D g → Type 0
+  IsWritten (found.There old) opened = IsRenewed old opened
+  IsWritten (found.New new) opened = HoldsAll 1 new.desk opened
+
+  -- no checkpoint can be made of it, and nothing was done to it
+  abbrev pub IsKept : Found D g → OpenNode D g → Type 0
+  IsKept (found.There old) opened = (opened.node ≡ old.node)
+      × ((checkpoint_objection (kept_by old) ≡ Some refused.Limit) ⊎ (checkpoint_objection (kept_by old) ≡ Some refused.Full))
+  IsKept (found.New new) opened = ⊥
+
+  -- its desk
+  abbrev pub ready_as : Ready D g → DeskKept
+  ready_as ready = kept_by ready.opened
+
+  -- what a start makes of a node that it found
+  pub record IsReady (node : Found D g) (ready : Ready D g) : Type 0 where
+    pub goes_on : GoesOn (found_as node) (kept_by ready.opened)
+    pub written : ready.is_written ≡ true → IsWritten node ready.opened
+    pub kept : ready.is_written ≡ false → IsKept node ready.opened
+
+  -- the same of each node of a ring
+  abbrev pub AreReady : List (Found D g) → List (Ready D g) → Type 0
+  AreReady found ready = AllZip IsReady found ready

@@ -1,0 +1,134 @@
+//! The nodes of a ring, from their files to what may be served.
+ghost use Rattle.std.specs.Prelude.{◌≡◌, ◌≤◌, length, IfOk};
+ghost use Rattle.ring_server.specs.Fits.{found_as, IsInOrder, Fits};
+ghost use Rattle.ring_server.specs.Written.{ready_as, AreReady};
+
+use crate::folder::Folder;
+use crate::found::Found;
+use crate::look_over::look_over;
+use crate::ready::Ready;
+use crate::run_fault::RunFault;
+use crate::unopened::Unopened;
+use disk_model::FileDevice;
+use ring_records::{NodeNo, Refusal};
+use ring_service::Settings;
+use std::alloc::{AllocError, Global};
+use std::fs::File;
+use std::rt::Files;
+
+/// Nodes 1 to the last as their files have them, which fit. Nothing is made; with `existing` each has to have a file.
+pub(crate) fn find_ring<R: Files<File = File>>(
+    rt: &R,
+    alloc: Global,
+    folder: &Folder<'_>,
+    settings: &Settings,
+    existing: bool,
+) -> Result<Vec<Found<FileDevice>>, RunFault>
+    ensures order { IfOk result (λ found. IsInOrder found_as found.items) }
+    ensures count { IfOk result (λ found. length found.items ≡ settings.now.nodes) }
+    ensures fits { IfOk result (λ found. Fits found_as settings.now.nodes found.items) }
+{
+    if existing {
+        look_for_nodes(rt, alloc, folder, settings)?;
+    }
+    let found = find_nodes(rt, alloc, folder, settings)?;
+    look_over(&found)?;
+    Ok(found)
+}
+
+/// Refused where a node has no file.
+fn look_for_nodes<R: Files<File = File>>(
+    rt: &R,
+    alloc: Global,
+    folder: &Folder<'_>,
+    settings: &Settings,
+) -> Result<(), RunFault> {
+    for number in 1..=settings.nodes {
+        let Ok(node) = NodeNo::new(number) else {
+            break;
+        };
+        match folder.has_node(rt, alloc, node) {
+            Ok(true) => {}
+            Ok(false) => {
+                return Err(RunFault::Node(node, Unopened::new(Refusal::NotFormatted)));
+            }
+            Err(why) => return Err(RunFault::Node(node, why)),
+        }
+    }
+    Ok(())
+}
+
+/// Nodes 1 to the last, in this order.
+fn find_nodes<R: Files<File = File>>(
+    rt: &R,
+    alloc: Global,
+    folder: &Folder<'_>,
+    settings: &Settings,
+) -> Result<Vec<Found<FileDevice>>, RunFault>
+    ensures order { IfOk result (λ found. IsInOrder found_as found.items) }
+    ensures count { IfOk result (λ found. length found.items ≡ settings.now.nodes) }
+{
+    let mut nodes = Vec::new(alloc);
+    for place in 0..settings.nodes {
+        let Ok(node) = NodeNo::new(place + 1) else {
+            unreachable!();
+        };
+        match folder.find(rt, alloc, node, settings.nodes, settings.capacity) {
+            Ok(found) => nodes.push(found)?,
+            Err(why) => return Err(RunFault::Node(node, why)),
+        }
+    }
+    Ok(nodes)
+}
+
+/// Those that have no file.
+pub(crate) fn new_among(alloc: Global, ring: &[Found<FileDevice>]) -> Result<Vec<NodeNo>, AllocError> {
+    let mut numbers = Vec::new(alloc);
+    for found in ring {
+        if let Found::New(new) = found {
+            numbers.push(new.number)?;
+        }
+    }
+    Ok(numbers)
+}
+
+/// The nodes that were found, as they may be served: each was made by this start, or made a checkpoint, or can make none.
+/// They go on from what was found.
+pub(crate) fn open_ring<R: Files<File = File>>(
+    rt: &R,
+    alloc: Global,
+    folder: &Folder<'_>,
+    settings: &Settings,
+    found: Vec<Found<FileDevice>>,
+) -> Result<Vec<Ready<FileDevice>>, RunFault>
+    requires order { IsInOrder found_as found.items }
+    requires count { length found.items ≡ settings.now.nodes }
+    requires fits { Fits found_as settings.now.nodes found.items }
+    ensures ready { IfOk result (λ ring. AreReady found.items ring.items) }
+    ensures order { IfOk result (λ ring. IsInOrder ready_as ring.items) }
+    ensures count { IfOk result (λ ring. length ring.items ≡ settings.now.nodes) }
+    ensures fits { IfOk result (λ ring. Fits ready_as settings.now.nodes ring.items) }
+{
+    let ring = make_ready(rt, alloc, folder, found)?;
+    Ok(ring)
+}
+
+/// Each node that was found, in this order.
+fn make_ready<R: Files<File = File>>(
+    rt: &R,
+    alloc: Global,
+    folder: &Folder<'_>,
+    found: Vec<Found<FileDevice>>,
+) -> Result<Vec<Ready<FileDevice>>, RunFault>
+    ensures { IfOk result (λ ring. AreReady found.items ring.items) }
+{
+    let mut ring = Vec::new(alloc);
+    for node in found {
+        let number = node.number();
+        match folder.ready(rt, alloc, node) {
+            Ok(ready) => ring.push(ready)?,
+            Err(why) => return Err(RunFault::Node(number, why)),
+        }
+    }
+    Ok(ring)
+}

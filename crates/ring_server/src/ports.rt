@@ -1,0 +1,78 @@
+//! The ports of a ring.
+use crate::run_fault::RunFault;
+use crossbeam_channel::Receiver;
+use ring_service::{Settings, VERSION};
+use ring_watch::{Facts, Inquiry, Reception, StatusPort};
+use std::alloc::Global;
+use std::net::{Ipv4Addr, Net, TcpListener, TcpStream};
+use std::time::Clock;
+
+/// The listeners of the nodes, in their order; and the port at which an operator is told of the ring, with what the clerks
+/// of its nodes are asked, in their order, or none where no port is said.
+#[derive(Drop)]
+pub(crate) struct Ports {
+    pub(crate) listeners: Vec<TcpListener>,
+    pub(crate) status: Option<StatusPort>,
+    pub(crate) clerks: Vec<Receiver<Inquiry>>,
+}
+
+impl Ports {
+    /// All of them. Refused with the first that is not to be had.
+    pub(crate) fn listen<R: Clock + Net<Listener = TcpListener, Stream = TcpStream>>(
+        rt: &R,
+        alloc: Global,
+        settings: &Settings,
+        status: Option<u16>,
+    ) -> Result<Ports, RunFault> {
+        let listeners = listen(rt, alloc, settings)?;
+        let (status, clerks) = listen_for_questions(rt, alloc, settings, status)?;
+        Ok(Ports {
+            listeners,
+            status,
+            clerks,
+        })
+    }
+}
+
+/// Each node listens at a port of its own, the first one at the port that is set.
+fn listen<R: Net<Listener = TcpListener, Stream = TcpStream>>(
+    rt: &R,
+    alloc: Global,
+    settings: &Settings,
+) -> Result<Vec<TcpListener>, RunFault> {
+    let mut listeners = Vec::new(alloc);
+    for place in 0..settings.nodes {
+        let port = settings.port + u16::from(place);
+        match TcpListener::bind(rt, (Ipv4Addr::LOCALHOST, port)) {
+            Ok(listener) => listeners.push(listener)?,
+            Err(_) => return Err(RunFault::Port(port)),
+        }
+    }
+    Ok(listeners)
+}
+
+/// The port at which an operator is told of the ring, and what the clerks of its nodes are asked, in their order; none
+/// where no port is said.
+fn listen_for_questions<R: Clock + Net<Listener = TcpListener, Stream = TcpStream>>(
+    rt: &R,
+    alloc: Global,
+    settings: &Settings,
+    port: Option<u16>,
+) -> Result<(Option<StatusPort>, Vec<Receiver<Inquiry>>), RunFault> {
+    let Some(port) = port else {
+        return Ok((None, Vec::new(alloc)));
+    };
+    let Ok(listener) = TcpListener::bind(rt, (Ipv4Addr::LOCALHOST, port)) else {
+        return Err(RunFault::Port(port));
+    };
+    let facts = Facts {
+        version: VERSION,
+        dir: String::from_str(alloc, settings.dir.as_str())?,
+        started: match rt.since_1970() {
+            Ok(now) => now.as_secs(),
+            Err(_) => 0,
+        },
+    };
+    let (reception, clerks) = Reception::new(alloc, settings.nodes)?;
+    Ok((Some(StatusPort::new(listener, facts, reception)), clerks))
+}
