@@ -3,3 +3,4 @@ pub mod Leaders
 pub mod LinkFits
 pub mod Opened
 pub mod Order
+pub mod Renewed

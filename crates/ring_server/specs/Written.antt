@@ -35,10 +35,15 @@ module _ {D : Type 0} {g : Ghosts D} where
   IsWritten (found.There old) opened = IsRenewed old opened
   IsWritten (found.New new) opened = HoldsAll 1 new.desk opened
 
-  -- no checkpoint can be made of it, and nothing was done to it
+  -- No checkpoint can be made of it, since its journal may write no other area or its snapshot does not fit, and nothing was
+  -- done to it.
+  pub record IsUntouched (old new : OpenNode D g) : Type 0 where
+    pub desk : kept_by new ≡ kept_by old
+    pub device : device_of new.node ≡ device_of old.node
+    pub objection : (checkpoint_objection (kept_by old) ≡ Some refused.Limit) ⊎ (checkpoint_objection (kept_by old) ≡ Some refused.Full)
+
   abbrev pub IsKept : Found D g → OpenNode D g → Type 0
-  IsKept (found.There old) opened = (opened.node ≡ old.node)
-      × ((checkpoint_objection (kept_by old) ≡ Some refused.Limit) ⊎ (checkpoint_objection (kept_by old) ≡ Some refused.Full))
+  IsKept (found.There old) opened = IsUntouched old opened
   IsKept (found.New new) opened = ⊥
 
   -- its desk

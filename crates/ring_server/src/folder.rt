@@ -161,7 +161,10 @@ pub(crate) struct Folder<'a> {
 
 impl<'a> Folder<'a> {
     /// The folder at this path. Refused where it is not there, or is in use.
-    pub(crate) fn open<R: Files<File = File>>(rt: &R, path: &'a str) -> Result<Folder<'a>, Unopened> {
+    pub(crate) fn open<R: Files<File = File>>(
+        rt: &R,
+        path: &'a str,
+    ) -> Result<Folder<'a>, Unopened> {
         let file = match File::open(rt, path) {
             Ok(file) => file,
             Err(error) => return Err(Unopened::at(Place::Folder, Answer::from(error))),
@@ -173,7 +176,11 @@ impl<'a> Folder<'a> {
     }
 
     /// Whether `ring.made` is there: all nodes of a first start were made.
-    pub(crate) fn is_made<R: Files<File = File>>(&self, rt: &R, alloc: Global) -> Result<bool, Unopened> {
+    pub(crate) fn is_made<R: Files<File = File>>(
+        &self,
+        rt: &R,
+        alloc: Global,
+    ) -> Result<bool, Unopened> {
         let path = format!(in alloc; "{}/ring.made", self.path)?;
         match fs::exists(rt, path.as_str()) {
             Ok(is_made) => Ok(is_made),
@@ -182,7 +189,11 @@ impl<'a> Folder<'a> {
     }
 
     /// Makes `ring.made`, which is there for good then.
-    pub(crate) fn mark_made<R: Files<File = File>>(&self, rt: &R, alloc: Global) -> Result<(), Unopened> {
+    pub(crate) fn mark_made<R: Files<File = File>>(
+        &self,
+        rt: &R,
+        alloc: Global,
+    ) -> Result<(), Unopened> {
         let path = format!(in alloc; "{}/ring.made", self.path)?;
         match File::create(rt, path.as_str()) {
             Ok(_) => self.sync(),
@@ -341,7 +352,12 @@ impl<'a> Folder<'a> {
     }
 
     /// There is no file of this node then.
-    fn unmake<R: Files<File = File>>(&self, rt: &R, alloc: Global, node: NodeNo) -> Result<(), Unopened> {
+    fn unmake<R: Files<File = File>>(
+        &self,
+        rt: &R,
+        alloc: Global,
+        node: NodeNo,
+    ) -> Result<(), Unopened> {
         let path = format!(in alloc; "{}/node-{node}.crj", self.path)?;
         let new = format!(in alloc; "{}/node-{node}.crj.new", self.path)?;
         remove(rt, new.as_str())?;

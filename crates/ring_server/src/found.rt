@@ -27,7 +27,12 @@ pub(crate) struct NewNode {
 
 impl NewNode {
     /// This node of a ring of so many. Refused as 8.
-    pub(crate) fn new(alloc: Global, number: NodeNo, nodes: u8, capacity: u32) -> Result<NewNode, Refusal>
+    pub(crate) fn new(
+        alloc: Global,
+        number: NodeNo,
+        nodes: u8,
+        capacity: u32,
+    ) -> Result<NewNode, Refusal>
         requires { (number ≤ nodes) × (nodes ≤ 16) }
         ensures { IfOk result (λ new. new.number ≡ number) }
     {

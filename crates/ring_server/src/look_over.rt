@@ -70,11 +70,7 @@ fn look_at_leaders<V: Device>(ring: &[Found<V>]) -> Result<(), RunFault>
 }
 
 /// The first node before a place that knows another leader for the key of a decision.
-fn differing<V: Device>(
-    ring: &[Found<V>],
-    place: usize,
-    decisions: &[Decision],
-) -> Option<NodeNo>
+fn differing<V: Device>(ring: &[Found<V>], place: usize, decisions: &[Decision]) -> Option<NodeNo>
     requires order { IsInOrder found_as ring.now }
     requires inside { place ≤ length ring.now }
     ensures none { IfNone result ((pasts : ℕ → List Input) → ArePasts found_as pasts ring.now → (i : ℕ) → 1 ≤ i → i ≤ place → Agrees i (history found_as pasts ring.now i) decisions.now) }

@@ -1,9 +1,9 @@
 //! A node that is ready to be shared.
-ghost use Rattle.std.specs.Prelude.{◌≡◌, ◌≤◌, ◌||◌, ◌⊎◌, true, false, None, Some, length, IfOk, IfErr};
+ghost use Rattle.std.specs.Prelude.{◌≡◌, ◌≤◌, ◌||◌, ◌⊎◌, true, false, length, IfOk, IfErr};
 ghost use Rattle.disk_model.specs.Disk.{LeavesOnly, Reaches};
 ghost use Rattle.gated_journal.specs.Reading.{device_size};
 ghost use Rattle.gated_journal.specs.Unread.{IsFault};
-ghost use Rattle.group_commit.specs.Desk.{launched_all, checkpoint_objection};
+ghost use Rattle.group_commit.specs.Desk.{launched_all};
 ghost use Rattle.node_store.specs.Node.{desk_of, member_of, state_of, device_of};
 ghost use Rattle.node_store.specs.State.{MayBeLeft};
 
@@ -27,7 +27,7 @@ pub struct OpenNode<V: Device> {
 
 impl<V: Device> OpenNode<V> {
     ghost use Rattle.ring_server.specs.Fits.{kept_by};
-    ghost use Rattle.ring_server.specs.Written.{GoesOn, IsRenewed};
+    ghost use Rattle.ring_server.specs.Written.{GoesOn, IsRenewed, IsUntouched};
 
     /// This node of a ring of so many.
     pub fn new(number: NodeNo, nodes: u8, node: Node<V>) -> OpenNode<V>
@@ -51,9 +51,7 @@ impl<V: Device> OpenNode<V> {
     pub fn renew(self) -> Result<Ready<V>, (V, Refusal)>
         ensures goes_on { IfOk result (λ ready. GoesOn (kept_by self) (kept_by ready.opened)) }
         ensures written { IfOk result (λ ready. ready.is_written ≡ true → IsRenewed self ready.opened) }
-        ensures kept { IfOk result (λ ready. ready.is_written ≡ false → ready.opened.node ≡ self.node) }
-        ensures objection { IfOk result (λ ready. ready.is_written ≡ false
-            → (checkpoint_objection (kept_by self) ≡ Some Refusal.Limit) ⊎ (checkpoint_objection (kept_by self) ≡ Some Refusal.Full)) }
+        ensures kept { IfOk result (λ ready. ready.is_written ≡ false → IsUntouched self ready.opened) }
 
         // A stop at any moment leaves what the node held before, or the summary of it.
         ensures any_moment { IfOk result (λ ready. ready.is_written ≡ true → LeavesOnly V.clock V.left_since (device_of self.node) (device_of ready.opened.node)

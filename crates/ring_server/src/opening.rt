@@ -82,7 +82,10 @@ fn find_nodes<R: Files<File = File>>(
 }
 
 /// Those that have no file.
-pub(crate) fn new_among(alloc: Global, ring: &[Found<FileDevice>]) -> Result<Vec<NodeNo>, AllocError> {
+pub(crate) fn new_among(
+    alloc: Global,
+    ring: &[Found<FileDevice>],
+) -> Result<Vec<NodeNo>, AllocError> {
     let mut numbers = Vec::new(alloc);
     for found in ring {
         if let Found::New(new) = found {
