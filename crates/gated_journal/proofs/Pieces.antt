@@ -1,14 +1,14 @@
 -- Areas in pieces: what is read or damaged of the bytes so far, and with all that may follow.
-use Rattle.std.proofs.Common.{◌≡◌, inl, inr, ⊎_elim, ℕ, zero, suc, ◌+◌, ◌^◌, ◌<◌, ◌≤◌, List, [], ◌∷◌, ◌++◌, length, take, drop, get_or, refl, sym, ◌∙◌, ap, subst, arith, append_assoc, length-append}
+use Rattle.std.proofs.Common.{◌≡◌, ◌⊎◌, inl, inr, ⊎_elim, ℕ, zero, suc, ◌+◌, ◌^◌, ◌<◌, ◌≤◌, List, [], ◌∷◌, ◌++◌, length, take, drop, get_or, refl, sym, ◌∙◌, ap, subst, arith, append_assoc, length-append}
 use Rattle.std.proofs.lemmas.List.{drop_at, take_at, drop-drop, get_or_append_left}
 use Rattle.ring_records.specs.declared.input.Input.{Input}
 use Rattle.ring_records.specs.declared.summary.Summary.{Summary}
 use Rattle.ring_records.specs.Snapshot.{Spells}
 use Rattle.gated_journal.specs.Areas.{layout_at, epoch_at, size_at, frames_of, snapshot_at, HasBase}
 use Rattle.gated_journal.specs.Damage.{NoFrame, ReadsUpTo}
-use Rattle.gated_journal.specs.Found.{IsHead, InSnapshot, InFrames, IsClosed, NoFramed}
+use Rattle.gated_journal.specs.Found.{IsHead, InSnapshot, InFrames, IsClosed}
 use Rattle.gated_journal.specs.Frames.{body, frames}
-use Rattle.gated_journal.specs.Pieces.{reading_with, IsAreaRead, IsNoArea, IsAreaDamaged, IsEnough}
+use Rattle.gated_journal.specs.Pieces.{reading_with, IsAreaRead, IsNoArea, IsAreaDamaged, IsNextFront, IsSnapshotFront, AreFramesFront, IsEnough}
 use Rattle.gated_journal.proofs.AreaHeads.{number_moved}
 use Rattle.gated_journal.proofs.Unique as unique
 
@@ -68,11 +68,29 @@ module _ (layout n : ℕ) (snapshot taken behind : List ℕ) (left : ℕ) (s : I
     cause = inl (refl, inr (inr (inr (inl (omega (arith, size_of, short, ap length whole_snapshot, length-append s.head (snapshot ++ behind), length-append snapshot behind, s.is_head.long))))));
   }
 
+  -- it goes on
+  pub snapshot_front : length behind < left → length behind < 38 → IsSnapshotFront layout (taken ++ behind) (length behind)
+  snapshot_front short few =
+      let rest : List ℕ = snapshot ++ behind in
+      record {
+        gate = ap (λ (l : List ℕ). get_or l 0 0) whole_snapshot ∙ gate_there layout s.size s.head rest s.is_head;
+        layout_is = ap (layout_at 0) whole_snapshot ∙ layout_there layout s.size s.head rest s.is_head;
+        known = s.is_head.known;
+        small = subst (λ (k : ℕ). k < 2 ^ 40) (sym (ap (epoch_at 0) whole_snapshot ∙ epoch_there layout s.size s.head rest s.is_head)) s.is_head.small;
+        ends = omega (arith, size_of, short, ap length whole_snapshot, length-append s.head rest, length-append snapshot behind, s.is_head.long);
+        there = omega (arith, ap length whole_snapshot, length-append s.head rest, length-append snapshot behind, s.is_head.long);
+        few = omega (arith, few);
+      }
+
   -- it is that of none
   pub unspelled : ((base : Summary) → Spells n (snapshot ++ take left behind) base → ⊥) → IsAreaDamaged layout n (taken ++ behind) 0
   unspelled none = record { cause = inl (refl, inr (inr (inr (inr (inr (λ base spells. none base (subst (λ (l : List ℕ). Spells n l base) snapshot_is spells))))))) }
 
 -- ---- frames
+
+-- the bytes end, or a gate is open and no frame is behind it
+abbrev pub NoFramed : List ℕ → Type 0
+NoFramed behind = (behind ≡ []) ⊎ ((tail : List ℕ) × ((behind ≡ 1 ∷ tail) × NoFrame tail))
 
 module _ (layout n : ℕ) (snapshot taken behind : List ℕ) (inputs : List Input) (f : InFrames layout n snapshot taken inputs) where
   whole_frames : taken ++ behind ≡ f.head ++ (snapshot ++ (frames f.batches ++ behind))
@@ -155,6 +173,19 @@ module _ (layout n : ℕ) (snapshot taken behind : List ℕ) (inputs : List Inpu
           };
         });
       }
+
+  -- there is neither yet
+  pub frames_front : IsNextFront behind → AreFramesFront layout n (taken ++ behind) (length behind)
+  frames_front front = record {
+    base_of = f.base;
+    inputs = inputs;
+    gate_at = length taken;
+    gate = gate_is;
+    base = base_there inputs;
+    frames = up_to;
+    front = subst IsNextFront (sym (drop_at taken behind (length taken) refl)) front;
+    kept_is = sym (length-append taken behind);
+  }
 
 -- ---- whatever follows
 

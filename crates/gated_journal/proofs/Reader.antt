@@ -1,5 +1,5 @@
 -- A reader with one piece more, and what it tells.
-use Rattle.std.proofs.Common.{◌≡◌, ℕ, ◌+◌, ◌≤◌, List, ◌++◌, length, take, drop, refl, sym, ◌∙◌, ap, subst, arith, append_assoc, length-append, length-take, take-append-drop}
+use Rattle.std.proofs.Common.{◌≡◌, ℕ, ◌+◌, ◌≤◌, List, [], ◌++◌, length, take, drop, sym, ◌∙◌, ap, subst, arith, append_assoc, length-append, length-take, take-append-drop}
 use Rattle.ring_records.specs.declared.input.Input.{Input}
 use Rattle.gated_journal.specs.Found.{IsFound, Holds, IsWaiting, IsOpen, AreAlike, IsReader}
 use Rattle.gated_journal.specs.Pieces.{IsAreaDamaged}
@@ -48,6 +48,7 @@ reader_closed layout found rest bytes piece closed r = record {
   holds = closed_found layout found.snapshot.n found.stage found.snapshot.taken found.inputs.items r.taken r.behind piece closed r.holds;
   waits = closed_waits found.stage r.behind piece closed;
   rest_is = λ going. absurd (closed going);
+  none = r.none;
 }
 
 -- what one alike to it holds
@@ -67,12 +68,14 @@ reader_alike layout found other rest kept bytes a same r = record {
   holds = alike_holds layout found other r.taken r.behind a r.holds;
   waits = subst (λ (s : Stage). IsWaiting s r.behind) (sym a.stage) r.waits;
   rest_is = λ going. r.rest_is (subst IsOpen a.stage going) ∙ sym same;
+  none = λ closed. same ∙ r.none (λ going. closed (subst IsOpen (sym a.stage) going));
 }
 
 -- the bytes of the rest and of the piece were taken up to here
-pub reader_more : (layout size : ℕ) (found now : Found) (rest bytes piece : List ℕ) → IsOpen found.stage → (r : IsReader layout found rest bytes) → size ≤ length (rest ++ piece) → now.at ≡ found.at + size
-    → Holds layout now (r.taken ++ take size (rest ++ piece)) (drop size (rest ++ piece)) → IsWaiting now.stage (drop size (rest ++ piece)) → IsReader layout now (drop size (rest ++ piece)) (bytes ++ piece)
-reader_more layout size found now rest bytes piece going r fits at holds waits =
+pub reader_more : (layout size : ℕ) (found now : Found) (rest bytes piece left : List ℕ) → IsOpen found.stage → (r : IsReader layout found rest bytes) → size ≤ length (rest ++ piece) → now.at ≡ found.at + size
+    → Holds layout now (r.taken ++ take size (rest ++ piece)) (drop size (rest ++ piece)) → IsWaiting now.stage (drop size (rest ++ piece)) → (IsOpen now.stage → left ≡ drop size (rest ++ piece)) → ((IsOpen now.stage → ⊥) → left ≡ [])
+    → IsReader layout now left (bytes ++ piece)
+reader_more layout size found now rest bytes piece left going r fits at holds waits kept none =
     let all : List ℕ = rest ++ piece in
     record {
       taken = r.taken ++ take size all;
@@ -82,5 +85,6 @@ reader_more layout size found now rest bytes piece going r fits at holds waits =
       at = omega (arith, at, r.at, length-append r.taken (take size all), length-take size all, fits);
       holds = holds;
       waits = waits;
-      rest_is = λ still. refl;
+      rest_is = λ still. sym (kept still);
+      none = none;
     }

@@ -1,18 +1,39 @@
 -- Frames whose bytes are not all there yet.
-use Rattle.std.proofs.Common.{◌≡◌, ⊎_elim, ℕ, ◌+◌, ◌*◌, ◌<◌, ◌≤◌, List, [], ◌∷◌, ◌++◌, length, get_or, arith}
+use Rattle.std.proofs.Common.{◌≡◌, inl, inr, ⊎_elim, ℕ, ◌+◌, ◌*◌, ◌<◌, ◌≤◌, List, [], ◌∷◌, ◌++◌, length, drop, get_or, ap, arith, length-drop}
 use Rattle.std.specs.Int.{w16, w32, from_be_bytes}
 use Rattle.std.proofs.lemmas.Bool.{cases_lt}
 use Rattle.std.proofs.lemmas.List.{get_or_append_left}
 use Rattle.gated_journal.specs.Damage.{NoFrame}
 use Rattle.gated_journal.specs.Frames.{records, body}
-use Rattle.gated_journal.specs.Pieces.{IsEnough}
+use Rattle.gated_journal.specs.Pieces.{IsFrameFront, IsNextFront, IsAreaFront, IsEnough}
+use Rattle.gated_journal.proofs.Pieces.{NoFramed}
 use Rattle.gated_journal.proofs.Heads.{count_at, size_at, shows, records-short}
 
-pub headless : (tail : List ℕ) → length tail < 6 → NoFrame tail
+headless : (tail : List ℕ) → length tail < 6 → NoFrame tail
 headless tail short batch rest is e = let s = shows tail batch rest is e in omega (arith, short, s.long)
 
-pub too_short : (tail : List ℕ) → length tail < 6 + size_at tail → NoFrame tail
+too_short : (tail : List ℕ) → length tail < 6 + size_at tail → NoFrame tail
 too_short tail short batch rest is e = let s = shows tail batch rest is e in omega (arith, short, s.long, s.size)
+
+-- no frame is whole of which this is the front
+pub no_frame : (tail : List ℕ) → IsFrameFront tail → NoFrame tail
+no_frame tail (inl short) = headless tail short
+no_frame tail (inr front) = too_short tail (omega (arith, front.1.1))
+
+pub no_framed : (behind : List ℕ) → IsNextFront behind → NoFramed behind
+no_framed behind (inl none) = inl none
+no_framed behind (inr front) = inr (front.0, (front.1.0, no_frame front.0 front.1.1))
+
+-- the front that is kept has 2,246 bytes at most: a gate, two numbers, and all but one byte of 64 records
+pub few_kept : (layout n : ℕ) (bytes : List ℕ) (kept : ℕ) → IsAreaFront layout n bytes kept → kept ≤ 2246
+few_kept layout n bytes kept (inl head) = omega (arith, head.0, head.1)
+few_kept layout n bytes kept (inr (inl snapshot)) = omega (arith, snapshot.few)
+few_kept layout n bytes kept (inr (inr frames)) = omega (arith, frames.kept_is, length-drop frames.gate_at bytes, short (drop frames.gate_at bytes) frames.front)
+  where
+    short : (behind : List ℕ) → IsNextFront behind → length behind ≤ 2246
+    short behind (inl none) = omega (arith, ap length none)
+    short behind (inr (tail, (is, inl headless))) = omega (arith, ap length is, headless)
+    short behind (inr (tail, (is, inr front))) = omega (arith, ap length is, front.0, front.1.0, front.1.1)
 
 module _ (tail more : List ℕ) (long : 6 ≤ length tail) where
   byte : (i : ℕ) → i < 6 → get_or (tail ++ more) i 0 ≡ get_or tail i 0

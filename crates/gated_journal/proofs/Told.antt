@@ -1,17 +1,18 @@
 -- What is told of the bytes that were fed so far.
-use Rattle.std.proofs.Common.{◌≡◌, ℕ, ◌+◌, ◌≤◌, ◌<◌, List, [], ◌++◌, length, Result, Ok, Err, IfErr, refl, sym, ap, subst, arith, append-nil, length-append}
+use Rattle.std.proofs.Common.{◌≡◌, inl, inr, ℕ, ◌+◌, ◌≤◌, ◌<◌, List, [], ◌++◌, length, Result, Ok, Err, IfErr, refl, sym, ap, subst, arith, append-nil, length-append}
 use Rattle.ring_records.specs.declared.input.Input.{Input}
 use Rattle.ring_records.specs.declared.refusal.Refusal.{Refusal}
 use Rattle.ring_records.specs.declared.refusal.Refusal.TheVariants as refused
 use Rattle.ring_records.specs.declared.summary.Summary.{Summary}
 use Rattle.ring_records.specs.Snapshot.{Spells}
 use Rattle.gated_journal.specs.Found.{InFrames, IsFound, IsWaiting, IsOpen, IsReader, answer_of}
-use Rattle.gated_journal.specs.Pieces.{IsAreaRead, IsAreaDamaged}
+use Rattle.gated_journal.specs.Pieces.{IsAreaRead, IsAreaDamaged, IsAreaFront}
 use Rattle.gated_journal.specs.declared.area_reader.Fed.TheVariants as fed
 use Rattle.gated_journal.specs.declared.found.Found.{Found}
 use Rattle.gated_journal.specs.declared.found.Stage.{Stage}
 use Rattle.gated_journal.specs.declared.found.Stage.TheVariants.{Head, Snapshot, Frames, Done, Damaged}
-use Rattle.gated_journal.proofs.Pieces.{head_missing, too_short, not_framed, more_frames, not_both}
+use Rattle.gated_journal.proofs.Pieces.{head_missing, too_short, snapshot_front, not_framed, frames_front, more_frames, not_both}
+use Rattle.gated_journal.proofs.Shorts.{no_framed, few_kept}
 
 -- ---- what each answer says of the stage
 
@@ -21,6 +22,13 @@ is_more offset (Snapshot left) e = tt
 is_more offset Frames e = tt
 is_more offset Done e = absurd cc
 is_more offset (Damaged at) e = absurd cc
+
+pub is_open : (offset : ℕ) (stage : Stage) → IsOpen stage → answer_of offset stage ≡ Ok fed.More
+is_open offset Head going = refl
+is_open offset (Snapshot left) going = refl
+is_open offset Frames going = refl
+is_open offset Done going = absurd going
+is_open offset (Damaged at) going = absurd going
 
 pub is_done : (offset : ℕ) (stage : Stage) → answer_of offset stage ≡ Ok fed.Done → stage ≡ Done
 is_done offset Head e = absurd cc
@@ -43,6 +51,16 @@ not_memory offset stage e = let is = (is_damaged offset stage refused.OutOfMemor
 pub each_err : {T E : Type 0} (r : Result T E) (P : E → Type 0) → ((e : E) → r ≡ Err e → P e) → IfErr r P
 each_err (Ok x) P each = tt
 each_err (Err e) P each = each e refl
+
+-- ---- while something stands next
+
+front_of : (layout n : ℕ) (stage : Stage) (snapshot : List ℕ) (inputs : List Input) (taken behind : List ℕ) → IsOpen stage → IsFound layout n stage snapshot inputs taken behind → IsWaiting stage behind
+    → IsAreaFront layout n (taken ++ behind) (length behind)
+front_of layout n Head snapshot inputs taken behind going f waits = inl (omega (arith, waits, ap length f.0, length-append taken behind), omega (arith, ap length f.0, length-append taken behind))
+front_of layout n (Snapshot left) snapshot inputs taken behind going f waits = inr (inl (snapshot_front layout n snapshot taken behind left f.0 waits.0 waits.1))
+front_of layout n Frames snapshot inputs taken behind going f waits = inr (inr (frames_front layout n snapshot taken behind inputs f waits))
+front_of layout n Done snapshot inputs taken behind going f waits = absurd going
+front_of layout n (Damaged at) snapshot inputs taken behind going f waits = absurd going
 
 -- ---- the whole area
 
@@ -94,14 +112,14 @@ module _ (layout : ℕ) (found : Found) (rest bytes : List ℕ) (r : IsReader la
   pub snapshot_damaged : (left : ℕ) → found.stage ≡ Snapshot left → IsAreaDamaged layout found.snapshot.n bytes 0
   snapshot_damaged left is =
       let held = subst (λ (s : Stage). IsFound layout found.snapshot.n s found.snapshot.taken found.inputs.items r.taken r.behind) is r.holds in
-      let waits : length r.behind < left = subst (λ (s : Stage). IsWaiting s r.behind) is r.waits in
-      whole_is 0 (too_short layout found.snapshot.n found.snapshot.taken r.taken r.behind left held.0 waits)
+      let waits = subst (λ (s : Stage). IsWaiting s r.behind) is r.waits in
+      whole_is 0 (too_short layout found.snapshot.n found.snapshot.taken r.taken r.behind left held.0 waits.0)
 
   pub frames_damaged : found.stage ≡ Frames → IsAreaDamaged layout found.snapshot.n bytes found.at
   frames_damaged is =
       let held = subst (λ (s : Stage). IsFound layout found.snapshot.n s found.snapshot.taken found.inputs.items r.taken r.behind) is r.holds in
       let waits = subst (λ (s : Stage). IsWaiting s r.behind) is r.waits in
-      subst (λ (k : ℕ). IsAreaDamaged layout found.snapshot.n bytes k) (sym r.at) (whole_is (length r.taken) (not_framed layout found.snapshot.n found.snapshot.taken r.taken r.behind found.inputs.items held waits))
+      subst (λ (k : ℕ). IsAreaDamaged layout found.snapshot.n bytes k) (sym r.at) (whole_is (length r.taken) (not_framed layout found.snapshot.n found.snapshot.taken r.taken r.behind found.inputs.items held (no_framed r.behind waits)))
 
   -- while something stands next they are no whole area
   open_damaged : (stage : Stage) → found.stage ≡ stage → IsOpen stage → (at : ℕ) × IsAreaDamaged layout found.snapshot.n bytes at
@@ -114,6 +132,23 @@ module _ (layout : ℕ) (found : Found) (rest bytes : List ℕ) (r : IsReader la
   pub not_whole : IsOpen found.stage → (s : Summary) (inputs : List Input) (gate_at : ℕ) → IsAreaRead layout found.snapshot.n bytes s inputs gate_at → ⊥
   not_whole going s inputs gate_at read = let d = open_damaged found.stage refl going in not_both layout found.snapshot.n bytes s inputs gate_at d.0 read d.1
 
+  -- and the front of one, of which the rest is kept
+  pub area_front : IsOpen found.stage → IsAreaFront layout found.snapshot.n bytes (length rest)
+  area_front going =
+      subst (λ (l : List ℕ). IsAreaFront layout found.snapshot.n l (length rest)) (sym r.whole)
+      (subst (λ (l : List ℕ). IsAreaFront layout found.snapshot.n (r.taken ++ r.behind) (length l)) (r.rest_is going)
+      (front_of layout found.snapshot.n found.stage found.snapshot.taken found.inputs.items r.taken r.behind going r.holds r.waits))
+
+  pub rest_few : length rest ≤ 2246
+  rest_few = few found.stage refl
+    where
+      few : (stage : Stage) → found.stage ≡ stage → length rest ≤ 2246
+      few Head is = few_kept layout found.snapshot.n bytes (length rest) (area_front (subst IsOpen (sym is) tt))
+      few (Snapshot left) is = few_kept layout found.snapshot.n bytes (length rest) (area_front (subst IsOpen (sym is) tt))
+      few Frames is = few_kept layout found.snapshot.n bytes (length rest) (area_front (subst IsOpen (sym is) tt))
+      few Done is = omega (arith, ap length (r.none (λ going. subst IsOpen is going)))
+      few (Damaged at) is = omega (arith, ap length (r.none (λ going. subst IsOpen is going)))
+
 -- ---- a new reader
 
 pub new_reader : (layout : ℕ) (found : Found) → found.stage ≡ Head → found.snapshot.taken ≡ [] → found.inputs.items ≡ [] → found.at ≡ 0 → IsReader layout found [] []
@@ -125,4 +160,5 @@ new_reader layout found stage snapshot inputs at = record {
   holds = subst (λ (s : Stage). IsFound layout found.snapshot.n s found.snapshot.taken found.inputs.items [] []) (sym stage) (refl, (snapshot, inputs));
   waits = subst (λ (s : Stage). IsWaiting s []) (sym stage) (omega arith);
   rest_is = λ going. refl;
+  none = λ closed. refl;
 }

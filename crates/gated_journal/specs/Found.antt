@@ -1,5 +1,5 @@
 -- What the parts of the reader of an area have found of it, with the bytes that were taken and those behind them.
-use Rattle.std.specs.Prelude.{◌≡◌, ◌≢◌, ◌⊎◌, ◌+◌, ◌-◌, ◌*◌, ◌^◌, ◌<◌, ◌≤◌, ℕ, List, [], ◌∷◌, ◌++◌, length, slice_index, vec_len, vec_capacity, Result, Ok, Err}
+use Rattle.std.specs.Prelude.{◌≡◌, ◌≢◌, ◌+◌, ◌-◌, ◌*◌, ◌^◌, ◌<◌, ◌≤◌, ℕ, List, [], ◌∷◌, ◌++◌, length, slice_index, vec_len, vec_capacity, Result, Ok, Err}
 use Rattle.ring_records.specs.declared.input.Input.{Input}
 use Rattle.ring_records.specs.declared.refusal.Refusal.{Refusal}
 use Rattle.ring_records.specs.declared.refusal.Refusal.TheVariants as refused
@@ -7,9 +7,8 @@ use Rattle.ring_records.specs.declared.summary.Summary.{Summary}
 use Rattle.ring_records.specs.Admission.{newest}
 use Rattle.ring_records.specs.Snapshot.{Spells}
 use Rattle.gated_journal.specs.Areas.{layout_at, epoch_at, size_at}
-use Rattle.gated_journal.specs.Damage.{NoFrame}
 use Rattle.gated_journal.specs.Frames.{frames, joined, AreBatches}
-use Rattle.gated_journal.specs.Pieces.{IsAreaDamaged}
+use Rattle.gated_journal.specs.Pieces.{IsAreaDamaged, IsNextFront}
 use Rattle.gated_journal.specs.declared.area_reader.Fed.{Fed}
 use Rattle.gated_journal.specs.declared.area_reader.Fed.TheVariants as fed
 use Rattle.gated_journal.specs.declared.found.Found.{Found}
@@ -64,14 +63,10 @@ Holds layout found taken behind = IsFound layout found.snapshot.n found.stage fo
 
 -- ---- when more bytes are needed
 
--- the bytes end, or a gate is open and no frame is behind it
-abbrev pub NoFramed : List ℕ → Type 0
-NoFramed behind = (behind ≡ []) ⊎ ((tail : List ℕ) × ((behind ≡ 1 ∷ tail) × NoFrame tail))
-
 abbrev pub IsWaiting : Stage → List ℕ → Type 0
 IsWaiting Head behind = length behind < 14
-IsWaiting (Snapshot left) behind = length behind < left
-IsWaiting Frames behind = NoFramed behind
+IsWaiting (Snapshot left) behind = (length behind < left) × (length behind < 38)
+IsWaiting Frames behind = IsNextFront behind
 IsWaiting Done behind = Unit {0}
 IsWaiting (Damaged at) behind = Unit {0}
 
@@ -120,7 +115,7 @@ pub record AreAlike (found other : Found) : Type 0 where
 -- ---- the whole reader
 
 -- What a reader keeps, and the bytes that were fed: those that were taken, and those behind them, which are kept while
--- something stands next.
+-- something stands next. Else none are.
 pub record IsReader (layout : ℕ) (found : Found) (rest bytes : List ℕ) : Type 0 where
   pub taken : List ℕ
   pub behind : List ℕ
@@ -129,3 +124,4 @@ pub record IsReader (layout : ℕ) (found : Found) (rest bytes : List ℕ) : Typ
   pub holds : Holds layout found taken behind
   pub waits : IsWaiting found.stage behind
   pub rest_is : IsOpen found.stage → behind ≡ rest
+  pub none : (IsOpen found.stage → ⊥) → rest ≡ []

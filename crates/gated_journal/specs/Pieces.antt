@@ -1,14 +1,15 @@
 -- An area whose bytes come in pieces. Offsets count from its gate, the first of them.
-use Rattle.std.specs.Prelude.{◌≡◌, ◌≢◌, ◌⊎◌, ◌+◌, ◌≤◌, ℕ, List, [], ◌++◌, length, slice_index, Result}
+use Rattle.std.specs.Prelude.{◌≡◌, ◌≢◌, ◌⊎◌, ◌+◌, ◌*◌, ◌^◌, ◌<◌, ◌≤◌, ℕ, List, [], ◌∷◌, ◌++◌, length, drop, slice_index, Result}
 use Rattle.ring_records.specs.declared.input.Input.{Input}
+use Rattle.ring_records.specs.declared.limits.TheConstants.{BATCH_INPUTS}
 use Rattle.ring_records.specs.declared.refusal.Refusal.{Refusal}
 use Rattle.ring_records.specs.declared.refusal.Refusal.TheVariants.{Damaged}
 use Rattle.ring_records.specs.declared.summary.Summary.{Summary}
 use Rattle.ring_records.specs.Admission.{newest}
-use Rattle.gated_journal.specs.Areas.{layout_at, epoch_at, frames_of, HasBase}
-use Rattle.gated_journal.specs.Damage.{IsDamagedAt, IsHeadBroken}
+use Rattle.gated_journal.specs.Areas.{head_len, layout_at, epoch_at, frames_of, HasBase}
+use Rattle.gated_journal.specs.Damage.{ReadsUpTo, IsDamagedAt, IsHeadBroken}
 use Rattle.gated_journal.specs.Frames.{body, IsBatch, ReadsTo}
-use Rattle.gated_journal.specs.Reading.{Reading}
+use Rattle.gated_journal.specs.Reading.{Reading, number_at}
 use Rattle.gated_journal.specs.declared.area_reader.Fed.{Fed}
 
 -- ---- what a reader shows
@@ -57,6 +58,44 @@ pub record IsPieceDamaged (p : Pieces) (piece : List ℕ) (refusal : Refusal) : 
   pub at : ℕ
   pub is : refusal ≡ Damaged (p.offset + at)
   pub damaged : (more : List ℕ) → IsAreaDamaged p.layout p.n ((p.bytes ++ piece) ++ more) at
+
+-- ---- while more is asked for
+
+-- The front of a frame, behind its gate: one of its two numbers is not there; or they are those of at most 64 inputs with
+-- at most 35 bytes each, and one of these bytes is not there.
+abbrev pub IsFrameFront : List ℕ → Type 0
+IsFrameFront tail = (length tail < 6) ⊎ ((number_at 2 0 tail ≤ BATCH_INPUTS) × ((number_at 4 2 tail ≤ 35 * number_at 2 0 tail) × (length tail < 6 + number_at 4 2 tail)))
+
+-- no byte, or an open gate and the front of a frame
+abbrev pub IsNextFront : List ℕ → Type 0
+IsNextFront behind = (behind ≡ []) ⊎ ((tail : List ℕ) × ((behind ≡ 1 ∷ tail) × IsFrameFront tail))
+
+-- The head of an area of this layout is there, and not all of its snapshot, of which at most 37 bytes are kept.
+pub record IsSnapshotFront (layout : ℕ) (bytes : List ℕ) (kept : ℕ) : Type 0 where
+  pub gate : slice_index bytes 0 ≡ 1
+  pub layout_is : layout_at 0 bytes ≡ layout
+  pub known : layout ≡ newest
+  pub small : epoch_at 0 bytes < 2 ^ 40
+  pub ends : length bytes < frames_of 0 bytes
+  pub there : head_len + kept ≤ length bytes
+  pub few : kept ≤ 37
+
+-- The head, the snapshot and whole frames are there. Behind them stand the bytes that are kept: none, or the front of a
+-- frame with its gate.
+pub record AreFramesFront (layout n : ℕ) (bytes : List ℕ) (kept : ℕ) : Type 0 where
+  pub base_of : Summary
+  pub inputs : List Input
+  pub gate_at : ℕ
+  pub gate : slice_index bytes 0 ≡ 1
+  pub base : HasBase n 0 bytes (reading_with layout bytes base_of inputs) (frames_of 0 bytes)
+  pub frames : ReadsUpTo (frames_of 0 bytes) bytes inputs gate_at
+  pub front : IsNextFront (drop gate_at bytes)
+  pub kept_is : gate_at + kept ≡ length bytes
+
+-- The bytes are the front of such an area, as far as they were judged: all but the last of them, so many, which are kept
+-- until the part that they begin is whole.
+abbrev pub IsAreaFront : ℕ → ℕ → List ℕ → ℕ → Type 0
+IsAreaFront layout n bytes kept = ((length bytes < head_len) × (kept ≡ length bytes)) ⊎ (IsSnapshotFront layout bytes kept ⊎ AreFramesFront layout n bytes kept)
 
 -- ---- what the parts of the reader find
 

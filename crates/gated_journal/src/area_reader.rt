@@ -1,5 +1,5 @@
 //! Reads an area whose bytes come in pieces.
-ghost use Rattle.std.specs.Prelude.{◌≡◌, ◌≢◌, ◌+◌, ◌++◌, ◌⊎◌, ◌<◌, ◌^◌, ℕ, List, [], length, Ok, Err, IfOk, IfErr, IsOk};
+ghost use Rattle.std.specs.Prelude.{◌≡◌, ◌≢◌, ◌+◌, ◌++◌, ◌⊎◌, ◌<◌, ◌≤◌, ◌^◌, ℕ, List, [], length, Ok, Err, IfOk, IfErr, IsOk};
 ghost use Rattle.ring_records.specs.declared.input.Input.{Input};
 ghost use Rattle.ring_records.specs.declared.refusal.Refusal.{Refusal};
 ghost use Rattle.ring_records.specs.declared.refusal.Refusal.TheVariants.{Damaged, OutOfMemory};
@@ -52,7 +52,7 @@ impl Model for AreaReader {
 }
 
 impl AreaReader {
-    ghost use Rattle.gated_journal.specs.Pieces.{with_piece, IsAreaRead, IsAreaDamaged, IsPieceDamaged};
+    ghost use Rattle.gated_journal.specs.Pieces.{with_piece, IsAreaRead, IsAreaDamaged, IsPieceDamaged, IsAreaFront};
 
     /// A reader of the area of this layout whose gate stands at `offset` in its device, for a ring of `n` nodes.
     pub fn new(alloc: Global, offset: u64, layout: u8, n: u8) -> AreaReader
@@ -82,6 +82,10 @@ impl AreaReader {
         ensures done { result ≡ Ok Fed.Done
             → (s : Summary) × ((inputs : List Input) × ((gate_at : ℕ) × ((more : List ℕ) → IsAreaRead self.new.layout self.new.n (self.new.bytes ++ more) s inputs gate_at))) }
         ensures damaged { IfErr result (λ e. (e ≡ OutOfMemory) ⊎ IsPieceDamaged self.old piece.now e) }
+
+        // And they are the front of one: it is refused as soon as the head that is there is none of this layout, or a frame
+        // claims more than 64 inputs, or more than 35 bytes for each.
+        ensures front { result ≡ Ok Fed.More → (kept : ℕ) × IsAreaFront self.new.layout self.new.n self.new.bytes kept }
     {
         match read_on(&mut self.found, self.layout, &mut self.rest, piece) {
             Ok(()) => {
@@ -90,6 +94,16 @@ impl AreaReader {
             }
             Err(_) => Err(Refusal::OutOfMemory),
         }
+    }
+
+    /// How many bytes it keeps, since they are not judged yet: the head's, while that is not whole; of a snapshot 37 at most;
+    /// behind that those of the next frame with its gate, 2,246 at most. None once it is done or has refused.
+    pub fn kept_len(&self) -> usize
+        ensures front { self.now.answer ≡ Ok Fed.More → IsAreaFront self.now.layout self.now.n self.now.bytes result }
+        ensures none { self.now.answer ≢ Ok Fed.More → result ≡ 0 }
+        ensures few { result ≤ 2246 }
+    {
+        self.rest.len()
     }
 
     /// What was read: the summary, the inputs behind it, and the offset of the closed gate in the device. Refused as 16

@@ -4,13 +4,13 @@ ghost use Rattle.ring_records.specs.declared.input.Input.{Input};
 ghost use Rattle.gated_journal.specs.Frames.{records, HaveRecords};
 ghost use Rattle.gated_journal.specs.NextFrame.{HasHead, TakesRecords, TakesFrame};
 ghost use Rattle.gated_journal.specs.Damage.{NoFrame};
-ghost use Rattle.gated_journal.specs.Pieces.{IsEnough};
+ghost use Rattle.gated_journal.specs.Pieces.{IsFrameFront, IsEnough};
 
 use ring_records::{BATCH_INPUTS, Input, read_record};
 
-/// Whether bytes are missing of a frame that may stand at the head.
+/// Whether bytes are missing of a frame that may stand at the head, by its two numbers.
 pub(crate) fn is_short(tail: &[u8]) -> bool
-    ensures yes { result ≡ true → NoFrame tail.now }
+    ensures yes { result ≡ true → IsFrameFront tail.now }
     ensures no { result ≡ false → IsEnough tail.now }
 {
     if tail.len() < 6 {

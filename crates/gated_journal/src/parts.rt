@@ -96,8 +96,20 @@ fn read_open(
     make_room(found, rest.len() + piece.len())?;
     rest.extend_from_slice(piece)?;
     let taken = take_all(found, layout, rest);
-    drop_front(rest, taken);
+    keep_behind(found.stage, rest, taken);
     Ok(())
+}
+
+// Keeps the bytes behind those that were taken while something stands next, and then none.
+fn keep_behind(stage: Stage, bytes: &mut Vec<u8>, taken: usize)
+    requires { taken ≤ length bytes.old.items }
+    ensures kept { IsOpen stage → bytes.new.items ≡ drop taken bytes.old.items }
+    ensures none { (IsOpen stage → ⊥) → bytes.new.items ≡ [] }
+{
+    match stage {
+        Stage::Head | Stage::Snapshot(_) | Stage::Frames => drop_front(bytes, taken),
+        Stage::Done | Stage::Damaged(_) => bytes.clear(),
+    }
 }
 
 fn drop_front(bytes: &mut Vec<u8>, count: usize)

@@ -1,29 +1,58 @@
-// An area that is read in pieces: one answer, however its bytes are cut. And devices that fail at a piece.
-ghost use Rattle.std.specs.Prelude.{◌+◌, ◌<◌, ◌^◌, length};
+// An area that is read in pieces: one answer, however its bytes are cut, when it is told, and what is kept until then. And
+// devices that fail at a piece.
+ghost use Rattle.std.specs.Prelude.{◌≡◌, ◌+◌, ◌<◌, ◌≤◌, ◌^◌, length};
 
+use super::Verdict::Reads;
 use super::images::{ONE_AREA, Row, TWO_AREAS};
 use super::*;
-use gated_journal::AreaReader;
+use gated_journal::{AreaReader, Fed};
 use ring_records::Refusal::Damaged;
 
 /// How many inputs are read of an area, those that are summarised among them, and the offset of the closed gate.
 type Answer = Result<(u64, u64), Refusal>;
 
-/// What is read of the area whose gate stands at this offset, in pieces of these lengths in turn. All bytes are fed, also
-/// behind a closed gate or behind what is damaged.
-fn fed(alloc: Global, offset: u64, area: &[u8], lengths: &[usize]) -> Answer
+/// Whether it asks for more behind the next bytes: then it keeps 2,246 bytes at most, and else none.
+fn goes_on(rt: &impl Abort, reader: &mut AreaReader, piece: &[u8]) -> bool
+    requires room { reader.old.offset + (length reader.old.bytes + length piece.now) < 2 ^ 64 }
+    ensures offset { reader.new.offset ≡ reader.old.offset }
+    ensures size { length reader.new.bytes ≤ length reader.old.bytes + length piece.now }
+{
+    let told = reader.feed(piece);
+    assert!(rt; told != Err(Refusal::OutOfMemory));
+    let goes_on = told == Ok(Fed::More);
+    let most = if goes_on { 2246 } else { 0 };
+    assert!(rt; reader.kept_len() <= most);
+    goes_on
+}
+
+/// What is read of the area whose gate stands at this offset, in pieces of these lengths in turn, and behind how many of
+/// them it asked for more. All bytes are fed, also behind a closed gate or behind what is damaged.
+fn fed(
+    rt: &(impl Abort + AllocGlobal),
+    offset: u64,
+    area: &[u8],
+    lengths: &[usize],
+) -> (Answer, usize)
     requires room { offset + length area.now < 2 ^ 64 }
     requires some { 0 < length lengths.now }
 {
-    let mut reader = AreaReader::new(alloc, offset, 2, 3);
+    let mut reader = AreaReader::new(rt.alloc(), offset, 2, 3);
     let mut rest = area;
+    let mut asked = 0;
     for i in 0..area.len() {
         let there = lengths[i % lengths.len()].min(rest.len());
-        if reader.feed(&rest[..there]) == Err(Refusal::OutOfMemory) {
-            return Err(Refusal::OutOfMemory);
+        if goes_on(rt, &mut reader, &rest[..there]) {
+            asked = i + 1;
         }
         rest = &rest[there..];
     }
+    (read(reader), asked)
+}
+
+/// What was read by it.
+fn read(reader: AreaReader) -> Answer
+    requires { reader.offset + length reader.bytes < 2 ^ 64 }
+{
     let (base, inputs, gate_at) = reader.finish()?;
     Ok((base.inputs.saturating_add(inputs.len() as u64), gate_at))
 }
@@ -31,8 +60,75 @@ fn fed(alloc: Global, offset: u64, area: &[u8], lengths: &[usize]) -> Answer
 #[test]
 fn one_commit_in_pieces(rt: HostRuntime) {
     for size in [1, 2, 73] {
-        let area = fed(rt.alloc(), 16, &COMMITTED[16..], &[size]);
+        let (area, _) = fed(&rt, 16, &COMMITTED[16..], &[size]);
         assert_eq!(rt; area, Ok((1, 88)), "{size}");
+    }
+}
+
+/// Changes of area A of row `one_commit` with sevens behind it, behind how many of its bytes more is asked for, and what is
+/// told behind the next one.
+static TOLD: [(&[(u64, u8)], usize, Verdict); 17] = [
+    (&[], 72, Reads(1, 1)),
+    // A closed gate, another layout, an epoch that is too great: once the 14 bytes of the head are there.
+    (&[(16, 0)], 13, Verdict::Damaged(16)),
+    (&[(17, 3)], 13, Verdict::Damaged(16)),
+    (&[(20, 1)], 13, Verdict::Damaged(16)),
+    // A snapshot of 0 and of 37 bytes, and one of 4 GB, once 38 bytes behind the counts are no part of it.
+    (&[(29, 0)], 13, Verdict::Damaged(16)),
+    (&[(29, 37)], 50, Verdict::Damaged(16)),
+    (&[(26, 255)], 89, Verdict::Damaged(16)),
+    // More credited than sent, and a Take among no inputs, once the counts are there.
+    (&[(53, 1)], 51, Verdict::Damaged(16)),
+    (&[(45, 1)], 51, Verdict::Damaged(16)),
+    // Frames of 0, 65 and 257 inputs, and an input of 36 bytes and of 4 GB, once both numbers are there.
+    (&[(70, 0)], 58, Verdict::Damaged(68)),
+    (&[(70, 65)], 58, Verdict::Damaged(68)),
+    (&[(69, 1)], 58, Verdict::Damaged(68)),
+    (&[(74, 36)], 58, Verdict::Damaged(68)),
+    (&[(71, 255)], 58, Verdict::Damaged(68)),
+    // One of 35 bytes and of 12, and another kind, once the records are there.
+    (&[(74, 35)], 93, Verdict::Damaged(68)),
+    (&[(74, 12)], 70, Verdict::Damaged(68)),
+    (&[(75, 5)], 71, Verdict::Damaged(68)),
+];
+
+#[test]
+fn a_fault_is_told_once_it_is_there(rt: HostRuntime) {
+    for (changes, asked, verdict) in &TOLD {
+        let mut image = [7; 200];
+        image[..89].copy_from_slice(&COMMITTED);
+        change(&mut image, changes);
+        let (area, behind) = fed(&rt, 16, &image[16..], &[1]);
+        assert_eq!(rt; count(area), count(verdict.answer()));
+        assert_eq!(rt; behind, *asked);
+    }
+}
+
+/// How many bytes are kept of the first ones of an area, which are so many.
+fn kept_of(rt: &(impl Abort + AllocGlobal), area: &[u8], first: usize) -> usize
+    requires { 16 + length area.now < 2 ^ 64 }
+{
+    let mut reader = AreaReader::new(rt.alloc(), 16, 2, 3);
+    goes_on(rt, &mut reader, &area[..first.min(area.len())]);
+    reader.kept_len()
+}
+
+#[test]
+fn the_bytes_that_are_kept(rt: HostRuntime) {
+    // A head of 14 bytes, a snapshot of 38, a gate with a frame of 64 of the longest inputs, and a gate.
+    let mut device = with_longest(&rt, 6000, 1);
+    let mut image = [0; 2316];
+    assert!(rt; device.read_at(0, &mut image).is_ok());
+    for (first, kept) in [
+        (13, 13),
+        (14, 0),
+        (51, 37),
+        (52, 0),
+        (2298, 2246),
+        (2299, 0),
+        (2300, 0),
+    ] {
+        assert_eq!(rt; kept_of(&rt, &image[16..], first), kept);
     }
 }
 
@@ -40,16 +136,17 @@ fn one_commit_in_pieces(rt: HostRuntime) {
 fn in_pieces(rt: &(impl Abort + AllocGlobal), offset: u64, area: &[u8]) -> Answer
     requires { offset + length area.now < 2 ^ 64 }
 {
-    let whole = fed(rt.alloc(), offset, area, &[5000]);
+    let (whole, _) = fed(rt, offset, area, &[5000]);
     for size in [1, 2, 3, 7, 4096] {
-        assert_eq!(rt; fed(rt.alloc(), offset, area, &[size]), whole, "{size}");
+        let (cut, _) = fed(rt, offset, area, &[size]);
+        assert_eq!(rt; cut, whole, "{size}");
     }
     whole
 }
 
 /// Changes the bytes of an image, of which some may be behind its end.
-fn change(image: &mut [u8], row: &Row) {
-    for (at, byte) in row.0 {
+fn change(image: &mut [u8], changes: &[(u64, u8)]) {
+    for (at, byte) in changes {
         let at = *at as usize;
         if at < image.len() {
             image[at] = *byte;
@@ -68,7 +165,7 @@ fn count(answer: Answer) -> Result<u64, Refusal> {
 /// With these changes area A has one answer, which is the device's where they are all in it.
 fn one_area(rt: &(impl Abort + AllocGlobal), row: &Row) {
     let mut image = COMMITTED;
-    change(&mut image, row);
+    change(&mut image, row.0);
     let area = in_pieces(rt, 16, &image[16..]);
     if row.0.iter().all(|(at, _)| *at >= 16) {
         assert_eq!(rt; count(area), count(row.1.answer()));
@@ -80,7 +177,7 @@ fn two_areas(rt: &(impl Abort + AllocGlobal), row: &Row) {
     let mut image = [0; 4207];
     image[..89].copy_from_slice(&COMMITTED);
     image[4127..].copy_from_slice(&SECOND);
-    change(&mut image, row);
+    change(&mut image, row.0);
     let a = count(in_pieces(rt, 16, &image[16..]));
     let b = count(in_pieces(rt, AREA_B, &image[4127..]));
     let told = count(row.1.answer());
@@ -159,10 +256,11 @@ fn random_cuts_of_random_images(rt: HostRuntime) {
         let mut image = two_frames();
         random.change(&mut image);
         let area = &image[..116 - random.below(60)];
-        let whole = fed(rt.alloc(), AREA_B, area, &[116]);
+        let (whole, _) = fed(&rt, AREA_B, area, &[116]);
         for _ in 0..5 {
             let lengths = random.lengths();
-            assert_eq!(rt; fed(rt.alloc(), AREA_B, area, &lengths), whole);
+            let (cut, _) = fed(&rt, AREA_B, area, &lengths);
+            assert_eq!(rt; cut, whole);
         }
     }
 }

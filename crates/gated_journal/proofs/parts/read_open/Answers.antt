@@ -1,5 +1,5 @@
 use Rattle.std.proofs.Common.{◌≡◌, ◌++◌, ◌∙◌, List, ℕ, length, take, drop, refl, sym, ap, subst, arith}
-use Rattle.gated_journal.specs.Found.{Holds, IsWaiting, IsOpen, IsReader}
+use Rattle.gated_journal.specs.Found.{Holds, IsWaiting, IsOpen}
 use Rattle.gated_journal.proofs.Reader.{open_found, reader_alike, reader_more}
 use Rattle.gated_journal.proofs.parts.read_open.Goals as goal
 
@@ -19,6 +19,5 @@ returns-clause-reads c = λ bytes r.
     let holds : Holds layout now (before.taken ++ take size all) (drop size all) =
     subst (λ (l : List ℕ). Holds layout now (before.taken ++ take size l) (drop size l)) same (c.take_all-taken.ensures.holds before.taken before.at held) in
     let waits : IsWaiting now.stage (drop size all) = subst (λ (l : List ℕ). IsWaiting now.stage (drop size l)) same (c.take_all-taken.ensures.waits before.taken before.at held) in
-    let left : c.drop_front.new.bytes.items ≡ drop size all = c.drop_front.ensures ∙ ap (λ (l : List ℕ). drop size l) c.in_ok-extend_from_slice.ensures.items in
-    subst (λ (l : List ℕ). IsReader layout now l (bytes ++ c.args.piece.now)) (sym left)
-    (reader_more layout size found now rest bytes c.args.piece.now going before (omega (arith, c.take_all-taken.ensures.size, ap length same)) c.take_all-taken.ensures.at holds waits)
+    let kept : IsOpen now.stage → c.keep_behind.new.bytes.items ≡ drop size all = λ still. c.keep_behind.ensures.kept still ∙ ap (λ (l : List ℕ). drop size l) c.in_ok-extend_from_slice.ensures.items in
+    reader_more layout size found now rest bytes c.args.piece.now c.keep_behind.new.bytes.items going before (omega (arith, c.take_all-taken.ensures.size, ap length same)) c.take_all-taken.ensures.at holds waits kept c.keep_behind.ensures.none

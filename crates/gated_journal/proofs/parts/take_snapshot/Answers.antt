@@ -9,7 +9,7 @@ returns-then-bytes-least-clause-holds c = λ layout taken s some.
     unmoved layout c.args.snapshot.now.n (Snapshot c.args.left) c.args.snapshot.now.taken [] taken c.args.bytes.now (s, (some, refl))
 
 pub returns-then-bytes-least-clause-waits : goal.returns-then-bytes-least-clause-waits
-returns-then-bytes-least-clause-waits c = λ some e. omega (arith, c.if-bytes-least.true, c.min-least.ensures)
+returns-then-bytes-least-clause-waits c = λ some e. (omega (arith, c.if-bytes-least.true, c.min-least.ensures), omega (arith, c.if-bytes-least.true, c.min-least.ensures))
 
 pub returns-in-Some-clause-holds : goal.returns-in-Some-clause-holds
 returns-in-Some-clause-holds c = λ layout taken s some.

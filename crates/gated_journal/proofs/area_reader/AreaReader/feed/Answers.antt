@@ -2,7 +2,7 @@ use Rattle.std.proofs.Common.{◌≡◌, ◌++◌, ℕ, List, length, inr, sym, 
 use Rattle.gated_journal.specs.declared.joined.Joined.{Joined}
 use Rattle.gated_journal.specs.Found.{IsReader}
 use Rattle.gated_journal.specs.Pieces.{Pieces, IsAreaDamaged, IsPieceDamaged}
-use Rattle.gated_journal.proofs.Told.{is_more, is_done, is_damaged, not_memory, each_err, done_read, done_base, for_good, low, not_whole}
+use Rattle.gated_journal.proofs.Told.{is_more, is_done, is_damaged, not_memory, each_err, done_read, done_base, for_good, low, not_whole, area_front}
 use Rattle.gated_journal.proofs.area_reader.AreaReader.feed.Goals as goal
 
 pub told-requires : goal.told-requires
@@ -38,6 +38,17 @@ returns-in-Ok-clause-done c = λ e.
     let is = is_done r.offset found.stage (sym c.told.ensures ∙ e) in
     let base = done_base r.layout found rest all joined is in
     (base.0, (found.inputs.items, (found.at, λ more. done_read r.layout found rest all joined is base.0 base.1 more)))
+
+pub returns-in-Ok-clause-front : goal.returns-in-Ok-clause-front
+returns-in-Ok-clause-front c = λ e.
+    let r = c.self.inside in
+    let found = c.read_on.new.found in
+    let rest = c.read_on.new.rest.items in
+    let now = c.in-Ok.ensures.reads r.fed.bytes c.self.invariant in
+    let all = c.with_piece-self-inside.result.bytes in
+    let bytes : r.fed.bytes ++ c.args.piece.now ≡ all = sym (ap (λ (j : Joined). j.bytes) c.with_piece-self-inside.ensures) in
+    let joined = subst (λ (l : List ℕ). IsReader r.layout found rest l) bytes now in
+    (length rest, area_front r.layout found rest all joined (is_more r.offset found.stage (sym c.told.ensures ∙ e)))
 
 pub returns-in-Ok-clause-damaged : goal.returns-in-Ok-clause-damaged
 returns-in-Ok-clause-damaged c =
