@@ -83,8 +83,9 @@ fn lock(file: &fs::File) -> Result<(), OpenFault> {
     }
 }
 
-// Makes the entry of a new file in its folder outlive a stop.
-fn sync_folder<R: Files<File = fs::File>>(files: &R, path: &str) -> io::Result<()> {
+/// Makes the entry of a new file in its folder outlive a stop. Refused by what the system answers, also where the path has
+/// no folder before its last name.
+pub fn sync_folder<R: Files<File = fs::File>>(files: &R, path: &str) -> io::Result<()> {
     let folder = match Path::new(path).parent() {
         Some(folder) if folder.as_str() != "" => fs::File::open(files, folder)?,
         _ => fs::File::open(files, ".")?,

@@ -11,7 +11,7 @@ mod shadow;
 mod through;
 
 pub use device::{Device, DeviceFault};
-pub use file::{FILE_LIMIT, FileDevice, OpenFault};
+pub use file::{FILE_LIMIT, FileDevice, OpenFault, sync_folder};
 pub use fuse::FuseDevice;
 pub use memory::{MemDevice, Tear};
 pub use through::write_through;

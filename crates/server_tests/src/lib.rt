@@ -32,4 +32,6 @@ mod status;
 #[cfg(test)]
 mod steps;
 #[cfg(test)]
+mod unsynced;
+#[cfg(test)]
 mod visits;

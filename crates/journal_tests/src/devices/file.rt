@@ -1,6 +1,6 @@
 // Files of the system: what was written and synced is read back after the file is opened again; what is refused.
 use super::{Step, plays};
-use disk_model::{Device, FILE_LIMIT, FileDevice, OpenFault};
+use disk_model::{Device, FILE_LIMIT, FileDevice, OpenFault, sync_folder};
 use std::alloc::AllocGlobal;
 use std::fs;
 use std::process::Abort;
@@ -202,4 +202,25 @@ fn after_an_error_of_the_file_each_call_is_a_fault(rt: HostRuntime) {
             Step::Failed(4),
         ],
     );
+    // And each sync of it.
+    open(
+        &rt,
+        "/dev/full",
+        &[
+            Step::SyncFails,
+            Step::ReadFails(0, 0),
+            Step::WriteFails(0, b""),
+            Step::SyncFails,
+            Step::Failed(4),
+        ],
+    );
+}
+
+#[test]
+fn a_folder_that_is_not_synced_is_told(rt: HostRuntime) {
+    // The system syncs no file of the first name, and has no folder of the second.
+    for path in ["/dev/full/file.bin", "disk_model_no_folder/file.bin"] {
+        assert!(rt; sync_folder(&rt, path).is_err(), "{path}");
+    }
+    assert!(rt; sync_folder(&rt, "disk_model_any.bin").is_ok());
 }

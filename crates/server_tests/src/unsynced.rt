@@ -1,0 +1,29 @@
+// A folder whose sync the system refuses.
+use ring_server::{Answer, Folder, Place};
+use std::fs;
+use std::io::ErrorKind;
+use std::os::unix::fs::symlink;
+use std::test::*;
+
+const UNSYNCED: &str = "unsynced";
+
+#[test]
+fn a_sync_of_the_folder_that_fails_is_told(rt: HostRuntime) {
+    let _ = fs::remove_dir_all(&rt, UNSYNCED);
+    // The system syncs no folder of a process. Once it is open, another one stands at its path.
+    symlink(&rt, "/proc/self", UNSYNCED).expect(&rt, "a link that can be made");
+    let Ok(folder) = Folder::open(&rt, UNSYNCED) else {
+        panic!(rt; "a folder that can be opened");
+    };
+    fs::remove_file(&rt, UNSYNCED).expect(&rt, "a link that can be removed");
+    fs::create_dir(&rt, UNSYNCED).expect(&rt, "a folder that can be made");
+    let told = match folder.mark_made(&rt, rt.alloc()) {
+        Ok(()) => None,
+        Err(unopened) => unopened.told,
+    };
+    let invalid = Answer::Error(ErrorKind::InvalidInput);
+    assert_eq!(rt; told, Some((Place::Folder, invalid)));
+    // It failed as it was synced, and not before.
+    fs::remove_file(&rt, "unsynced/ring.made").expect(&rt, "a mark");
+    fs::remove_dir(&rt, UNSYNCED).expect(&rt, "an empty folder");
+}
