@@ -80,6 +80,7 @@ class Code:
         self.edits = {
             *((it.parts[-3], it.stem) for it in root.glob("crates/*/must-fail/*.edit")),
             *((it.parts[-2], it.stem) for it in root.glob("wrong_bodies/*/*.edit")),
+            *((it.parts[-2], it.stem) for it in root.glob("wrong_bodies/by_tests/*/*.edit")),
             *(("must_not_compile", it.stem) for it in root.glob("must_not_compile/*.edit")),
         }
 
