@@ -8,9 +8,10 @@
 # kills: bin/ringd is killed 100 times at random moments, started again, and held to all that it told.
 # short: bin/ringd under sessions of one Stand each, its memory, and elections right behind them.
 # threads: bin/ringd where the system grants too few threads; as root.
+# scrapes: bin/ringd asked for its health, beside 10,000 connections that ask nothing, silent ones and such with half a head.
 # load: bin/ringd under load; LOAD has further words of bench/load.py.
 .PHONY: run test wrong_bodies bench clean always
-.PHONY: ringd install serve fencing clients picture pictures kills load short threads
+.PHONY: ringd install serve fencing clients picture pictures kills load short threads scrapes
 
 run:
 	@bench/try.sh examples/first_election.ring
@@ -73,6 +74,10 @@ short: bin/ringd
 
 threads: bin/ringd
 	@trials/threads.py --ringd bin/ringd
+
+scrapes: bin/ringd
+	@trials/scrapes.py --ringd bin/ringd
+	@trials/scrapes.py --ringd bin/ringd --half
 
 load: bin/ringd
 	@bench/load.py --ringd bin/ringd $(LOAD)

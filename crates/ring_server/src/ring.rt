@@ -12,7 +12,6 @@ use ring_watch::StatusPort;
 use std::alloc::{AllocError, Global};
 use std::io::Write;
 use std::marker::Brand;
-use std::net::{Net, TcpStream};
 use std::sync::{Arc, Wait};
 use std::thread;
 use std::thread::{JoinHandle, Scope, Threads};
@@ -186,11 +185,10 @@ fn tell_end<O: Write, E: Write>(out: &mut O, err: &mut E, ends: Ends) -> u8 {
 /// holds, to `out`; that a node has failed or is full once it is, to `err`. Meanwhile it tells of the ring at the port of
 /// `status`, where there is one: the nodes have clerks then. With `fail_stop` it ends with the first node that fails, and
 /// leaves the threads of the ring to the end of the program. Refused where memory or a thread is wanting, or `out` does
-/// not take `serving`: nothing was served then, no thread of a node goes on, and none of the port beyond the client that
-/// it serves.
+/// not take `serving`: nothing was served then, and no thread of a node or of the port goes on.
 pub fn serve_ring<
     V: Device + Send + Drop + 'static,
-    R: Threads + Wait + Clock + Sync + Send + Copy + 'static + Net<Stream = TcpStream>,
+    R: Threads + Wait + Clock + Sync + Send + Copy + 'static,
     O: Write,
     E: Write,
 >(

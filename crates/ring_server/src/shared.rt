@@ -5,7 +5,6 @@ use crate::start_latch::StartLatch;
 use crate::watch::Watch;
 use ring_watch::{Reception, StatusPort};
 use std::alloc::Global;
-use std::net::{Net, TcpStream};
 use std::sync::{Arc, Wait};
 use std::thread::Threads;
 use std::time::Clock;
@@ -45,7 +44,7 @@ impl Shared {
     }
 
     /// Tells nothing more there.
-    pub(crate) fn end_status<R: Net<Stream = TcpStream>>(&self, rt: &R) {
+    pub(crate) fn end_status<R: Wait>(&self, rt: &R) {
         if let Some(status) = &self.status {
             status.end(rt);
         }

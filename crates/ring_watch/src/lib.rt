@@ -5,11 +5,13 @@
 #![tactic(auto)]
 
 mod exchange;
+mod lobby;
 mod pages;
 mod reception;
 mod status_port;
 mod tally;
 mod tally_writer;
+mod visitor;
 
 pub use reception::{Inquiry, Page, Reception};
 pub use status_port::{Facts, StatusPort};

@@ -1,17 +1,22 @@
 //! The port at which an operator is told of a ring.
 use crate::exchange::exchange;
+use crate::lobby::Lobby;
 use crate::reception::Reception;
-use client_stream::next_client;
+use libc::net::{SHUT_RDWR, listen, shutdown};
 use std::alloc::{AllocError, Global};
-use std::net::{Ipv4Addr, Net, TcpListener, TcpStream};
-use std::sync::atomic::{AtomicBool, Ordering};
-use std::sync::{Arc, Wait};
+use std::net::TcpListener;
+use std::os::fd::AsRawFd;
+use std::sync::atomic::{AtomicBool, AtomicUsize, Ordering};
+use std::sync::{Arc, Condvar, Mutex, Wait};
 use std::thread;
 use std::thread::Threads;
 use std::time::Clock;
 
-/// How many connections are served side by side.
-const CONNECTIONS: u32 = 8;
+/// How many clients are answered side by side, each in a thread.
+const THREADS: usize = 8;
+
+/// How many more may wait in the system's memory, as far as the system allows.
+const BACKLOG: i32 = 4_096;
 
 /// What is told of a ring beside its nodes.
 #[derive(Drop)]
@@ -24,11 +29,18 @@ pub struct Facts {
     pub started: u64,
 }
 
-/// The port at which an operator is told of a ring: one request a connection, eight connections side by side.
+/// The port at which an operator is told of a ring: one request a connection. One of its eight threads waits for all
+/// clients that have not asked yet, answers the first that asks, and leaves the others to the next thread.
 #[derive(Drop)]
 pub struct StatusPort {
     listener: TcpListener,
+    lobby: Mutex<Lobby>,
+    /// How many threads answer a client.
+    away: AtomicUsize,
     is_over: AtomicBool,
+    /// How many threads are not at their end, and whether one more is.
+    threads: Mutex<usize>,
+    ended: Condvar,
     pub(crate) facts: Facts,
     pub(crate) reception: Reception,
 }
@@ -38,7 +50,11 @@ impl StatusPort {
     pub fn new(listener: TcpListener, facts: Facts, reception: Reception) -> StatusPort {
         StatusPort {
             listener,
+            lobby: Mutex::new(Lobby::new()),
+            away: AtomicUsize::new(0),
             is_over: AtomicBool::new(false),
+            threads: Mutex::new(0),
+            ended: Condvar::new(),
             facts,
             reception,
         }
@@ -49,43 +65,68 @@ impl StatusPort {
         &self.reception
     }
 
+    /// Whether all threads answer a client, and none waits for the next one.
+    pub(crate) fn is_deserted(&self) -> bool {
+        self.away.load(Ordering::SeqCst) >= THREADS
+    }
+
     /// Serves, in threads of its own, until its end. `false` where one is wanting, or memory; the others are there.
     pub fn open<R: Threads + Wait + Clock + Send + Copy + 'static>(
         port: &Arc<StatusPort>,
         rt: &R,
         alloc: Global,
     ) -> Result<bool, AllocError> {
-        for _ in 0..CONNECTIONS {
-            let (own, port) = (*rt, Arc::try_clone(port)?);
-            if thread::spawn(rt, move || serve(&own, alloc, &port)).is_err() {
+        if port.listener.set_nonblocking(true).is_err() {
+            return Ok(false);
+        }
+        listen(port.listener.as_raw_fd(), BACKLOG);
+        for _ in 0..THREADS {
+            let (own, theirs) = (*rt, Arc::try_clone(port)?);
+            port.enter(rt);
+            if thread::spawn(rt, move || serve(&own, alloc, &theirs)).is_err() {
+                port.leave(rt);
                 return Ok(false);
             }
         }
         Ok(true)
     }
 
-    /// Has each thread end, once it has served its client. It is knocked at the port for each, since a thread that waits
-    /// for a client sees no sign; one that nobody can knock for ends with the program.
-    pub fn end<R: Net<Stream = TcpStream>>(&self, rt: &R) {
+    /// A thread begins.
+    fn enter<R: Wait>(&self, rt: &R) {
+        let mut threads = self.threads.lock(rt);
+        *threads = threads.saturating_add(1);
+    }
+
+    /// It is at its end.
+    fn leave<R: Wait>(&self, rt: &R) {
+        let mut threads = self.threads.lock(rt);
+        *threads = threads.saturating_sub(1);
+        self.ended.notify_all();
+    }
+
+    /// Ends, and waits for that: the port takes no client any more, those that have not asked are left, and each thread
+    /// ends once it has answered its client.
+    pub fn end<R: Wait>(&self, rt: &R) {
         self.is_over.store(true, Ordering::SeqCst);
-        let Ok(address) = self.listener.local_addr() else {
-            return;
-        };
-        for _ in 0..CONNECTIONS {
-            let _ = TcpStream::connect(rt, (Ipv4Addr::LOCALHOST, address.port()));
-        }
+        shutdown(self.listener.as_raw_fd(), SHUT_RDWR);
+        let threads = self.threads.lock(rt);
+        let _ended = self.ended.wait_while(rt, threads, |threads| *threads > 0);
     }
 }
 
 /// Serves one client after the other, until the end.
 fn serve<R: Wait + Clock>(rt: &R, alloc: Global, port: &StatusPort) {
     for _ in rt.forever() {
-        let Some(stream) = next_client(rt, &port.listener) else {
+        let next = port
+            .lobby
+            .lock(rt)
+            .next(rt, alloc, &port.listener, &port.is_over);
+        let Some(caller) = next else {
             break;
         };
-        if port.is_over.load(Ordering::SeqCst) {
-            break;
-        }
-        exchange(rt, alloc, port, &stream);
+        port.away.fetch_add(1, Ordering::SeqCst);
+        exchange(rt, alloc, port, caller);
+        port.away.fetch_sub(1, Ordering::SeqCst);
     }
+    port.leave(rt);
 }

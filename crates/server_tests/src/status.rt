@@ -13,7 +13,7 @@ use std::alloc::AllocGlobal;
 use std::io::{Read, Write};
 use std::net::{Net, TcpStream};
 use std::test::*;
-use std::time::Clock;
+use std::time::{Clock, Instant};
 
 const WELL: &[u8] =
     b"HTTP/1.1 200 OK\r\nContent-Type: text/plain; charset=utf-8\r\nContent-Length: 5\r\nCache-Control: no-store\r\nConnection: close\r\n\r\nwell\n";
@@ -218,30 +218,69 @@ fn is_left(stream: &TcpStream) -> bool {
     }
 }
 
-/// Whether one client is served beside seven that send half a head, and these are left then.
+const HALF_A_HEAD: &[u8] = b"GET /health HTTP/1.1\r\n";
+
+/// How many clients ask nothing, which is more than the port waits for.
+const SILENT: u32 = 100;
+
+/// Clients that ask nothing, of which each second one sends half a head.
+fn silent<R: Net<Stream = TcpStream> + Clock + AllocGlobal>(
+    rt: &R,
+    port: u16,
+) -> Option<Vec<TcpStream>> {
+    let mut silent = Vec::new(rt.alloc());
+    for number in 0..SILENT {
+        let stream = connect(rt, port)?;
+        if number % 2 == 0 {
+            let mut writer = &stream;
+            writer.write_all(HALF_A_HEAD).ok()?;
+        }
+        silent.push(stream).ok()?;
+    }
+    Some(silent)
+}
+
+/// How many milliseconds have passed since then.
+fn passed<R: Clock>(rt: &R, begun: Instant) -> u128 {
+    match begun.elapsed(rt) {
+        Ok(time) => time.as_millis(),
+        Err(_) => u128::MAX,
+    }
+}
+
+/// Whether a client is served within a second beside more that are silent than are waited for, and these are left.
 pub fn is_served_beside<R: Net<Stream = TcpStream> + Clock + AllocGlobal>(
     rt: &R,
     port: u16,
 ) -> bool {
-    let mut silent = Vec::new(rt.alloc());
-    for _ in 0..7 {
-        let Some(stream) = connect(rt, port) else {
-            return false;
-        };
-        let mut writer = &stream;
-        if writer.write_all(b"GET /health HTTP/1.1\r\n").is_err() {
-            return false;
-        }
-        if silent.push(stream).is_err() {
-            return false;
-        }
-    }
+    let (Some(silent), Ok(begun)) = (silent(rt, port), Instant::now(rt)) else {
+        return false;
+    };
     let served = is_whole(rt, port, b"GET /health HTTP/1.1\r\n\r\n", WELL);
+    let is_soon = passed(rt, begun) < 1_000;
     let mut left = true;
     for stream in &silent {
         left = is_left(stream) && left;
     }
-    served && left
+    served && is_soon && left
+}
+
+/// Whether a client that sends these bytes, and then nothing, is left after so many seconds and within one more.
+pub fn is_left_after<R: Net<Stream = TcpStream> + Clock>(
+    rt: &R,
+    port: u16,
+    bytes: &[u8],
+    seconds: u32,
+) -> bool {
+    let (Some(stream), Ok(begun)) = (connect(rt, port), Instant::now(rt)) else {
+        return false;
+    };
+    let mut writer = &stream;
+    let sent = writer.write_all(bytes).is_ok();
+    let left = is_left(&stream);
+    let passed = passed(rt, begun);
+    let due = 1_000 * u128::from(seconds);
+    sent && left && due - passed.min(due) < 100 && passed < due + 1_000
 }
 
 const UNASKED: Scenario = Scenario {
@@ -252,6 +291,8 @@ const UNASKED: Scenario = Scenario {
     visits: [
         &[
             Visit::IsBesideSilent(7240),
+            Visit::IsLeft(7240, b"", 1),
+            Visit::IsLeft(7240, HALF_A_HEAD, 2),
             Visit::Asks(7241, b"who blue 4\n", b"none"),
             Visit::Asks(7242, b"who blue 4\n", b"none"),
         ],

@@ -6,7 +6,7 @@ use crate::doors::side_by_side;
 use crate::http::{Question, is_answered};
 use crate::news::{fills, short_sessions};
 use crate::sessions_ends::{is_answered_whole, is_left_within_a_line, is_passed_over};
-use crate::status::{is_served_beside, measures_heads, stands_until};
+use crate::status::{is_left_after, is_served_beside, measures_heads, stands_until};
 use std::alloc::AllocGlobal;
 use std::net::{Net, TcpStream};
 use std::sync::atomic::AtomicU64;
@@ -56,8 +56,10 @@ pub enum Visit {
     Sees(&'static [u8]),
     /// A head of 8,192 bytes is answered, and a longer one is too large.
     MeasuresHeads(u16),
-    /// An operator is served beside seven that send half a head, and these are left.
+    /// An operator is served beside 100 that send half a head or nothing, and these are left.
     IsBesideSilent(u16),
+    /// An operator who sends these bytes, and then nothing, is left after so many seconds.
+    IsLeft(u16, &'static [u8], u32),
 }
 
 /// Whether it is answered as it is to be.
@@ -126,6 +128,7 @@ fn comes_out<R: Net<Stream = TcpStream> + Clock + AllocGlobal>(
         Visit::Sees(text) => awaits(rt, seen, text.len() as u64),
         Visit::MeasuresHeads(port) => measures_heads(rt, port),
         Visit::IsBesideSilent(port) => is_served_beside(rt, port),
+        Visit::IsLeft(port, bytes, seconds) => is_left_after(rt, port, bytes, seconds),
     }
 }
 
