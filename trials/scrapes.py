@@ -67,8 +67,9 @@ class Silent:
         self.ended += 1
 
     def run(self, count: int, over: multiprocessing.Event) -> None:
-        """So many at each moment, until it is over."""
-        while not over.is_set():
+        """So many at each moment, until it is over, or the trial is gone."""
+        trial = os.getppid()
+        while not over.is_set() and os.getppid() == trial:
             for _ in range(min(count - len(self.open), 100)):
                 self.add()
             for number, events in self.poll.poll(0 if len(self.open) < count else 0.1):
