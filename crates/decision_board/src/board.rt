@@ -1,7 +1,7 @@
 // The publisher's end of a board.
-ghost use Rattle.std.specs.Prelude.{◌≡◌, ◌≤◌, nat_le, ◌&&◌, ◌++◌, ◌∷◌, [], drop, MatchOption, MatchResult, OnOk, IfOk, IfErr};
+ghost use Rattle.std.specs.Prelude.{◌≡◌, ◌+◌, ◌-◌, ◌^◌, ◌≤◌, nat_le, ◌&&◌, ◌++◌, ◌∷◌, [], min, drop, MatchOption, MatchResult, OnOk, IfOk, IfErr};
 ghost use Rattle.ring_records.specs.declared.refusal.Refusal.TheVariants.{OutOfMemory, NoPlace};
-ghost use Rattle.decision_board.specs.Boards.{published, pending, seen, learned};
+ghost use Rattle.decision_board.specs.Boards.{published, pending, refusals, LackedMemory, seen, learned};
 ghost use Rattle.decision_board.specs.History.{head_of};
 ghost use Rattle.decision_board.specs.Posts.{IsPosted};
 ghost use Rattle.decision_board.specs.Stores.{GoOn, decisions_of, state_of};
@@ -29,26 +29,28 @@ pub fn is_reader_count(readers: usize) -> bool
 
 type Publisher<J> = Writer<Store, Entry, [Decision; 0], Posted<J>>;
 
-/// The board of one history of decisions. Contracts see the list that readers take, and what was appended since. It is
-/// not dropped: `end` alone ends it.
+/// The board of one history of decisions. Contracts see the list that readers take, what was appended since, and how many
+/// growths were refused. It is not dropped: `end` alone ends it.
 pub struct Board<J: Naming> {
     writer: Writer<Store, Entry, [Decision; 0], Posted<J>>,
     head: Word<Decision, u64, Law>,
     start: Front,
     all: Front,
     waiting: VecDeque<Entry>,
+    refusals: u64,
 }
 
 impl<J: Naming> Model for Board<J> {
     ghost use Rattle.std.specs.Prelude.{◌≡◌, List, [], ◌++◌, drop};
     ghost use Rattle.ring_records.specs.declared.decision.Decision.{Decision};
+    ghost use Rattle.decision_board.specs.Boards.{BoardView};
     ghost use Rattle.decision_board.specs.History.{head_of};
     ghost use Rattle.decision_board.specs.Posts.{IsPosted};
     ghost use Rattle.decision_board.specs.Stores.{GoOn, decisions_of};
 
-    ghost Value = { List Decision × List Decision };
+    ghost Value = { BoardView };
 
-    ghost view = { λ b. (b.writer.desk.shown.value.front.seen.log, decisions_of (drop b.writer.behind b.writer.log.items ++ b.waiting.items)) };
+    ghost view = { λ b. (b.writer.desk.shown.value.front.seen.log, decisions_of (drop b.writer.behind b.writer.log.items ++ b.waiting.items), b.refusals) };
 
     ghost invariant = { λ b. (b.head ≡ head_of J.book) × (b.start.seen.book ≡ J.book) × (b.start.seen.log ≡ []) × (b.all.seen.book ≡ J.book)
         × (b.all.seen.log ≡ b.writer.desk.shown.value.front.seen.log ++ decisions_of (drop b.writer.behind b.writer.log.items ++ b.waiting.items))
@@ -67,6 +69,7 @@ impl<J: Naming> Board<J> {
         requires readers { (1 ≤ readers) × (readers ≤ 32) }
         ensures published { IfOk result (λ b. published b ≡ decisions.now) }
         ensures pending { IfOk result (λ b. pending b ≡ []) }
+        ensures refusals { IfOk result (λ b. refusals b ≡ 0) }
         ensures refused { IfErr result (λ e. e ≡ OutOfMemory) }
     {
         let (head, start) = opened.into_parts();
@@ -83,43 +86,53 @@ impl<J: Naming> Board<J> {
                 start,
                 all,
                 waiting: VecDeque::new(alloc),
+                refusals: 0,
             }),
             Err(_) => Err(Refusal::OutOfMemory),
         }
     }
 
-    /// Appends a decision, for the next `publish`.
+    /// Appends a decision, for the next `publish`. Refused as 8, it changed nothing but the count of refused growths.
     pub fn append(&mut self, decision: Decision) -> Result<(), Refusal>
         ensures published { published self.new ≡ published self.old }
         ensures pending { OnOk result (pending self.new ≡ pending self.old ++ decision ∷ []) }
-        ensures refused { IfErr result (λ e. (e ≡ OutOfMemory) × (self.new ≡ self.old)) }
+        ensures refusals { OnOk result (refusals self.new ≡ refusals self.old) }
+        ensures refused { IfErr result (λ e. (e ≡ OutOfMemory) × (pending self.new ≡ pending self.old) × LackedMemory self.old self.new) }
     {
         if self.waiting.reserve(1).is_err() {
-            return Err(Refusal::OutOfMemory);
+            return Err(refuse(&mut self.refusals));
         }
         match entered(&self.head, &mut self.all, &decision) {
             Some(entry) => {
                 self.waiting.push_back_reserved(entry);
                 Ok(())
             }
-            None => Err(Refusal::OutOfMemory),
+            None => Err(refuse(&mut self.refusals)),
         }
     }
 
     /// Publishes all that was appended, at once and in order. It waits for readers that still read the list before the
-    /// one that is published.
+    /// one that is published. Refused as 8, it changed nothing but the count of refused growths.
     pub fn publish<R: Wait>(&mut self, rt: &R) -> Result<(), Refusal>
         ensures published { OnOk result (published self.new ≡ published self.old ++ pending self.old) }
         ensures pending { OnOk result (pending self.new ≡ []) }
-        ensures refused { IfErr result (λ e. (e ≡ OutOfMemory) × (self.new ≡ self.old)) }
+        ensures refusals { OnOk result (refusals self.new ≡ refusals self.old) }
+        ensures refused { IfErr result (λ e. (e ≡ OutOfMemory) × (published self.new ≡ published self.old) × (pending self.new ≡ pending self.old) × LackedMemory self.old self.new) }
     {
         if hand_over::<J>(&mut self.writer, &mut self.waiting).is_err() {
-            return Err(Refusal::OutOfMemory);
+            return Err(refuse(&mut self.refusals));
         }
         match replace_with(&mut self.writer, rt, show::<J, R>) {
             Ok(()) => Ok(()),
-            Err(_) => Err(Refusal::OutOfMemory),
+            Err(_) => Err(refuse(&mut self.refusals)),
         }
+    }
+
+    /// How many growths were refused. At 2^64 - 1 it stays.
+    pub fn refusals(&self) -> u64
+        ensures { result ≡ refusals self.now }
+    {
+        self.refusals
     }
 
     /// What is published, for a reader to learn.
@@ -153,9 +166,20 @@ impl<J: Naming> Board<J> {
             start: _start,
             all: _all,
             waiting: _waiting,
+            refusals: _,
         } = self;
         drop(writer.take(rt));
     }
+}
+
+// Counts a growth that was refused, and tells of it.
+fn refuse(refusals: &mut u64) -> Refusal
+    ensures why { result ≡ OutOfMemory }
+    ensures later { refusals.old ≤ refusals.new }
+    ensures rises { min (refusals.old + 1) (2 ^ 64 - 1) ≤ refusals.new }
+{
+    *refusals = refusals.saturating_add(1);
+    Refusal::OutOfMemory
 }
 
 // The decision, and the history that ends with it. None where the history is longer than what was seen, and then nothing

@@ -5,8 +5,8 @@ use Rattle.decision_board.specs.declared.store.Store.{Store}
 use Rattle.decision_board.proofs.Boards.{running_shown, IsRunning, taken}
 use Rattle.decision_board.proofs.board.Board.publish.Goals as goal
 
-pub invariant_of-self-2 : goal.invariant_of-self-2
-invariant_of-self-2 g c =
+pub invariant_of-self-in-Ok : goal.invariant_of-self-in-Ok
+invariant_of-self-in-Ok g c =
     let i = c.self.invariant in
     let w = c.hand_over.new.writer in
     let t = c.replace_with.new.dest in
