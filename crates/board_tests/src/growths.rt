@@ -11,12 +11,14 @@ use std::marker::Brand;
 use std::sync::Wait;
 use std::test::*;
 
-/// What was refused, and what a reader of the board read of the group right after, once all was called again.
+/// What was refused, how many refused growths the board counted, and what a reader of the board read of the group right
+/// after, once all was called again.
 #[derive(Drop)]
 struct Refused {
-    appends: usize,
-    publishes: usize,
-    others: usize,
+    appends: u64,
+    publishes: u64,
+    others: u64,
+    counted: u64,
     between: Latest,
     after: Latest,
 }
@@ -71,6 +73,7 @@ fn grow_all<J: Naming, R: Wait>(
         appends: 0,
         publishes: 0,
         others: 0,
+        counted: 0,
         between: term_and_leader(old),
         after: Ok(None),
     };
@@ -82,6 +85,7 @@ fn grow_all<J: Naming, R: Wait>(
     let published = publish_twice(rt, &mut board, &mut reader, old, &mut refused);
     reader.learn(board.tell());
     refused.after = reader.latest(&old.key.group);
+    refused.counted = board.refusals();
     board.end(rt);
     all?;
     published?;
@@ -108,6 +112,7 @@ fn refused_growths(rt: HostRuntime) -> Result<(), Fail> {
         }
     };
     assert_eq!(rt; made.others, 0);
+    assert_eq!(rt; made.counted, made.appends.saturating_add(made.publishes));
     assert!(rt; made.between == term_and_leader(&old));
     assert!(rt; made.after == term_and_leader(&more[4]));
     Ok(())
