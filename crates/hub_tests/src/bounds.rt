@@ -300,12 +300,14 @@ fn a_checkpoint_that_is_due_is_launched_and_frees_room(rt: HostRuntime) -> Resul
     Ok(())
 }
 
-/// The spoiled batch of another journal is refused and comes back. With its own the hub has failed.
+/// The spoiled batch of another journal is refused and comes back. With its own the hub has failed, which it shows.
 const FAILS: &[Step] = &[
     Asks(STAND, 1),
     Launches,
     SpoilsAnother,
+    IsOpen(true),
     Spoils,
+    IsOpen(false),
     Refuses(STAND, No::Failed),
     LaunchesNone(Some(No::Failed)),
     Fails,
@@ -317,12 +319,14 @@ fn a_hub_fails_with_its_device(rt: HostRuntime) -> Result<(), Fail> {
     Ok(())
 }
 
-/// An abandoned hub has failed; replies that rest on durable inputs are released.
+/// An abandoned hub has failed, which it shows; replies that rest on durable inputs are released.
 const ABANDONS: &[Step] = &[
     Asks(STAND, 1),
     Flushes,
     Asks(AGAIN, 2),
+    IsOpen(true),
     Abandons,
+    IsOpen(false),
     Refuses(STAND, No::Failed),
     LaunchesNone(Some(No::Failed)),
     Fails,
@@ -335,12 +339,19 @@ fn an_abandoned_hub_has_failed(rt: HostRuntime) -> Result<(), Fail> {
     Ok(())
 }
 
-/// A closed hub takes no requests. What it accepted before is made durable and released, and then there is no batch any
-/// more.
+/// A closed hub takes no requests, and shows so; a ticket is forfeited. What it accepted before is made durable, in two
+/// batches, and released, and then there is no batch any more.
 const CLOSES: &[Step] = &[
     Asks(STAND, 1),
+    Asks(AGAIN, 2),
+    Takes(0, 63),
+    IsOpen(true),
     Closes,
+    IsOpen(false),
     Refuses(STAND, No::Failed),
+    Ends,
+    Launches,
+    Lands(64),
     Flushes,
     Redeems,
     LaunchesNone(None),
@@ -348,7 +359,7 @@ const CLOSES: &[Step] = &[
 
 #[test]
 fn a_closed_hub_takes_no_requests(rt: HostRuntime) -> Result<(), Fail> {
-    ends(&rt, 1, Case::Plays((1, 1, 1)), CLOSES);
+    ends(&rt, 1, Case::Plays((1, 65, 65)), CLOSES);
     Ok(())
 }
 

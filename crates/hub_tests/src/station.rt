@@ -27,6 +27,8 @@ pub enum Step {
     Fails,
     /// The ticket is refused, and ends.
     Forfeits,
+    /// The ticket of a hub that takes no requests is forfeited.
+    Ends,
     /// The messages of these numbers are taken, from the first up to the second.
     Takes(u64, u64),
     /// A batch is launched.
@@ -49,6 +51,8 @@ pub enum Step {
     CommitsAnother,
     Closes,
     Abandons,
+    /// Whether it is shown that the hub takes requests.
+    IsOpen(bool),
     /// The share counts so many inputs.
     Counts(u64),
     /// So many bytes of the capacity are taken.
@@ -148,6 +152,10 @@ impl<A: Node, D: Whole, C: Whole, F: Whole, E: Whole> Station<A, D, C, F, E> {
                 let ticket = self.ticket(rt);
                 forfeits(rt, &self.hub, ticket);
             }
+            Step::Ends => {
+                let ticket = self.ticket(rt);
+                assert!(rt; self.hub.forfeit(rt, ticket).is_ok());
+            }
             Step::Takes(first, end) => self.takes(rt, first, end),
             Step::Launches => self.launches(rt),
             Step::LaunchesNone(cause) => launches_none(rt, &self.hub, &mut self.tie, cause),
@@ -165,6 +173,7 @@ impl<A: Node, D: Whole, C: Whole, F: Whole, E: Whole> Station<A, D, C, F, E> {
             }
             Step::Closes => self.hub.close(rt),
             Step::Abandons => self.hub.abandon(rt),
+            Step::IsOpen(is_open) => assert!(rt; self.hub.look(rt).is_open == is_open),
             Step::Counts(count) => assert!(rt; self.share.count() == count),
             Step::Uses(bytes) => assert!(rt; self.hub.look(rt).used == bytes),
             Step::Shows(look) => assert!(rt; self.hub.look(rt) == look),
