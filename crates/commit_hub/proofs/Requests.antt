@@ -11,7 +11,7 @@ use Rattle.ring_records.specs.declared.request.Request.{Request}
 use Rattle.ring_records.specs.States.{NodeState, IsNodeState, durable_in}
 use Rattle.ring_records.specs.Message.{is_outside}
 use Rattle.ring_records.proofs.Lists.{none≢some}
-use Rattle.group_commit.specs.Desk.{DeskView, DeskKept, IsSubmitted, objection}
+use Rattle.group_commit.specs.Desk.{DeskView, DeskKept, IsSealed, IsSubmitted, objection}
 use Rattle.group_commit.specs.Ticket.{TicketView}
 use Rattle.commit_hub.specs.Told.{IsUnasked}
 
@@ -63,3 +63,9 @@ by_cause n q why false false false e (inr p) = inr (inr (e, inr p.1))
 
 pub unasked : (desk : DeskView) (q : Request) (why : Refusal) → (objection desk q ≡ Some why) ⊎ ((objection desk q ≡ None) × (why ≡ refused.OutOfMemory)) → IsUnasked desk.member.n q why
 unasked desk q why against = by_cause desk.member.n q why (desk.closed || desk.failed) (is_outside desk.member.n q) (nat_le (2 ^ 60) desk.issued) refl against
+
+-- ---- a ticket whose reply is not released
+
+-- where it is told that the desk has failed, the ticket is open here
+pub failed_own : (desk : DeskKept) (ticket : TicketView) (why : Refusal) → IsSealed desk ticket why → why ≡ refused.Failed → ticket.node ≡ desk.view.member.node
+failed_own desk ticket why sealed failed = elim sealed.cause [ inl gone ↦ absurd (let foreign = gone.0 in cc) | inr early ↦ early.1.node ]

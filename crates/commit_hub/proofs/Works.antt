@@ -1,5 +1,5 @@
 -- What a hub launches next, and what lands.
-use Rattle.std.proofs.Common.{◌≡◌, inl, inr, ℕ, ◌+◌, ◌*◌, ◌<◌, ◌≤◌, Bool, true, false, ◌&&◌, List, [], ◌∷◌, ◌++◌, length, drop, append_assoc, refl, sym, ap, ◌∙◌, subst, arith, length-take, length-drop, Option, Some, None, if◌then◌else◌, Result, Ok, Err, IfOk, IfSome, OnOk}
+use Rattle.std.proofs.Common.{◌≡◌, inl, inr, ℕ, ◌+◌, ◌*◌, ◌<◌, ◌≤◌, Bool, true, false, ◌&&◌, List, [], ◌∷◌, ◌++◌, length, drop, append_assoc, refl, sym, ap, ◌∙◌, subst, arith, length-take, length-drop, Option, Some, None, if◌then◌else◌, Result, Ok, Err, IfNone, IfOk, IfSome, OnOk}
 use Rattle.std.specs.Option.{option_map}
 use Rattle.std.specs.Prelude.{nat_le, nat_lt, unwrap_or, MatchOption, OnErr}
 use Rattle.std.proofs.Math.Nat.{eq-or-lt_of_le}
@@ -211,6 +211,13 @@ launches (Err e) old new counts next is free same =
 launches (Ok None) old new counts next is free same = launches_batch old new free counts is.next
 launches (Ok (Some (works.Batch batch))) old new counts next is free same = launches_batch old new free counts is.next
 launches (Ok (Some (works.Checkpoint made))) old new counts next is free same = launches_all old new counts is.next
+
+-- where none is given all inputs are durable
+pub none_waits : {E : Type 0} (result : Result (Option Work) E) (old new : DeskKept) (first durable : ℕ) → IfOk result (IsLaunch old new)
+    → durable ≡ old.opening.inputs + old.view.state.durable → first ≤ old.opening.inputs + length old.view.state.inputs → IfOk result (λ some. IfNone some (first ≤ durable))
+none_waits (Err e) old new first durable is counted within = tt
+none_waits (Ok None) old new first durable is counted within = omega (arith, is.all, counted, within)
+none_waits (Ok (Some work)) old new first durable is counted within = tt
 
 -- what fits behind the durable inputs of the desk is for a journal that has what is counted of these
 pub fits_next : {E : Type 0} (result : Result (Option Work) E) (d : DeskKept) (m : Member) (opening : Summary) (durable spent freed epoch : ℕ) → d.view.member ≡ m → d.opening ≡ opening

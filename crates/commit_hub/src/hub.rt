@@ -1,5 +1,5 @@
 //! One lock round a desk, for many appenders and one flusher.
-ghost use Rattle.std.specs.Prelude.{ℕ, ◌≡◌, ◌+◌, ◌≤◌, ◌⊎◌, List, length, map, false, IfOk, IfErr, IfSome, IsOk, OnOk, OnErr};
+ghost use Rattle.std.specs.Prelude.{ℕ, ◌≡◌, ◌+◌, ◌≤◌, ◌⊎◌, List, length, map, false, IfOk, IfErr, IfNone, IfSome, IsOk, OnOk, OnErr};
 ghost use Rattle.std.specs.List.{sum_by};
 ghost use Rattle.ring_records.specs.declared.input.Input.{Input};
 ghost use Rattle.ring_records.specs.Admission.{used, costs_of as costs_in};
@@ -112,7 +112,9 @@ impl<A: Node, D: Whole, C: Whole, F: Whole, E: Whole> Hub<A, D, C, F, E> {
         ensures question { IfOk result (λ r. r.1.question ≡ (shown ticket).question) }
         ensures reply { IfOk result (λ r. r.0 ≡ r.1.answer.reply) }
         ensures answer { IfOk result (λ r. (past : List Input) → IsPast A.member A.opening past → IsAnswer A.member past r.1) }
+        ensures own { OnOk result ((shown ticket).node ≡ A.member.node) }
         ensures refusal { IfErr result (λ e. (e.1 ≡ Refusal.Foreign) ⊎ (e.1 ≡ Refusal.Failed)) }
+        ensures failed { IfErr result (λ e. e.1 ≡ Refusal.Failed → (shown ticket).node ≡ A.member.node) }
         ensures back { IfErr result (λ e. shown e.0 ≡ shown ticket) }
     {
         let mut guard = self.guarded.lock(rt);
@@ -134,7 +136,8 @@ impl<A: Node, D: Whole, C: Whole, F: Whole, E: Whole> Hub<A, D, C, F, E> {
     /// Ends a ticket in every case, with no reply. Refused as 10 where no such ticket is open here, and while the hub
     /// takes requests.
     pub fn forfeit<R: Wait>(&self, rt: &R, ticket: Ticket) -> Result<(), Refusal>
-        ensures { IfErr result (λ refusal. refusal ≡ Refusal.Foreign) }
+        ensures own { OnOk result ((shown ticket).node ≡ A.member.node) }
+        ensures refusal { IfErr result (λ refusal. refusal ≡ Refusal.Foreign) }
     {
         self.guarded.lock(rt).locked.forfeit(ticket)
     }
@@ -150,6 +153,7 @@ impl<A: Node, D: Whole, C: Whole, F: Whole, E: Whole> Hub<A, D, C, F, E> {
     ) -> Result<Option<Work>, Refusal>
         requires whole { IsWhole D.all D.parts × IsWhole C.all C.parts × IsWhole F.all F.parts × IsWhole E.all E.parts }
         ensures next { IfOk result (λ some. IfSome some (λ work. IsNext A.member A.opening tie.old work)) }
+        ensures none { IfOk result (λ some. IfNone some (A.opened ≤ durable_of tie.old)) }
         ensures taken { freed_of tie.old ≤ spent_of tie.old }
         ensures refusal { IfErr result (λ refusal. (refusal ≡ Refusal.Failed) ⊎ ((refusal ≡ Refusal.Busy) ⊎ (refusal ≡ Refusal.OutOfMemory))) }
         ensures tie { CountSame tie.old tie.new }

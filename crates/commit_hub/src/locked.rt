@@ -1,5 +1,5 @@
 //! What lies under a hub's lock: its desk, and the books of its ledgers.
-ghost use Rattle.std.specs.Prelude.{◌≡◌, ◌≢◌, ◌+◌, ◌-◌, ◌≤◌, ◌<◌, ◌⊎◌, ◌||◌, ◌&&◌, not, nat_eq, nat_le, nat_lt, ℕ, List, true, false, length, Some, None, IfOk, IfErr, IfSome, MatchOption, OnOk, OnErr};
+ghost use Rattle.std.specs.Prelude.{◌≡◌, ◌≢◌, ◌+◌, ◌-◌, ◌≤◌, ◌<◌, ◌⊎◌, ◌||◌, ◌&&◌, not, nat_eq, nat_le, nat_lt, ℕ, List, true, false, length, Some, None, IfOk, IfErr, IfNone, IfSome, MatchOption, OnOk, OnErr};
 ghost use Rattle.ring_records.specs.declared.input.Input.{Input};
 ghost use Rattle.ring_records.specs.Admission.{used, costs_of as costs_in};
 ghost use Rattle.ring_records.specs.Answer.{Answered};
@@ -181,6 +181,7 @@ impl<A: Node, D: Whole, C: Whole, F: Whole, E: Whole> Locked<A, D, C, F, E> {
     pub(crate) fn launch(&mut self, tie: &mut Tie<A, D, C, F, E>) -> Result<Option<Work>, Refusal>
         requires whole { IsWhole D.all D.parts × IsWhole C.all C.parts × IsWhole F.all F.parts × IsWhole E.all E.parts }
         ensures next { IfOk result (λ some. IfSome some (λ work. IsNext A.member A.opening tie.old work)) }
+        ensures none { IfOk result (λ some. IfNone some (A.opened ≤ durable_of tie.old)) }
         ensures taken { freed_of tie.old ≤ spent_of tie.old }
         ensures work { IfOk result (IsLaunch self.old.shared.desk self.new.shared.desk) }
         ensures free { OnOk result (launch_objection self.old.shared.desk.view ≡ None) }
@@ -190,10 +191,13 @@ impl<A: Node, D: Whole, C: Whole, F: Whole, E: Whole> Locked<A, D, C, F, E> {
     {
         let Locked {
             shared: SharedDesk { desk },
+            accepted,
+            first,
             books,
             ..
         } = self;
         books.audit(tie);
+        accepted.audit(first);
         launch(desk)
     }
 
