@@ -21,6 +21,7 @@ Stand or no leader in all rounds; 2 for other arguments.
 """
 import argparse
 import os
+import pathlib
 import random
 import select
 import shutil
@@ -33,6 +34,7 @@ import time
 
 HERE = os.path.dirname(os.path.abspath(__file__))
 sys.path.insert(0, HERE)
+import journal
 from clients import Client
 from known import Known
 
@@ -49,9 +51,12 @@ class Ended(Exception):
 class Ring:
     """A folder, the settings of a ring that lies in it, and what is known of it."""
 
-    def __init__(self, ringd: str, folder: str, doors: int, capacity: int | None, rng: random.Random) -> None:
+    def __init__(self, ringd: str, folder: str, doors: int, capacity: int | None, rng: random.Random,
+                 nodes: int | None = None) -> None:
         self.ringd, self.folder, self.doors = ringd, folder, doors
         self.nodes = rng.choice([2, 3, 3, 3, 5])
+        if nodes is not None:
+            self.nodes = nodes
         self.capacity = rng.choice([8_192, 65_536, 1_048_576, 1_048_576])
         if capacity is not None:
             self.capacity = capacity
@@ -59,6 +64,8 @@ class Ring:
         self.rounds = rng.randint(3, 10) if self.capacity > 8_192 else rng.randint(1, 3)
         self.known = Known(self.nodes, doors == 1)
         self.port = 0
+        # The program that ringd is run by, and its words.
+        self.tracer: list[str] = []
         os.mkdir(os.path.join(folder, "ring"))
 
     def start(self, rng: random.Random) -> subprocess.Popen[bytes]:
@@ -69,7 +76,7 @@ class Ring:
         with open(settings, "w", encoding="ascii") as file:
             file.write(f'nodes = {self.nodes}\ndir = "{self.folder}/ring"\n')
             file.write(f"port = {self.port}\ncapacity = {self.capacity}\n")
-        words = [self.ringd, "--settings", settings, "--serve", "1000"]
+        words = [*self.tracer, self.ringd, "--settings", settings, "--serve", "1000"]
         if self.doors > 1:
             words += ["--doors", str(self.doors)]
         with open(os.path.join(self.folder, "err"), "wb") as err:
@@ -81,7 +88,7 @@ class Ring:
         for node in range(1, self.nodes + 1):
             path = os.path.join(self.folder, "ring", f"node-{node}.crj")
             if os.path.exists(path):
-                made += max(epochs(path, self.capacity), default=1) - 1
+                made += max(journal.epochs(pathlib.Path(path).read_bytes()).values(), default=1) - 1
         return made
 
     def await_line(self, process: subprocess.Popen[bytes], line: bytes) -> None:
@@ -100,18 +107,6 @@ class Ring:
         status = process.wait()
         with open(os.path.join(self.folder, "err"), encoding="utf-8", errors="replace") as file:
             return f"ringd {what}; status {status}, standard error {file.read()!r}"
-
-
-def epochs(path: str, capacity: int) -> list[int]:
-    """Those of a journal's areas whose gate is open."""
-    found = []
-    with open(path, "rb") as file:
-        for start in (16, 31 + capacity):
-            file.seek(start)
-            head = file.read(10)
-            if head[:1] == b"\1":
-                found.append(int.from_bytes(head[2:], "big"))
-    return found
 
 
 class Trial:

@@ -1,0 +1,80 @@
+"""What stands in a node's journal, as docs/FORMATS.md has it."""
+from typing import Iterator, NamedTuple
+
+# Where area A begins.
+AREA_A = 16
+# The bytes of an area before its snapshot: gate, layout, epoch, and the snapshot's size.
+HEAD = 14
+# What an input takes of the capacity beside its record.
+FRAME = 7
+STAND, TOKEN, ELECTED, ACKED = 1, 2, 3, 4
+
+
+class Input(NamedTuple):
+    """A record: a number, and the key, the bid and the node that stands; what its kind does not have is empty."""
+    kind: int
+    number: int = 0
+    group: str = ""
+    term: int = 0
+    bid: int = 0
+    node: int = 0
+
+
+class State(NamedTuple):
+    """The area in use: where it begins, its epoch and snapshot, its inputs, its closed gate, and what is taken."""
+    start: int
+    epoch: int
+    snapshot: bytes
+    inputs: list[Input]
+    gate: int
+    taken: int
+
+
+def areas(capacity: int) -> tuple[int, int]:
+    return AREA_A, AREA_A + 1 + HEAD + capacity
+
+
+def number(data: bytes, at: int, length: int) -> int:
+    return int.from_bytes(data[at:at + length], "big")
+
+
+def epochs(data: bytes) -> dict[int, int]:
+    """Those of the areas whose gate is open, by where these begin."""
+    return {start: number(data, start + 2, 8) for start in areas(number(data, 10, 4)) if data[start:start + 1] == b"\1"}
+
+
+def name_at(data: bytes, at: int) -> tuple[str, int]:
+    end = at + 1 + data[at]
+    return data[at + 1:end].decode("ascii"), end
+
+
+def records(data: bytes) -> Iterator[Input]:
+    """The inputs of these records."""
+    at = 0
+    while at < len(data):
+        kind, counted, at = data[at], 0, at + 1
+        if kind != STAND:
+            counted, at = number(data, at, 8), at + 8
+        if kind == ACKED:
+            yield Input(kind, counted)
+            continue
+        group, at = name_at(data, at)
+        term, bid, at = number(data, at, 4), number(data, at + 4, 4), at + 8
+        if kind == STAND:
+            yield Input(kind, 0, group, term, bid)
+        else:
+            yield Input(kind, counted, group, term, bid, data[at])
+            at += 1
+
+
+def read(data: bytes) -> State:
+    """What a journal holds."""
+    epoch, start = max((epoch, start) for start, epoch in epochs(data).items())
+    offset = start + HEAD + number(data, start + 10, 4)
+    snapshot, inputs, gate, taken = data[start + HEAD:offset], [], offset, offset - start - HEAD
+    while data[gate] == 1:
+        end = gate + FRAME + number(data, gate + 3, 4)
+        inputs += records(data[gate + FRAME:end])
+        taken += end - gate - FRAME + FRAME * number(data, gate + 1, 2)
+        gate = end
+    return State(start, epoch, snapshot, inputs, gate, taken)
