@@ -22,7 +22,7 @@ class Client:
         self.known, self.node, self.port = known, node, port
         self.again, self.rng, self.patience = again, rng, patience
         self.asked_again = threading.Event()
-        # Set before ringd is killed: from then on a session may break off.
+        # Set before ringd is killed or its disk fails: from then on a session may break off, and a node may fail.
         self.is_killed = False
         self.connection: socket.socket | None = None
         self.session = Session()
@@ -94,4 +94,15 @@ class Client:
             if not part:
                 raise ConnectionError("the session ended")
             answer += part
+        if self.is_killed and answer == b"no 9 failed\n":
+            raise ConnectionError("the node failed")
         return answer[:-1].decode("ascii", "replace")
+
+
+def start(clients: list[Client], is_look: bool) -> list[threading.Thread]:
+    """Has them ask, each in a thread."""
+    threads = [threading.Thread(target=client.run, args=(is_look,), daemon=True) for client in clients]
+    for thread in threads:
+        thread.start()
+    return threads
+

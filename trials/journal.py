@@ -5,6 +5,8 @@ from typing import Iterator, NamedTuple
 AREA_A = 16
 # The bytes of an area before its snapshot: gate, layout, epoch, and the snapshot's size.
 HEAD = 14
+# The bytes of a snapshot before its keys.
+COUNTS = 38
 # What an input takes of the capacity beside its record.
 FRAME = 7
 STAND, TOKEN, ELECTED, ACKED = 1, 2, 3, 4
@@ -18,6 +20,14 @@ class Input(NamedTuple):
     term: int = 0
     bid: int = 0
     node: int = 0
+
+
+class Known(NamedTuple):
+    """What a snapshot has of a key: the bid that the node stands with, and the leader's bid and node."""
+    group: str
+    term: int
+    stood: int | None
+    leader: tuple[int, int] | None
 
 
 class State(NamedTuple):
@@ -65,6 +75,20 @@ def records(data: bytes) -> Iterator[Input]:
         else:
             yield Input(kind, counted, group, term, bid, data[at])
             at += 1
+
+
+def keys(snapshot: bytes) -> Iterator[Known]:
+    """What a snapshot has of its keys."""
+    at = COUNTS
+    for _ in range(number(snapshot, COUNTS - 4, 4)):
+        group, at = name_at(snapshot, at)
+        term, flags, at = number(snapshot, at, 4), snapshot[at + 4], at + 5
+        stood = leader = None
+        if flags & 1:
+            stood, at = number(snapshot, at, 4), at + 4
+        if flags & 2:
+            leader, at = (number(snapshot, at, 4), snapshot[at + 4]), at + 5
+        yield Known(group, term, stood, leader)
 
 
 def read(data: bytes) -> State:

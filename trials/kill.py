@@ -29,13 +29,12 @@ import signal
 import subprocess
 import sys
 import tempfile
-import threading
 import time
 
 HERE = os.path.dirname(os.path.abspath(__file__))
 sys.path.insert(0, HERE)
 import journal
-from clients import Client
+from clients import Client, start
 from known import Known
 
 # How long, in seconds, a step of ringd is waited for before that counts as a fault: a start, an answer.
@@ -83,13 +82,15 @@ class Ring:
             return subprocess.Popen(words, stdin=subprocess.DEVNULL, stdout=subprocess.PIPE, stderr=err, bufsize=0)
 
     def checkpoints(self) -> int:
-        """How many its nodes made: each raises the epoch of a journal by 1. A node that was not made has none."""
-        made = 0
-        for node in range(1, self.nodes + 1):
-            path = os.path.join(self.folder, "ring", f"node-{node}.crj")
-            if os.path.exists(path):
-                made += max(journal.epochs(pathlib.Path(path).read_bytes()).values(), default=1) - 1
-        return made
+        """How many its nodes made."""
+        return sum(self.made(node) for node in range(1, self.nodes + 1))
+
+    def made(self, node: int) -> int:
+        """How many checkpoints this node made: each raises the epoch of a journal by 1. One that was not made has none."""
+        path = os.path.join(self.folder, "ring", f"node-{node}.crj")
+        if not os.path.exists(path):
+            return 0
+        return max(journal.epochs(pathlib.Path(path).read_bytes()).values(), default=1) - 1
 
     def await_line(self, process: subprocess.Popen[bytes], line: bytes) -> None:
         """Waits until ringd printed this line. `Ended` where it ended before or does not come so far."""
@@ -150,9 +151,7 @@ class Trial:
             for door in range(self.doors):
                 rng = random.Random(f"{self.seed} {self.rounds} {node} {door}")
                 clients.append(Client(ring.known, node, ring.port + node - 1, again[door::self.doors], rng, PATIENCE))
-        threads = [threading.Thread(target=client.run, args=(kind == "look",), daemon=True) for client in clients]
-        for thread in threads:
-            thread.start()
+        threads = start(clients, kind == "look")
         if kind != "asked again":
             for client in clients:
                 client.asked_again.wait()

@@ -46,7 +46,7 @@ from typing import Callable, Iterator, NamedTuple
 HERE = os.path.dirname(os.path.abspath(__file__))
 sys.path.insert(0, HERE)
 import journal
-from clients import Client
+from clients import Client, start
 from kill import PATIENCE, Ended, Ring, number
 from known import BIDS, GROUPS, Question
 from short import free_ports
@@ -143,9 +143,9 @@ class Case(NamedTuple):
 
     def is_near(self, state: journal.State, capacity: int) -> bool:
         """Whether its sync is soon to come."""
-        if self.kind == "start" or self.call == 2 or self.size == "below":
-            if not self.has_size(len(state.snapshot)):
-                return False
+        is_new = self.kind == "checkpoint" and self.call > 2
+        if not is_new and not self.has_size(len(state.snapshot)):
+            return False
         left = PAGE - state.gate % PAGE if self.kind == "batch" else capacity // 2 - state.taken
         return self.kind == "start" or left < NEAR
 
@@ -211,18 +211,11 @@ class Halts(threading.Thread):
 
 
 class Asker(Client):
-    """A client whose new questions are Stands, each for a new term or that of the one before, and which ends with its
-    node."""
+    """A client whose new questions are Stands, each for a new term or that of the one before."""
     terms: Iterator[int]
 
     def pick(self) -> Question:
         return Question("stand", self.rng.choice(GROUPS), next(self.terms) // 2, self.rng.randrange(BIDS))
-
-    def exchange(self, line: str) -> str:
-        answer = super().exchange(line)
-        if answer == "no 9 failed":
-            raise ConnectionError(answer)
-        return answer
 
 
 class Round:
@@ -269,7 +262,7 @@ class Round:
     def ask(self, is_again: bool, new: int | None = None) -> list[threading.Thread]:
         """Has a client of each node ask: what is known, where it is asked again, and so many new questions, or new ones
         without end."""
-        self.clients, threads = [], []
+        self.clients = []
         for node in range(1, self.ring.nodes + 1):
             again = self.known.questions(node, self.rng) if is_again else []
             rng = random.Random(self.rng.random())
@@ -277,10 +270,7 @@ class Round:
             client.terms = self.terms
             client.again += [client.pick() for _ in range(new or 0)]
             self.clients.append(client)
-            threads.append(threading.Thread(target=client.run, args=(new is not None,), daemon=True))
-        for thread in threads:
-            thread.start()
-        return threads
+        return start(self.clients, new is not None)
 
     def look(self, new: int = 0, is_again: bool = True) -> None:
         """Asks again what is known, unless that is not wanted, and so many new questions."""
