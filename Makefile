@@ -9,9 +9,11 @@
 # short: bin/ringd under sessions of one Stand each, its memory, and elections right behind them.
 # threads: bin/ringd where the system grants too few threads; as root.
 # scrapes: bin/ringd asked for its health, beside 10,000 connections that ask nothing, silent ones and such with half a head.
+# writeback: as root, the disk of bin/ringd refuses a page during one sync, and then the power goes.
+# syncs: the system calls of bin/ringd: whether what an answer rests on was synced before.
 # load: bin/ringd under load; LOAD has further words of bench/load.py.
 .PHONY: run test wrong_bodies bench clean always
-.PHONY: ringd install serve fencing clients picture pictures kills load short threads scrapes
+.PHONY: ringd install serve fencing clients picture pictures kills load short threads scrapes writeback syncs
 
 run:
 	@bench/try.sh examples/first_election.ring
@@ -78,6 +80,12 @@ threads: bin/ringd
 scrapes: bin/ringd
 	@trials/scrapes.py --ringd bin/ringd
 	@trials/scrapes.py --ringd bin/ringd --half
+
+writeback: bin/ringd
+	@trials/writeback.py --ringd bin/ringd
+
+syncs: bin/ringd
+	@trials/syncs.py --ringd bin/ringd
 
 load: bin/ringd
 	@bench/load.py --ringd bin/ringd $(LOAD)

@@ -46,7 +46,7 @@ CAPACITY = 16_384
 # How long the second and the third start are asked, in seconds, and how many syncs of a thread succeed in the third one.
 LOAD, FAILING = 1.0, 24
 CALLS = "openat,rename,fsync,fdatasync,pwrite64,accept4,recvfrom,sendto"
-LINE = re.compile(r"(\d+) +(?:<\.\.\. (\w+) resumed>|(\w+)\()(.*?)(?:( <unfinished \.\.\.>)|\) += (-?\d+)(.*))?$")
+LINE = re.compile(r"(\d+) +(?:<\.\.\. (\w+) resumed>|(\w+)\()(.*?)(?:( <unfinished \.\.\.>)|\) += (-?\d+|\?)(.*))?$")
 STRING = re.compile(r'"((?:[^"\\]|\\.)*)"')
 PLACE = re.compile(r"^\d+<(.*?)>(?:, |$)")
 NODE = re.compile(r"node-(\d+)\.crj(?:\.new)?$")
@@ -87,7 +87,8 @@ def calls(lines: list[str]) -> Iterator[Call]:
         else:
             count, begun = open_calls[thread]
             name, text = resumed, begun + text
-        if unfinished is None and result is not None:
+        # A call that the kill ended has no result.
+        if result is not None and result != "?":
             yield Call(count, name, text, int(result), behind)
 
 

@@ -60,7 +60,7 @@ CAPACITIES = {"below": 4 * PAGE - 32, "above": 12 * PAGE - 32}
 # would write what was lost again.
 QUESTIONS = 8
 # How many a node is asked at a time before, and how many bytes before the sync ringd is stopped behind each write.
-LOAD, NEAR = 4, 1_500
+LOAD, NEAR = 2, 1_200
 WRITE = re.compile(r"pwrite64\(.*, (\d+), (\d+)(?:\) += \d+| <unfinished \.\.\.>)$", re.MULTILINE)
 
 
@@ -78,6 +78,13 @@ class Disk:
         self.copy = os.path.join(folder, "copy")
         self.taken = (0, b"")
         os.mkdir(self.shm)
+        try:
+            self.make()
+        except BaseException:
+            self.close()
+            raise
+
+    def make(self) -> None:
         run("mount", "-t", "tmpfs", "-o", f"size={IMAGE}", "tmpfs", self.shm)
         with open(self.image, "wb") as file:
             file.truncate(IMAGE)
@@ -158,8 +165,9 @@ class Write(NamedTuple):
     length: int
     offset: int
 
-    def end(self) -> int:
-        return self.offset + self.length
+    def last(self) -> int:
+        """Where its last byte stands."""
+        return self.offset + self.length - 1
 
 
 class Halts(threading.Thread):
@@ -195,7 +203,7 @@ class Halts(threading.Thread):
         kind, call = self.which(write)
         if (kind, call) == ("checkpoint", 3):
             self.snapshot = write.length - journal.HEAD
-        crosses = self.last.end() // PAGE > write.end() // PAGE
+        crosses = self.last.last() // PAGE > write.offset // PAGE
         if not self.came.is_set() and self.case.is_behind(kind, call, self.snapshot) and (kind == "checkpoint" or crosses):
             self.then(write.offset // PAGE)
             self.came.set()
@@ -215,7 +223,8 @@ class Asker(Client):
     terms: Iterator[int]
 
     def pick(self) -> Question:
-        return Question("stand", self.rng.choice(GROUPS), next(self.terms) // 2, self.rng.randrange(BIDS))
+        term = next(self.terms) // 2
+        return Question("stand", GROUPS[term % len(GROUPS)], term, self.rng.randrange(BIDS))
 
 
 class Round:
@@ -402,9 +411,14 @@ def main() -> int:
     missing = [program for program in ("strace", "mkfs.ext4", "mount", "fallocate") if shutil.which(program) is None]
     if missing or not os.path.exists("/dev/loop-control"):
         parser.error(f"it takes {', '.join(missing) or 'loop devices'}, which this machine has not")
+    signal.signal(signal.SIGTERM, lambda *_: sys.exit(1))
     rng = random.Random()
-    results = [try_case(os.path.abspath(words.ringd), case, words.rounds, rng) for case in CASES]
-    return 0 if all(results) else 1
+    try:
+        results = [try_case(os.path.abspath(words.ringd), case, words.rounds, rng) for case in CASES]
+        return 0 if all(results) else 1
+    except (OSError, subprocess.CalledProcessError) as error:
+        print(f"writeback.py: {error}", file=sys.stderr)
+        return 1
 
 
 if __name__ == "__main__":
