@@ -4,13 +4,13 @@ ghost use Rattle.gated_journal.specs.Journal.{member_of, len_of, room_of, epoch_
 ghost use Rattle.ring_records.specs.Admission.{used};
 ghost use Rattle.ring_records.specs.States.{durable_in};
 ghost use Rattle.node_core.specs.Core.{IsNodeOf};
-ghost use Rattle.commit_hub.specs.Pages.{places_of, ForAccepted, ForDurable, ForSpent, ForFreed, ForEpochs, IsWhole};
+ghost use Rattle.commit_hub.specs.Pages.{places_of, ForAccepted, ForTie};
 
 use crate::devices::{CAPACITY, in_memory};
 use crate::fault::Fault;
 use crate::keys::key;
 use crate::words::{next_amount, next_word};
-use commit_hub::{Blanks, Hub, Node, Share, Whole};
+use commit_hub::{Blanks, Hub, Node, Share};
 use decision_board::{Board, Naming, Opened};
 use disk_model::{Device, DeviceFault, FileDevice};
 use gated_journal::Journal;
@@ -130,9 +130,7 @@ fn one_hub<V: Device + Drop + Send, R: Threads + Wait + Sync>(
             let (desk, journal) = node.split();
             let blanks = Blanks::new(load.appenders);
             let opened = Opened::new();
-            on_hub::<V, Brand, Brand, Brand, Brand, Brand, Brand, R>(
-                rt, alloc, desk, journal, opened, blanks, load,
-            )
+            on_hub::<V, Brand, Brand, R>(rt, alloc, desk, journal, opened, blanks, load)
         }
     }
 }
@@ -145,10 +143,10 @@ struct Appender<A: Node> {
 }
 
 /// The appenders of a hub, each with keys of its own.
-fn appenders<A: Node, D: Whole, C: Whole, F: Whole, E: Whole, R: Wait>(
+fn appenders<A: Node, R: Wait>(
     rt: &R,
     alloc: Global,
-    hub: &Hub<A, D, C, F, E>,
+    hub: &Hub<A>,
     load: Load,
 ) -> Result<Vec<Appender<A>>, Refusal> {
     let mut appenders = Vec::new(alloc);
@@ -163,9 +161,9 @@ fn appenders<A: Node, D: Whole, C: Whole, F: Whole, E: Whole, R: Wait>(
 }
 
 /// Stands for the key of this number, and waits for the reply. Whether the node stood.
-fn stand<A: Node, D: Whole, C: Whole, F: Whole, E: Whole, R: Wait>(
+fn stand<A: Node, R: Wait>(
     rt: &R,
-    hub: &Hub<A, D, C, F, E>,
+    hub: &Hub<A>,
     share: &mut Share<A>,
     index: u32,
 ) -> Result<bool, Refusal> {
@@ -181,9 +179,9 @@ fn stand<A: Node, D: Whole, C: Whole, F: Whole, E: Whole, R: Wait>(
 }
 
 /// Stands so often, in turn. Tells how often the node stood.
-fn append_all<A: Node, D: Whole, C: Whole, F: Whole, E: Whole, R: Wait>(
+fn append_all<A: Node, R: Wait>(
     rt: &R,
-    hub: &Hub<A, D, C, F, E>,
+    hub: &Hub<A>,
     appender: Appender<A>,
     stands: u32,
 ) -> Result<u32, Refusal> {
@@ -198,16 +196,9 @@ fn append_all<A: Node, D: Whole, C: Whole, F: Whole, E: Whole, R: Wait>(
 }
 
 /// Has the appenders stand, each in a thread of its own, and closes the hub. Tells how often the node stood.
-fn append_in_threads<
-    A: Node + Send + Sync,
-    D: Whole + Send + Sync,
-    C: Whole + Send + Sync,
-    F: Whole + Send + Sync,
-    E: Whole + Send + Sync,
-    R: Threads + Wait + Sync,
->(
+fn append_in_threads<A: Node + Send + Sync, R: Threads + Wait + Sync>(
     rt: &R,
-    hub: &Hub<A, D, C, F, E>,
+    hub: &Hub<A>,
     appenders: Vec<Appender<A>>,
     stands: u32,
 ) -> Result<u32, Refusal> {
@@ -229,13 +220,11 @@ fn append_in_threads<
 
 /// Flushes until the hub is closed and nothing waits, or a round is refused. Where a growth is refused it goes on. Tells
 /// how many rounds there were.
-fn flush_all<V: Device, J: Naming, A: Node, D: Whole, C: Whole, F: Whole, E: Whole, R: Wait>(
+fn flush_all<V: Device, J: Naming, A: Node, R: Wait>(
     rt: &R,
-    hub: &Hub<A, D, C, F, E>,
-    flusher: &mut Flusher<V, J, A, D, C, F, E>,
-) -> u32
-    requires { IsWhole D.all D.parts × IsWhole C.all C.parts × IsWhole F.all F.parts × IsWhole E.all E.parts }
-{
+    hub: &Hub<A>,
+    flusher: &mut Flusher<V, J, A>,
+) -> u32 {
     let mut rounds = 0u32;
     for _ in rt.forever() {
         match flusher.flush_round(rt, hub, &mut ()) {
@@ -252,10 +241,6 @@ fn on_hub<
     V: Device + Drop + Send,
     J: Naming + Send + Sync,
     A: Node + Send + Sync,
-    D: Whole + Send + Sync,
-    C: Whole + Send + Sync,
-    F: Whole + Send + Sync,
-    E: Whole + Send + Sync,
     R: Threads + Wait + Sync,
 >(
     rt: &R,
@@ -273,26 +258,21 @@ fn on_hub<
     requires inside { IsNodeOf desk.view.member.n desk.view.member.node }
     requires opened { desk.opening.inputs + length desk.view.state.inputs ≡ A.opened }
     requires accepted { ForAccepted blanks A.name A.parts }
-    requires durable { ForDurable blanks D.name D.parts × IsWhole D.all D.parts }
-    requires spent { ForSpent blanks C.name C.parts × IsWhole C.all C.parts }
-    requires freed { ForFreed blanks F.name F.parts × IsWhole F.all F.parts }
-    requires epochs { ForEpochs blanks E.name E.parts × IsWhole E.all E.parts }
+    requires tied { ForTie blanks A.tied }
     requires ready { is_spoiled journal ≡ false }
     requires member { member_of journal ≡ desk.view.member }
     requires len { len_of journal ≡ desk.opening.inputs + desk.view.state.durable }
     requires room { room_of journal ≡ desk.view.member.capacity - used desk.view.state.base (durable_in desk.view.state) }
     requires epoch { epoch_of journal ≡ desk.view.state.base.epoch }
 {
-    let (hub, tie) = Hub::<A, D, C, F, E>::new(desk, blanks);
+    let (hub, tie) = Hub::<A>::new(desk, blanks);
     let appenders = appenders(rt, alloc, &hub, load)?;
     let board = Board::<J>::new(alloc, opened, &[], 1)?;
     let mut flusher = Flusher::new(alloc, journal, board, tie);
     let (shared, flushing) = (&hub, &mut flusher);
     let (batches, stood) = join(
         rt,
-        || -> u32
-            requires { IsWhole D.all D.parts × IsWhole C.all C.parts × IsWhole F.all F.parts × IsWhole E.all E.parts }
-        { flush_all(rt, shared, flushing) },
+        || -> u32 { flush_all(rt, shared, flushing) },
         || append_in_threads(rt, shared, appenders, load.stands),
     );
     let (journal, board, _owed) = flusher.into_parts();

@@ -63,28 +63,25 @@ pub lands_all : (s : NodeState) (count : ℕ) (inputs : List Input) → IsNodeSt
 lands_all s count inputs counts lands is = omega (arith, lands, flown_count s counts, ap length is)
 
 -- what flew and is durable now
-pub brings : (old new : DeskKept) (first : ℕ) (inputs : List Input) (brought : Landed) → IsNodeState old.view.state → new ≡ record old { view = landed old.view }
+pub brings : (old new : DeskKept) (since inputs : List Input) (brought : Landed) → IsNodeState old.view.state → new ≡ record old { view = landed old.view }
     → ((past : List Input) → IsPast new.view.member new.opening past → IsLawfulState new.view.member (seen past new).state)
-    → first ≡ old.opening.inputs + old.view.state.durable → inputs ≡ flying_in old.view.state
+    → since ≡ durable_in old.view.state → inputs ≡ flying_in old.view.state
     → ((past : List Input) → IsPast old.view.member old.opening past → brought.packets.items ≡ packets old.view.member.node (durable_in (seen past old).state) (flying_in (seen past old).state))
     → ((past : List Input) → IsPast old.view.member old.opening past → brought.decisions.items ≡ decisions old.view.member.node (durable_in (seen past old).state) (flying_in (seen past old).state))
-    → IsBrought old.view.member old.opening first inputs brought
-brings old new first inputs brought counts next lawful from is sends decides past behind =
+    → IsBrought old.view.member old.opening since inputs brought
+brings old new since inputs brought counts next lawful from is sends decides past behind =
     let m = old.view.member in
     let s = old.view.state in
     let state : IsLawfulState m (shifted past (states.landed s)) =
     subst (λ (d : DeskKept). (past : List Input) → IsPast d.view.member d.opening past → IsLawfulState d.view.member (seen past d).state) next lawful past behind in
-    let whole : past ++ flown_in s ≡ (past ++ durable_in s) ++ inputs =
-    ap (λ (l : List Input). past ++ l) (sym (flown s counts)) ∙ (sym (append_assoc past (durable_in s) (flying_in s)) ∙ ap (λ (l : List Input). (past ++ durable_in s) ++ l) (sym is)) in
-    let durable : durable_in (shifted past s) ≡ past ++ durable_in s = durable-shifted past s in
+    let whole : past ++ flown_in s ≡ (past ++ since) ++ inputs =
+    ap (λ (l : List Input). past ++ l) (sym (flown s counts)) ∙ (sym (append_assoc past (durable_in s) (flying_in s)) ∙ (λ i. (past ++ sym from i) ++ sym is i)) in
+    let durable : durable_in (shifted past s) ≡ past ++ since = durable-shifted past s ∙ ap (λ (l : List Input). past ++ l) (sym from) in
     let flies : flying_in (shifted past s) ≡ inputs = flying-shifted past s ∙ sym is in
-    let front : old.opening.inputs ≡ length past = λ i. (behind.summed i).inputs in
     record {
       state = states.landed s;
-      since = durable_in s;
       lawful = state;
       durable = durable-shifted past (states.landed s) ∙ whole;
-      count = omega (arith, from, front, length-append past (durable_in s), length-take s.durable s.inputs, counts.durable, counts.flying);
       packets = sends past behind ∙ (λ i. packets m.node (durable i) (flies i));
       decisions = decides past behind ∙ (λ i. decisions m.node (durable i) (flies i));
     }

@@ -21,7 +21,7 @@ from_to d f h le = let sum : d + (f - d) ≡ f = omega (arith, le) in sym (take-
 pub flown : (s : NodeState) → IsNodeState s → durable_in s ++ flying_in s ≡ flown_in s
 flown s counts = from_to s.durable s.flying s.inputs counts.durable
 
-durable_count : (s : NodeState) → IsNodeState s → length (durable_in s) ≡ s.durable
+pub durable_count : (s : NodeState) → IsNodeState s → length (durable_in s) ≡ s.durable
 durable_count s counts = omega (arith, counts.durable, counts.flying, length-take s.durable s.inputs)
 
 pub flown_costs : (s : NodeState) → IsNodeState s → used s.base (flown_in s) ≡ used s.base (durable_in s) + costs_of (flying_in s)

@@ -3,3 +3,4 @@ pub mod Sums
 pub mod Batches
 pub mod Requests
 pub mod Works
+mod Halves

@@ -20,14 +20,15 @@ use Rattle.ring_records.specs.Snapshot.{snapshot_len}
 use Rattle.ring_records.specs.States.{NodeState, IsNodeState, is_idle, launched_base, durable_in, flown_in, flying_in}
 use Rattle.ring_records.proofs.Lists.{none≢some}
 use Rattle.ring_records.proofs.States.{idle-none, idle-base}
-use Rattle.group_commit.specs.Desk.{DeskView, DeskKept, known_all, next_area, is_due, launch_objection, checkpoint_objection, epochs, launched, launched_all}
+use Rattle.group_commit.specs.Desk.{DeskView, DeskKept, known_all, next_area, is_due, launch_objection, checkpoint_objection, epochs, landed, launched, launched_all}
 use Rattle.group_commit.specs.Since.{IsKnownState, IsLawfulSince}
 use Rattle.group_commit.proofs.Since.{first_fit}
 use Rattle.commit_hub.specs.declared.work.Work.{Work}
 use Rattle.commit_hub.specs.declared.work.Work.TheVariants as works
-use Rattle.commit_hub.specs.Works.{IsFitting, IsLaunch, IsNextAt, IsNextCheckpoint, IsNextEpoch}
+use Rattle.commit_hub.specs.Works.{IsFitting, IsLaunch, IsNext, IsNextArea}
 use Rattle.commit_hub.proofs.Batches.{base_stays, launched_counts}
-use Rattle.commit_hub.proofs.Costs.{durable_costs, not_durable}
+use Rattle.commit_hub.specs.Tied.{Durable, durable_part, with_area, with_batch}
+use Rattle.commit_hub.proofs.Costs.{durable_costs, flown, not_durable}
 
 -- ---- what is told of an option
 
@@ -171,7 +172,7 @@ pub record Launches (old new : DeskKept) : Type 0 where
   pub durable : new.view.state.durable ≡ old.view.state.durable
   pub base : new.view.state.base ≡ old.view.state.base
   pub counts : IsNodeState new.view.state
-  pub next : IsNextEpoch new.view.state
+  pub next : IsNextArea new.view.state
 
 pub launches_batch : (old new : DeskKept) → launch_objection old.view ≡ None → IsNodeState old.view.state → new ≡ record old { view = launched old.view } → Launches old new
 launches_batch old new free counts next =
@@ -201,10 +202,10 @@ launches_all old new counts next =
         based = counts.based;
         checkpointed = λ b e. sym (ap (λ (c : Base). c.inputs) (same_Some (next_area old) b e));
       };
-      next = λ b e. sym (ap (λ (c : Base). c.epoch) (same_Some (next_area old) b e));
+      next = λ b e. let is = sym (same_Some (next_area old) b e) in (ap (λ (c : Base). c.layout) is, ap (λ (c : Base). c.epoch) is);
     })
 
-pub launches : {E : Type 0} (result : Result (Option Work) E) (old new : DeskKept) → IsNodeState old.view.state → IsNextEpoch old.view.state
+pub launches : {E : Type 0} (result : Result (Option Work) E) (old new : DeskKept) → IsNodeState old.view.state → IsNextArea old.view.state
     → IfOk result (IsLaunch old new) → OnOk result (launch_objection old.view ≡ None) → OnErr result (new ≡ old) → Launches old new
 launches (Err e) old new counts next is free same =
     subst (Launches old) (sym same) (record { member = refl; opening = refl; inputs = refl; durable = refl; base = refl; counts = counts; next = next })
@@ -219,38 +220,18 @@ none_waits (Err e) old new first durable is counted within = tt
 none_waits (Ok None) old new first durable is counted within = omega (arith, is.all, counted, within)
 none_waits (Ok (Some work)) old new first durable is counted within = tt
 
--- what fits behind the durable inputs of the desk is for a journal that has what is counted of these
-pub fits_next : {E : Type 0} (result : Result (Option Work) E) (d : DeskKept) (m : Member) (opening : Summary) (durable spent freed epoch : ℕ) → d.view.member ≡ m → d.opening ≡ opening
-    → durable ≡ d.opening.inputs + d.view.state.durable → spent ≡ freed + used d.view.state.base (durable_in d.view.state) → epoch ≡ d.view.state.base.epoch
-    → IfOk result (λ some. IfSome some (λ work. IsFitting d work)) → IfOk result (λ some. IfSome some (λ work. IsNextAt m opening durable spent freed epoch work))
-fits_next (Err e) d m opening durable spent freed epoch of from counted taken area fits = tt
-fits_next (Ok None) d m opening durable spent freed epoch of from counted taken area fits = tt
-fits_next (Ok (Some (works.Batch batch))) d m opening durable spent freed epoch of from counted taken area fits = record {
-  node = fits.node ∙ ap (λ (x : Member). x.node) of;
-  first = fits.first ∙ sym counted;
-  room = omega (arith, fits.room, taken, ap (λ (x : Member). x.capacity) of);
-}
-fits_next (Ok (Some (works.Checkpoint made))) d m opening durable spent freed epoch of from counted taken area fits =
-    let taking = used d.view.state.base (durable_in d.view.state) in
-    let moved : IsNextCheckpoint m opening durable taking 0 epoch made =
-    subst (λ (x : Member). IsNextCheckpoint x opening durable taking 0 epoch made) of
-    (subst (λ (o : Summary). IsNextCheckpoint d.view.member o durable taking 0 epoch made) from
-    (subst (λ (k : ℕ). IsNextCheckpoint d.view.member d.opening k taking 0 epoch made) (sym counted)
-    (subst (λ (k : ℕ). IsNextCheckpoint d.view.member d.opening (d.opening.inputs + d.view.state.durable) taking 0 k made) (sym area) fits))) in
-    record {
-      node = moved.node;
-      first = moved.first;
-      snapshot = moved.snapshot;
-      count = moved.count;
-      few = moved.few;
-      filled = omega (arith, moved.filled, taken);
-      short = moved.short;
-      sound = moved.sound;
-      left = moved.left;
-      known = moved.known;
-    }
+-- what fits behind the durable inputs of the desk is for a journal that has what is known of these
+pub fits_next : {E : Type 0} (result : Result (Option Work) E) (d : DeskKept) (m : Member) (opening : Summary) (known : Durable) → d.view.member ≡ m → d.opening ≡ opening → durable_part d ≡ known
+    → IfOk result (λ some. IfSome some (IsFitting d)) → IfOk result (λ some. IfSome some (IsNext m opening known))
+fits_next result d m opening known of from is fits =
+    subst (λ (x : Member). IfOk result (λ some. IfSome some (IsNext x opening known))) of
+    (subst (λ (o : Summary). IfOk result (λ some. IfSome some (IsNext d.view.member o known))) from
+    (subst (λ (k : Durable). IfOk result (λ some. IfSome some (IsNext d.view.member d.opening k))) is fits))
 
 -- ---- what landed
+
+joined : (s : NodeState) (inputs : List Input) → IsNodeState s → inputs ≡ flying_in s → flown_in s ≡ durable_in s ++ inputs
+joined s inputs counts is = sym (flown s counts) ∙ ap (λ (l : List Input). durable_in s ++ l) (sym is)
 
 -- no checkpoint flew, where the receipt is a batch's
 pub flew_none : (s : NodeState) (snapshot : Option ℕ) → snapshot ≡ option_map (λ (b : Base). b.bytes) s.checkpoint → snapshot ≡ None → s.checkpoint ≡ None
@@ -269,15 +250,23 @@ flew_some s snapshot bytes is some = go s.checkpoint refl (sym is ∙ some)
     go None e never = absurd (none≢some bytes never)
     go (Some b) e same = record { area = b; flies = e; is = same_Some b.bytes bytes same }
 
--- the inputs that it stands for take no other bytes
-pub used-anew : (s : NodeState) (bytes : ℕ) → IsNodeState s → Flew s bytes → used (launched_base s) (flown_in s) ≡ bytes
-unfolding used
-used-anew s bytes counts flew =
-    let b = flew.area in
-    let same : launched_base s ≡ b = ap (λ o. unwrap_or o s.base) flew.flies in
-    let all : b.inputs ≡ s.flying = counts.checkpointed b flew.flies in
-    let none : costs_of (drop b.inputs (flown_in s)) ≡ 0 = ap costs_of (drop_all b.inputs (flown_in s) (omega (arith, all, length-take s.flying s.inputs))) in
-    ap (λ (c : Base). used c (flown_in s)) same ∙ omega (arith, none, flew.is)
+-- what is durable then: the inputs that flew too, in the same area
+pub lands_batch : (old new : DeskKept) (inputs : List Input) → old.view.state.checkpoint ≡ None → IsNodeState old.view.state → new ≡ record old { view = landed old.view }
+    → inputs ≡ flying_in old.view.state → durable_part new ≡ with_batch (durable_part old) inputs
+lands_batch old new inputs none counts next is =
+    let s = old.view.state in
+    ap durable_part next ∙ (λ i. record { base = base_stays s none i; inputs = joined s inputs counts is i })
 
-pub epoch-anew : (s : NodeState) (bytes : ℕ) → IsNextEpoch s → Flew s bytes → (launched_base s).epoch ≡ s.base.epoch + 1
-epoch-anew s bytes next flew = ap (λ o. (unwrap_or o s.base).epoch) flew.flies ∙ next flew.area flew.flies
+-- or in the next one
+pub lands_area : (old new : DeskKept) (inputs : List Input) (bytes : ℕ) → Flew old.view.state bytes → IsNextArea old.view.state → IsNodeState old.view.state → new ≡ record old { view = landed old.view }
+    → inputs ≡ flying_in old.view.state → durable_part new ≡ with_area (durable_part old) inputs bytes
+lands_area old new inputs bytes flew area counts next is =
+    let s = old.view.state in
+    let whole = joined s inputs counts is in
+    let same : launched_base s ≡ flew.area = ap (λ o. unwrap_or o s.base) flew.flies in
+    let stands : flew.area.inputs ≡ length (durable_in s ++ inputs) = omega (arith, counts.checkpointed flew.area flew.flies, ap length whole, length-take s.flying s.inputs, counts.flying) in
+    let at = area flew.area flew.flies in
+    ap durable_part next ∙ (λ i. record {
+      base = (same ∙ (λ j. record { layout = at.0 j; epoch = at.1 j; inputs = stands j; bytes = flew.is j })) i;
+      inputs = whole i;
+    })

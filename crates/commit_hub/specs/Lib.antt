@@ -1,6 +1,6 @@
 pub mod Holders
 pub mod Pages
 pub mod Props
+pub mod Tied
 pub mod Told
-pub mod Totals
 pub mod Works

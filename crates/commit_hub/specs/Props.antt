@@ -6,7 +6,8 @@ use Rattle.ring_records.specs.declared.summary.Summary.{Summary}
 use Rattle.ring_records.specs.Member.{Member}
 use Rattle.ring_records.specs.States.{NodeState}
 use Rattle.node_core.specs.Codes.{coded_summary}
-use Rattle.commit_hub.specs.Works.{IsNextEpoch}
+use Rattle.commit_hub.specs.Tied.{Durable, coded_durable}
+use Rattle.commit_hub.specs.Works.{IsNextArea}
 
 members : IsSet Member
 members = hlevel props
@@ -17,5 +18,8 @@ member-prop a b = members a b
 pub summary-prop : (a b : Summary) → IsProp (a ≡ b)
 summary-prop a b = Coded-set coded_summary a b
 
-pub IsNextEpoch-prop : (s : NodeState) → IsProp (IsNextEpoch s)
-IsNextEpoch-prop s p q i = λ b e. Coded-set coded_ℕ _ _ (p b e) (q b e) i
+pub durable-prop : (a b : Durable) → IsProp (a ≡ b)
+durable-prop a b = Coded-set coded_durable a b
+
+pub IsNextArea-prop : (s : NodeState) → IsProp (IsNextArea s)
+IsNextArea-prop s p q i = λ b e. (Coded-set coded_ℕ _ _ (p b e).0 (q b e).0 i, Coded-set coded_ℕ _ _ (p b e).1 (q b e).1 i)

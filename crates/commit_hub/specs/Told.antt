@@ -28,20 +28,18 @@ IsUnasked n q why = (why ≡ refused.Failed)
 -- ---- The hub's desk was opened with the summary `opening`. A hub whose opening is of no past of its node keeps its counts
 -- and its safety; of histories it tells what there are.
 
--- In some lawful state of the node, behind the past, its durable inputs are some first ones, so many, and then these. They
+-- In some lawful state of the node, behind the past, its durable inputs are those since the opening and then these. They
 -- became durable, and this is what they let the node release.
-pub record IsBroughtBehind (member : Member) (past : List Input) (first : ℕ) (inputs : List Input) (landed : Landed) : Type 0 where
+pub record IsBroughtBehind (member : Member) (past since inputs : List Input) (landed : Landed) : Type 0 where
   pub state : NodeState
-  pub since : List Input
   pub lawful : IsLawfulState member (shifted past state)
   pub durable : durable_in (shifted past state) ≡ (past ++ since) ++ inputs
-  pub count : length (past ++ since) ≡ first
   pub packets : landed.packets.items ≡ packets member.node (past ++ since) inputs
   pub decisions : landed.decisions.items ≡ decisions member.node (past ++ since) inputs
 
 -- so it is whatever past of the node the opening is of
-abbrev pub IsBrought : Member → Summary → ℕ → List Input → Landed → Type 0
-IsBrought member opening first inputs landed = (past : List Input) → IsPast member opening past → IsBroughtBehind member past first inputs landed
+abbrev pub IsBrought : Member → Summary → List Input → List Input → Landed → Type 0
+IsBrought member opening since inputs landed = (past : List Input) → IsPast member opening past → IsBroughtBehind member past since inputs landed
 
 -- the packets are those that the node may release again, in some lawful state behind the past
 pub record IsWindowBehind (member : Member) (past : List Input) (list : List Packet) : Type 0 where

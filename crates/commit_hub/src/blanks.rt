@@ -1,23 +1,19 @@
-//! The blank pages of a hub's ledgers.
+//! What a hub is made of.
 ghost use Rattle.std.specs.Prelude.{◌≡◌, ◌+◌, ◌≤◌};
 
+use crate::tied::{Held, Known, open};
 use std::sync::ledger::Blank;
 
-/// The blank pages of a hub's ledgers: of the inputs that are accepted, of those that are durable, of the bytes that are
-/// spent, of those that are freed, and of the journal's epochs.
+/// The blank page of a hub's ledger, which counts the inputs that are accepted, and the halves of what the hub and its
+/// tie know.
 #[derive(Drop)]
 pub struct Blanks {
     pub(crate) places: u32,
     pub(crate) accepted: Blank,
-    pub(crate) durable: Blank,
-    pub(crate) spent: Blank,
-    pub(crate) freed: Blank,
-    pub(crate) epochs: Blank,
+    pub(crate) held: Held,
+    pub(crate) known: Known,
     ghost accepted_is: { accepted.parts ≡ places + 1 },
-    ghost durable_is: { durable.parts ≡ 1 },
-    ghost spent_is: { spent.parts ≡ 1 },
-    ghost freed_is: { freed.parts ≡ 1 },
-    ghost epochs_is: { epochs.parts ≡ 1 },
+    ghost halves: { known.name ≡ held.name },
 }
 
 impl Blanks {
@@ -28,13 +24,12 @@ impl Blanks {
         requires { places ≤ 1000000 }
         ensures { places_of result ≡ places }
     {
+        let (held, known) = open();
         Blanks {
             places,
             accepted: Blank::new(u64::from(places) + 1),
-            durable: Blank::new(1),
-            spent: Blank::new(1),
-            freed: Blank::new(1),
-            epochs: Blank::new(1),
+            held,
+            known,
         }
     }
 }

@@ -2,20 +2,20 @@
 ghost use Rattle.std.specs.Prelude.{ℕ, ◌≡◌, ◌+◌, ◌≤◌, ◌⊎◌, List, length, map, false, IfOk, IfErr, IfNone, IfSome, IsOk, OnOk, OnErr};
 ghost use Rattle.std.specs.List.{sum_by};
 ghost use Rattle.ring_records.specs.declared.input.Input.{Input};
-ghost use Rattle.ring_records.specs.Admission.{used, costs_of as costs_in};
-ghost use Rattle.ring_records.specs.States.{IsLawfulState, durable_in};
+ghost use Rattle.ring_records.specs.States.{IsLawfulState};
 ghost use Rattle.ring_records.specs.Message.{is_outside};
 ghost use Rattle.gated_journal.specs.Batch.{landed as receipted, lost};
 ghost use Rattle.group_commit.specs.Desk.{IsAnswer, seen};
 ghost use Rattle.group_commit.specs.Past.{IsPast};
 ghost use Rattle.group_commit.specs.Ticket.{shown};
-ghost use Rattle.commit_hub.specs.Holders.{count_of, durable_of, spent_of, freed_of, epoch_of, CountSame, CountMore, CountAnew};
-ghost use Rattle.commit_hub.specs.Pages.{ForAccepted, ForDurable, ForSpent, ForFreed, ForEpochs, IsWhole};
+ghost use Rattle.commit_hub.specs.Holders.{count_of, known_by};
+ghost use Rattle.commit_hub.specs.Pages.{ForAccepted, ForTie};
+ghost use Rattle.commit_hub.specs.Tied.{durable_part, with_batch, with_area};
 ghost use Rattle.commit_hub.specs.Told.{IsUnasked, IsBrought, IsLook, IsWindow};
 ghost use Rattle.commit_hub.specs.Works.{IsNext};
 
 use crate::blanks::Blanks;
-use crate::ledgers::{Node, Whole};
+use crate::ledgers::Node;
 use crate::locked::Locked;
 use crate::look::Look;
 use crate::share::{Share, Tie};
@@ -33,28 +33,22 @@ use std::sync::{Mutex, MutexGuard, Wait};
 /// histories holds behind each past of which the opening is the summary; a hub whose opening is that of no history keeps
 /// its counts.
 #[derive(Drop)]
-pub struct Hub<A: Node, D: Whole, C: Whole, F: Whole, E: Whole> {
-    guarded: Mutex<Guarded<A, D, C, F, E>>,
+pub struct Hub<A: Node> {
+    guarded: Mutex<Guarded<A>>,
     bells: Bells,
 }
 
-impl<A: Node, D: Whole, C: Whole, F: Whole, E: Whole> Hub<A, D, C, F, E> {
-    /// A hub round this desk, and its one tie, which counts the desk's durable inputs, the bytes that are taken up to
-    /// them, and the epoch of the area in use. The ledgers are those of the accepted inputs, of the durable ones, of the
-    /// bytes spent, of the bytes freed, and of the epochs.
-    pub fn new(desk: Desk, blanks: Blanks) -> (Hub<A, D, C, F, E>, Tie<A, D, C, F, E>)
+impl<A: Node> Hub<A> {
+    /// A hub round this desk, and its one tie, which knows what of the desk is durable.
+    pub fn new(desk: Desk, blanks: Blanks) -> (Hub<A>, Tie<A>)
         requires member { desk.view.member ≡ A.member }
         requires opening { desk.opening ≡ A.opening }
         requires none { desk.view.state.checkpoint ≡ None }
         requires opened { desk.opening.inputs + length desk.view.state.inputs ≡ A.opened }
         requires accepted { ForAccepted blanks A.name A.parts }
-        requires durable { ForDurable blanks D.name D.parts × IsWhole D.all D.parts }
-        requires spent { ForSpent blanks C.name C.parts × IsWhole C.all C.parts }
-        requires freed { ForFreed blanks F.name F.parts × IsWhole F.all F.parts }
-        requires epochs { ForEpochs blanks E.name E.parts × IsWhole E.all E.parts }
-        ensures durable { durable_of result.1 ≡ desk.opening.inputs + desk.view.state.durable }
-        ensures spent { spent_of result.1 ≡ freed_of result.1 + used desk.view.state.base (durable_in desk.view.state) }
-        ensures epoch { epoch_of result.1 ≡ desk.view.state.base.epoch }
+        requires tied { ForTie blanks A.tied }
+        ensures known { known_by result.1 ≡ durable_part desk }
+        ensures durable { length (known_by result.1).inputs ≡ desk.view.state.durable }
     {
         let (locked, tie) = Locked::new(desk, blanks);
         let hub = Hub {
@@ -144,43 +138,36 @@ impl<A: Node, D: Whole, C: Whole, F: Whole, E: Whole> Hub<A, D, C, F, E> {
 
     /// Waits until an input waits or a checkpoint is due, and launches what is to be made durable next: where one is due,
     /// a checkpoint of all inputs; else the first that wait, at most 64, as a batch. `None` once the hub is closed and
-    /// none waits. It fits a journal of the node that has what the tie counts. Refused as 9 where the hub has failed, as
+    /// none waits. It fits a journal of the node that has what the tie knows. Refused as 9 where the hub has failed, as
     /// 12 where a batch or a checkpoint is flying, and as 8.
-    pub fn launch<R: Wait>(
-        &self,
-        rt: &R,
-        tie: &mut Tie<A, D, C, F, E>,
-    ) -> Result<Option<Work>, Refusal>
-        requires whole { IsWhole D.all D.parts × IsWhole C.all C.parts × IsWhole F.all F.parts × IsWhole E.all E.parts }
-        ensures next { IfOk result (λ some. IfSome some (λ work. IsNext A.member A.opening tie.old work)) }
-        ensures none { IfOk result (λ some. IfNone some (A.opened ≤ durable_of tie.old)) }
-        ensures taken { freed_of tie.old ≤ spent_of tie.old }
+    pub fn launch<R: Wait>(&self, rt: &R, tie: &mut Tie<A>) -> Result<Option<Work>, Refusal>
+        ensures next { IfOk result (λ some. IfSome some (IsNext A.member A.opening (known_by tie.old))) }
+        ensures none { IfOk result (λ some. IfNone some (A.opened ≤ A.opening.inputs + length (known_by tie.old).inputs)) }
+        ensures based { (known_by tie.old).base.inputs ≤ length (known_by tie.old).inputs }
         ensures refusal { IfErr result (λ refusal. (refusal ≡ Refusal.Failed) ⊎ ((refusal ≡ Refusal.Busy) ⊎ (refusal ≡ Refusal.OutOfMemory))) }
-        ensures tie { CountSame tie.old tie.new }
+        ensures tie { known_by tie.new ≡ known_by tie.old }
     {
         let mut guard = self.bells.wait_for_work(rt, self.guarded.lock(rt));
         guard.locked.launch(tie)
     }
 
-    /// What flies is durable, a batch or a checkpoint: what it lets the node release. The tie counts it, and those who
+    /// What flies is durable, a batch or a checkpoint: what it lets the node release. The tie knows it, and those who
     /// wait for it are woken. It takes no memory. Refused as 10 where this is not the receipt of what flies, or the hub has
     /// failed, and it comes back.
     pub fn land<R: Wait>(
         &self,
         rt: &R,
-        tie: &mut Tie<A, D, C, F, E>,
+        tie: &mut Tie<A>,
         receipt: Receipt,
     ) -> Result<Landed, (Receipt, Refusal)>
-        requires whole { IsWhole D.all D.parts × IsWhole C.all C.parts × IsWhole F.all F.parts × IsWhole E.all E.parts }
         ensures count { IfOk result (λ landed. landed.count ≡ length (receipted receipt).inputs) }
         ensures few { IfOk result (λ landed. length landed.decisions.items ≤ landed.count) }
-        ensures brought { IfOk result (λ landed. IsBrought A.member A.opening (durable_of tie.old) (receipted receipt).inputs landed) }
-        ensures durable { OnOk result (durable_of tie.new ≡ durable_of tie.old + length (receipted receipt).inputs) }
-        ensures batch { OnOk result ((receipted receipt).snapshot ≡ None → CountMore tie.old tie.new (costs_in (receipted receipt).inputs)) }
-        ensures checkpoint { OnOk result ((bytes : ℕ) → (receipted receipt).snapshot ≡ Some bytes → CountAnew tie.old tie.new bytes) }
+        ensures brought { IfOk result (λ landed. IsBrought A.member A.opening (known_by tie.old).inputs (receipted receipt).inputs landed) }
+        ensures batch { OnOk result ((receipted receipt).snapshot ≡ None → known_by tie.new ≡ with_batch (known_by tie.old) (receipted receipt).inputs) }
+        ensures checkpoint { OnOk result ((bytes : ℕ) → (receipted receipt).snapshot ≡ Some bytes → known_by tie.new ≡ with_area (known_by tie.old) (receipted receipt).inputs bytes) }
         ensures refusal { IfErr result (λ e. e.1 ≡ Refusal.Foreign) }
         ensures back { IfErr result (λ e. receipted e.0 ≡ receipted receipt) }
-        ensures tie { OnErr result (CountSame tie.old tie.new) }
+        ensures tie { OnErr result (known_by tie.new ≡ known_by tie.old) }
     {
         let mut guard = self.guarded.lock(rt);
         match guard.locked.land(tie, receipt) {
@@ -199,12 +186,12 @@ impl<A: Node, D: Whole, C: Whole, F: Whole, E: Whole> Hub<A, D, C, F, E> {
     pub fn fail<R: Wait>(
         &self,
         rt: &R,
-        _tie: &mut Tie<A, D, C, F, E>,
+        _tie: &mut Tie<A>,
         spoiled: Spoiled,
     ) -> Result<(), (Spoiled, Refusal)>
         ensures refusal { IfErr result (λ e. e.1 ≡ Refusal.Foreign) }
         ensures back { IfErr result (λ e. lost e.0 ≡ lost spoiled) }
-        ensures tie { CountSame _tie.old _tie.new }
+        ensures tie { known_by _tie.new ≡ known_by _tie.old }
     {
         let mut guard = self.guarded.lock(rt);
         match guard.locked.fail(spoiled) {
@@ -233,7 +220,7 @@ impl<A: Node, D: Whole, C: Whole, F: Whole, E: Whole> Hub<A, D, C, F, E> {
     }
 
     /// Wakes the flusher, where it is to be, and all who wait for a reply.
-    fn tell_all(&self, mut guard: MutexGuard<'_, Guarded<A, D, C, F, E>>) {
+    fn tell_all(&self, mut guard: MutexGuard<'_, Guarded<A>>) {
         let wakes = guard.must_wake();
         drop(guard);
         if wakes {
@@ -259,10 +246,7 @@ impl<A: Node, D: Whole, C: Whole, F: Whole, E: Whole> Hub<A, D, C, F, E> {
 
     /// Ends the hub and the shares, and gives its desk, where the shares count all inputs that were accepted through
     /// the hub; they do where all shares that the hub could give are here. Refused as 22 elsewhere, and all comes back.
-    pub fn settle(
-        self,
-        shares: Vec<Share<A>>,
-    ) -> Result<Desk, (Hub<A, D, C, F, E>, Vec<Share<A>>, Refusal)>
+    pub fn settle(self, shares: Vec<Share<A>>) -> Result<Desk, (Hub<A>, Vec<Share<A>>, Refusal)>
         ensures member { IfOk result (λ desk. desk.view.member ≡ A.member) }
         ensures opening { IfOk result (λ desk. desk.opening ≡ A.opening) }
         ensures lawful { IfOk result (λ desk. (past : List Input) → IsPast A.member A.opening past → IsLawfulState A.member (seen past desk).state) }

@@ -1,4 +1,4 @@
-//! The ledgers of a hub: what each of them names.
+//! What a hub's ledger names.
 ghost use Rattle.std.specs.Prelude.{ℕ};
 ghost use Rattle.ring_records.specs.declared.summary.Summary.{Summary};
 ghost use Rattle.ring_records.specs.Member.{Member};
@@ -8,14 +8,16 @@ use std::marker::Brand;
 use std::sync::ledger::Ledger;
 
 /// The ledger of the inputs that a node accepted. It names the node, its ring size and its capacity; the summary that
-/// its desk was opened with; and how many inputs the node had when its hub was made, those that are summarised among
-/// them.
+/// its desk was opened with; how many inputs the node had when its hub was made, those that are summarised among them;
+/// and by its number what the hub and its tie both know.
 pub trait Node: Ledger {
     ghost member: { Member };
 
     ghost opening: { Summary };
 
     ghost opened: { ℕ };
+
+    ghost tied: { ℕ };
 }
 
 impl Node for Brand {
@@ -24,13 +26,6 @@ impl Node for Brand {
     ghost opening = { empty };
 
     ghost opened = { 0 };
-}
 
-/// A ledger whose one share has all of its parts, which are as many as it names.
-pub trait Whole: Ledger {
-    ghost all: { ℕ };
-}
-
-impl Whole for Brand {
-    ghost all = { 1 };
+    ghost tied = { 0 };
 }

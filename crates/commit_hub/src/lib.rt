@@ -2,7 +2,6 @@
 #![tactic(auto)]
 
 mod blanks;
-mod books;
 mod hub;
 mod launching;
 mod ledgers;
@@ -11,13 +10,13 @@ mod look;
 mod places;
 mod settling;
 mod share;
-mod used;
+mod tied;
 mod waking;
 mod work;
 
 pub use blanks::Blanks;
 pub use hub::Hub;
-pub use ledgers::{Node, Whole};
+pub use ledgers::Node;
 pub use look::Look;
 pub use share::{Share, Tie};
 pub use work::Work;

@@ -1,7 +1,7 @@
-//! What lies under a hub's lock: its desk, and the books of its ledgers.
+//! What lies under a hub's lock: its desk, the book of its ledger, and what its tie knows too.
 ghost use Rattle.std.specs.Prelude.{◌≡◌, ◌≢◌, ◌+◌, ◌-◌, ◌≤◌, ◌<◌, ◌⊎◌, ◌||◌, ◌&&◌, not, nat_eq, nat_le, nat_lt, ℕ, List, true, false, length, Some, None, IfOk, IfErr, IfNone, IfSome, MatchOption, OnOk, OnErr};
 ghost use Rattle.ring_records.specs.declared.input.Input.{Input};
-ghost use Rattle.ring_records.specs.Admission.{used, costs_of as costs_in};
+ghost use Rattle.ring_records.specs.Admission.{used};
 ghost use Rattle.ring_records.specs.Answer.{Answered};
 ghost use Rattle.ring_records.specs.States.{IsNodeState, launched_base, durable_in};
 ghost use Rattle.ring_records.specs.Props.{IsNodeState-prop};
@@ -10,32 +10,33 @@ ghost use Rattle.gated_journal.specs.Batch.{landed as receipted, lost};
 ghost use Rattle.group_commit.specs.Desk.{seen, ended, landed, objection, is_due, launch_objection, IsSubmitted, IsAnswer, IsHere, IsSealed, IsFlying};
 ghost use Rattle.group_commit.specs.Past.{IsPast};
 ghost use Rattle.group_commit.specs.Ticket.{shown};
-ghost use Rattle.commit_hub.specs.Holders.{count_of, durable_of, spent_of, freed_of, epoch_of, CountSame, CountMore, CountAnew};
-ghost use Rattle.commit_hub.specs.Pages.{places_of, ForAccepted, ForDurable, ForSpent, ForFreed, ForEpochs, IsWhole};
-ghost use Rattle.commit_hub.specs.Props.{member-prop, summary-prop, IsNextEpoch-prop};
+ghost use Rattle.commit_hub.specs.Holders.{count_of, known_by};
+ghost use Rattle.commit_hub.specs.Pages.{places_of, ForAccepted, ForTie};
+ghost use Rattle.commit_hub.specs.Props.{member-prop, summary-prop, durable-prop, IsNextArea-prop};
+ghost use Rattle.commit_hub.specs.Tied.{durable_part, with_batch, with_area};
 ghost use Rattle.commit_hub.specs.Told.{IsBrought, IsLook, IsWindow, look_of};
-ghost use Rattle.commit_hub.specs.Works.{IsLaunch, IsNext, IsNextEpoch, IsUnlaunched};
+ghost use Rattle.commit_hub.specs.Works.{IsLaunch, IsNext, IsNextArea, IsUnlaunched};
 
 use crate::blanks::Blanks;
-use crate::books::Books;
 use crate::launching::launch;
-use crate::ledgers::{Node, Whole};
+use crate::ledgers::Node;
 use crate::look::Look;
 use crate::places::Places;
 use crate::share::{Share, Tie};
-use crate::used::used_of;
+use crate::tied::{Held, audit, follow};
 use crate::work::Work;
 use gated_journal::{Receipt, Spoiled};
 use group_commit::{Desk, Landed, SharedDesk, Stub, Ticket};
 use ring_records::{Packet, Refusal, Reply, Request};
 use std::alloc::AllocError;
+use std::marker::PhantomData;
 use std::sync::ledger;
 use std::sync::ledger::Book;
 
-/// A desk, the book that counts its inputs, and those of what is durable; and the shares of the accepted inputs that nobody
-/// holds: of those that the desk had at first, and of the places that are left, of all that there are.
+/// A desk, the book that counts its inputs, and what its tie knows to be durable; and the shares of the accepted inputs
+/// that nobody holds: of those that the desk had at first, and of the places that are left, of all that there are.
 #[derive(Drop)]
-pub(crate) struct Locked<A: Node, D: Whole, C: Whole, F: Whole, E: Whole> {
+pub(crate) struct Locked<A: Node> {
     pub(crate) shared: SharedDesk,
     pub(crate) accepted: Book<A>,
     pub(crate) first: ledger::Share<A>,
@@ -43,50 +44,43 @@ pub(crate) struct Locked<A: Node, D: Whole, C: Whole, F: Whole, E: Whole> {
     pub(crate) spare: ledger::Share<A>,
     pub(crate) left: u32,
     pub(crate) places: Places<A>,
-    pub(crate) books: Books<D, C, F, E>,
+    pub(crate) held: Held,
     ghost of: { shared.desk.view.member ≡ A.member } by { member-prop shared.desk.view.member A.member },
     ghost opening: { shared.desk.opening ≡ A.opening } by { summary-prop shared.desk.opening A.opening },
     ghost counts: { IsNodeState shared.desk.view.state } by { IsNodeState-prop shared.desk.view.state },
     ghost counted: { accepted.total ≡ shared.desk.opening.inputs + length shared.desk.view.state.inputs },
     ghost first_is: { (first.parts ≡ 1) × (first.amount ≡ opened) × (opened ≡ A.opened) },
     ghost spare_is: { (spare.parts ≡ left) × (spare.amount ≡ 0) },
-    ghost durable_is: { books.durable.total ≡ shared.desk.opening.inputs + shared.desk.view.state.durable },
-    ghost taken_is: { books.taken ≡ used shared.desk.view.state.base (durable_in shared.desk.view.state) },
-    ghost epoch_is: { books.epochs.total ≡ shared.desk.view.state.base.epoch },
-    ghost next_is: { IsNextEpoch shared.desk.view.state } by { IsNextEpoch-prop shared.desk.view.state },
+    ghost named: { held.name ≡ A.tied },
+    ghost held_is: { held.durable ≡ durable_part shared.desk } by { durable-prop held.durable (durable_part shared.desk) },
+    ghost next_is: { IsNextArea shared.desk.view.state } by { IsNextArea-prop shared.desk.view.state },
 }
 
-impl<A: Node, D: Whole, C: Whole, F: Whole, E: Whole> Locked<A, D, C, F, E> {
-    /// Opens the ledgers, and counts what the desk has.
-    pub(crate) fn new(desk: Desk, blanks: Blanks) -> (Locked<A, D, C, F, E>, Tie<A, D, C, F, E>)
+impl<A: Node> Locked<A> {
+    /// Opens the ledger, counts what the desk has, and lets the tie know what of it is durable.
+    pub(crate) fn new(desk: Desk, blanks: Blanks) -> (Locked<A>, Tie<A>)
         requires member { desk.view.member ≡ A.member }
         requires opening { desk.opening ≡ A.opening }
         requires none { desk.view.state.checkpoint ≡ None }
         requires opened { desk.opening.inputs + length desk.view.state.inputs ≡ A.opened }
         requires accepted { ForAccepted blanks A.name A.parts }
-        requires durable { ForDurable blanks D.name D.parts × IsWhole D.all D.parts }
-        requires spent { ForSpent blanks C.name C.parts × IsWhole C.all C.parts }
-        requires freed { ForFreed blanks F.name F.parts × IsWhole F.all F.parts }
-        requires epochs { ForEpochs blanks E.name E.parts × IsWhole E.all E.parts }
+        requires tied { ForTie blanks A.tied }
         ensures desk { result.0.shared.desk ≡ desk }
         ensures places { result.0.left ≡ places_of blanks }
-        ensures durable { durable_of result.1 ≡ desk.opening.inputs + desk.view.state.durable }
-        ensures spent { spent_of result.1 ≡ freed_of result.1 + used desk.view.state.base (durable_in desk.view.state) }
-        ensures epoch { epoch_of result.1 ≡ desk.view.state.base.epoch }
+        ensures known { known_by result.1 ≡ durable_part desk }
+        ensures durable { length (known_by result.1).inputs ≡ desk.view.state.durable }
     {
         let Blanks {
             places,
             accepted,
-            durable,
-            spent,
-            freed,
-            epochs,
+            mut held,
+            mut known,
         } = blanks;
         let (mut accepted, mut spare) = accepted.open::<A>();
         let mut first = spare.split_off(1, 0);
         let opened = desk.accepted();
         accepted.add(&mut first, opened);
-        let (books, tie) = Books::open(durable, spent, freed, epochs, &desk);
+        follow(&mut held, &mut known, &desk);
         let locked = Locked {
             shared: SharedDesk { desk },
             accepted,
@@ -95,7 +89,11 @@ impl<A: Node, D: Whole, C: Whole, F: Whole, E: Whole> Locked<A, D, C, F, E> {
             spare,
             left: places,
             places: Places::new(places),
-            books,
+            held,
+        };
+        let tie = Tie {
+            known,
+            of: PhantomData,
         };
         (locked, tie)
     }
@@ -177,77 +175,66 @@ impl<A: Node, D: Whole, C: Whole, F: Whole, E: Whole> Locked<A, D, C, F, E> {
     }
 
     /// A checkpoint where one is due and the desk takes requests or something waits, and else a batch, as on the desk. It
-    /// fits a journal of the node that has what the tie counts.
-    pub(crate) fn launch(&mut self, tie: &mut Tie<A, D, C, F, E>) -> Result<Option<Work>, Refusal>
-        requires whole { IsWhole D.all D.parts × IsWhole C.all C.parts × IsWhole F.all F.parts × IsWhole E.all E.parts }
-        ensures next { IfOk result (λ some. IfSome some (λ work. IsNext A.member A.opening tie.old work)) }
-        ensures none { IfOk result (λ some. IfNone some (A.opened ≤ durable_of tie.old)) }
-        ensures taken { freed_of tie.old ≤ spent_of tie.old }
+    /// fits a journal of the node that has what the tie knows.
+    pub(crate) fn launch(&mut self, tie: &mut Tie<A>) -> Result<Option<Work>, Refusal>
+        ensures next { IfOk result (λ some. IfSome some (IsNext A.member A.opening (known_by tie.old))) }
+        ensures none { IfOk result (λ some. IfNone some (A.opened ≤ A.opening.inputs + length (known_by tie.old).inputs)) }
+        ensures based { (known_by tie.old).base.inputs ≤ length (known_by tie.old).inputs }
         ensures work { IfOk result (IsLaunch self.old.shared.desk self.new.shared.desk) }
         ensures free { OnOk result (launch_objection self.old.shared.desk.view ≡ None) }
         ensures refusal { IfErr result (IsUnlaunched self.old.shared.desk) }
         ensures same { OnErr result (self.new.shared.desk ≡ self.old.shared.desk) }
-        ensures tie { CountSame tie.old tie.new }
+        ensures tie { known_by tie.new ≡ known_by tie.old }
     {
         let Locked {
             shared: SharedDesk { desk },
             accepted,
             first,
-            books,
+            held,
             ..
         } = self;
-        books.audit(tie);
+        let Tie { known, .. } = tie;
+        audit(held, known);
+        // Its inputs are those of the opening, and more.
         accepted.audit(first);
         launch(desk)
     }
 
-    /// As on the desk; the tie counts what became durable.
+    /// As on the desk; the tie knows what became durable.
     pub(crate) fn land(
         &mut self,
-        tie: &mut Tie<A, D, C, F, E>,
+        tie: &mut Tie<A>,
         receipt: Receipt,
     ) -> Result<Landed, (Receipt, Refusal)>
-        requires whole { IsWhole D.all D.parts × IsWhole C.all C.parts × IsWhole F.all F.parts × IsWhole E.all E.parts }
         ensures flying { OnOk result (IsFlying self.old.shared.desk (receipted receipt)) }
         ensures works { OnOk result (self.old.shared.desk.view.failed ≡ false) }
         ensures count { IfOk result (λ landed. landed.count ≡ length (receipted receipt).inputs) }
         ensures few { IfOk result (λ landed. length landed.decisions.items ≤ landed.count) }
-        ensures brought { IfOk result (λ landed. IsBrought A.member A.opening (durable_of tie.old) (receipted receipt).inputs landed) }
+        ensures brought { IfOk result (λ landed. IsBrought A.member A.opening (known_by tie.old).inputs (receipted receipt).inputs landed) }
         ensures packets { IfOk result (λ landed. (past : List Input) → IsPast A.member A.opening past
             → landed.packets.items ≡ packets A.member.node (durable_in (seen past self.old.shared.desk).state) (receipted receipt).inputs) }
         ensures decisions { IfOk result (λ landed. (past : List Input) → IsPast A.member A.opening past
             → landed.decisions.items ≡ decisions A.member.node (durable_in (seen past self.old.shared.desk).state) (receipted receipt).inputs) }
         ensures next { OnOk result (self.new.shared.desk ≡ record self.old.shared.desk { view = landed self.old.shared.desk.view }) }
-        ensures durable { OnOk result (durable_of tie.new ≡ durable_of tie.old + length (receipted receipt).inputs) }
-        ensures batch { OnOk result ((receipted receipt).snapshot ≡ None → CountMore tie.old tie.new (costs_in (receipted receipt).inputs)) }
-        ensures checkpoint { OnOk result ((bytes : ℕ) → (receipted receipt).snapshot ≡ Some bytes → CountAnew tie.old tie.new bytes) }
+        ensures batch { OnOk result ((receipted receipt).snapshot ≡ None → known_by tie.new ≡ with_batch (known_by tie.old) (receipted receipt).inputs) }
+        ensures checkpoint { OnOk result ((bytes : ℕ) → (receipted receipt).snapshot ≡ Some bytes → known_by tie.new ≡ with_area (known_by tie.old) (receipted receipt).inputs bytes) }
         ensures foreign { IfErr result (λ e. (e.1 ≡ Refusal.Foreign) × (IsFlying self.old.shared.desk (receipted receipt) → self.old.shared.desk.view.failed ≡ false → ⊥)) }
         ensures back { IfErr result (λ e. receipted e.0 ≡ receipted receipt) }
         ensures same { OnErr result (self.new.shared.desk ≡ self.old.shared.desk) }
-        ensures tie { OnErr result (CountSame tie.old tie.new) }
+        ensures tie { OnErr result (known_by tie.new ≡ known_by tie.old) }
     {
         let Locked {
             shared: SharedDesk { desk },
-            books,
+            held,
             ..
         } = self;
-        books.audit(tie);
-        let before = desk.durable();
-        let snapshot = receipt.snapshot();
+        let Tie { known, .. } = tie;
         match desk.land(receipt) {
             Err((receipt, refusal)) => Err((receipt, refusal)),
             Ok(landed) => {
-                let after = desk.durable();
-                let history = desk.history();
-                match snapshot {
-                    Some(length) => books.add_area(tie, after - before, length),
-                    None => {
-                        let start = (before - desk.first()) as usize;
-                        let end = (after - desk.first()) as usize;
-                        let cost = used_of(&history[start..end], desk.capacity());
-                        books.add_batch(tie, after - before, u64::from(cost));
-                    }
-                }
+                // Its state is lawful behind each past.
+                let _accepted = desk.accepted();
+                follow(held, known, desk);
                 Ok(landed)
             }
         }

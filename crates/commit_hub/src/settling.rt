@@ -7,19 +7,16 @@ ghost use Rattle.group_commit.specs.Desk.{seen};
 ghost use Rattle.group_commit.specs.Past.{IsPast};
 ghost use Rattle.commit_hub.specs.Holders.{count_of, AddUp};
 
-use crate::ledgers::{Node, Whole};
+use crate::ledgers::Node;
 use crate::locked::Locked;
 use crate::share::Share;
 use group_commit::{Desk, SharedDesk};
 use std::sync::ledger;
 
-impl<A: Node, D: Whole, C: Whole, F: Whole, E: Whole> Locked<A, D, C, F, E> {
+impl<A: Node> Locked<A> {
     /// Ends the ledgers and the shares, and gives the desk, exactly where the shares count all inputs that were accepted
     /// since the hub was made. They do where every place is here. Else all comes back.
-    pub(crate) fn settle(
-        self,
-        shares: Vec<Share<A>>,
-    ) -> Result<Desk, (Locked<A, D, C, F, E>, Vec<Share<A>>)>
+    pub(crate) fn settle(self, shares: Vec<Share<A>>) -> Result<Desk, (Locked<A>, Vec<Share<A>>)>
         ensures exact { IsOk result ↔ AddUp shares.items A.opened self.shared.desk }
         ensures whole { 1 + length shares.items ≡ A.parts → IsOk result }
         ensures desk { IfOk result (λ desk. desk ≡ self.shared.desk) }

@@ -1,7 +1,8 @@
 //! What the holders of a hub's ledgers have.
 ghost use Rattle.std.specs.Prelude.{◌≡◌};
 
-use crate::ledgers::{Node, Whole};
+use crate::ledgers::Node;
+use crate::tied::Known;
 use std::marker::PhantomData;
 use std::sync::ledger;
 
@@ -25,15 +26,11 @@ impl<A: Node> Share<A> {
     }
 }
 
-/// The right to make a hub's inputs durable. It counts those that are durable; the bytes that were ever taken of the
-/// capacity, and those of them that checkpoints freed; and the epoch of the journal's area in use. All of these only
-/// rise. A hub has one, and it takes no bytes.
+/// The right to make a hub's inputs durable. It knows what is durable: the inputs since the desk's opening, and the area
+/// of the journal that is in use. A hub has one, and it takes no bytes.
 #[derive(Drop)]
-pub struct Tie<A: Node, D: Whole, C: Whole, F: Whole, E: Whole> {
-    pub(crate) durable: ledger::Share<D>,
-    pub(crate) spent: ledger::Share<C>,
-    pub(crate) freed: ledger::Share<F>,
-    pub(crate) epochs: ledger::Share<E>,
+pub struct Tie<A: Node> {
+    pub(crate) known: Known,
     pub(crate) of: PhantomData<A>,
-    ghost whole: { (durable.parts ≡ D.all) × (spent.parts ≡ C.all) × (freed.parts ≡ F.all) × (epochs.parts ≡ E.all) },
+    ghost named: { known.name ≡ A.tied },
 }

@@ -2,7 +2,7 @@
 //! again after each wake-up. docs/ARCHITECTURE.md says why no waiter is left asleep.
 ghost use Rattle.std.specs.Prelude.{◌≡◌};
 
-use crate::ledgers::{Node, Whole};
+use crate::ledgers::Node;
 use crate::locked::Locked;
 use std::sync::{Condvar, MutexGuard, Wait};
 
@@ -26,15 +26,15 @@ impl Turn {
 /// What the lock guards: the desk with its books, the turn of the batch that lands next, and whether the flusher
 /// sleeps.
 #[derive(Drop)]
-pub(crate) struct Guarded<A: Node, D: Whole, C: Whole, F: Whole, E: Whole> {
-    pub(crate) locked: Locked<A, D, C, F, E>,
+pub(crate) struct Guarded<A: Node> {
+    pub(crate) locked: Locked<A>,
     turn: Turn,
     is_asleep: bool,
 }
 
-impl<A: Node, D: Whole, C: Whole, F: Whole, E: Whole> Guarded<A, D, C, F, E> {
+impl<A: Node> Guarded<A> {
     /// Before the first batch, with a flusher that does not sleep.
-    pub(crate) fn new(locked: Locked<A, D, C, F, E>) -> Guarded<A, D, C, F, E> {
+    pub(crate) fn new(locked: Locked<A>) -> Guarded<A> {
         Guarded {
             locked,
             turn: Turn::Even,
@@ -43,7 +43,7 @@ impl<A: Node, D: Whole, C: Whole, F: Whole, E: Whole> Guarded<A, D, C, F, E> {
     }
 
     /// The desk with its books.
-    pub(crate) fn into_locked(self) -> Locked<A, D, C, F, E>
+    pub(crate) fn into_locked(self) -> Locked<A>
         ensures { result ≡ self.locked }
     {
         let Guarded { locked, .. } = self;
@@ -116,11 +116,11 @@ impl Bells {
     }
 
     /// Waits until there is something to launch, or nothing more comes.
-    pub(crate) fn wait_for_work<'a, R: Wait, A: Node, D: Whole, C: Whole, F: Whole, E: Whole>(
+    pub(crate) fn wait_for_work<'a, R: Wait, A: Node>(
         &self,
         rt: &R,
-        guard: MutexGuard<'a, Guarded<A, D, C, F, E>>,
-    ) -> MutexGuard<'a, Guarded<A, D, C, F, E>> {
+        guard: MutexGuard<'a, Guarded<A>>,
+    ) -> MutexGuard<'a, Guarded<A>> {
         self.work
             .wait_while(rt, guard, |guarded| guarded.lets_sleep())
     }

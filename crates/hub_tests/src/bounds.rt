@@ -1,13 +1,13 @@
 // Hubs at their bounds: places, tickets, receipts and shares that are not what they wait for.
 ghost use Rattle.std.specs.Prelude.{◌≡◌, ◌+◌, ◌≤◌, length, None};
-ghost use Rattle.commit_hub.specs.Pages.{ForAccepted, ForDurable, ForSpent, ForFreed, ForEpochs, IsWhole};
+ghost use Rattle.commit_hub.specs.Pages.{ForAccepted, ForTie};
 
 use crate::calls::{asks, forfeits, keeps, settled};
 use crate::ends::settles_some;
 use crate::rows::{No, desk_behind, new_desk};
 use crate::station::Step::*;
 use crate::station::{Left, Station, Step};
-use commit_hub::{Blanks, Hub, Look, Node, Whole};
+use commit_hub::{Blanks, Hub, Look, Node};
 use group_commit::{Desk, Ticket};
 use ring_records::{Refusal, Shown};
 use std::alloc::AllocGlobal;
@@ -40,11 +40,7 @@ enum Case {
 }
 
 /// So many places are taken, and there is no other. All of their shares settle the hub.
-fn enters<A: Node, D: Whole, C: Whole, F: Whole, E: Whole, R: Wait + Abort + AllocGlobal>(
-    rt: &R,
-    hub: Hub<A, D, C, F, E>,
-    count: u32,
-) {
+fn enters<A: Node, R: Wait + Abort + AllocGlobal>(rt: &R, hub: Hub<A>, count: u32) {
     let mut shares = Vec::with_capacity(rt.alloc(), count as usize).expect(rt, "ample memory");
     for _ in 0..count {
         let share = hub.enter(rt).expect(rt, "a place");
@@ -56,20 +52,13 @@ fn enters<A: Node, D: Whole, C: Whole, F: Whole, E: Whole, R: Wait + Abort + All
 }
 
 /// A ticket of the hub.
-fn gives<A: Node, D: Whole, C: Whole, F: Whole, E: Whole, R: Wait + Abort>(
-    rt: &R,
-    hub: &Hub<A, D, C, F, E>,
-) -> Ticket {
+fn gives<A: Node, R: Wait + Abort>(rt: &R, hub: &Hub<A>) -> Ticket {
     let mut share = hub.enter(rt).expect(rt, "a place");
     asks(rt, hub, &mut share, STAND)
 }
 
 /// A ticket of another hub is refused, and comes back.
-fn comes_back<A: Node, D: Whole, C: Whole, F: Whole, E: Whole, R: Wait + Abort>(
-    rt: &R,
-    hub: &Hub<A, D, C, F, E>,
-    ticket: Ticket,
-) -> Ticket {
+fn comes_back<A: Node, R: Wait + Abort>(rt: &R, hub: &Hub<A>, ticket: Ticket) -> Ticket {
     let question = ticket.question();
     match hub.redeem_wait(rt, ticket) {
         Ok(_) => panic!(rt; "redeemed"),
@@ -82,7 +71,7 @@ fn comes_back<A: Node, D: Whole, C: Whole, F: Whole, E: Whole, R: Wait + Abort>(
 }
 
 /// Does with a hub what the case says. What is given is a ticket of it.
-fn on_hub<A: Node, D: Whole, C: Whole, F: Whole, E: Whole, R: Wait + Abort + AllocGlobal>(
+fn on_hub<A: Node, R: Wait + Abort + AllocGlobal>(
     rt: &R,
     desk: Desk,
     blanks: Blanks,
@@ -95,12 +84,9 @@ fn on_hub<A: Node, D: Whole, C: Whole, F: Whole, E: Whole, R: Wait + Abort + All
     requires none { desk.view.state.checkpoint ≡ None }
     requires opened { desk.opening.inputs + length desk.view.state.inputs ≡ A.opened }
     requires accepted { ForAccepted blanks A.name A.parts }
-    requires durable { ForDurable blanks D.name D.parts × IsWhole D.all D.parts }
-    requires spent { ForSpent blanks C.name C.parts × IsWhole C.all C.parts }
-    requires freed { ForFreed blanks F.name F.parts × IsWhole F.all F.parts }
-    requires epochs { ForEpochs blanks E.name E.parts × IsWhole E.all E.parts }
+    requires tied { ForTie blanks A.tied }
 {
-    let (hub, tie) = Hub::<A, D, C, F, E>::new(desk, blanks);
+    let (hub, tie) = Hub::<A>::new(desk, blanks);
     match case {
         Case::Enters(count) => enters(rt, hub, count),
         Case::Gives => return Some(gives(rt, &hub)),
@@ -134,7 +120,7 @@ fn plays<R: Wait + Abort + AllocGlobal>(
         _ => new_desk(rt, 1, run),
     };
     let blanks = Blanks::new(places);
-    on_hub::<Brand, Brand, Brand, Brand, Brand, R>(rt, desk, blanks, case, steps)
+    on_hub::<Brand, R>(rt, desk, blanks, case, steps)
 }
 
 /// The case, which gives no ticket.

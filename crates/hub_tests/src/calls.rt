@@ -3,10 +3,9 @@ ghost use Rattle.std.specs.Prelude.{◌≡◌, ◌≤◌};
 ghost use Rattle.ring_records.specs.Snapshot.{IsSound};
 ghost use Rattle.gated_journal.specs.Batch.{base_by};
 ghost use Rattle.gated_journal.specs.Journal.{member_of};
-ghost use Rattle.commit_hub.specs.Pages.{IsWhole};
 
 use crate::rows::{No, broken_journal, journal_of, node, request};
-use commit_hub::{Hub, Node, Share, Tie, Whole, Work};
+use commit_hub::{Hub, Node, Share, Tie, Work};
 use disk_model::{Device, MemDevice};
 use gated_journal::{Batch, Checkpoint, Journal, Receipt, Spoiled};
 use group_commit::{Desk, Ticket};
@@ -16,9 +15,9 @@ use std::process::Abort;
 use std::sync::Wait;
 use test_rows::{Ask, Op};
 
-pub fn asks<A: Node, D: Whole, C: Whole, F: Whole, E: Whole, R: Wait + Abort>(
+pub fn asks<A: Node, R: Wait + Abort>(
     rt: &R,
-    hub: &Hub<A, D, C, F, E>,
+    hub: &Hub<A>,
     share: &mut Share<A>,
     ask: Ask,
 ) -> Ticket {
@@ -27,9 +26,9 @@ pub fn asks<A: Node, D: Whole, C: Whole, F: Whole, E: Whole, R: Wait + Abort>(
 }
 
 /// The request is refused for this cause.
-pub fn refuses<A: Node, D: Whole, C: Whole, F: Whole, E: Whole, R: Wait + Abort>(
+pub fn refuses<A: Node, R: Wait + Abort>(
     rt: &R,
-    hub: &Hub<A, D, C, F, E>,
+    hub: &Hub<A>,
     share: &mut Share<A>,
     ask: Ask,
     no: No,
@@ -40,11 +39,7 @@ pub fn refuses<A: Node, D: Whole, C: Whole, F: Whole, E: Whole, R: Wait + Abort>
     }
 }
 
-pub fn redeems<A: Node, D: Whole, C: Whole, F: Whole, E: Whole, R: Wait + Abort>(
-    rt: &R,
-    hub: &Hub<A, D, C, F, E>,
-    ticket: Ticket,
-) {
+pub fn redeems<A: Node, R: Wait + Abort>(rt: &R, hub: &Hub<A>, ticket: Ticket) {
     match hub.redeem_wait(rt, ticket) {
         Ok((reply, stub)) => assert!(rt; stub.reply() == reply),
         Err((_ticket, refusal)) => panic!(rt; "{refusal}"),
@@ -52,11 +47,7 @@ pub fn redeems<A: Node, D: Whole, C: Whole, F: Whole, E: Whole, R: Wait + Abort>
 }
 
 /// The hub has failed: the ticket is refused, and forfeited.
-pub fn fails<A: Node, D: Whole, C: Whole, F: Whole, E: Whole, R: Wait + Abort>(
-    rt: &R,
-    hub: &Hub<A, D, C, F, E>,
-    ticket: Ticket,
-) {
+pub fn fails<A: Node, R: Wait + Abort>(rt: &R, hub: &Hub<A>, ticket: Ticket) {
     match hub.redeem_wait(rt, ticket) {
         Ok(_) => panic!(rt; "redeemed"),
         Err((ticket, refusal)) => {
@@ -67,23 +58,17 @@ pub fn fails<A: Node, D: Whole, C: Whole, F: Whole, E: Whole, R: Wait + Abort>(
 }
 
 /// The ticket is no open one of the hub, or the hub takes requests.
-pub fn forfeits<A: Node, D: Whole, C: Whole, F: Whole, E: Whole, R: Wait + Abort>(
-    rt: &R,
-    hub: &Hub<A, D, C, F, E>,
-    ticket: Ticket,
-) {
+pub fn forfeits<A: Node, R: Wait + Abort>(rt: &R, hub: &Hub<A>, ticket: Ticket) {
     assert!(rt; hub.forfeit(rt, ticket) == Err(Refusal::Foreign));
 }
 
 /// Nothing is launched, for this cause; where there is none, since nothing waits.
-pub fn launches_none<A: Node, D: Whole, C: Whole, F: Whole, E: Whole, R: Wait + Abort>(
+pub fn launches_none<A: Node, R: Wait + Abort>(
     rt: &R,
-    hub: &Hub<A, D, C, F, E>,
-    tie: &mut Tie<A, D, C, F, E>,
+    hub: &Hub<A>,
+    tie: &mut Tie<A>,
     no: Option<No>,
-)
-    requires { IsWhole D.all D.parts × IsWhole C.all C.parts × IsWhole F.all F.parts × IsWhole E.all E.parts }
-{
+) {
     match hub.launch(rt, tie) {
         Ok(Some(_work)) => panic!(rt; "work"),
         Ok(None) => assert!(rt; no.is_none()),
@@ -94,13 +79,7 @@ pub fn launches_none<A: Node, D: Whole, C: Whole, F: Whole, E: Whole, R: Wait + 
     }
 }
 
-pub fn launches<A: Node, D: Whole, C: Whole, F: Whole, E: Whole, R: Wait + Abort>(
-    rt: &R,
-    hub: &Hub<A, D, C, F, E>,
-    tie: &mut Tie<A, D, C, F, E>,
-) -> Batch
-    requires { IsWhole D.all D.parts × IsWhole C.all C.parts × IsWhole F.all F.parts × IsWhole E.all E.parts }
-{
+pub fn launches<A: Node, R: Wait + Abort>(rt: &R, hub: &Hub<A>, tie: &mut Tie<A>) -> Batch {
     match hub.launch(rt, tie) {
         Ok(Some(Work::Batch(batch))) => batch,
         Ok(Some(Work::Checkpoint(_made))) => panic!(rt; "a checkpoint"),
@@ -134,15 +113,13 @@ pub fn commits<R: Abort>(rt: &R, journal: &mut Journal<MemDevice>, batch: Batch)
 }
 
 /// So many inputs land.
-pub fn lands<A: Node, D: Whole, C: Whole, F: Whole, E: Whole, R: Wait + Abort>(
+pub fn lands<A: Node, R: Wait + Abort>(
     rt: &R,
-    hub: &Hub<A, D, C, F, E>,
-    tie: &mut Tie<A, D, C, F, E>,
+    hub: &Hub<A>,
+    tie: &mut Tie<A>,
     receipt: Receipt,
     count: u32,
-)
-    requires { IsWhole D.all D.parts × IsWhole C.all C.parts × IsWhole F.all F.parts × IsWhole E.all E.parts }
-{
+) {
     match hub.land(rt, tie, receipt) {
         Ok(landed) => assert!(rt; landed.count == count),
         Err((_receipt, refusal)) => panic!(rt; "{refusal}"),
@@ -150,12 +127,7 @@ pub fn lands<A: Node, D: Whole, C: Whole, F: Whole, E: Whole, R: Wait + Abort>(
 }
 
 /// The checkpoint that is due. The node is one of a ring of 3.
-pub fn launches_all<A: Node, D: Whole, C: Whole, F: Whole, E: Whole, R: Wait + Abort>(
-    rt: &R,
-    hub: &Hub<A, D, C, F, E>,
-    tie: &mut Tie<A, D, C, F, E>,
-) -> Checkpoint
-    requires whole { IsWhole D.all D.parts × IsWhole C.all C.parts × IsWhole F.all F.parts × IsWhole E.all E.parts }
+pub fn launches_all<A: Node, R: Wait + Abort>(rt: &R, hub: &Hub<A>, tie: &mut Tie<A>) -> Checkpoint
     requires ring { A.member.n ≡ 3 }
     ensures { IsSound 3 (base_by result) }
 {
@@ -195,11 +167,7 @@ pub fn keeps<A: Node, R: Abort>(rt: &R, shares: &mut Vec<Share<A>>, share: Share
 }
 
 /// The desk of the hub, which these shares settle.
-pub fn settled<A: Node, D: Whole, C: Whole, F: Whole, E: Whole, R: Abort>(
-    rt: &R,
-    hub: Hub<A, D, C, F, E>,
-    shares: Vec<Share<A>>,
-) -> Desk {
+pub fn settled<A: Node, R: Abort>(rt: &R, hub: Hub<A>, shares: Vec<Share<A>>) -> Desk {
     match hub.settle(shares) {
         Ok(desk) => desk,
         Err(_) => panic!(rt; "not settled"),
@@ -226,16 +194,11 @@ pub fn spoils<R: Abort + AllocGlobal>(rt: &R, batch: Batch) -> Spoiled {
 }
 
 /// The receipt of another journal's batch is refused, and comes back.
-pub fn lands_another<
-    A: Node,
-    D: Whole,
-    C: Whole,
-    F: Whole,
-    E: Whole,
-    R: Wait + Abort + AllocGlobal,
->(rt: &R, hub: &Hub<A, D, C, F, E>, tie: &mut Tie<A, D, C, F, E>)
-    requires { IsWhole D.all D.parts × IsWhole C.all C.parts × IsWhole F.all F.parts × IsWhole E.all E.parts }
-{
+pub fn lands_another<A: Node, R: Wait + Abort + AllocGlobal>(
+    rt: &R,
+    hub: &Hub<A>,
+    tie: &mut Tie<A>,
+) {
     let foreign = commits(rt, &mut journal_of(rt), other_batch(rt));
     match hub.land(rt, tie, foreign) {
         Ok(_landed) => panic!(rt; "landed"),
@@ -248,14 +211,11 @@ pub fn lands_another<
 }
 
 /// The spoiled batch of another journal is refused, and comes back.
-pub fn spoils_another<
-    A: Node,
-    D: Whole,
-    C: Whole,
-    F: Whole,
-    E: Whole,
-    R: Wait + Abort + AllocGlobal,
->(rt: &R, hub: &Hub<A, D, C, F, E>, tie: &mut Tie<A, D, C, F, E>) {
+pub fn spoils_another<A: Node, R: Wait + Abort + AllocGlobal>(
+    rt: &R,
+    hub: &Hub<A>,
+    tie: &mut Tie<A>,
+) {
     match hub.fail(rt, tie, spoils(rt, other_batch(rt))) {
         Ok(()) => panic!(rt; "failed"),
         Err((spoiled, refusal)) => {

@@ -2,7 +2,7 @@
 ghost use Rattle.std.specs.Prelude.{◌≤◌};
 
 use crate::calls::*;
-use commit_hub::{Hub, Node, Share, Whole};
+use commit_hub::{Hub, Node, Share};
 use ring_records::Refusal;
 use std::alloc::AllocGlobal;
 use std::process::Abort;
@@ -10,9 +10,9 @@ use std::sync::Wait;
 use test_rows::Ask;
 
 /// A share of which so many Stands are accepted, for terms of this group.
-fn holder<A: Node, D: Whole, C: Whole, F: Whole, E: Whole, R: Wait + Abort>(
+fn holder<A: Node, R: Wait + Abort>(
     rt: &R,
-    hub: &Hub<A, D, C, F, E>,
+    hub: &Hub<A>,
     group: &'static str,
     count: u32,
 ) -> Share<A>
@@ -28,9 +28,9 @@ fn holder<A: Node, D: Whole, C: Whole, F: Whole, E: Whole, R: Wait + Abort>(
 }
 
 /// Four shares of a hub count 0, 1, 0 and 2 inputs: those that the mask names, and the others.
-fn holders<A: Node, D: Whole, C: Whole, F: Whole, E: Whole, R: Wait + Abort + AllocGlobal>(
+fn holders<A: Node, R: Wait + Abort + AllocGlobal>(
     rt: &R,
-    hub: &Hub<A, D, C, F, E>,
+    hub: &Hub<A>,
     mask: u8,
 ) -> (Vec<Share<A>>, Vec<Share<A>>) {
     let mut named = Vec::new(rt.alloc());
@@ -53,11 +53,7 @@ fn holders<A: Node, D: Whole, C: Whole, F: Whole, E: Whole, R: Wait + Abort + Al
 
 /// The hub is settled with those of its four shares that this mask names exactly where both that count some are among
 /// them, and else with the others too.
-pub fn settles_some<A: Node, D: Whole, C: Whole, F: Whole, E: Whole, R: Wait + Abort + AllocGlobal>(
-    rt: &R,
-    hub: Hub<A, D, C, F, E>,
-    mask: u8,
-) {
+pub fn settles_some<A: Node, R: Wait + Abort + AllocGlobal>(rt: &R, hub: Hub<A>, mask: u8) {
     let (named, others) = holders(rt, &hub, mask);
     match hub.settle(named) {
         Ok(desk) => assert!(rt; mask & 10 == 10 && desk.history().len() == 3),
@@ -69,9 +65,9 @@ pub fn settles_some<A: Node, D: Whole, C: Whole, F: Whole, E: Whole, R: Wait + A
 }
 
 /// All four shares, of which three inputs were accepted, settle the hub.
-fn settles_all<A: Node, D: Whole, C: Whole, F: Whole, E: Whole, R: Abort>(
+fn settles_all<A: Node, R: Abort>(
     rt: &R,
-    hub: Hub<A, D, C, F, E>,
+    hub: Hub<A>,
     shares: Vec<Share<A>>,
     others: Vec<Share<A>>,
 ) {

@@ -1,11 +1,10 @@
 // A hub step by step: the one thread that the tests have is appender and flusher in turn.
 ghost use Rattle.std.specs.Prelude.{◌≡◌};
 ghost use Rattle.gated_journal.specs.Journal.{member_of};
-ghost use Rattle.commit_hub.specs.Pages.{IsWhole};
 
 use crate::calls::*;
 use crate::rows::{No, journal_of, request};
-use commit_hub::{Hub, Look, Node, Share, Tie, Whole};
+use commit_hub::{Hub, Look, Node, Share, Tie};
 use disk_model::MemDevice;
 use gated_journal::{Batch, Journal};
 use group_commit::{Desk, Ticket};
@@ -71,9 +70,9 @@ fn has(rt: &impl Abort, desk: &Desk, left: Left) {
 }
 
 /// A hub, its tie, its journal and a share of it, the tickets that are open, newest last, and the batch that flies.
-pub struct Station<A: Node, D: Whole, C: Whole, F: Whole, E: Whole> {
-    hub: Hub<A, D, C, F, E>,
-    tie: Tie<A, D, C, F, E>,
+pub struct Station<A: Node> {
+    hub: Hub<A>,
+    tie: Tie<A>,
     journal: Journal<MemDevice>,
     share: Share<A>,
     tickets: Vec<Ticket>,
@@ -81,13 +80,9 @@ pub struct Station<A: Node, D: Whole, C: Whole, F: Whole, E: Whole> {
     ghost ring: { (member_of journal).n ≡ 3 },
 }
 
-impl<A: Node, D: Whole, C: Whole, F: Whole, E: Whole> Station<A, D, C, F, E> {
+impl<A: Node> Station<A> {
     /// With a new journal.
-    pub fn new<R: Wait + Abort + AllocGlobal>(
-        rt: &R,
-        hub: Hub<A, D, C, F, E>,
-        tie: Tie<A, D, C, F, E>,
-    ) -> Station<A, D, C, F, E> {
+    pub fn new<R: Wait + Abort + AllocGlobal>(rt: &R, hub: Hub<A>, tie: Tie<A>) -> Station<A> {
         let share = hub.enter(rt).expect(rt, "a place");
         Station {
             hub,
@@ -100,7 +95,6 @@ impl<A: Node, D: Whole, C: Whole, F: Whole, E: Whole> Station<A, D, C, F, E> {
     }
 
     pub fn plays<R: Wait + Abort + AllocGlobal>(&mut self, rt: &R, steps: &[Step])
-        requires whole { IsWhole D.all D.parts × IsWhole C.all C.parts × IsWhole F.all F.parts × IsWhole E.all E.parts }
         requires ring { A.member.n ≡ 3 }
     {
         for step in steps {
@@ -109,7 +103,7 @@ impl<A: Node, D: Whole, C: Whole, F: Whole, E: Whole> Station<A, D, C, F, E> {
     }
 
     /// The hub and its share. No ticket is open, and nothing flies.
-    fn into_parts(self, rt: &impl Abort) -> (Hub<A, D, C, F, E>, Share<A>) {
+    fn into_parts(self, rt: &impl Abort) -> (Hub<A>, Share<A>) {
         let Station {
             hub,
             tie: _tie,
@@ -134,7 +128,6 @@ impl<A: Node, D: Whole, C: Whole, F: Whole, E: Whole> Station<A, D, C, F, E> {
     }
 
     fn does<R: Wait + Abort + AllocGlobal>(&mut self, rt: &R, step: Step)
-        requires whole { IsWhole D.all D.parts × IsWhole C.all C.parts × IsWhole F.all F.parts × IsWhole E.all E.parts }
         requires ring { A.member.n ≡ 3 }
     {
         match step {
@@ -207,9 +200,7 @@ impl<A: Node, D: Whole, C: Whole, F: Whole, E: Whole> Station<A, D, C, F, E> {
         }
     }
 
-    fn launches<R: Wait + Abort>(&mut self, rt: &R)
-        requires whole { IsWhole D.all D.parts × IsWhole C.all C.parts × IsWhole F.all F.parts × IsWhole E.all E.parts }
-    {
+    fn launches<R: Wait + Abort>(&mut self, rt: &R) {
         let batch = launches(rt, &self.hub, &mut self.tie);
         match self.flown.push(batch) {
             Ok(()) => {}
@@ -225,16 +216,13 @@ impl<A: Node, D: Whole, C: Whole, F: Whole, E: Whole> Station<A, D, C, F, E> {
         }
     }
 
-    fn lands<R: Wait + Abort>(&mut self, rt: &R, count: u32)
-        requires whole { IsWhole D.all D.parts × IsWhole C.all C.parts × IsWhole F.all F.parts × IsWhole E.all E.parts }
-    {
+    fn lands<R: Wait + Abort>(&mut self, rt: &R, count: u32) {
         let batch = self.batch(rt);
         let receipt = commits(rt, &mut self.journal, batch);
         lands(rt, &self.hub, &mut self.tie, receipt, count);
     }
 
     fn renews<R: Wait + Abort>(&mut self, rt: &R, count: u32, cost: u32)
-        requires whole { IsWhole D.all D.parts × IsWhole C.all C.parts × IsWhole F.all F.parts × IsWhole E.all E.parts }
         requires ring { A.member.n ≡ 3 }
     {
         let made = launches_all(rt, &self.hub, &mut self.tie);

@@ -2,7 +2,7 @@
 use crate::held::held_by;
 use crate::links::Links;
 use crate::start_latch::StartLatch;
-use commit_hub::{Hub, Node, Whole};
+use commit_hub::{Hub, Node};
 use crossbeam_channel::{Receiver, Sender};
 use decision_board::{Board, BoardReader, Naming};
 use ring_records::{Decision, GroupName, Key, Refusal};
@@ -45,10 +45,10 @@ pub(crate) fn take_clerk<J: Naming>(
 }
 
 /// What is told of the node. The hub's lock is held once, while counts are copied.
-fn status<A: Node, D: Whole, C: Whole, F: Whole, E: Whole, R: Wait>(
+fn status<A: Node, R: Wait>(
     rt: &R,
     alloc: Global,
-    hub: &Hub<A, D, C, F, E>,
+    hub: &Hub<A>,
     port: u16,
     doors: u32,
     links: &Links<'_>,
@@ -130,11 +130,11 @@ fn send_back<T: Drop, R: Wait>(rt: &R, back: Sender<T>, answer: Option<T>) {
 
 impl<J: Naming> Clerk<J> {
     /// Answers what is asked. Where there is no answer, who asks finds none to come.
-    fn answer<A: Node, D: Whole, C: Whole, F: Whole, E: Whole, R: Wait>(
+    fn answer<A: Node, R: Wait>(
         &mut self,
         rt: &R,
         alloc: Global,
-        hub: &Hub<A, D, C, F, E>,
+        hub: &Hub<A>,
         inquiry: Inquiry,
         links: &Links<'_>,
     ) {
@@ -152,10 +152,10 @@ impl<J: Naming> Clerk<J> {
 }
 
 /// Answers what the clerk is asked, until it is dismissed. Who asks waits for no sync, and the node for no clerk.
-pub(crate) fn serve_clerk<J: Naming, A: Node, D: Whole, C: Whole, F: Whole, E: Whole, R: Wait>(
+pub(crate) fn serve_clerk<J: Naming, A: Node, R: Wait>(
     rt: &R,
     alloc: Global,
-    hub: &Hub<A, D, C, F, E>,
+    hub: &Hub<A>,
     clerk: Clerk<J>,
     links: &Links<'_>,
     latch: &StartLatch,

@@ -3,7 +3,7 @@ use crate::links::Links;
 use crate::site::Doors;
 use crate::start_latch::StartLatch;
 use client_stream::{ClientReader, ClientWriter, next_client, part};
-use commit_hub::{Hub, Node, Share, Whole};
+use commit_hub::{Hub, Node, Share};
 use decision_board::{Board, BoardReader, Naming};
 use ring_service::HubService;
 use ring_watch::{Tally, TallyWriter};
@@ -23,10 +23,10 @@ pub(crate) struct Seat<J: Naming, A: Node> {
 }
 
 /// A seat for each of so many doors, or `None` where memory or a place is wanting.
-pub(crate) fn take_seats<J: Naming, A: Node, D: Whole, C: Whole, F: Whole, E: Whole, R: Wait>(
+pub(crate) fn take_seats<J: Naming, A: Node, R: Wait>(
     rt: &R,
     alloc: Global,
-    hub: &Hub<A, D, C, F, E>,
+    hub: &Hub<A>,
     board: &Board<J>,
     count: u32,
 ) -> Option<Vec<Seat<J, A>>> {
@@ -41,22 +41,14 @@ pub(crate) fn take_seats<J: Naming, A: Node, D: Whole, C: Whole, F: Whole, E: Wh
 }
 
 /// Sends all that the successor has not credited durably: before the node takes its first input of a run.
-pub(crate) fn send_window<A: Node, D: Whole, C: Whole, F: Whole, E: Whole, R: Wait>(
-    rt: &R,
-    hub: &Hub<A, D, C, F, E>,
-    links: &Links<'_>,
-) {
+pub(crate) fn send_window<A: Node, R: Wait>(rt: &R, hub: &Hub<A>, links: &Links<'_>) {
     if let Ok(window) = hub.window(rt) {
         links.send_all(rt, &window);
     }
 }
 
 /// Sends again what the successor may miss, if anything.
-fn send_what_may_miss<A: Node, D: Whole, C: Whole, F: Whole, E: Whole, R: Wait + Clock>(
-    rt: &R,
-    hub: &Hub<A, D, C, F, E>,
-    links: &Links<'_>,
-) {
+fn send_what_may_miss<A: Node, R: Wait + Clock>(rt: &R, hub: &Hub<A>, links: &Links<'_>) {
     if !links.may_have_lost(rt) {
         return;
     }
@@ -119,10 +111,10 @@ fn serve_client<S: Service, R: Wait + Clock>(
 }
 
 /// Serves the next session, where there is one more, and then sends what the successor may miss. Whether there was one.
-fn serve_next<S: Service, A: Node, D: Whole, C: Whole, F: Whole, E: Whole, R: Wait + Clock>(
+fn serve_next<S: Service, A: Node, R: Wait + Clock>(
     rt: &R,
     alloc: Global,
-    hub: &Hub<A, D, C, F, E>,
+    hub: &Hub<A>,
     front: &Front,
     links: &Links<'_>,
     service: &mut S,
@@ -143,19 +135,10 @@ fn serve_next<S: Service, A: Node, D: Whole, C: Whole, F: Whole, E: Whole, R: Wa
 
 /// Serves a door: one session after the other, while there are some left. The last door of the node says that all are
 /// done. Where the ring does not start, nothing is served.
-pub(crate) fn serve_door<
-    'a,
-    J: Naming,
-    A: Node,
-    D: Whole,
-    C: Whole,
-    F: Whole,
-    E: Whole,
-    R: Wait + Clock,
->(
+pub(crate) fn serve_door<'a, J: Naming, A: Node, R: Wait + Clock>(
     rt: &'a R,
     alloc: Global,
-    hub: &'a Hub<A, D, C, F, E>,
+    hub: &'a Hub<A>,
     seat: Seat<J, A>,
     front: &Front,
     links: &Links<'_>,

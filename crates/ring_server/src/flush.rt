@@ -1,8 +1,7 @@
 //! The flusher's thread.
-ghost use Rattle.commit_hub.specs.Pages.{IsWhole};
 
 use crate::links::Links;
-use commit_hub::{Hub, Node, Whole};
+use commit_hub::{Hub, Node};
 use decision_board::Naming;
 use disk_model::Device;
 use group_commit::Landed;
@@ -12,13 +11,11 @@ use std::sync::Wait;
 use std::time::{Clock, Duration};
 
 /// One round of the flusher, and what it landed.
-fn flush_once<V: Device, J: Naming, A: Node, D: Whole, C: Whole, F: Whole, E: Whole, R: Wait>(
+fn flush_once<V: Device, J: Naming, A: Node, R: Wait>(
     rt: &R,
-    hub: &Hub<A, D, C, F, E>,
-    flusher: &mut Flusher<V, J, A, D, C, F, E>,
-) -> Result<Option<Landed>, Refusal>
-    requires { IsWhole D.all D.parts × IsWhole C.all C.parts × IsWhole F.all F.parts × IsWhole E.all E.parts }
-{
+    hub: &Hub<A>,
+    flusher: &mut Flusher<V, J, A>,
+) -> Result<Option<Landed>, Refusal> {
     flusher.flush_round(rt, hub, &mut ())
 }
 
@@ -34,23 +31,12 @@ fn release<R: Wait>(rt: &R, landed: &Landed, is_checkpoint: bool, links: &Links<
 
 /// Flushes until the hub is closed and nothing waits, and sends what that releases. Where a growth is refused it tries
 /// again; whatever else is refused fails the node, which is told, so that nobody waits for ever. Whether it came to its end.
-pub(crate) fn flush_all<
-    V: Device,
-    J: Naming,
-    A: Node,
-    D: Whole,
-    C: Whole,
-    F: Whole,
-    E: Whole,
-    R: Wait + Clock,
->(
+pub(crate) fn flush_all<V: Device, J: Naming, A: Node, R: Wait + Clock>(
     rt: &R,
-    hub: &Hub<A, D, C, F, E>,
-    flusher: &mut Flusher<V, J, A, D, C, F, E>,
+    hub: &Hub<A>,
+    flusher: &mut Flusher<V, J, A>,
     links: &Links<'_>,
-) -> bool
-    requires { IsWhole D.all D.parts × IsWhole C.all C.parts × IsWhole F.all F.parts × IsWhole E.all E.parts }
-{
+) -> bool {
     for _ in rt.forever() {
         let epoch = flusher.epoch();
         match flush_once(rt, hub, flusher) {

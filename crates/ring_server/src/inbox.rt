@@ -5,7 +5,7 @@ use crate::credits::Credits;
 use crate::held::{awaits_room, has_little_room, is_full};
 use crate::links::Links;
 use crate::pace::Pace;
-use commit_hub::{Hub, Node, Share, Whole};
+use commit_hub::{Hub, Node, Share};
 use crossbeam_channel::Receiver;
 use group_commit::Ticket;
 use ring_records::{Packet, Refusal, Reply, Request};
@@ -29,10 +29,10 @@ struct Intake<A: Node> {
 
 /// Takes packets until the letterbox is closed and empty. What is not taken, for want of memory or since the node has
 /// failed, is lost, and comes again with the sender's window. No ticket is left open.
-pub(crate) fn take_all<A: Node, D: Whole, C: Whole, F: Whole, E: Whole, R: Wait + Clock>(
+pub(crate) fn take_all<A: Node, R: Wait + Clock>(
     rt: &R,
     alloc: Global,
-    hub: &Hub<A, D, C, F, E>,
+    hub: &Hub<A>,
     share: Share<A>,
     inbox: &Receiver<Packet>,
     links: &Links<'_>,
@@ -64,9 +64,9 @@ pub(crate) fn take_all<A: Node, D: Whole, C: Whole, F: Whole, E: Whole, R: Wait 
 }
 
 /// Takes what waits in the letterbox, as much as fits a batch, and tells of the credits that are due.
-fn take_waiting<A: Node, D: Whole, C: Whole, F: Whole, E: Whole, R: Wait + Clock>(
+fn take_waiting<A: Node, R: Wait + Clock>(
     rt: &R,
-    hub: &Hub<A, D, C, F, E>,
+    hub: &Hub<A>,
     intake: &mut Intake<A>,
     inbox: &Receiver<Packet>,
     links: &Links<'_>,
@@ -88,9 +88,9 @@ fn take_waiting<A: Node, D: Whole, C: Whole, F: Whole, E: Whole, R: Wait + Clock
 }
 
 /// Has the node take a message, or holds a credit back.
-fn take<A: Node, D: Whole, C: Whole, F: Whole, E: Whole, R: Wait + Clock>(
+fn take<A: Node, R: Wait + Clock>(
     rt: &R,
-    hub: &Hub<A, D, C, F, E>,
+    hub: &Hub<A>,
     intake: &mut Intake<A>,
     packet: Packet,
     links: &Links<'_>,
@@ -112,9 +112,9 @@ fn take<A: Node, D: Whole, C: Whole, F: Whole, E: Whole, R: Wait + Clock>(
 
 /// Has the node take a message where there is little room. What came of it is known before the next message, which would be a
 /// gap behind one that was refused: it is asked again as long as there is room, or a checkpoint is due.
-fn take_alone<A: Node, D: Whole, C: Whole, F: Whole, E: Whole, R: Wait + Clock>(
+fn take_alone<A: Node, R: Wait + Clock>(
     rt: &R,
-    hub: &Hub<A, D, C, F, E>,
+    hub: &Hub<A>,
     intake: &mut Intake<A>,
     question: &Request,
     links: &Links<'_>,
@@ -128,9 +128,9 @@ fn take_alone<A: Node, D: Whole, C: Whole, F: Whole, E: Whole, R: Wait + Clock>(
 
 /// Asks the node to take the message, and whether that is its end. The credits that are held back come first, since they may make
 /// a checkpoint due, and the message waits for one that is due.
-fn ends_alone<A: Node, D: Whole, C: Whole, F: Whole, E: Whole, R: Wait + Clock>(
+fn ends_alone<A: Node, R: Wait + Clock>(
     rt: &R,
-    hub: &Hub<A, D, C, F, E>,
+    hub: &Hub<A>,
     intake: &mut Intake<A>,
     question: &Request,
     links: &Links<'_>,
@@ -156,10 +156,7 @@ fn ends_alone<A: Node, D: Whole, C: Whole, F: Whole, E: Whole, R: Wait + Clock>(
 }
 
 /// Waits while there is little room and a checkpoint is due, until it is launched.
-fn wait_for_room<A: Node, D: Whole, C: Whole, F: Whole, E: Whole, R: Wait + Clock>(
-    rt: &R,
-    hub: &Hub<A, D, C, F, E>,
-) {
+fn wait_for_room<A: Node, R: Wait + Clock>(rt: &R, hub: &Hub<A>) {
     for _ in rt.forever() {
         if !awaits_room(&hub.look(rt)) {
             break;
@@ -169,11 +166,7 @@ fn wait_for_room<A: Node, D: Whole, C: Whole, F: Whole, E: Whole, R: Wait + Cloc
 }
 
 /// Tells the node of the credits that are held back, where there are some.
-fn tell<A: Node, D: Whole, C: Whole, F: Whole, E: Whole, R: Wait>(
-    rt: &R,
-    hub: &Hub<A, D, C, F, E>,
-    intake: &mut Intake<A>,
-) {
+fn tell<A: Node, R: Wait>(rt: &R, hub: &Hub<A>, intake: &mut Intake<A>) {
     if let Some(upto) = intake.credits.held() {
         if submit(rt, hub, intake, Request::Acked(upto)) {
             intake.credits.tell(upto);
@@ -182,9 +175,9 @@ fn tell<A: Node, D: Whole, C: Whole, F: Whole, E: Whole, R: Wait>(
 }
 
 /// Asks the node, and keeps the ticket. Whether there is one.
-fn submit<A: Node, D: Whole, C: Whole, F: Whole, E: Whole, R: Wait>(
+fn submit<A: Node, R: Wait>(
     rt: &R,
-    hub: &Hub<A, D, C, F, E>,
+    hub: &Hub<A>,
     intake: &mut Intake<A>,
     request: Request,
 ) -> bool {
@@ -201,9 +194,9 @@ fn submit<A: Node, D: Whole, C: Whole, F: Whole, E: Whole, R: Wait>(
 }
 
 /// Waits for the reply, and ends the message, or holds a credit back again that was refused for room.
-fn release<A: Node, D: Whole, C: Whole, F: Whole, E: Whole, R: Wait>(
+fn release<A: Node, R: Wait>(
     rt: &R,
-    hub: &Hub<A, D, C, F, E>,
+    hub: &Hub<A>,
     credits: &mut Credits,
     ticket: Ticket,
     links: &Links<'_>,
@@ -221,12 +214,7 @@ fn release<A: Node, D: Whole, C: Whole, F: Whole, E: Whole, R: Wait>(
 
 /// Waits for the replies. The last one rests on all inputs before it, so there is one wait for all of them. A credit that was
 /// refused for room is held back again.
-fn release_all<A: Node, D: Whole, C: Whole, F: Whole, E: Whole, R: Wait>(
-    rt: &R,
-    hub: &Hub<A, D, C, F, E>,
-    intake: &mut Intake<A>,
-    links: &Links<'_>,
-)
+fn release_all<A: Node, R: Wait>(rt: &R, hub: &Hub<A>, intake: &mut Intake<A>, links: &Links<'_>)
     ensures { intake.new.tickets.items ≡ [] }
 {
     while let Some(ticket) = intake.tickets.pop() {
@@ -235,11 +223,7 @@ fn release_all<A: Node, D: Whole, C: Whole, F: Whole, E: Whole, R: Wait>(
 }
 
 /// Waits for the reply, and ends the ticket; `None` where the hub has failed.
-fn reply_to<A: Node, D: Whole, C: Whole, F: Whole, E: Whole, R: Wait>(
-    rt: &R,
-    hub: &Hub<A, D, C, F, E>,
-    ticket: Ticket,
-) -> Option<Reply> {
+fn reply_to<A: Node, R: Wait>(rt: &R, hub: &Hub<A>, ticket: Ticket) -> Option<Reply> {
     match hub.redeem_wait(rt, ticket) {
         Ok((reply, _stub)) => Some(reply),
         Err((ticket, _)) => {

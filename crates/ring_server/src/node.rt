@@ -1,7 +1,7 @@
 //! One node in its threads: its flusher, its inbox and its doors, and its clerk where it may be asked.
 ghost use Rattle.std.specs.Prelude.{◌≡◌, ◌+◌, length};
 ghost use denote.Param.Send.{IsSend};
-ghost use Rattle.commit_hub.specs.Pages.{ForAccepted, ForDurable, ForSpent, ForFreed, ForEpochs, IsWhole};
+ghost use Rattle.commit_hub.specs.Pages.{ForAccepted, ForTie};
 ghost use Rattle.ring_server.specs.Fits.{kept_by};
 
 use crate::clerk::{Clerk, serve_clerk, take_clerk};
@@ -14,7 +14,7 @@ use crate::run_fault::RunFault;
 use crate::shared::Shared;
 use crate::site::{Doors, Site};
 use crate::start_latch::StartLatch;
-use commit_hub::{Hub, Node, Share, Whole};
+use commit_hub::{Hub, Node, Share};
 use crossbeam_channel::Receiver;
 use decision_board::{Board, Naming};
 use disk_model::Device;
@@ -35,6 +35,15 @@ struct Crew<J: Naming, A: Node> {
     clerk: Option<Clerk<J>>,
 }
 
+/// Where messages and clients come to a node, and what its clerk is asked, where it has one.
+#[derive(Drop)]
+struct Entrance {
+    inbox: Receiver<Packet>,
+    listener: TcpListener,
+    doors: Doors,
+    asked: Option<Receiver<Inquiry>>,
+}
+
 /// What the inbox, the doors and the clerk of a node take with them.
 #[derive(Drop)]
 struct Ends<J: Naming, A: Node> {
@@ -44,16 +53,21 @@ struct Ends<J: Naming, A: Node> {
     crew: Crew<J, A>,
 }
 
+/// What all threads of a node share.
+#[derive(Drop)]
+struct Common<'s, A: Node> {
+    alloc: Global,
+    hub: &'s Hub<A>,
+    links: &'s Links<'s>,
+    latch: &'s StartLatch,
+}
+
 /// Runs a node until the last door of the ring is done, and shows what it holds then. `None` where its device failed: the
 /// others go on. It tells the latch once that its threads are there, or that a thread or memory is wanting; where the
 /// ring does not start, nothing is served.
 pub(crate) fn serve_node<
     J: Naming + Send + Sync,
     A: Node + Send + Sync,
-    D: Whole + Send + Sync,
-    C: Whole + Send + Sync,
-    F: Whole + Send + Sync,
-    E: Whole + Send + Sync,
     V: Device + Send + Drop,
     R: Threads + Wait + Clock + Sync,
 >(rt: &R, site: Site<V>, shared: &Shared) -> Option<Shown>
@@ -62,10 +76,7 @@ pub(crate) fn serve_node<
     requires opened { (kept_by site.opened).opening.inputs + length (kept_by site.opened).view.state.inputs ≡ A.opened }
     requires history { site.history ≡ J.book }
     requires accepted { ForAccepted site.blanks A.name A.parts }
-    requires durable { ForDurable site.blanks D.name D.parts × IsWhole D.all D.parts }
-    requires spent { ForSpent site.blanks C.name C.parts × IsWhole C.all C.parts }
-    requires freed { ForFreed site.blanks F.name F.parts × IsWhole F.all F.parts }
-    requires epochs { ForEpochs site.blanks E.name E.parts × IsWhole E.all E.parts }
+    requires tied { ForTie site.blanks A.tied }
 {
     let Site {
         alloc,
@@ -103,11 +114,25 @@ pub(crate) fn serve_node<
         latch.tell(rt, Err(RunFault::Memory(AllocError)));
         return None;
     };
-    let (hub, tie) = Hub::<A, D, C, F, E>::new(desk, blanks);
-    let ends = take_ends(rt, alloc, &hub, &board, inbox, listener, doors, asked);
+    let (hub, tie) = Hub::<A>::new(desk, blanks);
+    let entrance = Entrance {
+        inbox,
+        listener,
+        doors,
+        asked,
+    };
+    let ends = take_ends(rt, alloc, &hub, &board, entrance);
     let mut flusher = Flusher::new(alloc, journal, board, tie);
     let shares = match ends {
-        Some(ends) => run_threads(rt, alloc, &hub, &mut flusher, ends, &links, latch),
+        Some(ends) => {
+            let common = Common {
+                alloc,
+                hub: &hub,
+                links: &links,
+                latch,
+            };
+            run_threads(rt, &common, &mut flusher, ends)
+        }
         None => {
             latch.tell(rt, Err(RunFault::Memory(AllocError)));
             None
@@ -119,16 +144,19 @@ pub(crate) fn serve_node<
 }
 
 /// What the threads of a node take, or `None` where memory or a place is wanting.
-fn take_ends<J: Naming, A: Node, D: Whole, C: Whole, F: Whole, E: Whole, R: Wait>(
+fn take_ends<J: Naming, A: Node, R: Wait>(
     rt: &R,
     alloc: Global,
-    hub: &Hub<A, D, C, F, E>,
+    hub: &Hub<A>,
     board: &Board<J>,
-    inbox: Receiver<Packet>,
-    listener: TcpListener,
-    doors: Doors,
-    asked: Option<Receiver<Inquiry>>,
+    entrance: Entrance,
 ) -> Option<Ends<J, A>> {
+    let Entrance {
+        inbox,
+        listener,
+        doors,
+        asked,
+    } = entrance;
     let share = hub.enter(rt).ok()?;
     let seats = take_seats(rt, alloc, hub, board, doors.count)?;
     let clerk = take_clerk(board, asked, port_of(&listener), doors.count).ok()?;
@@ -145,11 +173,7 @@ fn take_ends<J: Naming, A: Node, D: Whole, C: Whole, F: Whole, E: Whole, R: Wait
 }
 
 /// What the node holds, where the shares of all places are back.
-fn settle<A: Node, D: Whole, C: Whole, F: Whole, E: Whole>(
-    hub: Hub<A, D, C, F, E>,
-    shares: Vec<Share<A>>,
-    doors: Doors,
-) -> Option<Shown>
+fn settle<A: Node>(hub: Hub<A>, shares: Vec<Share<A>>, doors: Doors) -> Option<Shown>
     requires { 1 + (doors.count + 1) ≡ A.parts }
 {
     if shares.len() != doors.count as usize + 1 {
@@ -182,17 +206,15 @@ fn reserve<A: Node>(
 
 /// Runs the inbox once all are let go, and closes the hub behind it and dismisses the clerk: the doors are done by then.
 /// Where the ring does not start, nothing is taken.
-fn serve_inbox<A: Node, D: Whole, C: Whole, F: Whole, E: Whole, R: Wait + Clock>(
+fn serve_inbox<A: Node, R: Wait + Clock>(
     rt: &R,
-    alloc: Global,
-    hub: &Hub<A, D, C, F, E>,
+    common: &Common<'_, A>,
     share: Share<A>,
     inbox: &Receiver<Packet>,
-    links: &Links<'_>,
-    latch: &StartLatch,
 ) -> Share<A> {
-    let share = if latch.wait(rt) {
-        take_all(rt, alloc, hub, share, inbox, links)
+    let (hub, links) = (common.hub, common.links);
+    let share = if common.latch.wait(rt) {
+        take_all(rt, common.alloc, hub, share, inbox, links)
     } else {
         share
     };
@@ -216,28 +238,16 @@ fn keep<A: Node>(
 }
 
 /// Starts the inbox in a thread.
-fn start_inbox<
-    's,
-    N: 's,
-    A: Node + Send + Sync + 's,
-    D: Whole + Send + Sync + 's,
-    C: Whole + Send + Sync + 's,
-    F: Whole + Send + Sync + 's,
-    E: Whole + Send + Sync + 's,
-    R: Wait + Clock + Sync,
->(
+fn start_inbox<'s, N: 's, A: Node + Send + Sync + 's, R: Wait + Clock + Sync>(
     scope: &Scope<'s, N>,
     rt: &'s R,
-    alloc: Global,
-    hub: &'s Hub<A, D, C, F, E>,
+    common: &'s Common<'s, A>,
     share: Share<A>,
     inbox: &'s Receiver<Packet>,
-    links: &'s Links<'s>,
-    latch: &'s StartLatch,
     handles: &mut Vec<JoinHandle<Share<A>>>,
 ) -> Result<(), RunFault> {
     let started = scope
-        .spawn(move || serve_inbox(rt, alloc, hub, share, inbox, links, latch))
+        .spawn(move || serve_inbox(rt, common, share, inbox))
         .ok();
     keep(handles, started)
 }
@@ -248,23 +258,22 @@ fn start_doors<
     N: 's,
     J: Naming + Send + Sync + 's,
     A: Node + Send + Sync + 's,
-    D: Whole + Send + Sync + 's,
-    C: Whole + Send + Sync + 's,
-    F: Whole + Send + Sync + 's,
-    E: Whole + Send + Sync + 's,
     R: Wait + Clock + Sync,
 >(
     scope: &Scope<'s, N>,
     rt: &'s R,
-    alloc: Global,
-    hub: &'s Hub<A, D, C, F, E>,
+    common: &'s Common<'s, A>,
     seats: Vec<Seat<J, A>>,
     front: &'s Front,
-    links: &'s Links<'s>,
-    latch: &'s StartLatch,
     handles: &mut Vec<JoinHandle<Share<A>>>,
 ) -> Result<(), RunFault> {
     for seat in seats {
+        let Common {
+            alloc,
+            hub,
+            links,
+            latch,
+        } = *common;
         let started = scope
             .spawn(move || serve_door(rt, alloc, hub, seat, front, links, latch))
             .ok();
@@ -279,23 +288,22 @@ fn start_clerk<
     N: 's,
     J: Naming + Send + Sync + 's,
     A: Node + Send + Sync + 's,
-    D: Whole + Send + Sync + 's,
-    C: Whole + Send + Sync + 's,
-    F: Whole + Send + Sync + 's,
-    E: Whole + Send + Sync + 's,
     R: Wait + Clock + Sync,
 >(
     scope: &Scope<'s, N>,
     rt: &'s R,
-    alloc: Global,
-    hub: &'s Hub<A, D, C, F, E>,
+    common: &'s Common<'s, A>,
     clerk: Option<Clerk<J>>,
-    links: &'s Links<'s>,
-    latch: &'s StartLatch,
 ) -> Result<(), RunFault> {
     let Some(clerk) = clerk else {
         return Ok(());
     };
+    let Common {
+        alloc,
+        hub,
+        links,
+        latch,
+    } = *common;
     match scope.spawn(move || serve_clerk(rt, alloc, hub, clerk, links, latch)) {
         Ok(_) => Ok(()),
         Err(_) => Err(RunFault::Thread),
@@ -308,33 +316,24 @@ fn start_crew<
     N: 's,
     J: Naming + Send + Sync + 's,
     A: Node + Send + Sync + 's,
-    D: Whole + Send + Sync + 's,
-    C: Whole + Send + Sync + 's,
-    F: Whole + Send + Sync + 's,
-    E: Whole + Send + Sync + 's,
     R: Wait + Clock + Sync,
 >(
     scope: &Scope<'s, N>,
     rt: &'s R,
-    alloc: Global,
-    hub: &'s Hub<A, D, C, F, E>,
+    common: &'s Common<'s, A>,
     crew: Crew<J, A>,
     inbox: &'s Receiver<Packet>,
     front: &'s Front,
-    links: &'s Links<'s>,
-    latch: &'s StartLatch,
     handles: &mut Vec<JoinHandle<Share<A>>>,
-    shares: &mut Vec<Share<A>>,
 ) -> Result<(), RunFault> {
-    reserve(handles, shares, crew.seats.len())?;
     let Crew {
         share,
         seats,
         clerk,
     } = crew;
-    start_inbox(scope, rt, alloc, hub, share, inbox, links, latch, handles)?;
-    start_doors(scope, rt, alloc, hub, seats, front, links, latch, handles)?;
-    start_clerk(scope, rt, alloc, hub, clerk, links, latch)
+    start_inbox(scope, rt, common, share, inbox, handles)?;
+    start_doors(scope, rt, common, seats, front, handles)?;
+    start_clerk(scope, rt, common, clerk)
 }
 
 /// Waits for the threads, and takes their shares. Whether there is room for all.
@@ -355,23 +354,14 @@ fn join_all<A: Node, R: Threads>(
 fn run_threads<
     J: Naming + Send + Sync,
     A: Node + Send + Sync,
-    D: Whole + Send + Sync,
-    C: Whole + Send + Sync,
-    F: Whole + Send + Sync,
-    E: Whole + Send + Sync,
     V: Device,
     R: Threads + Wait + Clock + Sync,
 >(
     rt: &R,
-    alloc: Global,
-    hub: &Hub<A, D, C, F, E>,
-    flusher: &mut Flusher<V, J, A, D, C, F, E>,
+    common: &Common<'_, A>,
+    flusher: &mut Flusher<V, J, A>,
     ends: Ends<J, A>,
-    links: &Links<'_>,
-    latch: &StartLatch,
-) -> Option<Vec<Share<A>>>
-    requires { IsWhole D.all D.parts × IsWhole C.all C.parts × IsWhole F.all F.parts × IsWhole E.all E.parts }
-{
+) -> Option<Vec<Share<A>>> {
     let Ends {
         inbox,
         listener,
@@ -385,24 +375,15 @@ fn run_threads<
         scope_env(),
         rt,
         |scope|
-            requires { IsSend J.row × IsSend A.row × IsSend D.row × IsSend C.row × IsSend F.row × IsSend E.row
-                × IsWhole D.all D.parts × IsWhole C.all C.parts × IsWhole F.all F.parts × IsWhole E.all E.parts }
+            requires { IsSend J.row × IsSend A.row }
         {
-            let mut handles = Vec::new(alloc);
-            let mut shares = Vec::new(alloc);
-            let outcome = start_crew(
-                scope,
-                rt,
-                alloc,
-                hub,
-                crew,
-                inbox,
-                front,
-                links,
-                latch,
-                &mut handles,
-                &mut shares,
-            );
+            let (hub, links, latch) = (common.hub, common.links, common.latch);
+            let mut handles = Vec::new(common.alloc);
+            let mut shares = Vec::new(common.alloc);
+            let mut outcome = reserve(&mut handles, &mut shares, crew.seats.len());
+            if outcome.is_ok() {
+                outcome = start_crew(scope, rt, common, crew, inbox, front, &mut handles);
+            }
             // No message of this run may come to the successor before these.
             send_window(rt, hub, links);
             latch.tell(rt, outcome);

@@ -26,7 +26,7 @@ fn one_node<V: Device + Send + Drop, R: Threads + Wait + Clock + Sync>(
     site: Site<V>,
     shared: &Shared,
 ) -> Option<Shown> {
-    serve_node::<Brand, Brand, Brand, Brand, Brand, Brand, V, R>(rt, site, shared)
+    serve_node::<Brand, Brand, V, R>(rt, site, shared)
 }
 
 /// Runs this node of the ring. However it fails, it is told.

@@ -5,34 +5,39 @@ use Rattle.disk_model.specs.declared.device.Device as device
 use Rattle.ring_records.specs.declared.decision.Decision.{Decision}
 use Rattle.gated_journal.specs.Journal.{device_of}
 use Rattle.gated_journal.specs.declared.journal.Journal.{Journal}
-use Rattle.decision_board.specs.Boards.{published, pending}
+use Rattle.decision_board.specs.Boards.{BoardView, published, pending}
 use Rattle.commit_hub.specs.declared.ledgers.Node as node
-use Rattle.commit_hub.specs.declared.ledgers.Whole as whole
+use Rattle.commit_hub.specs.Holders.{known_by}
+use Rattle.commit_hub.specs.Tied.{Durable}
 use Rattle.ring_service.specs.declared.flusher.Flusher.{Flusher}
 
-module _ {V J A D C F E : Type 0} {v : device.Ghosts V} {a : node.Ghosts A} {la : ledger.Ghosts A} {d : whole.Ghosts D} {c : whole.Ghosts C} {f : whole.Ghosts F} {e : whole.Ghosts E} where
-  abbrev pub journal_of : Flusher V J A D C F E v a la d c f e → Journal V v
+module _ {V J A : Type 0} {v : device.Ghosts V} {a : node.Ghosts A} {la : ledger.Ghosts A} where
+  abbrev pub journal_of : Flusher V J A v a la → Journal V v
   journal_of flusher = flusher.journal
 
-  abbrev pub device_in : Flusher V J A D C F E v a la d c f e → V
+  abbrev pub device_in : Flusher V J A v a la → V
   device_in flusher = device_of (journal_of flusher)
 
-  -- the board: what is published, and what it took since
-  abbrev pub board_of : Flusher V J A D C F E v a la d c f e → List Decision × List Decision
+  -- what of its node is durable: the inputs since the hub's opening, and the area in use
+  abbrev pub known_to : Flusher V J A v a la → Durable
+  known_to flusher = known_by flusher.tie
+
+  -- the board: what is published, what it took since, and how many growths it was refused
+  abbrev pub board_of : Flusher V J A v a la → BoardView
   board_of flusher = flusher.board
 
   -- the decisions that the board could not take yet
-  abbrev pub owed_of : Flusher V J A D C F E v a la d c f e → List Decision
+  abbrev pub owed_of : Flusher V J A v a la → List Decision
   owed_of flusher = flusher.owed.items
 
   -- all decisions that it was told of, in order: published, taken by the board, and owed
-  abbrev pub told_to : Flusher V J A D C F E v a la d c f e → List Decision
+  abbrev pub told_to : Flusher V J A v a la → List Decision
   told_to flusher = published (board_of flusher) ++ (pending (board_of flusher) ++ owed_of flusher)
 
   -- all that its board took is known to be published
-  abbrev pub is_published : Flusher V J A D C F E v a la d c f e → Bool
+  abbrev pub is_published : Flusher V J A v a la → Bool
   is_published flusher = flusher.is_published
 
   -- the device failed with one of its batches, or the hub refused one
-  abbrev pub has_ended : Flusher V J A D C F E v a la d c f e → Bool
+  abbrev pub has_ended : Flusher V J A v a la → Bool
   has_ended flusher = flusher.has_ended

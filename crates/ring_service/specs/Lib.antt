@@ -1,4 +1,5 @@
 pub mod Flushers
+pub mod Props
 pub mod Restarts
 pub mod Rounds
 pub mod Services

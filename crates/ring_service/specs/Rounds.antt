@@ -1,23 +1,23 @@
 -- What a round of a flusher does.
-use Rattle.std.specs.Prelude.{ℕ, ◌≡◌, ◌+◌, ◌-◌, ◌^◌, ◌<◌, ◌≤◌, ◌⊎◌, Bool, true, List, length, Option, Some, None}
+use Rattle.std.specs.Prelude.{ℕ, ◌≡◌, ◌+◌, ◌-◌, ◌^◌, ◌<◌, ◌≤◌, ◌⊎◌, Bool, true, List, ◌++◌, length, Option, Some, None}
 use Rattle.disk_model.specs.Disk.{Disk, LeavesOnly}
 use Rattle.ring_records.specs.declared.input.Input.{Input}
 use Rattle.ring_records.specs.declared.limits.TheConstants.{BATCH_INPUTS}
 use Rattle.ring_records.specs.declared.refusal.Refusal.{Refusal}
 use Rattle.ring_records.specs.declared.refusal.Refusal.TheVariants as refused
 use Rattle.ring_records.specs.declared.summary.Summary.{Summary}
-use Rattle.ring_records.specs.Admission.{costs_of, newest}
+use Rattle.ring_records.specs.Admission.{costs_of, newest, used}
+use Rattle.ring_records.specs.Known.{after}
 use Rattle.ring_records.specs.Member.{Member}
 use Rattle.ring_records.specs.Snapshot.{IsSound, snapshot_len}
 use Rattle.gated_journal.specs.Areas.{AllReadAs, ReadsAsOneOf}
 use Rattle.gated_journal.specs.Batch.{shown, numbered_by, base_by}
 use Rattle.gated_journal.specs.Reading.{Reading, fresh_area, with_more}
 use Rattle.group_commit.specs.declared.landed.Landed.{Landed}
-use Rattle.group_commit.specs.Past.{IsPast}
 use Rattle.commit_hub.specs.declared.work.Work.{Work}
 use Rattle.commit_hub.specs.declared.work.Work.TheVariants as works
 use Rattle.commit_hub.specs.Told.{IsBrought}
-use Rattle.commit_hub.specs.Works.{IsSummedBehind}
+use Rattle.commit_hub.specs.Tied.{Durable, with_batch, with_area}
 
 -- ---- what is made durable: inputs of a batch; or a summary of all inputs, and those of them that were not durable yet
 
@@ -26,38 +26,36 @@ abbrev pub reading_after : ℕ → Option Summary → List Input → Reading →
 reading_after epoch None inputs r = with_more r inputs
 reading_after epoch (Some base) inputs r = fresh_area newest (epoch + 1) base
 
--- the epoch of its area in use then
-abbrev pub epoch_behind : Option Summary → ℕ → ℕ
-epoch_behind None epoch = epoch
-epoch_behind (Some base) epoch = epoch + 1
+-- what is known to be durable then
+abbrev pub known_behind : Option Summary → List Input → Durable → Durable
+known_behind None inputs d = with_batch d inputs
+known_behind (Some base) inputs d = with_area d inputs (snapshot_len base)
 
--- A batch has few inputs. A summary is that of some lawful history of the node, behind the past that its opening is of,
--- which has so many inputs and then these.
-pub record IsMade (member : Member) (opening : Summary) (first : ℕ) (inputs : List Input) (base : Option Summary) : Type 0 where
+-- A batch has few inputs. A summary is that of all inputs: of those since the opening that were durable before, and then
+-- these.
+pub record IsMade (member : Member) (opening : Summary) (known : Durable) (inputs : List Input) (base : Option Summary) : Type 0 where
   pub few : base ≡ None → length inputs ≤ BATCH_INPUTS
-  pub summed : (s : Summary) → base ≡ Some s → (past : List Input) → IsPast member opening past → IsSummedBehind member past first inputs s
-  pub counted : (s : Summary) → base ≡ Some s → s.inputs ≡ first + length inputs
+  pub summed : (s : Summary) → base ≡ Some s → s ≡ after member.node opening (known.inputs ++ inputs)
 
--- A round made these inputs of the node durable, at least one in a batch: the journal, which had so many inputs, and whose
--- area in use had this epoch, has them behind those that it read as, or in a summary of all in the next epoch; so many
--- inputs it has now, and this is its epoch. This is what they let the node release.
-pub record IsRound (member : Member) (opening : Summary) (before after : Disk) (first epoch len area : ℕ) (landed : Landed) : Type 0 where
+-- A round made these inputs of the node durable, at least one in a batch: the journal has them behind those that it read
+-- as, or in a summary of all in the next epoch, and they are known to be durable behind those that were before. This is
+-- what they let the node release.
+pub record IsRound (member : Member) (opening : Summary) (before behind : Disk) (old new : Durable) (landed : Landed) : Type 0 where
   pub inputs : List Input
   pub base : Option Summary
-  pub made : IsMade member opening first inputs base
+  pub made : IsMade member opening old inputs base
   pub some : base ≡ None → 1 ≤ length inputs
   pub count : landed.count ≡ length inputs
-  pub behind : len ≡ first + length inputs
-  pub in_use : area ≡ epoch_behind base epoch
-  pub durable : (r : Reading) → AllReadAs member before r → AllReadAs member after (reading_after epoch base inputs r)
-  pub brought : IsBrought member opening first inputs landed
+  pub next : new ≡ known_behind base inputs old
+  pub durable : (r : Reading) → AllReadAs member before r → AllReadAs member behind (reading_after old.base.epoch base inputs r)
+  pub brought : IsBrought member opening old.inputs inputs landed
 
 -- A stop at any moment of a round leaves what the journal read as, or what it reads as with what the round makes durable.
-pub record IsStopped {V : Type 0} (clock : V → ℕ) (left_since : V → ℕ → List ℕ → Type 0) (old new : V) (member : Member) (opening : Summary) (first epoch : ℕ) (r : Reading) : Type 0 where
+pub record IsStopped {V : Type 0} (clock : V → ℕ) (left_since : V → ℕ → List ℕ → Type 0) (old new : V) (member : Member) (opening : Summary) (known : Durable) (r : Reading) : Type 0 where
   pub inputs : List Input
   pub base : Option Summary
-  pub made : IsMade member opening first inputs base
-  pub any_moment : LeavesOnly clock left_since old new (ReadsAsOneOf member r (reading_after epoch base inputs r))
+  pub made : IsMade member opening known inputs base
+  pub any_moment : LeavesOnly clock left_since old new (ReadsAsOneOf member r (reading_after known.base.epoch base inputs r))
 
 -- ---- what a journal takes
 
@@ -70,6 +68,12 @@ IsTaken member first room epoch (works.Checkpoint made) =
     ((numbered_by made).node ≡ member.node) × ((numbered_by made).first ≡ first)
     × (snapshot_len (base_by made) ≤ member.capacity) × IsSound member.n (base_by made) × (epoch + 1 < 2 ^ 40)
     × ((base_by made).inputs ≡ first + length (numbered_by made).inputs) × ((numbered_by made).snapshot ≡ Some (snapshot_len (base_by made)))
+
+-- a journal with so many inputs, so much room and this epoch of its area in use has what is known to be durable
+pub record HasKnown (member : Member) (opening : Summary) (known : Durable) (len room epoch : ℕ) : Type 0 where
+  pub count : len ≡ opening.inputs + length known.inputs
+  pub left : room ≡ member.capacity - used known.base known.inputs
+  pub area : epoch ≡ known.base.epoch
 
 -- the room that is left behind a batch whose inputs take so many bytes, or behind a snapshot of this length
 abbrev pub room_after : Option ℕ → ℕ → ℕ → ℕ → ℕ

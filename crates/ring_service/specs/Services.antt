@@ -20,7 +20,6 @@ use Rattle.group_commit.specs.Past.{IsPast}
 use Rattle.decision_board.specs.Boards.{seen, learned}
 use Rattle.commit_hub.specs.Holders.{count_of}
 use Rattle.commit_hub.specs.declared.ledgers.Node as node
-use Rattle.commit_hub.specs.declared.ledgers.Whole as whole
 use Rattle.commit_hub.specs.declared.share.Share.{Share}
 use Rattle.sessions.specs.Session.{Answer}
 use Rattle.ring_service.specs.declared.service.HubService.{HubService}
@@ -31,25 +30,25 @@ pub record IsLatestReply (group : List ℕ) (reply : Reply) (list : List Decisio
   pub is : reply ≡ replied.Latest latest
   pub greatest : IsLatest (leads_in list group) latest
 
-module _ {R J A D C F E : Type 0} {a : node.Ghosts A} {d : whole.Ghosts D} {c : whole.Ghosts C} {f : whole.Ghosts F} {e : whole.Ghosts E} where
-  abbrev pub share_of : HubService R J A D C F E a d c f e → Share A a
+module _ {R J A : Type 0} {a : node.Ghosts A} where
+  abbrev pub share_of : HubService R J A a → Share A a
   share_of service = service.share
 
   -- what the service's reader of the board saw last, and the longest list that it learned
-  abbrev pub reader_of : HubService R J A D C F E a d c f e → List Decision × List Decision
+  abbrev pub reader_of : HubService R J A a → List Decision × List Decision
   reader_of service = service.reader
 
   -- the stub of its last reply to a Stand
-  abbrev pub last_of : HubService R J A D C F E a d c f e → Option Answered
+  abbrev pub last_of : HubService R J A a → Option Answered
   last_of service = service.last
 
   -- its share counts at most one input more
-  abbrev pub CountsOne : HubService R J A D C F E a d c f e → HubService R J A D C F E a d c f e → Type 0
+  abbrev pub CountsOne : HubService R J A a → HubService R J A a → Type 0
   CountsOne old new = (count_of (share_of old) ≤ count_of (share_of new)) × (count_of (share_of new) ≤ count_of (share_of old) + 1)
 
   -- A question was answered by the hub: the reply is that of the last stub, which has this question. A node with some
   -- lawful history answers so, behind each past of which its opening is the summary.
-  pub record IsReleased (member : Member) (opening : Summary) (old : HubService R J A D C F E a d c f e) (q : Request) (reply : Reply) (new : HubService R J A D C F E a d c f e) : Type 0 where
+  pub record IsReleased (member : Member) (opening : Summary) (old : HubService R J A a) (q : Request) (reply : Reply) (new : HubService R J A a) : Type 0 where
     pub given : Answered
     pub last : last_of new ≡ Some given
     pub question : given.question ≡ q
@@ -60,25 +59,25 @@ module _ {R J A D C F E : Type 0} {a : node.Ghosts A} {d : whole.Ghosts D} {c : 
 
   -- It was not: the hub is closed or has failed, all numbers of tickets were given, a growth was refused, or the ticket
   -- is not the hub's. The ticket, if there was one, is forfeited.
-  pub record IsUnreleased (old : HubService R J A D C F E a d c f e) (why : Refusal) (new : HubService R J A D C F E a d c f e) : Type 0 where
+  pub record IsUnreleased (old : HubService R J A a) (why : Refusal) (new : HubService R J A a) : Type 0 where
     pub cause : (why ≡ refused.Failed) ⊎ ((why ≡ refused.Limit) ⊎ ((why ≡ refused.OutOfMemory) ⊎ (why ≡ refused.Foreign)))
     pub last : last_of new ≡ last_of old
     pub board : reader_of new ≡ reader_of old
     pub counts : CountsOne old new
 
   -- the board was read: what is seen begins with what was seen, and with what was learned
-  pub record IsRead (old new : HubService R J A D C F E a d c f e) : Type 0 where
+  pub record IsRead (old new : HubService R J A a) : Type 0 where
     pub begins : IsPrefix (seen (reader_of old)) (seen (reader_of new)) × IsPrefix (learned (reader_of old)) (seen (reader_of new))
     pub learns : learned (reader_of new) ≡ learned (reader_of old)
     pub last : last_of new ≡ last_of old
     pub share : share_of new ≡ share_of old
 
   -- the board has ended
-  abbrev pub IsOver : HubService R J A D C F E a d c f e → Refusal → HubService R J A D C F E a d c f e → Type 0
+  abbrev pub IsOver : HubService R J A a → Refusal → HubService R J A a → Type 0
   IsOver old why new = (why ≡ refused.NoPlace) × (new ≡ old)
 
   -- A Stand is answered by the hub, a question for leaders by the board. Nothing else is asked.
-  abbrev pub HubAnswers : Member → Summary → HubService R J A D C F E a d c f e → Request → Answer → HubService R J A D C F E a d c f e → Type 0
+  abbrev pub HubAnswers : Member → Summary → HubService R J A a → Request → Answer → HubService R J A a → Type 0
   HubAnswers member opening old (Stand key bid) (Ok reply) new = IsReleased member opening old (Stand key bid) reply new
   HubAnswers member opening old (Stand key bid) (Err why) new = IsUnreleased old why new
   HubAnswers member opening old (Who key) (Ok reply) new = (reply ≡ replied.Leader (leader_in (seen (reader_of new)) key)) × IsRead old new

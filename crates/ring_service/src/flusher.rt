@@ -8,16 +8,16 @@ ghost use Rattle.gated_journal.specs.Batch.{landed, lost};
 ghost use Rattle.gated_journal.specs.Journal.{device_of, member_of, len_of, room_of, epoch_of as journal_epoch, is_spoiled};
 ghost use Rattle.gated_journal.specs.Reading.{Reading, device_size};
 ghost use Rattle.gated_journal.specs.Unread.{IsFault};
-ghost use Rattle.decision_board.specs.Boards.{published, pending};
-ghost use Rattle.commit_hub.specs.Holders.{durable_of, spent_of, freed_of, epoch_of};
-ghost use Rattle.commit_hub.specs.Pages.{IsWhole};
+ghost use Rattle.decision_board.specs.Boards.{published, pending, refusals, LackedMemory};
+ghost use Rattle.commit_hub.specs.Holders.{known_by};
 ghost use Rattle.commit_hub.specs.Told.{IsBrought};
 ghost use Rattle.commit_hub.specs.Works.{flown_by, summary_by, IsNext};
 ghost use Rattle.node_core.specs.Core.{IsNodeOf};
-ghost use Rattle.ring_service.specs.Rounds.{IsRound, IsStopped, IsIdle, IsSpent, IsTaken, epoch_after, reading_after, room_after};
+ghost use Rattle.ring_service.specs.Rounds.{IsRound, IsStopped, IsIdle, IsSpent, IsTaken, HasKnown, epoch_after, known_behind, reading_after, room_after};
+ghost use Rattle.ring_service.specs.Props.{HasKnown-prop};
 
 use crate::gate::Gate;
-use commit_hub::{Hub, Node, Tie, Whole, Work};
+use commit_hub::{Hub, Node, Tie, Work};
 use decision_board::{Board, Naming};
 use disk_model::Device;
 use gated_journal::{Journal, Receipt, Spoiled};
@@ -28,9 +28,9 @@ use std::collections::VecDeque;
 use std::sync::Wait;
 
 /// The journal and the tie of a hub's node, the board of its decisions, and those that the board could not take yet.
-pub struct Flusher<V: Device, J: Naming, A: Node, D: Whole, C: Whole, F: Whole, E: Whole> {
+pub struct Flusher<V: Device, J: Naming, A: Node> {
     journal: Journal<V>,
-    tie: Tie<A, D, C, F, E>,
+    tie: Tie<A>,
     board: Board<J>,
     owed: VecDeque<Decision>,
     is_published: bool,
@@ -39,37 +39,21 @@ pub struct Flusher<V: Device, J: Naming, A: Node, D: Whole, C: Whole, F: Whole, 
     ghost shown: { is_published ≡ true → pending board ≡ [] },
     ghost ready: { has_ended ≡ false → is_spoiled journal ≡ false },
     ghost member: { has_ended ≡ false → member_of journal ≡ A.member },
-    ghost len: { has_ended ≡ false → len_of journal ≡ durable_of tie },
-    ghost room: { has_ended ≡ false → room_of journal ≡ (A.member.capacity + freed_of tie) - spent_of tie },
-    ghost epoch: { has_ended ≡ false → journal_epoch journal ≡ epoch_of tie },
+    ghost known: { has_ended ≡ false → HasKnown A.member A.opening (known_by tie) (len_of journal) (room_of journal) (journal_epoch journal) } by { HasKnown-prop has_ended A.member A.opening (known_by tie) (len_of journal) (room_of journal) (journal_epoch journal) },
 }
 
-impl<V: Device, J: Naming, A: Node, D: Whole, C: Whole, F: Whole, E: Whole> Flusher<
-    V,
-    J,
-    A,
-    D,
-    C,
-    F,
-    E,
-> {
-    ghost use Rattle.ring_service.specs.Flushers.{journal_of, device_in, board_of, owed_of, told_to, is_published, has_ended};
+impl<V: Device, J: Naming, A: Node> Flusher<V, J, A> {
+    ghost use Rattle.ring_service.specs.Flushers.{journal_of, device_in, known_to, board_of, owed_of, told_to, is_published, has_ended};
 
     /// A flusher that owes nothing. The journal is that of the node of the tie's hub, is not spoiled, and has what the
-    /// tie counts.
-    pub fn new(
-        alloc: Global,
-        journal: Journal<V>,
-        board: Board<J>,
-        tie: Tie<A, D, C, F, E>,
-    ) -> Flusher<V, J, A, D, C, F, E>
+    /// tie knows.
+    pub fn new(alloc: Global, journal: Journal<V>, board: Board<J>, tie: Tie<A>) -> Flusher<V, J, A>
         requires inside { IsNodeOf A.member.n A.member.node }
         requires ready { is_spoiled journal ≡ false }
         requires member { member_of journal ≡ A.member }
-        requires len { len_of journal ≡ durable_of tie }
-        requires room { room_of journal ≡ (A.member.capacity + freed_of tie) - spent_of tie }
-        requires epoch { journal_epoch journal ≡ epoch_of tie }
+        requires known { HasKnown A.member A.opening (known_by tie) (len_of journal) (room_of journal) (journal_epoch journal) }
         ensures journal { journal_of result ≡ journal }
+        ensures known { known_to result ≡ known_by tie }
         ensures board { board_of result ≡ board }
         ensures owed { owed_of result ≡ [] }
         ensures goes_on { has_ended result ≡ false }
@@ -91,25 +75,28 @@ impl<V: Device, J: Naming, A: Node, D: Whole, C: Whole, F: Whole, E: Whole> Flus
     /// Refused as 8, 9 or 12, nothing was launched: a growth was refused; the flusher has ended or the hub has failed;
     /// something flies. Refused as 15, the device failed, and as 10, the hub refused what came of it, which is ended.
     /// After 15 and 10 the flusher has ended. Decisions that the board cannot take for memory stay owed, and go first in
-    /// the next round; all that it took is published, but for want of memory, of which `is_published` tells.
+    /// the next round; all that it took is published, but for want of memory, of which `is_published` tells. Behind a
+    /// round in which the board was refused no growth nothing is owed, and all is published.
     pub fn flush_round<R: Wait, G: Gate>(
         &mut self,
         rt: &R,
-        hub: &Hub<A, D, C, F, E>,
+        hub: &Hub<A>,
         gate: &mut G,
     ) -> Result<Option<Landed>, Refusal>
-        requires whole { IsWhole D.all D.parts × IsWhole C.all C.parts × IsWhole F.all F.parts × IsWhole E.all E.parts }
         ensures round { IfOk result (λ some. IfSome some (λ landed. IsRound A.member A.opening (V.disk (device_in self.old)) (V.disk (device_in self.new))
-            (len_of (journal_of self.old)) (journal_epoch (journal_of self.old)) (len_of (journal_of self.new)) (journal_epoch (journal_of self.new)) landed)) }
+            (known_to self.old) (known_to self.new) landed)) }
         ensures told { IfOk result (λ some. IfSome some (λ landed. told_to self.new ≡ told_to self.old ++ landed.decisions.items)) }
         ensures published { IsPrefix (published (board_of self.old)) (published (board_of self.new)) }
         ensures pending { is_published self.new ≡ true → pending (board_of self.new) ≡ [] }
-        ensures none { IfOk result (λ some. IfNone some (journal_of self.new ≡ journal_of self.old)) }
+        ensures all { IfOk result (λ some. IfSome some (λ _. LackedMemory (board_of self.old) (board_of self.new)
+            ⊎ ((is_published self.new ≡ true) × (pending (board_of self.new) ≡ []) × (owed_of self.new ≡ [])))) }
+        ensures refusals { refusals (board_of self.old) ≤ refusals (board_of self.new) }
+        ensures none { IfOk result (λ some. IfNone some ((journal_of self.new ≡ journal_of self.old) × (known_to self.new ≡ known_to self.old))) }
         ensures kept { IfOk result (λ some. IfNone some (told_to self.new ≡ told_to self.old)) }
 
         // Refused, no decision is lost.
         ensures refusal { IfErr result (λ why. IsIdle why ⊎ (IsFault (V.count (device_in self.old)) (V.count (device_in self.new)) why ⊎ (why ≡ Refusal.Foreign))) }
-        ensures idle { IfErr result (λ why. IsIdle why → journal_of self.new ≡ journal_of self.old) }
+        ensures idle { IfErr result (λ why. IsIdle why → (journal_of self.new ≡ journal_of self.old) × (known_to self.new ≡ known_to self.old)) }
         ensures spoiled { IfErr result (λ why. IsFault (V.count (device_in self.old)) (V.count (device_in self.new)) why → is_spoiled (journal_of self.new) ≡ true) }
         ensures foreign { IfErr result (λ why. why ≡ Refusal.Foreign
             → IsSpent (len_of (journal_of self.old)) (len_of (journal_of self.new)) (journal_epoch (journal_of self.old)) (journal_epoch (journal_of self.new)) (is_spoiled (journal_of self.new))) }
@@ -123,7 +110,7 @@ impl<V: Device, J: Naming, A: Node, D: Whole, C: Whole, F: Whole, E: Whole> Flus
 
         // A stop at any moment leaves what the journal read as, or what it reads as behind the round.
         ensures any_moment { has_ended self.old ≡ false → (r : Reading) → AllReadAs A.member (V.disk (device_in self.old)) r
-            → IsStopped V.clock V.left_since (device_in self.old) (device_in self.new) A.member A.opening (len_of (journal_of self.old)) (journal_epoch (journal_of self.old)) r }
+            → IsStopped V.clock V.left_since (device_in self.old) (device_in self.new) A.member A.opening (known_to self.old) r }
     {
         if self.has_ended {
             return Err(Refusal::Failed);
@@ -219,33 +206,28 @@ fn write<V: Device>(journal: &mut Journal<V>, work: Work) -> Result<Receipt, Spo
 }
 
 /// Makes it durable, and tells the hub what became of it. What the hub refuses is ended.
-fn settle<V: Device, A: Node, D: Whole, C: Whole, F: Whole, E: Whole, R: Wait>(
+fn settle<V: Device, A: Node, R: Wait>(
     rt: &R,
-    hub: &Hub<A, D, C, F, E>,
+    hub: &Hub<A>,
     journal: &mut Journal<V>,
-    tie: &mut Tie<A, D, C, F, E>,
+    tie: &mut Tie<A>,
     work: Work,
 ) -> Result<Landed, Refusal>
-    requires whole { IsWhole D.all D.parts × IsWhole C.all C.parts × IsWhole F.all F.parts × IsWhole E.all E.parts }
     requires ready { is_spoiled journal.old ≡ false }
     requires member { member_of journal.old ≡ A.member }
     requires inside { IsNodeOf A.member.n A.member.node }
-    requires next { IsNext A.member A.opening tie.old work }
-    requires len { len_of journal.old ≡ durable_of tie.old }
-    requires room { room_of journal.old ≡ (A.member.capacity + freed_of tie.old) - spent_of tie.old }
-    requires epoch { journal_epoch journal.old ≡ epoch_of tie.old }
+    requires next { IsNext A.member A.opening (known_by tie.old) work }
+    requires based { (known_by tie.old).base.inputs ≤ length (known_by tie.old).inputs }
+    requires known { HasKnown A.member A.opening (known_by tie.old) (len_of journal.old) (room_of journal.old) (journal_epoch journal.old) }
     ensures count { IfOk result (λ landed. landed.count ≡ length (flown_by work).inputs) }
-    ensures brought { IfOk result (λ landed. IsBrought A.member A.opening (len_of journal.old) (flown_by work).inputs landed) }
+    ensures brought { IfOk result (λ landed. IsBrought A.member A.opening (known_by tie.old).inputs (flown_by work).inputs landed) }
     ensures few { IfOk result (λ landed. length landed.decisions.items ≤ length (flown_by work).inputs) }
     ensures durable { OnOk result ((r : Reading) → AllReadAs A.member (V.disk (device_of journal.old)) r
         → AllReadAs A.member (V.disk (device_of journal.new)) (reading_after (journal_epoch journal.old) (summary_by work) (flown_by work).inputs r)) }
     ensures ready { OnOk result (is_spoiled journal.new ≡ false) }
     ensures member { member_of journal.new ≡ A.member }
-    ensures behind { OnOk result (len_of journal.new ≡ len_of journal.old + length (flown_by work).inputs) }
-    ensures in_use { OnOk result (journal_epoch journal.new ≡ epoch_after (flown_by work).snapshot (journal_epoch journal.old)) }
-    ensures len { OnOk result (len_of journal.new ≡ durable_of tie.new) }
-    ensures room { OnOk result (room_of journal.new ≡ (A.member.capacity + freed_of tie.new) - spent_of tie.new) }
-    ensures epoch { OnOk result (journal_epoch journal.new ≡ epoch_of tie.new) }
+    ensures next { OnOk result (known_by tie.new ≡ known_behind (summary_by work) (flown_by work).inputs (known_by tie.old)) }
+    ensures known { OnOk result (HasKnown A.member A.opening (known_by tie.new) (len_of journal.new) (room_of journal.new) (journal_epoch journal.new)) }
     ensures refusal { IfErr result (λ why. IsFault (V.count (device_of journal.old)) (V.count (device_of journal.new)) why ⊎ (why ≡ Refusal.Foreign)) }
     ensures spoiled { IfErr result (λ why. IsFault (V.count (device_of journal.old)) (V.count (device_of journal.new)) why → is_spoiled journal.new ≡ true) }
     ensures foreign { IfErr result (λ why. why ≡ Refusal.Foreign → IsSpent (len_of journal.old) (len_of journal.new) (journal_epoch journal.old) (journal_epoch journal.new) (is_spoiled journal.new)) }

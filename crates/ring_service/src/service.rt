@@ -1,7 +1,7 @@
 //! A service over a hub and the board of its node.
 ghost use Rattle.std.specs.Prelude.{◌≡◌, Some, None, is_some, IfSome};
 
-use commit_hub::{Hub, Node, Share, Whole};
+use commit_hub::{Hub, Node, Share};
 use decision_board::{BoardReader, Naming};
 use group_commit::Stub;
 use ring_records::{Bid, GroupName, Key, Refusal, Reply, Request};
@@ -12,33 +12,24 @@ use std::sync::Wait;
 /// reply is released; it reads leaders from the board, whose reads take no handle to wait. A Stand is refused as 9 where
 /// the hub is closed or has failed, as 6 and as 8; a read as 20 after the board's end.
 #[derive(Drop)]
-pub struct HubService<'a, R, J: Naming, A: Node, D: Whole, C: Whole, F: Whole, E: Whole> {
+pub struct HubService<'a, R, J: Naming, A: Node> {
     rt: &'a R,
-    hub: &'a Hub<A, D, C, F, E>,
+    hub: &'a Hub<A>,
     share: Share<A>,
     reader: BoardReader<J>,
     last: Option<Stub>,
 }
 
-impl<'a, R, J: Naming, A: Node, D: Whole, C: Whole, F: Whole, E: Whole> HubService<
-    'a,
-    R,
-    J,
-    A,
-    D,
-    C,
-    F,
-    E,
-> {
+impl<'a, R, J: Naming, A: Node> HubService<'a, R, J, A> {
     ghost use Rattle.ring_service.specs.Services.{share_of, reader_of, last_of};
 
     /// A service that has released nothing yet.
     pub fn new(
         rt: &'a R,
-        hub: &'a Hub<A, D, C, F, E>,
+        hub: &'a Hub<A>,
         share: Share<A>,
         reader: BoardReader<J>,
-    ) -> HubService<'a, R, J, A, D, C, F, E>
+    ) -> HubService<'a, R, J, A>
         ensures share { share_of result ≡ share }
         ensures reader { reader_of result ≡ reader }
         ensures last { last_of result ≡ None }
@@ -76,8 +67,7 @@ impl<'a, R, J: Naming, A: Node, D: Whole, C: Whole, F: Whole, E: Whole> HubServi
     }
 }
 
-impl<'a, R: Wait, J: Naming, A: Node, D: Whole, C: Whole, F: Whole, E: Whole> Service
-    for HubService<'a, R, J, A, D, C, F, E> {
+impl<'a, R: Wait, J: Naming, A: Node> Service for HubService<'a, R, J, A> {
     ghost use Rattle.ring_service.specs.Services.{HubAnswers};
 
     ghost answers = { HubAnswers A.member A.opening };

@@ -1,8 +1,7 @@
 // Calls of hubs and flushers that go well, or are refused as they are to be.
-ghost use Rattle.commit_hub.specs.Pages.{IsWhole};
 
 use crate::rows::request;
-use commit_hub::{Hub, Node, Share, Whole};
+use commit_hub::{Hub, Node, Share};
 use decision_board::Naming;
 use disk_model::Device;
 use group_commit::{Stub, Ticket};
@@ -15,25 +14,13 @@ use test_rows::Ask;
 
 /// Flushes until the hub is closed, which is told before, and nothing waits, or the device fails. Where a growth is
 /// refused it goes on.
-pub fn flush_all<
-    V: Device,
-    J: Naming,
-    A: Node,
-    D: Whole,
-    C: Whole,
-    F: Whole,
-    E: Whole,
-    R: Wait + Abort,
-    G: Gate,
->(
+pub fn flush_all<V: Device, J: Naming, A: Node, R: Wait + Abort, G: Gate>(
     rt: &R,
-    hub: &Hub<A, D, C, F, E>,
-    flusher: &mut Flusher<V, J, A, D, C, F, E>,
+    hub: &Hub<A>,
+    flusher: &mut Flusher<V, J, A>,
     gate: &mut G,
     closing: &AtomicBool,
-)
-    requires { IsWhole D.all D.parts × IsWhole C.all C.parts × IsWhole F.all F.parts × IsWhole E.all E.parts }
-{
+) {
     for _ in rt.forever() {
         match flusher.flush_round(rt, hub, gate) {
             Ok(Some(_)) | Err(Refusal::OutOfMemory) => {}
@@ -62,9 +49,9 @@ impl Gate for Noted {
 }
 
 /// A ticket for the request. Where a growth is refused it is asked again.
-pub fn submits<A: Node, D: Whole, C: Whole, F: Whole, E: Whole, R: Wait + Abort>(
+pub fn submits<A: Node, R: Wait + Abort>(
     rt: &R,
-    hub: &Hub<A, D, C, F, E>,
+    hub: &Hub<A>,
     share: &mut Share<A>,
     ask: Ask,
 ) -> Ticket {
@@ -81,9 +68,9 @@ pub fn submits<A: Node, D: Whole, C: Whole, F: Whole, E: Whole, R: Wait + Abort>
 }
 
 /// The stub of the ticket's reply. A ticket that is refused is forfeited.
-pub fn released<A: Node, D: Whole, C: Whole, F: Whole, E: Whole, R: Wait + Abort>(
+pub fn released<A: Node, R: Wait + Abort>(
     rt: &R,
-    hub: &Hub<A, D, C, F, E>,
+    hub: &Hub<A>,
     ticket: Ticket,
 ) -> Result<Stub, Refusal> {
     match hub.redeem_wait(rt, ticket) {
@@ -100,24 +87,12 @@ pub fn released<A: Node, D: Whole, C: Whole, F: Whole, E: Whole, R: Wait + Abort
 
 /// How many inputs a round makes durable, and how many leaders they make known. Where a growth is refused it is tried
 /// again.
-pub fn rounds<
-    V: Device,
-    J: Naming,
-    A: Node,
-    D: Whole,
-    C: Whole,
-    F: Whole,
-    E: Whole,
-    R: Wait + Abort,
-    G: Gate,
->(
+pub fn rounds<V: Device, J: Naming, A: Node, R: Wait + Abort, G: Gate>(
     rt: &R,
-    hub: &Hub<A, D, C, F, E>,
-    flusher: &mut Flusher<V, J, A, D, C, F, E>,
+    hub: &Hub<A>,
+    flusher: &mut Flusher<V, J, A>,
     gate: &mut G,
-) -> (u32, usize)
-    requires { IsWhole D.all D.parts × IsWhole C.all C.parts × IsWhole F.all F.parts × IsWhole E.all E.parts }
-{
+) -> (u32, usize) {
     let mut landed = flusher.flush_round(rt, hub, gate);
     if matches!(landed, Err(Refusal::OutOfMemory)) {
         landed = flusher.flush_round(rt, hub, gate);
@@ -130,24 +105,13 @@ pub fn rounds<
 }
 
 /// A round that makes a leader known.
-pub fn leads<
-    V: Device,
-    J: Naming,
-    A: Node,
-    D: Whole,
-    C: Whole,
-    F: Whole,
-    E: Whole,
-    R: Wait + Abort,
->(
+pub fn leads<V: Device, J: Naming, A: Node, R: Wait + Abort>(
     rt: &R,
-    hub: &Hub<A, D, C, F, E>,
-    flusher: &mut Flusher<V, J, A, D, C, F, E>,
+    hub: &Hub<A>,
+    flusher: &mut Flusher<V, J, A>,
     share: &mut Share<A>,
     ask: Ask,
-)
-    requires { IsWhole D.all D.parts × IsWhole C.all C.parts × IsWhole F.all F.parts × IsWhole E.all E.parts }
-{
+) {
     let ticket = submits(rt, hub, share, ask);
     assert!(rt; rounds(rt, hub, flusher, &mut ()) == (1, 1));
     assert!(rt; released(rt, hub, ticket).is_ok());
@@ -155,18 +119,12 @@ pub fn leads<
 
 /// The device fails within the round that makes the ticket's input durable: the flusher has ended, and the ticket is given
 /// back with no reply.
-pub fn fails_next<
-    V: Device,
-    J: Naming,
-    A: Node,
-    D: Whole,
-    C: Whole,
-    F: Whole,
-    E: Whole,
-    R: Wait + Abort,
->(rt: &R, hub: &Hub<A, D, C, F, E>, flusher: &mut Flusher<V, J, A, D, C, F, E>, ticket: Ticket)
-    requires { IsWhole D.all D.parts × IsWhole C.all C.parts × IsWhole F.all F.parts × IsWhole E.all E.parts }
-{
+pub fn fails_next<V: Device, J: Naming, A: Node, R: Wait + Abort>(
+    rt: &R,
+    hub: &Hub<A>,
+    flusher: &mut Flusher<V, J, A>,
+    ticket: Ticket,
+) {
     assert!(rt;
         matches!(
             flusher.flush_round(rt, hub, &mut ()),

@@ -2,7 +2,7 @@
 use crate::calls::{released, submits};
 use crate::rows::{Leads, bid, group, key, latest, leader, reply};
 use crate::slow::{Flags, await_flag};
-use commit_hub::{Hub, Node, Share, Whole};
+use commit_hub::{Hub, Node, Share};
 use decision_board::{Board, BoardReader, Naming};
 use group_commit::Stub;
 use ring_records::Refusal;
@@ -41,11 +41,7 @@ pub struct Client<J: Naming, A: Node> {
 
 impl<J: Naming, A: Node> Client<J, A> {
     /// A client of the hub and the board, which have a place left.
-    pub fn enters<D: Whole, C: Whole, F: Whole, E: Whole, R: Wait + Abort>(
-        rt: &R,
-        hub: &Hub<A, D, C, F, E>,
-        board: &Board<J>,
-    ) -> Client<J, A> {
+    pub fn enters<R: Wait + Abort>(rt: &R, hub: &Hub<A>, board: &Board<J>) -> Client<J, A> {
         Client {
             share: hub.enter(rt).expect(rt, "a place"),
             reader: board.reader().expect(rt, "a place"),
@@ -54,10 +50,10 @@ impl<J: Naming, A: Node> Client<J, A> {
     }
 
     /// Does so, in turn.
-    pub fn plays<D: Whole, C: Whole, F: Whole, E: Whole, R: Wait + Clock + Abort>(
+    pub fn plays<R: Wait + Clock + Abort>(
         self,
         rt: &R,
-        hub: &Hub<A, D, C, F, E>,
+        hub: &Hub<A>,
         flags: &Flags,
         acts: &[Act],
     ) -> Client<J, A> {
@@ -68,10 +64,10 @@ impl<J: Naming, A: Node> Client<J, A> {
         client
     }
 
-    fn does<D: Whole, C: Whole, F: Whole, E: Whole, R: Wait + Clock + Abort>(
+    fn does<R: Wait + Clock + Abort>(
         self,
         rt: &R,
-        hub: &Hub<A, D, C, F, E>,
+        hub: &Hub<A>,
         flags: &Flags,
         act: Act,
     ) -> Client<J, A> {
@@ -89,10 +85,10 @@ impl<J: Naming, A: Node> Client<J, A> {
         client
     }
 
-    fn appends<D: Whole, C: Whole, F: Whole, E: Whole, R: Wait + Abort>(
+    fn appends<R: Wait + Abort>(
         &mut self,
         rt: &R,
-        hub: &Hub<A, D, C, F, E>,
+        hub: &Hub<A>,
         ask: Ask,
         say: Option<Say>,
         accepted: Option<&AtomicBool>,
@@ -122,12 +118,7 @@ impl<J: Naming, A: Node> Client<J, A> {
     }
 
     /// Stands twice with bid 10: the second is refused, and no leader is known.
-    fn stands_twice<D: Whole, C: Whole, F: Whole, E: Whole, R: Wait + Abort>(
-        self,
-        rt: &R,
-        hub: &Hub<A, D, C, F, E>,
-        name: &str,
-    ) -> Client<J, A> {
+    fn stands_twice<R: Wait + Abort>(self, rt: &R, hub: &Hub<A>, name: &str) -> Client<J, A> {
         let again = reply(rt, Say::Refused(Cause::Already(10)));
         let Client { share, reader, .. } = self;
         let mut service = HubService::new(rt, hub, share, reader);

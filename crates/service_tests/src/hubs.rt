@@ -5,7 +5,7 @@ ghost use Rattle.ring_records.specs.States.{durable_in};
 ghost use Rattle.gated_journal.specs.Journal.{member_of, len_of, room_of, epoch_of, is_spoiled};
 ghost use Rattle.node_core.specs.Core.{IsNodeOf};
 ghost use Rattle.node_store.specs.Node.{desk_of};
-ghost use Rattle.commit_hub.specs.Pages.{ForAccepted, ForDurable, ForSpent, ForFreed, ForEpochs, IsWhole};
+ghost use Rattle.commit_hub.specs.Pages.{ForAccepted, ForTie};
 
 use crate::calls::Noted;
 use crate::clients::Client;
@@ -13,7 +13,7 @@ use crate::rows::{fills, node};
 use crate::slow::Flags;
 use crate::station::{Station, Step};
 use crate::together::{Duo, Settled, settles, together};
-use commit_hub::{Blanks, Hub, Node, Whole};
+use commit_hub::{Blanks, Hub, Node};
 use decision_board::{Board, Naming, Opened};
 use disk_model::Device;
 use gated_journal::Journal;
@@ -49,24 +49,13 @@ pub struct Ended<V: Device> {
 }
 
 /// Plays the steps.
-fn alone<
-    V: Device,
-    J: Naming,
-    A: Node,
-    D: Whole,
-    C: Whole,
-    F: Whole,
-    E: Whole,
-    R: Wait + Abort + AllocGlobal,
->(
+fn alone<V: Device, J: Naming, A: Node, R: Wait + Abort + AllocGlobal>(
     rt: &R,
-    hub: Hub<A, D, C, F, E>,
-    flusher: Flusher<V, J, A, D, C, F, E>,
+    hub: Hub<A>,
+    flusher: Flusher<V, J, A>,
     client: Client<J, A>,
     steps: &[Step],
-) -> Ended<V>
-    requires { IsWhole D.all D.parts × IsWhole C.all C.parts × IsWhole F.all F.parts × IsWhole E.all E.parts }
-{
+) -> Ended<V> {
     let mut station = Station {
         hub,
         flusher,
@@ -87,10 +76,7 @@ fn alone<
     ends(rt, flusher)
 }
 
-fn ends<V: Device, J: Naming, A: Node, D: Whole, C: Whole, F: Whole, E: Whole, R: Wait>(
-    rt: &R,
-    flusher: Flusher<V, J, A, D, C, F, E>,
-) -> Ended<V> {
+fn ends<V: Device, J: Naming, A: Node, R: Wait>(rt: &R, flusher: Flusher<V, J, A>) -> Ended<V> {
     let (journal, board, owed) = flusher.into_parts();
     board.end(rt);
     Ended {
@@ -105,10 +91,6 @@ fn on_hub<
     V: Device + Drop + Send,
     J: Naming + Send + Sync,
     A: Node + Send + Sync,
-    D: Whole + Send + Sync,
-    C: Whole + Send + Sync,
-    F: Whole + Send + Sync,
-    E: Whole + Send + Sync,
     R: Threads + Wait + Clock + Abort + AllocGlobal + Sync,
 >(
     rt: &R,
@@ -125,10 +107,7 @@ fn on_hub<
     requires opened { desk.opening.inputs + length desk.view.state.inputs ≡ A.opened }
     requires history { opened ≡ J.book }
     requires accepted { ForAccepted blanks A.name A.parts }
-    requires durable { ForDurable blanks D.name D.parts × IsWhole D.all D.parts }
-    requires spent { ForSpent blanks C.name C.parts × IsWhole C.all C.parts }
-    requires freed { ForFreed blanks F.name F.parts × IsWhole F.all F.parts }
-    requires epochs { ForEpochs blanks E.name E.parts × IsWhole E.all E.parts }
+    requires tied { ForTie blanks A.tied }
     requires ready { is_spoiled journal ≡ false }
     requires header { member_of journal ≡ desk.view.member }
     requires len { len_of journal ≡ desk.opening.inputs + desk.view.state.durable }
@@ -136,7 +115,7 @@ fn on_hub<
     requires epoch { epoch_of journal ≡ desk.view.state.base.epoch }
 {
     let board = Board::<J>::new(rt.alloc(), opened, &[], 2)?;
-    let (hub, tie) = Hub::<A, D, C, F, E>::new(desk, blanks);
+    let (hub, tie) = Hub::<A>::new(desk, blanks);
     let first = Client::enters(rt, &hub, &board);
     let second = Client::enters(rt, &hub, &board);
     let mut flusher = Flusher::new(rt.alloc(), journal, board, tie);
@@ -183,9 +162,7 @@ pub fn plays<V: Device + Drop + Send, R: Threads + Wait + Clock + Abort + AllocG
         Ok(made) => {
             let (desk, journal) = begun(rt, made, play).split();
             let (opened, blanks) = (Opened::new(), Blanks::new(2));
-            on_hub::<V, Brand, Brand, Brand, Brand, Brand, Brand, R>(
-                rt, desk, journal, opened, blanks, play,
-            )
+            on_hub::<V, Brand, Brand, R>(rt, desk, journal, opened, blanks, play)
         }
         Err((_device, refusal)) => Err(refusal),
     }

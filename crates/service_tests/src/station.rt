@@ -1,10 +1,9 @@
 // A hub and its flusher by calls: the one thread that the tests have is client and flusher in turn.
-ghost use Rattle.commit_hub.specs.Pages.{IsWhole};
 
 use crate::calls::*;
 use crate::clients::Client;
 use crate::rows::{Leads, dropped};
-use commit_hub::{Hub, Node, Share, Whole};
+use commit_hub::{Hub, Node, Share};
 use decision_board::Naming;
 use disk_model::Device;
 use group_commit::Ticket;
@@ -50,9 +49,9 @@ pub enum Step {
 }
 
 /// A hub, its flusher, a client, the tickets that are open, oldest first, and what the gate was told.
-pub struct Station<V: Device, J: Naming, A: Node, D: Whole, C: Whole, F: Whole, E: Whole> {
-    pub hub: Hub<A, D, C, F, E>,
-    pub flusher: Flusher<V, J, A, D, C, F, E>,
+pub struct Station<V: Device, J: Naming, A: Node> {
+    pub hub: Hub<A>,
+    pub flusher: Flusher<V, J, A>,
     pub client: Client<J, A>,
     pub tickets: Vec<Ticket>,
     pub gate: Noted,
@@ -72,36 +71,19 @@ fn oldest(rt: &impl Abort, tickets: &mut Vec<Ticket>) -> Ticket {
 }
 
 /// The message is taken, and its ticket is refused and ends.
-fn takes<A: Node, D: Whole, C: Whole, F: Whole, E: Whole, R: Wait + Abort>(
-    rt: &R,
-    hub: &Hub<A, D, C, F, E>,
-    share: &mut Share<A>,
-    ask: Ask,
-) {
+fn takes<A: Node, R: Wait + Abort>(rt: &R, hub: &Hub<A>, share: &mut Share<A>, ask: Ask) {
     let ticket = submits(rt, hub, share, ask);
     assert!(rt; hub.forfeit(rt, ticket).is_err());
 }
 
-impl<V: Device, J: Naming, A: Node, D: Whole, C: Whole, F: Whole, E: Whole> Station<
-    V,
-    J,
-    A,
-    D,
-    C,
-    F,
-    E,
-> {
-    pub fn plays<R: Wait + Abort + AllocGlobal>(&mut self, rt: &R, steps: &[Step])
-        requires { IsWhole D.all D.parts × IsWhole C.all C.parts × IsWhole F.all F.parts × IsWhole E.all E.parts }
-    {
+impl<V: Device, J: Naming, A: Node> Station<V, J, A, D, C, F, E> {
+    pub fn plays<R: Wait + Abort + AllocGlobal>(&mut self, rt: &R, steps: &[Step]) {
         for step in steps {
             self.does(rt, *step);
         }
     }
 
-    fn does<R: Wait + Abort + AllocGlobal>(&mut self, rt: &R, step: Step)
-        requires { IsWhole D.all D.parts × IsWhole C.all C.parts × IsWhole F.all F.parts × IsWhole E.all E.parts }
-    {
+    fn does<R: Wait + Abort + AllocGlobal>(&mut self, rt: &R, step: Step) {
         match step {
             Step::Submits(ask) => {
                 let ticket = submits(rt, &self.hub, &mut self.client.share, ask);
@@ -151,17 +133,13 @@ impl<V: Device, J: Naming, A: Node, D: Whole, C: Whole, F: Whole, E: Whole> Stat
         }
     }
 
-    fn rounds<R: Wait + Abort>(&mut self, rt: &R, first: u64, count: u32, leaders: usize)
-        requires { IsWhole D.all D.parts × IsWhole C.all C.parts × IsWhole F.all F.parts × IsWhole E.all E.parts }
-    {
+    fn rounds<R: Wait + Abort>(&mut self, rt: &R, first: u64, count: u32, leaders: usize) {
         let landed = rounds(rt, &self.hub, &mut self.flusher, &mut self.gate);
         assert!(rt; landed == (count, leaders) && self.flusher.is_published());
         assert!(rt; self.gate.first == first && self.gate.count == count as usize);
     }
 
-    fn rounds_not<R: Wait + Abort>(&mut self, rt: &R)
-        requires { IsWhole D.all D.parts × IsWhole C.all C.parts × IsWhole F.all F.parts × IsWhole E.all E.parts }
-    {
+    fn rounds_not<R: Wait + Abort>(&mut self, rt: &R) {
         let first = self.gate.first;
         let landed = self.flusher.flush_round(rt, &self.hub, &mut self.gate);
         assert!(rt; matches!(landed, Ok(None)) && self.gate.first == first);

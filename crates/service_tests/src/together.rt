@@ -1,10 +1,9 @@
 // Two clients of a hub beside its flusher, each in a thread of its own.
-ghost use Rattle.commit_hub.specs.Pages.{IsWhole};
 
 use crate::calls::flush_all;
 use crate::clients::{Act, Client};
 use crate::slow::{Flags, HeldGate};
-use commit_hub::{Hub, Node, Whole};
+use commit_hub::{Hub, Node};
 use decision_board::Naming;
 use disk_model::Device;
 use group_commit::{Desk, Stub};
@@ -57,27 +56,19 @@ pub fn together<
     V: Device + Send,
     J: Naming + Send + Sync,
     A: Node + Send + Sync,
-    D: Whole + Send + Sync,
-    C: Whole + Send + Sync,
-    F: Whole + Send + Sync,
-    E: Whole + Send + Sync,
     R: Threads + Wait + Clock + Abort + Sync,
 >(
     rt: &R,
-    hub: &Hub<A, D, C, F, E>,
-    flusher: &mut Flusher<V, J, A, D, C, F, E>,
+    hub: &Hub<A>,
+    flusher: &mut Flusher<V, J, A>,
     first: Client<J, A>,
     second: Client<J, A>,
     flags: &Flags,
     duo: Duo,
-) -> (Client<J, A>, Client<J, A>)
-    requires { IsWhole D.all D.parts × IsWhole C.all C.parts × IsWhole F.all F.parts × IsWhole E.all E.parts }
-{
+) -> (Client<J, A>, Client<J, A>) {
     let ((), both) = join(
         rt,
-        || -> ()
-            requires { IsWhole D.all D.parts × IsWhole C.all C.parts × IsWhole F.all F.parts × IsWhole E.all E.parts }
-        { flushes(rt, hub, flusher, flags, duo.holds_rounds) },
+        || -> () { flushes(rt, hub, flusher, flags, duo.holds_rounds) },
         move || {
             let both = join(
                 rt,
@@ -93,24 +84,13 @@ pub fn together<
 }
 
 /// Flushes until the hub is closed or the device fails.
-fn flushes<
-    V: Device,
-    J: Naming,
-    A: Node,
-    D: Whole,
-    C: Whole,
-    F: Whole,
-    E: Whole,
-    R: Wait + Clock + Abort,
->(
+fn flushes<V: Device, J: Naming, A: Node, R: Wait + Clock + Abort>(
     rt: &R,
-    hub: &Hub<A, D, C, F, E>,
-    flusher: &mut Flusher<V, J, A, D, C, F, E>,
+    hub: &Hub<A>,
+    flusher: &mut Flusher<V, J, A>,
     flags: &Flags,
     holds_rounds: bool,
-)
-    requires { IsWhole D.all D.parts × IsWhole C.all C.parts × IsWhole F.all F.parts × IsWhole E.all E.parts }
-{
+) {
     if holds_rounds {
         let mut gate = HeldGate { rt, flags };
         flush_all(rt, hub, flusher, &mut gate, &flags.closing);
@@ -120,15 +100,12 @@ fn flushes<
 }
 
 /// The shares of both clients settle the hub.
-pub fn settles<
-    J: Naming,
-    A: Node,
-    D: Whole,
-    C: Whole,
-    F: Whole,
-    E: Whole,
-    R: Wait + Abort + AllocGlobal,
->(rt: &R, hub: Hub<A, D, C, F, E>, first: Client<J, A>, second: Client<J, A>) -> Settled {
+pub fn settles<J: Naming, A: Node, R: Wait + Abort + AllocGlobal>(
+    rt: &R,
+    hub: Hub<A>,
+    first: Client<J, A>,
+    second: Client<J, A>,
+) -> Settled {
     let window = hub.window(rt).expect(rt, "ample memory").len();
     let Client {
         share: one,

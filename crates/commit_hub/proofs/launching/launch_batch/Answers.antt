@@ -1,10 +1,11 @@
-use Rattle.std.proofs.Common.{◌≡◌, ◌+◌, ◌<◌, ◌≤◌, length, ap, arith}
+use Rattle.std.proofs.Common.{◌≡◌, ◌+◌, ◌<◌, ◌≤◌, ◌∙◌, length, sym, ap}
 use Rattle.ring_records.specs.Admission.{used}
 use Rattle.ring_records.specs.States.{flown_in, flying_in}
 use Rattle.ring_records.proofs.States.{idle-none}
 use Rattle.gated_journal.specs.declared.batch.Batch.{Batch}
 use Rattle.gated_journal.specs.Batch.{Numbered, numbered, shown}
 use Rattle.commit_hub.proofs.Batches.{room_fits}
+use Rattle.commit_hub.proofs.Costs.{durable_count}
 use Rattle.commit_hub.proofs.Works.{idle_free, match_some, not_due, of_some}
 use Rattle.commit_hub.proofs.launching.launch_batch.Goals as goal
 
@@ -30,6 +31,6 @@ returns-in-Ok-Some-clause-fits c =
     let room = room_fits _ _ _ desk c.launch.new.self (idle-none s (idle_free desk.view launch.free)) c.accepted-accepted.ensures.counts launch.next is fits in
     record {
       node = ap (λ (n : Numbered). n.node) is;
-      first = ap (λ (n : Numbered). n.first) is;
-      room = omega (arith, room);
+      first = ap (λ (n : Numbered). n.first) is ∙ ap (λ k. desk.opening.inputs + k) (sym (durable_count s c.accepted-accepted.ensures.counts));
+      room = room;
     }

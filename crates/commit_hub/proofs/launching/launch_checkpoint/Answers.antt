@@ -1,16 +1,16 @@
-use Rattle.std.proofs.Common.{◌≡◌, ◌⊎◌, ◌+◌, ◌-◌, ◌*◌, ◌≤◌, length, Some, None, sym, ap, ◌∙◌, subst, arith, length-append, length-take, length-drop, Option}
+use Rattle.std.proofs.Common.{◌≡◌, ◌⊎◌, ◌+◌, ◌-◌, ◌*◌, ◌≤◌, [], length, Some, None, sym, ap, ◌∙◌, subst, arith, length-append, length-take, length-drop, Option}
 use Rattle.ring_records.specs.declared.refusal.Refusal.{Refusal}
 use Rattle.ring_records.specs.declared.summary.Summary.{Summary}
 use Rattle.ring_records.specs.Snapshot.{snapshot_len}
 use Rattle.ring_records.specs.Admission.{costs_of, used}
 use Rattle.ring_records.specs.declared.base.Base.{Base}
 use Rattle.ring_records.specs.States.{durable_in, flying_in, launched_base}
-use Rattle.ring_records.specs.Summary.{summary}
+use Rattle.ring_records.specs.Known.{after}
 use Rattle.gated_journal.specs.Batch.{Numbered, numbered_by, base_by}
 use Rattle.group_commit.specs.Desk.{DeskKept, launched_all}
 use Rattle.group_commit.proofs.Past.{durable-shifted}
 use Rattle.ring_records.proofs.States.{idle-none, idle-base}
-use Rattle.commit_hub.proofs.Costs.{durable_costs}
+use Rattle.commit_hub.proofs.Costs.{durable_costs, durable_count}
 use Rattle.commit_hub.proofs.Works.{due_objection, parts_due, idle_free, after-inputs, all_fly, all_joined, few_wait}
 use Rattle.commit_hub.proofs.launching.launch_checkpoint.Goals as goal
 
@@ -29,13 +29,12 @@ returns-in-Ok-clause-fits c =
     let counts = c.accepted-accepted.ensures.counts in
     let none = idle-none s (idle_free desk.view (sym (due_objection desk c.requires.due) ∙ launch.free)) in
     let inputs : (numbered_by made).inputs ≡ flying_in (launched_all desk).state = ap (λ (n : Numbered). n.inputs) launch.checkpoint ∙ ap (λ (d : DeskKept). flying_in d.view.state) launch.next in
-    let long : length (numbered_by made).inputs ≡ length s.inputs - s.durable = ap length (inputs ∙ all_fly desk) ∙ length-drop s.durable s.inputs in
-    let known : (base_by made).inputs ≡ desk.opening.inputs + length s.inputs = ap (λ (b : Summary). b.inputs) launch.summary ∙ after-inputs m.node desk.opening s.inputs in
+    let first : length (durable_in s) ≡ s.durable = durable_count s counts in
     record {
       node = ap (λ (n : Numbered). n.node) launch.checkpoint;
-      first = ap (λ (n : Numbered). n.first) launch.checkpoint;
+      first = ap (λ (n : Numbered). n.first) launch.checkpoint ∙ ap (λ k. desk.opening.inputs + k) (sym first);
       snapshot = ap (λ (n : Numbered). n.snapshot) launch.checkpoint ∙ ap (λ (b : Summary). Some (snapshot_len b)) (sym launch.summary);
-      count = omega (arith, known, long, counts.durable, counts.flying);
+      summary = launch.summary ∙ ap (after m.node desk.opening) (all_joined [] desk (numbered_by made).inputs inputs);
       few = subst (λ k. 16 * k ≤ m.capacity) (sym (ap length (inputs ∙ all_fly desk))) (few_wait m desk.opening s none c.accepted-accepted.ensures.known);
       filled = (
           let is = parts_due desk c.requires.due in
@@ -45,17 +44,6 @@ returns-in-Ok-clause-fits c =
       short = subst (λ (b : Summary). 4 * snapshot_len b ≤ m.capacity) (sym launch.summary) (parts_due desk c.requires.due).short;
       sound = launch.sound;
       left = launch.epoch;
-      known = λ past is.
-          let front : desk.opening.inputs ≡ length past = λ i. (is.summed i).inputs in
-          record {
-            state = s;
-            since = durable_in s;
-            lawful = c.accepted-accepted.ensures.lawful past is;
-            before = durable-shifted past s;
-            count = omega (arith, front, length-append past (durable_in s), length-take s.durable s.inputs, counts.durable, counts.flying);
-            all = all_joined past desk (numbered_by made).inputs inputs;
-            summed = launch.known past is ∙ ap (summary m.node) (all_joined past desk (numbered_by made).inputs inputs);
-          };
     }
 
 pub returns-in-Ok-clause-free : goal.returns-in-Ok-clause-free

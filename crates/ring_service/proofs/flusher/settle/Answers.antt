@@ -1,19 +1,22 @@
-use Rattle.std.proofs.Common.{sym, ap, subst, arith, length}
+use Rattle.std.proofs.Common.{◌∙◌, ◌≡◌, ◌+◌, ◌-◌, ℕ, None, Some, sym, ap, subst, arith, length}
+use Rattle.ring_records.specs.Admission.{costs_of, used}
 use Rattle.ring_records.specs.Member.{Member}
 use Rattle.gated_journal.specs.Areas.{AllReadAs}
 use Rattle.gated_journal.specs.Batch.{Numbered}
 use Rattle.gated_journal.specs.Journal.{device_of, len_of, room_of, epoch_of}
 use Rattle.gated_journal.specs.Reading.{Reading}
+use Rattle.commit_hub.specs.Holders.{known_by}
+use Rattle.commit_hub.specs.Tied.{Durable, with_area, with_batch}
 use Rattle.commit_hub.specs.Works.{flown_by, summary_by}
-use Rattle.ring_service.specs.Rounds.{IsTaken, reading_after}
-use Rattle.ring_service.proofs.Next.{takes}
+use Rattle.ring_service.specs.Rounds.{IsTaken, reading_after, room_after}
+use Rattle.ring_service.proofs.Next.{has, knows, takes}
 use Rattle.ring_service.proofs.flusher.settle.Goals as goal
 
 pub write-requires-clause-taken : goal.write-requires-clause-taken
 write-requires-clause-taken g c =
     let journal = c.args.journal.now in
     subst (λ (m : Member). IsTaken m (len_of journal) (room_of journal) (epoch_of journal) c.args.work) (sym c.requires.member)
-    (takes g.A.Node.member g.A.Node.opening _ _ _ _ _ _ _ c.args.work c.requires.inside c.requires.len c.requires.room c.requires.epoch c.requires.next)
+    (takes g.A.Node.member g.A.Node.opening _ _ _ _ c.args.work c.requires.inside c.requires.known c.requires.next)
 
 pub returns-in-Ok-land-clause-few : goal.returns-in-Ok-land-clause-few
 returns-in-Ok-land-clause-few g c =
@@ -26,3 +29,28 @@ returns-in-Ok-land-clause-durable g c =
     let now = g.V.Device.disk (device_of c.write.new.journal) in
     let w = c.args.work in
     subst (λ (m : Member). (r : Reading) → AllReadAs m disk r → AllReadAs m now (reading_after (epoch_of c.args.journal.now) (summary_by w) (flown_by w).inputs r)) c.requires.member c.in-Ok.ensures.durable
+
+pub returns-in-Ok-land-clause-next : goal.returns-in-Ok-land-clause-next
+returns-in-Ok-land-clause-next g c =
+    let old = known_by c.args.tie.now in
+    let new = known_by c.land.new.tie in
+    knows g.A.Node.member g.A.Node.opening old new c.args.work c.requires.next
+    (subst (λ (n : Numbered). n.snapshot ≡ None → new ≡ with_batch old n.inputs) c.in-Ok.ensures.receipt c.in-Ok-land.ensures.batch)
+    (subst (λ (n : Numbered). (bytes : ℕ) → n.snapshot ≡ Some bytes → new ≡ with_area old n.inputs bytes) c.in-Ok.ensures.receipt c.in-Ok-land.ensures.checkpoint)
+
+pub returns-in-Ok-land-clause-known : goal.returns-in-Ok-land-clause-known
+returns-in-Ok-land-clause-known g c =
+    let old = known_by c.args.tie.now in
+    let new = known_by c.land.new.tie in
+    let journal = c.args.journal.now in
+    let w = c.args.work in
+    let is = knows g.A.Node.member g.A.Node.opening old new w c.requires.next
+    (subst (λ (n : Numbered). n.snapshot ≡ None → new ≡ with_batch old n.inputs) c.in-Ok.ensures.receipt c.in-Ok-land.ensures.batch)
+    (subst (λ (n : Numbered). (bytes : ℕ) → n.snapshot ≡ Some bytes → new ≡ with_area old n.inputs bytes) c.in-Ok.ensures.receipt c.in-Ok-land.ensures.checkpoint) in
+    let behind = has g.A.Node.member g.A.Node.opening old (len_of journal) (room_of journal) (epoch_of journal) w c.requires.based c.requires.known c.requires.next in
+    let room = ap (λ (m : Member). room_after (flown_by w).snapshot m.capacity (costs_of (flown_by w).inputs) (room_of journal)) c.requires.member in
+    record {
+      count = c.in-Ok.ensures.len ∙ (behind.count ∙ ap (λ (d : Durable). g.A.Node.opening.inputs + length d.inputs) (sym is));
+      left = c.in-Ok.ensures.room ∙ (room ∙ (behind.left ∙ ap (λ (d : Durable). g.A.Node.member.capacity - used d.base d.inputs) (sym is)));
+      area = c.in-Ok.ensures.epoch ∙ (behind.area ∙ ap (λ (d : Durable). d.base.epoch) (sym is));
+    }

@@ -1,10 +1,9 @@
 use Rattle.std.proofs.Common.{rules, ◌≡◌, ◌+◌, [], length, sym, ap, ◌∙◌, subst}
 use Rattle.std.specs.List.{cons_option}
-use Rattle.ring_records.specs.Admission.{used}
-use Rattle.ring_records.specs.States.{durable_in}
 use Rattle.group_commit.specs.Desk.{DeskKept, IsSubmitted, with_ticket}
 use Rattle.group_commit.specs.Ticket.{shown}
-use Rattle.commit_hub.specs.Works.{IsNextEpoch}
+use Rattle.commit_hub.specs.Tied.{durable_part}
+use Rattle.commit_hub.specs.Works.{IsNextArea}
 use Rattle.commit_hub.proofs.Requests.{durable_stays, grows}
 use Rattle.commit_hub.proofs.locked.Locked.submit.Goals as goal
 
@@ -24,9 +23,7 @@ invariant_of-self-in-Ok g c =
       counted = counted;
       first_is = old.first_is;
       spare_is = old.spare_is;
-      durable_is = old.durable_is ∙ sym (ap (λ (d : DeskKept). d.opening.inputs + d.view.state.durable) next);
-      taken_is = old.taken_is
-          ∙ sym (ap (λ (d : DeskKept). used d.view.state.base (durable_in d.view.state)) next ∙ ap (used desk.view.state.base) (durable_stays desk.view.state (cons_option s.more []) old.counts));
-      epoch_is = old.epoch_is ∙ sym (ap (λ (d : DeskKept). d.view.state.base.epoch) next);
-      next_is = subst (λ (d : DeskKept). IsNextEpoch d.view.state) (sym next) old.next_is;
+      named = old.named;
+      held_is = old.held_is ∙ sym (ap durable_part next ∙ (λ i. record { base = desk.view.state.base; inputs = durable_stays desk.view.state (cons_option s.more []) old.counts i }));
+      next_is = subst (λ (d : DeskKept). IsNextArea d.view.state) (sym next) old.next_is;
     }

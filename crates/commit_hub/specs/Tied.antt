@@ -1,0 +1,42 @@
+-- What a hub's tie knows of its desk.
+use Rattle.std.specs.Prelude.{ℕ, ◌+◌, List, [], ◌++◌, length}
+use Rattle.std.specs.Coded.{Coded, codes}
+use base.Fml.{Fml, fobs, fauth}
+use Rattle.ring_records.specs.declared.base.Base.{Base}
+use Rattle.ring_records.specs.declared.input.Input.{Input}
+use Rattle.ring_records.specs.Admission.{fresh, newest}
+use Rattle.ring_records.specs.States.{durable_in}
+use Rattle.group_commit.specs.Desk.{DeskKept}
+
+-- what is durable of a desk: the area in use, and the inputs since its opening
+pub record Durable : Type 0 where
+  pub base : Base
+  pub inputs : List Input
+
+abbrev pub durable_part : DeskKept → Durable
+durable_part desk = record { base = desk.view.state.base; inputs = durable_in desk.view.state }
+
+-- these inputs more are durable, in the same area
+abbrev pub with_batch : Durable → List Input → Durable
+with_batch d inputs = record d { inputs = d.inputs ++ inputs }
+
+-- these inputs more are durable, in the next area, whose snapshot has so many bytes and stands for all
+abbrev pub with_area : Durable → List Input → ℕ → Durable
+with_area d inputs bytes = record {
+  base = record { layout = newest; epoch = d.base.epoch + 1; inputs = length (d.inputs ++ inputs); bytes = bytes };
+  inputs = d.inputs ++ inputs;
+}
+
+-- ---- the halves: whoever has both may write, and each alone knows what was written last
+
+pub coded_durable : Coded Durable
+coded_durable = hlevel codes
+
+abbrev pub nothing : Durable
+nothing = record { base = fresh; inputs = [] }
+
+abbrev pub held_owns : ℕ → Durable → Fml
+held_owns name durable = fauth name (coded_durable.code durable)
+
+abbrev pub known_owns : ℕ → Durable → Fml
+known_owns name durable = fobs name (coded_durable.code durable)

@@ -1,0 +1,14 @@
+-- That what a flusher keeps to has one proof at most.
+use Rattle.std.specs.Prelude.{◌≡◌, ℕ, Bool, false}
+use Rattle.std.specs.Coded.{Coded-set, coded_ℕ}
+use Rattle.ring_records.specs.declared.summary.Summary.{Summary}
+use Rattle.ring_records.specs.Member.{Member}
+use Rattle.commit_hub.specs.Tied.{Durable}
+use Rattle.ring_service.specs.Rounds.{HasKnown}
+
+pub HasKnown-prop : (ended : Bool) (m : Member) (opening : Summary) (known : Durable) (len room epoch : ℕ) → IsProp (ended ≡ false → HasKnown m opening known len room epoch)
+HasKnown-prop ended m opening known len room epoch p q i = λ works. record {
+  count = Coded-set coded_ℕ _ _ (p works).count (q works).count i;
+  left = Coded-set coded_ℕ _ _ (p works).left (q works).left i;
+  area = Coded-set coded_ℕ _ _ (p works).area (q works).area i;
+}
