@@ -11,9 +11,10 @@
 # scrapes: bin/ringd asked for its health, beside 10,000 connections that ask nothing, silent ones and such with half a head.
 # writeback: as root, the disk of bin/ringd refuses a page during one sync, and then the power goes.
 # syncs: the system calls of bin/ringd: whether what an answer rests on was synced before.
+# fuzz: both programs, given what nobody would give them; FUZZ has words of trials/fuzz.py.
 # load: bin/ringd under load; LOAD has further words of bench/load.py.
 .PHONY: run test wrong_bodies bench clean always
-.PHONY: ringd install serve fencing clients picture pictures kills load short threads scrapes writeback syncs
+.PHONY: ringd install serve fencing clients picture pictures kills load short threads scrapes writeback syncs fuzz
 
 run:
 	@bench/try.sh examples/first_election.ring
@@ -86,6 +87,9 @@ writeback: bin/ringd
 
 syncs: bin/ringd
 	@trials/syncs.py --ringd bin/ringd
+
+fuzz: bin/ringctl bin/ringd
+	@trials/fuzz.py $(FUZZ)
 
 load: bin/ringd
 	@bench/load.py --ringd bin/ringd $(LOAD)

@@ -1,0 +1,96 @@
+"""The words of `ringd`, against docs/OPERATING.md and how words are commonly taken."""
+import random
+import re
+
+from programs import Kind
+
+NUMBERS = {b"serve": (1, 1_000), b"doors": (1, 32), b"idle": (0, 86_400), b"status": (1, 65_535)}
+FLAGS = {b"always", b"existing", b"fail-stop"}
+WRONG, HELP, VERSION, TAKEN = "wrong", "help", "version", "taken"
+
+
+def is_number(value: bytes, low: int, high: int) -> bool:
+    """As Rust reads one: digits, behind a plus where there is one."""
+    digits = value.removeprefix(b"+")
+    return digits.isdigit() and int(digits) < 2**32 and low <= int(digits) <= high
+
+
+def outcome(words: list[bytes]) -> str:
+    """What comes of the words."""
+    said: dict[bytes, bytes] = {}
+    at = 0
+    while at < len(words):
+        word, at = words[at], at + 1
+        if word in (b"--help", b"-h") or word[:2] == b"-h":
+            return HELP
+        if word in (b"--version", b"-V") or word[:2] == b"-V":
+            return VERSION
+        name, equals, value = word.removeprefix(b"--").partition(b"=")
+        if word == b"--":
+            # What stands behind it is no word of ringd.
+            if at < len(words):
+                return WRONG
+            break
+        if not word.startswith(b"--") or name in said or name not in FLAGS | {b"settings"} | set(NUMBERS):
+            return WRONG
+        if name in FLAGS:
+            if equals:
+                return WRONG
+        elif not equals:
+            if at == len(words) or words[at].startswith(b"-") and words[at] != b"-":
+                return WRONG
+            value, at = words[at], at + 1
+        if name in NUMBERS and not is_number(value, *NUMBERS[name]):
+            return WRONG
+        said[name] = value
+    if b"always" in said and b"serve" in said or b"status" in said and int(said.get(b"doors", b"1")) > 31:
+        return WRONG
+    return TAKEN if said.get(b"settings", b"-") == b"-" else "path"
+
+
+class Words(Kind):
+    """A case is a list of words. The settings are none, so that nothing is served."""
+
+    name = "words"
+
+    def case(self, rng: random.Random) -> list[bytes]:
+        case: list[bytes] = []
+        for _ in range(rng.choice([0, 1, 2, 2, 3, 3, 4, 6])):
+            name = rng.choice([*NUMBERS, *FLAGS, b"settings", rng.choice([b"help", b"version", b"door", b"Serve", b"", b"fail_stop"])])
+            value = rng.choice(VALUES) if rng.random() < 0.5 else b"%d" % rng.choice(NUMBERS.get(name, (1, 2)))
+            if name in FLAGS or name in (b"help", b"version"):
+                case.append(b"--" + name + (b"=" + value if rng.random() < 0.03 else b""))
+            elif rng.random() < 0.4:
+                case.append(b"--" + name + b"=" + value)
+            else:
+                case += [b"--" + name, value]
+        if rng.random() < 0.1:
+            case.insert(rng.randint(0, len(case)), rng.choice([b"-", b"--", b"-h", b"-V", b"-x", b"x", b"", b"\xff", b"-hV", b"---", b"-s"]))
+        if case and rng.random() < 0.1:
+            place = rng.randrange(len(case))
+            at = rng.randint(0, len(case[place]))
+            case[place] = case[place][:at] + rng.choice([rng.randbytes(1), b"-", b"=", b"0"]) + case[place][at + rng.randint(0, 1):]
+        return [word.replace(b"\0", b"") for word in case]
+
+    def differs(self, case: list[bytes]) -> str | None:
+        ended = self.programs.run([self.programs.ringd, *case], b"none")
+        if ended.fault:
+            return ended.fault
+        right = outcome(case)
+        try:
+            b"".join(case).decode("utf-8")
+        except UnicodeDecodeError:
+            right = "text"
+        is_right = {
+            "text": ended[:3] == (2, b"", b"ringd: words are not text\n"),
+            WRONG: ended[:2] == (2, b"") and ended.err.startswith(b"error: "),
+            HELP: ended.status == 0 and b"Usage: ringd" in ended.out and not ended.err,
+            VERSION: ended.status == 0 and re.fullmatch(rb"ringd \d+\.\d+\.\d+\n", ended.out) and not ended.err,
+            TAKEN: ended[:3] == (2, b"", b"ringd: settings are not TOML\n"),
+            "path": ended[:3] == (2, b"", b"ringd: settings cannot be read\n"),
+        }[right]
+        return None if is_right else f"{ended[:3]}, where it is {right}"
+
+
+VALUES = [b"0", b"1", b"32", b"33", b"31", b"1000", b"1001", b"86400", b"86401", b"65535", b"65536", b"4294967296", b"4294967297", b"+5", b"-5", b"05",
+          b"5.0", b" 5", b"", b"x", b"-", b"--", b"1_0", b"0x1", "٣".encode(), b"00000000000000000000001", b"18446744073709551617", b"no/such/file"]
