@@ -12,9 +12,10 @@
 # writeback: as root, the disk of bin/ringd refuses a page during one sync, and then the power goes.
 # syncs: the system calls of bin/ringd: whether what an answer rests on was synced before.
 # fuzz: both programs, given what nobody would give them; FUZZ has words of trials/fuzz.py.
+# faults: each call of the system that a ring makes fails in turn.
 # load: bin/ringd under load; LOAD has further words of bench/load.py.
 .PHONY: run test wrong_bodies bench clean always
-.PHONY: ringd install serve fencing clients picture pictures kills load short threads scrapes writeback syncs fuzz
+.PHONY: ringd install serve fencing clients picture pictures kills load short threads scrapes writeback syncs fuzz faults
 
 run:
 	@bench/try.sh examples/first_election.ring
@@ -90,6 +91,9 @@ syncs: bin/ringd
 
 fuzz: bin/ringctl bin/ringd
 	@trials/fuzz.py $(FUZZ)
+
+faults: bin/ringd
+	@trials/faults.py
 
 load: bin/ringd
 	@bench/load.py --ringd bin/ringd $(LOAD)

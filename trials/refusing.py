@@ -1,0 +1,222 @@
+"""Runs of a program of which one call is refused, by refuse.c."""
+import os
+import select
+import shutil
+import socket
+import struct
+import subprocess
+import sys
+import time
+from typing import NamedTuple
+
+from known import Known, Question, Session
+from short import free_ports
+
+HERE = os.path.dirname(os.path.abspath(__file__))
+NAMES = ("memory", "pwrite", "fdatasync", "fsync", "ftruncate", "rename", "openat", "pread")
+# The file of orders: counts, the name, the way, for good, the call that is refused, how many were.
+ORDERS = struct.Struct("=8Q4I2Q")
+NODES, CAPACITY, SECONDS = 3, 4_096, 10
+# How long a ring that lacks memory is waited for, in seconds: it may wait for good.
+SHORT = 0.4
+# A ring does not make as many calls each time: so many runs in a row with none refused end a sweep.
+SPARED = 3
+
+
+class Refusal(NamedTuple):
+    """Call number `at` of a name is refused, counted from 1, or none where it is 0; as this errno, or 0 for a write of one byte."""
+    name: str = "memory"
+    at: int = 0
+    way: int = 0
+    for_good: bool = False
+
+
+class Refuser:
+    """The library, and its orders, in a folder."""
+
+    def __init__(self, folder: str) -> None:
+        compiler = next((found for name in ("cc", "clang", "gcc") if (found := shutil.which(name))), None)
+        if compiler is None:
+            print("no C compiler, neither cc, clang nor gcc", file=sys.stderr)
+            sys.exit(2)
+        self.library, self.orders = os.path.join(folder, "refuse.so"), os.path.join(folder, "orders")
+        subprocess.run([compiler, "-O2", "-shared", "-fPIC", os.path.join(HERE, "refuse.c"), "-o", self.library], check=True)
+
+    def environment(self, refusal: Refusal) -> dict[str, str]:
+        """Of a program of which this call is refused."""
+        with open(self.orders, "wb") as file:
+            file.write(ORDERS.pack(*[0] * 8, NAMES.index(refusal.name), refusal.way, refusal.for_good, 0, refusal.at, 0))
+        return {**os.environ, "LD_PRELOAD": self.library, "REFUSE": self.orders}
+
+    def refused(self) -> int:
+        """How many calls were refused."""
+        with open(self.orders, "rb") as file:
+            return ORDERS.unpack(file.read())[-1]
+
+
+class End(NamedTuple):
+    """How a ring came to its end: its status, None where it was killed; what it said; how many calls were refused; whether each question
+    was answered; whether each Stand was taken, each election came to its end, and the ring ended well; and what was wrong."""
+    status: int | None
+    said: str
+    refused: int
+    is_answered: bool
+    is_whole: bool
+    faults: list[str]
+
+
+class Ring:
+    """A folder with a ring of three nodes, and what it told. `base` is a folder that it begins with, or None."""
+
+    def __init__(self, ringd: str, refuser: Refuser, folder: str, base: str | None) -> None:
+        self.ringd, self.refuser, self.folder = ringd, refuser, folder
+        self.dir = os.path.join(folder, "ring")
+        shutil.rmtree(self.dir, ignore_errors=True)
+        shutil.copytree(base, self.dir) if base else os.mkdir(self.dir)
+        self.known = Known(NODES, True)
+        self.patience = float(SECONDS)
+
+    def start(self, environment: dict[str, str], words: list[str]) -> bool:
+        """Starts it. Whether it serves."""
+        for _ in range(20):
+            self.port = free_ports(NODES)
+            with open(os.path.join(self.folder, "settings"), "w", encoding="ascii") as file:
+                file.write(f'nodes = {NODES}\ndir = "{self.dir}"\nport = {self.port}\ncapacity = {CAPACITY}\n')
+            with open(os.path.join(self.folder, "err"), "wb") as err:
+                self.process = subprocess.Popen([self.ringd, "--settings", os.path.join(self.folder, "settings"), *words],
+                                                stdin=subprocess.DEVNULL, stdout=subprocess.PIPE, stderr=err, env=environment, bufsize=0)
+            if self.is_served() or "cannot be used" not in self.said():
+                return self.process.poll() is None
+        raise SystemExit("no free ports")
+
+    def is_served(self) -> bool:
+        text, until = b"", time.monotonic() + SECONDS
+        while b"serving\n" not in text:
+            ready, _, _ = select.select([self.process.stdout], [], [], max(0.0, until - time.monotonic()))
+            part = self.process.stdout.read(256) if ready else b""
+            if not part:
+                self.ends(until - time.monotonic())
+                return False
+            text += part
+        return True
+
+    def said(self) -> str:
+        with open(os.path.join(self.folder, "err"), encoding="utf-8", errors="replace") as file:
+            return file.read()
+
+    def ends(self, seconds: float) -> int | None:
+        """Its status, once it ended by itself. None where it was killed."""
+        try:
+            return self.process.wait(max(0.0, seconds))
+        except subprocess.TimeoutExpired:
+            self.process.kill()
+            self.process.wait()
+            return None
+        finally:
+            self.process.stdout.close()
+
+    def play(self, refusal: Refusal, questions: list[tuple[int, Question]]) -> End:
+        """A start, these questions, each node by one session, and the end; then a start with nothing refused, which is asked again."""
+        if refusal.name == "memory":
+            self.patience = SHORT
+        is_answered = is_whole = False
+        if self.start(self.refuser.environment(refusal), ["--serve", "1"]):
+            try:
+                is_whole = self.ask(questions)
+                is_answered = True
+            except OSError:
+                pass
+            status = self.ends(SECONDS if is_whole else self.patience)
+        else:
+            status = self.process.returncode
+        refused, said = self.refuser.refused(), self.said()
+        self.known.process_ended()
+        self.look()
+        return End(status, said, refused, is_answered, is_whole and status == 0, self.known.faults)
+
+    def ask(self, questions: list[tuple[int, Question]]) -> bool:
+        """Asks them one after the other. A `who` is asked until it names a leader. Whether all was answered as it should be."""
+        sessions = [socket.create_connection(("127.0.0.1", self.port + place), self.patience) for place in range(NODES)]
+        try:
+            told = [Session() for _ in sessions]
+            is_whole = all([self.one(node, sessions[node - 1], told[node - 1], question) for node, question in questions])
+            for session in sessions:
+                session.sendall(b"bye\n")
+            return is_whole
+        finally:
+            for session in sessions:
+                session.close()
+
+    def one(self, node: int, connection: socket.socket, session: Session, question: Question) -> bool:
+        until = time.monotonic() + self.patience
+        while True:
+            before = self.known.sending(node, question, session)
+            try:
+                answer = exchange(connection, question.line())
+            except OSError:
+                self.known.no_answer(node, question)
+                raise
+            if answer.startswith(("no 8 ", "no 9 ")):
+                # The Stand may be there or not.
+                self.known.no_answer(node, question)
+                return False
+            self.known.answered(node, question, before, session, answer)
+            if question.word != "who" or answer != "none":
+                return answer == "stood" or question.word == "who"
+            if time.monotonic() > until or "failed" in self.said():
+                return False
+            time.sleep(0.001)
+
+    def look(self) -> None:
+        """Starts it with nothing refused, and asks again what is known."""
+        self.patience = float(SECONDS)
+        if not self.start(dict(os.environ), ["--always"]):
+            self.known.fault(f"a start with nothing refused ends, and says {self.said()!r}")
+            return
+        try:
+            for node in range(1, NODES + 1):
+                with socket.create_connection(("127.0.0.1", self.port + node - 1), SECONDS) as connection:
+                    session = Session()
+                    for question in self.again(node):
+                        before = self.known.sending(node, question, session)
+                        self.known.answered(node, question, before, session, exchange(connection, question.line()))
+        except OSError as error:
+            self.known.fault(f"a start with nothing refused does not answer: {error}")
+        self.ends(0)
+
+    def again(self, node: int) -> list[Question]:
+        """Each Stand of the node that was asked, and each leader."""
+        stood = [Question("stand", *key, bid + 1) for (at, key), (bid, _) in self.known.stood.items() if at == node]
+        asked = [question for at, question in self.known.open if at == node]
+        return stood + asked + [Question("who", *key) for key in self.known.leaders]
+
+
+def exchange(connection: socket.socket, line: str) -> str:
+    """The answer to a line."""
+    connection.sendall(line.encode() + b"\n")
+    answer = b""
+    while not answer.endswith(b"\n"):
+        part = connection.recv(256)
+        if not part:
+            raise ConnectionError("the session ended")
+        answer += part
+    return answer[:-1].decode("ascii", "replace")
+
+
+# Two elections, in which all nodes name the leader.
+ELECTIONS = [(place % NODES + 1, question) for term in (101, 102) for place, question in
+             [(term, Question("stand", "abcdefghijklmnop", term, 5)), *((node, Question("who", "abcdefghijklmnop", term)) for node in range(NODES))]]
+
+
+def filled(ringd: str, refuser: Refuser, folder: str, terms: int) -> str:
+    """A folder of a ring that had so many elections, after which the next one makes a checkpoint."""
+    ring = Ring(ringd, refuser, folder, None)
+    if not ring.start(dict(os.environ), ["--serve", "1"]):
+        raise SystemExit(f"ringd does not serve: {ring.said()}")
+    ring.ask([(node, question) for term in range(1, terms + 1)
+              for node, question in [(term % NODES + 1, Question("stand", "abcdefghijklmnop", term, 5)),
+                                     *((node, Question("who", "abcdefghijklmnop", term)) for node in range(1, NODES + 1))]])
+    ring.ends(SECONDS)
+    base = os.path.join(folder, "base")
+    shutil.copytree(ring.dir, base)
+    return base
