@@ -12,10 +12,10 @@
 # writeback: as root, the disk of bin/ringd refuses a page during one sync, and then the power goes.
 # syncs: the system calls of bin/ringd: whether what an answer rests on was synced before.
 # fuzz: both programs, given what nobody would give them; FUZZ has words of trials/fuzz.py.
-# faults: each call of the system that a ring makes fails in turn.
+# faults, growths: each call of the system that a ring makes fails in turn, and each growth of the programs is refused.
 # load: bin/ringd under load; LOAD has further words of bench/load.py.
 .PHONY: run test wrong_bodies bench clean always
-.PHONY: ringd install serve fencing clients picture pictures kills load short threads scrapes writeback syncs fuzz faults
+.PHONY: ringd install serve fencing clients picture pictures kills load short threads scrapes writeback syncs fuzz faults growths
 
 run:
 	@bench/try.sh examples/first_election.ring
@@ -94,6 +94,10 @@ fuzz: bin/ringctl bin/ringd
 
 faults: bin/ringd
 	@trials/faults.py
+
+growths: bin/ringctl bin/ringd
+	@for crate in board_tests node_tests service_tests store_tests; do (cd crates/$$crate && rt test > /dev/null) || exit 1; done
+	@trials/growths.py
 
 load: bin/ringd
 	@bench/load.py --ringd bin/ringd $(LOAD)
