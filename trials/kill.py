@@ -86,7 +86,7 @@ class Ring:
         return sum(self.made(node) for node in range(1, self.nodes + 1))
 
     def made(self, node: int) -> int:
-        """How many checkpoints this node made: each raises the epoch of a journal by 1. One that was not made has none."""
+        """How many this node made: each raises the epoch of a journal by 1. A node that was not made has none."""
         path = os.path.join(self.folder, "ring", f"node-{node}.crj")
         if not os.path.exists(path):
             return 0

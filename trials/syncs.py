@@ -5,9 +5,9 @@ syncs.py [--ringd PATH]
 
 PATH is a built ringd, bin/ringd where none is named. It takes strace. ringd serves three nodes, of 16,384 bytes so that
 they make checkpoints, and is asked for Stands and leaders by a client of each node, in three starts on one folder: the
-first one, until each node made a checkpoint; a second one; and one in which each sync behind the first FAILING of a
-thread is refused. strace writes down what each of its threads reads, writes and syncs; of two calls the one that began
-behind the other's end stands behind it. What was written is stable once a sync that began behind it has answered 0. Then
+first one, until each node made a checkpoint; a second one; and one in which each sync from a thread's 24th on is
+refused. strace writes down what each of its threads reads, writes and syncs; of two calls the one that began behind the
+other's end stands behind it. What was written is stable once a sync that began behind it has answered 0. Then
 
 - each write to a journal begins once the one before it is stable: so a frame or a snapshot before its gate, the gate
   that was closed before the snapshot, and a gate before all that follows, and a file that is opened is synced first;
@@ -17,8 +17,8 @@ behind the other's end stands behind it. What was written is stable once a sync 
   when it is sent, and which this start wrote, for the file may read what the disk never had.
 
 The last line is `answers A batches B checkpoints C, not as they should be: answers A batches B checkpoints C starts S`,
-behind the first of each kind that is not. Status 1 where there is one, or there was no answer, batch or checkpoint, or no
-refused sync; 2 for other arguments.
+behind the first of each kind that is not. Status 1 where there is one, or there was no answer, batch or checkpoint, or
+no refused sync; 2 for other arguments.
 """
 import argparse
 import os
@@ -43,7 +43,7 @@ from short import free_ports
 
 NODES = 3
 CAPACITY = 16_384
-# How long the second and the third start are asked, in seconds, and how many syncs of a thread succeed in the third one.
+# How long the second start is asked, in seconds, and from which sync of a thread on the third one is refused each.
 LOAD, FAILING = 1.0, 24
 CALLS = "openat,rename,fsync,fdatasync,pwrite64,accept4,recvfrom,sendto"
 LINE = re.compile(r"(\d+) +(?:<\.\.\. (\w+) resumed>|(\w+)\()(.*?)(?:( <unfinished \.\.\.>)|\) += (-?\d+|\?)(.*))?$")
@@ -279,7 +279,7 @@ class Start:
         if self.names.unstable:
             self.fault("starts", "an answer is sent, and a name is not stable")
         if question != "bye" and not told.bears(question.split(), answer.split()):
-            self.fault("answers", f"{answer!r} of node {node} to {question!r}, and no stable batch or checkpoint has it")
+            self.fault("answers", f"{answer!r} of node {node} to {question!r}, and nothing stable has it")
 
 
 class Trial:
@@ -294,8 +294,8 @@ class Trial:
         self.starts: list[Start] = []
 
     def start(self, is_failing: bool, is_done: Callable[[float], bool]) -> None:
-        """Starts ringd, asks it until that is so, for which it is told how many seconds it was asked, kills it, and looks
-        at its calls."""
+        """Starts ringd, asks it until that is so, by the seconds for which it was asked, kills it, and looks at its
+        calls."""
         tracer = ["strace", "-D", "-f", "-yy", "-x", "-s", "65536", "-o", self.log, "-e", f"trace={CALLS}"]
         if is_failing:
             tracer += ["-e", f"inject=fdatasync:error=EIO:when={FAILING}+"]
@@ -346,7 +346,8 @@ class Trial:
         self.start(False, self.has_checkpoints)
         self.start(False, lambda seconds: seconds > LOAD)
         self.start(True, self.have_failed)
-        counts, faults = sum((it.counts for it in self.starts), Counter()), sum((it.faults for it in self.starts), Counter())
+        counts = sum((seen.counts for seen in self.starts), Counter())
+        faults = sum((seen.faults for seen in self.starts), Counter())
         for seen in self.starts:
             for kind, text in seen.texts.items():
                 print(f"{kind}, start {self.starts.index(seen) + 1}: {text}")

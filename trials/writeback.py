@@ -16,9 +16,9 @@ to node 2's file; behind the one that is waited for, the page that it wrote is t
 - call 2, 4 or 6 of a checkpoint that is due, or of one that is made at a start, which has to be refused then.
 
 Each with a snapshot below a page and with one above. The disk then has the page as it was, and works. ringd is killed
-and started again, asked again what is known, and asked for more Stands. Then it is killed, and the power goes: the image
-as it is, without what only the memory has, is mounted in place of the disk. ringd is started there, and asked again all
-that is known. What is checked of each answer stands in known.py.
+and started again, asked again what is known, and asked for more Stands. Then it is killed, and the power goes: the
+image as it is, without what only the memory has, is mounted in place of the disk. ringd is started there, and asked
+again all that is known. What is checked of each answer stands in known.py.
 
 A line tells of each case `rounds N stands S leaders L faults F`: the rounds, the Stands and leaders that were told
 between the sync that failed and the end of the power, and in how many rounds something was missing or was not as it
@@ -146,15 +146,17 @@ class Case(NamedTuple):
 
     def is_behind(self, kind: str, call: int, snapshot: int) -> bool:
         """Whether its sync is the one behind this call, where the last snapshot has so many bytes."""
-        return kind == ("batch" if self.kind == "batch" else "checkpoint") and call == self.call - 1 and self.has_size(snapshot)
+        wanted = "batch" if self.kind == "batch" else "checkpoint"
+        return (kind, call) == (wanted, self.call - 1) and self.has_size(snapshot)
 
-    def is_near(self, state: journal.State, capacity: int) -> bool:
-        """Whether its sync is soon to come."""
+    def left(self, state: journal.State, capacity: int) -> int:
+        """About how many bytes of inputs are left until its sync."""
         is_new = self.kind == "checkpoint" and self.call > 2
         if not is_new and not self.has_size(len(state.snapshot)):
-            return False
-        left = PAGE - state.gate % PAGE if self.kind == "batch" else capacity // 2 - state.taken
-        return self.kind == "start" or left < NEAR
+            return capacity
+        if self.kind == "batch":
+            return PAGE - state.gate % PAGE
+        return capacity // 2 - state.taken if self.kind == "checkpoint" else 0
 
 
 CASES = [Case(kind, call, size) for size in CAPACITIES
@@ -203,8 +205,9 @@ class Halts(threading.Thread):
         kind, call = self.which(write)
         if (kind, call) == ("checkpoint", 3):
             self.snapshot = write.length - journal.HEAD
-        crosses = self.last.last() // PAGE > write.offset // PAGE
-        if not self.came.is_set() and self.case.is_behind(kind, call, self.snapshot) and (kind == "checkpoint" or crosses):
+        # The next write to a batch's page, where there is one, would bring it back.
+        is_left = kind == "checkpoint" or self.last.last() // PAGE > write.offset // PAGE
+        if is_left and not self.came.is_set() and self.case.is_behind(kind, call, self.snapshot):
             self.then(write.offset // PAGE)
             self.came.set()
         self.last = write
@@ -293,14 +296,14 @@ class Round:
             client.is_killed = True
 
     def load(self) -> journal.State:
-        """Asks for Stands until the sync of the case is near, or, where it is one of a start, until the snapshot has its
-        size."""
-        until = time.monotonic() + PATIENCE
+        """Asks for Stands until the sync of the case is near; for one of a start, until the snapshot has its size."""
+        until = time.monotonic() + 5 * PATIENCE
         while time.monotonic() < until:
             state = journal.read(pathlib.Path(self.file).read_bytes())
-            if self.case.is_near(state, self.ring.capacity):
+            left = self.case.left(state, self.ring.capacity)
+            if left < NEAR:
                 return state
-            self.look(LOAD, False)
+            self.look(LOAD if left < 10 * NEAR else 10 * LOAD, False)
         raise Ended("the call does not come near")
 
     def fail(self, state: journal.State) -> None:
@@ -400,7 +403,7 @@ def try_case(ringd: str, case: Case, rounds: int, rng: random.Random) -> bool:
 
 
 def main() -> int:
-    parser = argparse.ArgumentParser(description="Has a disk refuse a page for a moment, and holds ringd to what it told.")
+    parser = argparse.ArgumentParser(description="Has a disk refuse a page, and holds ringd to what it told.")
     parser.add_argument("--ringd", default=os.path.join(os.path.dirname(HERE), "bin", "ringd"), metavar="PATH")
     parser.add_argument("--rounds", type=number(1, 1_000), default=10, metavar="N")
     words = parser.parse_args()
