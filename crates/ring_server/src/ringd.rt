@@ -12,6 +12,8 @@ use crate::ready::Ready;
 use crate::ring::serve_ring;
 use crate::run_fault::RunFault;
 use crate::site::{Doors, Site};
+use clap::Error;
+use clap::error::ErrorKind as WordFault;
 use crossbeam_channel::Receiver;
 use disk_model::FileDevice;
 use ring_records::{NodeNo, Packet};
@@ -50,14 +52,7 @@ where
 {
     let words = match read_words(alloc, words) {
         Ok(words) => words,
-        Err(error) => {
-            let _ = if error.use_stderr() {
-                write!(err, "{error}")
-            } else {
-                write!(out, "{error}")
-            };
-            return (error.exit_code() % 256) as u8;
-        }
+        Err(error) => return tell_words(&error, out, err),
     };
     match run(rt, alloc, &words, settings, out, err) {
         Ok(status) => status,
@@ -66,6 +61,21 @@ where
             fault.status()
         }
     }
+}
+
+/// Tells why the words were not taken, or what they asked for of the program, and the status for that.
+fn tell_words<O: Write, E: Write>(error: &Error, out: &mut O, err: &mut E) -> u8 {
+    if error.kind() == WordFault::OutOfMemory {
+        let fault = RunFault::Memory(AllocError);
+        let _ = writeln!(err, "ringd: {fault}");
+        return fault.status();
+    }
+    let _ = if error.use_stderr() {
+        write!(err, "{error}")
+    } else {
+        write!(out, "{error}")
+    };
+    (error.exit_code() % 256) as u8
 }
 
 fn run<R, I: Read, O: Write, E: Write>(
@@ -129,10 +139,14 @@ fn take_settings<R: Files<File = File>, I: Read>(
     }
 }
 
+/// At most so many bytes of settings are read.
+const SETTINGS_BYTES: usize = 1_000_000;
+
 fn read_all<I: Read>(alloc: Global, input: &mut I) -> Result<Vec<u8>, RunFault> {
     let mut bytes = Vec::new(alloc);
-    match input.read_to_end(&mut bytes) {
-        Ok(_) => Ok(bytes),
+    match input.take(SETTINGS_BYTES as u64 + 1).read_to_end(&mut bytes) {
+        Ok(_) if bytes.len() <= SETTINGS_BYTES => Ok(bytes),
+        Ok(_) => Err(RunFault::Settings),
         Err(error) if error.kind() == ErrorKind::OutOfMemory => Err(RunFault::Memory(AllocError)),
         Err(_) => Err(RunFault::Settings),
     }

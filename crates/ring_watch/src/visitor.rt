@@ -44,9 +44,13 @@ pub(crate) struct Visitor {
     deadline: Deadline,
 }
 
-/// How a head that is refused asks. No body follows where it asks for none.
+/// How a head that is refused asks, which may begin with empty lines. No body follows where it asks for none.
 fn method_of(head: &[u8]) -> Method {
-    if head.starts_with(b"HEAD ") {
+    let mut rest = head;
+    while let [b'\r' | b'\n', behind @ ..] = rest {
+        rest = behind;
+    }
+    if rest.starts_with(b"HEAD ") {
         Method::Head
     } else {
         Method::Get
