@@ -145,11 +145,11 @@ fn create<R: Files<File = File>>(
     }
 }
 
-/// What a start makes: these nodes, and `ring.made` where it was not there.
+/// What a start made so far: these nodes, and perhaps `ring.made`.
 #[derive(Drop)]
 pub(crate) struct Made {
     pub(crate) nodes: Vec<NodeNo>,
-    pub(crate) is_first: bool,
+    pub(crate) is_marked: bool,
 }
 
 /// A folder whose exclusive lock is held: nobody else who asks for it makes or opens nodes there.
@@ -301,8 +301,7 @@ impl<'a> Folder<'a> {
         Ok(Unopened::because(refusal, Place::New, again))
     }
 
-    /// A new node. Its file has its full length, and its name only once it is formatted and synced, so that a stop at
-    /// any moment leaves a file that is recovered, or none of the name; what such a stop left is made anew.
+    /// A new node. Where it is refused, no file of it is left.
     fn make<R: Files<File = File>>(
         &self,
         rt: &R,
@@ -315,31 +314,66 @@ impl<'a> Folder<'a> {
         let node = new.number;
         let path = format!(in alloc; "{}/node-{node}.crj", self.path)?;
         let first = format!(in alloc; "{}/node-{node}.crj.new", self.path)?;
-        remove(rt, first.as_str())?;
-        let refusal = match create(rt, alloc, first.as_str(), node, new.nodes, new.capacity) {
+        match self.make_as(rt, alloc, new, first.as_str(), path.as_str()) {
+            Ok(opened) => Ok(opened),
+            Err(why) => {
+                let _ = remove(rt, first.as_str());
+                Err(why)
+            }
+        }
+    }
+
+    /// A new node in a file of the one name, which is then given the other. Its file has its full length, and its name only
+    /// once it is formatted and synced, so that a stop at any moment leaves a file that is recovered, or none of the name;
+    /// what such a stop left is made anew.
+    fn make_as<R: Files<File = File>>(
+        &self,
+        rt: &R,
+        alloc: Global,
+        new: &NewNode,
+        first: &str,
+        path: &str,
+    ) -> Result<OpenNode<FileDevice>, Unopened>
+        ensures desk { IfOk result (λ opened. kept_by opened ≡ new.now.desk) }
+        ensures holds { IfOk result (λ opened. HoldsAll 1 new.now.desk opened) }
+    {
+        remove(rt, first)?;
+        let refusal = match create(rt, alloc, first, new.number, new.nodes, new.capacity) {
             Ok(opened) => {
-                self.name(rt, first.as_str(), path.as_str())?;
+                self.name(rt, first, path)?;
                 return Ok(opened);
             }
             Err(refusal) => refusal,
         };
         let again = match refusal {
-            Refusal::Device(_) => grow_again(rt, first.as_str(), device_size(new.capacity)),
+            Refusal::Device(_) => grow_again(rt, first, device_size(new.capacity)),
             _ => Ok(()),
         };
         Err(Unopened::because(refusal, Place::New, again))
     }
 
-    /// Takes back what a start made that is refused: first `ring.made`, where it was not there before, then the files of
-    /// these nodes. What the system does not let go is left, and goes with the next start.
+    /// Gives a new file its name, for good. Where it is refused, there is no file of this name.
+    fn name<R: Files<File = File>>(&self, rt: &R, new: &str, path: &str) -> Result<(), Unopened> {
+        if let Err(error) = fs::rename(rt, new, path) {
+            return Err(Unopened::at(Place::New, Answer::from(error)));
+        }
+        match self.sync() {
+            Ok(()) => Ok(()),
+            Err(why) => {
+                let _ = remove(rt, path);
+                Err(why)
+            }
+        }
+    }
+
+    /// Takes back what a start made that is refused: `ring.made` first, for good, and then the files of its nodes, so that a
+    /// stop in between leaves what the next start goes on from. What the system does not let go is left.
     pub(crate) fn take_back<R: Files<File = File>>(&self, rt: &R, alloc: Global, made: &Made) {
-        if made.is_first && self.unmark(rt, alloc).is_err() {
+        if made.is_marked && self.unmark(rt, alloc).is_err() {
             return;
         }
         for node in &made.nodes {
-            if self.unmake(rt, alloc, *node).is_err() {
-                break;
-            }
+            let _ = self.unmake(rt, alloc, *node);
         }
         let _ = self.sync();
     }
@@ -359,17 +393,7 @@ impl<'a> Folder<'a> {
         node: NodeNo,
     ) -> Result<(), Unopened> {
         let path = format!(in alloc; "{}/node-{node}.crj", self.path)?;
-        let new = format!(in alloc; "{}/node-{node}.crj.new", self.path)?;
-        remove(rt, new.as_str())?;
         remove(rt, path.as_str())
-    }
-
-    /// Gives a new file its name, for good.
-    fn name<R: Files<File = File>>(&self, rt: &R, new: &str, path: &str) -> Result<(), Unopened> {
-        match fs::rename(rt, new, path) {
-            Ok(()) => self.sync(),
-            Err(error) => Err(Unopened::at(Place::New, Answer::from(error))),
-        }
     }
 
     /// The names in the folder are there for good.

@@ -3,7 +3,7 @@ ghost use Rattle.std.specs.Prelude.{◌≡◌, ◌≤◌, length, IfOk};
 ghost use Rattle.ring_server.specs.Fits.{found_as, IsInOrder, Fits};
 ghost use Rattle.ring_server.specs.Written.{ready_as, AreReady};
 
-use crate::folder::Folder;
+use crate::folder::{Folder, Made};
 use crate::found::Found;
 use crate::look_over::look_over;
 use crate::ready::Ready;
@@ -12,7 +12,7 @@ use crate::unopened::Unopened;
 use disk_model::FileDevice;
 use ring_records::{NodeNo, Refusal};
 use ring_service::Settings;
-use std::alloc::{AllocError, Global};
+use std::alloc::Global;
 use std::fs::File;
 use std::rt::Files;
 
@@ -81,28 +81,15 @@ fn find_nodes<R: Files<File = File>>(
     Ok(nodes)
 }
 
-/// Those that have no file.
-pub(crate) fn new_among(
-    alloc: Global,
-    ring: &[Found<FileDevice>],
-) -> Result<Vec<NodeNo>, AllocError> {
-    let mut numbers = Vec::new(alloc);
-    for found in ring {
-        if let Found::New(new) = found {
-            numbers.push(new.number)?;
-        }
-    }
-    Ok(numbers)
-}
-
 /// The nodes that were found, as they may be served: each was made by this start, or made a checkpoint, or can make none.
-/// They go on from what was found.
+/// They go on from what was found. What was made is told in `made`, however it ends.
 pub(crate) fn open_ring<R: Files<File = File>>(
     rt: &R,
     alloc: Global,
     folder: &Folder<'_>,
     settings: &Settings,
     found: Vec<Found<FileDevice>>,
+    made: &mut Made,
 ) -> Result<Vec<Ready<FileDevice>>, RunFault>
     requires order { IsInOrder found_as found.items }
     requires count { length found.items ≡ settings.now.nodes }
@@ -112,24 +99,32 @@ pub(crate) fn open_ring<R: Files<File = File>>(
     ensures count { IfOk result (λ ring. length ring.items ≡ settings.now.nodes) }
     ensures fits { IfOk result (λ ring. Fits ready_as settings.now.nodes ring.items) }
 {
-    let ring = make_ready(rt, alloc, folder, found)?;
+    let ring = make_ready(rt, alloc, folder, found, made)?;
     Ok(ring)
 }
 
-/// Each node that was found, in this order.
+/// Each node that was found, in this order. Those that are made are told in `made`, however it ends.
 fn make_ready<R: Files<File = File>>(
     rt: &R,
     alloc: Global,
     folder: &Folder<'_>,
     found: Vec<Found<FileDevice>>,
+    made: &mut Made,
 ) -> Result<Vec<Ready<FileDevice>>, RunFault>
     ensures { IfOk result (λ ring. AreReady found.items ring.items) }
 {
     let mut ring = Vec::new(alloc);
     for node in found {
         let number = node.number();
+        let is_new = node.is_new();
+        made.nodes.reserve(1)?;
         match folder.ready(rt, alloc, node) {
-            Ok(ready) => ring.push(ready)?,
+            Ok(ready) => {
+                if is_new {
+                    made.nodes.push(number)?;
+                }
+                ring.push(ready)?;
+            }
             Err(why) => return Err(RunFault::Node(number, why)),
         }
     }

@@ -5,7 +5,7 @@ ghost use Rattle.ring_server.specs.Fits.{found_as, IsInOrder, Fits};
 
 use crate::folder::{Folder, Made};
 use crate::found::Found;
-use crate::opening::{find_ring, new_among, open_ring};
+use crate::opening::{find_ring, open_ring};
 use crate::ports::Ports;
 use crate::post::Post;
 use crate::ready::Ready;
@@ -199,12 +199,12 @@ where
     };
     let found = find_ring(rt, alloc, &folder, settings, is_made || words.existing)?;
     let ports = Ports::listen(rt, alloc, settings, words.status)?;
-    let made = Made {
-        nodes: new_among(alloc, &found)?,
-        is_first: !is_made,
+    let mut made = Made {
+        nodes: Vec::new(alloc),
+        is_marked: false,
     };
     let end = serve_found(
-        rt, alloc, settings, words, doors, &folder, found, ports, &made, out, err,
+        rt, alloc, settings, words, doors, &folder, found, ports, is_made, &mut made, out, err,
     );
     if end.is_err() {
         folder.take_back(rt, alloc, &made);
@@ -222,7 +222,8 @@ fn serve_found<R, O: Write, E: Write>(
     folder: &Folder<'_>,
     found: Vec<Found<FileDevice>>,
     ports: Ports,
-    made: &Made,
+    is_made: bool,
+    made: &mut Made,
     out: &mut O,
     err: &mut E,
 ) -> Result<u8, RunFault>
@@ -240,9 +241,10 @@ where
     requires count { length found.items ≡ settings.now.nodes }
     requires fits { Fits found_as settings.now.nodes found.items }
 {
-    let ring = open_ring(rt, alloc, folder, settings, found)?;
+    let ring = open_ring(rt, alloc, folder, settings, found, made)?;
     tell_kept(err, &ring);
-    if made.is_first {
+    if !is_made {
+        made.is_marked = true;
         if let Err(why) = folder.mark_made(rt, alloc) {
             return Err(RunFault::Node(NodeNo::first(), why));
         }
