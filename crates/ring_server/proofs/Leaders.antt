@@ -1,8 +1,9 @@
 -- What the decisions of one node and the leaders of another tell of the two.
-use Rattle.std.proofs.Common.{ℕ, ◌≡◌, ◌≤◌, List, inr, subst}
+use Rattle.std.proofs.Common.{ℕ, zero, suc, ◌≡◌, ◌<◌, ◌≤◌, ◌+◌, ◌-◌, ◌⊎◌, List, Some, inl, inr, refl, sym, ◌∙◌, ap, subst, arith}
 use Rattle.ring_records.specs.declared.decision.Decision.{Decision}
 use Rattle.ring_records.specs.declared.input.Input.{Input}
 use Rattle.ring_records.specs.Fitting.{LeadersFit}
+use Rattle.ring_records.specs.Leader.{leader}
 use Rattle.ring_records.specs.Release.{AreLeaders}
 use Rattle.ring_server.specs.Fits.{Agrees, Differs, IsApart}
 
@@ -36,3 +37,36 @@ module _ (i j : ℕ) (h : ℕ → List Input) (list told : List Decision) (same 
           differ = differs.differ;
         });
       })
+
+-- ---- all pairs of nodes
+
+some_same : {X : Type 0} (x y : X) → Some x ≡ Some y → x ≡ y
+some_same x y e = cc
+
+one_more : (a b : ℕ) → (a < b) ⊎ ((a ≡ b) ⊎ (b < a)) → (suc a < suc b) ⊎ ((suc a ≡ suc b) ⊎ (suc b < suc a))
+one_more a b (inl low) = inl (omega (arith, low))
+one_more a b (inr (inl same)) = inr (inl (ap suc same))
+one_more a b (inr (inr high)) = inr (inr (omega (arith, high)))
+
+compared : (a b : ℕ) → (a < b) ⊎ ((a ≡ b) ⊎ (b < a))
+compared zero zero = inr (inl refl)
+compared zero (suc b) = inl (omega arith)
+compared (suc a) zero = inr (inr (omega arith))
+compared (suc a) (suc b) = one_more a b (compared a b)
+
+module _ (n : ℕ) (h : ℕ → List Input) (before : (m : ℕ) → m < n → (k : ℕ) → k < m → LeadersFit (k + 1) (m + 1) (h (k + 1)) (h (m + 1))) where
+  pairs : (a b : ℕ) → a < n → b < n → (a < b) ⊎ ((a ≡ b) ⊎ (b < a)) → LeadersFit (a + 1) (b + 1) (h (a + 1)) (h (b + 1))
+  pairs a b one other (inl low) = before b other a low
+  pairs a b one other (inr (inl same)) = λ key c d here there. some_same c d (sym here ∙ (ap (λ k. leader (k + 1) (h (k + 1)) key) same ∙ there))
+  pairs a b one other (inr (inr high)) = λ key c d here there. sym (before a one b high key d c there here)
+
+  -- where each node agrees with those before it, any two do
+  pub all_pairs : (i j : ℕ) → 1 ≤ i → i ≤ n → 1 ≤ j → j ≤ n → LeadersFit i j (h i) (h j)
+  all_pairs i j low high low' high' =
+      let one : i - 1 + 1 ≡ i = omega (arith, low) in
+      let other : j - 1 + 1 ≡ j = omega (arith, low') in
+      let inside : i - 1 < n = omega (arith, low, high) in
+      let inside' : j - 1 < n = omega (arith, low', high') in
+      subst (λ (k : ℕ). LeadersFit k j (h k) (h j)) one
+      (subst (λ (m : ℕ). LeadersFit (i - 1 + 1) m (h (i - 1 + 1)) (h m)) other
+      (pairs (i - 1) (j - 1) inside inside' (compared (i - 1) (j - 1))))

@@ -16,7 +16,7 @@ use disk_model::{Device, DeviceFault, FILE_LIMIT, FileDevice, OpenFault};
 use gated_journal::device_size;
 use node_store::Node;
 use ring_records::{NodeNo, Refusal};
-use std::alloc::{AllocError, Global};
+use std::alloc::Global;
 use std::fs::{File, OpenOptions};
 use std::io::{ErrorKind, Read};
 use std::os::unix::fs::FileExt;
@@ -66,6 +66,26 @@ fn look_again<R: Files<File = File>>(
         _ => Ok(()),
     };
     Unopened::because(refusal, Place::Journal, again)
+}
+
+/// Why a node makes no checkpoint, whose refusal is this. Where the system refused something, it is asked once more for
+/// its file, and then for a new one, which is gone behind that.
+fn why_unwritten<R: Files<File = File>>(
+    rt: &R,
+    alloc: Global,
+    path: &str,
+    new: &str,
+    refusal: Refusal,
+) -> Unopened {
+    let why = look_again(rt, alloc, path, refusal);
+    match (refusal, why.told) {
+        (Refusal::Device(_), None) => {
+            let again = grow_again(rt, new, 0);
+            let _ = remove(rt, new);
+            Unopened::because(refusal, Place::New, again)
+        }
+        _ => why,
+    }
 }
 
 /// What the system answers now of a new file that could not be made: it is opened, grown and synced once more.
@@ -154,14 +174,14 @@ pub(crate) struct Made {
 
 /// A folder whose exclusive lock is held: nobody else who asks for it makes or opens nodes there.
 #[derive(Drop)]
-pub(crate) struct Folder<'a> {
+pub struct Folder<'a> {
     path: &'a str,
     file: File,
 }
 
 impl<'a> Folder<'a> {
     /// The folder at this path. Refused where it is not there, or is in use.
-    pub(crate) fn open<R: Files<File = File>>(
+    pub fn open<R: Files<File = File>>(
         rt: &R,
         path: &'a str,
     ) -> Result<Folder<'a>, Unopened> {
@@ -189,7 +209,7 @@ impl<'a> Folder<'a> {
     }
 
     /// Makes `ring.made`, which is there for good then.
-    pub(crate) fn mark_made<R: Files<File = File>>(
+    pub fn mark_made<R: Files<File = File>>(
         &self,
         rt: &R,
         alloc: Global,
@@ -265,40 +285,19 @@ impl<'a> Folder<'a> {
         alloc: Global,
         opened: OpenNode<FileDevice>,
     ) -> Result<Ready<FileDevice>, Unopened>
-        ensures { IfOk result (λ ready. IsReady (found.There opened) ready) }
+        ensures { IfOk result (λ ready. IsReady (Found.There opened) ready) }
     {
         let node = opened.number;
+        let path = format!(in alloc; "{}/node-{node}.crj", self.path)?;
+        let new = format!(in alloc; "{}/node-{node}.crj.new", self.path)?;
         match opened.renew() {
             Ok(ready) => Ok(ready),
             Err((device, refusal)) => {
                 // its lock ends
                 drop(device);
-                Err(self.why_unwritten(rt, alloc, node, refusal)?)
+                Err(why_unwritten(rt, alloc, path.as_str(), new.as_str(), refusal))
             }
         }
-    }
-
-    /// Why no checkpoint could be written. Where the system refused it, it is asked once more for the file, and then for
-    /// a new one, which is gone behind that.
-    fn why_unwritten<R: Files<File = File>>(
-        &self,
-        rt: &R,
-        alloc: Global,
-        node: NodeNo,
-        refusal: Refusal,
-    ) -> Result<Unopened, AllocError> {
-        let path = format!(in alloc; "{}/node-{node}.crj", self.path)?;
-        let why = look_again(rt, alloc, path.as_str(), refusal);
-        let Refusal::Device(_) = refusal else {
-            return Ok(why);
-        };
-        if why.told.is_some() {
-            return Ok(why);
-        }
-        let new = format!(in alloc; "{}/node-{node}.crj.new", self.path)?;
-        let again = grow_again(rt, new.as_str(), 0);
-        let _ = remove(rt, new.as_str());
-        Ok(Unopened::because(refusal, Place::New, again))
     }
 
     /// A new node. Where it is refused, no file of it is left.

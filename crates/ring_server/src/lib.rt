@@ -30,6 +30,7 @@ mod start_latch;
 mod unopened;
 mod watch;
 
+pub use folder::Folder;
 pub use open_node::OpenNode;
 pub use post::Post;
 pub use ready::Ready;

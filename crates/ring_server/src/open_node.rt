@@ -65,24 +65,33 @@ impl<V: Device> OpenNode<V> {
             node,
         } = self;
         let mut node = node;
-        match node.checkpoint() {
-            Ok(_) => Ok(Ready {
-                opened: OpenNode {
+        let refusal = match node.checkpoint() {
+            Ok(_) => {
+                let opened = OpenNode {
                     number,
                     nodes,
                     node,
-                },
-                is_written: true,
-            }),
-            Err(Refusal::Limit | Refusal::Full) => Ok(Ready {
-                opened: OpenNode {
+                };
+                return Ok(Ready {
+                    opened,
+                    is_written: true,
+                });
+            }
+            Err(refusal) => refusal,
+        };
+        match refusal {
+            Refusal::Limit | Refusal::Full => {
+                let opened = OpenNode {
                     number,
                     nodes,
                     node,
-                },
-                is_written: false,
-            }),
-            Err(refusal) => Err((end(node), refusal)),
+                };
+                Ok(Ready {
+                    opened,
+                    is_written: false,
+                })
+            }
+            _ => Err((end(node), refusal)),
         }
     }
 }

@@ -1,5 +1,5 @@
-use Rattle.std.proofs.Common.{◌+◌, ◌++◌, below_more, sym, ap, ◌∙◌, refl, arith}
-use Rattle.ring_server.specs.Fits.{found_as, history}
+use Rattle.std.proofs.Common.{ℕ, ◌≡◌, ◌+◌, ◌-◌, ◌++◌, below_more, sym, ap, subst, ◌∙◌, refl, arith}
+use Rattle.ring_server.specs.Fits.{found_as, history, Agrees}
 use Rattle.ring_server.proofs.Leaders.{Agrees-along, Differs-along}
 use Rattle.ring_server.proofs.look_over.differing.Goals as goal
 
@@ -20,3 +20,9 @@ loop-before-preserved g c pasts are =
     let i = c.loop-before.before + 1 in
     below_more _ _ (c.loop-before.invariant pasts are)
     (Agrees-along _ i _ (history found_as pasts c.args.ring.now i) c.args.decisions.now own.number (ap (λ l. pasts i ++ l) own.inputs) (c.if-not-agrees.ensures.yes refl (pasts i) (own.past pasts are)))
+
+pub returns-clause-none : goal.returns-clause-none
+returns-clause-none g c pasts are i low high =
+    let same : i - 1 + 1 ≡ i = omega (arith, low) in
+    subst (λ (n : ℕ). Agrees n (history found_as pasts c.args.ring.now n) c.args.decisions.now) same
+    (c.loop-before.invariant pasts are (i - 1) (omega (arith, low, high, c.loop-before-test.false)))

@@ -1,6 +1,6 @@
 use Rattle.std.proofs.Common.{◌+◌, length, below_more, sym, arith}
 use Rattle.ring_server.specs.Fits.{found_as, history}
-use Rattle.ring_server.proofs.Leaders.{AreLeaders-along, fit, apart}
+use Rattle.ring_server.proofs.Leaders.{AreLeaders-along, fit, apart, all_pairs}
 use Rattle.ring_server.proofs.look_over.look_at_leaders.Goals as goal
 
 pub returns-in-Some-clause-apart : goal.returns-in-Some-clause-apart
@@ -21,3 +21,8 @@ loop-place-preserved g c pasts are =
     let known = AreLeaders-along _ _ _ _ _ own.number (own.durable past) (c.in-Ok.ensures past (own.past pasts are)) in
     below_more _ _ (c.loop-place.invariant pasts are)
     (λ k low. fit (k + 1) (place + 1) (history found_as pasts c.args.ring.now) _ _ c.deref.ensures.value known (c.in_default-differing.ensures.none pasts are (k + 1) (omega arith) (omega arith)))
+
+pub returns-clause-fit : goal.returns-clause-fit
+returns-clause-fit g c pasts are =
+    all_pairs (length c.args.ring.now) (history found_as pasts c.args.ring.now)
+    (λ m low. c.loop-place.invariant pasts are m (omega (arith, low, c.loop-place-test.false)))

@@ -1,13 +1,45 @@
-use Rattle.std.proofs.Common.{rules, ◌≡◌, ◌+◌, ◌⊎◌, inl, inr, false, ap, sym, subst, absurd, Some}
+use Rattle.std.proofs.Common.{◌+◌, inl, inr, ap, sym, subst, ◌∙◌}
 use Rattle.ring_records.specs.declared.refusal.Refusal.{Refusal}
 use Rattle.ring_records.specs.Admission.{newest}
 use Rattle.ring_records.specs.Member.{Member}
 use Rattle.gated_journal.specs.Areas.{AllReadAs}
 use Rattle.gated_journal.specs.Reading.{fresh_area}
+use Rattle.gated_journal.specs.Unread.{IsFault}
 use Rattle.group_commit.specs.Desk.{DeskKept, known_all}
 use Rattle.node_store.specs.Node.{desk_of, device_of}
-use Rattle.ring_server.proofs.Renewed.{goes_on, stays, objects}
+use Rattle.ring_server.proofs.Renewed.{works, objects, unbegun, objected, broken, in_memory}
 use Rattle.ring_server.proofs.open_node.OpenNode.renew.Goals as goal
 
-pub returns-in-Ok-clause-goes_on : goal.returns-in-Ok-clause-goes_on
-returns-in-Ok-clause-goes_on g c = goes_on _ _ c.in-Ok.ensures.next
+pub returns-in-Ok-clause-written : goal.returns-in-Ok-clause-written
+returns-in-Ok-clause-written g c = λ _.
+    let old = desk_of c.args.self.node in
+    let read = λ (m : Member). AllReadAs m (g.V.Device.disk (device_of c.checkpoint.new.self)) (fresh_area newest (old.view.state.base.epoch + 1) (known_all old)) in
+    record {
+      epoch = ap (λ (d : DeskKept). d.view.state.base.epoch) c.in-Ok.ensures.next;
+      holds = subst read (sym (ap (λ (d : DeskKept). d.view.member) c.in-Ok.ensures.next)) c.in-Ok.ensures.durable;
+    }
+
+pub returns-in-Limit-clause-kept : goal.returns-in-Limit-clause-kept
+returns-in-Limit-clause-kept g c = λ _.
+    let same = c.in-Err.ensures.same (unbegun _ c.in-Limit.is) in
+    record {
+      desk = same.0;
+      device = same.1;
+      objection = objected _ _ _ _ c.in-Err.ensures.cause c.in-Limit.is;
+    }
+
+pub returns-in_default : goal.returns-in_default
+returns-in_default g c =
+    let node = c.args.self.node in
+    let told = broken _ _ _ c.in-Err.refusal (objects _ _ _ _ _ _ _ node.stands (works _ _ c.args.self.open) c.in-Err.refusal) c.in_default.not-Limit c.in_default.not-Full c.in-Err.ensures.cause in
+    record {
+      goes_on = tt;
+      written = tt;
+      kept = tt;
+      any_moment = tt;
+      refusal = elim told [
+        | inl fault ↦ inl (subst (λ device. IsFault (g.V.Device.count (device_of node)) (g.V.Device.count device) c.in-Err.refusal) (sym c.end.ensures) fault)
+        | inr memory ↦ inr (memory, c.end.ensures ∙ (c.in-Err.ensures.same (inr (inr (inr memory)))).1)
+      ];
+      in_reach = λ reach. in_memory _ _ c.in-Err.refusal (c.in-Err.ensures.in_reach reach) told;
+    }
