@@ -12,12 +12,8 @@ one_more p q piece told fed kept =
     ⊎_elim (λ (none : told ≡ Err OutOfMemory). let same = kept none in (ap (λ (r : Pieces). r.offset) same, omega (arith, ap (λ (r : Pieces). length r.bytes) same)))
     (λ (more : q ≡ with_piece p piece told). (ap (λ (r : Pieces). r.offset) more, omega (arith, ap (λ (r : Pieces). length r.bytes) more, length-append p.bytes piece))) fed
 
--- what it is after these bytes
-now : (c : goal.After-feed) → (c.feed.new.self.offset ≡ c.args.reader.now.offset) × (length c.feed.new.self.bytes ≤ length c.args.reader.now.bytes + length c.args.piece.now)
-now c = one_more c.args.reader.now c.feed.new.self _ c.feed.result c.feed.ensures.fed c.feed.ensures.kept
-
 pub returns-clause-offset : goal.returns-clause-offset
-returns-clause-offset c = (now c).0
+returns-clause-offset c = (one_more c.args.reader.now c.feed.new.self _ c.feed.result c.feed.ensures.fed c.feed.ensures.kept).0
 
 pub returns-clause-size : goal.returns-clause-size
-returns-clause-size c = (now c).1
+returns-clause-size c = (one_more c.args.reader.now c.feed.new.self _ c.feed.result c.feed.ensures.fed c.feed.ensures.kept).1
