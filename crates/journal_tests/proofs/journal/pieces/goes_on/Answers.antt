@@ -13,7 +13,7 @@ one_more p q piece told fed kept =
     (λ (more : q ≡ with_piece p piece told). (ap (λ (r : Pieces). r.offset) more, omega (arith, ap (λ (r : Pieces). length r.bytes) more, length-append p.bytes piece))) fed
 
 pub returns-clause-offset : goal.returns-clause-offset
-returns-clause-offset c = (one_more c.args.reader.now c.feed.new.self _ c.feed.result c.feed.ensures.fed c.feed.ensures.kept).0
+returns-clause-offset g c = (one_more c.args.reader.now c.feed-told.new.self _ c.feed-told.result c.feed-told.ensures.fed c.feed-told.ensures.kept).0
 
 pub returns-clause-size : goal.returns-clause-size
-returns-clause-size c = (one_more c.args.reader.now c.feed.new.self _ c.feed.result c.feed.ensures.fed c.feed.ensures.kept).1
+returns-clause-size g c = (one_more c.args.reader.now c.feed-told.new.self _ c.feed-told.result c.feed-told.ensures.fed c.feed-told.ensures.kept).1
