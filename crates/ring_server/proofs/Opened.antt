@@ -27,7 +27,7 @@ pub AllZip-length : {A B : Type 0} (R : A → B → Type 0) (xs : List A) (ys : 
 AllZip-length R [] [] h = refl
 AllZip-length R [] (b ∷ ys) h = absurd h
 AllZip-length R (a ∷ xs) [] h = absurd h
-AllZip-length R (a ∷ xs) (b ∷ ys) h = ap (λ n. n + 1) (AllZip-length R xs ys h.1)
+AllZip-length R (a ∷ xs) (b ∷ ys) h = ap suc (AllZip-length R xs ys h.1)
 
 -- the other one of a pair
 record Other {A B : Type 0} (R : A → B → Type 0) (xs : List A) (k : ℕ) (y : B) : Type 0 where

@@ -77,14 +77,16 @@ fn why_unwritten<R: Files<File = File>>(
     new: &str,
     refusal: Refusal,
 ) -> Unopened {
-    let why = look_again(rt, alloc, path, refusal);
-    match (refusal, why.told) {
-        (Refusal::Device(_), None) => {
+    let Refusal::Device(_) = refusal else {
+        return Unopened::new(refusal);
+    };
+    match read_again(rt, alloc, path) {
+        Ok(()) => {
             let again = grow_again(rt, new, 0);
             let _ = remove(rt, new);
             Unopened::because(refusal, Place::New, again)
         }
-        _ => why,
+        Err(answer) => Unopened::because(refusal, Place::Journal, Err(answer)),
     }
 }
 

@@ -67,7 +67,7 @@ fn stand(term: u32) -> Result<Request, Refusal> {
 }
 
 /// Has the node stand for terms 1 to `count`, durably, and gives its device.
-fn stand_before<D: Device, R: Abort>(rt: &R, made: Node<D>, count: u32) -> Option<D> {
+fn stand_before<D: Device + Drop, R: Abort>(rt: &R, made: Node<D>, count: u32) -> Option<D> {
     let mut node = made;
     for term in 1..=count {
         let question = stand(term).expect(rt, "a Stand");

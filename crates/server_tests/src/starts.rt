@@ -20,18 +20,20 @@ use std::test::*;
 
 const EPOCHS: &[u8] = b"nodes = 2\ndir = \"epochs\"\nport = 7301\ncapacity = 4096\n";
 
-const NODES: [&str; 2] = ["epochs/node-1.crj", "epochs/node-2.crj"];
+const NODE_1: &str = "epochs/node-1.crj";
+
+const NODE_2: &str = "epochs/node-2.crj";
 
 static EACH_START: [Step; 8] = [
     Changes(&[Anew("epochs")]),
     // the nodes are made, and are in epoch 1
     Serves(EPOCHS, 7301, b"stand red 5 10\n", b"stood"),
-    Changes(&[IsInEpoch(NODES[0], 1), IsInEpoch(NODES[1], 1)]),
+    Changes(&[IsInEpoch(NODE_1, 1), IsInEpoch(NODE_2, 1)]),
     // each further start makes a checkpoint of each
     Serves(EPOCHS, 7301, b"stand red 5 10\n", b"no 3 already 10"),
-    Changes(&[IsInEpoch(NODES[0], 2), IsInEpoch(NODES[1], 2)]),
+    Changes(&[IsInEpoch(NODE_1, 2), IsInEpoch(NODE_2, 2)]),
     Serves(EPOCHS, 7301, b"stand red 5 10\n", b"no 3 already 10"),
-    Changes(&[IsInEpoch(NODES[0], 3), IsInEpoch(NODES[1], 3)]),
+    Changes(&[IsInEpoch(NODE_1, 3), IsInEpoch(NODE_2, 3)]),
     Changes(&[Clears("epochs")]),
 ];
 
