@@ -1,5 +1,5 @@
 -- What a hub launches.
-use Rattle.std.specs.Prelude.{ℕ, ◌≡◌, ◌+◌, ◌*◌, ◌<◌, ◌≤◌, ◌⊎◌, ◌||◌, false, true, ◌++◌, length, Option, Some, None, MatchOption}
+use Rattle.std.specs.Prelude.{◌≡◌, ◌+◌, ◌*◌, ◌<◌, ◌≤◌, ◌⊎◌, ◌||◌, false, true, ◌++◌, length, Option, Some, None, MatchOption}
 use Rattle.ring_records.specs.declared.summary.Summary.{Summary}
 use Rattle.ring_records.specs.declared.base.Base.{Base}
 use Rattle.ring_records.specs.declared.refusal.Refusal.{Refusal}

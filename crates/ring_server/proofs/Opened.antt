@@ -1,5 +1,5 @@
 -- A ring that goes on from one that fits.
-use Rattle.std.proofs.Common.{ℕ, ◌≡◌, ◌+◌, ◌-◌, zero, suc, List, [], ◌∷◌, ◌++◌, length, slice_get, Option, Some, None, refl, ap, sym, ◌∙◌, subst}
+use Rattle.std.proofs.Common.{ℕ, ◌≡◌, ◌+◌, ◌-◌, zero, suc, List, [], ◌∷◌, ◌++◌, length, slice_get, Some, refl, ap, sym, ◌∙◌, subst}
 use Rattle.std.specs.List.{AllZip}
 use Rattle.ring_records.specs.declared.input.Input.{Input}
 use Rattle.ring_records.specs.declared.summary.Summary.{Summary}
@@ -7,7 +7,7 @@ use Rattle.ring_records.specs.Fitting.{RingFits}
 use Rattle.ring_records.specs.Member.{Member}
 use Rattle.group_commit.specs.Desk.{DeskKept}
 use Rattle.group_commit.specs.Past.{IsPast}
-use Rattle.ring_server.specs.Fits.{IsInOrder, inputs_there, since, ArePasts, history, Fits}
+use Rattle.ring_server.specs.Fits.{IsInOrder, inputs_there, ArePasts, Fits}
 use Rattle.ring_server.specs.Written.{GoesOn}
 
 -- one more of both

@@ -183,10 +183,7 @@ pub struct Folder<'a> {
 
 impl<'a> Folder<'a> {
     /// The folder at this path. Refused where it is not there, or is in use.
-    pub fn open<R: Files<File = File>>(
-        rt: &R,
-        path: &'a str,
-    ) -> Result<Folder<'a>, Unopened> {
+    pub fn open<R: Files<File = File>>(rt: &R, path: &'a str) -> Result<Folder<'a>, Unopened> {
         let file = match File::open(rt, path) {
             Ok(file) => file,
             Err(error) => return Err(Unopened::at(Place::Folder, Answer::from(error))),
@@ -211,11 +208,7 @@ impl<'a> Folder<'a> {
     }
 
     /// Makes `ring.made`, which is there for good then.
-    pub fn mark_made<R: Files<File = File>>(
-        &self,
-        rt: &R,
-        alloc: Global,
-    ) -> Result<(), Unopened> {
+    pub fn mark_made<R: Files<File = File>>(&self, rt: &R, alloc: Global) -> Result<(), Unopened> {
         let path = format!(in alloc; "{}/ring.made", self.path)?;
         match File::create(rt, path.as_str()) {
             Ok(_) => self.sync(),

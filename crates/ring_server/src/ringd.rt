@@ -144,7 +144,10 @@ const SETTINGS_BYTES: usize = 1_000_000;
 
 fn read_all<I: Read>(alloc: Global, input: &mut I) -> Result<Vec<u8>, RunFault> {
     let mut bytes = Vec::new(alloc);
-    match input.take(SETTINGS_BYTES as u64 + 1).read_to_end(&mut bytes) {
+    match input
+        .take(SETTINGS_BYTES as u64 + 1)
+        .read_to_end(&mut bytes)
+    {
         Ok(_) if bytes.len() <= SETTINGS_BYTES => Ok(bytes),
         Ok(_) => Err(RunFault::Settings),
         Err(error) if error.kind() == ErrorKind::OutOfMemory => Err(RunFault::Memory(AllocError)),

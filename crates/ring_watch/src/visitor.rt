@@ -46,7 +46,10 @@ pub(crate) struct Visitor {
 
 /// How a head that is refused asks, which may begin with empty lines. No body follows where it asks for none.
 fn method_of(head: &[u8]) -> Method {
-    let first = head.iter().position(|byte| *byte != b'\r' && *byte != b'\n').unwrap_or(0);
+    let first = head
+        .iter()
+        .position(|byte| *byte != b'\r' && *byte != b'\n')
+        .unwrap_or(0);
     match head.get(first..) {
         Some(line) if line.starts_with(b"HEAD ") => Method::Head,
         _ => Method::Get,

@@ -1,5 +1,5 @@
 // How sessions end where a client is slow, takes nothing, or sends more than is read.
-use crate::clients::{connect, reads_to_the_end};
+use crate::clients::{answers, connect, reads_to_the_end};
 use crate::programs::{Ring, Scenario};
 use crate::steps::{anew, runs_anew};
 use crate::visits::{Visit, asks};
@@ -11,15 +11,19 @@ use std::test::*;
 use std::time::{Clock, Duration};
 use std::{fs, io};
 
-/// Whether a client that sends a byte every 0.4 seconds is left before its line is whole.
+/// Whether a client that is served, and then sends a byte every 0.4 seconds, is left before its line is whole.
 pub fn is_left_within_a_line<R: Net<Stream = TcpStream> + Clock>(rt: &R, port: u16) -> bool {
     let Some(stream) = connect(rt, port) else {
         return false;
     };
+    if !answers(&stream, b"who red 1\n", b"none") {
+        return false;
+    }
     let mut writer = &stream;
     for byte in b"late" {
+        // it is left already where it slept for longer
         if writer.write_all(&[*byte]).is_err() {
-            return false;
+            break;
         }
         rt.sleep(Duration::from_millis(400));
     }

@@ -76,7 +76,7 @@ fn takes<A: Node, R: Wait + Abort>(rt: &R, hub: &Hub<A>, share: &mut Share<A>, a
     assert!(rt; hub.forfeit(rt, ticket).is_err());
 }
 
-impl<V: Device, J: Naming, A: Node> Station<V, J, A, D, C, F, E> {
+impl<V: Device, J: Naming, A: Node> Station<V, J, A> {
     pub fn plays<R: Wait + Abort + AllocGlobal>(&mut self, rt: &R, steps: &[Step]) {
         for step in steps {
             self.does(rt, *step);

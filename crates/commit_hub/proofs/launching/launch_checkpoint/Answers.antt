@@ -1,4 +1,4 @@
-use Rattle.std.proofs.Common.{◌≡◌, ◌⊎◌, ◌+◌, ◌-◌, ◌*◌, ◌≤◌, [], length, Some, None, sym, ap, ◌∙◌, subst, arith, length-append, length-take, length-drop, Option}
+use Rattle.std.proofs.Common.{◌≡◌, ◌⊎◌, ◌+◌, ◌*◌, ◌≤◌, [], length, Some, None, sym, ap, ◌∙◌, subst, arith, Option}
 use Rattle.ring_records.specs.declared.refusal.Refusal.{Refusal}
 use Rattle.ring_records.specs.declared.summary.Summary.{Summary}
 use Rattle.ring_records.specs.Snapshot.{snapshot_len}
@@ -6,12 +6,11 @@ use Rattle.ring_records.specs.Admission.{costs_of, used}
 use Rattle.ring_records.specs.declared.base.Base.{Base}
 use Rattle.ring_records.specs.States.{durable_in, flying_in, launched_base}
 use Rattle.ring_records.specs.Known.{after}
-use Rattle.gated_journal.specs.Batch.{Numbered, numbered_by, base_by}
+use Rattle.gated_journal.specs.Batch.{Numbered, numbered_by}
 use Rattle.group_commit.specs.Desk.{DeskKept, launched_all}
-use Rattle.group_commit.proofs.Past.{durable-shifted}
 use Rattle.ring_records.proofs.States.{idle-none, idle-base}
 use Rattle.commit_hub.proofs.Costs.{durable_costs, durable_count}
-use Rattle.commit_hub.proofs.Works.{due_objection, parts_due, idle_free, after-inputs, all_fly, all_joined, few_wait}
+use Rattle.commit_hub.proofs.Works.{due_objection, parts_due, idle_free, all_fly, all_joined, few_wait}
 use Rattle.commit_hub.proofs.launching.launch_checkpoint.Goals as goal
 
 pub returns-in-Ok-clause-work : goal.returns-in-Ok-clause-work

@@ -1,10 +1,10 @@
 -- `follow` sets both halves in one ghost step.
-use mathlib.Core.Path.{◌≡◌, refl, sym, subst, ap}
-use mathlib.Core.List.{List, [], ◌∷◌, ◌++◌}
-use Prim.Native.Nat.{ℕ, ◌<◌, ◌^◌}
+use mathlib.Core.Path.{◌≡◌, refl, sym, subst}
+use mathlib.Core.List.{List, [], ◌∷◌}
+use Prim.Native.Nat.{ℕ}
 use seplogic.Ra.Ura.{Ura}
-use mir.Syntax.{Fn, w64}
-use mir.Val.{Val, vunit, vint, vptr}
+use mir.Syntax.{Fn}
+use mir.Val.{Val, vunit, vptr}
 use base.Logic.{SProp, ent, via, fst∗, snd∗}
 use base.Fml.{Fml, ftrue, flft}
 use prog.Wp.{WpFn}

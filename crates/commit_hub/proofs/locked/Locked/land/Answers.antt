@@ -1,11 +1,10 @@
-use Rattle.std.proofs.Common.{◌≡◌, ◌+◌, length, sym, ap, ◌∙◌, subst}
-use Rattle.ring_records.specs.declared.input.Input.{Input}
+use Rattle.std.proofs.Common.{◌≡◌, ◌+◌, length, sym, ap, ◌∙◌}
 use Rattle.ring_records.specs.Release.{packets, decisions}
 use Rattle.ring_records.proofs.Lists.{none≢some}
 use Rattle.gated_journal.specs.Batch.{landed as receipted}
 use Rattle.group_commit.specs.Desk.{DeskKept, landed}
 use Rattle.commit_hub.specs.Holders.{known_by}
-use Rattle.commit_hub.specs.Tied.{Durable, durable_part, with_area, with_batch}
+use Rattle.commit_hub.specs.Tied.{Durable, with_area, with_batch}
 use Rattle.commit_hub.specs.Told.{IsBrought}
 use Rattle.commit_hub.proofs.Batches.{brings, named, released}
 use Rattle.commit_hub.proofs.Works.{flew_none, flew_some, lands_area, lands_batch}

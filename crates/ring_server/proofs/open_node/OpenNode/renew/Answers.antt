@@ -1,5 +1,4 @@
 use Rattle.std.proofs.Common.{◌+◌, inl, inr, ap, sym, subst, ◌∙◌}
-use Rattle.ring_records.specs.declared.refusal.Refusal.{Refusal}
 use Rattle.ring_records.specs.Admission.{newest}
 use Rattle.ring_records.specs.Member.{Member}
 use Rattle.gated_journal.specs.Areas.{AllReadAs}
