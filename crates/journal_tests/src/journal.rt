@@ -15,6 +15,7 @@ use test_rows::{Note, Op};
 
 mod checkpoints;
 mod cuts;
+mod hostile;
 mod images;
 mod pieces;
 mod rows;

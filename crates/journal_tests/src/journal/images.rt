@@ -88,7 +88,7 @@ pub static TWO_AREAS: [Row; 17] = [
 ];
 
 /// With these changes the device is read so.
-fn is_read(rt: &(impl Abort + AllocGlobal), image: MemDevice, row: &Row) {
+pub fn is_read(rt: &(impl Abort + AllocGlobal), image: MemDevice, row: &Row) {
     let mut device = image;
     for (at, byte) in row.0 {
         devices::plays(rt, &mut device, &[devices::Step::Write(*at, &[*byte])]);

@@ -162,10 +162,11 @@ fn count(answer: Answer) -> Result<u64, Refusal> {
     }
 }
 
-/// With these changes area A has one answer, which is the device's where they are all in it.
-fn one_area(rt: &(impl Abort + AllocGlobal), row: &Row) {
-    let mut image = COMMITTED;
-    change(&mut image, row.0);
+/// With these changes area A of the image has one answer, which is the device's where they are all in it.
+pub fn one_area(rt: &(impl Abort + AllocGlobal), image: &mut [u8], row: &Row)
+    requires size { (16 ≤ length image.old) × (length image.old < 2 ^ 32) }
+{
+    change(image, row.0);
     let area = in_pieces(rt, 16, &image[16..]);
     if row.0.iter().all(|(at, _)| *at >= 16) {
         assert_eq!(rt; count(area), count(row.1.answer()));
@@ -187,7 +188,8 @@ fn two_areas(rt: &(impl Abort + AllocGlobal), row: &Row) {
 #[test]
 fn each_area_has_one_answer(rt: HostRuntime) {
     for row in &ONE_AREA {
-        one_area(&rt, row);
+        let mut image = COMMITTED;
+        one_area(&rt, &mut image, row);
     }
     for row in &TWO_AREAS {
         two_areas(&rt, row);

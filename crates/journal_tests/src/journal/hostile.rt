@@ -1,0 +1,45 @@
+// Images of a new journal that no program writes: what is told of each, whole and in pieces.
+use super::Verdict::{Damaged, NotFormatted, OldLayout, Reads};
+use super::images::{Row, is_read};
+use super::pieces::one_area;
+use super::*;
+
+/// Changes of row `fresh_journal`.
+static CHANGED: [Row; 8] = [
+    (&[], Reads(0, 1)),
+    // The gate and the layout of the area.
+    (&[(16, 0)], Damaged(16)),
+    (&[(17, 1)], Damaged(16)),
+    // A capacity of 4,095, and a blank byte.
+    (&[(12, 0x0F), (13, 0xFF)], Damaged(10)),
+    (&[(15, 1)], Damaged(14)),
+    // A snapshot that is one byte too short, and one too long.
+    (&[(29, 37)], Damaged(16)),
+    (&[(29, 39)], Damaged(16)),
+    // An open gate with nothing behind it.
+    (&[(68, 1)], Damaged(68)),
+];
+
+/// This image is read so by each node.
+fn each_node_reads<R: Abort + AllocGlobal>(rt: &R, image: &[u8], wanted: Verdict) {
+    for number in 1..=16 {
+        let node = NodeNo::new(number).expect(rt, "a node");
+        let found = found_by(rt.alloc(), device(rt, &[(0, image)]), node);
+        assert_eq!(rt; found, wanted.answer(), "{number}");
+    }
+}
+
+#[test]
+fn hostile_images(rt: HostRuntime) {
+    for row in &CHANGED {
+        is_read(&rt, device(&rt, &[(0, &FRESH)]), row);
+        let mut image = FRESH;
+        one_area(&rt, &mut image, row);
+    }
+    let of_one_epoch = device(&rt, &[(0, &FRESH), (AREA_B, &FRESH[16..])]);
+    assert_eq!(rt; found(rt.alloc(), of_one_epoch), Damaged(16).answer());
+    let mut old = FRESH;
+    old[7] = b'1';
+    each_node_reads(&rt, &old[..17], OldLayout(1));
+    each_node_reads(&rt, &old[..16], NotFormatted);
+}
