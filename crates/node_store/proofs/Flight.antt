@@ -22,7 +22,6 @@ use Rattle.ring_records.specs.Member.{Member}
 use Rattle.ring_records.specs.Release.{packets, decisions, carries, credits}
 use Rattle.ring_records.specs.Snapshot.{IsSound, snapshot_len}
 use Rattle.ring_records.specs.States.{NodeState, IsNodeState, IsLawfulState, is_idle, launched_base, launched, durable_in, flown_in, flying_in}
-use Rattle.ring_records.proofs.Admission.{or_else-none}
 use Rattle.ring_records.proofs.Counts.{costs-joined}
 use Rattle.ring_records.proofs.Lists.{none≢some}
 use Rattle.ring_records.proofs.States.{lawful-launched, lawful-launched_all, lawful-landed, next-few}
@@ -50,26 +49,27 @@ use Rattle.node_store.proofs.Left.{may_be_left}
 
 -- ---- why nothing is launched
 
--- a node of which a batch or a checkpoint is launched has not failed
-pub works_launched : (failed : Bool) (why : Refusal) (busy : Option Refusal) → (if failed then Some why else busy) ≡ None → failed ≡ false
+-- a node of which something is launched has not failed
+works_launched : (failed : Bool) (why : Refusal) (busy : Option Refusal) → (if failed then Some why else busy) ≡ None → failed ≡ false
 works_launched true why busy free = absurd cc
 works_launched false why busy free = refl
 
-pub works_free : (desk : DeskKept) → checkpoint_objection desk ≡ None → desk.view.failed ≡ false
-works_free desk free = works_launched desk.view.failed _ _ (or_else-none (launch_objection desk.view) _ free).0
+abbrev objection : Bool → Bool → Option Refusal
+objection failed idle = if failed then Some refused.Failed else (if idle then None else Some refused.Busy)
 
--- where nothing flies, a batch is refused for nothing else but memory
-failed_only : (failed idle : Bool) (why : Refusal) → (failed ≡ false → idle ≡ true) → (if failed then Some refused.Failed else (if idle then None else Some refused.Busy)) ≡ Some why → why ≡ refused.Failed
-failed_only true idle why free is = cc
+-- where nothing flies while it works, a batch is refused where it has failed
+failed_only : (failed idle : Bool) (why : Refusal) → (failed ≡ false → idle ≡ true) → objection failed idle ≡ Some why → (failed ≡ true) × (why ≡ refused.Failed)
+failed_only true idle why free is = (refl, cc)
 failed_only false true why free is = absurd cc
 failed_only false false why free is = absurd (let never = free refl in cc)
 
--- and a checkpoint for its area or its snapshot
-unbegun_for : (o : Option Refusal) (few long : Bool) (why : Refusal) → (o ≡ Some why → why ≡ refused.Failed) → or_else o (or_else (where_so few refused.Limit) (where_so long refused.Full)) ≡ Some why → IsUnbegun why
-unbegun_for (Some other) few long why failed is = inl (failed is)
-unbegun_for None true long why failed is = inr (inl cc)
-unbegun_for None false true why failed is = inr (inr (inl cc))
-unbegun_for None false false why failed is = absurd cc
+-- and a checkpoint for its area or its snapshot too
+objects_for : (o : Option Refusal) (few long : Bool) (why : Refusal) → or_else o (or_else (where_so few refused.Limit) (where_so long refused.Full)) ≡ Some why
+    → (o ≡ Some why) ⊎ ((why ≡ refused.Limit) ⊎ (why ≡ refused.Full))
+objects_for (Some other) few long why is = inl is
+objects_for None true long why is = inr (inl cc)
+objects_for None false true why is = inr (inr cc)
+objects_for None false false why is = absurd cc
 
 -- so the device did not fail
 pub no_fault : (why : Refusal) (before now : ℕ) → IsUnbegun why → IsFault before now why → ⊥
@@ -128,19 +128,11 @@ idle_behind past s idle none = idle_here (shifted past s) (ap (λ k. length past
 
 -- ---- where none waits
 
-none_behind : (past : List Input) (s : NodeState) → s.durable ≡ length s.inputs → flying_in (launched (shifted past s)) ≡ []
+-- nothing flies then
+pub none_behind : (past : List Input) (s : NodeState) → s.durable ≡ length s.inputs → flying_in (launched (shifted past s)) ≡ []
 none_behind past s whole =
     ap flying_in (sym (launched_shifted past s))
     ∙ (flying-shifted past (launched s) ∙ ap (λ k. take k (drop s.durable s.inputs)) (let none : (launched s).flying - s.durable ≡ 0 = omega (arith, whole) in none))
-
--- nothing lets a node release nothing
-pub no_packets : (me : ℕ) (past : List Input) (s : NodeState) → s.durable ≡ length s.inputs → [] ≡ packets me (durable_in (shifted past s)) (flying_in (launched (shifted past s)))
-unfolding packets carries credits found_after taken
-no_packets me past s whole = ap (packets me (durable_in (shifted past s))) (sym (none_behind past s whole))
-
-pub no_decisions : (me : ℕ) (past : List Input) (s : NodeState) → s.durable ≡ length s.inputs → [] ≡ decisions me (durable_in (shifted past s)) (flying_in (launched (shifted past s)))
-unfolding decisions found_after
-no_decisions me past s whole = ap (decisions me (durable_in (shifted past s))) (sym (none_behind past s whole))
 
 -- ---- a node of which nothing flies
 
@@ -148,23 +140,34 @@ is_flying : (desk : DeskKept) (n : Numbered) → n ≡ numbered_with desk.view.m
 is_flying desk n is = record { node = ap (λ (m : Numbered). m.node) is; first = ap (λ (m : Numbered). m.first) is; inputs = ap (λ (m : Numbered). m.inputs) is; snapshot = ap (λ (m : Numbered). m.snapshot) is }
 
 module _ {D : Type 0} {g : Ghosts D} (desk : DeskKept) (journal : Journal D g) (stands : Stands desk journal) where
-  idle_now : desk.view.failed ≡ false → is_idle desk.view.state ≡ true
-  idle_now works = idle_here desk.view.state (stands.ready works).idle (stands.ready works).none
-
-  failed_or : (why : Refusal) → launch_objection desk.view ≡ Some why → why ≡ refused.Failed
-  failed_or why is = failed_only desk.view.failed (is_idle desk.view.state) why idle_now is
+  failed_or : (why : Refusal) → launch_objection desk.view ≡ Some why → (desk.view.failed ≡ true) × (why ≡ refused.Failed)
+  failed_or why is = failed_only desk.view.failed (is_idle desk.view.state) why (λ works. idle_here desk.view.state (stands.ready works).idle (stands.ready works).none) is
 
   pub launch_refused : (why : Refusal)
       → (launch_objection desk.view ≡ Some why) ⊎ ((launch_objection desk.view ≡ None) × (why ≡ refused.OutOfMemory)) → (why ≡ refused.Failed) ⊎ (why ≡ refused.OutOfMemory)
-  launch_refused why is = ⊎_elim (λ told. inl (failed_or why told)) (λ short. inr short.1) is
+  launch_refused why is = ⊎_elim (λ told. inl (failed_or why told).1) (λ short. inr short.1) is
+
+  pub objects : (why : Refusal) → checkpoint_objection desk ≡ Some why → ((desk.view.failed ≡ true) × (why ≡ refused.Failed)) ⊎ ((why ≡ refused.Limit) ⊎ (why ≡ refused.Full))
+  objects why is = ⊎_elim (λ told. inl (failed_or why told)) (λ other. inr other)
+      (objects_for (launch_objection desk.view) (nat_le epochs (desk.view.state.base.epoch + 1)) (nat_lt desk.view.member.capacity (snapshot_len (known_all desk))) why is)
 
   pub unbegun : (why : Refusal) → (checkpoint_objection desk ≡ Some why) ⊎ ((checkpoint_objection desk ≡ None) × (why ≡ refused.OutOfMemory)) → IsUnbegun why
-  unbegun why is =
-      let few = nat_le epochs (desk.view.state.base.epoch + 1) in
-      let long = nat_lt desk.view.member.capacity (snapshot_len (known_all desk)) in
-      ⊎_elim (λ told. unbegun_for (launch_objection desk.view) few long why (failed_or why) told) (λ short. inr (inr (inr short.1))) is
+  unbegun why (inl told) = ⊎_elim (λ failed. inl failed.1) (λ other. inr (⊎_elim (λ few. inl few) (λ long. inr (inl long)) other)) (objects why told)
+  unbegun why (inr short) = inr (inr (inr short.1))
 
-  module _ (works : desk.view.failed ≡ false) where
+  -- while it works, nothing more is held with what flies, so its images hold the durable inputs
+  rests : desk.view.failed ≡ false → durable_held desk ≡ flown_held desk
+  rests works =
+      let ready = stands.ready works in
+      λ i. area_with desk (unwrap_or (sym ready.none i) desk.view.state.base) (take (sym ready.idle i) desk.view.state.inputs)
+
+  all : desk.view.failed ≡ false → AllReadAs (member_of journal) (g.disk (device_of journal)) (durable_held desk)
+  all works image left = ⊎_elim (λ old. old) (λ new. absurd (new.0 (rests works))) (stands.holds image left)
+
+  pub durable_all : desk.view.failed ≡ false → AllReadAs desk.view.member (g.disk (device_of journal)) (durable_held desk)
+  durable_all works = λ image left. subst (λ m. ReadsAs m image (durable_held desk)) stands.named (all works image left)
+
+  module _ (free : launch_objection desk.view ≡ None) where
     abbrev s : NodeState
     s = desk.view.state
 
@@ -174,23 +177,14 @@ module _ {D : Type 0} {g : Ghosts D} (desk : DeskKept) (journal : Journal D g) (
     abbrev first : ℕ
     first = desk.opening.inputs + s.durable
 
-    -- nothing more is held with what flies, so its images hold the durable inputs
-    rests : durable_held desk ≡ flown_held desk
-    rests =
-        let ready = stands.ready works in
-        λ i. area_with desk (unwrap_or (sym ready.none i) s.base) (take (sym ready.idle i) s.inputs)
-
-    all : AllReadAs (member_of journal) (g.disk (device_of journal)) (durable_held desk)
-    all image left = ⊎_elim (λ old. old) (λ new. absurd (new.0 rests)) (stands.holds image left)
-
-    pub durable_all : AllReadAs m (g.disk (device_of journal)) (durable_held desk)
-    durable_all = λ image left. subst (λ n. ReadsAs n image (durable_held desk)) stands.named (all image left)
+    pub works : desk.view.failed ≡ false
+    works = works_launched desk.view.failed refused.Failed (if is_idle s then None else Some refused.Busy) free
 
     -- where none waits, the desk is as it was
-    pub none_launched : (new : DeskKept) → s.durable ≡ length s.inputs → new ≡ record desk { view = desks.launched desk.view } → new ≡ desk
-    none_launched new whole next =
+    pub none_launched : s.durable ≡ length s.inputs → record desk { view = desks.launched desk.view } ≡ desk
+    none_launched whole =
         let flying : (launched s).flying ≡ s.flying = omega (arith, whole, (stands.ready works).idle) in
-        next ∙ (λ i. record desk { view = record desk.view { state = record s { flying = flying i } } })
+        λ i. record desk { view = record desk.view { state = record s { flying = flying i } } }
 
     -- ---- a batch of those that wait
 
@@ -214,41 +208,36 @@ module _ {D : Type 0} {g : Ghosts D} (desk : DeskKept) (journal : Journal D g) (
         (λ i. record { layout = s.base.layout; epoch = s.base.epoch; base = after m.node desk.opening (sym front i); inputs = sym rest i })
         ∙ (λ i. area_with desk (sym same_base i) (flown (launched s) batch_counts i))
 
-    pub batch_flies : (new : DeskKept) (batch : Batch) → new ≡ record desk { view = desks.launched desk.view } → s.durable < length s.inputs
-        → shown batch ≡ numbered m.node first (flying_in new.view.state) → used new.view.state.base (flown_in new.view.state) ≤ new.view.member.capacity → Flies new journal (work.Batch batch)
-    batch_flies new batch next some launches room =
-        let P = λ (d : DeskKept). shown batch ≡ numbered m.node first (flying_in d.view.state) → used d.view.state.base (flown_in d.view.state) ≤ d.view.member.capacity → Flies d journal (work.Batch batch) in
-        subst P (sym next) flies launches room
-      where
-        flies : shown batch ≡ numbered m.node first (flying_in (launched s)) → used s.base (flown_in (launched s)) ≤ m.capacity → Flies (record desk { view = desks.launched desk.view }) journal (work.Batch batch)
-        flies is fits =
-            let ready = stands.ready works in
-            let inputs : (shown batch).inputs ≡ flying_in (launched s) = ap (λ (n : Numbered). n.inputs) is in
-            let count : s.durable + length (shown batch).inputs ≡ (launched s).flying = ap (λ (l : List Input). s.durable + length l) inputs ∙ flown_count (launched s) batch_counts in
-            let costs = flown_costs (launched s) batch_counts in
-            let bytes : costs_of (shown batch).inputs ≡ costs_of (flying_in (launched s)) = ap costs_of inputs in
-            record {
-              inside = stands.inside;
-              counts = batch_counts;
-              lawful = λ past of. subst (IsLawfulState m) (sym (launched_shifted past s)) (lawful-launched m (shifted past s) (idle_behind past s ready.idle ready.none) (stands.lawful past of));
-              named = stands.named;
-              works = works;
-              flying = is_flying (record desk { view = desks.launched desk.view }) (shown batch) (is ∙ ap (λ c. numbered_with m.node first (flying_in (launched s)) (option_map (λ (b : Base). b.bytes) c)) (sym ready.none));
-              ready = ready.works;
-              all = all;
-              taken = (ap (λ (n : Numbered). n.node) is ∙ ap (λ (n : Member). n.node) (sym stands.named), ap (λ (n : Numbered). n.first) is ∙ sym ready.count, omega (arith, costs, fits, ready.left, bytes));
-              sized = tt;
-              held = ap (with_more (durable_held desk)) inputs ∙ joined;
-              other = λ one. omega (arith, some, ap (λ (r : Reading). length r.inputs) (one ∙ sym joined), length-append (durable_held desk).inputs (flying_in (launched s)), flown_count (launched s) batch_counts);
-              behind = record {
-                idle = refl;
-                none = refl;
-                works = refl;
-                count = omega (arith, ready.count, count);
-                left = subst (λ (b : Base). room_of journal - costs_of (shown batch).inputs ≡ m.capacity - used b (flown_in (launched s))) (sym same_base) (omega (arith, ready.left, costs, bytes));
-                area = ready.area ∙ ap (λ (b : Base). b.epoch) (sym same_base);
-              };
-            }
+    pub batch_flies : (batch : Batch) → s.durable < length s.inputs → shown batch ≡ numbered m.node first (flying_in (launched s)) → used s.base (flown_in (launched s)) ≤ m.capacity
+        → Flies (record desk { view = desks.launched desk.view }) journal (work.Batch batch)
+    batch_flies batch some is fits =
+        let ready = stands.ready works in
+        let inputs : (shown batch).inputs ≡ flying_in (launched s) = ap (λ (n : Numbered). n.inputs) is in
+        let count : s.durable + length (shown batch).inputs ≡ (launched s).flying = ap (λ (l : List Input). s.durable + length l) inputs ∙ flown_count (launched s) batch_counts in
+        let costs = flown_costs (launched s) batch_counts in
+        let bytes : costs_of (shown batch).inputs ≡ costs_of (flying_in (launched s)) = ap costs_of inputs in
+        record {
+          inside = stands.inside;
+          counts = batch_counts;
+          lawful = λ past of. subst (IsLawfulState m) (sym (launched_shifted past s)) (lawful-launched m (shifted past s) (idle_behind past s ready.idle ready.none) (stands.lawful past of));
+          named = stands.named;
+          works = works;
+          flying = is_flying (record desk { view = desks.launched desk.view }) (shown batch) (is ∙ ap (λ c. numbered_with m.node first (flying_in (launched s)) (option_map (λ (b : Base). b.bytes) c)) (sym ready.none));
+          ready = ready.works;
+          all = all works;
+          taken = (ap (λ (n : Numbered). n.node) is ∙ ap (λ (n : Member). n.node) (sym stands.named), ap (λ (n : Numbered). n.first) is ∙ sym ready.count, omega (arith, costs, fits, ready.left, bytes));
+          sized = tt;
+          held = ap (with_more (durable_held desk)) inputs ∙ joined;
+          other = λ one. omega (arith, some, ap (λ (r : Reading). length r.inputs) (one ∙ sym joined), length-append (durable_held desk).inputs (flying_in (launched s)), flown_count (launched s) batch_counts);
+          behind = record {
+            idle = refl;
+            none = refl;
+            works = refl;
+            count = omega (arith, ready.count, count);
+            left = subst (λ (b : Base). room_of journal - costs_of (shown batch).inputs ≡ m.capacity - used b (flown_in (launched s))) (sym same_base) (omega (arith, ready.left, costs, bytes));
+            area = ready.area ∙ ap (λ (b : Base). b.epoch) (sym same_base);
+          };
+        }
 
     -- ---- a checkpoint of all
 
@@ -263,59 +252,51 @@ module _ {D : Type 0} {g : Ghosts D} (desk : DeskKept) (journal : Journal D g) (
       checkpointed = λ b e. sym (ap (λ (c : Base). c.inputs) (same_Some (next_area desk) b e));
     }
 
-    all_of : take (length s.inputs) s.inputs ≡ s.inputs
-    all_of = take_all (length s.inputs) s.inputs (omega arith)
-
     none_of : drop (length s.inputs) (take (length s.inputs) s.inputs) ≡ []
-    none_of = ap (drop (length s.inputs)) all_of ∙ drop_all (length s.inputs) s.inputs (omega arith)
+    none_of = drop_all (length s.inputs) (take (length s.inputs) s.inputs) (omega (arith, length-take (length s.inputs) s.inputs))
 
     -- what is held with it
     pub summed : flown_held flies_all ≡ fresh_area newest (s.base.epoch + 1) (known_all desk)
     summed =
+        let all_of : take (length s.inputs) s.inputs ≡ s.inputs = take_all (length s.inputs) s.inputs (omega arith) in
         let front : take (length s.inputs) (take (length s.inputs) s.inputs) ≡ s.inputs = ap (take (length s.inputs)) all_of ∙ all_of in
         λ i. record { layout = newest; epoch = s.base.epoch + 1; base = after m.node desk.opening (front i); inputs = none_of i }
 
-    pub checkpoint_flies : (new : DeskKept) (made : Checkpoint) → new ≡ flies_all → base_by made ≡ known_all desk
-        → (IsNodeOf m.n m.node → IsSound m.n (base_by made)) → snapshot_len (base_by made) ≤ m.capacity → s.base.epoch + 1 < epochs
-        → numbered_by made ≡ numbered_with m.node first (flying_in new.view.state) (Some (snapshot_len (known_all desk))) → Flies new journal (work.Checkpoint made)
-    checkpoint_flies new made next base sound fits more launches =
-        let P = λ (d : DeskKept). numbered_by made ≡ numbered_with m.node first (flying_in d.view.state) (Some (snapshot_len (known_all desk))) → Flies d journal (work.Checkpoint made) in
-        subst P (sym next) flies launches
-      where
-        flies : numbered_by made ≡ numbered_with m.node first (flying_in flies_all.view.state) (Some (snapshot_len (known_all desk))) → Flies flies_all journal (work.Checkpoint made)
-        flies is =
-            let ready = stands.ready works in
-            let snapshot : (numbered_by made).snapshot ≡ Some (snapshot_len (known_all desk)) = ap (λ (n : Numbered). n.snapshot) is in
-            record {
-              inside = stands.inside;
-              counts = all_counts;
-              lawful = λ past of. subst (λ (v : DeskView). IsLawfulState v.member v.state) (sym (lawful_launched_all past desk of (stands.lawful past of)))
-                  (lawful-launched_all m (seen past desk).state (idle_behind past s ready.idle ready.none) (stands.lawful past of));
-              named = stands.named;
-              works = works;
-              flying = is_flying flies_all (numbered_by made) is;
-              ready = ready.works;
-              all = all;
-              taken = (
-                ap (λ (n : Numbered). n.node) is ∙ ap (λ (n : Member). n.node) (sym stands.named),
-                ap (λ (n : Numbered). n.first) is ∙ sym ready.count,
-                omega (arith, fits, ap (λ (n : Member). n.capacity) stands.named),
-                subst (λ (n : Member). IsSound n.n (base_by made)) (sym stands.named) (sound stands.inside),
-                omega (arith, more, ready.area),
-              );
-              sized = snapshot ∙ ap (λ (k : Summary). Some (snapshot_len k)) (sym base);
-              held = (λ i. fresh_area newest (ready.area i + 1) (base i)) ∙ sym summed;
-              other = λ one. omega (arith, ap (λ (r : Reading). r.epoch) one);
-              behind = record {
-                idle = refl;
-                none = refl;
-                works = refl;
-                count = ap (λ (k : Summary). k.inputs) base ∙ after-inputs m.node desk.opening s.inputs;
-                left = ap (λ (o : Option ℕ). room_after o (member_of journal).capacity (costs_of (numbered_by made).inputs) (room_of journal)) snapshot
-                    ∙ (λ i. (stands.named i).capacity - sym (used-none (next_area desk) (take (length s.inputs) s.inputs) none_of) i);
-                area = ap (λ (o : Option ℕ). epoch_after o (epoch_of journal)) snapshot ∙ ap (λ k. k + 1) ready.area;
-              };
-            }
+    pub checkpoint_flies : (made : Checkpoint) → base_by made ≡ known_all desk → (IsNodeOf m.n m.node → IsSound m.n (base_by made)) → snapshot_len (base_by made) ≤ m.capacity → s.base.epoch + 1 < epochs
+        → numbered_by made ≡ numbered_with m.node first (flying_in flies_all.view.state) (Some (snapshot_len (known_all desk))) → Flies flies_all journal (work.Checkpoint made)
+    checkpoint_flies made base sound fits more is =
+        let ready = stands.ready works in
+        let snapshot : (numbered_by made).snapshot ≡ Some (snapshot_len (known_all desk)) = ap (λ (n : Numbered). n.snapshot) is in
+        record {
+          inside = stands.inside;
+          counts = all_counts;
+          lawful = λ past of. subst (λ (v : DeskView). IsLawfulState v.member v.state) (sym (lawful_launched_all past desk of (stands.lawful past of)))
+              (lawful-launched_all m (seen past desk).state (idle_behind past s ready.idle ready.none) (stands.lawful past of));
+          named = stands.named;
+          works = works;
+          flying = is_flying flies_all (numbered_by made) is;
+          ready = ready.works;
+          all = all works;
+          taken = (
+            ap (λ (n : Numbered). n.node) is ∙ ap (λ (n : Member). n.node) (sym stands.named),
+            ap (λ (n : Numbered). n.first) is ∙ sym ready.count,
+            omega (arith, fits, ap (λ (n : Member). n.capacity) stands.named),
+            subst (λ (n : Member). IsSound n.n (base_by made)) (sym stands.named) (sound stands.inside),
+            omega (arith, more, ready.area),
+          );
+          sized = snapshot ∙ ap (λ (k : Summary). Some (snapshot_len k)) (sym base);
+          held = (λ i. fresh_area newest (ready.area i + 1) (base i)) ∙ sym summed;
+          other = λ one. omega (arith, ap (λ (r : Reading). r.epoch) one);
+          behind = record {
+            idle = refl;
+            none = refl;
+            works = refl;
+            count = ap (λ (k : Summary). k.inputs) base ∙ after-inputs m.node desk.opening s.inputs;
+            left = ap (λ (o : Option ℕ). room_after o (member_of journal).capacity (costs_of (numbered_by made).inputs) (room_of journal)) snapshot
+                ∙ (λ i. (stands.named i).capacity - sym (used-none (next_area desk) (take (length s.inputs) s.inputs) none_of) i);
+            area = ap (λ (o : Option ℕ). epoch_after o (epoch_of journal)) snapshot ∙ ap (λ k. k + 1) ready.area;
+          };
+        }
 
 -- ---- what becomes of it
 

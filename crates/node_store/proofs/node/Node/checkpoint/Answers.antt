@@ -2,10 +2,11 @@ use Rattle.std.proofs.Common.{◌∙◌, sym, subst, ap}
 use Rattle.disk_model.proofs.Moments.{started, weaken}
 use Rattle.ring_records.specs.Release.{packets, decisions}
 use Rattle.ring_records.specs.States.{durable_in, flying_in}
+use Rattle.ring_records.proofs.Admission.{or_else-none}
 use Rattle.gated_journal.specs.Journal as journals
-use Rattle.group_commit.specs.Desk.{DeskKept, DeskView}
+use Rattle.group_commit.specs.Desk.{DeskKept, DeskView, launch_objection}
 use Rattle.node_store.specs.State.{MayBeLeft}
-use Rattle.node_store.proofs.Flight.{works_free, unbegun, no_fault, checkpoint_flies, summed}
+use Rattle.node_store.proofs.Flight.{unbegun, no_fault, checkpoint_flies, summed}
 use Rattle.node_store.proofs.Standing.{left}
 use Rattle.node_store.proofs.node.Node.checkpoint.Goals as goal
 
@@ -20,9 +21,7 @@ returns-in-Err-clause-in_reach g c = λ reach. let node = c.args.self.now in unb
 pub returns-in-Err-clause-any_moment_err : goal.returns-in-Err-clause-any_moment_err
 returns-in-Err-clause-any_moment_err g c =
     let node = c.args.self.now in
-    let device = journals.device_of node.journal in
-    started g.D.Device.clock g.D.Device.left_since device _ (λ image may.
-    subst (λ (d : DeskKept). MayBeLeft d image) (sym c.in-Err.ensures.same) (left node.desk node.journal node.stands image (g.met.D.Device.only_now device image may)))
+    rw c.in-Err.ensures.same (started g.D.Device.clock g.D.Device.left_since _ _ (λ image may. left node.desk node.journal node.stands image (g.met.D.Device.only_now _ image may)))
 
 -- ---- it flies
 
@@ -30,7 +29,8 @@ pub settle-requires : goal.settle-requires
 settle-requires g c =
     let node = c.args.self.now in
     let launch = c.in-Ok.ensures in
-    checkpoint_flies node.desk node.journal node.stands (works_free node.desk launch.free) _ c.in-Ok.checkpoint launch.next launch.summary launch.sound launch.fits launch.epoch launch.checkpoint
+    let free = (or_else-none (launch_objection node.desk.view) _ launch.free).0 in
+    rw launch.next (checkpoint_flies node.desk node.journal node.stands free c.in-Ok.checkpoint launch.summary launch.sound launch.fits launch.epoch (rw launch.next at launch.checkpoint))
 
 pub returns-in-Ok-settle-clause-packets : goal.returns-in-Ok-settle-clause-packets
 returns-in-Ok-settle-clause-packets g c = λ past is.
@@ -46,7 +46,7 @@ pub returns-in-Ok-settle-clause-durable : goal.returns-in-Ok-settle-clause-durab
 returns-in-Ok-settle-clause-durable g c =
     let node = c.args.self.now in
     let launch = c.in-Ok.ensures in
-    let is = summed node.desk node.journal node.stands (works_free node.desk launch.free) in
+    let is = summed node.desk node.journal node.stands (or_else-none (launch_objection node.desk.view) _ launch.free).0 in
     rw is at (rw launch.next at c.in-Ok-settle.ensures.durable)
 
 pub returns-in-Ok-settle-clause-any_moment : goal.returns-in-Ok-settle-clause-any_moment

@@ -1,12 +1,14 @@
 use Rattle.std.proofs.Common.{◌∙◌, sym, subst, ap}
 use Rattle.disk_model.proofs.Moments.{started}
-use Rattle.ring_records.specs.Release.{packets, decisions}
+use Rattle.ring_records.specs.History.{taken}
+use Rattle.ring_records.specs.Lists.{found_after}
+use Rattle.ring_records.specs.Release.{packets, decisions, carries, credits}
 use Rattle.ring_records.specs.States.{durable_in, flying_in}
 use Rattle.gated_journal.specs.Journal as journals
-use Rattle.group_commit.specs.Desk.{DeskKept, DeskView}
+use Rattle.group_commit.specs.Desk.{DeskKept, DeskView, seen}
 use Rattle.group_commit.proofs.Seen.{launched_seen}
 use Rattle.node_store.specs.State.{MayBeLeft, until}
-use Rattle.node_store.proofs.Flight.{works_launched, batch_flies, durable_all, launch_refused, none_launched, no_packets, no_decisions}
+use Rattle.node_store.proofs.Flight.{batch_flies, durable_all, launch_refused, none_behind, none_launched, works}
 use Rattle.node_store.proofs.Standing.{left}
 use Rattle.node_store.proofs.node.Node.flush.Goals as goal
 
@@ -18,9 +20,7 @@ returns-in-Err-clause-in_reach g c = λ reach. let node = c.args.self.now in lau
 pub returns-in-Err-clause-any_moment : goal.returns-in-Err-clause-any_moment
 returns-in-Err-clause-any_moment g c =
     let node = c.args.self.now in
-    let device = journals.device_of node.journal in
-    started g.D.Device.clock g.D.Device.left_since device _ (λ image may.
-    subst (λ (d : DeskKept). MayBeLeft (until node.desk d) image) (sym c.in-Err.ensures.same) (left node.desk node.journal node.stands image (g.met.D.Device.only_now device image may)))
+    rw c.in-Err.ensures.same (started g.D.Device.clock g.D.Device.left_since _ _ (λ image may. left node.desk node.journal node.stands image (g.met.D.Device.only_now _ image may)))
 
 -- ---- none waits
 
@@ -28,36 +28,35 @@ pub invariant_of-self-in-Ok-None : goal.invariant_of-self-in-Ok-None
 invariant_of-self-in-Ok-None g c =
     let node = c.args.self.now in
     let launch = c.in-Ok-None.ensures in
-    let whole = rw c.in-Ok-None.field-0-is at launch.none in
-    let same = none_launched node.desk node.journal node.stands (works_launched node.desk.view.failed _ _ launch.free) _ whole launch.next in
-    record { stands = rw same node.stands }
+    let same = none_launched node.desk node.journal node.stands launch.free (rw c.in-Ok-None.field-0-is at launch.none) in
+    record { stands = rw (launch.next, same) node.stands }
 
 pub returns-in-Ok-None-clause-packets : goal.returns-in-Ok-None-clause-packets
+unfolding packets carries credits found_after taken
 returns-in-Ok-None-clause-packets g c = λ past is.
     let desk = c.args.self.now.desk in
-    c.new.ensures.items ∙ no_packets desk.view.member.node past desk.view.state (rw c.in-Ok-None.field-0-is at c.in-Ok-None.ensures.none)
+    let none = none_behind past desk.view.state (rw c.in-Ok-None.field-0-is at c.in-Ok-None.ensures.none) in
+    c.new.ensures.items ∙ ap (packets desk.view.member.node (durable_in (seen past desk).state)) (sym none)
 
 pub returns-in-Ok-None-clause-decisions : goal.returns-in-Ok-None-clause-decisions
+unfolding decisions found_after
 returns-in-Ok-None-clause-decisions g c = λ past is.
     let desk = c.args.self.now.desk in
-    c.new-in-Ok-None.ensures.items ∙ no_decisions desk.view.member.node past desk.view.state (rw c.in-Ok-None.field-0-is at c.in-Ok-None.ensures.none)
+    let none = none_behind past desk.view.state (rw c.in-Ok-None.field-0-is at c.in-Ok-None.ensures.none) in
+    c.new-in-Ok-None.ensures.items ∙ ap (decisions desk.view.member.node (durable_in (seen past desk).state)) (sym none)
 
 pub returns-in-Ok-None-clause-durable : goal.returns-in-Ok-None-clause-durable
 returns-in-Ok-None-clause-durable g c =
     let node = c.args.self.now in
     let launch = c.in-Ok-None.ensures in
-    let works = works_launched node.desk.view.failed _ _ launch.free in
-    let whole = rw c.in-Ok-None.field-0-is at launch.none in
-    let same = none_launched node.desk node.journal node.stands works _ whole launch.next in
-    rw same (durable_all node.desk node.journal node.stands works)
+    rw launch.next (durable_all node.desk node.journal node.stands (works node.desk node.journal node.stands launch.free))
 
 pub returns-in-Ok-None-clause-any_moment : goal.returns-in-Ok-None-clause-any_moment
 returns-in-Ok-None-clause-any_moment g c =
     let node = c.args.self.now in
     let launch = c.in-Ok-None.ensures in
-    let whole = rw c.in-Ok-None.field-0-is at launch.none in
-    let same = none_launched node.desk node.journal node.stands (works_launched node.desk.view.failed _ _ launch.free) _ whole launch.next in
-    rw same (started g.D.Device.clock g.D.Device.left_since _ _ (λ image may. left node.desk node.journal node.stands image (g.met.D.Device.only_now _ image may)))
+    let same = none_launched node.desk node.journal node.stands launch.free (rw c.in-Ok-None.field-0-is at launch.none) in
+    rw (launch.next, same) (started g.D.Device.clock g.D.Device.left_since _ _ (λ image may. left node.desk node.journal node.stands image (g.met.D.Device.only_now _ image may)))
 
 -- ---- a batch flies
 
@@ -66,7 +65,7 @@ settle-requires g c =
     let node = c.args.self.now in
     let launch = c.in-Ok-Some.ensures in
     let is = c.in-Ok-Some.field-0-is in
-    batch_flies node.desk node.journal node.stands (works_launched node.desk.view.failed _ _ launch.free) _ c.in-Ok-Some.batch launch.next (rw is at launch.none) (rw is at launch.batch) (rw is at launch.fits)
+    rw launch.next (batch_flies node.desk node.journal node.stands launch.free c.in-Ok-Some.batch (rw is at launch.none) (rw (is, launch.next) at launch.batch) (rw (is, launch.next) at launch.fits))
 
 pub returns-in-Ok-clause-packets : goal.returns-in-Ok-clause-packets
 returns-in-Ok-clause-packets g c = λ past is.
