@@ -196,17 +196,14 @@ module _ {D : Type 0} {g : Ghosts D} (desk : DeskKept) (journal : Journal D g) (
       checkpointed = λ b e. none≢some b (sym (stands.ready works).none ∙ e);
     }
 
-    same_base : launched_base (launched s) ≡ s.base
-    same_base = ap (λ c. unwrap_or c s.base) (stands.ready works).none
-
     -- what is held with it
     joined : with_more (durable_held desk) (flying_in (launched s)) ≡ flown_held (record desk { view = desks.launched desk.view })
     joined =
         let within = based s stands.counts in
         let front = take-append-le s.base.inputs (durable_in s) (flying_in (launched s)) within in
         let rest = drop-append-le s.base.inputs (durable_in s) (flying_in (launched s)) within in
-        (λ i. record { layout = s.base.layout; epoch = s.base.epoch; base = after m.node desk.opening (sym front i); inputs = sym rest i })
-        ∙ (λ i. area_with desk (sym same_base i) (flown (launched s) batch_counts i))
+        rw (stands.ready works).none
+        ((λ i. record { layout = s.base.layout; epoch = s.base.epoch; base = after m.node desk.opening (sym front i); inputs = sym rest i }) ∙ ap (area_with desk s.base) (flown (launched s) batch_counts))
 
     pub batch_flies : (batch : Batch) → s.durable < length s.inputs → shown batch ≡ numbered m.node first (flying_in (launched s)) → used s.base (flown_in (launched s)) ≤ m.capacity
         → Flies (record desk { view = desks.launched desk.view }) journal (work.Batch batch)
@@ -222,7 +219,7 @@ module _ {D : Type 0} {g : Ghosts D} (desk : DeskKept) (journal : Journal D g) (
           lawful = λ past of. subst (IsLawfulState m) (sym (launched_shifted past s)) (lawful-launched m (shifted past s) (idle_behind past s ready.idle ready.none) (stands.lawful past of));
           named = stands.named;
           works = works;
-          flying = is_flying (record desk { view = desks.launched desk.view }) (shown batch) (is ∙ ap (λ c. numbered_with m.node first (flying_in (launched s)) (option_map (λ (b : Base). b.bytes) c)) (sym ready.none));
+          flying = is_flying (record desk { view = desks.launched desk.view }) (shown batch) (rw ready.none is);
           ready = ready.works;
           all = all works;
           taken = (ap (λ (n : Numbered). n.node) is ∙ ap (λ (n : Member). n.node) (sym stands.named), ap (λ (n : Numbered). n.first) is ∙ sym ready.count, omega (arith, costs, fits, ready.left, bytes));
@@ -234,8 +231,8 @@ module _ {D : Type 0} {g : Ghosts D} (desk : DeskKept) (journal : Journal D g) (
             none = refl;
             works = refl;
             count = omega (arith, ready.count, count);
-            left = subst (λ (b : Base). room_of journal - costs_of (shown batch).inputs ≡ m.capacity - used b (flown_in (launched s))) (sym same_base) (omega (arith, ready.left, costs, bytes));
-            area = ready.area ∙ ap (λ (b : Base). b.epoch) (sym same_base);
+            left = rw ready.none (omega (arith, ready.left, costs, bytes));
+            area = rw ready.none ready.area;
           };
         }
 

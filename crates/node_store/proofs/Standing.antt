@@ -78,7 +78,7 @@ module _ {D : Type 0} {g : Ghosts D} (desk : DeskKept) (journal : Journal D g) (
       let bound : s.durable ≤ length s.inputs = omega (arith, stands.counts.durable, stands.counts.flying) in
       let durable : take s.durable (s.inputs ++ more) ≡ take s.durable s.inputs = take-append-le s.durable s.inputs more bound in
       let flown : take s.flying (s.inputs ++ more) ≡ take s.flying s.inputs = take-append-le s.flying s.inputs more stands.counts.flying in
-      subst (λ (d : DeskKept). Stands d journal) (sym is.next) (record {
+      rw is.next (record {
         inside = stands.inside;
         counts = record {
           durable = stands.counts.durable;

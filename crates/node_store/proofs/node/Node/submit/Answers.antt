@@ -1,7 +1,4 @@
-use Rattle.std.proofs.Common.{sym, subst}
-use Rattle.group_commit.specs.Desk.{DeskKept}
 use Rattle.group_commit.specs.Ticket.{shown}
-use Rattle.node_store.specs.Standing.{Stands}
 use Rattle.node_store.proofs.Results.{of_value}
 use Rattle.node_store.proofs.Standing.{asks}
 use Rattle.node_store.proofs.node.Node.submit.Goals as goal
@@ -11,6 +8,5 @@ invariant_of-self g c =
     let node = c.args.self.now in
     record {
       stands = of_value c.submit.result _ _ _ c.submit.ensures.submitted c.submit.ensures.same
-          (λ ticket is. asks node.desk node.journal node.stands c.args.question _ (shown ticket) is)
-          (λ as_before. subst (λ (d : DeskKept). Stands d node.journal) (sym as_before) node.stands);
+          (λ ticket is. asks node.desk node.journal node.stands c.args.question _ (shown ticket) is) (λ same. rw same node.stands);
     }

@@ -12,7 +12,7 @@ returns-in-Ok-clause-stands g c =
     let desk = c.args.desk.now in
     let flies = c.requires in
     let written = c.in-Ok.ensures in
-    subst (λ (d : DeskKept). Stands d c.write.new.journal) (sym c.land.ensures.next)
+    rw c.land.ensures.next
     (lands desk c.args.journal.now c.write.new.journal c.args.work flies written.header (written.durable (durable_held desk) flies.all) written.spoils written.len written.room written.epoch)
 
 pub returns-in-Ok-clause-durable : goal.returns-in-Ok-clause-durable
@@ -31,7 +31,7 @@ returns-in-Err-clause-stands g c =
     let old = device_of c.args.journal.now in
     let new = device_of c.write.new.journal in
     let moments = c.in-Err.ensures.any_moment (durable_held desk) c.requires.all in
-    subst (λ (d : DeskKept). Stands d c.write.new.journal) (sym c.fail.ensures.next)
+    rw c.fail.ensures.next
     (breaks desk c.args.journal.now c.write.new.journal c.args.work c.requires c.in-Err.ensures.header
     (now g.D.Device.clock g.D.Device.left_since old new (g.D.Device.disk new) _ moments (g.met.D.Device.counts_now new)))
 
