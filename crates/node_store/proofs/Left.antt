@@ -26,23 +26,6 @@ use Rattle.node_store.specs.State.{IsOpenedAs, MayBeLeft, ReadsAsLeft, area_with
 
 -- ---- where the opening is the summary of a past
 
--- what the area of a base holds with the first k inputs since the opening is what the journal holds of the whole history
-held_read : (desk : DeskKept) (past : List Input) (base : Base) (k : ℕ) → base.inputs ≤ k → IsPast desk.view.member desk.opening past
-    → IsLawfulState desk.view.member (seen past desk).state
-    → reading_of desk.view.member.node (opened (moved (length past) base) (past ++ take k desk.view.state.inputs)) ≡ area_with desk base (take k desk.view.state.inputs)
-held_read desk past base k few is lawful =
-    let me : ℕ = desk.view.member.node in
-    let whole : List Input = desk.view.state.inputs in
-    let l : List Input = take k whole in
-    let first : take (length past + base.inputs) (past ++ l) ≡ past ++ take base.inputs l =
-    take-add (length past) base.inputs (past ++ l) ∙ (λ i. take-front past l i ++ take base.inputs (drop-front past l i)) in
-    let rest : drop (length past + base.inputs) (past ++ l) ≡ drop base.inputs l = sym (drop-drop base.inputs (length past) (past ++ l)) ∙ ap (drop base.inputs) (drop-front past l) in
-    let again : take base.inputs l ≡ take base.inputs whole = take-take base.inputs k whole few in
-    let knows : after me desk.opening (take base.inputs whole) ≡ summary me (past ++ take base.inputs whole) = (past_first past desk base.inputs is lawful).summed in
-    let summed : summary me (take (length past + base.inputs) (past ++ l)) ≡ after me desk.opening (take base.inputs l) =
-    ap (summary me) first ∙ (ap (λ (g : List Input). summary me (past ++ g)) again ∙ (sym knows ∙ ap (after me desk.opening) (sym again))) in
-    λ i. record { layout = base.layout; epoch = base.epoch; base = summed i; inputs = rest i }
-
 module _ (desk : DeskKept) (past : List Input) (counts : IsNodeState desk.view.state) (is : IsPast desk.view.member desk.opening past) (lawful : IsLawfulState desk.view.member (seen past desk).state) where
   abbrev me : ℕ
   me = desk.view.member.node
@@ -50,15 +33,28 @@ module _ (desk : DeskKept) (past : List Input) (counts : IsNodeState desk.view.s
   abbrev s : NodeState
   s = desk.view.state
 
+  -- what the area of a base holds with the first k inputs since the opening is what the journal holds of the whole history
+  held_read : (base : Base) (k : ℕ) → base.inputs ≤ k → reading_of me (opened (moved (length past) base) (past ++ take k s.inputs)) ≡ area_with desk base (take k s.inputs)
+  held_read base k few =
+      let l : List Input = take k s.inputs in
+      let first : take (length past + base.inputs) (past ++ l) ≡ past ++ take base.inputs l =
+      take-add (length past) base.inputs (past ++ l) ∙ (λ i. take-front past l i ++ take base.inputs (drop-front past l i)) in
+      let rest : drop (length past + base.inputs) (past ++ l) ≡ drop base.inputs l = sym (drop-drop base.inputs (length past) (past ++ l)) ∙ ap (drop base.inputs) (drop-front past l) in
+      let again : take base.inputs l ≡ take base.inputs s.inputs = take-take base.inputs k s.inputs few in
+      let knows : after me desk.opening (take base.inputs s.inputs) ≡ summary me (past ++ take base.inputs s.inputs) = (past_first past desk base.inputs is lawful).summed in
+      let summed : summary me (take (length past + base.inputs) (past ++ l)) ≡ after me desk.opening (take base.inputs l) =
+      ap (summary me) first ∙ (ap (λ (g : List Input). summary me (past ++ g)) again ∙ (sym knows ∙ ap (after me desk.opening) (sym again))) in
+      λ i. record { layout = base.layout; epoch = base.epoch; base = summed i; inputs = rest i }
+
   -- with the durable inputs
   durable_read : reading_of me (left_by false (shifted past s)) ≡ durable_held desk
-  durable_read = ap (λ l. reading_of me (opened (moved (length past) s.base) l)) (durable-shifted past s) ∙ held_read desk past s.base s.durable counts.based is lawful
+  durable_read = ap (λ l. reading_of me (opened (moved (length past) s.base) l)) (durable-shifted past s) ∙ held_read s.base s.durable counts.based
 
   -- with what flies too
   flown_read : reading_of me (left_by true (shifted past s)) ≡ flown_held desk
   flown_read =
       (λ i. reading_of me (opened (launched-shifted past s i) (flown-shifted past s i)))
-      ∙ held_read desk past (launched_base s) s.flying (next-few s counts) is lawful
+      ∙ held_read (launched_base s) s.flying (next-few s counts)
 
   left_read : (image : List ℕ) → ReadsAsOneOf desk.view.member (durable_held desk) (flown_held desk) image → ReadsAsLeft desk.view.member (shifted past s) image
   left_read image read = subst (λ (r : Reading). ReadsAsOneOf desk.view.member r (reading_of me (left_by true (shifted past s))) image) (sym durable_read)

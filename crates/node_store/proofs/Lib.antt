@@ -1,5 +1,4 @@
-pub mod Checkpointed
-pub mod Flushed
+pub mod Flight
 pub mod Left
 pub mod Recovered
 pub mod Results

@@ -1,4 +1,6 @@
 pub mod Node
 pub mod Props
 pub mod Recovery
+pub mod Standing
 pub mod State
+pub mod Works

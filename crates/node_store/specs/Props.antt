@@ -3,19 +3,22 @@ use Rattle.std.specs.Prelude.{◌≢◌, ℕ, Bool, List, Option}
 use Rattle.std.specs.Coded.{le_prop}
 use Rattle.std.proofs.Common.{inl, inr}
 use Rattle.std.proofs.Props.{props}
-use Rattle.disk_model.specs.Disk.{Disk}
+use Rattle.disk_model.specs.declared.device.Device.{Ghosts}
 use Rattle.ring_records.specs.declared.base.Base.{Base}
 use Rattle.ring_records.specs.declared.input.Input.{Input}
 use Rattle.ring_records.specs.Admission.{IsBaseOf}
 use Rattle.ring_records.specs.Member.{Member}
 use Rattle.ring_records.specs.Props.{IsLawful-prop, IsNodeState-prop}
 use Rattle.ring_records.specs.States.{NodeState, IsLawfulState, launched_base, durable_in, flown_in}
+use Rattle.gated_journal.specs.declared.journal.Journal.{Journal}
+use Rattle.gated_journal.specs.Journal.{member_of, len_of, room_of, epoch_of, is_spoiled}
 use Rattle.gated_journal.specs.Reading.{Reading}
 use Rattle.gated_journal.proofs.AreaAlone.{one_reading}
 use Rattle.gated_journal.proofs.Once.{ReadsAs-prop}
 use Rattle.node_core.specs.Core.{IsNodeOf}
 use Rattle.group_commit.specs.Desk.{DeskKept, seen}
-use Rattle.node_store.specs.State.{ReadsOnce, IsReady, Stands, durable_held, flown_held}
+use Rattle.node_store.specs.Standing.{ReadsOnce, IsReady, Stands}
+use Rattle.node_store.specs.State.{durable_held, flown_held}
 
 -- an image does not read in two ways
 ReadsOnce-prop : (header : Member) (old new : Reading) (image : List ℕ) → IsProp (ReadsOnce header old new image)
@@ -61,14 +64,15 @@ IsReady-prop desk spoiled len room epoch p q =
       area = number_set _ _ p.area q.area i;
     }
 
-pub Stands-prop : (desk : DeskKept) (journal : Member) (disk : Disk) (spoiled : Bool) (len room epoch : ℕ) → IsProp (Stands desk journal disk spoiled len room epoch)
-Stands-prop desk journal disk spoiled len room epoch p q =
-    let member_set : IsSet Member = hlevel props in
-    λ i. record {
-      inside = IsNodeOf-prop desk.view.member.n desk.view.member.node p.inside q.inside i;
-      counts = IsNodeState-prop desk.view.state p.counts q.counts i;
-      lawful = λ past is. IsLawfulState-prop desk.view.member (seen past desk).state (p.lawful past is) (q.lawful past is) i;
-      named = member_set _ _ p.named q.named i;
-      holds = λ image left. ReadsOnce-prop journal (durable_held desk) (flown_held desk) image (p.holds image left) (q.holds image left) i;
-      ready = λ works. IsReady-prop desk spoiled len room epoch (p.ready works) (q.ready works) i;
-    }
+module _ {D : Type 0} {g : Ghosts D} (desk : DeskKept) (journal : Journal D g) where
+  pub Stands-prop : IsProp (Stands desk journal)
+  Stands-prop p q =
+      let member_set : IsSet Member = hlevel props in
+      λ i. record {
+        inside = IsNodeOf-prop desk.view.member.n desk.view.member.node p.inside q.inside i;
+        counts = IsNodeState-prop desk.view.state p.counts q.counts i;
+        lawful = λ past is. IsLawfulState-prop desk.view.member (seen past desk).state (p.lawful past is) (q.lawful past is) i;
+        named = member_set _ _ p.named q.named i;
+        holds = λ image left. ReadsOnce-prop (member_of journal) (durable_held desk) (flown_held desk) image (p.holds image left) (q.holds image left) i;
+        ready = λ works. IsReady-prop desk (is_spoiled journal) (len_of journal) (room_of journal) (epoch_of journal) (p.ready works) (q.ready works) i;
+      }

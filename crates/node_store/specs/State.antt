@@ -1,16 +1,14 @@
 -- What a node holds on its device, and what a stop leaves of it.
-use Rattle.std.specs.Prelude.{◌≡◌, ◌≢◌, ◌⊎◌, ◌+◌, ◌-◌, ℕ, Bool, true, false, List, [], take, drop, None}
+use Rattle.std.specs.Prelude.{◌≡◌, ℕ, true, false, List, [], take, drop}
 use Rattle.disk_model.specs.Disk.{Disk, MayLeave}
 use Rattle.ring_records.specs.declared.base.Base.{Base}
 use Rattle.ring_records.specs.declared.input.Input.{Input}
-use Rattle.ring_records.specs.Admission.{used}
 use Rattle.ring_records.specs.Known.{after}
 use Rattle.ring_records.specs.Member.{Member}
-use Rattle.ring_records.specs.States.{NodeState, IsNodeState, IsLawfulState, launched_base, durable_in, flown_in, left_by}
+use Rattle.ring_records.specs.States.{NodeState, IsLawfulState, launched_base, durable_in, flown_in, left_by}
 use Rattle.ring_records.specs.Summary.{summary}
-use Rattle.gated_journal.specs.Areas.{ReadsAs, ReadsAsOneOf}
+use Rattle.gated_journal.specs.Areas.{ReadsAsOneOf}
 use Rattle.gated_journal.specs.Reading.{Reading}
-use Rattle.node_core.specs.Core.{IsNodeOf}
 use Rattle.group_commit.specs.Desk.{DeskView, DeskKept, new_desk, seen}
 use Rattle.group_commit.specs.Past.{IsPast}
 
@@ -77,28 +75,3 @@ pub record IsOpenedAs (m : Member) (run : ℕ) (s : NodeState) (desk : DeskKept)
 -- the old desk, with what the new one has durable or flying in flight
 abbrev pub until : DeskKept → DeskKept → DeskKept
 until old new = record old { view = record old.view { state = record old.view.state { flying = new.view.state.flying } } }
-
--- ---- what a node keeps to
-
--- The image reads as the one or as the other, told in one way only: where both are one, as the old one.
-abbrev pub ReadsOnce : Member → Reading → Reading → List ℕ → Type 0
-ReadsOnce member old new image = ReadsAs member image old ⊎ ((old ≢ new) × ReadsAs member image new)
-
--- nothing flies, and the journal takes the next batch behind the durable inputs, or the next area behind the one in use
-pub record IsReady (desk : DeskKept) (spoiled : Bool) (len room epoch : ℕ) : Type 0 where
-  pub idle : desk.view.state.flying ≡ desk.view.state.durable
-  pub none : desk.view.state.checkpoint ≡ None
-  pub works : spoiled ≡ false
-  pub count : len ≡ desk.opening.inputs + desk.view.state.durable
-  pub left : room ≡ desk.view.member.capacity - used desk.view.state.base (durable_in desk.view.state)
-  pub area : epoch ≡ desk.view.state.base.epoch
-
--- The node is one of its ring; with a past the desk's state is lawful; the journal is the desk's and holds what is durable,
--- or also what flies, and is ready while the desk has not failed.
-pub record Stands (desk : DeskKept) (journal : Member) (disk : Disk) (spoiled : Bool) (len room epoch : ℕ) : Type 0 where
-  pub inside : IsNodeOf desk.view.member.n desk.view.member.node
-  pub counts : IsNodeState desk.view.state
-  pub lawful : (past : List Input) → IsPast desk.view.member desk.opening past → IsLawfulState desk.view.member (seen past desk).state
-  pub named : journal ≡ desk.view.member
-  pub holds : (image : List ℕ) → MayLeave disk image → ReadsOnce journal (durable_held desk) (flown_held desk) image
-  pub ready : desk.view.failed ≡ false → IsReady desk spoiled len room epoch

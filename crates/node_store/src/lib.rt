@@ -3,5 +3,6 @@
 
 pub mod laws;
 mod node;
+mod work;
 
 pub use node::Node;

@@ -9,26 +9,29 @@ ghost use Rattle.ring_records.specs.Snapshot.{IsSound};
 ghost use Rattle.ring_records.specs.States.{NodeState, IsLawfulState, durable_in, flying_in, left_by};
 ghost use Rattle.ring_records.specs.Summary.{empty};
 ghost use Rattle.gated_journal.specs.Areas.{ReadsAs, AllReadAs};
-ghost use Rattle.gated_journal.specs.Batch.{landed as receipted, lost};
 ghost use Rattle.gated_journal.specs.Journal as journals;
 ghost use Rattle.gated_journal.specs.Reading.{device_size, fresh_area, is_header};
 ghost use Rattle.gated_journal.specs.Unread.{IsFault, IsUnread};
 ghost use Rattle.node_core.specs.Core.{IsNodeOf};
 ghost use Rattle.group_commit.specs.Desk.{DeskKept, new_desk, core_of, seen, ended, launched, landed};
-ghost use Rattle.group_commit.specs.Desk.{objection, IsAnswer, IsHere, IsSealed, IsSubmitted, IsFlying};
+ghost use Rattle.group_commit.specs.Desk.{objection, IsAnswer, IsHere, IsSealed, IsSubmitted};
 ghost use Rattle.group_commit.specs.Opening.{IsKnownLawful};
 ghost use Rattle.group_commit.specs.Past.{IsPast};
 ghost use Rattle.node_store.specs.Props.{Stands-prop};
 ghost use Rattle.node_store.specs.Recovery.{IsNotLawful, IsUnrecovered};
-ghost use Rattle.node_store.specs.State.{Holds, IsLeft, IsOpenedAs, MayBeLeft, all_held, durable_held, until, Stands};
+ghost use Rattle.node_store.specs.Standing.{Stands};
+ghost use Rattle.node_store.specs.State.{Holds, IsLeft, IsOpenedAs, MayBeLeft, all_held, durable_held, until};
 
+use crate::node::rounds::settle;
+use crate::work::Work;
 use disk_model::{Device, FuseDevice};
-use gated_journal::{Journal, Opening, Receipt, Spoiled, is_header};
+use gated_journal::{Journal, Opening, is_header};
 use group_commit::{Desk, Landed, Stub, Ticket};
 use ring_records::{Input, NodeNo, Refusal, Reply, Request};
 use std::alloc::Global;
 
 mod checkpoints;
+mod rounds;
 
 /// A node whose inputs outlive it: a desk, and the journal that makes what it accepts durable.
 #[derive(Drop)]
@@ -36,9 +39,7 @@ pub struct Node<D: Device> {
     alloc: Global,
     desk: Desk,
     journal: Journal<D>,
-    ghost stands: { Stands desk (journals.member_of journal) (D.disk (journals.device_of journal)) (journals.is_spoiled journal)
-        (journals.len_of journal) (journals.room_of journal) (journals.epoch_of journal) } by { Stands-prop desk (journals.member_of journal) (D.disk (journals.device_of journal))
-            (journals.is_spoiled journal) (journals.len_of journal) (journals.room_of journal) (journals.epoch_of journal) },
+    ghost stands: { Stands desk journal } by { Stands-prop desk journal },
 }
 
 impl<D: Device> Node<D> {
@@ -282,12 +283,9 @@ impl<D: Device> Node<D> {
                 packets: Vec::new(self.alloc),
                 decisions: Vec::new(self.alloc),
             }),
-            Ok(Some(batch)) => match self.journal.commit(batch) {
-                Ok(receipt) => Ok(land(&mut self.desk, receipt)),
-                Err(spoiled) => {
-                    fail(&mut self.desk, spoiled);
-                    Err(Refusal::Device(self.journal.failures()))
-                }
+            Ok(Some(batch)) => match settle(&mut self.desk, &mut self.journal, Work::Batch(batch)) {
+                Ok(landed) => Ok(landed),
+                Err(failures) => Err(Refusal::Device(failures)),
             },
         }
     }
@@ -361,32 +359,4 @@ fn inside(node: NodeNo, n: u8)
     ensures { IsNodeOf n node }
 {
     let _number = node.number();
-}
-
-// What flies is durable, a batch or a checkpoint.
-fn land(desk: &mut Desk, receipt: Receipt) -> Landed
-    requires works { desk.old.view.failed ≡ false }
-    requires flying { IsFlying desk.old (receipted receipt) }
-    ensures count { result.count ≡ desk.old.view.state.flying - desk.old.view.state.durable }
-    ensures packets { (past : List Input) → IsPast desk.old.view.member desk.old.opening past
-        → result.packets.items ≡ packets desk.old.view.member.node (durable_in (seen past desk.old).state) (flying_in (seen past desk.old).state) }
-    ensures decisions { (past : List Input) → IsPast desk.old.view.member desk.old.opening past
-        → result.decisions.items ≡ decisions desk.old.view.member.node (durable_in (seen past desk.old).state) (flying_in (seen past desk.old).state) }
-    ensures next { desk.new ≡ record desk.old { view = landed desk.old.view } }
-{
-    match desk.land(receipt) {
-        Ok(landed) => landed,
-        Err(_) => unreachable!(),
-    }
-}
-
-// The device failed with what flies.
-fn fail(desk: &mut Desk, spoiled: Spoiled)
-    requires flying { IsFlying desk.old (lost spoiled) }
-    ensures next { desk.new ≡ record desk.old { view = record desk.old.view { failed = true } } }
-{
-    match desk.fail(spoiled) {
-        Ok(()) => {}
-        Err(_) => unreachable!(),
-    }
 }

@@ -14,7 +14,9 @@ ghost use Rattle.group_commit.specs.Past.{IsPast};
 ghost use Rattle.node_store.specs.Recovery.{IsUnbegun};
 ghost use Rattle.node_store.specs.State.{MayBeLeft};
 
-use crate::node::{Node, fail, land};
+use crate::node::Node;
+use crate::node::rounds::settle;
+use crate::work::Work;
 use disk_model::Device;
 use group_commit::Landed;
 use ring_records::Refusal;
@@ -54,12 +56,13 @@ impl<D: Device> Node<D> {
     {
         match self.desk.launch_checkpoint() {
             Err(refusal) => Err(refusal),
-            Ok(checkpoint) => match self.journal.checkpoint(checkpoint) {
-                Ok(receipt) => Ok(land(&mut self.desk, receipt)),
-                Err(spoiled) => {
-                    fail(&mut self.desk, spoiled);
-                    Err(Refusal::Device(self.journal.failures()))
-                }
+            Ok(checkpoint) => match settle(
+                &mut self.desk,
+                &mut self.journal,
+                Work::Checkpoint(checkpoint),
+            ) {
+                Ok(landed) => Ok(landed),
+                Err(failures) => Err(Refusal::Device(failures)),
             },
         }
     }

@@ -1,126 +1,58 @@
-use Rattle.std.proofs.Common.{◌≡◌, ◌+◌, ◌∙◌, sym, subst, ap, true}
-use Rattle.disk_model.proofs.Moments.{started, weaken, now}
-use Rattle.ring_records.specs.Admission.{newest}
+use Rattle.std.proofs.Common.{◌∙◌, sym, subst, ap}
+use Rattle.disk_model.proofs.Moments.{started, weaken}
 use Rattle.ring_records.specs.Release.{packets, decisions}
 use Rattle.ring_records.specs.States.{durable_in, flying_in}
-use Rattle.gated_journal.specs.Areas.{AllReadAs, ReadsAsOneOf}
-use Rattle.gated_journal.specs.Batch.{base_by}
+use Rattle.ring_records.proofs.Admission.{or_else-none}
 use Rattle.gated_journal.specs.Journal as journals
-use Rattle.gated_journal.specs.Reading.{fresh_area}
-use Rattle.group_commit.specs.Desk as desks
-use Rattle.group_commit.specs.Desk.{DeskKept, DeskView, launched_all}
-use Rattle.group_commit.specs.Past.{IsPast}
-use Rattle.node_store.specs.State.{MayBeLeft, Stands, durable_held}
-use Rattle.node_store.proofs.Checkpointed.{works_free, unbegun, no_fault, held_all, lands_all, breaks_all, moment_all}
-use Rattle.node_store.proofs.Flushed.{all}
+use Rattle.group_commit.specs.Desk.{DeskKept, DeskView, launch_objection}
+use Rattle.node_store.specs.State.{MayBeLeft}
+use Rattle.node_store.proofs.Flight.{unbegun, no_fault, checkpoint_flies, summed}
 use Rattle.node_store.proofs.Standing.{left}
 use Rattle.node_store.proofs.node.Node.checkpoint.Goals as goal
 
-abbrev landed : DeskKept → DeskKept
-landed desk = record desk { view = desks.landed desk.view }
-
-abbrev failed : DeskKept → DeskKept
-failed desk = record desk { view = record desk.view { failed = true } }
-
-pub invariant_of-self-in-Ok-checkpoint : goal.invariant_of-self-in-Ok-checkpoint
-invariant_of-self-in-Ok-checkpoint g c =
-    let node = c.args.self.now in
-    let journal = c.checkpoint.new.self in
-    let disk = g.D.Device.disk (journals.device_of journal) in
-    let launch = c.in-Ok.ensures in
-    let works = works_free node.desk launch.free in
-    let made = c.in-Ok-checkpoint.ensures in
-    let base = base_by c.in-Ok.checkpoint in
-    let held = durable_held node.desk in
-    let read : AllReadAs (journals.member_of node.journal) disk (fresh_area newest (journals.epoch_of node.journal + 1) base) =
-    made.durable held (all _ _ _ _ _ _ _ works node.stands) in
-    let next : c.land.new.desk ≡ record node.desk { view = desks.landed (launched_all node.desk) } = c.land.ensures.next ∙ ap landed launch.next in
-    record {
-      stands = subst (λ (d : DeskKept). Stands d (journals.member_of journal) disk (journals.is_spoiled journal) (journals.len_of journal) (journals.room_of journal) (journals.epoch_of journal)) (sym next)
-          (lands_all _ _ _ _ _ _ _ works node.stands (journals.member_of journal) disk (journals.is_spoiled journal) (journals.len_of journal) (journals.room_of journal) (journals.epoch_of journal)
-          base launch.summary made.header read made.spoils made.len made.room made.next);
-    }
-
-pub invariant_of-self-in-Err-checkpoint : goal.invariant_of-self-in-Err-checkpoint
-invariant_of-self-in-Err-checkpoint g c =
-    let node = c.args.self.now in
-    let journal = c.checkpoint.new.self in
-    let disk = g.D.Device.disk (journals.device_of journal) in
-    let launch = c.in-Ok.ensures in
-    let works = works_free node.desk launch.free in
-    let base = base_by c.in-Ok.checkpoint in
-    let held = durable_held node.desk in
-    let moments = c.in-Err-checkpoint.ensures.any_moment held (all _ _ _ _ _ _ _ works node.stands) in
-    let read = now g.D.Device.clock g.D.Device.left_since (journals.device_of node.journal) (journals.device_of journal) disk
-    (ReadsAsOneOf (journals.member_of node.journal) held (fresh_area newest (journals.epoch_of node.journal + 1) base)) moments
-    (g.met.D.Device.counts_now (journals.device_of journal)) in
-    let next : c.fail.new.desk ≡ record node.desk { view = record (launched_all node.desk) { failed = true } } = c.fail.ensures.next ∙ ap failed launch.next in
-    record {
-      stands = subst (λ (d : DeskKept). Stands d (journals.member_of journal) disk (journals.is_spoiled journal) (journals.len_of journal) (journals.room_of journal) (journals.epoch_of journal)) (sym next)
-          (breaks_all _ _ _ _ _ _ _ works node.stands (journals.member_of journal) disk (journals.is_spoiled journal) (journals.len_of journal) (journals.room_of journal) (journals.epoch_of journal)
-          base launch.summary c.in-Err-checkpoint.ensures.header read);
-    }
+-- ---- refused
 
 pub returns-in-Err-clause-fault : goal.returns-in-Err-clause-fault
-returns-in-Err-clause-fault g c = λ fault. absurd (no_fault _ _ _ (unbegun _ _ _ _ _ _ _ c.args.self.now.stands c.in-Err.refusal c.in-Err.ensures.refusal) fault)
+returns-in-Err-clause-fault g c = λ fault. let node = c.args.self.now in absurd (no_fault _ _ _ (unbegun node.desk node.journal node.stands c.in-Err.refusal c.in-Err.ensures.refusal) fault)
 
 pub returns-in-Err-clause-in_reach : goal.returns-in-Err-clause-in_reach
-returns-in-Err-clause-in_reach g c = λ reach. unbegun _ _ _ _ _ _ _ c.args.self.now.stands c.in-Err.refusal c.in-Err.ensures.refusal
+returns-in-Err-clause-in_reach g c = λ reach. let node = c.args.self.now in unbegun node.desk node.journal node.stands c.in-Err.refusal c.in-Err.ensures.refusal
 
 pub returns-in-Err-clause-any_moment_err : goal.returns-in-Err-clause-any_moment_err
 returns-in-Err-clause-any_moment_err g c =
     let node = c.args.self.now in
-    let device = journals.device_of node.journal in
-    started g.D.Device.clock g.D.Device.left_since device _ (λ image may.
-    subst (λ (d : DeskKept). MayBeLeft d image) (sym c.in-Err.ensures.same)
-    (left _ _ (g.D.Device.disk device) _ _ _ _ node.stands image (g.met.D.Device.only_now device image may)))
+    rw c.in-Err.ensures.same (started g.D.Device.clock g.D.Device.left_since _ _ (λ image may. left node.desk node.journal node.stands image (g.met.D.Device.only_now _ image may)))
 
-pub returns-in-Ok-checkpoint-clause-packets : goal.returns-in-Ok-checkpoint-clause-packets
-returns-in-Ok-checkpoint-clause-packets g c = λ past is.
-    let launch = c.in-Ok.ensures in
-    c.land.ensures.packets past (subst (λ (d : DeskKept). IsPast d.view.member d.opening past) (sym launch.next) is)
-    ∙ ap (λ (v : DeskView). packets v.member.node (durable_in v.state) (flying_in v.state)) (launch.lifted past is)
+-- ---- it flies
 
-pub returns-in-Ok-checkpoint-clause-decisions : goal.returns-in-Ok-checkpoint-clause-decisions
-returns-in-Ok-checkpoint-clause-decisions g c = λ past is.
-    let launch = c.in-Ok.ensures in
-    c.land.ensures.decisions past (subst (λ (d : DeskKept). IsPast d.view.member d.opening past) (sym launch.next) is)
-    ∙ ap (λ (v : DeskView). decisions v.member.node (durable_in v.state) (flying_in v.state)) (launch.lifted past is)
-
-pub returns-in-Ok-checkpoint-clause-durable : goal.returns-in-Ok-checkpoint-clause-durable
-returns-in-Ok-checkpoint-clause-durable g c =
+pub settle-requires : goal.settle-requires
+settle-requires g c =
     let node = c.args.self.now in
-    let disk = g.D.Device.disk (journals.device_of c.checkpoint.new.self) in
     let launch = c.in-Ok.ensures in
-    let works = works_free node.desk launch.free in
-    let base = base_by c.in-Ok.checkpoint in
-    held_all _ _ _ _ _ _ _ works node.stands disk base launch.summary (c.in-Ok-checkpoint.ensures.durable (durable_held node.desk) (all _ _ _ _ _ _ _ works node.stands))
+    let free = (or_else-none (launch_objection node.desk.view) _ launch.free).0 in
+    rw launch.next (checkpoint_flies node.desk node.journal node.stands free c.in-Ok.checkpoint launch.summary launch.sound launch.fits launch.epoch (rw launch.next at launch.checkpoint))
 
-pub returns-in-Ok-checkpoint-clause-any_moment : goal.returns-in-Ok-checkpoint-clause-any_moment
-returns-in-Ok-checkpoint-clause-any_moment g c =
-    let node = c.args.self.now in
-    let journal = c.checkpoint.new.self in
+pub returns-in-Ok-settle-clause-packets : goal.returns-in-Ok-settle-clause-packets
+returns-in-Ok-settle-clause-packets g c = λ past is.
     let launch = c.in-Ok.ensures in
-    let works = works_free node.desk launch.free in
-    let base = base_by c.in-Ok.checkpoint in
-    let held = durable_held node.desk in
-    let moments = c.in-Ok-checkpoint.ensures.any_moment held (all _ _ _ _ _ _ _ works node.stands) in
-    weaken g.D.Device.clock g.D.Device.left_since (journals.device_of node.journal) (journals.device_of journal)
-    (ReadsAsOneOf (journals.member_of node.journal) held (fresh_area newest (journals.epoch_of node.journal + 1) base))
-    (MayBeLeft (record node.desk { view = launched_all node.desk }))
-    (moment_all _ _ _ _ _ _ _ works node.stands base launch.summary node.desk.view.failed) moments
+    (rw launch.next at c.in-Ok-settle.ensures.packets) past is ∙ ap (λ (v : DeskView). packets v.member.node (durable_in v.state) (flying_in v.state)) (rw launch.next at (launch.lifted past is))
 
-pub returns-in-Err-checkpoint-clause-any_moment_err : goal.returns-in-Err-checkpoint-clause-any_moment_err
-returns-in-Err-checkpoint-clause-any_moment_err g c =
-    let node = c.args.self.now in
-    let journal = c.checkpoint.new.self in
+pub returns-in-Ok-settle-clause-decisions : goal.returns-in-Ok-settle-clause-decisions
+returns-in-Ok-settle-clause-decisions g c = λ past is.
     let launch = c.in-Ok.ensures in
-    let works = works_free node.desk launch.free in
-    let base = base_by c.in-Ok.checkpoint in
-    let held = durable_held node.desk in
-    let moments = c.in-Err-checkpoint.ensures.any_moment held (all _ _ _ _ _ _ _ works node.stands) in
-    let next : c.fail.new.desk ≡ record node.desk { view = record (launched_all node.desk) { failed = true } } = c.fail.ensures.next ∙ ap failed launch.next in
-    weaken g.D.Device.clock g.D.Device.left_since (journals.device_of node.journal) (journals.device_of journal)
-    (ReadsAsOneOf (journals.member_of node.journal) held (fresh_area newest (journals.epoch_of node.journal + 1) base))
-    (MayBeLeft c.fail.new.desk)
-    (λ image read. subst (λ (d : DeskKept). MayBeLeft d image) (sym next) (moment_all _ _ _ _ _ _ _ works node.stands base launch.summary true image read)) moments
+    (rw launch.next at c.in-Ok-settle.ensures.decisions) past is ∙ ap (λ (v : DeskView). decisions v.member.node (durable_in v.state) (flying_in v.state)) (rw launch.next at (launch.lifted past is))
+
+pub returns-in-Ok-settle-clause-durable : goal.returns-in-Ok-settle-clause-durable
+returns-in-Ok-settle-clause-durable g c =
+    let node = c.args.self.now in
+    let launch = c.in-Ok.ensures in
+    let is = summed node.desk node.journal node.stands (or_else-none (launch_objection node.desk.view) _ launch.free).0 in
+    rw is at (rw launch.next at c.in-Ok-settle.ensures.durable)
+
+pub returns-in-Ok-settle-clause-any_moment : goal.returns-in-Ok-settle-clause-any_moment
+returns-in-Ok-settle-clause-any_moment g c = rw c.in-Ok.ensures.next at c.in-Ok-settle.ensures.any_moment
+
+pub returns-in-Err-settle-clause-any_moment_err : goal.returns-in-Err-settle-clause-any_moment_err
+returns-in-Err-settle-clause-any_moment_err g c =
+    weaken g.D.Device.clock g.D.Device.left_since _ _ _ _
+    (λ image left. rw c.in-Err-settle.ensures.failed (record { read = left.read; left = left.left })) c.in-Err-settle.ensures.any_moment

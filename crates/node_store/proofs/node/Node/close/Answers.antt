@@ -1,13 +1,8 @@
-use Rattle.std.proofs.Common.{sym, subst}
-use Rattle.gated_journal.specs.Journal as journals
-use Rattle.group_commit.specs.Desk.{DeskKept}
-use Rattle.node_store.specs.State.{Stands}
-use Rattle.node_store.proofs.Standing.{closes}
+use Rattle.std.proofs.Common.{true}
+use Rattle.node_store.proofs.Standing.{goes_on}
 use Rattle.node_store.proofs.node.Node.close.Goals as goal
 
 pub invariant_of-self : goal.invariant_of-self
 invariant_of-self g c =
     let node = c.args.self.now in
-    let journal = node.journal in
-    let P = λ (d : DeskKept). Stands d (journals.member_of journal) (g.D.Device.disk (journals.device_of journal)) (journals.is_spoiled journal) (journals.len_of journal) (journals.room_of journal) (journals.epoch_of journal) in
-    record { stands = subst P (sym c.close.ensures) (closes _ _ _ _ _ _ _ node.stands) }
+    record { stands = rw c.close.ensures (goes_on node.desk node.journal node.stands node.desk.view.tickets true) }

@@ -8,7 +8,7 @@ use Rattle.gated_journal.specs.Areas.{AllReadAs}
 use Rattle.gated_journal.specs.Journal as journals
 use Rattle.gated_journal.specs.Reading.{Reading, fresh_area}
 use Rattle.group_commit.specs.Desk.{DeskKept, new_desk}
-use Rattle.node_store.specs.State.{Stands}
+use Rattle.node_store.specs.Standing.{Stands}
 use Rattle.node_store.proofs.Standing.{opens_empty}
 use Rattle.node_store.proofs.node.Node.create.Goals as goal
 
@@ -24,9 +24,4 @@ invariant_of-result g c =
     let made = c.in-Ok-format.ensures in
     let all : AllReadAs (journals.member_of journal) disk (fresh_area newest 1 empty) = subst (λ (m : Member). AllReadAs m disk (fresh_area newest 1 empty)) (sym made.header) made.empty in
     let is : desk ≡ new_desk here c.args.run (fresh_area newest 1 empty) = c.in-Ok.ensures.desk ∙ ap (new_desk here c.args.run) c.fresh.ensures in
-    record {
-      stands = subst (λ (d : DeskKept). Stands d (journals.member_of journal) disk (journals.is_spoiled journal) (journals.len_of journal) (journals.room_of journal) (journals.epoch_of journal)) (sym is)
-          (opens_empty here (journals.member_of journal) c.args.run disk
-          (journals.is_spoiled journal) (journals.len_of journal) (journals.room_of journal) (journals.epoch_of journal)
-          c.inside.ensures made.header all made.ready made.len made.room made.epoch);
-    }
+    record { stands = rw is (opens_empty here journal c.args.run c.inside.ensures made.header all made.ready made.len made.room made.epoch) }

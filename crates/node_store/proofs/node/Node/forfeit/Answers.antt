@@ -1,18 +1,11 @@
-use Rattle.std.proofs.Common.{sym, subst}
-use Rattle.gated_journal.specs.Journal as journals
-use Rattle.group_commit.specs.Desk.{DeskKept}
-use Rattle.node_store.specs.State.{Stands}
 use Rattle.node_store.proofs.Results.{of_both}
-use Rattle.node_store.proofs.Standing.{ends}
+use Rattle.node_store.proofs.Standing.{goes_on}
 use Rattle.node_store.proofs.node.Node.forfeit.Goals as goal
 
 pub invariant_of-self : goal.invariant_of-self
 invariant_of-self g c =
     let node = c.args.self.now in
-    let journal = node.journal in
-    let P = λ (d : DeskKept). Stands d (journals.member_of journal) (g.D.Device.disk (journals.device_of journal)) (journals.is_spoiled journal) (journals.len_of journal) (journals.room_of journal) (journals.epoch_of journal) in
     record {
       stands = of_both c.forfeit.result _ _ _ c.forfeit.ensures.next c.forfeit.ensures.same
-          (λ next. subst P (sym next) (ends _ _ _ _ _ _ _ _ node.stands))
-          (λ as_before. subst P (sym as_before) node.stands);
+          (λ next. rw next (goes_on node.desk node.journal node.stands _ node.desk.view.closed)) (λ same. rw same node.stands);
     }

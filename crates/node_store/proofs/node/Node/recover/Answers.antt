@@ -6,7 +6,8 @@ use Rattle.gated_journal.specs.Journal as journals
 use Rattle.gated_journal.specs.Reading.{reading_of_opening, used_in}
 use Rattle.gated_journal.specs.Unread.{IsFault}
 use Rattle.group_commit.specs.Desk.{DeskKept, new_desk}
-use Rattle.node_store.specs.State.{Holds, Stands, all_held}
+use Rattle.node_store.specs.Standing.{Stands}
+use Rattle.node_store.specs.State.{Holds, all_held}
 use Rattle.node_store.proofs.Recovered.{kept_by, short_only, not_opened, short_or_not, still_holds, same_image, holds_again, no_fault, capacity_again, made_again, named_again, lawful_made, as_made}
 use Rattle.node_store.proofs.Standing.{opens}
 use Rattle.node_store.proofs.node.Node.recover.Goals as goal
@@ -14,19 +15,13 @@ use Rattle.node_store.proofs.node.Node.recover.Goals as goal
 pub invariant_of-result : goal.invariant_of-result
 invariant_of-result g c =
     let journal = c.in-Ok.journal in
-    let disk = g.D.Device.disk (journals.device_of journal) in
     let r = reading_of_opening c.in-Ok.opening in
     let here = member c.args.node c.args.n c.capacity.result in
     let made = c.in-Ok-open.ensures in
     let read = c.in-Ok.ensures in
     let named : journals.member_of journal ≡ here = named_again c.args.node c.args.n c.capacity.result (journals.member_of journal) read.header.0 read.header.1 c.capacity.ensures.value in
     let left : journals.room_of journal ≡ c.capacity.result - used_in r = omega (arith, read.room, c.capacity.ensures.value) in
-    record {
-      stands = subst (λ (d : DeskKept). Stands d (journals.member_of journal) disk (journals.is_spoiled journal) (journals.len_of journal) (journals.room_of journal) (journals.epoch_of journal)) (sym made.desk)
-          (opens here (journals.member_of journal) c.args.run r disk
-          (journals.is_spoiled journal) (journals.len_of journal) (journals.room_of journal) (journals.epoch_of journal)
-          c.inside.ensures named made.lawful read.durable read.ready read.len left read.epoch);
-    }
+    record { stands = rw made.desk (opens here journal c.args.run r c.inside.ensures named made.lawful read.durable read.ready read.len left read.epoch) }
 
 pub returns-in-Err-clause-recovery_err : goal.returns-in-Err-clause-recovery_err
 returns-in-Err-clause-recovery_err g c = λ capacity s lawful holds.

@@ -1,0 +1,108 @@
+// A round of a node: what flies becomes durable, a batch or a checkpoint.
+ghost use Rattle.std.specs.Prelude.{◌≡◌, ◌-◌, List, true, false, is_err, length, IfOk, IfErr, IsOk, OnOk, OnErr};
+ghost use Rattle.disk_model.specs.Disk.{HasCause, LeavesOnly, Reaches};
+ghost use Rattle.ring_records.specs.declared.input.Input.{Input};
+ghost use Rattle.ring_records.specs.Admission.{costs_of};
+ghost use Rattle.ring_records.specs.Release.{packets, decisions};
+ghost use Rattle.ring_records.specs.States.{durable_in, flying_in};
+ghost use Rattle.gated_journal.specs.Areas.{AllReadAs, ReadsAsOneOf};
+ghost use Rattle.gated_journal.specs.Batch.{landed as receipted, lost};
+ghost use Rattle.gated_journal.specs.Journal.{device_of, member_of, len_of, room_of, epoch_of, is_spoiled};
+ghost use Rattle.gated_journal.specs.Reading.{Reading, device_size};
+ghost use Rattle.group_commit.specs.Desk.{IsFlying, landed, seen};
+ghost use Rattle.group_commit.specs.Past.{IsPast};
+ghost use Rattle.node_store.specs.Standing.{Flies, Stands};
+ghost use Rattle.node_store.specs.State.{MayBeLeft, flown_held};
+ghost use Rattle.node_store.specs.Works.{IsSized, IsTaken, count_after, epoch_after, flown_by, reading_after, room_after, summary_by};
+
+use crate::work::Work;
+use disk_model::Device;
+use gated_journal::{Journal, Receipt, Spoiled};
+use group_commit::{Desk, Landed};
+
+// Makes what flies durable, and tells what that lets the node release. At `Err` the device failed, and so has the desk, of
+// which the work flies for good: how many calls of the device have failed.
+pub(crate) fn settle<D: Device>(
+    desk: &mut Desk,
+    journal: &mut Journal<D>,
+    work: Work,
+) -> Result<Landed, u64>
+    requires { Flies desk.old journal.old work }
+    ensures stands { Stands desk.new journal.new }
+    ensures next { OnOk result (desk.new ≡ record desk.old { view = landed desk.old.view }) }
+    ensures count { IfOk result (λ l. l.count ≡ desk.old.view.state.flying - desk.old.view.state.durable) }
+    ensures packets { IfOk result (λ l. (past : List Input) → IsPast desk.old.view.member desk.old.opening past
+        → l.packets.items ≡ packets desk.old.view.member.node (durable_in (seen past desk.old).state) (flying_in (seen past desk.old).state)) }
+    ensures decisions { IfOk result (λ l. (past : List Input) → IsPast desk.old.view.member desk.old.opening past
+        → l.decisions.items ≡ decisions desk.old.view.member.node (durable_in (seen past desk.old).state) (flying_in (seen past desk.old).state)) }
+    ensures durable { OnOk result (AllReadAs desk.old.view.member (D.disk (device_of journal.new)) (flown_held desk.old)) }
+    ensures failed { OnErr result (desk.new ≡ record desk.old { view = record desk.old.view { failed = true } }) }
+    ensures failures { IfErr result (λ failures. failures ≡ D.count (device_of journal.new)) }
+    ensures cause { HasCause (D.count (device_of journal.old)) (D.count (device_of journal.new)) result }
+    ensures works { Reaches (D.reach (device_of journal.old)) (device_size desk.old.view.member.capacity) → IsOk result }
+    ensures any_moment { LeavesOnly D.clock D.left_since (device_of journal.old) (device_of journal.new) (MayBeLeft desk.old) }
+    ensures reach { D.reach (device_of journal.new) ≡ D.reach (device_of journal.old) }
+{
+    match write(journal, work) {
+        Ok(receipt) => Ok(land(desk, receipt)),
+        Err(spoiled) => {
+            fail(desk, spoiled);
+            Err(journal.failures())
+        }
+    }
+}
+
+// Writes it to the journal, as a batch or as a checkpoint.
+fn write<D: Device>(journal: &mut Journal<D>, work: Work) -> Result<Receipt, Spoiled>
+    requires ready { is_spoiled journal.old ≡ false }
+    requires taken { IsTaken (member_of journal.old) (len_of journal.old) (room_of journal.old) (epoch_of journal.old) work }
+    requires sized { IsSized work }
+    ensures durable { OnOk result ((r : Reading) → AllReadAs (member_of journal.old) (D.disk (device_of journal.old)) r
+        → AllReadAs (member_of journal.old) (D.disk (device_of journal.new)) (reading_after (epoch_of journal.old) (summary_by work) (flown_by work).inputs r)) }
+    ensures spoils { is_spoiled journal.new ≡ is_err result }
+    ensures cause { HasCause (D.count (device_of journal.old)) (D.count (device_of journal.new)) result }
+    ensures works { Reaches (D.reach (device_of journal.old)) (device_size (member_of journal.old).capacity) → IsOk result }
+    ensures reach { D.reach (device_of journal.new) ≡ D.reach (device_of journal.old) }
+    ensures receipt { IfOk result (λ receipt. receipted receipt ≡ flown_by work) }
+    ensures spoiled { IfErr result (λ spoiled. lost spoiled ≡ flown_by work) }
+    ensures header { member_of journal.new ≡ member_of journal.old }
+    ensures len { OnOk result (len_of journal.new ≡ count_after (summary_by work) (length (flown_by work).inputs) (len_of journal.old)) }
+    ensures room { OnOk result (room_of journal.new ≡ room_after (flown_by work).snapshot (member_of journal.old).capacity (costs_of (flown_by work).inputs) (room_of journal.old)) }
+    ensures epoch { OnOk result (epoch_of journal.new ≡ epoch_after (flown_by work).snapshot (epoch_of journal.old)) }
+    ensures any_moment { (r : Reading) → AllReadAs (member_of journal.old) (D.disk (device_of journal.old)) r
+        → LeavesOnly D.clock D.left_since (device_of journal.old) (device_of journal.new)
+        (ReadsAsOneOf (member_of journal.old) r (reading_after (epoch_of journal.old) (summary_by work) (flown_by work).inputs r)) }
+{
+    match work {
+        Work::Batch(batch) => journal.commit(batch),
+        Work::Checkpoint(checkpoint) => journal.checkpoint(checkpoint),
+    }
+}
+
+// What flies is durable, a batch or a checkpoint.
+fn land(desk: &mut Desk, receipt: Receipt) -> Landed
+    requires works { desk.old.view.failed ≡ false }
+    requires flying { IsFlying desk.old (receipted receipt) }
+    ensures count { result.count ≡ desk.old.view.state.flying - desk.old.view.state.durable }
+    ensures packets { (past : List Input) → IsPast desk.old.view.member desk.old.opening past
+        → result.packets.items ≡ packets desk.old.view.member.node (durable_in (seen past desk.old).state) (flying_in (seen past desk.old).state) }
+    ensures decisions { (past : List Input) → IsPast desk.old.view.member desk.old.opening past
+        → result.decisions.items ≡ decisions desk.old.view.member.node (durable_in (seen past desk.old).state) (flying_in (seen past desk.old).state) }
+    ensures next { desk.new ≡ record desk.old { view = landed desk.old.view } }
+{
+    match desk.land(receipt) {
+        Ok(landed) => landed,
+        Err(_) => unreachable!(),
+    }
+}
+
+// The device failed with what flies.
+fn fail(desk: &mut Desk, spoiled: Spoiled)
+    requires flying { IsFlying desk.old (lost spoiled) }
+    ensures next { desk.new ≡ record desk.old { view = record desk.old.view { failed = true } } }
+{
+    match desk.fail(spoiled) {
+        Ok(()) => {}
+        Err(_) => unreachable!(),
+    }
+}
