@@ -10,6 +10,7 @@ use Rattle.ring_records.specs.declared.input.Input.TheVariants.{Stand, Take, Ack
 use Rattle.ring_records.specs.declared.key.Key.{Key}
 use Rattle.ring_records.specs.declared.key_state.KeyState.{KeyState}
 use Rattle.ring_records.specs.declared.candidate.Candidate.{Candidate}
+use Rattle.ring_records.specs.declared.limits.TheConstants.{STANDS}
 use Rattle.ring_records.specs.declared.msg.Msg.{Msg}
 use Rattle.ring_records.specs.declared.msg.Msg.TheVariants.{Token, Elected}
 use Rattle.ring_records.specs.declared.summary.Summary.{Summary}
@@ -186,7 +187,7 @@ within_next me n s (Acked upto) o w = (acked_within n s upto o).1
 pub few_inputs : (n : ℕ) (s : Summary) (x : Input) → Objects n s x None → s.inputs < 2 ^ 56
 few_inputs n s (Stand key bid) (led, is, e) =
     let many = where_so (nat_le (2 ^ 56) s.inputs) refused.Limit in
-    let stands = where_so (nat_le 1024 s.stands) refused.Limit in
+    let stands = where_so (nat_le STANDS s.stands) refused.Limit in
     let touch = or_else (already (stood_of (known_of s key))) (where_so (is_some (known_of s key)) refused.Late) in
     let a = or_else-none touch (or_else (stale key.term led) (or_else stands many)) (sym e) in
     let b = or_else-none (stale key.term led) (or_else stands many) a.1 in
