@@ -6,9 +6,10 @@ use Rattle.ring_records.specs.declared.input.Input.TheVariants.{Stand, Take, Ack
 use Rattle.ring_records.specs.declared.limits.TheConstants.{STANDS}
 use Rattle.ring_records.specs.declared.msg.Msg.{Msg}
 use Rattle.ring_records.specs.declared.summary.Summary.{Summary}
+use Rattle.ring_records.specs.Admission.{snapshot_len}
 use Rattle.ring_records.specs.Known.{passed}
 use Rattle.ring_records.specs.Message.{key_of}
-use Rattle.ring_records.specs.Snapshot.{IsSound, snapshot_len}
+use Rattle.ring_records.specs.Snapshot.{IsSound}
 use Rattle.neighbour_link.specs.Outlink.{LinkView, sent_count}
 use Rattle.groups_terms.specs.Table.{TableView, ballot_at, states_in}
 use Rattle.node_core.specs.Core.{IsNodeOf}
