@@ -34,7 +34,7 @@ snapshot-empty =
 -- each byte of a new device
 pub bytes-new_areas : (header : Member) → new_areas header ≡ mark ++ header.node ∷ header.n ∷ to_be_bytes w32 header.capacity ++ 0 ∷ 0 ∷ 1 ∷ 2 ∷ to_be_bytes w64 1 ++ to_be_bytes w32 38 ++ replicate {A = ℕ} 39 0
 bytes-new_areas header =
-    ap (λ (l : List ℕ). mark ++ header.node ∷ header.n ∷ to_be_bytes w32 header.capacity ++ 0 ∷ 0 ∷ 1 ∷ 2 ∷ to_be_bytes w64 1 ++ to_be_bytes w32 (length l) ++ l ++ 0 ∷ []) snapshot-empty
+    λ i. mark ++ header.node ∷ header.n ∷ to_be_bytes w32 header.capacity ++ 0 ∷ 0 ∷ 1 ∷ 2 ∷ to_be_bytes w64 1 ++ to_be_bytes w32 (length-empty i) ++ snapshot-empty i ++ 0 ∷ []
 
 -- how many bytes that is
 pub length-new_areas : (header : Member) → length (new_areas header) ≡ 69

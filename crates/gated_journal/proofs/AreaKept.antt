@@ -2,6 +2,7 @@
 use Rattle.std.proofs.Common.{◌≡◌, ℕ, ◌+◌, ◌-◌, ◌<◌, ◌≤◌, List, length, take, drop, get_or, sym, ◌∙◌, ap, subst, arith, length-take, length-drop}
 use Rattle.ring_records.specs.declared.input.Input.{Input}
 use Rattle.ring_records.specs.Snapshot.{Spells, snapshot_len}
+use Rattle.ring_records.proofs.Snapshots.{length-snapshot}
 use Rattle.gated_journal.specs.Frames.{ReadsTo}
 use Rattle.gated_journal.specs.Areas.{epoch_at, size_at, snapshot_at, Counts, HasBase}
 use Rattle.gated_journal.specs.Reading.{Reading}
@@ -64,4 +65,4 @@ pub behind_snapshot : (n start : ℕ) (image : List ℕ) (r : Reading) (offset :
 behind_snapshot n start image r offset base =
     let size = size_at start image in
     let long : length (snapshot_at start image) ≡ size = omega (arith, length-take size (drop (start + 14) image), length-drop (start + 14) image, base.offset_is, base.there) in
-    omega (arith, ap length base.snapshot.is, long, base.offset_is)
+    omega (arith, ap length base.snapshot.is, long, base.offset_is, length-snapshot r.base)

@@ -7,6 +7,7 @@ use Rattle.disk_model.specs.Disk.{Puts}
 use Rattle.ring_records.specs.declared.summary.Summary.{Summary}
 use Rattle.ring_records.specs.Admission.{newest}
 use Rattle.ring_records.specs.Snapshot.{Spells, snapshot_of, snapshot_len}
+use Rattle.ring_records.proofs.Snapshots.{length-snapshot}
 use Rattle.gated_journal.specs.Areas.{layout_at, epoch_at, size_at, snapshot_at, new_area, blank_area, IsStaged}
 use Rattle.gated_journal.specs.Reading.{fresh_area, number_at}
 use Rattle.gated_journal.proofs.Kept.{put_behind}
@@ -43,13 +44,13 @@ module _ (other epoch : ℕ) (s : Summary) (after image : List ℕ) (here : drop
       ap (λ (k : ℕ). number_at 4 k image) (sym at) ∙ number_behind 4 (other + 1) 9 image ∙ ap (λ (l : List ℕ). number_at 4 9 l) here ∙ omega (arith, from_be_bytes-to_be_bytes_4 (snapshot_len s) short)
 
   long : other + 15 + snapshot_len s ≤ length image
-  long = omega (arith, ap length behind, length-drop (other + 14) image, length-append (snapshot_of s) (0 ∷ after))
+  long = omega (arith, ap length behind, length-drop (other + 14) image, length-append (snapshot_of s) (0 ∷ after), length-snapshot s)
 
   pub staged : (n : ℕ) → Spells n (snapshot_of s) s → IsStaged n other image (fresh_area newest epoch s) (other + 14 + snapshot_len s)
   staged n spells =
       let len = snapshot_len s in
-      let found : snapshot_at other image ≡ snapshot_of s = (λ i. take (size_is i) (behind i)) ∙ take_at (snapshot_of s) (0 ∷ after) len refl in
-      let gate : drop (other + 14 + len) image ≡ 0 ∷ after = sym (drop-drop len (other + 14) image) ∙ ap (λ (l : List ℕ). drop len l) behind ∙ drop_at (snapshot_of s) (0 ∷ after) len refl in
+      let found : snapshot_at other image ≡ snapshot_of s = (λ i. take (size_is i) (behind i)) ∙ take_at (snapshot_of s) (0 ∷ after) len (length-snapshot s) in
+      let gate : drop (other + 14 + len) image ≡ 0 ∷ after = sym (drop-drop len (other + 14) image) ∙ ap (λ (l : List ℕ). drop len l) behind ∙ drop_at (snapshot_of s) (0 ∷ after) len (length-snapshot s) in
       record {
         there = omega (arith, long);
         base = record {
@@ -72,7 +73,7 @@ staged_by n other epoch s old new small short spells put =
 
 -- how long an area without frames is behind its gate
 pub length-new_area : (layout epoch : ℕ) (s : Summary) → length (new_area layout epoch s) ≡ 14 + snapshot_len s
-length-new_area layout epoch s = omega (arith, length-append (snapshot_of s) (0 ∷ []))
+length-new_area layout epoch s = omega (arith, length-append (snapshot_of s) (0 ∷ []), length-snapshot s)
 
 -- the layout and the epoch are written in front of a blank area
 pub numbered : (s : Summary) (epoch : ℕ) (bytes whole part behind : List ℕ) (n : ℕ) → bytes ≡ blank_area s → n ≡ length bytes → whole ≡ set bytes 0 2 → part ≡ to_be_bytes w64 epoch
@@ -84,4 +85,4 @@ numbered s epoch bytes whole part behind n bytes_are n_is whole_is part_is =
     ap (λ (l : List ℕ). take n (l ++ behind)) all ∙ take_at (new_area newest epoch s) behind n (sym long)
 
 pub length-blank_area : (s : Summary) → length (blank_area s) ≡ 14 + snapshot_len s
-length-blank_area s = omega (arith, length-append (snapshot_of s) (0 ∷ []))
+length-blank_area s = omega (arith, length-append (snapshot_of s) (0 ∷ []), length-snapshot s)

@@ -1,10 +1,10 @@
 -- The two areas of a journal, and what an image reads as by the one that is read (layout 2). An area is a gate, a layout,
 -- an epoch, the length of a snapshot, the snapshot, and frames behind it.
-use Rattle.std.specs.Prelude.{◌≡◌, ◌≢◌, ◌⊎◌, ◌+◌, ◌^◌, ◌<◌, ◌≤◌, ℕ, Bool, true, false, if◌then◌else◌, List, [], ◌∷◌, ◌++◌, length, take, drop, slice_index}
+use Rattle.std.specs.Prelude.{◌≡◌, ◌≢◌, ◌⊎◌, ◌+◌, ◌<◌, ◌≤◌, ℕ, Bool, true, false, if◌then◌else◌, List, [], ◌∷◌, ◌++◌, length, take, drop, slice_index}
 use Rattle.std.specs.Int.{w32, w64, to_be_bytes}
 use Rattle.disk_model.specs.Disk.{Disk, MayLeave, IsSynced}
 use Rattle.ring_records.specs.declared.summary.Summary.{Summary}
-use Rattle.ring_records.specs.Admission.{newest}
+use Rattle.ring_records.specs.Admission.{epochs, newest}
 use Rattle.ring_records.specs.Member.{Member}
 use Rattle.ring_records.specs.Snapshot.{Spells, snapshot_of, snapshot_len}
 use Rattle.ring_records.specs.Summary.{empty}
@@ -58,7 +58,7 @@ pub record HasBase (n start : ℕ) (image : List ℕ) (r : Reading) (offset : �
   pub layout : r.layout ≡ layout_at start image
   pub known : r.layout ≡ newest
   pub epoch : r.epoch ≡ epoch_at start image
-  pub small : r.epoch < 2 ^ 40
+  pub small : r.epoch < epochs
   pub offset_is : offset ≡ frames_of start image
   pub there : offset ≤ length image
   pub snapshot : Spells n (snapshot_at start image) r.base
@@ -131,7 +131,7 @@ pub record MayReplace (header : Member) (image : List ℕ) (old : Reading) (star
   pub reads : ReadsAt header image old start other offset gate_at
   pub gate : IsGate is_closed other image
   pub newer : old.epoch < epoch
-  pub small : epoch < 2 ^ 40
+  pub small : epoch < epochs
   pub spells : Spells header.n (snapshot_of s) s
   pub fits : snapshot_len s ≤ header.capacity
 

@@ -1,6 +1,6 @@
 -- Which of the two areas is read, and what the parts of the reader find of it.
 use Rattle.std.specs.Prelude.{◌≡◌, ◌⊎◌, ◌^◌, ◌<◌, ◌≤◌, ℕ, List, length, slice_index}
-use Rattle.ring_records.specs.Admission.{newest}
+use Rattle.ring_records.specs.Admission.{epochs, newest}
 use Rattle.gated_journal.specs.Areas.{area_a, area_b, AreAreas, layout_at, epoch_at, size_at, frames_of, Counts, IsGate}
 use Rattle.gated_journal.specs.Reading.{Reading}
 use Rattle.gated_journal.specs.declared.area.Area.{Area}
@@ -45,7 +45,7 @@ pub record IsUsed (capacity : ℕ) (image : List ℕ) (chosen : Chosen) : Type 0
   pub areas : AreAreas capacity chosen.start chosen.other
   pub area : IsChosen chosen.start chosen.other image
   pub epoch : chosen.epoch ≡ epoch_at chosen.start image
-  pub small : chosen.epoch < 2 ^ 40
+  pub small : chosen.epoch < epochs
   pub offset : chosen.offset ≡ frames_of chosen.start image
   pub there : chosen.offset ≤ length image
   pub near : chosen.offset < 2 ^ 40

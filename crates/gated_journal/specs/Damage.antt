@@ -1,9 +1,10 @@
 -- Why no area of an image is read: the first fault, with its offset.
-use Rattle.std.specs.Prelude.{◌≡◌, ◌⊎◌, ◌+◌, ◌^◌, ◌<◌, ◌≤◌, ℕ, List, [], ◌∷◌, ◌++◌, length, drop}
+use Rattle.std.specs.Prelude.{◌≡◌, ◌⊎◌, ◌+◌, ◌<◌, ◌≤◌, ℕ, List, [], ◌∷◌, ◌++◌, length, drop}
 use Rattle.ring_records.specs.declared.input.Input.{Input}
 use Rattle.ring_records.specs.declared.refusal.Refusal.{Refusal}
 use Rattle.ring_records.specs.declared.refusal.Refusal.TheVariants.{Damaged}
 use Rattle.ring_records.specs.declared.summary.Summary.{Summary}
+use Rattle.ring_records.specs.Admission.{epochs}
 use Rattle.ring_records.specs.Snapshot.{Spells}
 use Rattle.gated_journal.specs.Areas.{area_a, head_len, AreAreas, epoch_at, frames_of, snapshot_at, HasBase}
 use Rattle.gated_journal.specs.Choose.{IsChosen, IsUnchosen}
@@ -42,7 +43,7 @@ pub record IsBroken (offset : ℕ) (image : List ℕ) (refusal : Refusal) : Type
 abbrev pub IsHeadBroken : ℕ → ℕ → List ℕ → Type 0
 IsHeadBroken n start image =
     (length image < frames_of start image)
-    ⊎ ((2 ^ 40 ≤ epoch_at start image) ⊎ ((s : Summary) → Spells n (snapshot_at start image) s → ⊥))
+    ⊎ ((epochs ≤ epoch_at start image) ⊎ ((s : Summary) → Spells n (snapshot_at start image) s → ⊥))
 
 -- frames from this offset on end behind this bound
 pub record GoesPast (bound offset : ℕ) (image : List ℕ) : Type 0 where

@@ -1,10 +1,10 @@
 -- What the parts of the reader of an area have found of it, with the bytes that were taken and those behind them.
-use Rattle.std.specs.Prelude.{◌≡◌, ◌≢◌, ◌+◌, ◌-◌, ◌*◌, ◌^◌, ◌<◌, ◌≤◌, ℕ, List, [], ◌∷◌, ◌++◌, length, slice_index, vec_len, vec_capacity, Result, Ok, Err}
+use Rattle.std.specs.Prelude.{◌≡◌, ◌≢◌, ◌+◌, ◌-◌, ◌*◌, ◌<◌, ◌≤◌, ℕ, List, [], ◌∷◌, ◌++◌, length, slice_index, vec_len, vec_capacity, Result, Ok, Err}
 use Rattle.ring_records.specs.declared.input.Input.{Input}
 use Rattle.ring_records.specs.declared.refusal.Refusal.{Refusal}
 use Rattle.ring_records.specs.declared.refusal.Refusal.TheVariants as refused
 use Rattle.ring_records.specs.declared.summary.Summary.{Summary}
-use Rattle.ring_records.specs.Admission.{newest}
+use Rattle.ring_records.specs.Admission.{epochs, newest}
 use Rattle.ring_records.specs.Snapshot.{Spells}
 use Rattle.gated_journal.specs.Areas.{layout_at, epoch_at, size_at}
 use Rattle.gated_journal.specs.Frames.{frames, joined, AreBatches}
@@ -23,7 +23,7 @@ pub record IsHead (layout size : ℕ) (head : List ℕ) : Type 0 where
   pub gate : slice_index head 0 ≡ 1
   pub layout_is : layout_at 0 head ≡ layout
   pub known : layout ≡ newest
-  pub small : epoch_at 0 head < 2 ^ 40
+  pub small : epoch_at 0 head < epochs
   pub size_is : size_at 0 head ≡ size
 
 -- a head and the front of its snapshot, of which so many bytes are still to come

@@ -1,11 +1,11 @@
 -- An area whose bytes come in pieces. Offsets count from its gate, the first of them.
-use Rattle.std.specs.Prelude.{◌≡◌, ◌≢◌, ◌⊎◌, ◌+◌, ◌*◌, ◌^◌, ◌<◌, ◌≤◌, ℕ, List, [], ◌∷◌, ◌++◌, length, drop, slice_index, Result}
+use Rattle.std.specs.Prelude.{◌≡◌, ◌≢◌, ◌⊎◌, ◌+◌, ◌*◌, ◌<◌, ◌≤◌, ℕ, List, [], ◌∷◌, ◌++◌, length, drop, slice_index, Result}
 use Rattle.ring_records.specs.declared.input.Input.{Input}
 use Rattle.ring_records.specs.declared.limits.TheConstants.{BATCH_INPUTS}
 use Rattle.ring_records.specs.declared.refusal.Refusal.{Refusal}
 use Rattle.ring_records.specs.declared.refusal.Refusal.TheVariants.{Damaged}
 use Rattle.ring_records.specs.declared.summary.Summary.{Summary}
-use Rattle.ring_records.specs.Admission.{newest}
+use Rattle.ring_records.specs.Admission.{epochs, newest}
 use Rattle.gated_journal.specs.Areas.{head_len, layout_at, epoch_at, frames_of, HasBase}
 use Rattle.gated_journal.specs.Damage.{ReadsUpTo, IsDamagedAt, IsHeadBroken}
 use Rattle.gated_journal.specs.Frames.{body, IsBatch, ReadsTo}
@@ -75,7 +75,7 @@ pub record IsSnapshotFront (layout : ℕ) (bytes : List ℕ) (kept : ℕ) : Type
   pub gate : slice_index bytes 0 ≡ 1
   pub layout_is : layout_at 0 bytes ≡ layout
   pub known : layout ≡ newest
-  pub small : epoch_at 0 bytes < 2 ^ 40
+  pub small : epoch_at 0 bytes < epochs
   pub ends : length bytes < frames_of 0 bytes
   pub there : head_len + kept ≤ length bytes
   pub few : kept ≤ 37

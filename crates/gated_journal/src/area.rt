@@ -9,7 +9,7 @@ ghost use Rattle.gated_journal.specs.Unread.{IsFault};
 use crate::layout::{AREA_A, area_b};
 use crate::read::read_part;
 use disk_model::Device;
-use ring_records::Refusal;
+use ring_records::{EPOCHS, Refusal};
 
 /// What an area begins with: its gate, its layout, its epoch, and how long its snapshot is.
 #[derive(Clone, Copy)]
@@ -91,7 +91,7 @@ fn take_area(head: &Head, start: u64, over: &Head, other: u64, size: u64) -> Res
         → IsHeadOf head.now start image → AreAreasUnread n capacity image refusal) }
 {
     let offset = start + 14 + u64::from(head.size);
-    if head.epoch >= 1 << 40 || size < offset {
+    if head.epoch >= EPOCHS || size < offset {
         return Err(Refusal::Damaged(start));
     }
     Ok(Chosen {

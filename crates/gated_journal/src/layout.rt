@@ -7,7 +7,7 @@ ghost use Rattle.gated_journal.specs.Reading.{device_size, is_header};
 use ring_records::{GREATEST_CAPACITY, LEAST_CAPACITY, NodeNo};
 
 /// The layout of the areas that are written, and the only one that is read.
-pub(crate) const LAYOUT: u8 = 2;
+pub(crate) use ring_records::LAYOUT;
 
 /// The offset of area A: it stands behind the header.
 pub(crate) const AREA_A: u64 = 16;

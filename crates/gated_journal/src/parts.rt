@@ -3,7 +3,7 @@
 ghost use Rattle.std.specs.Prelude.{◌≡◌, ◌+◌, ◌*◌, ◌-◌, ◌++◌, ◌⊎◌, ◌<◌, ◌≤◌, ◌^◌, ℕ, List, [], length, take, drop, vec_len, vec_capacity, Decides, Err, IfOk, IfErr, OnOk, OnErr, IsOk};
 ghost use Rattle.ring_records.specs.declared.input.Input.{Input};
 ghost use Rattle.ring_records.specs.declared.refusal.Refusal.TheVariants as refused;
-ghost use Rattle.ring_records.specs.Admission.{newest};
+ghost use Rattle.ring_records.specs.Admission.{epochs, newest};
 ghost use Rattle.gated_journal.specs.Choose.{IsHeadOf};
 ghost use Rattle.gated_journal.specs.Pieces.{IsAreaRead, IsAreaDamaged};
 ghost use Rattle.gated_journal.specs.Found.{InSnapshot, InFrames, IsFound, IsWaiting, IsBefore, IsOpen, IsRoom, Holds, HasRoom, AreAlike, IsReader, answer_of};
@@ -13,7 +13,7 @@ use crate::area_reader::Fed;
 use crate::found::{Found, Stage};
 use crate::layout::LAYOUT;
 use crate::next_frame::{is_short, take_frame};
-use ring_records::{Input, Refusal, Summary, SummaryReader};
+use ring_records::{EPOCHS, Input, Refusal, Summary, SummaryReader};
 use std::alloc::AllocError;
 
 /// Takes what is whole of the rest with the piece behind it, and keeps what is not. An error changes nothing.
@@ -230,9 +230,9 @@ fn head_at(bytes: &[u8]) -> Head
 
 // Whether an area of this layout has this head, and the layout is read.
 fn is_read(head: &Head, layout: u8) -> bool
-    ensures { Decides result ((head.now.gate ≡ 1) × ((head.now.layout ≡ layout) × ((layout ≡ newest) × (head.now.epoch < 2 ^ 40)))) }
+    ensures { Decides result ((head.now.gate ≡ 1) × ((head.now.layout ≡ layout) × ((layout ≡ newest) × (head.now.epoch < epochs)))) }
 {
-    head.gate == 1 && head.layout == layout && layout == LAYOUT && head.epoch < 1 << 40
+    head.gate == 1 && head.layout == layout && layout == LAYOUT && head.epoch < EPOCHS
 }
 
 // What stands next where so many bytes of the snapshot are still to come. Where none are it is judged.

@@ -2,7 +2,7 @@
 ghost use Rattle.std.specs.Prelude.{◌≡◌, ◌+◌, ◌≤◌, ◌<◌, ◌^◌, ℕ, List, false, length, OnOk};
 ghost use Rattle.disk_model.specs.Disk.{IsSynced, LeavesOnly, HasCause, IsInReach};
 ghost use Rattle.ring_records.specs.declared.summary.Summary.{Summary};
-ghost use Rattle.ring_records.specs.Admission.{newest};
+ghost use Rattle.ring_records.specs.Admission.{epochs, newest};
 ghost use Rattle.ring_records.specs.Member.{Member};
 ghost use Rattle.ring_records.specs.Snapshot.{Spells, snapshot_of, snapshot_len};
 ghost use Rattle.gated_journal.specs.Areas.{ReadsAt, ReadsAtOneOf, IsGate, IsStaged, MayReplace, new_area, head_len};
@@ -29,7 +29,7 @@ pub(crate) fn write_area<D: Device>(
         → IsGate is_closed other (D.disk device.old).image → length bytes.now ≤ head_len + header.capacity → ReadsAt header (D.disk device.new).image r start other offset gate_at) }
 
     // At Ok the new area stands there, whole.
-    ensures staged { OnOk result ((n epoch : ℕ) (s : Summary) → bytes.now ≡ new_area newest epoch s → epoch < 2 ^ 40 → snapshot_len s < 2 ^ 32 → Spells n (snapshot_of s) s
+    ensures staged { OnOk result ((n epoch : ℕ) (s : Summary) → bytes.now ≡ new_area newest epoch s → epoch < epochs → snapshot_len s < 2 ^ 32 → Spells n (snapshot_of s) s
         → IsStaged n other (D.disk device.new).image (fresh_area newest epoch s) (other + head_len + snapshot_len s)) }
     ensures synced { OnOk result (IsSynced (D.disk device.new)) }
     ensures cause { HasCause (D.count device.old) (D.count device.new) result }

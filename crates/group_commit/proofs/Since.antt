@@ -13,17 +13,16 @@ use Rattle.ring_records.specs.declared.input.Input.{Input}
 use Rattle.ring_records.specs.declared.input.Input.TheVariants.{Stand, Take, Acked}
 use Rattle.ring_records.specs.declared.refusal.Refusal.TheVariants.{Full}
 use Rattle.ring_records.specs.declared.summary.Summary.{Summary}
-use Rattle.ring_records.specs.Admission.{area_bytes, cost, costs_of, used, where_so, Fits}
+use Rattle.ring_records.specs.Admission.{area_bytes, cost, costs_of, snapshot_len, state_len, used, where_so, Fits}
 use Rattle.ring_records.specs.Known.{stepped, after}
 use Rattle.ring_records.specs.Lists.{EachAfter}
 use Rattle.ring_records.specs.Member.{Member}
-use Rattle.ring_records.specs.Snapshot.{state_len, snapshot_len}
 use Rattle.ring_records.specs.States.{NodeState, launched_base, durable_in, flown_in}
 use Rattle.ring_records.proofs.Admission.{where_so-none, or_else-none}
 use Rattle.ring_records.proofs.Counts.{used-more}
 use Rattle.ring_records.proofs.Growth.{EachAfter-take}
 use Rattle.ring_records.proofs.Lists.{along, EachAfter-push, none≢some}
-use Rattle.ring_records.proofs.Snapshots.{length-snapshot}
+use Rattle.ring_records.proofs.Snapshots.{snapshot-sum}
 use Rattle.ring_records.proofs.States.{next-few}
 use Rattle.ring_records.proofs.StatesInOrder.{len-values}
 use Rattle.node_core.specs.Core.{CoreView, Refuses}
@@ -306,4 +305,4 @@ pub few_keys : (s : Summary) → map.len s.keys ≤ snapshot_len s
 few_keys s =
     let count = len-values s.keys in
     let few = counted state_len (λ state. omega arith) (map.values s.keys) in
-    omega (arith, count, few, length-snapshot s)
+    omega (arith, count, few, snapshot-sum s)

@@ -10,6 +10,7 @@ use Rattle.ring_records.specs.declared.refusal.Refusal.TheVariants as refused
 use Rattle.ring_records.specs.declared.request.Request.{Request}
 use Rattle.ring_records.specs.declared.summary.Summary.{Summary}
 use Rattle.ring_records.specs.Admission.{area_bytes, base_of, newest, used, where_so, IsBaseOf, IsLawful}
+pub use Rattle.ring_records.specs.Admission.{epochs}
 use Rattle.ring_records.specs.Answer as answers
 use Rattle.ring_records.specs.Answer.{Answered}
 use Rattle.ring_records.specs.Known.{after}
@@ -158,10 +159,6 @@ launch_objection desk =
     if desk.failed then Some refused.Failed
     else (if is_idle desk.state then None
     else Some refused.Busy)
-
--- the areas that a journal may write are numbered below this
-abbrev pub epochs : ℕ
-epochs = 2 ^ 40
 
 -- why no checkpoint is launched, before memory is asked for: as for a batch; or the journal wrote all areas that it may;
 -- or the snapshot is longer than the capacity

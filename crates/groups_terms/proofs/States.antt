@@ -24,7 +24,6 @@ use Rattle.ring_records.specs.Summary.{state_of, key_states}
 use Rattle.ring_records.proofs.Compare.{keys_total, keys_exact, get-put}
 use Rattle.ring_records.proofs.History.{stood-first, leader-first}
 use Rattle.ring_records.proofs.Keys.{is_key-true}
-use Rattle.ring_records.proofs.Known.{stood-known, leader-known, touched-known}
 use Rattle.ring_records.proofs.Lists.{none≢some}
 use Rattle.ring_records.proofs.Summaries.{get-states, untouched-stood, untouched-leader}
 use Rattle.cr_automaton.specs.declared.ballot.Ballot.{Ballot}
@@ -117,11 +116,6 @@ states-entries t es are = map.same_map keys_total keys_exact _ _ (λ key.
     ∙ (find-states es key
     ∙ (ap (option_map (λ b. state_at (key, b))) (sym (map.get-from_entries keys_total es key) ∙ ap (λ m. map.get m key) are)
     ∙ sym (get-states_in t key))))
-
--- what a table that stands for a history says is what the history says
-pub states_in-known : (t : TableView) (h : List Input) → TableStandsFor t h → states_in t ≡ key_states t.me h
-states_in-known t h s =
-    states-told t (map.entries t.ballots) h (map.same_map keys_total keys_exact _ _ (λ key. map.get-from_entries keys_total (map.entries t.ballots) key ∙ sym (map.get-entries t.ballots key))) s
 
 -- ---- a table that is told the states
 
@@ -223,14 +217,3 @@ restored t items h are told count = record {
 -- a loop over the entries, at its end
 pub all_told : (items : List KeyState) (left es : List (Key × Ballot)) → items ++ list_map state_at left ≡ list_map state_at es → left ≡ [] → items ≡ list_map state_at es
 all_told items left es e none = sym (ap (λ l. items ++ list_map state_at l) none ∙ append-nil items) ∙ e
-
--- a table that says what the history says stands for it
-pub stands-known : (t : TableView) (h : List Input) → states_in t ≡ key_states t.me h → t.stands ≡ stands h → TableStandsFor t h
-stands-known t h same count = record {
-  ballots = λ key. record {
-    bid = sym (stood_in t key) ∙ (ap (λ m. stood_of (map.get m key)) same ∙ (stood-known t.me h key ∙ stood-first h key));
-    known = sym (leader_in t key) ∙ (ap (λ m. leader_of (map.get m key)) same ∙ (leader-known t.me h key ∙ leader-first t.me h key));
-  };
-  touched = λ key. sym (touched-known t.me h key) ∙ (ap (λ m. is_some (map.get m key)) (sym same) ∙ touched_in t key);
-  stands = count;
-}

@@ -1,10 +1,11 @@
 // What is against an input: the history, and the bytes that it takes.
 ghost use Rattle.std.specs.Prelude.{◌≡◌, ◌<◌, ◌≤◌, ◌*◌, ◌^◌, length};
 ghost use Rattle.std.specs.List.{sum_by};
+ghost use Rattle.ring_records.specs.declared.limits.TheConstants.{INPUT_BYTES};
 ghost use Rattle.ring_records.specs.Admission.{cost, too_many, objection, shortage, used};
 
 use crate::{credit, latest, sent_count, stands, stood, takes, touched};
-use ring_records::{Base, Input, Key, Msg, NodeNo, Refusal};
+use ring_records::{Base, Input, Key, Msg, NodeNo, Refusal, STANDS};
 
 #[tactic(auto, unfolding(ring_records::specs::Admission::objection))]
 pub(super) fn objection(me: NodeNo, n: u8, history: &[Input], input: &Input) -> Option<Refusal>
@@ -32,7 +33,7 @@ fn objection_to_stand(me: NodeNo, history: &[Input], key: &Key) -> Option<Refusa
             return Some(Refusal::Stale(greater));
         }
     }
-    if stands(history) >= 1024 {
+    if stands(history) >= u64::from(STANDS) {
         return Some(Refusal::Limit);
     }
     too_many(history)
@@ -112,7 +113,7 @@ fn used(base: &Base, history: &[Input]) -> u64
 fn costs(inputs: &[Input]) -> u64
     requires { length inputs.now < 2 ^ 56 }
     ensures value { result ≡ sum_by cost inputs.now }
-    ensures bound { result ≤ 42 * length inputs.now }
+    ensures bound { result ≤ INPUT_BYTES * length inputs.now }
 {
     let mut costs = 0;
     for input in inputs {

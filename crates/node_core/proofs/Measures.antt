@@ -10,23 +10,23 @@ use Rattle.ring_records.specs.declared.input.Input.TheVariants.{Stand, Take, Ack
 use Rattle.ring_records.specs.declared.key.Key.{Key}
 use Rattle.ring_records.specs.declared.key_state.KeyState.{KeyState}
 use Rattle.ring_records.specs.declared.candidate.Candidate.{Candidate}
+use Rattle.ring_records.specs.declared.limits.TheConstants.{STANDS}
 use Rattle.ring_records.specs.declared.msg.Msg.{Msg}
 use Rattle.ring_records.specs.declared.msg.Msg.TheVariants.{Token, Elected}
 use Rattle.ring_records.specs.declared.summary.Summary.{Summary}
 use Rattle.ring_records.specs.declared.refusal.Refusal.TheVariants as refused
-use Rattle.ring_records.specs.Admission.{where_so, already, stale}
+use Rattle.ring_records.specs.Admission.{state_len, msg_len, snapshot_len, where_so, already, stale}
 use Rattle.ring_records.specs.Lists.{or_else}
 use Rattle.ring_records.specs.Emission.{is_below}
 use Rattle.ring_records.specs.Known.{passed, shown, stood_of, leader_of, sends, stepped, known_of, Objects}
 use Rattle.ring_records.specs.Leader.{is_bid}
 use Rattle.ring_records.specs.Message.{key_of}
 use Rattle.ring_records.specs.KeyOrder.{key_cmp}
-use Rattle.ring_records.specs.Snapshot.{state_len, msg_len, snapshot_len}
 use Rattle.ring_records.proofs.Admission.{or_else-none, where_so-none}
 use Rattle.ring_records.proofs.Compare.{get-put, keys_total}
 use Rattle.ring_records.proofs.Keys.{is_key-same}
 use Rattle.ring_records.proofs.KeysPut.{part_of, keys-put}
-use Rattle.ring_records.proofs.Snapshots.{length-snapshot}
+use Rattle.ring_records.proofs.Snapshots.{snapshot-sum}
 use Rattle.node_core.specs.Brought.{told_by, brought}
 use Rattle.node_core.specs.Measure.{AreNamed, bare_len, grown, len_of, len_at, freed, len_on}
 use Rattle.node_core.specs.declared.effects.Effects.{Effects}
@@ -48,8 +48,8 @@ sent-more window (Some msg) = sum_by-append msg_len window (msg ∷ []) ∙ ap (
 -- one key is put, and this is sent
 named_measured : (s u : Summary) (key : Key) (v : KeyState) (on : Option Msg) → u.keys ≡ map.insert s.keys key v → u.window ≡ s.window ++ cons_option on [] → snapshot_len u + (len_of (known_of s key) + 0) ≡ snapshot_len s + (len_of (known_of u key) + len_on on)
 named_measured s u key v on put more =
-    let a = length-snapshot s in
-    let b = length-snapshot u in
+    let a = snapshot-sum s in
+    let b = snapshot-sum u in
     let c = ap (λ m. sum_by state_len (map.values m)) put in
     let d = keys-put state_len s.keys key v in
     let g = part-len (map.get s.keys key) in
@@ -61,8 +61,8 @@ pub measured : (me : ℕ) (s : Summary) (x : Input) → snapshot_len (stepped me
 measured me s (Stand key bid) = named_measured s (stepped me s (Stand key bid)) key _ (sends me s (Stand key bid)) refl refl
 measured me s (Take msg_no msg) = named_measured s (stepped me s (Take msg_no msg)) (key_of msg) _ (sends me s (Take msg_no msg)) refl refl
 measured me s (Acked upto) =
-    let a = length-snapshot s in
-    let b = length-snapshot (stepped me s (Acked upto)) in
+    let a = snapshot-sum s in
+    let b = snapshot-sum (stepped me s (Acked upto)) in
     let c = sum_by-take-drop msg_len s.window (upto - s.credit) in
     omega arith
 
@@ -186,7 +186,7 @@ within_next me n s (Acked upto) o w = (acked_within n s upto o).1
 pub few_inputs : (n : ℕ) (s : Summary) (x : Input) → Objects n s x None → s.inputs < 2 ^ 56
 few_inputs n s (Stand key bid) (led, is, e) =
     let many = where_so (nat_le (2 ^ 56) s.inputs) refused.Limit in
-    let stands = where_so (nat_le 1024 s.stands) refused.Limit in
+    let stands = where_so (nat_le STANDS s.stands) refused.Limit in
     let touch = or_else (already (stood_of (known_of s key))) (where_so (is_some (known_of s key)) refused.Late) in
     let a = or_else-none touch (or_else (stale key.term led) (or_else stands many)) (sym e) in
     let b = or_else-none (stale key.term led) (or_else stands many) a.1 in

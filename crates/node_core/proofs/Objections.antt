@@ -7,6 +7,7 @@ use Rattle.ring_records.specs.declared.candidate.Candidate.{Candidate}
 use Rattle.ring_records.specs.declared.input.Input.{Input}
 use Rattle.ring_records.specs.declared.input.Input.TheVariants.{Stand, Take, Acked}
 use Rattle.ring_records.specs.declared.key.Key.{Key}
+use Rattle.ring_records.specs.declared.limits.TheConstants.{STANDS}
 use Rattle.ring_records.specs.declared.msg.Msg.{Msg}
 use Rattle.ring_records.specs.declared.refusal.Refusal.{Refusal}
 use Rattle.ring_records.specs.declared.refusal.Refusal.TheVariants as refused
@@ -43,7 +44,7 @@ stand_objects inputs expected n t link key bid ballot led stands o b is count e 
   led,
   latest_in inputs expected t link key.group led is,
   e ∙ (λ i. or_else ((ap by_ballot b ∙ (by_kept (map.get t.ballots key) _ _ refl refl ∙ (λ j. or_else (already (sym (stood_in t key) j)) (where_so (sym (touched_in t key) j) refused.Late)))) i)
-      (or_else (stale key.term led) (or_else (where_so (nat_le 1024 (count i)) refused.Limit) (where_so (nat_le (2 ^ 56) inputs) refused.Limit)))),
+      (or_else (stale key.term led) (or_else (where_so (nat_le STANDS (count i)) refused.Limit) (where_so (nat_le (2 ^ 56) inputs) refused.Limit)))),
 )
 
 pub take_objects : (inputs expected size : ℕ) (t : TableView) (link : LinkView) (msg_no : ℕ) (msg : Msg) (o : Option Refusal) → o ≡ against_take size expected inputs msg_no msg → Objects size (known_with inputs t link expected) (Take msg_no msg) o
@@ -75,7 +76,7 @@ free_in inputs expected n t link (Stand key bid) (led, is, e) =
     let touch = or_else-none _ _ a.0 in
     let b = or_else-none _ _ a.1 in
     let c = or_else-none _ _ b.1 in
-    (leb-false (2 ^ 56) inputs (where_so-none _ _ c.1), (unkept (map.get t.ballots key) (sym (touched_in t key) ∙ where_so-none _ _ touch.1), leb-false 1024 t.stands (where_so-none _ _ c.0)))
+    (leb-false (2 ^ 56) inputs (where_so-none _ _ c.1), (unkept (map.get t.ballots key) (sym (touched_in t key) ∙ where_so-none _ _ touch.1), leb-false STANDS t.stands (where_so-none _ _ c.0)))
 free_in inputs expected n t link (Take msg_no msg) e =
     let a = or_else-none _ _ (sym e) in
     let b = or_else-none _ _ a.1 in

@@ -1,23 +1,20 @@
 -- A core as it is seen: new, restored, and once it has accepted an input.
-use Rattle.std.proofs.Common.{ℕ, ◌≡◌, ◌+◌, ◌-◌, ◌≤◌, [], length, Option, Some, None, sym, ap, subst, ◌∙◌, arith}
+use Rattle.std.proofs.Common.{ℕ, ◌≡◌, ◌+◌, ◌-◌, [], length, Option, Some, None, sym, ap, subst, ◌∙◌, arith}
 use Rattle.std.proofs.lemmas.Option.{same_Some}
 use Rattle.std.specs.FinMap as map
 use Rattle.std.specs.Option.{option_map}
-use Rattle.ring_records.specs.declared.input.Input.{Input}
 use Rattle.ring_records.specs.declared.key.Key.{Key}
 use Rattle.ring_records.specs.declared.key_state.KeyState.{KeyState}
 use Rattle.ring_records.specs.declared.summary.Summary.{Summary}
 use Rattle.ring_records.specs.KeyOrder.{key_cmp}
-use Rattle.ring_records.specs.Known.{stepped}
 use Rattle.ring_records.specs.Snapshot.{IsSound}
 use Rattle.ring_records.specs.Summary.{empty}
 use Rattle.ring_records.proofs.Compare.{keys_total, keys_exact}
 use Rattle.ring_records.proofs.Lists.{none≢some}
 use Rattle.cr_automaton.specs.declared.ballot.Ballot.{Ballot}
-use Rattle.neighbour_link.specs.Outlink.{LinkView, sent_count}
+use Rattle.neighbour_link.specs.Outlink.{LinkView}
 use Rattle.groups_terms.specs.Table.{TableView, state_at, states_in}
 use Rattle.groups_terms.proofs.States.{get-states_in}
-use Rattle.node_core.specs.Core.{FreeView}
 use Rattle.node_core.specs.Kept.{known_with, IsCounted}
 
 no_states : (t : TableView) → t.ballots ≡ map.empty → states_in t ≡ map.empty
@@ -43,21 +40,6 @@ restored_counted me n s u same sound =
     let sent = sound.sent in
     let acts = sound.acts in
     subst (IsCounted me n) (sym same) (record { sent_few = sent; taken_few = omega arith; stands_few = sound.few; sound = λ here. sound })
-
--- one that is told what it knows
-pub restored_known : (s : Summary) (t : TableView) (link : LinkView) (expected : ℕ) → s.credit ≤ s.sent → length s.window ≡ s.sent - s.credit → states_in t ≡ s.keys → t.stands ≡ s.stands
-    → link.credited ≡ s.sent - length s.window → link.window ≡ s.window → expected ≡ s.taken → known_with s.inputs t link expected ≡ s
-restored_known s t link expected within count keys stands credited window next =
-    let credit : link.credited ≡ s.credit = omega arith in
-    let size = ap length window in
-    let sent : sent_count link ≡ s.sent = omega arith in
-    λ i. record { inputs = s.inputs; taken = next i; credit = credit i; sent = sent i; stands = stands i; keys = keys i; window = window i }
-
--- one that has accepted an input
-pub stepped_view : (now : FreeView) (t : TableView) (size me : ℕ) (s new : Summary) (x : Input) → record { me = t.me; size = size; known = s } ≡ now → me ≡ t.me → new ≡ stepped t.me s x
-    → record { me = me; size = size; known = new } ≡ record now { known = stepped now.me now.known x }
-stepped_view now t size me s new x view me_is e =
-    (λ i. record { me = me_is i; size = size; known = e i }) ∙ ap (λ (v : FreeView). record v { known = stepped v.me v.known x }) view
 
 -- ---- what is known of a key
 

@@ -1,6 +1,7 @@
 -- What is said against an input, by what a core keeps.
 use Rattle.std.specs.Prelude.{ℕ, ◌^◌, nat_lt, nat_le, Option, Some, None}
 use Rattle.ring_records.specs.declared.candidate.Candidate.{Candidate}
+use Rattle.ring_records.specs.declared.limits.TheConstants.{STANDS}
 use Rattle.ring_records.specs.declared.msg.Msg.{Msg}
 use Rattle.ring_records.specs.declared.refusal.Refusal.{Refusal}
 use Rattle.ring_records.specs.declared.refusal.Refusal.TheVariants as refused
@@ -24,7 +25,7 @@ unfoldable pub against_stand : ℕ → Option Ballot → Option (ℕ × Candidat
 against_stand term ballot latest stands inputs =
     or_else (by_ballot ballot)
     (or_else (stale term latest)
-    (or_else (where_so (nat_le 1024 stands) refused.Limit)
+    (or_else (where_so (nat_le STANDS stands) refused.Limit)
     (full_count inputs)))
 
 -- a Take, by the ring's size and the number that is expected

@@ -3,11 +3,13 @@ use Rattle.std.specs.Prelude.{ℕ, ◌≡◌, ◌+◌, ◌-◌, ◌*◌, ◌^◌
 use Rattle.std.specs.List.{cons_option}
 use Rattle.ring_records.specs.declared.input.Input.{Input}
 use Rattle.ring_records.specs.declared.input.Input.TheVariants.{Stand, Take, Acked}
+use Rattle.ring_records.specs.declared.limits.TheConstants.{STANDS}
 use Rattle.ring_records.specs.declared.msg.Msg.{Msg}
 use Rattle.ring_records.specs.declared.summary.Summary.{Summary}
+use Rattle.ring_records.specs.Admission.{snapshot_len}
 use Rattle.ring_records.specs.Known.{passed}
 use Rattle.ring_records.specs.Message.{key_of}
-use Rattle.ring_records.specs.Snapshot.{IsSound, snapshot_len}
+use Rattle.ring_records.specs.Snapshot.{IsSound}
 use Rattle.neighbour_link.specs.Outlink.{LinkView, sent_count}
 use Rattle.groups_terms.specs.Table.{TableView, ballot_at, states_in}
 use Rattle.node_core.specs.Core.{IsNodeOf}
@@ -52,6 +54,6 @@ hears table msg = passed table.me (ballot_at table (key_of msg)).stood (ballot_a
 
 -- the node may accept the input, as far as its ballots and its link to the successor go
 abbrev pub IsFree : TableView → LinkView → Input → Type 0
-IsFree table link (Stand key bid) = ((ballot_at table key).stood ≡ None) × (table.stands < 1024)
+IsFree table link (Stand key bid) = ((ballot_at table key).stood ≡ None) × (table.stands < STANDS)
 IsFree table link (Take msg_no msg) = Unit {0}
 IsFree table link (Acked upto) = (link.credited < upto) × (upto ≤ sent_count link)

@@ -7,9 +7,9 @@ use Rattle.ring_records.specs.declared.key.Key.{Key}
 use Rattle.ring_records.specs.declared.key_state.KeyState.{KeyState}
 use Rattle.ring_records.specs.declared.msg.Msg.{Msg}
 use Rattle.ring_records.specs.declared.summary.Summary.{Summary}
+use Rattle.ring_records.specs.Admission.{state_len, msg_len}
 use Rattle.ring_records.specs.Known.{known_of}
 use Rattle.ring_records.specs.Message.{key_of}
-use Rattle.ring_records.specs.Snapshot.{state_len, msg_len}
 use Rattle.node_core.specs.declared.effects.Effects.{Effects}
 
 -- the bytes of the state of a key, where one is known

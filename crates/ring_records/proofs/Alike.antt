@@ -8,6 +8,7 @@ use Rattle.std.proofs.lemmas.List.{drop-drop, drop-append-le, drop_at, drop_all,
 use Rattle.ring_records.specs.declared.input.Input.{Input}
 use Rattle.ring_records.specs.declared.input.Input.TheVariants.{Stand, Take, Acked}
 use Rattle.ring_records.specs.declared.key.Key.{Key}
+use Rattle.ring_records.specs.declared.limits.TheConstants.{STANDS}
 use Rattle.ring_records.specs.declared.msg.Msg.{Msg}
 use Rattle.ring_records.specs.declared.msg.Msg.TheVariants.{Token, Elected}
 use Rattle.ring_records.specs.declared.packet.Packet.TheVariants.{Carry}
@@ -60,7 +61,7 @@ module _ (me : ℕ) (g h : List Input) (a : AreAlike me g h) where
   objection-alike n (Stand key bid) = λ i.
       or_else (or_else (already (a.stood_same key i)) (where_so (a.touched_same key i) refused.Late))
       (or_else (stale key.term (latest-alike key.group i))
-      (or_else (where_so (nat_le 1024 (a.stands_same i)) refused.Limit) (where_so (nat_le (2 ^ 56) (a.inputs_same i)) refused.Limit)))
+      (or_else (where_so (nat_le STANDS (a.stands_same i)) refused.Limit) (where_so (nat_le (2 ^ 56) (a.inputs_same i)) refused.Limit)))
   objection-alike n (Take msg_no msg) = λ i.
       or_else (where_so (nat_lt n (candidate_of msg).node) refused.BadNumber)
       (or_else (out_of_turn (a.taken_same i) msg_no) (where_so (nat_le (2 ^ 56) (a.inputs_same i)) refused.Limit))

@@ -8,6 +8,7 @@ use Rattle.ring_records.specs.declared.input.Input.{Input}
 use Rattle.ring_records.specs.declared.input.Input.TheVariants.{Stand, Take, Acked}
 use Rattle.ring_records.specs.declared.key.Key.{Key}
 use Rattle.ring_records.specs.declared.key_state.KeyState.{KeyState}
+use Rattle.ring_records.specs.declared.limits.TheConstants.{STANDS}
 use Rattle.ring_records.specs.declared.msg.Msg.{Msg}
 use Rattle.ring_records.specs.declared.msg.Msg.TheVariants.{Token, Elected}
 use Rattle.ring_records.specs.declared.refusal.Refusal.{Refusal}
@@ -73,7 +74,7 @@ objects-known me n h (Stand key bid) o (led, is, e) =
     e ∙ (λ i.
     or_else (or_else (already (stood-known me h key i)) (where_so (touched-known me h key i) refused.Late))
     (or_else (stale key.term (same i))
-    (or_else (where_so (nat_le 1024 (stands h)) refused.Limit) (where_so (nat_le (2 ^ 56) (length h)) refused.Limit))))
+    (or_else (where_so (nat_le STANDS (stands h)) refused.Limit) (where_so (nat_le (2 ^ 56) (length h)) refused.Limit))))
 objects-known me n h (Take msg_no msg) o e = e
 objects-known me n h (Acked upto) o e = e
 
@@ -89,7 +90,7 @@ objects-of me n h (Stand key bid) =
       λ i.
           or_else (or_else (already (sym (stood-known me h key) i)) (where_so (sym (touched-known me h key) i) refused.Late))
           (or_else (stale key.term led)
-          (or_else (where_so (nat_le 1024 (stands h)) refused.Limit) (where_so (nat_le (2 ^ 56) (length h)) refused.Limit))),
+          (or_else (where_so (nat_le STANDS (stands h)) refused.Limit) (where_so (nat_le (2 ^ 56) (length h)) refused.Limit))),
     )
 objects-of me n h (Take msg_no msg) = refl
 objects-of me n h (Acked upto) = refl

@@ -369,9 +369,5 @@ pub sound_no : (b : Bool) (n : ℕ) (k : Counts) (states : List KeyState) (msgs 
 sound_no true n k states msgs sound e = absurd cc
 sound_no false n k states msgs sound e = sound
 
-pub on_option : {A : Type 0} (o : Option A) (P Q : Type 0) (R S : A → Type 0) → (P → Q) → ((x : A) → R x → S x) → MatchOption o P R → MatchOption o Q S
-on_option None P Q R S to each m = to m
-on_option (Some x) P Q R S to each m = each x m
-
 pub none_taken : (p : SnapshotPart) (n : ℕ) (counts : Option Counts) (states : List KeyState) (msgs : List Msg) (room : ℕ) → record { n = n; taken = taken_of counts states msgs; room = room } ≡ p → counts ≡ None → p.taken ≡ []
 none_taken p n counts states msgs room is none = sym (ap (λ (q : SnapshotPart). q.taken) is) ∙ ap (λ (o : Option Counts). taken_of o states msgs) none

@@ -12,7 +12,8 @@ use Rattle.ring_records.specs.declared.msg.Msg.{Msg}
 use Rattle.ring_records.specs.declared.summary.Summary.{Summary}
 use Rattle.ring_records.specs.Message.{key_of, candidate_of}
 use Rattle.ring_records.specs.Record.{key_bytes, candidate_bytes}
-use Rattle.ring_records.specs.Snapshot.{bid_bytes, leader_bytes, state_bytes, msg_bytes, counts_bytes, snapshot_of, snapshot_len, state_len, msg_len}
+use Rattle.ring_records.specs.Admission.{snapshot_len, state_len, msg_len}
+use Rattle.ring_records.specs.Snapshot.{bid_bytes, leader_bytes, state_bytes, msg_bytes, counts_bytes, snapshot_of}
 use Rattle.ring_records.specs.Summary.{empty}
 use Rattle.ring_records.proofs.StatesInOrder.{values-keyed}
 use Rattle.ring_records.proofs.Records.{length-key_bytes, length-candidate_bytes}
@@ -42,8 +43,12 @@ length-counts : (s : Summary) (keys : ℕ) → length (counts_bytes s keys) ≡ 
 unfolding counts_bytes
 length-counts s keys = omega (arith, length-append {A = ℕ})
 
-pub length-snapshot : (s : Summary) → snapshot_len s ≡ 38 + (sum_by state_len (fin.values s.keys) + sum_by msg_len s.window)
-unfolding snapshot_of
+pub snapshot-sum : (s : Summary) → snapshot_len s ≡ 38 + (sum_by state_len (fin.values s.keys) + sum_by msg_len s.window)
+unfolding snapshot_len
+snapshot-sum s = refl
+
+pub length-snapshot : (s : Summary) → length (snapshot_of s) ≡ snapshot_len s
+unfolding snapshot_of snapshot_len
 length-snapshot s =
     let counts = length-counts s (fin.len s.keys) in
     let states = length-flat state_bytes state_len length-state (fin.values s.keys) in
@@ -52,4 +57,4 @@ length-snapshot s =
 
 pub length-empty : snapshot_len empty ≡ 38
 unfolding IsStrictlySortedBy
-length-empty = length-snapshot empty ∙ ap (λ (ss : List KeyState). 38 + (sum_by state_len ss + 0)) (values-keyed [] tt)
+length-empty = snapshot-sum empty ∙ ap (λ (ss : List KeyState). 38 + (sum_by state_len ss + 0)) (values-keyed [] tt)

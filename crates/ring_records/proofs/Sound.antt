@@ -12,6 +12,7 @@ use Rattle.ring_records.specs.declared.input.Input.{Input}
 use Rattle.ring_records.specs.declared.input.Input.TheVariants.{Stand, Take, Acked}
 use Rattle.ring_records.specs.declared.key.Key.{Key}
 use Rattle.ring_records.specs.declared.key_state.KeyState.{KeyState}
+use Rattle.ring_records.specs.declared.limits.TheConstants.{STANDS}
 use Rattle.ring_records.specs.declared.msg.Msg.{Msg}
 use Rattle.ring_records.specs.declared.msg.Msg.TheVariants.{Token, Elected}
 use Rattle.ring_records.specs.declared.refusal.Refusal.TheVariants as refused
@@ -126,9 +127,9 @@ module _ (n me : ℕ) (s : Summary) (sound : IsSound n s) where
       let a = or_else-none _ _ (sym free) in
       let b = or_else-none (already (stood_of (known_of s key))) _ a.0 in
       let c = or_else-none (stale key.term led) _ a.1 in
-      let d = or_else-none (where_so (nat_le 1024 s.stands) refused.Limit) _ c.1 in
+      let d = or_else-none (where_so (nat_le STANDS s.stands) refused.Limit) _ c.1 in
       let new : known_of s key ≡ None = unknown (known_of s key) (where_so-none _ _ b.1) in
-      let few : s.stands < 1024 = leb-false 1024 s.stands (where_so-none _ _ d.0) in
+      let few : s.stands < STANDS = leb-false STANDS s.stands (where_so-none _ _ d.0) in
       let room : s.inputs < 2 ^ 56 = leb-false (2 ^ 56) s.inputs (where_so-none _ _ d.1) in
       let msg : Msg = Token key (record { bid = bid; node = me }) in
       let own : IsMessageOf n msg = record { named = named; candidate = record { in_range = record { bid = low; from = from; to = to }; in_ring = inside } } in

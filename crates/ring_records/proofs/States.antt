@@ -1,7 +1,6 @@
 -- What happens to a durable node keeps its state lawful.
 use Rattle.std.proofs.Common.{◌≡◌, ℕ, ◌+◌, ◌≤◌, min, Bool, true, false, ◌&&◌, List, [], ◌∷◌, ◌++◌, length, take, Option, Some, None, refl, sym, ap, ◌∙◌, subst, append-nil, arith}
 use Rattle.std.specs.Prelude.{unwrap_or, is_none, nat_eq}
-use Rattle.std.proofs.lemmas.Bool.{eqb-true}
 use Rattle.std.proofs.lemmas.List.{length-append, length-take, take_all, take-take, take-append-le}
 use Rattle.std.proofs.lemmas.Option.{same_Some}
 use Rattle.ring_records.specs.declared.base.Base.{Base}
@@ -12,7 +11,7 @@ use Rattle.ring_records.specs.Admission.{base_of, fresh, newest, refusal, Fits, 
 use Rattle.ring_records.specs.Answer.{input_of, if_free, if_input, gained}
 use Rattle.ring_records.specs.Lists.{EachAfter}
 use Rattle.ring_records.specs.Member.{Member}
-use Rattle.ring_records.specs.States.{NodeState, IsNodeState, IsPlain, IsLawfulState, launched_base, is_idle, durable_in, flown_in, gained_by, opened, asked, launched, next_base, launched_all, landed, left_by}
+use Rattle.ring_records.specs.States.{NodeState, IsNodeState, IsLawfulState, launched_base, is_idle, durable_in, flown_in, gained_by, opened, asked, launched, next_base, launched_all, landed, left_by}
 use Rattle.ring_records.specs.Summary.{summary}
 use Rattle.ring_records.proofs.Admission.{refusal-admitted}
 use Rattle.ring_records.proofs.Growth.{EachAfter-take}
@@ -78,13 +77,6 @@ lawful-rebased me n capacity b c h all lawful = rebased me n capacity b c [] h (
 
 -- ---- the state
 
-pub idle-flies : (s : NodeState) → is_idle s ≡ true → s.flying ≡ s.durable
-idle-flies s idle = eqb-true s.flying s.durable (first (nat_eq s.flying s.durable) (is_none s.checkpoint) idle)
-  where
-    first : (a b : Bool) → (a && b) ≡ true → a ≡ true
-    first true b e = refl
-    first false b e = absurd cc
-
 pub idle-none : (s : NodeState) → is_idle s ≡ true → s.checkpoint ≡ None
 idle-none s idle = none s.checkpoint (second (nat_eq s.flying s.durable) (is_none s.checkpoint) idle)
   where
@@ -109,19 +101,6 @@ next-few s counts = go s.checkpoint refl
 
 never : {C : Type 0} (o : Option Base) (b : Base) → o ≡ None → o ≡ Some b → C
 never o b none some = none≢some b (sym none ∙ some)
-
--- ---- where no input is summarised, and no checkpoint flies
-
-pub plain-base : (s : NodeState) → IsPlain s → launched_base s ≡ fresh
-plain-base s plain_is = ap (λ o. unwrap_or o s.base) plain_is.none ∙ plain_is.base
-
-pub plain-counts : (s : NodeState) → IsPlain s → s.durable ≤ s.flying → s.flying ≤ length s.inputs → IsNodeState s
-plain-counts s plain_is low high =
-    let none = ap (λ (b : Base). b.inputs) plain_is.base in
-    record { durable = low; flying = high; based = omega arith; checkpointed = λ b e. never s.checkpoint b plain_is.none e }
-
-pub plain-landed : (s : NodeState) → IsPlain s → IsPlain (landed s)
-plain-landed s plain_is = record { base = plain-base s plain_is; none = refl }
 
 -- ---- what happens
 

@@ -8,6 +8,7 @@ use Rattle.ring_records.specs.declared.input.Input.{Input}
 use Rattle.ring_records.specs.declared.input.Input.TheVariants.{Stand, Take, Acked}
 use Rattle.ring_records.specs.declared.key.Key.{Key}
 use Rattle.ring_records.specs.declared.key_state.KeyState.{KeyState}
+use Rattle.ring_records.specs.declared.limits.TheConstants.{STANDS}
 use Rattle.ring_records.specs.declared.msg.Msg.{Msg}
 use Rattle.ring_records.specs.declared.msg.Msg.TheVariants.{Token, Elected}
 use Rattle.ring_records.specs.declared.refusal.Refusal.{Refusal}
@@ -86,7 +87,7 @@ abbrev pub Objects : ℕ → Summary → Input → Option Refusal → Type 0
 Objects n s (Stand key bid) o = (led : Option (ℕ × Candidate)) × IsLatest (leads_in s key.group) led
     × (o ≡ or_else (or_else (already (stood_of (known_of s key))) (where_so (is_some (known_of s key)) refused.Late))
     (or_else (stale key.term led)
-    (or_else (where_so (nat_le 1024 s.stands) refused.Limit)
+    (or_else (where_so (nat_le STANDS s.stands) refused.Limit)
     (where_so (nat_le (2 ^ 56) s.inputs) refused.Limit))))
 Objects n s (Take msg_no msg) o =
     o ≡ or_else (where_so (nat_lt n (candidate_of msg).node) refused.BadNumber)

@@ -8,6 +8,7 @@ use Rattle.ring_records.specs.declared.key.Key.{Key}
 use Rattle.ring_records.specs.declared.key_state.KeyState.{KeyState}
 use Rattle.ring_records.specs.declared.msg.Msg.{Msg}
 use Rattle.ring_records.specs.declared.summary.Summary.{Summary}
+pub use Rattle.ring_records.specs.Admission.{snapshot_len}
 use Rattle.ring_records.specs.Message.{key_of, candidate_of}
 use Rattle.ring_records.specs.Record.{key_bytes, candidate_bytes, take_kind, IsKeyInRange, IsCandidateInRange}
 
@@ -50,17 +51,6 @@ window_bytes s = flat_map msg_bytes s.window
 -- the snapshot
 unfoldable pub snapshot_of : Summary → List ℕ
 snapshot_of s = counts_bytes s (fin.len s.keys) ++ keys_bytes s ++ window_bytes s
-
--- its length
-abbrev pub snapshot_len : Summary → ℕ
-snapshot_len s = length (snapshot_of s)
-
--- how many of these bytes the state of a key takes, and a message
-abbrev pub state_len : KeyState → ℕ
-state_len s = 6 + length s.key.group + ((if is_some s.stood then 4 else 0) + (if is_some s.leader then 5 else 0))
-
-abbrev pub msg_len : Msg → ℕ
-msg_len msg = 11 + length (key_of msg).group
 
 -- ---- what a snapshot is asked for: where one of these fails it is broken
 

@@ -5,11 +5,10 @@ use Rattle.ring_records.specs.declared.base.Base.{Base}
 use Rattle.ring_records.specs.declared.input.Input.{Input}
 use Rattle.ring_records.specs.declared.limits.TheConstants.{BATCH_INPUTS}
 use Rattle.ring_records.specs.declared.refusal.Refusal.{Refusal}
-use Rattle.ring_records.specs.declared.reply.Reply.{Reply}
 use Rattle.ring_records.specs.declared.request.Request.{Request}
 use Rattle.ring_records.specs.declared.shown.Shown.{Shown}
-use Rattle.ring_records.specs.Admission.{base_of, fresh, newest, refusal, IsBaseOf, IsLawful}
-use Rattle.ring_records.specs.Answer.{Answer, Answered, gained, reply, answer, answered}
+use Rattle.ring_records.specs.Admission.{base_of, newest, refusal, IsBaseOf, IsLawful}
+use Rattle.ring_records.specs.Answer.{Answered, gained, answer, answered}
 use Rattle.ring_records.specs.Emission.{sent}
 use Rattle.ring_records.specs.History.{taken, credit}
 use Rattle.ring_records.specs.Member.{Member}
@@ -25,15 +24,6 @@ pub record NodeState : Type 0 where
   pub flying : ℕ
   pub base : Base
   pub checkpoint : Option Base
-
--- that of a node whose area in use stands for no input beside its frames, and of which no checkpoint flies
-abbrev pub plain : List Input → ℕ → ℕ → NodeState
-plain inputs durable flying = record { inputs = inputs; durable = durable; flying = flying; base = fresh; checkpoint = None }
-
--- it is such a state
-pub record IsPlain (s : NodeState) : Type 0 where
-  pub base : s.base ≡ fresh
-  pub none : s.checkpoint ≡ None
 
 -- what the area stands for that is in use once all that flies is durable: room is counted from it
 abbrev pub launched_base : NodeState → Base
@@ -75,14 +65,6 @@ refusal_by m s x = refusal m.node m.n m.capacity (launched_base s) s.inputs x
 -- the inputs, one or none, that it gains by a request
 abbrev pub gained_by : Member → NodeState → Request → List Input
 gained_by m s q = gained m.node m.n m.capacity (launched_base s) s.inputs q
-
--- what it replies to a request
-abbrev pub reply_by : Member → NodeState → Request → Reply
-reply_by m s q = reply m.node m.n m.capacity (launched_base s) s.inputs q
-
--- its reply, and the number of inputs that it rests on
-abbrev pub answer_by : Member → NodeState → Request → Answer
-answer_by m s q = answer m.node m.n m.capacity (launched_base s) s.inputs q
 
 -- the request with its answer
 abbrev pub answered_by : Member → NodeState → Request → Answered

@@ -2,6 +2,8 @@
 ghost use Rattle.std.specs.Prelude.{◌≡◌};
 ghost use Rattle.ring_records.specs.Admission as admission;
 
+use crate::LAYOUT;
+
 /// What the area of a journal that is in use stands for beside its frames: the node's first inputs, and what is written in
 /// their place.
 #[derive(Clone, Copy, Debug, PartialEq, Eq)]
@@ -22,7 +24,7 @@ impl Base {
         ensures { result ≡ admission.fresh }
     {
         Base {
-            layout: 2,
+            layout: LAYOUT,
             epoch: 1,
             inputs: 0,
             bytes: 38,

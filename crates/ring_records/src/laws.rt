@@ -1,7 +1,7 @@
 //! Laws of the definitions: public functions with an empty body, whose contracts say what follows from `specs/` alone.
 ghost use Rattle.std.specs.Prelude.{◌≡◌, ◌↔◌, ◌≤◌, ◌+◌, ◌||◌, ℕ, Bool, Option, true, false, if◌then◌else◌, List, [], ◌∷◌, ◌++◌, Some, None, slice_get, unwrap_or, length, Ok};
 ghost use Rattle.std.specs.FinMap as map;
-ghost use Rattle.std.specs.List.{cons_option, count_by, sum_by, Contains};
+ghost use Rattle.std.specs.List.{cons_option, count_by, Contains};
 ghost use Rattle.ring_records.specs.declared.base.Base.{Base};
 ghost use Rattle.ring_records.specs.declared.candidate.Candidate.{Candidate};
 ghost use Rattle.ring_records.specs.declared.decision.Decision.{Decision};
@@ -9,7 +9,7 @@ ghost use Rattle.ring_records.specs.declared.input.Input.{Input};
 ghost use Rattle.ring_records.specs.declared.key.Key.{Key};
 ghost use Rattle.ring_records.specs.declared.msg.Msg.{Msg};
 ghost use Rattle.ring_records.specs.declared.summary.Summary.{Summary};
-ghost use Rattle.ring_records.specs.Admission.{fresh, used, cost, IsAllowed, IsAdmitted, IsBaseOf, IsLawful, objection, refusal};
+ghost use Rattle.ring_records.specs.Admission.{fresh, used, cost, snapshot_len, IsAllowed, IsAdmitted, IsBaseOf, IsLawful, objection, refusal};
 ghost use Rattle.ring_records.specs.declared.packet.Packet.{Packet};
 ghost use Rattle.ring_records.specs.declared.refusal.Refusal.{Refusal};
 ghost use Rattle.ring_records.specs.declared.request.Request.{Request};
@@ -24,7 +24,7 @@ ghost use Rattle.ring_records.specs.Member.{Member};
 ghost use Rattle.ring_records.specs.Record.{AreBytes, HasRecord, BeginsWith, record_of, record_read};
 ghost use Rattle.ring_records.specs.Release.{packets, decisions, window, AreLeaders};
 ghost use Rattle.ring_records.specs.Ring.{IsLegal, part};
-ghost use Rattle.ring_records.specs.Snapshot.{IsSound, Spells, has_stood, snapshot_len, state_len, msg_len};
+ghost use Rattle.ring_records.specs.Snapshot.{snapshot_of, IsSound, Spells, has_stood};
 ghost use Rattle.ring_records.specs.States.{NodeState, IsLawfulState, is_idle, opened, asked, launched, launched_all, landed, left_by};
 ghost use Rattle.ring_records.specs.Summary.{key_states, summary, empty};
 ghost use Rattle.ring_records.specs.WorkedRun.{red_5, winner, first_election};
@@ -169,10 +169,10 @@ pub fn summary_sound()
     ensures history { (me n : ℕ) (h : List Input) → 1 ≤ me → me ≤ 16 → me ≤ n → EachAfter (λ g x. IsAllowed me n g x × HasRecord x) [] h → IsSound n (summary me h) }
 {}
 
-/// Bytes are the snapshot of one summary at most, whatever it is asked to be of. That of no inputs has 38 bytes, and
-/// each key and each message that is not credited adds its own.
+/// Bytes are the snapshot of one summary at most, whatever it is asked to be of. A snapshot has as many bytes as the rule
+/// of room counts: 38 where it is of no inputs.
 pub fn snapshots()
     ensures one { (n : ℕ) (bytes : List ℕ) (s t : Summary) → Spells n bytes s → Spells n bytes t → s ≡ t }
-    ensures len { (s : Summary) → snapshot_len s ≡ 38 + (sum_by state_len (map.values s.keys) + sum_by msg_len s.window) }
+    ensures len { (s : Summary) → length (snapshot_of s) ≡ snapshot_len s }
     ensures none { snapshot_len empty ≡ 38 }
 {}

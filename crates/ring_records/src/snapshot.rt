@@ -2,8 +2,9 @@
 ghost use Rattle.std.specs.Prelude.{◌≡◌, ◌++◌, ◌+◌, ◌*◌, ◌<◌, ◌≤◌, ◌^◌, length, IfOk, OnOk};
 ghost use Rattle.std.specs.FinMap as map;
 ghost use Rattle.std.specs.List.{flat_map, sum_by};
+ghost use Rattle.ring_records.specs.Admission.{state_len, msg_len, snapshot_len};
 ghost use Rattle.ring_records.specs.Record.{key_bytes, candidate_bytes};
-ghost use Rattle.ring_records.specs.Snapshot.{flags, counts_bytes, state_bytes, msg_bytes, snapshot_of, state_len, msg_len, snapshot_len};
+ghost use Rattle.ring_records.specs.Snapshot.{flags, counts_bytes, state_bytes, msg_bytes, snapshot_of};
 
 use crate::{Candidate, Key, KeyState, Msg, Summary};
 use std::alloc::{AllocError, Global};
@@ -61,7 +62,8 @@ pub fn msg_len(msg: &Msg) -> u32
 /// The snapshot of the summary: the bytes by which it stands in a journal. The error is that of the allocator.
 pub fn write_summary(alloc: Global, summary: &Summary) -> Result<Vec<u8>, AllocError>
     requires keys { map.len summary.now.keys < 2 ^ 32 }
-    ensures { IfOk result (λ bytes. bytes.items ≡ snapshot_of summary.now) }
+    ensures value { IfOk result (λ bytes. bytes.items ≡ snapshot_of summary.now) }
+    ensures len { IfOk result (λ bytes. length bytes.items ≡ snapshot_len summary.now) }
 {
     let mut out = Vec::new(alloc);
     put_counts(&mut out, summary, summary.keys.len() as u32)?;

@@ -1,7 +1,7 @@
 //! What a desk has fly: batches and checkpoints, until the device took them or failed.
 ghost use Rattle.std.specs.Prelude.{◌≡◌, ◌+◌, ◌-◌, ◌*◌, ◌<◌, ◌≤◌, ◌⊎◌, List, true, false, Some, None, length, nat_lt, nat_le, IfSome, MatchOption, IfOk, IfErr, OnOk, OnErr};
 ghost use Rattle.ring_records.specs.declared.input.Input.{Input};
-ghost use Rattle.ring_records.specs.Admission.{used};
+ghost use Rattle.ring_records.specs.Admission.{epochs, used};
 ghost use Rattle.ring_records.specs.Release.{packets, decisions};
 ghost use Rattle.ring_records.specs.Snapshot.{IsSound, snapshot_len};
 ghost use Rattle.ring_records.specs.States as states;
@@ -14,16 +14,10 @@ use crate::desk::Desk;
 use crate::desk::parts::{prepare, summarise};
 use crate::landed::Landed;
 use gated_journal::{Batch, Checkpoint, Receipt, Spoiled};
-use ring_records::{BATCH_INPUTS, Input, NodeNo, Refusal};
-
-/// The areas of a journal are numbered below this.
-const EPOCHS: u64 = 1 << 40;
-
-/// The layout of the areas that are written.
-const LAYOUT: u8 = 2;
+use ring_records::{BATCH_INPUTS, EPOCHS, Input, LAYOUT, NodeNo, Refusal};
 
 impl Desk {
-    ghost use Rattle.group_commit.specs.Desk.{known_all, seen, launched_all, launch_objection, checkpoint_objection, is_due, epochs, IsFlying};
+    ghost use Rattle.group_commit.specs.Desk.{known_all, seen, launched_all, launch_objection, checkpoint_objection, is_due, IsFlying};
     ghost use Rattle.group_commit.specs.Past.{IsPast};
     ghost use Rattle.gated_journal.specs.Batch.{shown as batch_shown, landed as receipted, lost, numbered, numbered_with, numbered_by, base_by};
 

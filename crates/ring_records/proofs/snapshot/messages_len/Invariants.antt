@@ -1,6 +1,6 @@
 use Rattle.std.proofs.Common.{◌≡◌, ◌*◌, ◌≤◌, take}
 use Rattle.std.specs.List.{sum_by}
-use Rattle.ring_records.specs.Snapshot.{msg_len}
+use Rattle.ring_records.specs.Admission.{msg_len}
 use Rattle.ring_records.proofs.snapshot.messages_len.Given as goal
 
 abbrev pub invariant-loop-msg : goal.invariant-loop-msg

@@ -1,6 +1,6 @@
 use Rattle.std.proofs.Common.{◌≡◌, ◌*◌, ◌≤◌, take}
 use Rattle.std.specs.List.{sum_by}
-use Rattle.ring_records.specs.Snapshot.{state_len}
+use Rattle.ring_records.specs.Admission.{state_len}
 use Rattle.ring_records.proofs.snapshot.states_len.Given as goal
 
 abbrev pub invariant-loop-state : goal.invariant-loop-state

@@ -1,5 +1,5 @@
 use Rattle.std.proofs.Common.{◌≡◌, ◌≤◌, [], sym, ap, ◌∙◌, subst, arith}
-use Rattle.ring_records.specs.Snapshot.{snapshot_len}
+use Rattle.ring_records.specs.Admission.{snapshot_len}
 use Rattle.ring_records.specs.Summary.{empty}
 use Rattle.ring_records.proofs.Counts.{used-each}
 use Rattle.ring_records.proofs.Snapshots.{length-empty}
