@@ -1,9 +1,10 @@
 //! What a node holds of what it may hold.
 use commit_hub::Look;
+use ring_records::{DOORS, INPUT_BYTES};
 use ring_status::{Condition, Holding};
 
-/// The bytes that a message takes at most, and a Stand at each of 32 doors.
-const MOST_AT_ONCE: u64 = 33 * 42;
+/// The bytes that a message takes at most, and a Stand at each door.
+const MOST_AT_ONCE: u64 = (1 + DOORS as u64) * INPUT_BYTES;
 
 /// What a node holds by what its hub shows.
 pub(crate) fn held_by(look: &Look) -> Holding {

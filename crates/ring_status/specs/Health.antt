@@ -2,6 +2,7 @@
 use Rattle.std.specs.Prelude.{ℕ, ◌+◌, ◌-◌, nat_lt, nat_le, Bool, true, false, not, ◌&&◌, if◌then◌else◌, List, [], ◌++◌, codes}
 use Rattle.std.specs.Fmt.{decimal}
 use Rattle.std.specs.List.{flat_map, list_all}
+use Rattle.ring_records.specs.declared.limits.TheConstants.{INPUT_BYTES, STANDS}
 use Rattle.ring_status.specs.declared.holding.Holding.{Holding}
 use Rattle.ring_status.specs.declared.values.Condition.{Condition}
 use Rattle.ring_status.specs.declared.values.Condition.TheVariants.{Well, Limit, Full, Failed}
@@ -12,12 +13,12 @@ use Rattle.ring_status.specs.declared.values.NodeStatus.{NodeStatus}
 abbrev pub condition_of : Holding → Bool → Condition
 condition_of held is_open =
     if not is_open then Failed
-    else (if not held.is_due && nat_lt held.capacity (held.used + 42) then Full
-    else (if nat_le 1024 held.stands then Limit
+    else (if not held.is_due && nat_lt held.capacity (held.used + INPUT_BYTES) then Full
+    else (if nat_le STANDS held.stands then Limit
     else Well))
 
 abbrev pub stands_left : Holding → ℕ
-stands_left held = 1024 - held.stands
+stands_left held = STANDS - held.stands
 
 abbrev pub takes : Condition → Bool
 takes Well = true

@@ -1,14 +1,10 @@
 // What a node holds, and what that says of what it takes.
 ghost use Rattle.std.specs.Prelude.{◌≡◌, ◌+◌, ◌-◌, nat_lt};
+ghost use Rattle.ring_records.specs.declared.limits.TheConstants.{INPUT_BYTES};
 ghost use Rattle.ring_status.specs.Health.{condition_of, stands_left};
 
 use crate::values::Condition;
-
-/// The most Stands of a node.
-const STANDS: u64 = 1_024;
-
-/// The most bytes of the capacity that a Stand or a message takes.
-const MOST: u64 = 42;
+use ring_records::{INPUT_BYTES, STANDS};
 
 /// What a node holds of what it may hold.
 #[derive(Clone, Copy, Debug, PartialEq, Eq)]
@@ -32,7 +28,7 @@ impl Holding {
             Condition::Failed
         } else if !self.is_due && self.is_filled() {
             Condition::Full
-        } else if self.stands >= STANDS {
+        } else if self.stands >= u64::from(STANDS) {
             Condition::Limit
         } else {
             Condition::Well
@@ -41,15 +37,15 @@ impl Holding {
 
     // Whether there is no room for the longest message.
     fn is_filled(&self) -> bool
-        ensures { result ≡ nat_lt self.now.capacity (self.now.used + 42) }
+        ensures { result ≡ nat_lt self.now.capacity (self.now.used + INPUT_BYTES) }
     {
-        self.used > self.capacity || self.capacity - self.used < MOST
+        self.used > self.capacity || self.capacity - self.used < INPUT_BYTES
     }
 
     /// How many more Stands it may take.
     pub fn stands_left(&self) -> u64
         ensures { result ≡ stands_left self.now }
     {
-        STANDS.saturating_sub(self.stands)
+        u64::from(STANDS).saturating_sub(self.stands)
     }
 }

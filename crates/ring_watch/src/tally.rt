@@ -1,10 +1,8 @@
 //! What the threads of a node count.
+use ring_records::REFUSALS;
 use ring_status::RefusalCount;
 use std::alloc::{AllocError, Global};
 use std::sync::atomic::{AtomicU64, Ordering};
-
-/// The greatest number of a refusal.
-const REFUSALS: u8 = 25;
 
 /// A batch is written with a sync behind its frame, and one behind its gate.
 const BATCH_SYNCS: u64 = 2;

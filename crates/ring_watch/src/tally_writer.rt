@@ -1,6 +1,7 @@
 //! The answers of a session, whose refusals are counted.
 use crate::tally::Tally;
 use line_words::read_number;
+use ring_records::REFUSALS;
 use std::io;
 use std::io::Write;
 
@@ -13,7 +14,7 @@ fn refusal_in(answer: &[u8]) -> Option<u8> {
     let end = rest
         .iter()
         .position(|byte| *byte == b' ' || *byte == b'\n')?;
-    let number = read_number(&rest[..end], 1, 25).ok()?;
+    let number = read_number(&rest[..end], 1, u64::from(REFUSALS)).ok()?;
     Some(number as u8)
 }
 
