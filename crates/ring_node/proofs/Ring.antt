@@ -6,22 +6,17 @@ use Rattle.disk_model.specs.Disk.{Reach, Reaches}
 use Rattle.ring_records.specs.declared.base.Base.{Base}
 use Rattle.ring_records.specs.declared.input.Input.{Input}
 use Rattle.ring_records.specs.declared.msg.Msg.{Msg}
-use Rattle.ring_records.specs.declared.packet.Packet.{Packet}
 use Rattle.ring_records.specs.declared.request.Request.{Request}
-use Rattle.ring_records.specs.States.{IsLawfulState, gained_by, launched_base, opened, launched, flying_in}
-use Rattle.ring_records.specs.States as states
+use Rattle.ring_records.specs.States.{IsLawfulState, gained_by, opened}
 use Rattle.ring_records.specs.Emission.{sent}
 use Rattle.ring_records.specs.Member.{Member}
-use Rattle.ring_records.specs.Release.{packets}
 use Rattle.ring_records.specs.declared.summary.Summary.{Summary}
 use Rattle.gated_journal.specs.Reading.{device_size, is_header}
-use Rattle.group_commit.specs.Desk as desks
 use Rattle.group_commit.specs.Desk.{DeskView, DeskKept, ticket_for, seen, submitted, ended}
 use Rattle.group_commit.specs.Past.{IsPast}
 use Rattle.node_store.specs.State.{opened_view}
-use Rattle.ring_node.specs.Messages.{carried_in}
 use Rattle.ring_node.specs.Held.{HeldView, AreInside, IsWhole, IsRingNode}
-use Rattle.ring_node.proofs.Sending.{sent-flying, batch-few, inside, inside-front}
+use Rattle.ring_node.proofs.Sending.{inside}
 use Rattle.ring_node.proofs.Serving as serving
 
 pub me_within : (m : Member) → is_header m ≡ true → m.node ≤ m.n
@@ -55,9 +50,6 @@ opens m run base inputs reach messages range lawful reaches sends = record {
 }
 
 module _ (m : Member) (desk : DeskView) (reach : Reach) (queue : List HeldView) (messages : List Msg) (here : IsWhole m desk reach queue messages) where
-  within : desk.state.durable ≤ length desk.state.inputs
-  within = serving.within_served desk reach queue here.served
-
   -- it is asked
   pub asks : (q : Request) (h : HeldView) → h.ticket ≡ ticket_for q desk → IsWhole m (submitted q desk) reach (queue ++ h ∷ []) messages
   asks q h is = record {
@@ -77,26 +69,3 @@ module _ (m : Member) (desk : DeskView) (reach : Reach) (queue : List HeldView) 
     sends = here.sends;
     inside = here.inside;
   }
-
-  -- a batch landed, with these packets
-  module _ (found : List Packet) (is : found ≡ packets desk.member.node (states.durable_in desk.state) (flying_in (launched desk.state))) where
-    carried : carried_in found ≡ carried_in (packets m.node (states.durable_in desk.state) (flying_in (launched desk.state)))
-    carried = ap carried_in is ∙ ap (λ (k : Member). carried_in (packets k.node (states.durable_in desk.state) (flying_in (launched desk.state)))) here.is
-
-    pub few : length (carried_in found) ≤ 64
-    few = let b = batch-few m.node desk.state within in let same = ap length carried in omega arith
-
-    after : messages ++ carried_in found ≡ sent m.node (states.durable_in (desks.landed (desks.launched desk)).state)
-    after = (λ i. here.sends i ++ carried i) ∙ sent-flying m.node (launched desk.state) (omega (arith, within))
-
-    lawful_here : IsLawfulState m desk.state
-    lawful_here = subst (λ (k : Member). IsLawfulState k desk.state) here.is here.served.lawful
-
-    pub lands : IsWhole m (desks.landed (desks.launched desk)) reach queue (messages ++ carried_in found)
-    lands = record {
-      range = here.range;
-      is = here.is;
-      served = serving.lands desk reach queue here.served;
-      sends = after;
-      inside = subst (AreInside m.n) (sym after) (inside-front m.node m.n m.capacity (launched desk.state).flying (launched_base desk.state) (me_within m here.range) desk.state.inputs lawful_here.all);
-    }

@@ -13,14 +13,14 @@ use Rattle.ring_records.specs.declared.msg.Msg.{Msg}
 use Rattle.ring_records.specs.declared.packet.Packet.{Packet}
 use Rattle.ring_records.specs.declared.packet.Packet.TheVariants.{Carry}
 use Rattle.ring_records.specs.Admission.{IsAdmitted, IsInTurn, IsLawful}
-use Rattle.ring_records.specs.States.{NodeState, durable_in, flown_in, flying_in, launched}
+use Rattle.ring_records.specs.States.{NodeState, durable_in, flown_in, flying_in}
 use Rattle.ring_records.specs.Emission.{emit, sent, carry}
 use Rattle.ring_records.specs.History.{message_of, taken}
 use Rattle.ring_records.specs.Lists.{found_after}
 use Rattle.ring_records.specs.Message.{candidate_of}
 use Rattle.ring_records.specs.Release.{carries, credits, credit_where, packets}
 use Rattle.ring_records.proofs.Emission.{emit-candidate}
-use Rattle.std.proofs.lemmas.List.{take_all, take-append-drop}
+use Rattle.std.proofs.lemmas.List.{take-append-drop}
 use Rattle.ring_records.proofs.LookBack.{IsItem, take-item}
 use Rattle.ring_records.proofs.Growth.{sent-append, EachAfter-take}
 use Rattle.ring_records.proofs.Leader.{Contains-nil}
@@ -91,9 +91,6 @@ found-few f before (x ∷ xs) =
 pub carried-more : (packets : List Packet) (i : ℕ) (packet : Packet) → IsItem packets i packet → carried_in (take (i + 1) packets) ≡ carried_in (take i packets) ++ cons_option (message_in packet) []
 carried-more packets i packet here = ap carried_in (take-item packets i packet here) ∙ filter_map-append message_in (take i packets) (packet ∷ [])
 
-carried-all : (packets : List Packet) → carried_in (take (length packets) packets) ≡ carried_in packets
-carried-all packets = ap carried_in (take_all (length packets) packets (omega arith))
-
 pub carried-within : (packets : List Packet) (i : ℕ) → length (carried_in (take i packets)) ≤ length (carried_in packets)
 carried-within packets i =
     let parts = ap (λ ps. length (carried_in ps)) (sym (take-append-drop i packets)) in
@@ -117,10 +114,6 @@ module _ (me : ℕ) (s : NodeState) (low : s.durable ≤ s.flying) where
       let few = found-few (emit me) (durable_in s) (flying_in s) in
       let long = length-take (s.flying - s.durable) (drop s.durable s.inputs) in
       omega arith
-
--- a batch is of 64 messages at most
-pub batch-few : (me : ℕ) (s : NodeState) → s.durable ≤ length s.inputs → length (carried_in (packets me (durable_in s) (flying_in (launched s)))) ≤ 64
-batch-few me s within = let few = flying-few me (launched s) (omega (arith, within)) in omega arith
 
 -- ---- candidates
 

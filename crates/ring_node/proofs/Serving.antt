@@ -1,5 +1,5 @@
 -- A node at work, and what its calls make of it.
-use Rattle.std.proofs.Common.{arith, Err, Bool, ◌≡◌, ◌⊎◌, ⊎_elim, ℕ, ◌+◌, ◌<◌, ◌≤◌, ◌^◌, true, false, List, [], ◌∷◌, ◌++◌, length, take, Option, Some, None, inl, inr, refl, sym, ap, subst, ◌∙◌, length-append}
+use Rattle.std.proofs.Common.{arith, Err, ◌≡◌, ◌⊎◌, ⊎_elim, ℕ, ◌+◌, ◌<◌, ◌≤◌, ◌^◌, true, false, List, [], ◌∷◌, ◌++◌, length, take, Option, Some, None, inl, inr, refl, sym, ap, subst, ◌∙◌, length-append}
 use Rattle.std.proofs.lemmas.Bool.Decides.{nat_tests}
 use Rattle.std.proofs.lemmas.List.{take-append-le, length-take}
 use Rattle.std.specs.List.{filter}
@@ -20,7 +20,7 @@ use Rattle.gated_journal.specs.Unread.{header_at, IsFault, IsUnread}
 use Rattle.node_store.specs.Recovery.{IsNotLawful}
 use Rattle.ring_records.specs.Lists.{EachAfter}
 use Rattle.ring_records.specs.Answer.{Answered, gained, answered}
-use Rattle.ring_records.specs.States.{NodeState, IsLawfulState, launched_base, is_idle, flown_in, gained_by, opened, launched, landed, left_by}
+use Rattle.ring_records.specs.States.{NodeState, IsLawfulState, launched_base, is_idle, gained_by, opened, landed}
 use Rattle.ring_records.specs.declared.summary.Summary.{Summary}
 use Rattle.ring_records.specs.Message.{is_outside}
 use Rattle.ring_records.specs.declared.refusal.Refusal.{Refusal}
@@ -29,12 +29,12 @@ use Rattle.ring_records.specs.Member.{Member, member}
 use Rattle.group_commit.specs.Desk as desks
 use Rattle.group_commit.specs.Desk.{DeskView, DeskKept, ticket_for, seen, submitted, ended, objection, kept_at, IsHere, IsSealed}
 use Rattle.group_commit.specs.Ticket.{TicketView}
-use Rattle.ring_records.proofs.States.{base-fresh, lawful-opened, lawful-asked, lawful-launched, lawful-landed}
+use Rattle.ring_records.proofs.States.{base-fresh, lawful-opened, lawful-asked}
 use Rattle.group_commit.specs.Past.{IsPast}
 use Rattle.node_store.specs.State.{ReadsAsLeft, opened_view}
-use Rattle.ring_node.specs.Node.{NodeView, new_node, asked_with, flushed, reopened, IsShownBy}
+use Rattle.ring_node.specs.Node.{NodeView, new_node, asked_with, reopened}
 use Rattle.ring_node.specs.Open.{is_due}
-use Rattle.ring_node.specs.Held.{HeldView, MatchFirst, AreHeld, shown_with, view_with, reach_of, IsServed}
+use Rattle.ring_node.specs.Held.{HeldView, MatchFirst, AreHeld, shown_with, view_with, reach_of, IsServed, IsShownBy}
 use Rattle.ring_node.proofs.Queue.{First, held_none, held_more, shown_more, first, held_from, none_due, ended_first, found_first}
 
 -- what is shown by other names
@@ -92,11 +92,6 @@ is_idle_state s idle none = (λ i. nat_eq (idle i) s.durable && is_none (none i)
 
 pub base_stays : (s : NodeState) → s.checkpoint ≡ None → launched_base s ≡ s.base
 base_stays s none = ap (λ o. unwrap_or o s.base) none
-
--- what a stop leaves of it has the same area
-pub left_is : (s : NodeState) (keep : Bool) → s.checkpoint ≡ None → left_by keep s ≡ opened s.base (left_by keep s).inputs
-left_is s true none = ap (λ (b : Base). opened b (flown_in s)) (base_stays s none)
-left_is s false none = refl
 
 -- the opening stands for its past
 pub count_past : (past : List Input) (desk : DeskKept) (k : ℕ) → IsPast desk.view.member desk.opening past → desk.opening.inputs + k ≡ length past + k
@@ -187,21 +182,6 @@ module _ (desk : DeskView) (reach : Reach) (queue : List HeldView) (here : IsSer
   -- its durable inputs stay
   pub durable_more : (more : List Input) → take desk.state.durable (desk.state.inputs ++ more) ≡ take desk.state.durable desk.state.inputs
   durable_more more = take-append-le desk.state.durable desk.state.inputs more within_served
-
-  -- a batch landed
-  pub lands : IsServed (desks.landed (desks.launched desk)) reach queue
-  lands = record {
-    takes = here.takes;
-    works = here.works;
-    idle = refl;
-    none = refl;
-    lawful = lawful-landed desk.member (launched desk.state) (lawful-launched desk.member desk.state (is_idle_state desk.state here.idle here.none) here.lawful);
-    held = here.held;
-    reaches = here.reaches;
-  }
-
-  pub lands_shown : view_with (desks.landed (desks.launched desk)) queue ≡ flushed (view_with desk queue)
-  lands_shown = λ i. record (flushed (view_with desk queue)) { base = base_stays desk.state here.none i }
 
   -- where the oldest ticket is not due, none is
   pub sealed : MatchFirst (λ h. desk.state.durable < h.ticket.number) queue → filter (is_due desk.state.durable) (shown_with desk.tickets queue) ≡ []

@@ -5,7 +5,7 @@ use Rattle.ring_records.specs.declared.summary.Summary.{Summary}
 use Rattle.ring_records.specs.Member.{Member}
 use Rattle.group_commit.specs.Desk.{DeskKept, seen}
 use Rattle.group_commit.specs.Past.{IsPast}
-use Rattle.ring_node.specs.Node.{IsShownBy}
+use Rattle.ring_node.specs.Held.{IsShownBy}
 
 module _ (m : Member) (inputs : List Input) (durable : ℕ) (desk : DeskKept) (is : IsShownBy m inputs durable desk) where
   summarised : desk.opening.inputs ≡ length is.past

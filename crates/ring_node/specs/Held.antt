@@ -1,5 +1,5 @@
 -- A node at work with its open tickets, and the messages that it sent.
-use Rattle.std.specs.Prelude.{ℕ, ◌≡◌, ◌≤◌, true, false, List, [], ◌∷◌, length, Option, None}
+use Rattle.std.specs.Prelude.{ℕ, ◌≡◌, ◌+◌, ◌<◌, ◌≤◌, true, false, List, [], ◌∷◌, ◌++◌, length, Option, None}
 use Rattle.disk_model.specs.Disk.{Reach, Reaches}
 use Rattle.disk_model.specs.FuseDevice as fuse
 use Rattle.disk_model.specs.MemDevice as memory
@@ -8,17 +8,19 @@ use Rattle.disk_model.specs.declared.memory.MemDevice.{MemDevice}
 use Rattle.ring_records.specs.declared.msg.Msg.{Msg}
 use Rattle.ring_records.specs.declared.input.Input.{Input}
 use Rattle.ring_records.specs.Answer.{Answered}
-use Rattle.ring_records.specs.States.{IsLawfulState, durable_in}
+use Rattle.ring_records.specs.States.{NodeState, IsLawfulState, durable_in}
 use Rattle.ring_records.specs.Emission.{sent}
 use Rattle.ring_records.specs.Message.{candidate_of}
 use Rattle.std.specs.List.{Contains}
 use Rattle.ring_records.specs.Member.{Member}
 use Rattle.gated_journal.specs.Reading.{device_size, is_header}
-use Rattle.group_commit.specs.Desk.{DeskView, DeskKept, seen}
+use Rattle.group_commit.specs.Desk.{DeskView, DeskKept, seen, launched, launched_all, checkpoint_objection}
 use Rattle.group_commit.specs.Past.{IsPast}
 use Rattle.group_commit.specs.Ticket.{TicketView, ticket_with}
-use Rattle.ring_node.specs.Node.{NodeView}
+use Rattle.ring_node.specs.Node.{NodeView, state_of, checkpoint_refusal, launched_as}
 use Rattle.ring_node.specs.Open.{Open}
+use Rattle.ring_node.specs.declared.flight.Flight.{Flight}
+use Rattle.ring_node.specs.declared.flight.Flight.TheVariants.{Batch, Checkpoint}
 
 -- ---- open tickets
 
@@ -95,3 +97,36 @@ pub record IsWhole (m : Member) (desk : DeskView) (reach : Reach) (queue : List 
 pub record IsRingNode (m : Member) (past : List Input) (desk : DeskKept) (reach : Reach) (queue : List HeldView) (messages : List Msg) : Type 0 where
   pub behind : IsPast desk.view.member desk.opening past
   pub whole : IsWhole m (seen past desk) reach queue messages
+
+-- The desk of this node shows these inputs, so many of them durable, behind a past that its opening is the summary of.
+pub record IsShownBy (m : Member) (inputs : List Input) (durable : ℕ) (desk : DeskKept) : Type 0 where
+  pub past : List Input
+  pub member : desk.view.member ≡ m
+  pub is : IsPast desk.view.member desk.opening past
+  pub all : past ++ desk.view.state.inputs ≡ inputs
+  pub count : length past + desk.view.state.durable ≡ durable
+
+-- ---- what flies
+
+-- a desk that launches it: by what it shows, and by what it keeps, which knows no past
+abbrev pub flies : Flight → DeskView → DeskView
+flies flight desk = record desk { state = launched_as flight desk.member.node desk.state }
+
+abbrev pub launched_by : Flight → DeskKept → DeskView
+launched_by Batch desk = launched desk.view
+launched_by Checkpoint desk = launched_all desk
+
+-- want of memory aside its desk launches this
+abbrev pub MayFly : Flight → DeskKept → Type 0
+MayFly Batch desk = desk.view.failed ≡ false
+MayFly Checkpoint desk = checkpoint_objection desk ≡ None
+
+-- so does a node in this state
+abbrev pub MayBegin : Flight → Member → NodeState → Type 0
+MayBegin Batch m s = Unit {0}
+MayBegin Checkpoint m s = checkpoint_refusal m s ≡ None
+
+-- and its device is called then
+abbrev pub MayStop : Flight → NodeView → Type 0
+MayStop Batch v = v.durable < length v.inputs
+MayStop Checkpoint v = checkpoint_refusal v.member (state_of v) ≡ None

@@ -1,11 +1,11 @@
 -- What a node of the ring shows, and what its calls make of it. Nothing flies between its calls.
-use Rattle.std.specs.Prelude.{ℕ, ◌≡◌, ◌+◌, Bool, nat_le, nat_lt, List, [], ◌∷◌, ◌++◌, length, take, Option, None}
+use Rattle.std.specs.Prelude.{ℕ, ◌+◌, Bool, nat_le, nat_lt, List, [], ◌∷◌, ◌++◌, length, take, Option, None}
 use Rattle.ring_records.specs.declared.base.Base.{Base}
 use Rattle.ring_records.specs.declared.input.Input.{Input}
 use Rattle.ring_records.specs.declared.refusal.Refusal.{Refusal}
 use Rattle.ring_records.specs.declared.refusal.Refusal.TheVariants.{Full, Limit}
 use Rattle.ring_records.specs.declared.request.Request.{Request}
-use Rattle.ring_records.specs.States.{NodeState, gained_by, answered_by, launched, launched_all, next_base, left_by}
+use Rattle.ring_records.specs.States.{NodeState, launched_base, gained_by, answered_by, launched, launched_all, left_by}
 use Rattle.ring_records.specs.Admission.{fresh, where_so}
 use Rattle.ring_records.specs.Emission.{sent}
 use Rattle.ring_records.specs.History.{credit}
@@ -13,9 +13,10 @@ use Rattle.ring_records.specs.Lists.{or_else}
 use Rattle.ring_records.specs.Member.{Member, member}
 use Rattle.ring_records.specs.Snapshot.{snapshot_len}
 use Rattle.ring_records.specs.Summary.{summary}
-use Rattle.group_commit.specs.Desk.{DeskKept, epochs}
-use Rattle.group_commit.specs.Past.{IsPast}
+use Rattle.group_commit.specs.Desk.{epochs}
 use Rattle.ring_node.specs.Open.{Open}
+use Rattle.ring_node.specs.declared.flight.Flight.{Flight}
+use Rattle.ring_node.specs.declared.flight.Flight.TheVariants.{Batch, Checkpoint}
 
 -- which node it is, of how large a ring, and its capacity; the inputs that it accepted, and how many of them are
 -- durable; what the area in use stands for; its open tickets, the oldest first; and how many tickets it gave since it was
@@ -39,14 +40,6 @@ state_of v = record { inputs = v.inputs; durable = v.durable; flying = v.durable
 abbrev pub durable_in : NodeView → List Input
 durable_in v = take v.durable v.inputs
 
--- The desk of this node shows these inputs, so many of them durable, behind a past that its opening is the summary of.
-pub record IsShownBy (m : Member) (inputs : List Input) (durable : ℕ) (desk : DeskKept) : Type 0 where
-  pub past : List Input
-  pub member : desk.view.member ≡ m
-  pub is : IsPast desk.view.member desk.opening past
-  pub all : past ++ desk.view.state.inputs ≡ inputs
-  pub count : length past + desk.view.state.durable ≡ durable
-
 -- ---- requests
 
 abbrev pub ticket_of : Option ℕ → NodeView → Request → Open
@@ -56,26 +49,36 @@ ticket_of serial v q = record { serial = serial; kept = answered_by v.member (st
 unfoldable pub asked_with : Option ℕ → Request → NodeView → NodeView
 asked_with serial q v = record v { inputs = v.inputs ++ gained_by v.member (state_of v) q; held = v.held ++ ticket_of serial v q ∷ []; issued = v.issued + 1 }
 
--- ---- batches
+-- ---- batches and checkpoints
 
--- how many inputs are durable once a batch landed
-abbrev pub flown : NodeView → ℕ
-flown v = (launched (state_of v)).flying
-
--- after a batch landed
-abbrev pub flushed : NodeView → NodeView
-flushed v = record v { durable = flown v }
-
--- ---- checkpoints
-
--- why none is begun, want of memory aside: the journal may write no other area, or the snapshot of all inputs is longer than
--- the capacity
+-- why no checkpoint is begun, want of memory aside: the journal may write no other area, or the snapshot of all inputs is
+-- longer than the capacity
 abbrev pub checkpoint_refusal : Member → NodeState → Option Refusal
 checkpoint_refusal m s = or_else (where_so (nat_le epochs (s.base.epoch + 1)) Limit) (where_so (nat_lt m.capacity (snapshot_len (summary m.node s.inputs))) Full)
 
--- after one landed: all inputs are durable, and their summary begins the area in use
+-- node me in this state launches it
+abbrev pub launched_as : Flight → ℕ → NodeState → NodeState
+launched_as Batch me s = launched s
+launched_as Checkpoint me s = launched_all me s
+
+-- its state while this flies
+abbrev pub flying : Flight → NodeView → NodeState
+flying flight v = launched_as flight v.member.node (state_of v)
+
+-- after it landed: it is durable
+abbrev pub made_durable : Flight → NodeView → NodeView
+made_durable flight v = record v { durable = (flying flight v).flying; base = launched_base (flying flight v) }
+
+-- how many inputs are durable once a batch landed
+abbrev pub flown : NodeView → ℕ
+flown v = (flying Batch v).flying
+
+-- after a batch landed; after a checkpoint did, whose summary begins the area in use
+abbrev pub flushed : NodeView → NodeView
+flushed v = made_durable Batch v
+
 abbrev pub checkpointed : NodeView → NodeView
-checkpointed v = record v { durable = length v.inputs; base = next_base v.member.node v.base v.inputs }
+checkpointed v = made_durable Checkpoint v
 
 -- ---- crashes
 
@@ -83,18 +86,10 @@ checkpointed v = record v { durable = length v.inputs; base = next_base v.member
 abbrev pub is_credited : NodeView → Bool
 is_credited v = nat_le (credit v.inputs) (length (sent v.member.node (durable_in v)))
 
--- after it was opened again with these inputs, and the area in use: no ticket is open
-unfoldable pub restarted : List Input → NodeView → NodeView
-restarted inputs v = record v { inputs = inputs; durable = length inputs; held = []; issued = 0 }
-
--- the inputs that a stop within a flush leaves: with the batch, or without
-abbrev pub left : Bool → NodeView → List Input
-left keeps_flying v = (left_by keeps_flying (launched (state_of v))).inputs
-
--- the state that a stop within a checkpoint leaves: with all inputs and their summary, or with those that were durable
-abbrev pub left_all : Bool → NodeView → NodeState
-left_all keeps_flying v = left_by keeps_flying (launched_all v.member.node (state_of v))
-
 -- after it was opened again in this state: no ticket is open
 unfoldable pub reopened : NodeState → NodeView → NodeView
 reopened s v = record v { inputs = s.inputs; durable = s.durable; base = s.base; held = []; issued = 0 }
+
+-- the state that a stop leaves while this flies: with what flies, or without
+abbrev pub left : Flight → Bool → NodeView → NodeState
+left flight keeps_flying v = left_by keeps_flying (flying flight v)

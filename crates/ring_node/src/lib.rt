@@ -2,9 +2,11 @@
 #![tactic(auto)]
 
 mod checkpoint;
+mod flight;
 mod held;
 mod messages;
 mod node;
 mod restart;
 
+pub use flight::Flight;
 pub use node::RingNode;

@@ -5,11 +5,12 @@ ghost use Rattle.ring_records.specs.Emission.{sent};
 ghost use Rattle.ring_records.specs.Member.{member};
 ghost use Rattle.ring_records.specs.Message.{candidate_of, is_outside};
 ghost use Rattle.gated_journal.specs.Reading.{is_header};
-ghost use Rattle.ring_node.specs.Node.{new_node, durable_in, asked_with, flown, flushed, is_credited, IsShownBy};
+ghost use Rattle.ring_node.specs.Held.{IsShownBy};
+ghost use Rattle.ring_node.specs.Node.{new_node, durable_in, asked_with, flown, flushed, is_credited};
 ghost use Rattle.ring_node.specs.Open.{is_due, open_with};
 
+use crate::flight::Flight;
 use crate::held::{Held, closed, is_due};
-use crate::messages::add_carried;
 use disk_model::{FuseDevice, MemDevice};
 use gated_journal::device_size;
 use group_commit::{Desk, Stub};
@@ -100,14 +101,7 @@ impl RingNode {
         ensures count { IfOk result (λ count. count ≡ flown self.old - self.old.durable) }
         ensures err { OnErr result (self.new ≡ self.old) }
     {
-        self.messages.reserve(64)?;
-        match self.node.flush() {
-            Ok(landed) => {
-                add_carried(&mut self.messages, &landed.packets);
-                Ok(landed.count)
-            }
-            Err(refusal) => Err(memory_alone(refusal)),
-        }
+        self.make_durable(Flight::Batch)
     }
 
     /// Releases the reply of the oldest open ticket, if that rests on durable inputs alone, and ends the ticket: the

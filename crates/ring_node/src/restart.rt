@@ -1,12 +1,12 @@
 // A node that loses its memory, and is opened again from its device.
 ghost use Rattle.gated_journal.specs.Reading.{device_size};
-ghost use Rattle.std.specs.Prelude.{◌≡◌, ◌⊎◌, ◌≤◌, ◌<◌, ◌++◌, ℕ, List, length, Bool, true, false, take, IfOk, OnOk};
+ghost use Rattle.std.specs.Prelude.{◌≡◌, ◌+◌, ◌≤◌, ◌<◌, ◌++◌, ◌||◌, ℕ, nat_lt, List, length, Bool, true, None, take, IfOk};
 ghost use Rattle.std.specs.List.{filter_map};
 ghost use Rattle.disk_model.specs.Disk.{Reaches};
 ghost use Rattle.disk_model.specs.FuseDevice.{inner_of};
 ghost use Rattle.disk_model.specs.MemDevice.{disk_of, limit_of};
 ghost use Rattle.ring_records.specs.declared.input.Input.{Input};
-ghost use Rattle.ring_records.specs.States.{NodeState, IsLawfulState, launched, landed, left_by};
+ghost use Rattle.ring_records.specs.States.{NodeState, IsLawfulState, opened, left_by};
 ghost use Rattle.ring_records.specs.Emission.{sent};
 ghost use Rattle.ring_records.specs.History.{credit};
 ghost use Rattle.ring_records.specs.Member.{member};
@@ -14,10 +14,11 @@ ghost use Rattle.group_commit.specs.Desk.{seen};
 ghost use Rattle.group_commit.specs.Past.{IsPast};
 ghost use Rattle.node_store.specs.Node as nodes;
 ghost use Rattle.node_store.specs.State.{Holds, IsOpenedAs};
-ghost use Rattle.ring_node.specs.Held.{reach_of, AreHeld};
-ghost use Rattle.ring_node.specs.Node.{durable_in, restarted, left, is_credited};
+ghost use Rattle.ring_node.specs.Held.{reach_of, AreHeld, MayFly, MayStop};
+ghost use Rattle.ring_node.specs.Node.{state_of, durable_in, checkpoint_refusal, launched_as, reopened as reopened_in, left, is_credited};
 ghost use Rattle.ring_node.specs.Open.{serial_of};
 
+use crate::flight::{Flight, launch};
 use crate::held::{Held, closed, serials_in};
 use crate::messages::add_carried;
 use crate::node::{Disk, RingNode, memory_alone};
@@ -32,7 +33,7 @@ impl RingNode {
     /// It loses its memory and is opened again from its device: the node, and the numbers of the tickets that were
     /// open, in order. Refused for memory, there is no node any more.
     pub fn crash(self) -> Result<(RingNode, Vec<u64>), AllocError>
-        ensures next { IfOk result (λ r. r.0 ≡ restarted (durable_in self) self) }
+        ensures next { IfOk result (λ r. r.0 ≡ reopened_in (opened self.base (durable_in self)) self) }
         ensures lost { IfOk result (λ r. r.1.items ≡ filter_map serial_of self.held) }
     {
         let RingNode {
@@ -76,7 +77,39 @@ impl RingNode {
     pub fn stop(self, call: u64, tear: Tear) -> Result<(RingNode, bool, Vec<u64>), AllocError>
         requires credited { is_credited self ≡ true }
         requires waits { self.durable < length self.inputs }
-        ensures next { IfOk result (λ r. r.0 ≡ restarted (left r.1 self) self) }
+        ensures next { IfOk result (λ r. r.0 ≡ reopened_in (left Flight.Batch r.1 self) self) }
+        ensures lost { IfOk result (λ r. r.2.items ≡ filter_map serial_of self.held) }
+    {
+        self.stop_within(Flight::Batch, call, tear)
+    }
+
+    /// It is stopped at a device call of a checkpoint, 1 to 6, with the device left by the tear, and is opened again: the
+    /// node, whether it holds the summary of all inputs then, and the numbers of the tickets that were open, in order.
+    /// Nothing is objected to the checkpoint, and no more messages are credited than its durable inputs sent. Refused for
+    /// memory, there is no node any more.
+    pub fn stop_checkpoint(
+        self,
+        call: u64,
+        tear: Tear,
+    ) -> Result<(RingNode, bool, Vec<u64>), AllocError>
+        requires credited { is_credited self ≡ true }
+        requires free { checkpoint_refusal self.member (state_of self) ≡ None }
+        ensures next { IfOk result (λ r. r.0 ≡ reopened_in (left Flight.Checkpoint r.1 self) self) }
+        ensures lost { IfOk result (λ r. r.2.items ≡ filter_map serial_of self.held) }
+    {
+        self.stop_within(Flight::Checkpoint, call, tear)
+    }
+
+    // It is stopped at a device call while this flies, with the device left by the tear, and is opened again.
+    fn stop_within(
+        self,
+        flight: Flight,
+        call: u64,
+        tear: Tear,
+    ) -> Result<(RingNode, bool, Vec<u64>), AllocError>
+        requires credited { is_credited self ≡ true }
+        requires free { MayStop flight self }
+        ensures next { IfOk result (λ r. r.0 ≡ reopened_in (left flight r.1 self) self) }
         ensures lost { IfOk result (λ r. r.2.items ≡ filter_map serial_of self.held) }
     {
         let RingNode {
@@ -90,76 +123,66 @@ impl RingNode {
             held,
             messages,
         } = self;
-        let durable = node.durable();
+        let (durable, epoch) = (node.durable(), node.epoch());
         let lost = serials_in(alloc, &held);
         let past = joined(past, &node);
-        let device = stopped(node, held, call, tear)?;
+        let device = stopped(node, held, flight, call, tear)?;
         let lost = lost?;
         let past = past?;
         let runs = runs.wrapping_add(1);
         let node = reopened(alloc, device, me, n, capacity, runs)?;
         let past = summarised(past, &node);
-        let keeps = durable < node.durable();
-        let held = VecDeque::new(alloc);
-        match caught_up(messages, node.desk(), &past) {
-            Ok(messages) => {
-                let again = RingNode {
-                    alloc,
-                    me,
-                    n,
-                    capacity,
-                    runs,
-                    node,
-                    past,
-                    held,
-                    messages,
-                };
-                Ok((again, keeps, lost))
-            }
-            Err(error) => {
-                let _device = closed(node, held);
-                Err(error)
-            }
-        }
+        let keeps = has_gained(&node, durable, epoch);
+        let messages = caught_up(messages, node.desk(), &past)?;
+        let again = RingNode {
+            alloc,
+            me,
+            n,
+            capacity,
+            runs,
+            node,
+            past,
+            held: VecDeque::new(alloc),
+            messages,
+        };
+        Ok((again, keeps, lost))
     }
 }
 
-// Stops the node at a device call of a flush, gives up its open tickets, and tears its device. Refused where no call was
-// made, for want of memory.
+// Stops the node at a device call while this flies, gives up its open tickets, and tears its device. Refused where no
+// call was made, for want of memory.
 fn stopped(
     mut node: Node<Disk>,
     held: VecDeque<Held>,
+    flight: Flight,
     call: u64,
     tear: Tear,
 ) -> Result<MemDevice, AllocError>
-    requires works { (nodes.desk_of node).view.failed ≡ false }
+    requires free { MayFly flight (nodes.desk_of node) }
     requires held { (from top : ℕ) × AreHeld (nodes.member_of node).node (nodes.desk_of node).view.run from top (nodes.desk_of node).view.tickets held.items }
     ensures holds { IfOk result (λ device. (past : List Input) → IsPast (nodes.member_of node) (nodes.desk_of node).opening past
-        → Holds (nodes.member_of node) (disk_of device) (launched (seen past (nodes.desk_of node)).state)) }
+        → IsLawfulState (nodes.member_of node) (seen past (nodes.desk_of node)).state
+        → Holds (nodes.member_of node) (disk_of device) (launched_as flight (nodes.member_of node).node (seen past (nodes.desk_of node)).state)) }
     ensures limit { IfOk result (λ device. limit_of device ≡ limit_of (inner_of (nodes.device_of node))) }
 {
     node.arm(call.saturating_sub(1), false);
-    let flown = flush_or_fail(&mut node);
+    let flown = launch(&mut node, flight);
     let mut device = closed(node, held);
-    flown?;
     device.crash(tear);
-    Ok(device)
-}
-
-// Flushes the node, whose device may fail. Refused where memory is missing, and then nothing is changed.
-fn flush_or_fail(node: &mut Node<Disk>) -> Result<(), AllocError>
-    requires works { (nodes.desk_of node.old).view.failed ≡ false }
-    ensures state { OnOk result ((nodes.state_of node.new ≡ launched (nodes.state_of node.old)) ⊎ (nodes.state_of node.new ≡ landed (launched (nodes.state_of node.old)))) }
-    ensures stays { nodes.desk_of node.new ≡ record (nodes.desk_of node.old) { view = record (nodes.desk_of node.old).view { state = nodes.state_of node.new; failed = (nodes.desk_of node.new).view.failed } } }
-    ensures reach { reach_of (nodes.device_of node.new) ≡ reach_of (nodes.device_of node.old) }
-{
-    match node.flush() {
-        Ok(_landed) => Ok(()),
+    match flown {
+        Ok(_landed) => Ok(device),
         Err(refusal) => match refusal {
             Refusal::OutOfMemory => Err(AllocError),
-            _ => Ok(()),
+            _ => Ok(device),
         },
     }
+}
+
+// Whether more of its inputs are durable than so many, or another area is in use than that of this epoch.
+fn has_gained(node: &Node<Disk>, durable: u64, epoch: u64) -> bool
+    ensures { result ≡ nat_lt durable ((nodes.desk_of node.now).opening.inputs + (nodes.state_of node.now).durable) || nat_lt epoch (nodes.state_of node.now).base.epoch }
+{
+    durable < node.durable() || epoch < node.epoch()
 }
 
 // Opens the node that the device holds.

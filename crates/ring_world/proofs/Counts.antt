@@ -4,10 +4,12 @@ use Rattle.std.specs.List.{filter, filter_map, cons_option}
 use Rattle.std.proofs.lemmas.List.{length-append}
 use Rattle.std.proofs.lemmas.List.Elements.{filter_map-append}
 use Rattle.ring_records.specs.declared.request.Request.{Request}
+use Rattle.ring_node.specs.declared.flight.Flight.{Flight}
+use Rattle.ring_node.specs.declared.flight.Flight.TheVariants.{Batch}
 use Rattle.ring_node.specs.Open.{Open, is_due, sealed, serial_of}
 use Rattle.ring_world.specs.Counts.{numbered, IsBounded}
 use Rattle.ring_world.specs.Events.{Action}
-use Rattle.ring_world.specs.Ring.{RingView, held_at, node_at, happens, asked, answered_at, landed, checkpointed, waits, settled, due_at, reply_of, with_reply, replies, Part, released, and_then, round, rounds, summarised, drained, lost, crashed, stopped, stopped_all, given, brought, swept, swept_with, swept_on, swept_one, next_delivery, new_ring}
+use Rattle.ring_world.specs.Ring.{RingView, held_at, node_at, happens, asked, answered_at, landed, waits, settled, due_at, reply_of, with_reply, replies, Part, released, and_then, round, rounds, drained, lost, crashed, stopped, given, brought, swept, swept_with, swept_on, swept_one, next_delivery, new_ring}
 
 -- ---- lists of tickets
 
@@ -87,13 +89,9 @@ pub bounded_crashed : (i : ℕ) (w : RingView) (t : ℕ) → IsBounded w t → I
 unfolding crashed
 bounded_crashed i w t b = bounded_happens w _ i [] t b (omega arith)
 
-pub bounded_stopped : (keeps_flying : Bool) (i : ℕ) (w : RingView) (t : ℕ) → IsBounded w t → IsBounded (stopped keeps_flying i w) t
+pub bounded_stopped : (flight : Flight) (keeps_flying : Bool) (i : ℕ) (w : RingView) (t : ℕ) → IsBounded w t → IsBounded (stopped flight keeps_flying i w) t
 unfolding stopped
-bounded_stopped keeps_flying i w t b = bounded_happens w _ i [] t b (omega arith)
-
-pub bounded_stopped_all : (keeps_flying : Bool) (i : ℕ) (w : RingView) (t : ℕ) → IsBounded w t → IsBounded (stopped_all keeps_flying i w) t
-unfolding stopped_all
-bounded_stopped_all keeps_flying i w t b = bounded_happens w _ i [] t b (omega arith)
+bounded_stopped flight keeps_flying i w t b = bounded_happens w _ i [] t b (omega arith)
 
 -- ---- what is released
 
@@ -101,32 +99,6 @@ bounded_stopped_all keeps_flying i w t b = bounded_happens w _ i [] t b (omega a
 record IsPaid (i : ℕ) (w : RingView) (p : Part) : Type 0 where
   here : length p.0 + numbered (held_at p.1 i) ≤ numbered (held_at w i)
   all : (t : ℕ) → IsBounded w t → IsBounded p.1 t
-
-paid_round : (i : ℕ) (w : RingView) → IsPaid i w (round i w)
-unfolding replies settled landed
-paid_round i w =
-    let t = landed i w in
-    let held = held_at w i in
-    let answers = as_many (due_at t i) in
-    let parts = split (is_due (node_at t i).durable) held in
-    let there = set_there w.held (i - 1) (sealed (node_at t i).durable held) in
-    record {
-      here = omega arith;
-      all = λ u b. bounded_happens t _ i (sealed (node_at t i).durable held) u (bounded_log w _ u b) (let h = at_node w u i b in omega arith);
-    }
-
-paid_summarised : (i : ℕ) (w : RingView) → IsPaid i w (summarised i w)
-unfolding replies settled checkpointed
-paid_summarised i w =
-    let t = checkpointed i w in
-    let held = held_at w i in
-    let answers = as_many (due_at t i) in
-    let parts = split (is_due (node_at t i).durable) held in
-    let there = set_there w.held (i - 1) (sealed (node_at t i).durable held) in
-    record {
-      here = omega arith;
-      all = λ u b. bounded_happens t _ i (sealed (node_at t i).durable held) u (bounded_log w _ u b) (let h = at_node w u i b in omega arith);
-    }
 
 paid_released : (i : ℕ) (w : RingView) → IsPaid i w (released i w)
 unfolding replies settled
@@ -139,6 +111,10 @@ paid_released i w =
       here = omega arith;
       all = λ u b. bounded_happens w _ i (sealed (node_at w i).durable held) u b (let h = at_node w u i b in omega arith);
     }
+
+paid_round : (flight : Flight) (i : ℕ) (w : RingView) → IsPaid i w (round flight i w)
+unfolding landed
+paid_round flight i w = let paid = paid_released i (landed flight i w) in record { here = paid.here; all = λ t b. paid.all t (bounded_log w _ t b) }
 
 paid_nothing : (i : ℕ) (w : RingView) → IsPaid i w ([], w)
 paid_nothing i w = record { here = omega arith; all = λ t b. b }
@@ -158,7 +134,7 @@ paid_rounds : (most i : ℕ) (w : RingView) → IsPaid i w (rounds most i w)
 unfolding rounds
 paid_rounds zero i w = paid_nothing i w
 paid_rounds (suc most) i w =
-    paid_if i w (waits w i) (and_then (round i w) (rounds most i)) ([], w) (paid_then i w (round i w) (rounds most i) (paid_round i w) (paid_rounds most i (round i w).1)) (paid_nothing i w)
+    paid_if i w (waits w i) (and_then (round Batch i w) (rounds most i)) ([], w) (paid_then i w (round Batch i w) (rounds most i) (paid_round Batch i w) (paid_rounds most i (round Batch i w).1)) (paid_nothing i w)
 
 paid_brought : (serial : Option ℕ) (i : ℕ) (q : Request) (w : RingView) → IsPaid i (asked serial i q (given i q w)) (brought serial i q w)
 unfolding brought
@@ -177,16 +153,9 @@ bounded_brought serial i q w t u le b =
     let k = paid.here in
     (omega (arith, h, k), paid.all u opens)
 
-pub bounded_round : (i : ℕ) (w : RingView) (t : ℕ) → IsBounded w t → (length (round i w).0 ≤ t) × IsBounded (round i w).1 t
-bounded_round i w t b =
-    let paid = paid_round i w in
-    let h = at_node w t i b in
-    let k = paid.here in
-    (omega (arith, h, k), paid.all t b)
-
-pub bounded_summarised : (i : ℕ) (w : RingView) (t : ℕ) → IsBounded w t → (length (summarised i w).0 ≤ t) × IsBounded (summarised i w).1 t
-bounded_summarised i w t b =
-    let paid = paid_summarised i w in
+pub bounded_round : (flight : Flight) (i : ℕ) (w : RingView) (t : ℕ) → IsBounded w t → (length (round flight i w).0 ≤ t) × IsBounded (round flight i w).1 t
+bounded_round flight i w t b =
+    let paid = paid_round flight i w in
     let h = at_node w t i b in
     let k = paid.here in
     (omega (arith, h, k), paid.all t b)

@@ -60,6 +60,15 @@ pub after_high : (n i : ℕ) → 1 ≤ i → i ≤ n → after n i ≤ n
 unfolding after
 after_high n i low high = grind (arith, nat_tests)
 
+-- the request is delivered once it is handed over
+pub handed_delivers : (n i : ℕ) (events : List (ℕ × Action)) (q : Request) → IsDelivered n (events ++ handed n i q) i q
+unfolding IsDelivered
+handed_delivers n i events (ask.Stand key bid) = tt
+handed_delivers n i events (ask.Take msg_no msg) = Contains-push events (before n i, Release (Sent (Carry msg_no msg)))
+handed_delivers n i events (ask.Acked upto) = Contains-push events (after n i, Release (Sent (Credit upto)))
+handed_delivers n i events (ask.Who key) = tt
+handed_delivers n i events (ask.Latest group) = tt
+
 module _ (w : RingView) (schedule : IsSchedule w.size w.capacity w.events) where
   -- the packets that node b may release
   module _ (b : ℕ) (low : 1 ≤ b) (high : b ≤ w.size) where
@@ -99,15 +108,6 @@ module _ (w : RingView) (schedule : IsSchedule w.size w.capacity w.events) where
         packet_stays b low high (Credit upto) (credit_rests b low high upto e)
     handed_stays (ask.Who key) e = release_none w.size w.capacity w.events schedule
     handed_stays (ask.Latest group) e = release_none w.size w.capacity w.events schedule
-
--- the request is delivered once it is handed over
-pub handed_delivers : (n i : ℕ) (events : List (ℕ × Action)) (q : Request) → IsDelivered n (events ++ handed n i q) i q
-unfolding IsDelivered
-handed_delivers n i events (ask.Stand key bid) = tt
-handed_delivers n i events (ask.Take msg_no msg) = Contains-push events (before n i, Release (Sent (Carry msg_no msg)))
-handed_delivers n i events (ask.Acked upto) = Contains-push events (after n i, Release (Sent (Credit upto)))
-handed_delivers n i events (ask.Who key) = tt
-handed_delivers n i events (ask.Latest group) = tt
 
 -- ---- what is sent may be delivered
 

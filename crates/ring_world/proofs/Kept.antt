@@ -7,18 +7,20 @@ use Rattle.ring_records.specs.declared.request.Request.{Request}
 use Rattle.ring_records.specs.declared.request.Request.TheVariants as ask
 use Rattle.ring_records.specs.Lists.{EachAfter}
 use Rattle.ring_records.specs.Place.{before}
+use Rattle.ring_node.specs.declared.flight.Flight.{Flight}
+use Rattle.ring_node.specs.declared.flight.Flight.TheVariants as flights
 use Rattle.ring_world.specs.Counts.{IsBounded}
 use Rattle.ring_world.specs.Events.{IsSchedule}
 use Rattle.ring_world.specs.Rest.{IsAllDurable}
-use Rattle.ring_world.specs.Ring.{RingView, IsSameRing, waits, carried, round, summarised, brought, crashed, stopped, stopped_all, swept}
+use Rattle.ring_world.specs.Ring.{RingView, IsSameRing, node_at, is_launched, carried, round, brought, crashed, stopped, swept}
 use Rattle.ring_world.specs.State.{State, IsLeft, IsWorld, opened}
 use Rattle.ring_world.specs.declared.outcome.Outcome.{Outcome}
-use Rattle.ring_world.specs.Step.{Told, Steps, told, all_told, refusal_of, is_lasting, stepped, submitted, flushed, checkpointed, put, delivered_all}
+use Rattle.ring_world.specs.Step.{Told, Steps, told, all_told, refusal_of, is_lasting, stepped, submitted, flushed, put, delivered_all}
 use Rattle.ring_world.specs.Step as step
 use Rattle.ring_world.specs.declared.event.Event.{Event}
 use Rattle.ring_world.specs.declared.event.Event.TheVariants.{Submit, Flush, Deliver, DeliverAll, Credit, Crash, Stop, Checkpoint, StopCheckpoint}
-use Rattle.ring_world.proofs.Counts.{bounded_brought, bounded_round, bounded_summarised, bounded_crashed, bounded_stopped, bounded_stopped_all, bounded_swept, bounded_told, bounded_new, few_lost}
-use Rattle.ring_world.proofs.Rest.{durable_brought, durable_round, durable_summarised, durable_crashed, durable_stopped, durable_stopped_all, durable_swept, durable_told, durable_new, same_brought, same_round, same_summarised, same_swept}
+use Rattle.ring_world.proofs.Counts.{bounded_brought, bounded_round, bounded_crashed, bounded_stopped, bounded_swept, bounded_told, bounded_new, few_lost}
+use Rattle.ring_world.proofs.Rest.{durable_brought, durable_round, durable_crashed, durable_stopped, durable_swept, durable_told, durable_new, same_brought, same_round, same_swept}
 
 pub record Keeps (s : State) (r : Told × State) : Type 0 where
   pub same : (r.1.ring.size ≡ s.ring.size) × (r.1.ring.capacity ≡ s.ring.capacity) × (r.1.ring.eager ≡ s.ring.eager)
@@ -27,10 +29,10 @@ pub record Keeps (s : State) (r : Told × State) : Type 0 where
   pub bounded : IsBounded r.1.ring r.1.tickets
   pub durable : s.ring.eager ≡ true → IsAllDurable r.1.ring
 
-same_shape : (w v : RingView) → IsSameRing w v → (v.size ≡ w.size) × (v.capacity ≡ w.capacity) × (v.eager ≡ w.eager)
-same_shape w v same = (same.0, same.1, same.2)
-
 module _ (s : State) (bounded : IsBounded s.ring s.tickets) (durable : s.ring.eager ≡ true → IsAllDurable s.ring) where
+  same_shape : (w v : RingView) → IsSameRing w v → (v.size ≡ w.size) × (v.capacity ≡ w.capacity) × (v.eager ≡ w.eager)
+  same_shape w v same = (same.0, same.1, same.2)
+
   submitted_keeps : (i : ℕ) (q : Request) → Keeps s (submitted i q s)
   unfolding submitted
   submitted_keeps i q =
@@ -45,30 +47,17 @@ module _ (s : State) (bounded : IsBounded s.ring s.tickets) (durable : s.ring.ea
         durable = λ eager. durable_brought (Some ticket) i q s.ring eager (durable eager);
       }
 
-  flushed_keeps : (i : ℕ) → Keeps s (flushed i s)
+  flushed_keeps : (flight : Flight) (i : ℕ) → Keeps s (flushed flight i s)
   unfolding flushed
-  flushed_keeps i =
-      let bound = bounded_round i s.ring s.tickets bounded in
+  flushed_keeps flight i =
+      let bound = bounded_round flight i s.ring s.tickets bounded in
       let few = bound.0 in
       record {
-        same = same_shape s.ring (round i s.ring).1 (same_round i s.ring);
+        same = same_shape s.ring (round flight i s.ring).1 (same_round flight i s.ring);
         few = omega (arith, few);
         tickets = omega arith;
         bounded = bound.1;
-        durable = λ eager. durable_round i s.ring (durable eager);
-      }
-
-  checkpointed_keeps : (i : ℕ) → Keeps s (checkpointed i s)
-  unfolding checkpointed
-  checkpointed_keeps i =
-      let bound = bounded_summarised i s.ring s.tickets bounded in
-      let few = bound.0 in
-      record {
-        same = same_shape s.ring (summarised i s.ring).1 (same_summarised i s.ring);
-        few = omega (arith, few);
-        tickets = omega arith;
-        bounded = bound.1;
-        durable = λ eager. durable_summarised i s.ring (durable eager);
+        durable = λ eager. durable_round flight i s.ring (durable eager);
       }
 
   put_keeps : (delivery : Option (ℕ × Request)) → Keeps s (put s delivery)
@@ -85,61 +74,40 @@ module _ (s : State) (bounded : IsBounded s.ring s.tickets) (durable : s.ring.ea
     durable = λ eager. durable_swept 10000 s.ring eager (durable eager);
   }
 
+  -- node i was opened again, in this ring
+  reopened_keeps : (i : ℕ) (w : RingView) → IsSameRing s.ring w → IsBounded w s.tickets → (s.ring.eager ≡ true → IsAllDurable w) → Keeps s (step.reopened i w s)
+  reopened_keeps i w same bound all =
+      let few = few_lost i s.ring s.tickets bounded in
+      record { same = same_shape s.ring w same; few = omega (arith, few); tickets = omega arith; bounded = bound; durable = all }
+
   crashed_keeps : (i : ℕ) → Keeps s (step.crashed i s)
   unfolding step.crashed crashed
-  crashed_keeps i =
-      let few = few_lost i s.ring s.tickets bounded in
-      record {
-        same = (refl, refl, refl);
-        few = omega (arith, few);
-        tickets = omega arith;
-        bounded = bounded_crashed i s.ring s.tickets bounded;
-        durable = λ eager. durable_crashed i s.ring (durable eager);
-      }
+  crashed_keeps i = reopened_keeps i (crashed i s.ring) (refl, refl, refl, refl) (bounded_crashed i s.ring s.tickets bounded) (λ eager. durable_crashed i s.ring (durable eager))
 
-  stopped_by : (keeps_flying : Bool) (i : ℕ) → Keeps s (step.reopened i (stopped keeps_flying i s.ring) s)
+  stopped_by : (flight : Flight) (keeps_flying : Bool) (i : ℕ) → Keeps s (step.reopened i (stopped flight keeps_flying i s.ring) s)
   unfolding stopped
-  stopped_by keeps_flying i =
-      let few = few_lost i s.ring s.tickets bounded in
-      record {
-        same = (refl, refl, refl);
-        few = omega (arith, few);
-        tickets = omega arith;
-        bounded = bounded_stopped keeps_flying i s.ring s.tickets bounded;
-        durable = λ eager. durable_stopped keeps_flying i s.ring (durable eager);
-      }
+  stopped_by flight keeps_flying i =
+      reopened_keeps i (stopped flight keeps_flying i s.ring) (refl, refl, refl, refl) (bounded_stopped flight keeps_flying i s.ring s.tickets bounded) (λ eager. durable_stopped flight keeps_flying i s.ring (durable eager))
 
-  stopped_keeps : (keeps_flying : Bool) (i : ℕ) → Keeps s (step.stopped keeps_flying i s)
+  stopped_keeps : (flight : Flight) (keeps_flying : Bool) (i : ℕ) → Keeps s (step.stopped flight keeps_flying i s)
   unfolding step.stopped
-  stopped_keeps keeps_flying i = by_waiting (waits s.ring i)
+  stopped_keeps flight keeps_flying i = by_launch (is_launched flight (node_at s.ring i))
     where
-      by_waiting : (b : Bool) → Keeps s (cond b (step.reopened i (stopped keeps_flying i s.ring) s) (step.crashed i s))
-      by_waiting true = stopped_by keeps_flying i
-      by_waiting false = crashed_keeps i
-
-  stopped_all_keeps : (keeps_flying : Bool) (i : ℕ) → Keeps s (step.stopped_all keeps_flying i s)
-  unfolding step.stopped_all stopped_all
-  stopped_all_keeps keeps_flying i =
-      let few = few_lost i s.ring s.tickets bounded in
-      record {
-        same = (refl, refl, refl);
-        few = omega (arith, few);
-        tickets = omega arith;
-        bounded = bounded_stopped_all keeps_flying i s.ring s.tickets bounded;
-        durable = λ eager. durable_stopped_all keeps_flying i s.ring (durable eager);
-      }
+      by_launch : (b : Bool) → Keeps s (cond b (step.reopened i (stopped flight keeps_flying i s.ring) s) (step.crashed i s))
+      by_launch true = stopped_by flight keeps_flying i
+      by_launch false = crashed_keeps i
 
   stepped_keeps : (keeps_flying : Bool) (event : Event) → Keeps s (stepped keeps_flying s event)
   unfolding stepped
   stepped_keeps keeps_flying (Submit node q) = submitted_keeps node q
-  stepped_keeps keeps_flying (Flush node) = flushed_keeps node
+  stepped_keeps keeps_flying (Flush node) = flushed_keeps flights.Batch node
   stepped_keeps keeps_flying (Deliver from msg_no) = put_keeps (carried s.ring from msg_no)
   stepped_keeps keeps_flying DeliverAll = swept_keeps
   stepped_keeps keeps_flying (Credit from upto) = submitted_keeps (before s.ring.size from) (ask.Acked upto)
   stepped_keeps keeps_flying (Crash node) = crashed_keeps node
-  stepped_keeps keeps_flying (Stop node call tear) = stopped_keeps keeps_flying node
-  stepped_keeps keeps_flying (Checkpoint node) = checkpointed_keeps node
-  stepped_keeps keeps_flying (StopCheckpoint node call tear) = stopped_all_keeps keeps_flying node
+  stepped_keeps keeps_flying (Stop node call tear) = stopped_keeps flights.Batch keeps_flying node
+  stepped_keeps keeps_flying (Checkpoint node) = flushed_keeps flights.Checkpoint node
+  stepped_keeps keeps_flying (StopCheckpoint node call tear) = stopped_keeps flights.Checkpoint keeps_flying node
 
 -- ---- a world
 

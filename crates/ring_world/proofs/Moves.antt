@@ -1,12 +1,16 @@
 -- Events that happen to a ring, one or a few at once.
-use Rattle.std.proofs.Common.{ℕ, ◌≡◌, ◌≤◌, List, [], ◌∷◌, ◌++◌, map, sym, ap, ◌∙◌, subst, inl, inr, append_assoc, append-nil}
+use Rattle.std.proofs.Common.{ℕ, ◌≡◌, ◌≤◌, Bool, true, refl, List, [], ◌∷◌, ◌++◌, map, sym, ap, ◌∙◌, subst, inl, inr, append_assoc, append-nil}
 use Rattle.std.specs.List.{Contains}
 use Rattle.std.proofs.lemmas.Bool.{cases_eq}
 use Rattle.ring_records.proofs.Leader.{Contains-here, Contains-later}
 use Rattle.ring_records.proofs.Lists.{EachAfter-push}
+use Rattle.ring_records.specs.States.{is_idle, landed, left_by}
+use Rattle.ring_node.specs.declared.flight.Flight.{Flight}
+use Rattle.ring_node.specs.declared.flight.Flight.TheVariants.{Batch, Checkpoint}
+use Rattle.ring_node.specs.Node.{launched_as}
 use Rattle.ring_node.specs.Open.{Open}
-use Rattle.ring_world.specs.Events.{Thing, Replied, Action, Release, Process, act, process, IsReleasable, May, MayHappen, IsSchedule}
-use Rattle.ring_world.specs.Ring.{release_of}
+use Rattle.ring_world.specs.Events.{Thing, Replied, Action, Land, Release, Crash, Process, started, act, process, IsReleasable, May, MayHappen, IsSchedule}
+use Rattle.ring_world.specs.Ring.{launch, release_of}
 use Rattle.ring_world.proofs.Schedules.{process-same, process-other}
 
 -- the events may happen after those before, and change no node but i
@@ -49,6 +53,27 @@ module _ (n capacity : ℕ) (events : List (ℕ × Action)) (i : ℕ) (a b : Act
         schedule = subst (IsSchedule n capacity) joined two.schedule;
         others = λ k ne. ap (λ es. process n capacity es k) (sym joined) ∙ (two.others k ne ∙ one.others k ne);
       }
+
+-- ---- what is launched
+
+pub act_launch : (flight : Flight) (i n capacity : ℕ) (p : Process) → act i n capacity p (launch flight) ≡ record p { state = launched_as flight i p.state }
+unfolding act
+act_launch Batch i n capacity p = refl
+act_launch Checkpoint i n capacity p = refl
+
+pub may_launch : (flight : Flight) (n capacity : ℕ) (events : List (ℕ × Action)) (i : ℕ) (p : Process) → is_idle p.state ≡ true → May n capacity events i p (launch flight)
+unfolding May
+may_launch Batch n capacity events i p idle = idle
+may_launch Checkpoint n capacity events i p idle = idle
+
+module _ (n capacity : ℕ) (events : List (ℕ × Action)) (i : ℕ) (flight : Flight) where
+  pub process_landed : process n capacity (events ++ (i, launch flight) ∷ (i, Land) ∷ []) i ≡ record (process n capacity events i) { state = landed (launched_as flight i (process n capacity events i).state) }
+  unfolding act
+  process_landed = process_two n capacity events i (launch flight) Land ∙ ap (λ p. act i n capacity p Land) (act_launch flight i n capacity (process n capacity events i))
+
+  pub process_left : (keeps_flying : Bool) → process n capacity (events ++ (i, launch flight) ∷ (i, Crash keeps_flying) ∷ []) i ≡ started (left_by keeps_flying (launched_as flight i (process n capacity events i).state))
+  unfolding act
+  process_left keeps_flying = process_two n capacity events i (launch flight) (Crash keeps_flying) ∙ ap (λ p. act i n capacity p (Crash keeps_flying)) (act_launch flight i n capacity (process n capacity events i))
 
 -- ---- releases
 

@@ -1,20 +1,23 @@
 -- The nodes of a ring stay those that its events reach.
-use Rattle.std.proofs.Common.{ℕ, ◌≡◌, ◌≤◌, ◌<◌, ◌+◌, ◌-◌, Bool, true, false, ◌&&◌, nat_lt, min, List, [], ◌∷◌, ◌++◌, length, map, set, get_or, Option, refl, sym, ap, ◌∙◌, subst, inl, inr, arith}
+use Rattle.std.proofs.Common.{ℕ, ◌≡◌, ◌≤◌, ◌<◌, ◌+◌, ◌-◌, Bool, true, false, ◌&&◌, min, List, [], ◌∷◌, ◌++◌, length, map, set, get_or, Option, refl, sym, ap, ◌∙◌, subst, inl, inr, arith}
 use Rattle.std.specs.List.{Contains}
 use Rattle.std.specs.Prelude.{is_none}
 use Rattle.std.proofs.lemmas.Bool.{cases_eq, eq-eqb, ne_eqb, leb-true, ltb-true}
 use Rattle.std.proofs.lemmas.List.{length-append, length-set, get_or-set_same, get_or-set_other}
 use Rattle.std.proofs.lemmas.List.Elements.{Contains-push, Contains-push_cases, Contains-append_left}
 use Rattle.ring_records.specs.declared.request.Request.{Request}
-use Rattle.ring_records.specs.Member.{Member, member}
-use Rattle.ring_records.specs.States.{NodeState, is_idle, answered_by, opened, asked, launched, launched_all, landed, left_by}
+use Rattle.ring_records.specs.Member.{member}
+use Rattle.ring_records.specs.States.{NodeState, is_idle, answered_by, opened, asked, landed, left_by}
 use Rattle.ring_records.proofs.Leader.{Contains-nil}
-use Rattle.ring_node.specs.Node.{NodeView, new_node, state_of, durable_in, ticket_of, asked_with, flushed, checkpointed, restarted, left, left_all, reopened}
+use Rattle.ring_node.specs.declared.flight.Flight.{Flight}
+use Rattle.ring_node.specs.declared.flight.Flight.TheVariants.{Batch, Checkpoint}
+use Rattle.ring_node.specs.Node.{NodeView, new_node, state_of, durable_in, ticket_of, asked_with, launched_as, flying, made_durable, left, reopened}
 use Rattle.ring_node.specs.Open.{Open, due, is_due}
-use Rattle.ring_world.specs.Events.{Replied, Action, Submit, Launch, LaunchAll, Land, Crash, Process, act, process, IsDelivered, IsReleasable, May, MayHappen}
-use Rattle.ring_world.specs.Ring.{release_of}
-use Rattle.ring_world.specs.Shows.{ShowsNode, Shows, checkpoint_of, without_due}
-use Rattle.ring_world.proofs.Moves.{Grows, Stays, grows_one, grows_two, process_two, release_all}
+use Rattle.ring_node.proofs.Flights.{durable_state}
+use Rattle.ring_world.specs.Events.{Replied, Action, Submit, Land, Crash, Process, started, act, process, IsDelivered, IsReleasable, May, MayHappen}
+use Rattle.ring_world.specs.Ring.{is_launched, launch, release_of}
+use Rattle.ring_world.specs.Shows.{ShowsNode, Shows, without_due}
+use Rattle.ring_world.proofs.Moves.{Grows, Stays, grows_one, grows_two, act_launch, may_launch, process_landed, process_left, release_all}
 use Rattle.ring_world.proofs.Schedules.{process-same}
 use Rattle.ring_world.proofs.Tickets.{from_filter}
 
@@ -98,54 +101,33 @@ module _ (n capacity : ℕ) (events : List (ℕ × Action)) (nodes : List NodeVi
     asked_shows serial q delivered =
         moved (submission q) (grows_one n capacity events i (Submit q) shows.schedule (record { first = first; last = last; may = delivered })) (asked_with serial q v) (asked_here serial q)
 
-    -- ---- a batch of node i lands
+    -- ---- what is launched of node i lands
 
-    abbrev batch : List (ℕ × Action)
-    batch = (i, Launch) ∷ (i, Land) ∷ []
+    abbrev flight_events : Flight → Action → List (ℕ × Action)
+    flight_events flight end = (i, launch flight) ∷ (i, end) ∷ []
 
-    may_launch : MayHappen n capacity events (i, Launch)
-    unfolding May
-    may_launch = record { first = first; last = last; may = ap is_idle (sym mine.state) ∙ ap (λ b. b && true) (eq-eqb v.durable v.durable refl) }
+    may_begin : (flight : Flight) → MayHappen n capacity events (i, launch flight)
+    may_begin flight = record { first = first; last = last; may = may_launch flight n capacity events i p (ap is_idle (sym mine.state) ∙ ap (λ b. b && true) (eq-eqb v.durable v.durable refl)) }
 
-    may_land : nat_lt p.state.durable (length p.state.inputs) ≡ true → is_idle (launched p.state) ≡ false
-    may_land e = ap (λ b. b && is_none p.state.checkpoint) (ne_eqb (min (p.state.durable + 64) (length p.state.inputs)) p.state.durable (λ same. let more = ltb-true p.state.durable (length p.state.inputs) e in absurd (omega arith)))
+    may_land : (flight : Flight) → is_launched flight p.state ≡ true → is_idle (launched_as flight i p.state) ≡ false
+    may_land Batch e = ap (λ b. b && is_none p.state.checkpoint) (ne_eqb (min (p.state.durable + 64) (length p.state.inputs)) p.state.durable (λ same. let more = ltb-true p.state.durable (length p.state.inputs) e in absurd (omega arith)))
+    may_land Checkpoint e = with_false _
 
-    landed_here : ShowsNode n capacity (events ++ batch) i (flushed v)
-    unfolding act
-    landed_here =
-        let same = process_two n capacity events i Launch Land in
+    landed_here : (flight : Flight) → ShowsNode n capacity (events ++ flight_events flight Land) i (made_durable flight v)
+    landed_here flight =
+        let same = process_landed n capacity events i flight in
         record {
           is = mine.is;
-          state = ap (λ (s : NodeState). landed (launched s)) mine.state ∙ ap (λ (r : Process). r.state) (sym same);
+          state = durable_state flight v ∙ ((λ t. landed (launched_as flight (mine.is t).node (mine.state t))) ∙ ap (λ (r : Process). r.state) (sym same));
           kept = λ t here. subst (λ (r : Process). Contains r.kept t.kept) (sym same) (mine.kept t here);
-          few = (let l = length-append events batch in let f = mine.few in omega arith);
+          few = (let l = length-append events (flight_events flight Land) in let f = mine.few in omega arith);
         }
 
-    pub landed_shows : nat_lt p.state.durable (length p.state.inputs) ≡ true → Shows n capacity (events ++ batch) (set nodes (i - 1) (flushed v))
-    unfolding May act
-    landed_shows e = moved batch (grows_two n capacity events i Launch Land shows.schedule may_launch (may_land e)) (flushed v) landed_here
-
-    -- ---- a checkpoint of node i lands
-
-    may_launch_all : MayHappen n capacity events (i, LaunchAll)
+    pub landed_shows : (flight : Flight) → is_launched flight p.state ≡ true → Shows n capacity (events ++ flight_events flight Land) (set nodes (i - 1) (made_durable flight v))
     unfolding May
-    may_launch_all = record { first = first; last = last; may = ap is_idle (sym mine.state) ∙ ap (λ b. b && true) (eq-eqb v.durable v.durable refl) }
-
-    checkpointed_here : ShowsNode n capacity (events ++ checkpoint_of i) i (checkpointed v)
-    unfolding act
-    checkpointed_here =
-        let same = process_two n capacity events i LaunchAll Land in
-        record {
-          is = mine.is;
-          state = (λ t. landed (launched_all (mine.is t).node (mine.state t))) ∙ ap (λ (r : Process). r.state) (sym same);
-          kept = λ t here. subst (λ (r : Process). Contains r.kept t.kept) (sym same) (mine.kept t here);
-          few = (let l = length-append events (checkpoint_of i) in let f = mine.few in omega arith);
-        }
-
-    pub checkpointed_shows : Shows n capacity (events ++ checkpoint_of i) (set nodes (i - 1) (checkpointed v))
-    unfolding May act
-    checkpointed_shows =
-        moved (checkpoint_of i) (grows_two n capacity events i LaunchAll Land shows.schedule may_launch_all (with_false _)) (checkpointed v) checkpointed_here
+    landed_shows flight e =
+        moved (flight_events flight Land)
+        (grows_two n capacity events i (launch flight) Land shows.schedule (may_begin flight) (ap (λ (q : Process). is_idle q.state) (act_launch flight i n capacity p) ∙ may_land flight e)) (made_durable flight v) (landed_here flight)
 
     -- ---- replies of node i are released
 
@@ -178,11 +160,11 @@ module _ (n capacity : ℕ) (events : List (ℕ × Action)) (nodes : List NodeVi
 
     -- ---- node i loses its memory
 
-    opened_again : (more : List (ℕ × Action)) (inputs : List _) → process n capacity (events ++ more) i ≡ record { state = opened v.base inputs; kept = [] } → ShowsNode n capacity (events ++ more) i (restarted inputs v)
-    unfolding restarted
-    opened_again more inputs same = record {
+    opened_again : (more : List (ℕ × Action)) (keeps_flying : Bool) (s : NodeState) → process n capacity (events ++ more) i ≡ started (left_by keeps_flying s) → ShowsNode n capacity (events ++ more) i (reopened (left_by keeps_flying s) v)
+    unfolding reopened
+    opened_again more keeps_flying s same = record {
       is = mine.is;
-      state = ap (λ (r : Process). r.state) (sym same);
+      state = idle_left keeps_flying s v ∙ ap (λ (r : Process). r.state) (sym same);
       kept = λ t here. Contains-nil t here;
       few = omega arith;
     }
@@ -190,47 +172,15 @@ module _ (n capacity : ℕ) (events : List (ℕ × Action)) (nodes : List NodeVi
     abbrev crash : List (ℕ × Action)
     crash = (i, Crash false) ∷ []
 
-    pub crashed_shows : Shows n capacity (events ++ crash) (set nodes (i - 1) (restarted (durable_in v) v))
+    pub crashed_shows : Shows n capacity (events ++ crash) (set nodes (i - 1) (reopened (opened v.base (durable_in v)) v))
     unfolding May act
     crashed_shows =
-        moved crash (grows_one n capacity events i (Crash false) shows.schedule (record { first = first; last = last; may = tt })) (restarted (durable_in v) v)
-        (opened_again crash (durable_in v) (process-same n capacity events i (Crash false) ∙ ap (λ (s : NodeState). record { state = left_by false s; kept = [] }) (sym mine.state)))
+        moved crash (grows_one n capacity events i (Crash false) shows.schedule (record { first = first; last = last; may = tt })) (reopened (opened v.base (durable_in v)) v)
+        (opened_again crash false (state_of v) (process-same n capacity events i (Crash false) ∙ ap (λ (s : NodeState). started (left_by false s)) (sym mine.state)))
 
-    abbrev stop : Bool → List (ℕ × Action)
-    stop keeps_flying = (i, Launch) ∷ (i, Crash keeps_flying) ∷ []
-
-    stopped_here : (keeps_flying : Bool) → process n capacity (events ++ stop keeps_flying) i ≡ record { state = opened v.base (left keeps_flying v); kept = [] }
-    unfolding act
-    stopped_here true = process_two n capacity events i Launch (Crash true) ∙ ap (λ (s : NodeState). record { state = left_by true (launched s); kept = [] }) (sym mine.state)
-    stopped_here false = process_two n capacity events i Launch (Crash false) ∙ ap (λ (s : NodeState). record { state = left_by false (launched s); kept = [] }) (sym mine.state)
-
-    pub stopped_shows : (keeps_flying : Bool) → Shows n capacity (events ++ stop keeps_flying) (set nodes (i - 1) (restarted (left keeps_flying v) v))
+    pub stopped_shows : (flight : Flight) (keeps_flying : Bool) → Shows n capacity (events ++ flight_events flight (Crash keeps_flying)) (set nodes (i - 1) (reopened (left flight keeps_flying v) v))
     unfolding May
-    stopped_shows keeps_flying =
-        moved (stop keeps_flying) (grows_two n capacity events i Launch (Crash keeps_flying) shows.schedule may_launch tt) (restarted (left keeps_flying v) v)
-        (opened_again (stop keeps_flying) (left keeps_flying v) (stopped_here keeps_flying))
-
-    abbrev stop_all : Bool → List (ℕ × Action)
-    stop_all keeps_flying = (i, LaunchAll) ∷ (i, Crash keeps_flying) ∷ []
-
-    stopped_all_here : (keeps_flying : Bool) → process n capacity (events ++ stop_all keeps_flying) i ≡ record { state = left_all keeps_flying v; kept = [] }
-    unfolding act
-    stopped_all_here keeps_flying =
-        process_two n capacity events i LaunchAll (Crash keeps_flying)
-        ∙ λ t. record { state = left_by keeps_flying (launched_all (sym (ap (λ (m : Member). m.node) mine.is) t) (sym mine.state t)); kept = [] }
-
-    reopened_all : (keeps_flying : Bool) → ShowsNode n capacity (events ++ stop_all keeps_flying) i (reopened (left_all keeps_flying v) v)
-    unfolding reopened
-    reopened_all keeps_flying =
-        let same = stopped_all_here keeps_flying in
-        record {
-          is = mine.is;
-          state = idle_left keeps_flying (launched_all v.member.node (state_of v)) v ∙ ap (λ (r : Process). r.state) (sym same);
-          kept = λ t here. Contains-nil t here;
-          few = omega arith;
-        }
-
-    pub stopped_all_shows : (keeps_flying : Bool) → Shows n capacity (events ++ stop_all keeps_flying) (set nodes (i - 1) (reopened (left_all keeps_flying v) v))
-    unfolding May
-    stopped_all_shows keeps_flying =
-        moved (stop_all keeps_flying) (grows_two n capacity events i LaunchAll (Crash keeps_flying) shows.schedule may_launch_all tt) (reopened (left_all keeps_flying v) v) (reopened_all keeps_flying)
+    stopped_shows flight keeps_flying =
+        moved (flight_events flight (Crash keeps_flying)) (grows_two n capacity events i (launch flight) (Crash keeps_flying) shows.schedule (may_begin flight) tt) (reopened (left flight keeps_flying v) v)
+        (opened_again (flight_events flight (Crash keeps_flying)) keeps_flying (flying flight v)
+        (process_left n capacity events i flight keeps_flying ∙ λ t. started (left_by keeps_flying (launched_as flight (sym mine.is t).node (sym mine.state t)))))

@@ -48,6 +48,10 @@ fronts d e xs ys more inside outside same k less =
 durable_within : (s : NodeState) → IsNodeState s → s.durable ≤ length s.inputs
 durable_within s counts = let d = counts.durable in let f = counts.flying in omega arith
 
+may_release : (n capacity : ℕ) (events : List (ℕ × Action)) (i : ℕ) (t : Thing) → MayHappen n capacity events (i, Release t) → IsReleasable i n capacity (process n capacity events i) t
+unfolding May
+may_release n capacity events i t h = h.may
+
 module _ (n capacity : ℕ) (early late : List (ℕ × Action)) (before : Holds n capacity early) (after : Holds n capacity (early ++ late)) (i : ℕ) where
   abbrev at_release : NodeState
   at_release = state_after n capacity early i
@@ -83,10 +87,6 @@ module _ (n capacity : ℕ) (early late : List (ℕ × Action)) (before : Holds 
       record { number = a.answer.number; rested = (before.sound i).kept a r.0; was_durable = r.1; is_durable = kept.durable; same = kept.same }
   released-kept (Sent packet) r = durable-kept (Sent packet) r
   released-kept (Shown key c) r = durable-kept (Shown key c) r
-
-may_release : (n capacity : ℕ) (events : List (ℕ × Action)) (i : ℕ) (t : Thing) → MayHappen n capacity events (i, Release t) → IsReleasable i n capacity (process n capacity events i) t
-unfolding May
-may_release n capacity events i t h = h.may
 
 pub prefix_kept : (n capacity : ℕ) (early late : List (ℕ × Action)) (i : ℕ) (t : Thing) → IsSchedule n capacity (early ++ (i, Release t) ∷ late)
     → IsKept i n capacity t (state_after n capacity early i) (state_after n capacity (early ++ (i, Release t) ∷ late) i)

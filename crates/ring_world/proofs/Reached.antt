@@ -4,6 +4,7 @@ use Rattle.ring_records.specs.declared.request.Request.{Request}
 use Rattle.ring_records.specs.declared.request.Request.TheVariants as ask
 use Rattle.ring_records.specs.Member.{member}
 use Rattle.ring_records.specs.States.{asked as asked_state, launched, landed as landed_state}
+use Rattle.ring_node.specs.declared.flight.Flight.TheVariants.{Batch}
 use Rattle.ring_world.specs.Events.{Submit, Launch, Land, Process, act}
 use Rattle.ring_world.specs.Ring.{RingView, node_at, asked, landed, waits, settled, due_at, given}
 use Rattle.ring_world.proofs.Moves.{process_two, process_two-other, process-release, process-releases}
@@ -33,15 +34,15 @@ module _ (w : RingView) (i : ℕ) where
   asked-other serial q j ne = ap (λ (p : Process). p.state) (process-other w.size w.capacity w.events i (Submit q) j ne)
 
   -- where something waits, a batch of node i lands
-  pub node_landed : waits w i ≡ true → node_at (landed i w) i ≡ landed_state (launched (node_at w i))
+  pub node_landed : waits w i ≡ true → node_at (landed Batch i w) i ≡ landed_state (launched (node_at w i))
   unfolding landed act
   node_landed e = ap (λ b. node_at (record w { events = w.events ++ cond b ((i, Launch) ∷ (i, Land) ∷ []) [] }) i) e ∙ ap (λ (p : Process). p.state) (process_two w.size w.capacity w.events i Launch Land)
 
-  pub landed-other : waits w i ≡ true → (j : ℕ) → (i ≡ j → ⊥) → node_at (landed i w) j ≡ node_at w j
+  pub landed-other : waits w i ≡ true → (j : ℕ) → (i ≡ j → ⊥) → node_at (landed Batch i w) j ≡ node_at w j
   unfolding landed
   landed-other e j ne = ap (λ b. node_at (record w { events = w.events ++ cond b ((i, Launch) ∷ (i, Land) ∷ []) [] }) j) e ∙ ap (λ (p : Process). p.state) (process_two-other w.size w.capacity w.events i Launch Land j ne)
 
   -- else nothing happens
-  pub landed_idle : waits w i ≡ false → landed i w ≡ w
+  pub landed_idle : waits w i ≡ false → landed Batch i w ≡ w
   unfolding landed
   landed_idle e = ap (λ b. record w { events = w.events ++ cond b ((i, Launch) ∷ (i, Land) ∷ []) [] }) e ∙ ap (λ es. record w { events = es }) (append-nil w.events)

@@ -10,10 +10,12 @@ use Rattle.ring_records.specs.Admission.{refusal}
 use Rattle.ring_records.specs.Answer.{input_of, gained, if_free, if_input}
 use Rattle.ring_records.specs.Member.{member}
 use Rattle.ring_records.specs.Ring.{part}
-use Rattle.ring_records.specs.States.{NodeState, gained_by, left_by, launched, launched_all, launched_base}
-use Rattle.ring_world.specs.Events.{Action, Launch, LaunchAll, Land, Crash, Process, act, process, state_after}
+use Rattle.ring_records.specs.States.{NodeState, gained_by, left_by, launched_base}
+use Rattle.ring_node.specs.declared.flight.Flight.{Flight}
+use Rattle.ring_node.specs.declared.flight.Flight.TheVariants.{Batch, Checkpoint}
+use Rattle.ring_world.specs.Events.{Action, LaunchAll, Land, Crash, Process, act, process, state_after}
 use Rattle.ring_world.specs.Rest.{IsAllDurable}
-use Rattle.ring_world.specs.Ring.{RingView, IsSameRing, Part, node_at, asked, landed, checkpointed, summarised, waits, settled, released, and_then, round, rounds, drained, crashed, stopped, stopped_all, given, brought, swept, swept_with, swept_on, swept_one, next_delivery, new_ring}
+use Rattle.ring_world.specs.Ring.{RingView, IsSameRing, Part, node_at, asked, launch, landed, waits, settled, released, and_then, round, rounds, drained, crashed, stopped, given, brought, swept, swept_with, swept_on, swept_one, next_delivery, new_ring}
 use Rattle.ring_world.proofs.Moves.{process_two, process_two-other}
 use Rattle.ring_world.proofs.Reached.{node_given, node_settled, node_asked, asked-other, node_landed, landed-other, landed_idle}
 use Rattle.ring_world.proofs.Schedules.{process-same, process-other}
@@ -66,7 +68,7 @@ settled_near most w i near =
     }
 
 -- a batch makes an input durable at least
-landed_near : (most : ℕ) (w : RingView) (i : ℕ) → waits w i ≡ true → IsNear (most + 1) w i → IsNear most (landed i w) i
+landed_near : (most : ℕ) (w : RingView) (i : ℕ) → waits w i ≡ true → IsNear (most + 1) w i → IsNear most (landed Batch i w) i
 landed_near most w i e near =
     let s = node_at w i in
     let low = ltb-true s.durable (length s.inputs) e in
@@ -85,8 +87,8 @@ idle_near most w i e near = record {
   others = near.others;
 }
 
-rounds_if : (most i : ℕ) (w : RingView) → IsNear (most + 1) w i → ((v : RingView) → IsNear most v i → IsAllDurable (rounds most i v).1) → (b : Bool) → waits w i ≡ b → IsAllDurable (cond b (and_then (round i w) (rounds most i)) ([], w)).1
-rounds_if most i w near others true e = others (settled i (landed i w)) (settled_near most (landed i w) i (landed_near most w i e near))
+rounds_if : (most i : ℕ) (w : RingView) → IsNear (most + 1) w i → ((v : RingView) → IsNear most v i → IsAllDurable (rounds most i v).1) → (b : Bool) → waits w i ≡ b → IsAllDurable (cond b (and_then (round Batch i w) (rounds most i)) ([], w)).1
+rounds_if most i w near others true e = others (settled i (landed Batch i w)) (settled_near most (landed Batch i w) i (landed_near most w i e near))
 rounds_if most i w near others false e = none_near w i (idle_near (most + 1) w i e near)
 
 -- rounds leave nothing waiting where they are as many as inputs wait
@@ -132,13 +134,6 @@ pub durable_settled : (i : ℕ) (w : RingView) → IsAllDurable w → IsAllDurab
 unfolding IsAllDurable
 durable_settled i w all = λ j. subst IsStill (sym (node_settled w i j)) (all j)
 
-durable_landed : (i : ℕ) (w : RingView) → IsAllDurable w → (b : Bool) → waits w i ≡ b → IsAllDurable (landed i w)
-durable_landed i w all true e = (let is = at_node w i all in let low = ltb-true (node_at w i).durable (length (node_at w i).inputs) e in absurd (omega arith))
-durable_landed i w all false e = subst IsAllDurable (sym (landed_idle w i e)) all
-
-pub durable_round : (i : ℕ) (w : RingView) → IsAllDurable w → IsAllDurable (round i w).1
-durable_round i w all = durable_settled i (landed i w) (durable_landed i w all (waits w i) refl)
-
 module _ (n capacity : ℕ) (events : List (ℕ × Action)) (i : ℕ) (all : (j : ℕ) → IsStill (state_after n capacity events j)) where
   still_one : (a : Action) → IsStill (act i n capacity (process n capacity events i) a).state → (j : ℕ) → IsStill (state_after n capacity (events ++ (i, a) ∷ []) j)
   still_one a here j = elim (cases_eq i j) [
@@ -161,21 +156,22 @@ still_left : (keeps_flying : Bool) (s : NodeState) → IsStill (left_by keeps_fl
 still_left true s = refl
 still_left false s = refl
 
-pub durable_stopped : (keeps_flying : Bool) (i : ℕ) (w : RingView) → IsAllDurable w → IsAllDurable (stopped keeps_flying i w)
+pub durable_stopped : (flight : Flight) (keeps_flying : Bool) (i : ℕ) (w : RingView) → IsAllDurable w → IsAllDurable (stopped flight keeps_flying i w)
 unfolding stopped act IsAllDurable
-durable_stopped keeps_flying i w all = still_two w.size w.capacity w.events i all Launch (Crash keeps_flying) (still_left keeps_flying (launched (node_at w i)))
+durable_stopped flight keeps_flying i w all = still_two w.size w.capacity w.events i all (launch flight) (Crash keeps_flying) (still_left keeps_flying (act i w.size w.capacity (process w.size w.capacity w.events i) (launch flight)).state)
 
--- a checkpoint leaves none
-durable_checkpointed : (i : ℕ) (w : RingView) → IsAllDurable w → IsAllDurable (checkpointed i w)
-unfolding checkpointed act IsAllDurable
-durable_checkpointed i w all = still_two w.size w.capacity w.events i all LaunchAll Land refl
+-- nor does a round
+durable_landed : (flight : Flight) (i : ℕ) (w : RingView) → IsAllDurable w → IsAllDurable (landed flight i w)
+unfolding landed act IsAllDurable
+durable_landed Batch i w all = by_waiting (waits w i) refl
+  where
+    by_waiting : (b : Bool) → waits w i ≡ b → IsAllDurable (landed Batch i w)
+    by_waiting true e = (let is = at_node w i all in let low = ltb-true (node_at w i).durable (length (node_at w i).inputs) e in absurd (omega arith))
+    by_waiting false e = subst IsAllDurable (sym (landed_idle w i e)) all
+durable_landed Checkpoint i w all = still_two w.size w.capacity w.events i all LaunchAll Land refl
 
-pub durable_summarised : (i : ℕ) (w : RingView) → IsAllDurable w → IsAllDurable (summarised i w).1
-durable_summarised i w all = durable_settled i (checkpointed i w) (durable_checkpointed i w all)
-
-pub durable_stopped_all : (keeps_flying : Bool) (i : ℕ) (w : RingView) → IsAllDurable w → IsAllDurable (stopped_all keeps_flying i w)
-unfolding stopped_all act IsAllDurable
-durable_stopped_all keeps_flying i w all = still_two w.size w.capacity w.events i all LaunchAll (Crash keeps_flying) (still_left keeps_flying (launched_all i (node_at w i)))
+pub durable_round : (flight : Flight) (i : ℕ) (w : RingView) → IsAllDurable w → IsAllDurable (round flight i w).1
+durable_round flight i w all = durable_settled i (landed flight i w) (durable_landed flight i w all)
 
 -- what was told changes no node
 pub durable_told : (w : RingView) → IsAllDurable w → IsAllDurable (record w { told = w.events })
@@ -191,13 +187,9 @@ durable_new size eager capacity = λ i. refl
 after_same : (w v u : RingView) → IsSameRing w v → IsSameRing v u → IsSameRing w u
 after_same w v u first then = (then.0 ∙ first.0, then.1 ∙ first.1, then.2 ∙ first.2, then.3 ∙ first.3)
 
-pub same_round : (i : ℕ) (w : RingView) → IsSameRing w (round i w).1
+pub same_round : (flight : Flight) (i : ℕ) (w : RingView) → IsSameRing w (round flight i w).1
 unfolding settled landed
-same_round i w = (refl, refl, refl, refl)
-
-pub same_summarised : (i : ℕ) (w : RingView) → IsSameRing w (summarised i w).1
-unfolding settled checkpointed
-same_summarised i w = (refl, refl, refl, refl)
+same_round flight i w = (refl, refl, refl, refl)
 
 same_asked : (serial : Option ℕ) (i : ℕ) (q : Request) (w : RingView) → IsSameRing w (settled i (asked serial i q (given i q w)))
 unfolding settled asked given
@@ -211,7 +203,7 @@ same_rounds : (most i : ℕ) (w : RingView) → IsSameRing w (rounds most i w).1
 unfolding rounds
 same_rounds zero i w = (refl, refl, refl, refl)
 same_rounds (suc most) i w =
-    same_if (waits w i) w (and_then (round i w) (rounds most i)) ([], w) (after_same w (round i w).1 (rounds most i (round i w).1).1 (same_round i w) (same_rounds most i (round i w).1)) (refl, refl, refl, refl)
+    same_if (waits w i) w (and_then (round Batch i w) (rounds most i)) ([], w) (after_same w (round Batch i w).1 (rounds most i (round Batch i w).1).1 (same_round Batch i w) (same_rounds most i (round Batch i w).1)) (refl, refl, refl, refl)
 
 pub same_brought : (serial : Option ℕ) (i : ℕ) (q : Request) (w : RingView) → IsSameRing w (brought serial i q w).1
 unfolding brought

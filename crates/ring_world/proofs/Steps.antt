@@ -1,15 +1,16 @@
 -- What the code makes of a ring is what is said of it.
 use Rattle.std.proofs.Common.{ℕ, zero, suc, ◌≡◌, ◌≤◌, ◌<◌, ◌-◌, Bool, true, false, List, [], ◌∷◌, ◌++◌, length, take, map, set, get_or, Option, sym, ap, ◌∙◌, subst, refl, arith, append_assoc}
 use Rattle.std.specs.List.{All, insert, remove}
-use Rattle.std.proofs.lemmas.List.{take-append-le, length-append, set-set}
+use Rattle.std.proofs.lemmas.List.{take-append-le, length-append, set-set, get_or-set_same}
 use Rattle.std.proofs.lemmas.List.Elements.{All-set}
 use Rattle.ring_records.specs.declared.request.Request.{Request}
-use Rattle.ring_records.specs.States.{NodeState}
-use Rattle.ring_node.specs.Node.{NodeView, durable_in, asked_with, flushed, checkpointed as checkpointed_node, restarted, left, left_all, reopened}
+use Rattle.ring_records.specs.States.{NodeState, opened}
+use Rattle.ring_node.specs.declared.flight.Flight.{Flight}
+use Rattle.ring_node.specs.Node.{NodeView, state_of, durable_in, asked_with, made_durable, left, reopened}
 use Rattle.ring_node.specs.Open.{due}
-use Rattle.ring_world.specs.Events.{Action, Submit, Launch, LaunchAll, Crash}
-use Rattle.ring_world.specs.Ring.{RingView, asked, landed, checkpointed, due_at, release_of, settled, crashed, stopped, stopped_all, given, handed, is_released}
-use Rattle.ring_world.specs.Shows.{Shows, IsSound, IsSealed, held_of, without_due, batch_of, checkpoint_of}
+use Rattle.ring_world.specs.Events.{Action, Submit, Crash}
+use Rattle.ring_world.specs.Ring.{RingView, node_at, asked, launch, landing, landed, due_at, release_of, settled, crashed, stopped, given, handed, is_released}
+use Rattle.ring_world.specs.Shows.{Shows, IsSound, IsSealed, held_of, without_due}
 use Rattle.ring_world.specs.State.{State, by_log}
 use Rattle.ring_world.specs.declared.log.Log.{Log}
 use Rattle.ring_world.proofs.Handed.{handed_delivers}
@@ -124,85 +125,58 @@ module _ (log : Log) (nodes : List NodeView) (s : State) (is : by_log log false 
           refl refl refl refl refl (ties.settles asked_ring es2 (set nodes (number - 1) v1) tied_asked i number place first inside x read es3 v2 last_log freed)
           (released_sealed v1 x v2 freed)
 
-    -- A round: the code lands a batch where something waits, and releases what is due.
-    module _ (es1 : List (ℕ × Action)) (v1 x : NodeView) (landed_log : es1 ≡ events ++ batch_of i v) (moved : v1 ≡ flushed v) (read : x ≡ get_or (set nodes (number - 1) v1) (number - 1) x) where
-      tied_landed : Ties (landed i w) es1 (set nodes (number - 1) v1)
-      tied_landed = ties.lands w events nodes tied i number place first last v was es1 v1 landed_log moved
+    -- A round: the code lands it where it is launched, and releases what is due.
+    module _ (flight : Flight) (es1 : List (ℕ × Action)) (v1 x : NodeView) (landed_log : es1 ≡ events ++ landing flight i (state_of v)) (moved : v1 ≡ made_durable flight v) (read : x ≡ get_or (set nodes (number - 1) v1) (number - 1) x) where
+      tied_landed : Ties (landed flight i w) es1 (set nodes (number - 1) v1)
+      tied_landed = ties.lands w events nodes tied i number place first last v was es1 v1 flight landed_log moved
 
-      inside_landed : i ≤ (landed i w).size
+      inside_landed : i ≤ (landed flight i w).size
       unfolding landed
       inside_landed = last
 
-      pub landed_due : due x.durable x.held ≡ due_at (landed i w) i
-      landed_due = ties.due_is (landed i w) es1 (set nodes (number - 1) v1) tied_landed i number place first inside_landed x read
+      pub landed_due : due x.durable x.held ≡ due_at (landed flight i w) i
+      landed_due = ties.due_is (landed flight i w) es1 (set nodes (number - 1) v1) tied_landed i number place first inside_landed x read
+
+      -- so many inputs more are durable
+      pub landed_count : v1.durable - v.durable ≡ (node_at (landed flight i w) i).durable - (node_at w i).durable
+      landed_count =
+          let same : x ≡ v1 = read ∙ get_or-set_same nodes (number - 1) v1 x (ties.place_within w events nodes tied i number place first last v was) in
+          λ t. (ap (λ (u : NodeView). u.durable) (sym same) ∙ ties.durable (landed flight i w) es1 (set nodes (number - 1) v1) tied_landed i number place first inside_landed x read) t
+          - ties.durable w events nodes tied i number place first last v was t
 
       pub rounds : (es2 : List (ℕ × Action)) (v2 : NodeView) → es2 ≡ es1 ++ map (release_of i) (due x.durable x.held) → v2 ≡ without_due x
-          → (seen es2 (set (set nodes (number - 1) v1) (number - 1) v2) ≡ record s { ring = settled i (landed i w) }) × Stands es2 (set (set nodes (number - 1) v1) (number - 1) v2)
+          → (seen es2 (set (set nodes (number - 1) v1) (number - 1) v2) ≡ record s { ring = settled i (landed flight i w) }) × Stands es2 (set (set nodes (number - 1) v1) (number - 1) v2)
       unfolding settled landed
       rounds es2 v2 last_log freed =
           let freed_events = map (release_of i) (due x.durable x.held) in
-          becomes (settled i (landed i w)) es2 (batch_of i v ++ freed_events) (set (set nodes (number - 1) v1) (number - 1) v2)
-          (last_log ∙ (ap (λ es. es ++ freed_events) landed_log ∙ append_assoc events (batch_of i v) freed_events))
-          refl refl refl refl refl (ties.settles (landed i w) es1 (set nodes (number - 1) v1) tied_landed i number place first inside_landed x read es2 v2 last_log freed)
-          (released_sealed v1 x v2 freed)
-
-    -- A checkpoint: the code lands it, and releases what is due.
-    module _ (es1 : List (ℕ × Action)) (v1 x : NodeView) (landed_log : es1 ≡ events ++ checkpoint_of i) (moved : v1 ≡ checkpointed_node v) (read : x ≡ get_or (set nodes (number - 1) v1) (number - 1) x) where
-      tied_summarised : Ties (checkpointed i w) es1 (set nodes (number - 1) v1)
-      tied_summarised = ties.summarises w events nodes tied i number place first last v was es1 v1 landed_log moved
-
-      inside_summarised : i ≤ (checkpointed i w).size
-      unfolding checkpointed
-      inside_summarised = last
-
-      pub summarised_due : due x.durable x.held ≡ due_at (checkpointed i w) i
-      summarised_due = ties.due_is (checkpointed i w) es1 (set nodes (number - 1) v1) tied_summarised i number place first inside_summarised x read
-
-      pub summarises : (es2 : List (ℕ × Action)) (v2 : NodeView) → es2 ≡ es1 ++ map (release_of i) (due x.durable x.held) → v2 ≡ without_due x
-          → (seen es2 (set (set nodes (number - 1) v1) (number - 1) v2) ≡ record s { ring = settled i (checkpointed i w) }) × Stands es2 (set (set nodes (number - 1) v1) (number - 1) v2)
-      unfolding settled checkpointed
-      summarises es2 v2 last_log freed =
-          let freed_events = map (release_of i) (due x.durable x.held) in
-          becomes (settled i (checkpointed i w)) es2 (checkpoint_of i ++ freed_events) (set (set nodes (number - 1) v1) (number - 1) v2)
-          (last_log ∙ (ap (λ es. es ++ freed_events) landed_log ∙ append_assoc events (checkpoint_of i) freed_events))
-          refl refl refl refl refl (ties.settles (checkpointed i w) es1 (set nodes (number - 1) v1) tied_summarised i number place first inside_summarised x read es2 v2 last_log freed)
+          becomes (settled i (landed flight i w)) es2 (landing flight i (state_of v) ++ freed_events) (set (set nodes (number - 1) v1) (number - 1) v2)
+          (last_log ∙ (ap (λ es. es ++ freed_events) landed_log ∙ append_assoc events (landing flight i (state_of v)) freed_events))
+          refl refl refl refl refl (ties.settles (landed flight i w) es1 (set nodes (number - 1) v1) tied_landed i number place first inside_landed x read es2 v2 last_log freed)
           (released_sealed v1 x v2 freed)
 
     -- A crash or a stop: the code makes of the node what is said, and pushes what happened.
     module _ (es : List (ℕ × Action)) (v' : NodeView) where
-      restarted_sealed : (inputs : List _) → IsSealed (restarted inputs v)
-      unfolding restarted
-      restarted_sealed inputs = refl
+      reopened_sealed : (t : NodeState) → IsSealed (reopened t v)
+      unfolding reopened
+      reopened_sealed t = refl
 
       -- with the node put back at its place
       module _ (vs : List NodeView) (put : vs ≡ set nodes (number - 1) v') where
-        pub crashes : es ≡ events ++ (i, Crash false) ∷ [] → v' ≡ restarted (durable_in v) v → (seen es vs ≡ record s { ring = crashed i w }) × Stands es vs
+        pub crashes : es ≡ events ++ (i, Crash false) ∷ [] → v' ≡ reopened (opened v.base (durable_in v)) v → (seen es vs ≡ record s { ring = crashed i w }) × Stands es vs
         unfolding crashed
         crashes logged moved =
             subst (λ ns. (seen es ns ≡ record s { ring = crashed i w }) × Stands es ns) (sym put)
             (becomes (crashed i w) es _ (set nodes (number - 1) v') logged refl refl refl refl refl (ties.crashes w events nodes tied i number place first last v was es v' logged moved)
-            (put_sealed v' (subst IsSealed (sym moved) (restarted_sealed (durable_in v)))))
+            (put_sealed v' (subst IsSealed (sym moved) (reopened_sealed (opened v.base (durable_in v))))))
 
-        pub stops : (keeps_flying : Bool) → es ≡ events ++ (i, Launch) ∷ (i, Crash keeps_flying) ∷ [] → v' ≡ restarted (left keeps_flying v) v → (seen es vs ≡ record s { ring = stopped keeps_flying i w }) × Stands es vs
+        pub stops : (flight : Flight) (keeps_flying : Bool) → es ≡ events ++ (i, launch flight) ∷ (i, Crash keeps_flying) ∷ [] → v' ≡ reopened (left flight keeps_flying v) v
+            → (seen es vs ≡ record s { ring = stopped flight keeps_flying i w }) × Stands es vs
         unfolding stopped
-        stops keeps_flying logged moved =
-            subst (λ ns. (seen es ns ≡ record s { ring = stopped keeps_flying i w }) × Stands es ns) (sym put)
-            (becomes (stopped keeps_flying i w) es _ (set nodes (number - 1) v') logged refl refl refl refl refl
-            (ties.stops w events nodes tied i number place first last v was es v' keeps_flying logged moved)
-            (put_sealed v' (subst IsSealed (sym moved) (restarted_sealed (left keeps_flying v)))))
-
-        reopened_sealed : (t : NodeState) → IsSealed (reopened t v)
-        unfolding reopened
-        reopened_sealed t = refl
-
-        pub stops_all : (keeps_flying : Bool) → es ≡ events ++ (i, LaunchAll) ∷ (i, Crash keeps_flying) ∷ [] → v' ≡ reopened (left_all keeps_flying v) v
-            → (seen es vs ≡ record s { ring = stopped_all keeps_flying i w }) × Stands es vs
-        unfolding stopped_all
-        stops_all keeps_flying logged moved =
-            subst (λ ns. (seen es ns ≡ record s { ring = stopped_all keeps_flying i w }) × Stands es ns) (sym put)
-            (becomes (stopped_all keeps_flying i w) es _ (set nodes (number - 1) v') logged refl refl refl refl refl
-            (ties.stops_all w events nodes tied i number place first last v was es v' keeps_flying logged moved)
-            (put_sealed v' (subst IsSealed (sym moved) (reopened_sealed (left_all keeps_flying v)))))
+        stops flight keeps_flying logged moved =
+            subst (λ ns. (seen es ns ≡ record s { ring = stopped flight keeps_flying i w }) × Stands es ns) (sym put)
+            (becomes (stopped flight keeps_flying i w) es _ (set nodes (number - 1) v') logged refl refl refl refl refl
+            (ties.stops w events nodes tied i number place first last v was es v' flight keeps_flying logged moved)
+            (put_sealed v' (subst IsSealed (sym moved) (reopened_sealed (left flight keeps_flying v)))))
 
 -- ---- what the code changes
 

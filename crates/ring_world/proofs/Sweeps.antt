@@ -6,6 +6,7 @@ use Rattle.ring_records.specs.declared.request.Request.{Request}
 use Rattle.ring_records.specs.History.{taken}
 use Rattle.ring_records.specs.Lists.{first}
 use Rattle.ring_records.specs.Place.{after}
+use Rattle.ring_node.specs.declared.flight.Flight.TheVariants.{Batch}
 use Rattle.ring_world.specs.Ring.{RingView, node_at, expected, next_of, next_delivery, Part, waits, and_then, round, rounds, swept_one, swept_on, swept_with, swept}
 
 -- ---- the lowest node that is ready
@@ -55,11 +56,11 @@ rounds_end i w m e = ap (λ k. rounds k i w) e
 
 pub rounds_idle : (i : ℕ) (w : RingView) (m k : ℕ) → m ≡ k + 1 → waits w i ≡ false → ◌≡◌ {A = Part} (rounds m i w) ([], w)
 unfolding rounds
-rounds_idle i w m k e none = ap (λ j. rounds j i w) (after_one m k e) ∙ ap (λ b. cond b (and_then (round i w) (rounds k i)) ([], w)) none
+rounds_idle i w m k e none = ap (λ j. rounds j i w) (after_one m k e) ∙ ap (λ b. cond b (and_then (round Batch i w) (rounds k i)) ([], w)) none
 
-pub rounds_go : (i : ℕ) (w : RingView) (m k : ℕ) → m ≡ k + 1 → waits w i ≡ true → ◌≡◌ {A = Part} (rounds m i w) (and_then (round i w) (rounds k i))
+pub rounds_go : (i : ℕ) (w : RingView) (m k : ℕ) → m ≡ k + 1 → waits w i ≡ true → ◌≡◌ {A = Part} (rounds m i w) (and_then (round Batch i w) (rounds k i))
 unfolding rounds
-rounds_go i w m k e some = ap (λ j. rounds j i w) (after_one m k e) ∙ ap (λ b. cond b (and_then (round i w) (rounds k i)) ([], w)) some
+rounds_go i w m k e some = ap (λ j. rounds j i w) (after_one m k e) ∙ ap (λ b. cond b (and_then (round Batch i w) (rounds k i)) ([], w)) some
 
 -- ---- deliveries
 

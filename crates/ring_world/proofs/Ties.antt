@@ -1,44 +1,39 @@
 -- The nodes of a ring are those that its events reach, and stay so with each part of an event.
-use Rattle.std.proofs.Common.{ℕ, zero, suc, ◌≡◌, ◌≤◌, ◌<◌, ◌-◌, Bool, true, false, nat_lt, cond, List, [], ◌∷◌, ◌++◌, length, take, map, set, get_or, Option, None, refl, sym, ap, ◌∙◌, subst, arith, append-nil}
+use Rattle.std.proofs.Common.{ℕ, zero, suc, ◌≡◌, ◌≤◌, ◌<◌, ◌+◌, ◌-◌, Bool, true, false, cond, min, List, [], ◌∷◌, ◌++◌, length, take, map, set, get_or, Option, refl, sym, ap, ◌∙◌, subst, arith, append-nil}
 use Rattle.std.specs.List.{All}
-use Rattle.std.proofs.lemmas.Bool.{ltb-false}
+use Rattle.std.proofs.lemmas.Bool.{ltb-false, ltb-true}
 use Rattle.std.proofs.lemmas.Bool.Decides.{nat_tests}
 use Rattle.std.proofs.lemmas.List.{map-set, set-get_or, get_or-set_same}
 use Rattle.std.proofs.lemmas.Option.{slice_get_read, get_or_from_slice_get}
 use Rattle.ring_records.specs.declared.request.Request.{Request}
-use Rattle.ring_records.specs.States.{NodeState, launched}
+use Rattle.ring_records.specs.States.{NodeState, opened}
 use Rattle.ring_records.specs.Emission.{sent}
 use Rattle.ring_records.specs.History.{credit}
 use Rattle.ring_records.specs.Member.{Member, member}
-use Rattle.ring_node.specs.Node.{NodeView, new_node, state_of, durable_in, asked_with, flown, flushed, checkpoint_refusal, checkpointed as checkpointed_node, restarted, left, left_all, reopened, is_credited}
+use Rattle.ring_node.specs.declared.flight.Flight.{Flight}
+use Rattle.ring_node.specs.declared.flight.Flight.TheVariants.{Batch, Checkpoint}
+use Rattle.ring_node.specs.Held.{MayBegin, MayStop}
+use Rattle.ring_node.specs.Node.{NodeView, new_node, state_of, durable_in, asked_with, checkpoint_refusal, made_durable, left, reopened, is_credited}
 use Rattle.ring_node.specs.Open.{Open, due, sealed}
-use Rattle.ring_world.specs.Events.{Action, Submit, Launch, LaunchAll, Land, Crash, Process, act, IsDelivered}
-use Rattle.ring_world.specs.Ring.{RingView, node_at, held_at, waits, landed, checkpointed, asked, due_at, release_of, settled, crashed, stopped, stopped_all, given, handed, is_released}
-use Rattle.ring_world.specs.Shows.{ShowsNode, Shows, IsSealed, held_of, without_due, batch_of, checkpoint_of}
+use Rattle.ring_world.specs.Events.{Action, Submit, Land, Crash, IsDelivered}
+use Rattle.ring_world.specs.Ring.{RingView, node_at, held_at, is_launched, launch, landing, landed, asked, due_at, release_of, settled, crashed, stopped, given, handed, is_released}
+use Rattle.ring_world.specs.Shows.{ShowsNode, Shows, IsSealed, held_of, without_due}
 use Rattle.ring_world.proofs.Credits.{credited}
 use Rattle.ring_world.proofs.Handed.{handed_stays}
-use Rattle.ring_world.proofs.Moves.{process_two}
-use Rattle.ring_world.proofs.Nodes.{resting, mine, answered_same, asked_shows, landed_shows, checkpointed_shows, settled_shows, crashed_shows, stopped_shows, stopped_all_shows}
+use Rattle.ring_world.proofs.Nodes.{resting, mine, answered_same, asked_shows, landed_shows, settled_shows, crashed_shows, stopped_shows}
 use Rattle.ring_world.proofs.Schedules.{schedule_holds}
 use Rattle.ring_world.proofs.Tickets.{one_due, few_due}
-
--- these are the ring's events, the nodes are those that they reach, and the ring has their open tickets
-pub record Ties (w : RingView) (events : List (ℕ × Action)) (nodes : List NodeView) : Type 0 where
-  pub logged : events ≡ w.events
-  pub shows : Shows w.size w.capacity w.events nodes
-  pub held : w.held ≡ map held_of nodes
 
 get_or-of : {A B : Type 0} (f : A → B) (l : List A) (k : ℕ) (d : A) → get_or (map f l) k (f d) ≡ f (get_or l k d)
 get_or-of f [] k d = refl
 get_or-of f (x ∷ l) zero d = refl
 get_or-of f (x ∷ l) (suc k) d = get_or-of f l k d
 
--- where nothing waits, a batch changes nothing
-flushed_idle : (v : NodeView) → v.durable ≤ length v.inputs → nat_lt v.durable (length v.inputs) ≡ false → flushed v ≡ v
-flushed_idle v within none =
-    let low = ltb-false v.durable (length v.inputs) none in
-    let same : flown v ≡ v.durable = omega arith in
-    λ t. record v { durable = same t }
+-- these are the ring's events, the nodes are those that they reach, and the ring has their open tickets
+pub record Ties (w : RingView) (events : List (ℕ × Action)) (nodes : List NodeView) : Type 0 where
+  pub logged : events ≡ w.events
+  pub shows : Shows w.size w.capacity w.events nodes
+  pub held : w.held ≡ map held_of nodes
 
 module _ (w : RingView) (events : List (ℕ × Action)) (nodes : List NodeView) (ties : Ties w events nodes) where
   -- its neighbour hands to node i what the request brings
@@ -79,7 +74,7 @@ module _ (w : RingView) (events : List (ℕ × Action)) (nodes : List NodeView) 
         let here = subst (λ (a : ℕ × NodeState). credit a.1.inputs ≤ length (sent a.0 (take a.1.durable a.1.inputs))) (λ t. (sym (ap (λ (m : Member). m.node) is.is) t, sym is.state t)) few in
         grind (arith, nat_tests)
 
-    durable : v.durable ≡ (node_at w i).durable
+    pub durable : v.durable ≡ (node_at w i).durable
     durable = ap (λ (s : NodeState). s.durable) node_is.state
 
     pub held_is : v.held ≡ held_at w i
@@ -112,30 +107,19 @@ module _ (w : RingView) (events : List (ℕ × Action)) (nodes : List NodeView) 
         let few = few_due x.durable x.held in
         omega (arith, held, few)
 
-    -- how many inputs land
-    pub landed_count : (count : ℕ) → count ≡ flown v - v.durable → count ≡ (node_at (landed i w) i).durable - (node_at w i).durable
-    unfolding landed act
-    landed_count count is_count = is_count ∙ (ap (λ (s : NodeState). (launched s).flying - s.durable) node_is.state ∙ landed_if (waits w i) refl)
-      where
-        landed_if : (b : Bool) → waits w i ≡ b
-            → (launched (node_at w i)).flying - (node_at w i).durable ≡ (node_at (record w { events = w.events ++ cond b ((i, Launch) ∷ (i, Land) ∷ []) [] }) i).durable - (node_at w i).durable
-        landed_if true e = ap (λ (p : Process). p.state.durable - (node_at w i).durable) (sym (process_two w.size w.capacity w.events i Launch Land))
-        landed_if false e =
-            let none = ltb-false (node_at w i).durable (length (node_at w i).inputs) e in
-            let same : node_at (record w { events = w.events ++ [] }) i ≡ node_at w i = ap (λ es. node_at (record w { events = es }) i) (append-nil w.events) in
-            let d = ap (λ (s : NodeState). s.durable) same in
-            omega (arith, none, d)
+    -- it may be stopped where it is launched of node i, and nothing is objected to it
+    pub may_fly : (flight : Flight) → MayBegin flight (member i w.size w.capacity) (node_at w i) → is_launched flight (node_at w i) ≡ true → MayStop flight v
+    may_fly Batch may e = subst (λ (s : NodeState). s.durable < length s.inputs) (sym node_is.state) (ltb-true _ _ e)
+    may_fly Checkpoint may e = (λ t. checkpoint_refusal (node_is.is t) (node_is.state t)) ∙ may
 
-    -- or are made durable as a checkpoint
-    pub checkpoint_count : (count : ℕ) → count ≡ length v.inputs - v.durable → count ≡ (node_at (checkpointed i w) i).durable - (node_at w i).durable
-    unfolding checkpointed act
-    checkpoint_count count is_count =
-        is_count ∙ (ap (λ (s : NodeState). length s.inputs - s.durable) node_is.state
-        ∙ ap (λ (p : Process). p.state.durable - (node_at w i).durable) (sym (process_two w.size w.capacity w.events i LaunchAll Land)))
-
-    -- nothing is objected to a checkpoint of it where nothing is to one of node i
-    pub free_here : checkpoint_refusal (member i w.size w.capacity) (node_at w i) ≡ None → checkpoint_refusal v.member (state_of v) ≡ None
-    free_here free = (λ t. checkpoint_refusal (node_is.is t) (node_is.state t)) ∙ free
+    -- where nothing is launched of it, nothing changes
+    not_launched : (flight : Flight) → is_launched flight (node_at w i) ≡ false → made_durable flight v ≡ v
+    not_launched Batch e =
+        let none = ltb-false v.durable (length v.inputs) (ap (is_launched Batch) node_is.state ∙ e) in
+        let within = in_order in
+        let same : min (v.durable + 64) (length v.inputs) ≡ v.durable = omega arith in
+        λ t. record v { durable = same t }
+    not_launched Checkpoint e = absurd cc
 
     -- it becomes v', with these events
     module _ (es : List (ℕ × Action)) (v' : NodeView) where
@@ -164,23 +148,20 @@ module _ (w : RingView) (events : List (ℕ × Action)) (nodes : List NodeView) 
             ∙ (λ t. (ap held_of (sym is_node) ∙ held_is) t ++ record { serial = ticket; kept = answered_same w.size w.capacity w.events nodes ties.shows i low last q t } ∷ [])));
       }
 
-      pub lands : es ≡ events ++ batch_of i v → v' ≡ flushed v → Ties (landed i w) es (set nodes (number - 1) v')
+      pub lands : (flight : Flight) → es ≡ events ++ landing flight i (state_of v) → v' ≡ made_durable flight v → Ties (landed flight i w) es (set nodes (number - 1) v')
       unfolding landed
-      lands logged moved = record {
-        logged = log _ logged ∙ ap (λ b. w.events ++ cond b ((i, Launch) ∷ (i, Land) ∷ []) []) waits_same;
-        shows = subst (Shows w.size w.capacity (w.events ++ cond (waits w i) ((i, Launch) ∷ (i, Land) ∷ []) [])) (placed flushed moved) (shows_if (waits w i) refl);
+      lands flight logged moved = record {
+        logged = log _ logged ∙ ap (λ s. w.events ++ landing flight i s) node_is.state;
+        shows = subst (Shows w.size w.capacity (w.events ++ landing flight i (node_at w i))) (placed (made_durable flight) moved) (shows_if (is_launched flight (node_at w i)) refl);
         held = held_kept (sym (ap held_of moved));
       }
         where
-          waits_same : nat_lt v.durable (length v.inputs) ≡ waits w i
-          waits_same = ap (λ (s : NodeState). nat_lt s.durable (length s.inputs)) node_is.state
-
-          shows_if : (b : Bool) → waits w i ≡ b → Shows w.size w.capacity (w.events ++ cond b ((i, Launch) ∷ (i, Land) ∷ []) []) (set nodes (i - 1) (flushed n))
-          shows_if true e = landed_shows w.size w.capacity w.events nodes ties.shows i low last e
+          shows_if : (b : Bool) → is_launched flight (node_at w i) ≡ b → Shows w.size w.capacity (w.events ++ cond b ((i, launch flight) ∷ (i, Land) ∷ []) []) (set nodes (i - 1) (made_durable flight n))
+          shows_if true e = landed_shows w.size w.capacity w.events nodes ties.shows i low last flight e
           shows_if false e =
-              let idle = flushed_idle v in_order (waits_same ∙ e) in
-              let same : set nodes (i - 1) (flushed n) ≡ nodes = (λ t. set nodes (i - 1) ((ap flushed (sym is_node) ∙ (idle ∙ is_node)) t)) ∙ set-get_or nodes (i - 1) (new_node i w.size w.capacity) in
-              subst (λ l. Shows w.size w.capacity l (set nodes (i - 1) (flushed n))) (sym (append-nil w.events)) (subst (Shows w.size w.capacity w.events) (sym same) ties.shows)
+              let idle = not_launched flight e in
+              let same : set nodes (i - 1) (made_durable flight n) ≡ nodes = (λ t. set nodes (i - 1) ((ap (made_durable flight) (sym is_node) ∙ (idle ∙ is_node)) t)) ∙ set-get_or nodes (i - 1) (new_node i w.size w.capacity) in
+              subst (λ l. Shows w.size w.capacity l (set nodes (i - 1) (made_durable flight n))) (sym (append-nil w.events)) (subst (Shows w.size w.capacity w.events) (sym same) ties.shows)
 
       pub settles : es ≡ events ++ map (release_of i) (due v.durable v.held) → v' ≡ without_due v → Ties (settled i w) es (set nodes (number - 1) v')
       unfolding settled
@@ -191,34 +172,19 @@ module _ (w : RingView) (events : List (ℕ × Action)) (nodes : List NodeView) 
         held = held_set _ (sym (ap held_of moved ∙ (λ t. sealed (durable t) (held_is t))));
       }
 
-      pub crashes : es ≡ events ++ (i, Crash false) ∷ [] → v' ≡ restarted (durable_in v) v → Ties (crashed i w) es (set nodes (number - 1) v')
-      unfolding crashed restarted
+      pub crashes : es ≡ events ++ (i, Crash false) ∷ [] → v' ≡ reopened (opened v.base (durable_in v)) v → Ties (crashed i w) es (set nodes (number - 1) v')
+      unfolding crashed reopened
       crashes logged moved = record {
         logged = log _ logged;
-        shows = subst (Shows w.size w.capacity (w.events ++ (i, Crash false) ∷ [])) (placed (λ u. restarted (durable_in u) u) moved) (crashed_shows w.size w.capacity w.events nodes ties.shows i low last);
+        shows = subst (Shows w.size w.capacity (w.events ++ (i, Crash false) ∷ [])) (placed (λ u. reopened (opened u.base (durable_in u)) u) moved) (crashed_shows w.size w.capacity w.events nodes ties.shows i low last);
         held = held_set [] (sym (ap held_of moved));
       }
 
-      pub stops : (keeps_flying : Bool) → es ≡ events ++ (i, Launch) ∷ (i, Crash keeps_flying) ∷ [] → v' ≡ restarted (left keeps_flying v) v → Ties (stopped keeps_flying i w) es (set nodes (number - 1) v')
-      unfolding stopped restarted
-      stops keeps_flying logged moved = record {
+      pub stops : (flight : Flight) (keeps_flying : Bool) → es ≡ events ++ (i, launch flight) ∷ (i, Crash keeps_flying) ∷ [] → v' ≡ reopened (left flight keeps_flying v) v → Ties (stopped flight keeps_flying i w) es (set nodes (number - 1) v')
+      unfolding stopped reopened
+      stops flight keeps_flying logged moved = record {
         logged = log _ logged;
-        shows = subst (Shows w.size w.capacity (w.events ++ (i, Launch) ∷ (i, Crash keeps_flying) ∷ [])) (placed (λ u. restarted (left keeps_flying u) u) moved) (stopped_shows w.size w.capacity w.events nodes ties.shows i low last keeps_flying);
-        held = held_set [] (sym (ap held_of moved));
-      }
-
-      pub summarises : es ≡ events ++ checkpoint_of i → v' ≡ checkpointed_node v → Ties (checkpointed i w) es (set nodes (number - 1) v')
-      unfolding checkpointed
-      summarises logged moved = record {
-        logged = log _ logged;
-        shows = subst (Shows w.size w.capacity (w.events ++ checkpoint_of i)) (placed checkpointed_node moved) (checkpointed_shows w.size w.capacity w.events nodes ties.shows i low last);
-        held = held_kept (sym (ap held_of moved));
-      }
-
-      pub stops_all : (keeps_flying : Bool) → es ≡ events ++ (i, LaunchAll) ∷ (i, Crash keeps_flying) ∷ [] → v' ≡ reopened (left_all keeps_flying v) v → Ties (stopped_all keeps_flying i w) es (set nodes (number - 1) v')
-      unfolding stopped_all reopened
-      stops_all keeps_flying logged moved = record {
-        logged = log _ logged;
-        shows = subst (Shows w.size w.capacity (w.events ++ (i, LaunchAll) ∷ (i, Crash keeps_flying) ∷ [])) (placed (λ u. reopened (left_all keeps_flying u) u) moved) (stopped_all_shows w.size w.capacity w.events nodes ties.shows i low last keeps_flying);
+        shows = subst (Shows w.size w.capacity (w.events ++ (i, launch flight) ∷ (i, Crash keeps_flying) ∷ [])) (placed (λ u. reopened (left flight keeps_flying u) u) moved)
+            (stopped_shows w.size w.capacity w.events nodes ties.shows i low last flight keeps_flying);
         held = held_set [] (sym (ap held_of moved));
       }

@@ -17,9 +17,12 @@ use Rattle.ring_records.specs.Ring.{item_at, part}
 use Rattle.ring_records.specs.States.{opened}
 use Rattle.ring_records.specs.WorkedRun.{red_5, winner, first_election}
 use Rattle.ring_records.proofs.Snapshots.{length-empty}
+use Rattle.ring_node.specs.declared.flight.Flight.{Flight}
+use Rattle.ring_node.specs.declared.flight.Flight.TheVariants.{Batch, Checkpoint}
 use Rattle.ring_world.specs.Committed.{made_durable, committed_by, committed}
-use Rattle.ring_world.specs.Events.{Action, Replied, Shown, Launch, LaunchAll, Process, started, Rests, act, process, IsDelivered, IsReleasable, May, MayHappen, IsSchedule}
+use Rattle.ring_world.specs.Events.{Action, Replied, Shown, Process, started, Rests, act, process, IsDelivered, IsReleasable, May, MayHappen, IsSchedule}
 use Rattle.ring_world.specs.Released.{named_by, named, IsAnnounced}
+use Rattle.ring_world.specs.Ring.{launch}
 use Rattle.ring_world.specs.WorkedSchedule.{election_events, alone, crash_events, crash_run}
 
 -- ---- from a base whose bytes are a number
@@ -81,42 +84,23 @@ pub election_announced : IsAnnounced election_events red_5 winner
 unfolding named
 election_announced = record { node = 3; thing = Shown red_5 winner; released = (63, lit< tt, refl); names = refl }
 
-crash_durable : joined_after (durable_from counted 2 4096) [] (crash_events Launch) ≡ crash_run
+-- with batches, and with checkpoints
+crash_durable : (flight : Flight) → joined_after (durable_from counted 2 4096) [] (crash_events (launch flight)) ≡ crash_run
 unfolding counted made_durable before after act part item_at found_after first joined_after gained input_of reply refusal objection shortage is_touched already stale out_of_turn too_many latest term_led with_term greater_term used cost names is_named touched bid_for first_stand stood message_of taken upto_of credit is_stand stands is_below is_less is_key is_bid makes_leader first_leader leader passed_on emit sent
-crash_durable = refl
+crash_durable Batch = refl
+crash_durable Checkpoint = refl
 
-pub crash_committed : committed 2 4096 (crash_events Launch) ≡ crash_run
-crash_committed = made 2 4096 (crash_events Launch) ∙ crash_durable
+pub crash_committed : (flight : Flight) → committed 2 4096 (crash_events (launch flight)) ≡ crash_run
+crash_committed flight = made 2 4096 (crash_events (launch flight)) ∙ crash_durable flight
 
-crash_each : EachAfter (MayFrom counted 2 4096) [] (crash_events Launch)
+crash_each : (flight : Flight) → EachAfter (MayFrom counted 2 4096) [] (crash_events (launch flight))
 unfolding counted EachAfter May IsDelivered IsReleasable Rests before after act part item_at found_after first joined_after gained input_of reply refusal objection shortage is_touched already stale out_of_turn too_many latest term_led with_term greater_term used cost names is_named touched bid_for first_stand stood message_of taken upto_of credit is_stand stands is_below is_less is_key is_bid makes_leader first_leader leader passed_on emit sent
-crash_each =
-    (record { first = lit≤ tt; last = lit≤ tt; may = tt }, (record { first = lit≤ tt; last = lit≤ tt; may = refl }, (record { first = lit≤ tt; last = lit≤ tt; may = refl }, (record { first = lit≤ tt; last = lit≤ tt; may = ((0, lit< tt, refl), lit≤ tt) }, (record { first = lit≤ tt; last = lit≤ tt; may = record { number = 1; durable = lit≤ tt; rests = refl } }, (record { first = lit≤ tt; last = lit≤ tt; may = (4, lit< tt, refl) }, (record { first = lit≤ tt; last = lit≤ tt; may = refl }, (record { first = lit≤ tt; last = lit≤ tt; may = tt }, (record { first = lit≤ tt; last = lit≤ tt; may = (4, lit< tt, refl) }, (record { first = lit≤ tt; last = lit≤ tt; may = refl }, (record { first = lit≤ tt; last = lit≤ tt; may = tt }, (record { first = lit≤ tt; last = lit≤ tt; may = record { number = 1; durable = lit≤ tt; rests = refl } }, (record { first = lit≤ tt; last = lit≤ tt; may = (11, lit< tt, refl) }, (record { first = lit≤ tt; last = lit≤ tt; may = refl }, (record { first = lit≤ tt; last = lit≤ tt; may = refl }, (record { first = lit≤ tt; last = lit≤ tt; may = ((1, lit< tt, refl), lit≤ tt) }, (record { first = lit≤ tt; last = lit≤ tt; may = tt }, (record { first = lit≤ tt; last = lit≤ tt; may = ((2, lit< tt, refl), lit≤ tt) }, tt))))))))))))))))))
+crash_each Batch = (record { first = lit≤ tt; last = lit≤ tt; may = tt }, (record { first = lit≤ tt; last = lit≤ tt; may = refl }, (record { first = lit≤ tt; last = lit≤ tt; may = refl }, (record { first = lit≤ tt; last = lit≤ tt; may = ((0, lit< tt, refl), lit≤ tt) }, (record { first = lit≤ tt; last = lit≤ tt; may = record { number = 1; durable = lit≤ tt; rests = refl } }, (record { first = lit≤ tt; last = lit≤ tt; may = (4, lit< tt, refl) }, (record { first = lit≤ tt; last = lit≤ tt; may = refl }, (record { first = lit≤ tt; last = lit≤ tt; may = tt }, (record { first = lit≤ tt; last = lit≤ tt; may = (4, lit< tt, refl) }, (record { first = lit≤ tt; last = lit≤ tt; may = refl }, (record { first = lit≤ tt; last = lit≤ tt; may = tt }, (record { first = lit≤ tt; last = lit≤ tt; may = record { number = 1; durable = lit≤ tt; rests = refl } }, (record { first = lit≤ tt; last = lit≤ tt; may = (11, lit< tt, refl) }, (record { first = lit≤ tt; last = lit≤ tt; may = refl }, (record { first = lit≤ tt; last = lit≤ tt; may = refl }, (record { first = lit≤ tt; last = lit≤ tt; may = ((1, lit< tt, refl), lit≤ tt) }, (record { first = lit≤ tt; last = lit≤ tt; may = tt }, (record { first = lit≤ tt; last = lit≤ tt; may = ((2, lit< tt, refl), lit≤ tt) }, tt))))))))))))))))))
+crash_each Checkpoint = (record { first = lit≤ tt; last = lit≤ tt; may = tt }, (record { first = lit≤ tt; last = lit≤ tt; may = refl }, (record { first = lit≤ tt; last = lit≤ tt; may = refl }, (record { first = lit≤ tt; last = lit≤ tt; may = ((0, lit< tt, refl), lit≤ tt) }, (record { first = lit≤ tt; last = lit≤ tt; may = record { number = 1; durable = lit≤ tt; rests = refl } }, (record { first = lit≤ tt; last = lit≤ tt; may = (4, lit< tt, refl) }, (record { first = lit≤ tt; last = lit≤ tt; may = refl }, (record { first = lit≤ tt; last = lit≤ tt; may = tt }, (record { first = lit≤ tt; last = lit≤ tt; may = (4, lit< tt, refl) }, (record { first = lit≤ tt; last = lit≤ tt; may = refl }, (record { first = lit≤ tt; last = lit≤ tt; may = tt }, (record { first = lit≤ tt; last = lit≤ tt; may = record { number = 1; durable = lit≤ tt; rests = refl } }, (record { first = lit≤ tt; last = lit≤ tt; may = (11, lit< tt, refl) }, (record { first = lit≤ tt; last = lit≤ tt; may = refl }, (record { first = lit≤ tt; last = lit≤ tt; may = refl }, (record { first = lit≤ tt; last = lit≤ tt; may = ((1, lit< tt, refl), lit≤ tt) }, (record { first = lit≤ tt; last = lit≤ tt; may = tt }, (record { first = lit≤ tt; last = lit≤ tt; may = ((2, lit< tt, refl), lit≤ tt) }, tt))))))))))))))))))
 
-pub crash_schedule : IsSchedule 2 4096 (crash_events Launch)
-crash_schedule = scheduled 2 4096 (crash_events Launch) crash_each
+pub crash_schedule : (flight : Flight) → IsSchedule 2 4096 (crash_events (launch flight))
+crash_schedule flight = scheduled 2 4096 (crash_events (launch flight)) (crash_each flight)
 
-pub crash_announced : IsAnnounced (crash_events Launch) red_5 alone
+pub crash_announced : (begin : Action) → IsAnnounced (crash_events begin) red_5 alone
 unfolding named named_by
-crash_announced = record { node = 1; thing = Replied (record { question = ask.Who red_5; answer = record { reply = say.Leader (Some alone); number = 2 } }); released = (17, lit< tt, refl); names = refl }
-
--- the same, with checkpoints
-
-checkpoint_durable : joined_after (durable_from counted 2 4096) [] (crash_events LaunchAll) ≡ crash_run
-unfolding counted made_durable before after act part item_at found_after first joined_after gained input_of reply refusal objection shortage is_touched already stale out_of_turn too_many latest term_led with_term greater_term used cost names is_named touched bid_for first_stand stood message_of taken upto_of credit is_stand stands is_below is_less is_key is_bid makes_leader first_leader leader passed_on emit sent
-checkpoint_durable = refl
-
-pub checkpoint_committed : committed 2 4096 (crash_events LaunchAll) ≡ crash_run
-checkpoint_committed = made 2 4096 (crash_events LaunchAll) ∙ checkpoint_durable
-
-checkpoint_each : EachAfter (MayFrom counted 2 4096) [] (crash_events LaunchAll)
-unfolding counted EachAfter May IsDelivered IsReleasable Rests before after act part item_at found_after first joined_after gained input_of reply refusal objection shortage is_touched already stale out_of_turn too_many latest term_led with_term greater_term used cost names is_named touched bid_for first_stand stood message_of taken upto_of credit is_stand stands is_below is_less is_key is_bid makes_leader first_leader leader passed_on emit sent
-checkpoint_each =
-    (record { first = lit≤ tt; last = lit≤ tt; may = tt }, (record { first = lit≤ tt; last = lit≤ tt; may = refl }, (record { first = lit≤ tt; last = lit≤ tt; may = refl }, (record { first = lit≤ tt; last = lit≤ tt; may = ((0, lit< tt, refl), lit≤ tt) }, (record { first = lit≤ tt; last = lit≤ tt; may = record { number = 1; durable = lit≤ tt; rests = refl } }, (record { first = lit≤ tt; last = lit≤ tt; may = (4, lit< tt, refl) }, (record { first = lit≤ tt; last = lit≤ tt; may = refl }, (record { first = lit≤ tt; last = lit≤ tt; may = tt }, (record { first = lit≤ tt; last = lit≤ tt; may = (4, lit< tt, refl) }, (record { first = lit≤ tt; last = lit≤ tt; may = refl }, (record { first = lit≤ tt; last = lit≤ tt; may = tt }, (record { first = lit≤ tt; last = lit≤ tt; may = record { number = 1; durable = lit≤ tt; rests = refl } }, (record { first = lit≤ tt; last = lit≤ tt; may = (11, lit< tt, refl) }, (record { first = lit≤ tt; last = lit≤ tt; may = refl }, (record { first = lit≤ tt; last = lit≤ tt; may = refl }, (record { first = lit≤ tt; last = lit≤ tt; may = ((1, lit< tt, refl), lit≤ tt) }, (record { first = lit≤ tt; last = lit≤ tt; may = tt }, (record { first = lit≤ tt; last = lit≤ tt; may = ((2, lit< tt, refl), lit≤ tt) }, tt))))))))))))))))))
-
-pub checkpoint_schedule : IsSchedule 2 4096 (crash_events LaunchAll)
-checkpoint_schedule = scheduled 2 4096 (crash_events LaunchAll) checkpoint_each
-
-pub checkpoint_announced : IsAnnounced (crash_events LaunchAll) red_5 alone
-unfolding named named_by
-checkpoint_announced = record { node = 1; thing = Replied (record { question = ask.Who red_5; answer = record { reply = say.Leader (Some alone); number = 2 } }); released = (17, lit< tt, refl); names = refl }
+crash_announced begin = record { node = 1; thing = Replied (record { question = ask.Who red_5; answer = record { reply = say.Leader (Some alone); number = 2 } }); released = (17, lit< tt, refl); names = refl }

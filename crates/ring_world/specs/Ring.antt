@@ -14,6 +14,8 @@ use Rattle.ring_records.specs.Member.{member}
 use Rattle.ring_records.specs.Order.{is_msg}
 use Rattle.ring_records.specs.Place.{after, before}
 use Rattle.ring_records.specs.States.{NodeState, durable_in, answered_by}
+use Rattle.ring_node.specs.declared.flight.Flight.{Flight}
+use Rattle.ring_node.specs.declared.flight.Flight.TheVariants.{Batch, Checkpoint}
 use Rattle.ring_node.specs.Open.{Open, serial_of, due, sealed}
 use Rattle.ring_world.specs.Events.{Replied, Sent, Action, Submit, Launch, LaunchAll, Land, Release, Crash, state_after}
 
@@ -70,17 +72,26 @@ given i q w = record w { events = w.events ++ handed w.size i q }
 unfoldable pub asked : Option ℕ → ℕ → Request → RingView → RingView
 asked serial i q w = happens ((i, Submit q) ∷ []) i (held_at w i ++ record { serial = serial; kept = answered_at w i q } ∷ []) w
 
+-- it is launched of a node in this state: a batch where something waits, a checkpoint in any case
+abbrev pub is_launched : Flight → NodeState → Bool
+is_launched Batch s = nat_lt s.durable (length s.inputs)
+is_launched Checkpoint s = true
+
+-- as a batch, or all that the node accepted as a checkpoint
+abbrev pub launch : Flight → Action
+launch Batch = Launch
+launch Checkpoint = LaunchAll
+
+-- where it is launched of node i, it lands
+abbrev pub landing : Flight → ℕ → NodeState → List (ℕ × Action)
+landing flight i s = if is_launched flight s then (i, launch flight) ∷ (i, Land) ∷ [] else []
+
+unfoldable pub landed : Flight → ℕ → RingView → RingView
+landed flight i w = record w { events = w.events ++ landing flight i (node_at w i) }
+
 -- inputs of node i are not durable yet
 abbrev pub waits : RingView → ℕ → Bool
-waits w i = nat_lt (node_at w i).durable (length (node_at w i).inputs)
-
--- a batch of node i is launched and lands, where something waits
-unfoldable pub landed : ℕ → RingView → RingView
-landed i w = record w { events = w.events ++ (if waits w i then (i, Launch) ∷ (i, Land) ∷ [] else []) }
-
--- all that node i accepted is launched as a checkpoint and lands, also where nothing waits
-unfoldable pub checkpointed : ℕ → RingView → RingView
-checkpointed i w = record w { events = w.events ++ (i, LaunchAll) ∷ (i, Land) ∷ [] }
+waits w i = is_launched Batch (node_at w i)
 
 abbrev pub release_of : ℕ → Open → ℕ × Action
 release_of i t = (i, Release (Replied t.kept))
@@ -118,18 +129,14 @@ released i w = (replies i w, settled i w)
 abbrev pub and_then : Part → (RingView → Part) → Part
 and_then first next = (first.0 ++ (next first.1).0, (next first.1).1)
 
--- A round at node i: a batch is launched and lands, where something waits; then what is due is released.
-abbrev pub round : ℕ → RingView → Part
-round i w = released i (landed i w)
+-- A round at node i: what is launched lands; then what is due is released.
+abbrev pub round : Flight → ℕ → RingView → Part
+round flight i w = released i (landed flight i w)
 
--- A checkpoint of node i: all that it accepted is launched and lands; then what is due is released.
-abbrev pub summarised : ℕ → RingView → Part
-summarised i w = released i (checkpointed i w)
-
--- Rounds at node i until nothing waits there, so many at most.
+-- Rounds of batches at node i until nothing waits there, so many at most.
 unfoldable pub rounds : ℕ → ℕ → RingView → Part
 rounds zero i w = ([], w)
-rounds (suc most) i w = if waits w i then and_then (round i w) (rounds most i) else ([], w)
+rounds (suc most) i w = if waits w i then and_then (round Batch i w) (rounds most i) else ([], w)
 
 -- each makes an input durable, so there are no more rounds than inputs
 abbrev pub drained : ℕ → RingView → Part
@@ -148,13 +155,9 @@ brought serial i q w =
 unfoldable pub crashed : ℕ → RingView → RingView
 crashed i w = happens ((i, Crash false) ∷ []) i [] w
 
--- node i is stopped while a batch flies, and opened again, with the batch or without
-unfoldable pub stopped : Bool → ℕ → RingView → RingView
-stopped keeps_flying i w = happens ((i, Launch) ∷ (i, Crash keeps_flying) ∷ []) i [] w
-
--- node i is stopped while a checkpoint flies, and opened again, with what it is of or without
-unfoldable pub stopped_all : Bool → ℕ → RingView → RingView
-stopped_all keeps_flying i w = happens ((i, LaunchAll) ∷ (i, Crash keeps_flying) ∷ []) i [] w
+-- node i is stopped while this flies, and opened again, with what flew or without
+unfoldable pub stopped : Flight → Bool → ℕ → RingView → RingView
+stopped flight keeps_flying i w = happens ((i, launch flight) ∷ (i, Crash keeps_flying) ∷ []) i [] w
 
 -- the numbers of the tickets that are open at node i, in order
 unfoldable pub lost : ℕ → RingView → List ℕ

@@ -1,10 +1,10 @@
 -- What a ring keeps to: its nodes are those that its events reach.
-use Rattle.std.specs.Prelude.{ℕ, zero, suc, ◌≡◌, ◌+◌, ◌<◌, ◌≤◌, nat_lt, if◌then◌else◌, List, [], ◌∷◌, ◌++◌, length, slice_index_or}
+use Rattle.std.specs.Prelude.{ℕ, zero, suc, ◌≡◌, ◌+◌, ◌<◌, ◌≤◌, List, [], ◌∷◌, ◌++◌, length, slice_index_or}
 use Rattle.std.specs.List.{All, Contains}
 use Rattle.ring_records.specs.Member.{member}
 use Rattle.ring_node.specs.Node.{NodeView, new_node, state_of}
 use Rattle.ring_node.specs.Open.{Open, due, sealed}
-use Rattle.ring_world.specs.Events.{Action, Launch, LaunchAll, Land, process, state_after, IsSchedule}
+use Rattle.ring_world.specs.Events.{Action, process, state_after, IsSchedule}
 
 -- the open tickets of a node
 abbrev pub held_of : NodeView → List Open
@@ -17,14 +17,6 @@ without_due v = record v { held = sealed v.durable v.held }
 -- its open tickets rest on more inputs than are durable
 abbrev pub IsSealed : NodeView → Type 0
 IsSealed v = due v.durable v.held ≡ []
-
--- a batch of it is launched and lands, where something waits
-abbrev pub batch_of : ℕ → NodeView → List (ℕ × Action)
-batch_of i v = if nat_lt v.durable (length v.inputs) then (i, Launch) ∷ (i, Land) ∷ [] else []
-
--- a checkpoint of it is launched and lands
-abbrev pub checkpoint_of : ℕ → List (ℕ × Action)
-checkpoint_of i = (i, LaunchAll) ∷ (i, Land) ∷ []
 
 -- nodes 1 to k of a ring in which nothing happened
 unfoldable pub new_nodes : ℕ → ℕ → ℕ → List NodeView

@@ -10,9 +10,11 @@ use Rattle.ring_records.specs.Lists.{or_else}
 use Rattle.ring_records.specs.Member.{member}
 use Rattle.ring_records.specs.Message.{is_outside}
 use Rattle.ring_records.specs.Place.{before}
+use Rattle.ring_node.specs.declared.flight.Flight.{Flight}
+use Rattle.ring_node.specs.declared.flight.Flight.TheVariants as flights
 use Rattle.ring_node.specs.Node.{checkpoint_refusal}
 use Rattle.ring_world.specs.Ring as ring
-use Rattle.ring_world.specs.Ring.{RingView, node_at, waits, lost, round, summarised, brought, carried, is_earned, is_released, is_full, swept}
+use Rattle.ring_world.specs.Ring.{RingView, node_at, is_launched, lost, round, brought, carried, is_earned, is_released, is_full, swept}
 use Rattle.ring_world.specs.State.{State}
 use Rattle.ring_world.specs.declared.event.Event.{Event}
 use Rattle.ring_world.specs.declared.event.Event.TheVariants.{Submit, Flush, Deliver, DeliverAll, Credit, Crash, Stop, Checkpoint, StopCheckpoint}
@@ -42,16 +44,10 @@ submitted i q s =
     let part = brought (Some ticket) i q s.ring in
     (record nothing_told { ticket = Some ticket; replies = part.0 }, record s { ring = part.1; tickets = ticket })
 
--- a batch of node i is made durable, and the replies that rested on it are released
-unfoldable pub flushed : ℕ → State → Told × State
-flushed i s =
-    let part = round i s.ring in
-    (record nothing_told { flushed = Some ((node_at part.1 i).durable - (node_at s.ring i).durable); replies = part.0 }, record s { ring = part.1 })
-
--- all that node i accepted is made durable as a checkpoint, and the replies that rested on it are released
-unfoldable pub checkpointed : ℕ → State → Told × State
-checkpointed i s =
-    let part = summarised i s.ring in
+-- a batch or a checkpoint of node i is made durable, and the replies that rested on it are released
+unfoldable pub flushed : Flight → ℕ → State → Told × State
+flushed flight i s =
+    let part = round flight i s.ring in
     (record nothing_told { flushed = Some ((node_at part.1 i).durable - (node_at s.ring i).durable); replies = part.0 }, record s { ring = part.1 })
 
 -- node i was opened again, in this ring: the tickets that it lost, and how many inputs it holds
@@ -61,13 +57,9 @@ reopened i w s = (record nothing_told { lost = lost i s.ring; up = Some (length 
 unfoldable pub crashed : ℕ → State → Told × State
 crashed i s = reopened i (ring.crashed i s.ring) s
 
--- where nothing waits, a stop is a crash
-unfoldable pub stopped : Bool → ℕ → State → Told × State
-stopped keeps_flying i s = if waits s.ring i then reopened i (ring.stopped keeps_flying i s.ring) s else crashed i s
-
--- a checkpoint is stopped also where nothing waits
-unfoldable pub stopped_all : Bool → ℕ → State → Told × State
-stopped_all keeps_flying i s = reopened i (ring.stopped_all keeps_flying i s.ring) s
+-- where nothing is launched, a stop is a crash
+unfoldable pub stopped : Flight → Bool → ℕ → State → Told × State
+stopped flight keeps_flying i s = if is_launched flight (node_at s.ring i) then reopened i (ring.stopped flight keeps_flying i s.ring) s else crashed i s
 
 unfoldable pub delivered_all : State → Told × State
 delivered_all s = let all = swept 10000 s.ring in (record nothing_told { delivered = Some all.0 }, record s { ring = all.1 })
@@ -79,14 +71,14 @@ put s (Some delivery) = submitted delivery.0 delivery.1 s
 -- a device that is stopped keeps what flies, or it does not
 unfoldable pub stepped : Bool → State → Event → Told × State
 stepped keeps_flying s (Submit node q) = submitted node q s
-stepped keeps_flying s (Flush node) = flushed node s
+stepped keeps_flying s (Flush node) = flushed flights.Batch node s
 stepped keeps_flying s (Deliver from msg_no) = put s (carried s.ring from msg_no)
 stepped keeps_flying s DeliverAll = delivered_all s
 stepped keeps_flying s (Credit from upto) = submitted (before s.ring.size from) (ask.Acked upto) s
 stepped keeps_flying s (Crash node) = crashed node s
-stepped keeps_flying s (Stop node call tear) = stopped keeps_flying node s
-stepped keeps_flying s (Checkpoint node) = checkpointed node s
-stepped keeps_flying s (StopCheckpoint node call tear) = stopped_all keeps_flying node s
+stepped keeps_flying s (Stop node call tear) = stopped flights.Batch keeps_flying node s
+stepped keeps_flying s (Checkpoint node) = flushed flights.Checkpoint node s
+stepped keeps_flying s (StopCheckpoint node call tear) = stopped flights.Checkpoint keeps_flying node s
 
 -- all that happened is told
 abbrev pub all_told : Told × State → Told × State

@@ -5,15 +5,18 @@ ghost use Rattle.ring_records.specs.Member.{member};
 ghost use Rattle.ring_records.specs.Message.{candidate_of};
 ghost use Rattle.ring_records.specs.Order.{is_msg};
 ghost use Rattle.ring_records.specs.States.{shown_in};
-ghost use Rattle.ring_node.specs.Node.{state_of, IsShownBy};
+ghost use Rattle.ring_node.specs.Held.{IsShownBy};
+ghost use Rattle.ring_node.specs.Node.{state_of};
 ghost use Rattle.ring_world.specs.Events.{IsSchedule};
+ghost use Rattle.ring_world.specs.Happened.{action_of};
+ghost use Rattle.ring_world.specs.Ring.{launch};
 ghost use Rattle.ring_world.specs.Shows.{new_nodes};
 ghost use Rattle.ring_world.specs.State.{is_ring, by_log};
 
 use crate::happened::{Deed, Happened, Thing};
 use crate::log::Log;
 use group_commit::Desk;
-use ring_node::RingNode;
+use ring_node::{Flight, RingNode};
 use ring_records::{Msg, NodeNo, Packet, Reply, Request, Shown};
 use std::alloc::{AllocError, Global};
 use std::marker::Model;
@@ -196,6 +199,16 @@ mod crashes;
 mod deliveries;
 mod objections;
 mod parts;
+
+// What is told of a node that launches this.
+fn launch(flight: Flight) -> Deed
+    ensures { action_of result ≡ launch flight }
+{
+    match flight {
+        Flight::Batch => Deed::Launch,
+        Flight::Checkpoint => Deed::LaunchAll,
+    }
+}
 
 // Whether they are one message.
 fn is_same(a: &Msg, b: &Msg) -> bool

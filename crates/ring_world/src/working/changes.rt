@@ -2,10 +2,10 @@
 ghost use Rattle.std.specs.Prelude.{◌≡◌, ◌≤◌, ◌<◌, ◌+◌, ◌-◌, ◌^◌, ◌++◌, length, map, true, false, OnOk, OnErr, IfOk, vec_len, vec_capacity};
 ghost use Rattle.std.specs.List.{filter_map};
 ghost use Rattle.ring_records.specs.Message.{is_outside};
-ghost use Rattle.ring_node.specs.Node.{flown, flushed, checkpointed as checkpointed_node};
+ghost use Rattle.ring_node.specs.Node.{state_of, made_durable};
 ghost use Rattle.ring_node.specs.Open.{due};
-ghost use Rattle.ring_world.specs.Ring.{node_at, asked, landed, checkpointed, settled, replies, reply_of, release_of, given, handed, drained, brought, is_released};
-ghost use Rattle.ring_world.specs.Shows.{batch_of, checkpoint_of, without_due};
+ghost use Rattle.ring_world.specs.Ring.{node_at, asked, landing, landed, settled, replies, reply_of, release_of, given, handed, drained, brought, is_released};
+ghost use Rattle.ring_world.specs.Shows.{without_due};
 ghost use Rattle.ring_world.specs.State.{IsSameState};
 
 use super::*;
@@ -55,7 +55,7 @@ impl Working {
             if !self.waits(node) {
                 return Ok(replies);
             }
-            self.round(node, &mut replies)?;
+            self.round(Flight::Batch, node, &mut replies)?;
         }
         Ok(replies)
     }
@@ -93,48 +93,26 @@ impl Working {
         Ok(replies)
     }
 
-    // Launches and lands a batch of the node, where something waits, and releases what is due: how many inputs. Adds
-    // the replies to tickets with a number. Want of memory changes nothing.
+    // Launches and lands it, where it is launched of the node, and releases what is due: how many inputs. Adds the
+    // replies to tickets with a number. Where nothing is objected to it, an error is want of memory; it changes nothing.
     pub(super) fn round(
         &mut self,
+        flight: Flight,
         node: NodeNo,
         list: &mut Vec<(u64, Reply)>,
     ) -> Result<u32, AllocError>
         requires inside { node ≤ self.old.ring.size }
-        ensures next { OnOk result (self.new.ring ≡ settled node (landed node self.old.ring)) }
-        ensures replies { OnOk result (list.new.items ≡ list.old.items ++ replies node (landed node self.old.ring)) }
+        ensures next { OnOk result (self.new.ring ≡ settled node (landed flight node self.old.ring)) }
+        ensures replies { OnOk result (list.new.items ≡ list.old.items ++ replies node (landed flight node self.old.ring)) }
         ensures count { IfOk result (λ count. count ≡ (node_at self.new.ring node).durable - (node_at self.old.ring node).durable) }
         ensures same { IsSameState self.old self.new }
     {
-        // All memory first. Every open ticket may be due once the batch landed.
+        // All memory first. Every open ticket may be due once it landed.
         let at = node.number() as usize - 1;
         let open = self.nodes[at].desk().open_tickets();
         self.log.events.reserve(open.saturating_add(2))?;
         list.reserve(open)?;
-        let count = land(&mut self.nodes[at], &mut self.log.events, node)?;
-        release_due(&mut self.nodes[at], &mut self.log.events, list, node);
-        Ok(count)
-    }
-
-    // Makes a checkpoint of the node durable, and releases what is due: how many inputs. Adds the replies to tickets with
-    // a number. Where no checkpoint of it is refused, an error is want of memory; it changes nothing.
-    pub(super) fn summarise(
-        &mut self,
-        node: NodeNo,
-        list: &mut Vec<(u64, Reply)>,
-    ) -> Result<u32, AllocError>
-        requires inside { node ≤ self.old.ring.size }
-        ensures next { OnOk result (self.new.ring ≡ settled node (checkpointed node self.old.ring)) }
-        ensures replies { OnOk result (list.new.items ≡ list.old.items ++ replies node (checkpointed node self.old.ring)) }
-        ensures count { IfOk result (λ count. count ≡ (node_at self.new.ring node).durable - (node_at self.old.ring node).durable) }
-        ensures same { IsSameState self.old self.new }
-    {
-        // All memory first. Every open ticket may be due once the checkpoint landed.
-        let at = node.number() as usize - 1;
-        let open = self.nodes[at].desk().open_tickets();
-        self.log.events.reserve(open.saturating_add(2))?;
-        list.reserve(open)?;
-        let count = land_all(&mut self.nodes[at], &mut self.log.events, node)?;
+        let count = land(&mut self.nodes[at], &mut self.log.events, flight, node)?;
         release_due(&mut self.nodes[at], &mut self.log.events, list, node);
         Ok(count)
     }
@@ -168,46 +146,42 @@ fn push_packet(events: &mut Vec<Happened>, size: u8, node: NodeNo, question: &Re
     }
 }
 
-// Launches and lands a batch of the node, where something waits; there is room for the events. How many inputs.
-fn land(node: &mut RingNode, events: &mut Vec<Happened>, number: NodeNo) -> Result<u32, AllocError>
+// Launches and lands it, where it is launched of the node; there is room for the events. How many inputs.
+fn land(
+    node: &mut RingNode,
+    events: &mut Vec<Happened>,
+    flight: Flight,
+    number: NodeNo,
+) -> Result<u32, AllocError>
     requires room { vec_len events.old + 2 ≤ vec_capacity events.old }
-    ensures node { OnOk result (node.new ≡ flushed node.old) }
-    ensures events { OnOk result (events.new.items ≡ events.old.items ++ batch_of number node.old) }
+    ensures node { OnOk result (node.new ≡ made_durable flight node.old) }
+    ensures events { OnOk result (events.new.items ≡ events.old.items ++ landing flight number (state_of node.old)) }
     ensures len { vec_len events.new ≤ vec_len events.old + 2 }
     ensures capacity { vec_capacity events.new ≡ vec_capacity events.old }
-    ensures count { IfOk result (λ count. count ≡ flown node.old - node.old.durable) }
+    ensures count { IfOk result (λ count. count ≡ node.new.durable - node.old.durable) }
     ensures err { OnErr result ((events.new.items ≡ events.old.items) × (node.new ≡ node.old)) }
 {
-    let waits = node.desk().waits();
-    let count = node.flush()?;
-    if waits {
-        events.push_reserved(Happened::new(number, Deed::Launch));
+    let launches = flight == Flight::Checkpoint || node.desk().waits();
+    let count = made_durable(node, flight)?;
+    if launches {
+        events.push_reserved(Happened::new(number, launch(flight)));
         events.push_reserved(Happened::new(number, Deed::Land));
     }
     Ok(count)
 }
 
-// Launches and lands a checkpoint of the node; there is room for the events. How many inputs.
-fn land_all(
-    node: &mut RingNode,
-    events: &mut Vec<Happened>,
-    number: NodeNo,
-) -> Result<u32, AllocError>
-    requires room { vec_len events.old + 2 ≤ vec_capacity events.old }
-    ensures node { OnOk result (node.new ≡ checkpointed_node node.old) }
-    ensures events { OnOk result (events.new.items ≡ events.old.items ++ checkpoint_of number) }
-    ensures len { vec_len events.new ≤ vec_len events.old + 2 }
-    ensures capacity { vec_capacity events.new ≡ vec_capacity events.old }
-    ensures count { IfOk result (λ count. count ≡ length node.old.inputs - node.old.durable) }
-    ensures err { OnErr result ((events.new.items ≡ events.old.items) × (node.new ≡ node.old)) }
+// Makes it durable: how many inputs.
+fn made_durable(node: &mut RingNode, flight: Flight) -> Result<u32, AllocError>
+    ensures node { OnOk result (node.new ≡ made_durable flight node.old) }
+    ensures count { IfOk result (λ count. count ≡ node.new.durable - node.old.durable) }
+    ensures err { OnErr result (node.new ≡ node.old) }
 {
-    match node.checkpoint() {
-        Ok(count) => {
-            events.push_reserved(Happened::new(number, Deed::LaunchAll));
-            events.push_reserved(Happened::new(number, Deed::Land));
-            Ok(count)
-        }
-        Err(_) => Err(AllocError),
+    match flight {
+        Flight::Batch => node.flush(),
+        Flight::Checkpoint => match node.checkpoint() {
+            Ok(count) => Ok(count),
+            Err(_) => Err(AllocError),
+        },
     }
 }
 

@@ -6,7 +6,7 @@ ghost use Rattle.ring_world.specs.Ring.{node_at, carried, is_earned, is_released
 ghost use Rattle.ring_world.specs.Stage.{state_of};
 ghost use Rattle.ring_world.specs.State.{IsLeft};
 ghost use Rattle.ring_world.specs.Events.{IsSchedule};
-ghost use Rattle.ring_world.specs.Step.{Steps, told, nothing_told, unknown, submitted, flushed, checkpointed, delivered_all, put, stepped, refusal_of, is_lasting};
+ghost use Rattle.ring_world.specs.Step.{Steps, told, nothing_told, unknown, submitted, flushed, delivered_all, put, stepped, refusal_of, is_lasting};
 
 use super::*;
 use crate::event::Event;
@@ -48,14 +48,16 @@ impl Working {
     {
         match event {
             Event::Submit(node, request) => self.submit(node, &request),
-            Event::Flush(node) => self.flush(node),
+            Event::Flush(node) => self.flush(Flight::Batch, node),
             Event::Deliver { from, no } => self.deliver(from, no),
             Event::DeliverAll => self.deliver_all(),
             Event::Credit { from, upto } => self.credit(from, upto),
             Event::Crash(node) => self.crash(node),
-            Event::Stop { node, call, tear } => self.stop(node, call, tear),
-            Event::Checkpoint(node) => self.checkpoint(node),
-            Event::StopCheckpoint { node, call, tear } => self.stop_checkpoint(node, call, tear),
+            Event::Stop { node, call, tear } => self.stop(Flight::Batch, node, call, tear),
+            Event::Checkpoint(node) => self.flush(Flight::Checkpoint, node),
+            Event::StopCheckpoint { node, call, tear } => {
+                self.stop(Flight::Checkpoint, node, call, tear)
+            }
         }
     }
 
@@ -85,31 +87,14 @@ impl Working {
     }
 
     #[tactic(auto, unfolding(crate::specs::Step::flushed))]
-    fn flush(self, node: NodeNo) -> Result<(Working, Outcome), Stage>
+    fn flush(self, flight: Flight, node: NodeNo) -> Result<(Working, Outcome), Stage>
         requires inside { node ≤ self.ring.size }
-        ensures step { IfOk result (λ r. (told r.1, r.0) ≡ flushed node self) }
+        ensures step { IfOk result (λ r. (told r.1, r.0) ≡ flushed flight node self) }
         ensures left { IfErr result (λ stage. IsLeft false self (state_of stage)) }
     {
         let mut ring = self;
         let mut outcome = Outcome::nothing(ring.log.alloc);
-        match ring.round(node, &mut outcome.replies) {
-            Ok(count) => {
-                outcome.flushed = Some(count);
-                Ok((ring, outcome))
-            }
-            Err(_) => Err(Stage::Failed(ring.fail())),
-        }
-    }
-
-    #[tactic(auto, unfolding(crate::specs::Step::checkpointed))]
-    fn checkpoint(self, node: NodeNo) -> Result<(Working, Outcome), Stage>
-        requires inside { node ≤ self.ring.size }
-        ensures step { IfOk result (λ r. (told r.1, r.0) ≡ checkpointed node self) }
-        ensures left { IfErr result (λ stage. IsLeft false self (state_of stage)) }
-    {
-        let mut ring = self;
-        let mut outcome = Outcome::nothing(ring.log.alloc);
-        match ring.summarise(node, &mut outcome.replies) {
+        match ring.round(flight, node, &mut outcome.replies) {
             Ok(count) => {
                 outcome.flushed = Some(count);
                 Ok((ring, outcome))

@@ -1,6 +1,7 @@
 use Rattle.std.proofs.Common.{◌+◌, ◌≤◌, ◌∙◌, length, length-append, ap, sym, subst}
 use Rattle.group_commit.specs.Desk.{DeskKept, seen}
-use Rattle.ring_node.specs.Node.{NodeView, IsShownBy}
+use Rattle.ring_node.specs.Held.{IsShownBy}
+use Rattle.ring_node.specs.Node.{NodeView}
 use Rattle.ring_node.proofs.Queue.{as_many}
 use Rattle.ring_node.proofs.Serving.{count_past, shown_by, within_served}
 use Rattle.ring_node.proofs.node.RingNode.desk.Goals as goal

@@ -1,4 +1,5 @@
 use Rattle.std.proofs.Common.{◌+◌, ◌-◌, ◌≤◌, ◌++◌, ap, sym, subst, ◌∙◌, arith, append_assoc, append-nil}
+use Rattle.ring_node.specs.declared.flight.Flight.TheVariants.{Batch}
 use Rattle.ring_world.specs.Ring.{Part, RingView, rounds, round}
 use Rattle.ring_world.proofs.Same.{same_again}
 use Rattle.ring_world.proofs.Sweeps.{rounds_end, rounds_idle, rounds_go}
@@ -14,7 +15,7 @@ loop-preserved c =
     let next = c.in_ok-round.ensures.next in
     record {
       replies = i.replies ∙ (ap (λ (p : Part). c.loop.replies.items ++ p.0) go
-          ∙ (sym (append_assoc c.loop.replies.items (round c.args.node w).0 (rest (round c.args.node w).1).0)
+          ∙ (sym (append_assoc c.loop.replies.items (round Batch c.args.node w).0 (rest (round Batch c.args.node w).1).0)
           ∙ (λ t. sym c.in_ok-round.ensures.replies t ++ (rest (sym next t)).0)));
       ring = i.ring ∙ (ap (λ (p : Part). p.1) go ∙ ap (λ (u : RingView). (rest u).1) (sym next));
       inside = subst (λ n. c.args.node ≤ n) (sym c.round.ensures.same.0.0) i.inside;
