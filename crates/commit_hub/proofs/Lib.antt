@@ -1,4 +1,5 @@
 pub mod Costs
+pub mod Flies
 pub mod Sums
 pub mod Batches
 pub mod Requests

@@ -1,21 +1,24 @@
 -- What a hub launches.
-use Rattle.std.specs.Prelude.{◌≡◌, ◌+◌, ◌*◌, ◌<◌, ◌≤◌, ◌⊎◌, ◌||◌, false, true, ◌++◌, length, Option, Some, None, MatchOption}
+use Rattle.std.specs.Prelude.{ℕ, ◌≡◌, ◌+◌, ◌*◌, ◌<◌, ◌≤◌, ◌⊎◌, ◌||◌, false, true, List, ◌++◌, length, Option, Some, None, MatchOption}
+use Rattle.std.specs.Option.{option_map}
 use Rattle.ring_records.specs.declared.summary.Summary.{Summary}
 use Rattle.ring_records.specs.declared.base.Base.{Base}
+use Rattle.ring_records.specs.declared.input.Input.{Input}
 use Rattle.ring_records.specs.declared.refusal.Refusal.{Refusal}
 use Rattle.ring_records.specs.declared.refusal.Refusal.TheVariants as refused
 use Rattle.ring_records.specs.Admission.{costs_of, newest, used}
 use Rattle.ring_records.specs.Known.{after}
 use Rattle.ring_records.specs.Member.{Member}
 use Rattle.ring_records.specs.Snapshot.{IsSound, snapshot_len}
-use Rattle.ring_records.specs.States.{NodeState, flying_in}
+use Rattle.ring_records.specs.States.{NodeState, IsLawfulState, flying_in}
 use Rattle.gated_journal.specs.Batch.{Numbered, numbered, numbered_with, numbered_by, base_by, shown}
 use Rattle.gated_journal.specs.declared.checkpoint.Checkpoint.{Checkpoint}
 use Rattle.node_core.specs.Core.{IsNodeOf}
 use Rattle.group_commit.specs.Desk.{DeskKept, epochs, is_due, known_all, launch_objection, launched, launched_all}
+use Rattle.group_commit.specs.Past.{IsPast, shifted}
 use Rattle.commit_hub.specs.declared.work.Work.{Work}
 use Rattle.commit_hub.specs.declared.work.Work.TheVariants as works
-use Rattle.commit_hub.specs.Tied.{Durable, durable_part}
+use Rattle.commit_hub.specs.Tied.{Durable, durable_part, with_area}
 
 -- ---- what it shows
 
@@ -29,6 +32,27 @@ abbrev pub summary_by : Work → Option Summary
 summary_by (works.Batch batch) = None
 summary_by (works.Checkpoint made) = Some (base_by made)
 
+-- ---- while it flies
+
+-- the state since its opening of a node of which these inputs fly behind what is known to be durable: as a batch, or as a
+-- checkpoint whose snapshot has so many bytes
+abbrev pub flying_behind : Durable → List Input → Option ℕ → NodeState
+flying_behind d inputs bytes = record {
+  inputs = d.inputs ++ inputs;
+  durable = length d.inputs;
+  flying = length (d.inputs ++ inputs);
+  base = d.base;
+  checkpoint = option_map (λ k. (with_area d inputs k).base) bytes;
+}
+
+-- a state since the opening is lawful behind each past that the opening is of
+abbrev pub IsLawfulBehind : Member → Summary → NodeState → Type 0
+IsLawfulBehind m opening s = (past : List Input) → IsPast m opening past → IsLawfulState m (shifted past s)
+
+-- so is that while these fly
+abbrev pub FliesLawfully : Member → Summary → Durable → Numbered → Type 0
+FliesLawfully m opening known flown = IsLawfulBehind m opening (flying_behind known flown.inputs flown.snapshot)
+
 -- ---- for a journal of the node that has what the tie knows
 
 -- It may commit the batch.
@@ -36,6 +60,7 @@ pub record IsNextBatch (m : Member) (opening : Summary) (known : Durable) (batch
   pub node : batch.node ≡ m.node
   pub first : batch.first ≡ opening.inputs + length known.inputs
   pub room : used known.base known.inputs + costs_of batch.inputs ≤ m.capacity
+  pub lawful : FliesLawfully m opening known batch
 
 -- It may make the checkpoint, where the node is one of the ring: its summary is that of all, and it is due, since what is
 -- taken, with the inputs, is more than half of the capacity, the snapshot takes a quarter at most, and an epoch is left.
@@ -49,6 +74,7 @@ pub record IsNextCheckpoint (m : Member) (opening : Summary) (known : Durable) (
   pub short : 4 * snapshot_len (base_by made) ≤ m.capacity
   pub sound : IsNodeOf m.n m.node → IsSound m.n (base_by made)
   pub left : known.base.epoch + 1 < epochs
+  pub lawful : FliesLawfully m opening known (numbered_by made)
 
 -- It may take either.
 abbrev pub IsNext : Member → Summary → Durable → Work → Type 0

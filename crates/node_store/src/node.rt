@@ -6,7 +6,7 @@ ghost use Rattle.ring_records.specs.Answer.{Answered};
 ghost use Rattle.ring_records.specs.Member.{member};
 ghost use Rattle.ring_records.specs.Release.{packets, decisions};
 ghost use Rattle.ring_records.specs.Snapshot.{IsSound};
-ghost use Rattle.ring_records.specs.States.{NodeState, IsLawfulState, durable_in, flying_in, left_by};
+ghost use Rattle.ring_records.specs.States.{NodeState, IsNodeState, IsLawfulState, durable_in, flying_in, left_by};
 ghost use Rattle.ring_records.specs.Summary.{empty};
 ghost use Rattle.gated_journal.specs.Areas.{ReadsAs, AllReadAs};
 ghost use Rattle.gated_journal.specs.Journal as journals;
@@ -299,6 +299,8 @@ impl<D: Device> Node<D> {
         ensures idle { result.0.view.state.flying ≡ result.0.view.state.durable }
         ensures none { result.0.view.state.checkpoint ≡ None }
         ensures inside { IsNodeOf result.0.view.member.n result.0.view.member.node }
+        ensures counts { IsNodeState result.0.view.state }
+        ensures lawful { (past : List Input) → IsPast result.0.view.member result.0.opening past → IsLawfulState result.0.view.member (seen past result.0).state }
         ensures device { journals.device_of result.1 ≡ device_of self }
         ensures member { journals.member_of result.1 ≡ result.0.view.member }
         ensures ready { journals.is_spoiled result.1 ≡ false }

@@ -2,4 +2,6 @@ pub mod Commands
 pub mod Keys
 pub mod Next
 pub mod Restarted
+pub mod Resting
+pub mod Series
 pub mod Stops

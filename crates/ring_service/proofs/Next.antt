@@ -1,5 +1,5 @@
 -- What a hub launches, and the journal of its flusher takes.
-use Rattle.std.proofs.Common.{◌≡◌, ◌+◌, ◌-◌, ◌*◌, ◌≤◌, inl, inr, ℕ, Bool, List, ◌++◌, length, drop, Option, Some, None, refl, sym, ap, ◌∙◌, arith, length-append}
+use Rattle.std.proofs.Common.{◌≡◌, ◌+◌, ◌-◌, ◌*◌, ◌≤◌, inl, inr, ℕ, Bool, List, ◌++◌, length, drop, Option, Some, None, refl, sym, ap, ◌∙◌, subst, arith, length-append}
 use Rattle.std.proofs.lemmas.List.{drop_all}
 use Rattle.std.proofs.lemmas.Option.{same_Some}
 use Rattle.ring_records.specs.declared.input.Input.{Input}
@@ -13,7 +13,7 @@ use Rattle.gated_journal.specs.Batch.{base_by, numbered_by}
 use Rattle.commit_hub.specs.declared.work.Work.{Work}
 use Rattle.commit_hub.specs.declared.work.Work.TheVariants as works
 use Rattle.commit_hub.specs.Tied.{Durable, with_area, with_batch}
-use Rattle.commit_hub.specs.Works.{flown_by, summary_by, IsNext}
+use Rattle.commit_hub.specs.Works.{flown_by, summary_by, flying_behind, IsLawfulBehind, IsNext}
 use Rattle.commit_hub.proofs.Costs.{used-joined}
 use Rattle.commit_hub.proofs.Works.{after-inputs}
 use Rattle.ring_service.specs.Rounds.{HasKnown, IsMade, IsSpent, IsTaken, epoch_after, known_behind, room_after}
@@ -38,8 +38,12 @@ takes member opening known len room epoch (works.Checkpoint made) inside has nex
 -- what it makes durable
 pub makes : (member : Member) (opening : Summary) (known : Durable) (w : Work) → (summary_by w ≡ None → length (flown_by w).inputs ≤ 64)
     → IsNext member opening known w → IsMade member opening known (flown_by w).inputs (summary_by w)
-makes member opening known (works.Batch batch) few next = record { few = few; summed = λ s e. none≢some s e }
-makes member opening known (works.Checkpoint made) few next = record { few = few; summed = λ s e. sym (same_Some (base_by made) s e) ∙ next.summary }
+makes member opening known (works.Batch batch) few next = record { few = few; summed = λ s e. none≢some s e; lawful = λ rest. next.lawful }
+makes member opening known (works.Checkpoint made) few next = record {
+  few = few;
+  summed = λ s e. sym (same_Some (base_by made) s e) ∙ next.summary;
+  lawful = λ rest. subst (λ (o : Option ℕ). IsLawfulBehind member opening (flying_behind known (numbered_by made).inputs o)) next.snapshot next.lawful;
+}
 
 -- what is known to be durable once it landed
 pub knows : (member : Member) (opening : Summary) (known new : Durable) (w : Work) → IsNext member opening known w

@@ -1,5 +1,5 @@
 -- What a stop within a round leaves.
-use Rattle.std.proofs.Common.{◌≡◌, inl, ℕ, List, [], Option, None, subst, arith}
+use Rattle.std.proofs.Common.{◌≡◌, inl, ℕ, List, [], ◌++◌, append-nil, length, Option, None, sym, subst, arith}
 use Rattle.ring_records.proofs.Lists.{none≢some}
 use Rattle.disk_model.specs.Disk.{Disk, MayLeave, LeavesOnly}
 use Rattle.disk_model.proofs.Moments.{started}
@@ -9,7 +9,14 @@ use Rattle.ring_records.specs.Member.{Member}
 use Rattle.gated_journal.specs.Areas.{AllReadAs, ReadsAsOneOf}
 use Rattle.gated_journal.specs.Reading.{Reading}
 use Rattle.commit_hub.specs.Tied.{Durable}
-use Rattle.ring_service.specs.Rounds.{IsMade, IsStopped, reading_after}
+use Rattle.commit_hub.specs.Works.{IsLawfulBehind}
+use Rattle.ring_service.specs.Rounds.{IsMade, IsStopped, at_rest, reading_after, with_flying}
+
+-- what flies is durable alone, where nothing does
+pub none_flies : (known : Durable) → at_rest known ≡ with_flying known [] None
+none_flies known =
+    let same : known.inputs ≡ known.inputs ++ [] = sym (append-nil known.inputs) in
+    λ i. record { inputs = same i; durable = length known.inputs; flying = length (same i); base = known.base; checkpoint = None }
 
 module _ {V : Type 0} (clock : V → ℕ) (left_since : V → ℕ → List ℕ → Type 0) where
   -- nothing was called
@@ -18,17 +25,23 @@ module _ {V : Type 0} (clock : V → ℕ) (left_since : V → ℕ → List ℕ �
   idle device disk member opening known r only reads = record {
     inputs = [];
     base = None;
-    made = record { few = λ _. omega arith; summed = λ s e. none≢some s e };
+    made = record { few = λ _. omega arith; summed = λ s e. none≢some s e; lawful = subst (IsLawfulBehind member opening) (none_flies known) };
     any_moment = started clock left_since device _ (λ image left. inl (reads image (only image left)));
   }
+
+  -- each moment of a write
+  pub moments : (old new : V) (of member : Member) (known : Durable) (epoch : ℕ) (r : Reading) (inputs : List Input) (base : Option Summary) → of ≡ member → epoch ≡ known.base.epoch
+      → LeavesOnly clock left_since old new (ReadsAsOneOf of r (reading_after epoch base inputs r)) → LeavesOnly clock left_since old new (ReadsAsOneOf member r (reading_after known.base.epoch base inputs r))
+  moments old new of member known epoch r inputs base is at leaves =
+      subst (λ (k : ℕ). LeavesOnly clock left_since old new (ReadsAsOneOf member r (reading_after k base inputs r))) at
+      (subst (λ (m : Member). LeavesOnly clock left_since old new (ReadsAsOneOf m r (reading_after epoch base inputs r))) is leaves)
 
   -- it was written, or the device failed with it
   pub written : (old new : V) (of member : Member) (opening : Summary) (known : Durable) (epoch : ℕ) (r : Reading) (inputs : List Input) (base : Option Summary) → of ≡ member → epoch ≡ known.base.epoch
       → IsMade member opening known inputs base → LeavesOnly clock left_since old new (ReadsAsOneOf of r (reading_after epoch base inputs r)) → IsStopped clock left_since old new member opening known r
-  written old new of member opening known epoch r inputs base is at made moments = record {
+  written old new of member opening known epoch r inputs base is at made leaves = record {
     inputs = inputs;
     base = base;
     made = made;
-    any_moment = subst (λ (k : ℕ). LeavesOnly clock left_since old new (ReadsAsOneOf member r (reading_after k base inputs r))) at
-        (subst (λ (m : Member). LeavesOnly clock left_since old new (ReadsAsOneOf m r (reading_after epoch base inputs r))) is moments);
+    any_moment = moments old new of member known epoch r inputs base is at leaves;
   }

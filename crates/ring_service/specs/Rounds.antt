@@ -1,5 +1,6 @@
 -- What a round of a flusher does.
 use Rattle.std.specs.Prelude.{ℕ, ◌≡◌, ◌+◌, ◌-◌, ◌^◌, ◌<◌, ◌≤◌, ◌⊎◌, Bool, true, List, ◌++◌, length, Option, Some, None}
+use Rattle.std.specs.Option.{option_map}
 use Rattle.disk_model.specs.Disk.{Disk, LeavesOnly}
 use Rattle.ring_records.specs.declared.input.Input.{Input}
 use Rattle.ring_records.specs.declared.limits.TheConstants.{BATCH_INPUTS}
@@ -10,6 +11,7 @@ use Rattle.ring_records.specs.Admission.{costs_of, newest, used}
 use Rattle.ring_records.specs.Known.{after}
 use Rattle.ring_records.specs.Member.{Member}
 use Rattle.ring_records.specs.Snapshot.{IsSound, snapshot_len}
+use Rattle.ring_records.specs.States.{NodeState, opened}
 use Rattle.gated_journal.specs.Areas.{AllReadAs, ReadsAsOneOf}
 use Rattle.gated_journal.specs.Batch.{shown, numbered_by, base_by}
 use Rattle.gated_journal.specs.Reading.{Reading, fresh_area, with_more}
@@ -18,6 +20,7 @@ use Rattle.commit_hub.specs.declared.work.Work.{Work}
 use Rattle.commit_hub.specs.declared.work.Work.TheVariants as works
 use Rattle.commit_hub.specs.Told.{IsBrought}
 use Rattle.commit_hub.specs.Tied.{Durable, with_batch, with_area}
+use Rattle.commit_hub.specs.Works.{IsLawfulBehind, flying_behind}
 
 -- ---- what is made durable: inputs of a batch; or a summary of all inputs, and those of them that were not durable yet
 
@@ -31,23 +34,34 @@ abbrev pub known_behind : Option Summary → List Input → Durable → Durable
 known_behind None inputs d = with_batch d inputs
 known_behind (Some base) inputs d = with_area d inputs (snapshot_len base)
 
+-- the state since its opening of a node that has this durable, and nothing else
+abbrev pub at_rest : Durable → NodeState
+at_rest d = opened d.base d.inputs
+
+-- and while these inputs fly behind it, as a batch, or as a checkpoint with this summary
+abbrev pub with_flying : Durable → List Input → Option Summary → NodeState
+with_flying d inputs base = flying_behind d inputs (option_map snapshot_len base)
+
 -- A batch has few inputs. A summary is that of all inputs: of those since the opening that were durable before, and then
--- these.
+-- these. Where what was durable is lawful, it is so while these fly.
 pub record IsMade (member : Member) (opening : Summary) (known : Durable) (inputs : List Input) (base : Option Summary) : Type 0 where
   pub few : base ≡ None → length inputs ≤ BATCH_INPUTS
   pub summed : (s : Summary) → base ≡ Some s → s ≡ after member.node opening (known.inputs ++ inputs)
+  pub lawful : IsLawfulBehind member opening (at_rest known) → IsLawfulBehind member opening (with_flying known inputs base)
 
 -- A round made these inputs of the node durable, at least one in a batch: the journal has them behind those that it read
 -- as, or in a summary of all in the next epoch, and they are known to be durable behind those that were before. This is
--- what they let the node release.
-pub record IsRound (member : Member) (opening : Summary) (before behind : Disk) (old new : Durable) (landed : Landed) : Type 0 where
+-- what they let the node release. A stop at any moment of it leaves what was read before, or what is read behind it.
+pub record IsRound {V : Type 0} (disk : V → Disk) (clock : V → ℕ) (left_since : V → ℕ → List ℕ → Type 0) (member : Member) (opening : Summary)
+    (before behind : V) (old new : Durable) (landed : Landed) : Type 0 where
   pub inputs : List Input
   pub base : Option Summary
   pub made : IsMade member opening old inputs base
   pub some : base ≡ None → 1 ≤ length inputs
   pub count : landed.count ≡ length inputs
   pub next : new ≡ known_behind base inputs old
-  pub durable : (r : Reading) → AllReadAs member before r → AllReadAs member behind (reading_after old.base.epoch base inputs r)
+  pub durable : (r : Reading) → AllReadAs member (disk before) r → AllReadAs member (disk behind) (reading_after old.base.epoch base inputs r)
+  pub within : (r : Reading) → AllReadAs member (disk before) r → LeavesOnly clock left_since before behind (ReadsAsOneOf member r (reading_after old.base.epoch base inputs r))
   pub brought : IsBrought member opening old.inputs inputs landed
 
 -- A stop at any moment of a round leaves what the journal read as, or what it reads as with what the round makes durable.

@@ -83,7 +83,7 @@ impl<V: Device, J: Naming, A: Node> Flusher<V, J, A> {
         hub: &Hub<A>,
         gate: &mut G,
     ) -> Result<Option<Landed>, Refusal>
-        ensures round { IfOk result (λ some. IfSome some (λ landed. IsRound A.member A.opening (V.disk (device_in self.old)) (V.disk (device_in self.new))
+        ensures round { IfOk result (λ some. IfSome some (λ landed. IsRound V.disk V.clock V.left_since A.member A.opening (device_in self.old) (device_in self.new)
             (known_to self.old) (known_to self.new) landed)) }
         ensures told { IfOk result (λ some. IfSome some (λ landed. told_to self.new ≡ told_to self.old ++ landed.decisions.items)) }
         ensures published { IsPrefix (published (board_of self.old)) (published (board_of self.new)) }

@@ -1,14 +1,75 @@
-//! Laws of what a board shows after a restart: public functions with an empty body, whose contracts say what follows
-//! from the definitions alone. No program calls them.
-ghost use Rattle.std.specs.Prelude.{◌≡◌, ℕ, List, Option, Some};
+//! Laws of what a stop leaves of a flusher's rounds, and of what a board shows after a restart: public functions with an
+//! empty body, whose contracts say what follows from the definitions alone. No program calls them.
+ghost use Rattle.std.specs.Prelude.{◌≡◌, ◌++◌, ◌∷◌, [], ℕ, Bool, List, Option, Some, take};
 ghost use Rattle.std.specs.List.{Contains};
+ghost use Rattle.disk_model.specs.Disk.{LeavesOnly};
 ghost use Rattle.ring_records.specs.declared.candidate.Candidate.{Candidate};
 ghost use Rattle.ring_records.specs.declared.decision.Decision.{Decision};
 ghost use Rattle.ring_records.specs.declared.input.Input.{Input};
 ghost use Rattle.ring_records.specs.declared.key.Key.{Key};
 ghost use Rattle.ring_records.specs.Content.{leader_in, leads_in, IsNotBelow};
 ghost use Rattle.ring_records.specs.Leader.{IsLatest};
+ghost use Rattle.ring_records.specs.States.{NodeState, IsLawfulState, left_by};
+ghost use Rattle.gated_journal.specs.Areas.{AllReadAs};
+ghost use Rattle.gated_journal.specs.Reading.{Reading};
+ghost use Rattle.group_commit.specs.declared.landed.Landed.{Landed};
+ghost use Rattle.group_commit.specs.Desk.{DeskKept};
+ghost use Rattle.group_commit.specs.Past.{IsPast, shifted};
+ghost use Rattle.node_store.specs.State.{Holds, IsOpenedAs};
+ghost use Rattle.commit_hub.specs.Tied.{Durable, durable_part};
 ghost use Rattle.ring_service.specs.Restarts.{AreLater};
+ghost use Rattle.ring_service.specs.Rounds.{IsRound, IsStopped, at_rest, known_behind};
+ghost use Rattle.ring_service.specs.Series.{Round, AreRounds, IsCut, IsHeld, IsLeftBehind, IsRoundOf, IsSplit, RestsOn, device_behind, inputs_of, known_since};
+
+use commit_hub::Node;
+use disk_model::Device;
+
+/// The rounds of a flusher, from what `Node::split` gives on: the journal holds the durable inputs then, and the hub's tie
+/// knows them. Each round that `Flusher::flush_round` tells of is one more; what is known to be durable are the inputs at
+/// first, and those of the rounds in order. After a stop it begins so again: the inputs that the new opening stands for
+/// and those behind it are all that was left.
+pub fn rounds_of_a_flusher<V: Device, A: Node>()
+    ensures begins { (desk : DeskKept) (device : V) → IsSplit desk (V.disk device) → IsHeld desk.view.member desk.opening (V.disk device) (durable_part desk) }
+    ensures told { (old new : V) (before behind : Durable) (landed : Landed) → IsRound V.disk V.clock V.left_since A.member A.opening old new before behind landed
+        → (round : Round V) × (IsRoundOf V.disk V.clock V.left_since A.member A.opening old before round × ((round.device ≡ new) × (known_behind round.base round.inputs before ≡ behind))) }
+    ensures goes_on { (device : V) (known : Durable) (rounds : List (Round V)) (round : Round V) → AreRounds V.disk V.clock V.left_since A.member A.opening device known rounds
+        → IsRoundOf V.disk V.clock V.left_since A.member A.opening (device_behind device rounds) (known_since known rounds) round
+        → AreRounds V.disk V.clock V.left_since A.member A.opening device known (rounds ++ round ∷ []) }
+    ensures device { (device : V) (rounds : List (Round V)) (round : Round V) → device_behind device (rounds ++ round ∷ []) ≡ round.device }
+    ensures known { (known : Durable) (rounds : List (Round V)) (round : Round V) → known_since known (rounds ++ round ∷ []) ≡ known_behind round.base round.inputs (known_since known rounds) }
+    ensures inputs { (known : Durable) (rounds : List (Round V)) → (known_since known rounds).inputs ≡ known.inputs ++ inputs_of rounds }
+    ensures again { (run : ℕ) (s : NodeState) (keep : Bool) (desk : DeskKept) → IsOpenedAs A.member run (left_by keep s) desk
+        → take (left_by keep s).base.inputs (left_by keep s).inputs ++ (durable_part desk).inputs ≡ (left_by keep s).inputs }
+{}
+
+/// What a stop leaves of a flusher's device is what `Node::recover` asks for. Behind any number of rounds every image
+/// reads as what a journal of the node holds with all that is known to be durable. At any moment of these rounds it reads
+/// so for the first of them, so many; and within a round that did not end, also with the inputs that fly. All this is
+/// lawful behind each past that the opening is of: the whole list is the past, the inputs at first, and those of the
+/// rounds.
+pub fn left_by_a_flusher<V: Device, A: Node>()
+    ensures held { (device : V) (known : Durable) (rounds : List (Round V)) → IsHeld A.member A.opening (V.disk device) known
+        → AreRounds V.disk V.clock V.left_since A.member A.opening device known rounds → IsHeld A.member A.opening (V.disk (device_behind device rounds)) (known_since known rounds) }
+    ensures recovery { (device : V) (known : Durable) → IsHeld A.member A.opening (V.disk device) known → (past : List Input) → IsPast A.member A.opening past
+        → IsLawfulState A.member (shifted past (at_rest known)) × Holds A.member (V.disk device) (shifted past (at_rest known)) }
+    ensures any_moment { (device : V) (known : Durable) (before later : List (Round V)) → IsHeld A.member A.opening (V.disk device) known
+        → AreRounds V.disk V.clock V.left_since A.member A.opening device known (before ++ later)
+        → LeavesOnly V.clock V.left_since (device_behind device before) (device_behind device (before ++ later)) (IsLeftBehind A.member A.opening (known_since known before) later) }
+    ensures cut { (old new : V) (known : Durable) → IsHeld A.member A.opening (V.disk old) known
+        → ((r : Reading) → AllReadAs A.member (V.disk old) r → IsStopped V.clock V.left_since old new A.member A.opening known r)
+        → IsCut V.disk V.clock V.left_since A.member A.opening old new known }
+{}
+
+/// What a round let its node release, packets and leaders, rests on inputs that the next start holds, whenever a stop comes
+/// behind the round: between rounds, within one, or within one that did not end.
+pub fn released_by_a_flusher<V: Device, A: Node>()
+    ensures rounds { (device : V) (known : Durable) (before later : List (Round V)) (round : Round V) → IsHeld A.member A.opening (V.disk device) known
+        → AreRounds V.disk V.clock V.left_since A.member A.opening device known (before ++ round ∷ later)
+        → LeavesOnly V.clock V.left_since round.device (device_behind device (before ++ round ∷ later)) (RestsOn A.member A.opening (known_since known before) round) }
+    ensures cut { (device : V) (known : Durable) (before later : List (Round V)) (round : Round V) (new : V) → AreRounds V.disk V.clock V.left_since A.member A.opening device known (before ++ round ∷ later)
+        → IsCut V.disk V.clock V.left_since A.member A.opening (device_behind device (before ++ round ∷ later)) new (known_since known (before ++ round ∷ later))
+        → LeavesOnly V.clock V.left_since (device_behind device (before ++ round ∷ later)) new (RestsOn A.member A.opening (known_since known before) round) }
+{}
 
 /// A board is made of what a desk tells as its decisions: the leaders that its node knows by its history, in order of
 /// key. Made of a longer history, it has every decision that it had; so a leader is the same, and the latest leader of a

@@ -1,11 +1,15 @@
-use Rattle.std.proofs.Common.{◌≡◌, ◌+◌, ◌<◌, ◌≤◌, ◌∙◌, length, sym, ap}
+use Rattle.std.proofs.Common.{◌≡◌, ◌+◌, ◌<◌, ◌≤◌, ◌∙◌, length, sym, ap, subst}
 use Rattle.ring_records.specs.Admission.{used}
 use Rattle.ring_records.specs.States.{flown_in, flying_in}
 use Rattle.ring_records.proofs.States.{idle-none}
 use Rattle.gated_journal.specs.declared.batch.Batch.{Batch}
 use Rattle.gated_journal.specs.Batch.{Numbered, numbered, shown}
+use Rattle.group_commit.specs.Desk.{DeskKept}
+use Rattle.commit_hub.specs.Tied.{durable_part}
+use Rattle.commit_hub.specs.Works.{FliesLawfully}
 use Rattle.commit_hub.proofs.Batches.{room_fits}
 use Rattle.commit_hub.proofs.Costs.{durable_count}
+use Rattle.commit_hub.proofs.Flies.{flies_batch}
 use Rattle.commit_hub.proofs.Works.{idle_free, match_some, not_due, of_some}
 use Rattle.commit_hub.proofs.launching.launch_batch.Goals as goal
 
@@ -33,4 +37,6 @@ returns-in-Ok-Some-clause-fits c =
       node = ap (λ (n : Numbered). n.node) is;
       first = ap (λ (n : Numbered). n.first) is ∙ ap (λ k. desk.opening.inputs + k) (sym (durable_count s c.accepted-accepted.ensures.counts));
       room = room;
+      lawful = subst (FliesLawfully desk.view.member desk.opening (durable_part desk)) (sym (is ∙ ap (λ (d : DeskKept). numbered desk.view.member.node (desk.opening.inputs + s.durable) (flying_in d.view.state)) launch.next))
+          (flies_batch desk (idle_free desk.view launch.free) c.accepted-accepted.ensures.counts c.accepted-accepted.ensures.lawful desk.view.member.node (desk.opening.inputs + s.durable));
     }

@@ -6,10 +6,13 @@ use Rattle.ring_records.specs.Admission.{costs_of, used}
 use Rattle.ring_records.specs.declared.base.Base.{Base}
 use Rattle.ring_records.specs.States.{durable_in, flying_in, launched_base}
 use Rattle.ring_records.specs.Known.{after}
-use Rattle.gated_journal.specs.Batch.{Numbered, numbered_by}
-use Rattle.group_commit.specs.Desk.{DeskKept, launched_all}
+use Rattle.gated_journal.specs.Batch.{Numbered, numbered_by, numbered_with}
+use Rattle.group_commit.specs.Desk.{DeskKept, known_all, launched_all}
 use Rattle.ring_records.proofs.States.{idle-none, idle-base}
+use Rattle.commit_hub.specs.Tied.{durable_part}
+use Rattle.commit_hub.specs.Works.{FliesLawfully}
 use Rattle.commit_hub.proofs.Costs.{durable_costs, durable_count}
+use Rattle.commit_hub.proofs.Flies.{flies_all}
 use Rattle.commit_hub.proofs.Works.{due_objection, parts_due, idle_free, all_fly, all_joined, few_wait}
 use Rattle.commit_hub.proofs.launching.launch_checkpoint.Goals as goal
 
@@ -43,6 +46,14 @@ returns-in-Ok-clause-fits c =
       short = subst (λ (b : Summary). 4 * snapshot_len b ≤ m.capacity) (sym launch.summary) (parts_due desk c.requires.due).short;
       sound = launch.sound;
       left = launch.epoch;
+      lawful = (
+          let node = m.node in
+          let from = desk.opening.inputs + s.durable in
+          let snapshot = Some (snapshot_len (known_all desk)) in
+          let is = launch.checkpoint ∙ ap (λ (d : DeskKept). numbered_with node from (flying_in d.view.state) snapshot) launch.next in
+          let idle = idle_free desk.view (sym (due_objection desk c.requires.due) ∙ launch.free) in
+          subst (FliesLawfully m desk.opening (durable_part desk)) (sym is) (flies_all desk idle counts c.accepted-accepted.ensures.lawful node from)
+          );
     }
 
 pub returns-in-Ok-clause-free : goal.returns-in-Ok-clause-free

@@ -11,7 +11,7 @@ use Rattle.ring_service.specs.Rounds.{known_behind, reading_after}
 use Rattle.commit_hub.proofs.Works.{of_some}
 use Rattle.ring_service.specs.Flushers.{journal_of}
 use Rattle.ring_service.proofs.Next.{makes}
-use Rattle.ring_service.proofs.Stops.{idle, written}
+use Rattle.ring_service.proofs.Stops.{idle, moments, written}
 use Rattle.ring_service.proofs.flusher.Flusher.flush_round.Goals as goal
 
 -- nothing was written
@@ -51,6 +51,12 @@ returns-in-Ok-clause-round g c =
       count = c.in-Ok.ensures.count;
       next = c.in-Ok.ensures.next ∙ ap (known_behind (summary_by w) inputs) same;
       durable = subst (λ (k : ℕ). (r : Reading) → AllReadAs m disk r → AllReadAs m behind (reading_after k (summary_by w) inputs r)) (c.args.self.now.known c.if-self.false).area c.in-Ok.ensures.durable;
+      within = (
+          let journal = journal_of c.args.self.now in
+          let of = c.args.self.now.member c.if-self.false in
+          λ r reads. moments g.V.Device.clock g.V.Device.left_since (device_of journal) (device_of c.settle.new.journal) (member_of journal) m (known_by c.args.self.now.tie) (epoch_of journal) r inputs (summary_by w)
+          of (c.args.self.now.known c.if-self.false).area (c.settle.ensures.any_moment r (subst (λ (x : Member). AllReadAs x disk r) (sym of) reads))
+          );
       brought = subst (λ (d : Durable). IsBrought m o d.inputs inputs c.in-Ok.landed) same c.in-Ok.ensures.brought;
     }
 
