@@ -5,7 +5,7 @@ import re
 from programs import Kind
 
 NUMBERS = {b"serve": (1, 1_000), b"doors": (1, 32), b"idle": (0, 86_400), b"status": (1, 65_535)}
-FLAGS = {b"always", b"existing", b"fail-stop"}
+FLAGS = {b"always", b"existing", b"fail-stop", b"make"}
 WRONG, HELP, VERSION, TAKEN = "wrong", "help", "version", "taken"
 
 
@@ -43,6 +43,8 @@ def outcome(words: list[bytes]) -> str:
         if name in NUMBERS and not is_number(value, *NUMBERS[name]):
             return WRONG
         said[name] = value
+    if b"make" in said and said.keys() & {b"serve", b"always", b"existing"}:
+        return WRONG
     if b"always" in said and b"serve" in said or b"status" in said and int(said.get(b"doors", b"1")) > 31:
         return WRONG
     return TAKEN if said.get(b"settings", b"-") == b"-" else "path"

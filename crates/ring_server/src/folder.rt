@@ -174,6 +174,16 @@ pub(crate) struct Made {
     pub(crate) is_marked: bool,
 }
 
+impl Made {
+    /// Nothing yet.
+    pub(crate) fn new(alloc: Global) -> Made {
+        Made {
+            nodes: Vec::new(alloc),
+            is_marked: false,
+        }
+    }
+}
+
 /// A folder whose exclusive lock is held: nobody else who asks for it makes or opens nodes there.
 #[derive(Drop)]
 pub struct Folder<'a> {

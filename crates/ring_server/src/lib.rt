@@ -34,7 +34,7 @@ pub use folder::Folder;
 pub use open_node::OpenNode;
 pub use post::Post;
 pub use ready::Ready;
-pub use ring::serve_ring;
+pub use ring::{Ring, serve_ring};
 pub use ringd::start;
 pub use run_fault::RunFault;
 pub use site::{Doors, Site};

@@ -1,8 +1,9 @@
 //! A node's place in the ring.
-ghost use Rattle.std.specs.Prelude.{◌≤◌};
+ghost use Rattle.std.specs.Prelude.{◌≡◌, ◌≤◌};
 
 use crate::post::Post;
 use crate::repeats::Repeats;
+use crate::shared::Shared;
 use crate::watch::Watch;
 use ring_records::{NodeNo, Packet};
 use ring_watch::{Reception, Tally};
@@ -44,7 +45,30 @@ pub(crate) struct Links<'a> {
     ghost inside: { (node ≤ nodes) × (nodes ≤ 16) },
 }
 
-impl Links<'_> {
+impl<'a> Links<'a> {
+    /// Those of this node of a ring of so many.
+    pub(crate) fn new(
+        shared: &'a Shared,
+        successor: &'a Successor,
+        tally: &'a Tally,
+        node: NodeNo,
+        nodes: u8,
+    ) -> Links<'a>
+        requires { (node ≤ nodes) × (nodes ≤ 16) }
+        ensures node { result.node ≡ node }
+        ensures nodes { result.nodes ≡ nodes }
+    {
+        Links {
+            post: &shared.post,
+            watch: &shared.watch,
+            successor,
+            tally,
+            reception: shared.reception(),
+            node,
+            nodes,
+        }
+    }
+
     /// Sends a message to the successor, a credit to the predecessor.
     pub(crate) fn send<R: Wait>(&self, rt: &R, packet: Packet) {
         let to = match packet {

@@ -12,7 +12,7 @@ use crate::links::{Links, Successor};
 use crate::open_node::OpenNode;
 use crate::run_fault::RunFault;
 use crate::shared::Shared;
-use crate::site::{Doors, Site};
+use crate::site::{Doors, Entrance, Site};
 use crate::start_latch::StartLatch;
 use commit_hub::{Hub, Node, Share};
 use crossbeam_channel::Receiver;
@@ -33,15 +33,6 @@ struct Crew<J: Naming, A: Node> {
     share: Share<A>,
     seats: Vec<Seat<J, A>>,
     clerk: Option<Clerk<J>>,
-}
-
-/// Where messages and clients come to a node, and what its clerk is asked, where it has one.
-#[derive(Drop)]
-struct Entrance {
-    inbox: Receiver<Packet>,
-    listener: TcpListener,
-    doors: Doors,
-    asked: Option<Receiver<Inquiry>>,
 }
 
 /// What the inbox, the doors and the clerk of a node take with them.
@@ -81,10 +72,7 @@ pub(crate) fn serve_node<
     let Site {
         alloc,
         opened,
-        inbox,
-        listener,
-        doors,
-        asked,
+        entrance,
         readers,
         blanks,
         history,
@@ -97,50 +85,36 @@ pub(crate) fn serve_node<
     } = opened;
     let (desk, journal) = node.split();
     let Ok(tally) = Tally::new(alloc) else {
-        latch.tell(rt, Err(RunFault::Memory(AllocError)));
-        return None;
-    };
-    let successor = Successor::new();
-    let links = Links {
-        post: &shared.post,
-        watch: &shared.watch,
-        successor: &successor,
-        tally: &tally,
-        reception: shared.reception(),
-        node: number,
-        nodes,
+        return unstarted(rt, latch);
     };
     let Ok(board) = opened_board::<J>(alloc, history, &desk, readers as usize) else {
-        latch.tell(rt, Err(RunFault::Memory(AllocError)));
-        return None;
+        return unstarted(rt, latch);
     };
+    let successor = Successor::new();
+    let links = Links::new(shared, &successor, &tally, number, nodes);
     let (hub, tie) = Hub::<A>::new(desk, blanks);
-    let entrance = Entrance {
-        inbox,
-        listener,
-        doors,
-        asked,
-    };
+    let doors = entrance.doors;
     let ends = take_ends(rt, alloc, &hub, &board, entrance);
     let mut flusher = Flusher::new(alloc, journal, board, tie);
+    let common = Common {
+        alloc,
+        hub: &hub,
+        links: &links,
+        latch,
+    };
     let shares = match ends {
-        Some(ends) => {
-            let common = Common {
-                alloc,
-                hub: &hub,
-                links: &links,
-                latch,
-            };
-            run_threads(rt, &common, &mut flusher, ends)
-        }
-        None => {
-            latch.tell(rt, Err(RunFault::Memory(AllocError)));
-            None
-        }
+        Some(ends) => run_threads(rt, &common, &mut flusher, ends),
+        None => unstarted(rt, latch),
     };
     let (_journal, board, _owed) = flusher.into_parts();
     board.end(rt);
     settle(hub, shares?, doors)
+}
+
+/// Tells the latch that memory or a place is wanting: the node does not start.
+fn unstarted<T, R: Wait>(rt: &R, latch: &StartLatch) -> Option<T> {
+    latch.tell(rt, Err(RunFault::Memory(AllocError)));
+    None
 }
 
 /// What the threads of a node take, or `None` where memory or a place is wanting.

@@ -17,6 +17,16 @@ use std::thread;
 use std::thread::{JoinHandle, Scope, Threads};
 use std::time::Clock;
 
+/// A ring that is to be served: its nodes in their order, their letterboxes, the port at which an operator is told of it, if
+/// there is one, and whether it ends with the first node that fails.
+#[derive(Drop)]
+pub struct Ring<V: Device> {
+    pub sites: Vec<Site<V>>,
+    pub post: Post,
+    pub status: Option<StatusPort>,
+    pub fail_stop: bool,
+}
+
 /// What each node of a ring holds at the end, in their order, `None` where it failed.
 type Ends = Result<Vec<Option<Shown>>, AllocError>;
 
@@ -182,8 +192,8 @@ fn tell_end<O: Write, E: Write>(out: &mut O, err: &mut E, ends: Ends) -> u8 {
 
 /// Serves with all nodes of a ring until the last door is done, and gives the status: 0, or 1 where a node failed, or
 /// `out` does not take what is printed at the end. Prints `serving` first, and at the end for each node in order what it
-/// holds, to `out`; that a node has failed or is full once it is, to `err`. Meanwhile it tells of the ring at the port of
-/// `status`, where there is one: the nodes have clerks then. With `fail_stop` it ends with the first node that fails, and
+/// holds, to `out`; that a node has failed or is full once it is, to `err`. Meanwhile it tells of the ring at its status
+/// port, where there is one: the nodes have clerks then. With `fail_stop` it ends with the first node that fails, and
 /// leaves the threads of the ring to the end of the program. Refused where memory or a thread is wanting, or `out` does
 /// not take `serving`: nothing was served then, and no thread of a node or of the port goes on.
 pub fn serve_ring<
@@ -191,16 +201,13 @@ pub fn serve_ring<
     R: Threads + Wait + Clock + Sync + Send + Copy + 'static,
     O: Write,
     E: Write,
->(
-    rt: &R,
-    alloc: Global,
-    sites: Vec<Site<V>>,
-    post: Post,
-    status: Option<StatusPort>,
-    fail_stop: bool,
-    out: &mut O,
-    err: &mut E,
-) -> Result<u8, RunFault> {
+>(rt: &R, alloc: Global, ring: Ring<V>, out: &mut O, err: &mut E) -> Result<u8, RunFault> {
+    let Ring {
+        sites,
+        post,
+        status,
+        fail_stop,
+    } = ring;
     let status = match status {
         Some(status) => Some(Arc::new(alloc, status)?),
         None => None,

@@ -9,7 +9,7 @@ use crate::opening::{find_ring, open_ring};
 use crate::ports::Ports;
 use crate::post::Post;
 use crate::ready::Ready;
-use crate::ring::serve_ring;
+use crate::ring::{Ring, serve_ring};
 use crate::run_fault::RunFault;
 use crate::site::{Doors, Site};
 use clap::Error;
@@ -102,13 +102,13 @@ where
     if print_settings(out, &settings).is_err() {
         return Err(RunFault::Output);
     }
-    let sessions = match (words.always, words.serve) {
-        (true, _) => None,
-        (false, Some(sessions)) => Some(sessions),
-        (false, None) => return Ok(0),
+    let end = match (words.make, words.always, words.serve) {
+        (true, _, _) => make(rt, alloc, &settings, err),
+        (false, true, _) => serve(rt, alloc, &settings, words, None, out, err),
+        (false, false, Some(count)) => serve(rt, alloc, &settings, words, Some(count), out, err),
+        (false, false, None) => return Ok(0),
     };
-    let doors = Doors::new(words.doors, sessions, words.idle);
-    match serve(rt, alloc, &settings, words, doors, out, err) {
+    match end {
         Ok(status) => Ok(status),
         Err(fault) => {
             let _ = writeln!(err, "ringd: {fault}");
@@ -169,14 +169,79 @@ fn print_settings<O: Write>(out: &mut O, settings: &Settings) -> io::Result<()> 
     out.flush()
 }
 
-/// Finds the nodes, has their ports, makes the nodes ready, and serves; with `fail_stop` until a node fails. Where the
-/// start is refused, what it made is gone.
+/// What a start goes by: the settings, the folder, and whether a ring was made there before.
+#[derive(Clone, Copy)]
+struct Basis<'a> {
+    alloc: Global,
+    settings: &'a Settings,
+    folder: &'a Folder<'a>,
+    is_made: bool,
+}
+
+/// How a ring serves: its ports, the doors of each node, and whether it ends with the first node that fails.
+#[derive(Drop)]
+struct Serving {
+    ports: Ports,
+    doors: Doors,
+    fail_stop: bool,
+}
+
+/// Whether a ring was made in the folder before.
+fn is_made<R: Files<File = File>>(
+    rt: &R,
+    alloc: Global,
+    folder: &Folder<'_>,
+) -> Result<bool, RunFault> {
+    match folder.is_made(rt, alloc) {
+        Ok(is_made) => Ok(is_made),
+        Err(why) => Err(RunFault::Node(NodeNo::first(), why)),
+    }
+}
+
+/// The folder of the settings. Its lock is held until it is let go.
+fn open_folder<'a, R: Files<File = File>>(
+    rt: &R,
+    settings: &'a Settings,
+) -> Result<Folder<'a>, RunFault> {
+    match Folder::open(rt, settings.dir.as_str()) {
+        Ok(folder) => Ok(folder),
+        Err(why) => Err(RunFault::Node(NodeNo::first(), why)),
+    }
+}
+
+/// Makes the nodes that are not there, as a start does, and serves nothing. Where it is refused, what it made is gone.
+fn make<R: Files<File = File>, E: Write>(
+    rt: &R,
+    alloc: Global,
+    settings: &Settings,
+    err: &mut E,
+) -> Result<u8, RunFault> {
+    let folder = open_folder(rt, settings)?;
+    let basis = Basis {
+        alloc,
+        settings,
+        folder: &folder,
+        is_made: is_made(rt, alloc, &folder)?,
+    };
+    let found = find_ring(rt, alloc, &folder, settings, basis.is_made)?;
+    let mut made = Made::new(alloc);
+    match make_ready(rt, &basis, found, &mut made, err) {
+        Ok(_) => Ok(0),
+        Err(fault) => {
+            folder.take_back(rt, alloc, &made);
+            Err(fault)
+        }
+    }
+}
+
+/// Finds the nodes, has their ports, makes the nodes ready, and serves so many sessions at each, or without end. Where
+/// the start is refused, what it made is gone.
 fn serve<R, O: Write, E: Write>(
     rt: &R,
     alloc: Global,
     settings: &Settings,
     words: &Words<'_>,
-    doors: Doors,
+    sessions: Option<u32>,
     out: &mut O,
     err: &mut E,
 ) -> Result<u8, RunFault>
@@ -190,25 +255,25 @@ where
         + Clock
         + Files<File = File>
         + Net<Listener = TcpListener, Stream = TcpStream>,
+    requires { IsIn 1 32 words.now.doors }
 {
     // Its lock is held until the last node has ended.
-    let folder = match Folder::open(rt, settings.dir.as_str()) {
-        Ok(folder) => folder,
-        Err(why) => return Err(RunFault::Node(NodeNo::first(), why)),
+    let folder = open_folder(rt, settings)?;
+    let basis = Basis {
+        alloc,
+        settings,
+        folder: &folder,
+        is_made: is_made(rt, alloc, &folder)?,
     };
-    let is_made = match folder.is_made(rt, alloc) {
-        Ok(is_made) => is_made,
-        Err(why) => return Err(RunFault::Node(NodeNo::first(), why)),
+    let existing = basis.is_made || words.existing;
+    let found = find_ring(rt, alloc, &folder, settings, existing)?;
+    let serving = Serving {
+        ports: Ports::listen(rt, alloc, settings, words.status)?,
+        doors: Doors::new(words.doors, sessions, words.idle),
+        fail_stop: words.fail_stop,
     };
-    let found = find_ring(rt, alloc, &folder, settings, is_made || words.existing)?;
-    let ports = Ports::listen(rt, alloc, settings, words.status)?;
-    let mut made = Made {
-        nodes: Vec::new(alloc),
-        is_marked: false,
-    };
-    let end = serve_found(
-        rt, alloc, settings, words, doors, &folder, found, ports, is_made, &mut made, out, err,
-    );
+    let mut made = Made::new(alloc);
+    let end = serve_found(rt, &basis, found, serving, &mut made, out, err);
     if end.is_err() {
         folder.take_back(rt, alloc, &made);
     }
@@ -218,14 +283,9 @@ where
 /// Makes the nodes ready that were found, and serves with them. Refused only where nothing was served.
 fn serve_found<R, O: Write, E: Write>(
     rt: &R,
-    alloc: Global,
-    settings: &Settings,
-    words: &Words<'_>,
-    doors: Doors,
-    folder: &Folder<'_>,
+    basis: &Basis<'_>,
     found: Vec<Found<FileDevice>>,
-    ports: Ports,
-    is_made: bool,
+    serving: Serving,
     made: &mut Made,
     out: &mut O,
     err: &mut E,
@@ -241,25 +301,57 @@ where
         + Files<File = File>
         + Net<Listener = TcpListener, Stream = TcpStream>,
     requires order { IsInOrder found_as found.items }
-    requires count { length found.items ≡ settings.now.nodes }
-    requires fits { Fits found_as settings.now.nodes found.items }
+    requires count { length found.items ≡ basis.now.settings.nodes }
+    requires fits { Fits found_as basis.now.settings.nodes found.items }
 {
-    let ring = open_ring(rt, alloc, folder, settings, found, made)?;
-    tell_kept(err, &ring);
+    let ready = make_ready(rt, basis, found, made, err)?;
+    let Serving {
+        ports: Ports {
+            listeners,
+            status,
+            clerks,
+        },
+        doors,
+        fail_stop,
+    } = serving;
+    let alloc = basis.alloc;
+    let (post, inboxes) = Post::new(alloc, basis.settings.nodes)?;
+    let ring = Ring {
+        sites: take_sites(alloc, ready, inboxes, listeners, clerks, doors)?,
+        post,
+        status,
+        fail_stop,
+    };
+    serve_ring(rt, alloc, ring, out, err)
+}
+
+/// Makes the nodes ready that were found, and marks the folder as one where a ring was made.
+fn make_ready<R: Files<File = File>, E: Write>(
+    rt: &R,
+    basis: &Basis<'_>,
+    found: Vec<Found<FileDevice>>,
+    made: &mut Made,
+    err: &mut E,
+) -> Result<Vec<Ready<FileDevice>>, RunFault>
+    requires order { IsInOrder found_as found.items }
+    requires count { length found.items ≡ basis.now.settings.nodes }
+    requires fits { Fits found_as basis.now.settings.nodes found.items }
+{
+    let Basis {
+        alloc,
+        settings,
+        folder,
+        is_made,
+    } = *basis;
+    let ready = open_ring(rt, alloc, folder, settings, found, made)?;
+    tell_kept(err, &ready);
     if !is_made {
         made.is_marked = true;
         if let Err(why) = folder.mark_made(rt, alloc) {
             return Err(RunFault::Node(NodeNo::first(), why));
         }
     }
-    let Ports {
-        listeners,
-        status,
-        clerks,
-    } = ports;
-    let (post, inboxes) = Post::new(alloc, settings.nodes)?;
-    let sites = take_sites(alloc, ring, inboxes, listeners, clerks, doors)?;
-    serve_ring(rt, alloc, sites, post, status, words.fail_stop, out, err)
+    Ok(ready)
 }
 
 /// Names each node of which no checkpoint could be made.

@@ -43,20 +43,25 @@ impl Doors {
     }
 }
 
-/// A node with its letterbox, its listener, how its doors serve, what its clerk is asked, where it has one, how many read
-/// its board, and what its ledgers begin with.
+/// Where messages and clients come to a node, how its doors serve, and what its clerk is asked, where it has one.
 #[derive(Drop)]
-pub struct Site<V: Device> {
-    pub(crate) alloc: Global,
-    pub(crate) opened: OpenNode<V>,
+pub(crate) struct Entrance {
     pub(crate) inbox: Receiver<Packet>,
     pub(crate) listener: TcpListener,
     pub(crate) doors: Doors,
     pub(crate) asked: Option<Receiver<Inquiry>>,
+}
+
+/// A node with its entrance, how many read its board, and what its ledgers begin with.
+#[derive(Drop)]
+pub struct Site<V: Device> {
+    pub(crate) alloc: Global,
+    pub(crate) opened: OpenNode<V>,
+    pub(crate) entrance: Entrance,
     pub(crate) readers: u32,
     pub(crate) blanks: Blanks,
     pub(crate) history: Opened,
-    ghost places: { places_of blanks ≡ doors.count + 1 },
+    ghost places: { places_of blanks ≡ entrance.doors.count + 1 },
     ghost few: { (1 ≤ readers) × (readers ≤ 32) },
 }
 
@@ -72,14 +77,17 @@ impl<V: Device> Site<V> {
         asked: Option<Receiver<Inquiry>>,
     ) -> Site<V> {
         let asked = if doors.count < 32 { asked } else { None };
+        let readers = doors.count + u32::from(asked.is_some());
         Site {
             alloc,
             opened,
-            inbox,
-            listener,
-            doors,
-            readers: doors.count + u32::from(asked.is_some()),
-            asked,
+            entrance: Entrance {
+                inbox,
+                listener,
+                doors,
+                asked,
+            },
+            readers,
             blanks: Blanks::new(doors.count + 1),
             history: Opened::new(),
         }

@@ -6,7 +6,7 @@ use crate::programs::Ended;
 use disk_model::{Device, FuseDevice, MemDevice};
 use node_store::Node;
 use ring_records::{Bid, GroupName, Key, NodeNo, Refusal, Request, Term};
-use ring_server::{Doors, OpenNode, Post, Site, serve_ring};
+use ring_server::{Doors, OpenNode, Post, Ring, Site, serve_ring};
 use ring_watch::{Facts, Reception, StatusPort};
 use std::alloc::{AllocGlobal, Global};
 use std::io;
@@ -228,16 +228,13 @@ pub fn serve_three<
         let site = Site::new(alloc, opened, inbox, listener, doors, asked);
         assert!(rt; sites.push(site).is_ok());
     }
-    let status = serve_ring(
-        rt,
-        alloc,
+    let ring = Ring {
         sites,
         post,
-        told,
-        served.fail_stop,
-        &mut out,
-        &mut err,
-    );
+        status: told,
+        fail_stop: served.fail_stop,
+    };
+    let status = serve_ring(rt, alloc, ring, &mut out, &mut err);
     let Seen { text, len: _ } = err;
     Ended {
         status: status.expect(rt, "a ring that is served"),

@@ -138,6 +138,32 @@ fn a_node_that_is_gone(rt: HostRuntime) {
     plays(&rt, &ONE_GONE);
 }
 
+const MAKING: &[u8] = b"nodes = 2\ndir = \"making\"\nport = 7257\n";
+
+const MAKE: &[&str] = &["ringd", "--make"];
+
+static MADE: [Step; 9] = [
+    Changes(&[Anew("making")]),
+    Ends(MAKE, MAKING, 0, b""),
+    Changes(&[
+        Has("making/ring.made", true),
+        Has("making/node-2.crj", true),
+    ]),
+    // it does no harm where a ring is
+    Serves(MAKING, 7257, b"stand red 5 10\n", b"stood"),
+    Ends(MAKE, MAKING, 0, b""),
+    Serves(MAKING, 7257, b"stand red 5 10\n", b"no 3 already 10"),
+    // nor makes it a node anew that is gone
+    Changes(&[Removes("making/node-2.crj")]),
+    Ends(MAKE, MAKING, 1, b"ringd: node 2: unformatted\n"),
+    Changes(&[Has("making/node-2.crj", false), Clears("making")]),
+];
+
+#[test]
+fn nodes_that_are_made_alone(rt: HostRuntime) {
+    plays(&rt, &MADE);
+}
+
 const EXISTING: &[u8] = b"nodes = 2\ndir = \"existing\"\nport = 7223\n";
 
 const ALL_EXISTING: &[&str] = &["ringd", "--existing", "--serve", "1"];

@@ -109,13 +109,14 @@ where
 }
 
 /// Words, and the status that they end with.
-static WORDS: [(&[&str], u8); 7] = [
+static WORDS: [(&[&str], u8); 8] = [
     (&["ringd", "--help"], 0),
     (&["ringd", "--always", "--status", "1", "--doors", "32"], 2),
     (&["ringd", "--serve", "0"], 2),
     (&["ringd", "--serve", "1001"], 2),
     (&["ringd", "--doors", "33"], 2),
     (&["ringd", "--always", "--serve", "1"], 2),
+    (&["ringd", "--make", "--always"], 2),
     (&["ringd", "red"], 2),
 ];
 

@@ -98,6 +98,7 @@ const ALONE: Words<'static> = Words {
     settings: "-",
     serve: None,
     always: false,
+    make: false,
     existing: false,
     fail_stop: false,
     doors: 1,
@@ -106,7 +107,7 @@ const ALONE: Words<'static> = Words {
 };
 
 /// Words that are taken, and what they ask.
-static TAKEN: [(&[&str], Words<'static>); 5] = [
+static TAKEN: [(&[&str], Words<'static>); 6] = [
     (&["ringd"], ALONE),
     (
         &["ringd", "--serve", "7", "--settings=x"],
@@ -142,6 +143,13 @@ static TAKEN: [(&[&str], Words<'static>); 5] = [
         },
     ),
     (
+        &["ringd", "--make"],
+        Words {
+            make: true,
+            ..ALONE
+        },
+    ),
+    (
         &["ringd", "--status", "65535", "--doors=31"],
         Words {
             doors: 31,
@@ -152,7 +160,7 @@ static TAKEN: [(&[&str], Words<'static>); 5] = [
 ];
 
 /// Words that are wrong.
-static WRONG: [&[&str]; 16] = [
+static WRONG: [&[&str]; 19] = [
     &["ringd", "--serve=0"],
     &["ringd", "--serve=1001"],
     &["ringd", "--serve=5000"],
@@ -168,6 +176,9 @@ static WRONG: [&[&str]; 16] = [
     &["ringd", "--other"],
     &["ringd", "x"],
     &["ringd", "--always", "--serve=1"],
+    &["ringd", "--make", "--serve=1"],
+    &["ringd", "--make", "--always"],
+    &["ringd", "--make", "--existing"],
     &["ringd", "--status=1", "--doors=32"],
 ];
 
