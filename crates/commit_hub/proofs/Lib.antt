@@ -1,4 +1,3 @@
-pub mod Costs
 pub mod Sums
 pub mod Batches
 pub mod Requests

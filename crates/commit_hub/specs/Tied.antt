@@ -5,16 +5,7 @@ use base.Fml.{Fml, fobs, fauth}
 use Rattle.ring_records.specs.declared.base.Base.{Base}
 use Rattle.ring_records.specs.declared.input.Input.{Input}
 use Rattle.ring_records.specs.Admission.{fresh, newest}
-use Rattle.ring_records.specs.States.{durable_in}
-use Rattle.group_commit.specs.Desk.{DeskKept}
-
--- what is durable of a desk: the area in use, and the inputs since its opening
-pub record Durable : Type 0 where
-  pub base : Base
-  pub inputs : List Input
-
-abbrev pub durable_part : DeskKept → Durable
-durable_part desk = record { base = desk.view.state.base; inputs = durable_in desk.view.state }
+pub use Rattle.group_commit.specs.Next.{Durable, durable_part}
 
 -- these inputs more are durable, in the same area
 abbrev pub with_batch : Durable → List Input → Durable

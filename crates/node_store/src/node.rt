@@ -279,6 +279,7 @@ impl<D: Device> Node<D> {
             Err(refusal) => Err(refusal),
             Ok(None) => Ok(Landed {
                 count: 0,
+                is_checkpoint: false,
                 packets: Vec::new(self.alloc),
                 decisions: Vec::new(self.alloc),
             }),

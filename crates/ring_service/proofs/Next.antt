@@ -10,11 +10,11 @@ use Rattle.ring_records.specs.Snapshot.{snapshot_len}
 use Rattle.ring_records.proofs.Lists.{none≢some}
 use Rattle.node_core.specs.Core.{IsNodeOf}
 use Rattle.gated_journal.specs.Batch.{base_by, numbered_by}
-use Rattle.commit_hub.specs.declared.work.Work.{Work}
-use Rattle.commit_hub.specs.declared.work.Work.TheVariants as works
+use Rattle.gated_journal.specs.declared.work.Work.{Work}
+use Rattle.gated_journal.specs.declared.work.Work.TheVariants as works
 use Rattle.commit_hub.specs.Tied.{Durable, with_area, with_batch}
 use Rattle.commit_hub.specs.Works.{flown_by, summary_by, IsNext}
-use Rattle.commit_hub.proofs.Costs.{used-joined}
+use Rattle.group_commit.proofs.Costs.{used-joined}
 use Rattle.commit_hub.proofs.Works.{after-inputs}
 use Rattle.ring_service.specs.Rounds.{HasKnown, IsMade, IsSpent, IsTaken, epoch_after, known_behind, room_after}
 

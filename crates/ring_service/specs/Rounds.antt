@@ -14,8 +14,8 @@ use Rattle.gated_journal.specs.Areas.{AllReadAs, ReadsAsOneOf}
 use Rattle.gated_journal.specs.Batch.{shown, numbered_by, base_by}
 use Rattle.gated_journal.specs.Reading.{Reading, fresh_area, with_more}
 use Rattle.group_commit.specs.declared.landed.Landed.{Landed}
-use Rattle.commit_hub.specs.declared.work.Work.{Work}
-use Rattle.commit_hub.specs.declared.work.Work.TheVariants as works
+use Rattle.gated_journal.specs.declared.work.Work.{Work}
+use Rattle.gated_journal.specs.declared.work.Work.TheVariants as works
 use Rattle.commit_hub.specs.Told.{IsBrought}
 use Rattle.commit_hub.specs.Tied.{Durable, with_batch, with_area}
 

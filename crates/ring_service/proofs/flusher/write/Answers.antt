@@ -4,7 +4,7 @@ use Rattle.disk_model.specs.Disk.{LeavesOnly}
 use Rattle.gated_journal.specs.Areas.{AllReadAs, ReadsAsOneOf}
 use Rattle.gated_journal.specs.Journal.{device_of, member_of, epoch_of}
 use Rattle.gated_journal.specs.Reading.{Reading}
-use Rattle.commit_hub.specs.declared.work.Work.{Work}
+use Rattle.gated_journal.specs.declared.work.Work.{Work}
 use Rattle.commit_hub.specs.Works.{flown_by, summary_by}
 use Rattle.ring_service.specs.Rounds.{reading_after}
 use Rattle.ring_service.proofs.flusher.write.Goals as goal

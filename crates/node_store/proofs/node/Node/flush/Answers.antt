@@ -29,10 +29,10 @@ commit-requires-clause-room g c =
     let node = c.args.self.now in
     let launch = c.in-Ok-Some.ensures in
     let works = works_launched node.desk.view.failed _ _ launch.free in
-    let batch : c.in-Ok-Some.batch.inputs.items ≡ flying_in (launched node.desk.view.state) =
+    let batch : c.in-Ok-Some.batch.flown.inputs.items ≡ flying_in (launched node.desk.view.state) =
     batch_of c.in-Ok-Some.field-0 c.in-Ok-Some.batch _ _ _ node.desk.view.state c.in-Ok-Some.field-0-is launch.batch (ap state launch.next) in
     let within = fits_of c.in-Ok-Some.field-0 c.in-Ok-Some.batch node.desk _ c.in-Ok-Some.field-0-is launch.fits launch.next in
-    fits _ _ _ _ _ _ _ works node.stands c.in-Ok-Some.batch.inputs.items batch within
+    fits _ _ _ _ _ _ _ works node.stands c.in-Ok-Some.batch.flown.inputs.items batch within
 
 pub invariant_of-self-in-Ok-None : goal.invariant_of-self-in-Ok-None
 invariant_of-self-in-Ok-None g c =
@@ -54,14 +54,14 @@ invariant_of-self-in-Ok g c =
     let disk = g.D.Device.disk (journals.device_of journal) in
     let launch = c.in-Ok-Some.ensures in
     let works = works_launched node.desk.view.failed _ _ launch.free in
-    let batch : c.in-Ok-Some.batch.inputs.items ≡ flying_in (launched node.desk.view.state) =
+    let batch : c.in-Ok-Some.batch.flown.inputs.items ≡ flying_in (launched node.desk.view.state) =
     batch_of c.in-Ok-Some.field-0 c.in-Ok-Some.batch _ _ _ node.desk.view.state c.in-Ok-Some.field-0-is launch.batch (ap state launch.next) in
-    let read : AllReadAs (journals.member_of node.journal) disk (with_more (durable_held node.desk) c.in-Ok-Some.batch.inputs.items) =
+    let read : AllReadAs (journals.member_of node.journal) disk (with_more (durable_held node.desk) c.in-Ok-Some.batch.flown.inputs.items) =
     c.in-Ok.ensures.durable (durable_held node.desk) (all _ _ _ _ _ _ _ works node.stands) in
     let next : c.land.new.desk ≡ record node.desk { view = desks.landed (desks.launched node.desk.view) } = c.land.ensures.next ∙ ap landed launch.next in
     record {
       stands = subst (λ (d : DeskKept). Stands d (journals.member_of journal) disk (journals.is_spoiled journal) (journals.len_of journal) (journals.room_of journal) (journals.epoch_of journal)) (sym next)
-          (lands _ _ _ _ _ _ _ works node.stands c.in-Ok-Some.batch.inputs.items batch (journals.member_of journal) disk
+          (lands _ _ _ _ _ _ _ works node.stands c.in-Ok-Some.batch.flown.inputs.items batch (journals.member_of journal) disk
           (journals.is_spoiled journal) (journals.len_of journal) (journals.room_of journal) (journals.epoch_of journal)
           c.in-Ok.ensures.header read c.in-Ok.ensures.spoils c.in-Ok.ensures.len c.in-Ok.ensures.left c.in-Ok.ensures.epoch);
     }
@@ -73,17 +73,17 @@ invariant_of-self-in-Err-commit g c =
     let disk = g.D.Device.disk (journals.device_of journal) in
     let launch = c.in-Ok-Some.ensures in
     let works = works_launched node.desk.view.failed _ _ launch.free in
-    let batch : c.in-Ok-Some.batch.inputs.items ≡ flying_in (launched node.desk.view.state) =
+    let batch : c.in-Ok-Some.batch.flown.inputs.items ≡ flying_in (launched node.desk.view.state) =
     batch_of c.in-Ok-Some.field-0 c.in-Ok-Some.batch _ _ _ node.desk.view.state c.in-Ok-Some.field-0-is launch.batch (ap state launch.next) in
     let held = durable_held node.desk in
     let moments = c.in-Err-commit.ensures.any_moment held (all _ _ _ _ _ _ _ works node.stands) in
     let read = now g.D.Device.clock g.D.Device.left_since (journals.device_of node.journal) (journals.device_of journal) disk
-    (ReadsAsOneOf (journals.member_of node.journal) held (with_more held c.in-Ok-Some.batch.inputs.items)) moments
+    (ReadsAsOneOf (journals.member_of node.journal) held (with_more held c.in-Ok-Some.batch.flown.inputs.items)) moments
     (g.met.D.Device.counts_now (journals.device_of journal)) in
     let next : c.fail.new.desk ≡ record node.desk { view = record (desks.launched node.desk.view) { failed = true } } = c.fail.ensures.next ∙ ap failed launch.next in
     record {
       stands = subst (λ (d : DeskKept). Stands d (journals.member_of journal) disk (journals.is_spoiled journal) (journals.len_of journal) (journals.room_of journal) (journals.epoch_of journal)) (sym next)
-          (breaks _ _ _ _ _ _ _ works node.stands c.in-Ok-Some.batch.inputs.items batch (journals.member_of journal) disk
+          (breaks _ _ _ _ _ _ _ works node.stands c.in-Ok-Some.batch.flown.inputs.items batch (journals.member_of journal) disk
           (journals.is_spoiled journal) (journals.len_of journal) (journals.room_of journal) (journals.epoch_of journal) c.in-Err-commit.ensures.header read);
     }
 
@@ -151,12 +151,12 @@ returns-in-Ok-clause-durable g c =
     let disk = g.D.Device.disk (journals.device_of c.commit.new.self) in
     let launch = c.in-Ok-Some.ensures in
     let works = works_launched node.desk.view.failed _ _ launch.free in
-    let batch : c.in-Ok-Some.batch.inputs.items ≡ flying_in (launched node.desk.view.state) =
+    let batch : c.in-Ok-Some.batch.flown.inputs.items ≡ flying_in (launched node.desk.view.state) =
     batch_of c.in-Ok-Some.field-0 c.in-Ok-Some.batch _ _ _ node.desk.view.state c.in-Ok-Some.field-0-is launch.batch (ap state launch.next) in
-    let read : AllReadAs (journals.member_of node.journal) disk (with_more (durable_held node.desk) c.in-Ok-Some.batch.inputs.items) =
+    let read : AllReadAs (journals.member_of node.journal) disk (with_more (durable_held node.desk) c.in-Ok-Some.batch.flown.inputs.items) =
     c.in-Ok.ensures.durable (durable_held node.desk) (all _ _ _ _ _ _ _ works node.stands) in
     let next : c.land.new.desk ≡ record node.desk { view = desks.landed (desks.launched node.desk.view) } = c.land.ensures.next ∙ ap landed launch.next in
-    landed_all _ _ _ _ _ _ _ works node.stands c.in-Ok-Some.batch.inputs.items batch c.land.new.desk disk next read
+    landed_all _ _ _ _ _ _ _ works node.stands c.in-Ok-Some.batch.flown.inputs.items batch c.land.new.desk disk next read
 
 pub returns-in-Ok-clause-any_moment : goal.returns-in-Ok-clause-any_moment
 returns-in-Ok-clause-any_moment g c =
@@ -164,15 +164,15 @@ returns-in-Ok-clause-any_moment g c =
     let journal = c.commit.new.self in
     let launch = c.in-Ok-Some.ensures in
     let works = works_launched node.desk.view.failed _ _ launch.free in
-    let batch : c.in-Ok-Some.batch.inputs.items ≡ flying_in (launched node.desk.view.state) =
+    let batch : c.in-Ok-Some.batch.flown.inputs.items ≡ flying_in (launched node.desk.view.state) =
     batch_of c.in-Ok-Some.field-0 c.in-Ok-Some.batch _ _ _ node.desk.view.state c.in-Ok-Some.field-0-is launch.batch (ap state launch.next) in
     let held = durable_held node.desk in
     let moments = c.in-Ok.ensures.any_moment held (all _ _ _ _ _ _ _ works node.stands) in
     let next : c.land.new.desk ≡ record node.desk { view = desks.landed (desks.launched node.desk.view) } = c.land.ensures.next ∙ ap landed launch.next in
     weaken g.D.Device.clock g.D.Device.left_since (journals.device_of node.journal) (journals.device_of journal)
-    (ReadsAsOneOf (journals.member_of node.journal) held (with_more held c.in-Ok-Some.batch.inputs.items))
+    (ReadsAsOneOf (journals.member_of node.journal) held (with_more held c.in-Ok-Some.batch.flown.inputs.items))
     (MayBeLeft (until node.desk c.land.new.desk))
-    (moment _ _ _ _ _ _ _ works node.stands c.in-Ok-Some.batch.inputs.items batch c.land.new.desk (ap (λ (d : DeskKept). d.view.state.flying) next)) moments
+    (moment _ _ _ _ _ _ _ works node.stands c.in-Ok-Some.batch.flown.inputs.items batch c.land.new.desk (ap (λ (d : DeskKept). d.view.state.flying) next)) moments
 
 pub returns-in-Err-commit-clause-any_moment : goal.returns-in-Err-commit-clause-any_moment
 returns-in-Err-commit-clause-any_moment g c =
@@ -180,12 +180,12 @@ returns-in-Err-commit-clause-any_moment g c =
     let journal = c.commit.new.self in
     let launch = c.in-Ok-Some.ensures in
     let works = works_launched node.desk.view.failed _ _ launch.free in
-    let batch : c.in-Ok-Some.batch.inputs.items ≡ flying_in (launched node.desk.view.state) =
+    let batch : c.in-Ok-Some.batch.flown.inputs.items ≡ flying_in (launched node.desk.view.state) =
     batch_of c.in-Ok-Some.field-0 c.in-Ok-Some.batch _ _ _ node.desk.view.state c.in-Ok-Some.field-0-is launch.batch (ap state launch.next) in
     let held = durable_held node.desk in
     let moments = c.in-Err-commit.ensures.any_moment held (all _ _ _ _ _ _ _ works node.stands) in
     let next : c.fail.new.desk ≡ record node.desk { view = record (desks.launched node.desk.view) { failed = true } } = c.fail.ensures.next ∙ ap failed launch.next in
     weaken g.D.Device.clock g.D.Device.left_since (journals.device_of node.journal) (journals.device_of journal)
-    (ReadsAsOneOf (journals.member_of node.journal) held (with_more held c.in-Ok-Some.batch.inputs.items))
+    (ReadsAsOneOf (journals.member_of node.journal) held (with_more held c.in-Ok-Some.batch.flown.inputs.items))
     (MayBeLeft (until node.desk c.fail.new.desk))
-    (moment _ _ _ _ _ _ _ works node.stands c.in-Ok-Some.batch.inputs.items batch c.fail.new.desk (ap (λ (d : DeskKept). d.view.state.flying) next)) moments
+    (moment _ _ _ _ _ _ _ works node.stands c.in-Ok-Some.batch.flown.inputs.items batch c.fail.new.desk (ap (λ (d : DeskKept). d.view.state.flying) next)) moments
