@@ -15,39 +15,15 @@ use Rattle.gated_journal.specs.Batch.{Numbered, numbered}
 use Rattle.group_commit.specs.declared.landed.Landed.{Landed}
 use Rattle.group_commit.specs.Desk.{DeskKept, launched, landed, seen}
 use Rattle.group_commit.specs.Past.{IsPast, shifted}
+use Rattle.group_commit.proofs.Costs.{base_stays, flown, flown_count}
 use Rattle.group_commit.proofs.Past.{durable-shifted, flying-shifted}
 use Rattle.commit_hub.specs.Told.{IsBrought, IsWindow}
-use Rattle.commit_hub.proofs.Costs.{flown, flown_costs, flown_count}
 
 -- what is told of the desk is told of what its ledger names
 pub named : (P : Member → Summary → Type 0) (d : DeskKept) (m : Member) (opening : Summary) → d.view.member ≡ m → d.opening ≡ opening → P d.view.member d.opening → P m opening
 named P d m opening of from holds = subst (λ (x : Member). P x opening) of (subst (P d.view.member) from holds)
 
--- ---- launches
-
-pub launched_counts : (s : NodeState) → s.checkpoint ≡ None → IsNodeState s → IsNodeState (states.launched s)
-launched_counts s none counts = record {
-  durable = omega (arith, counts.durable, counts.flying);
-  flying = omega arith;
-  based = counts.based;
-  checkpointed = λ b e. none≢some b (sym none ∙ e);
-}
-
--- the batch that is launched fits behind the durable inputs
-pub room_fits : (batch : Numbered) (node first : ℕ) (old new : DeskKept) → old.view.state.checkpoint ≡ None → IsNodeState old.view.state
-    → new ≡ record old { view = launched old.view } → batch ≡ numbered node first (flying_in new.view.state) → used new.view.state.base (flown_in new.view.state) ≤ new.view.member.capacity
-    → used old.view.state.base (durable_in old.view.state) + costs_of batch.inputs ≤ old.view.member.capacity
-room_fits batch node first old new none counts next is fits =
-    let s = states.launched old.view.state in
-    let same : costs_of batch.inputs ≡ costs_of (flying_in s) = ap costs_of (ap (λ (n : Numbered). n.inputs) is ∙ ap (λ (d : DeskKept). flying_in d.view.state) next) in
-    let within : used s.base (flown_in s) ≤ old.view.member.capacity = subst (λ (d : DeskKept). used d.view.state.base (flown_in d.view.state) ≤ d.view.member.capacity) next fits in
-    omega (arith, same, within, flown_costs s (launched_counts old.view.state none counts))
-
 -- ---- lands
-
--- where nothing but a batch flies, the area in use stays
-pub base_stays : (s : NodeState) → s.checkpoint ≡ None → launched_base s ≡ s.base
-base_stays s none = ap (λ o. unwrap_or o s.base) none
 
 pub landed_counts : (s : NodeState) → s.checkpoint ≡ None → IsNodeState s → IsNodeState (states.landed s)
 landed_counts s none counts = record {

@@ -1,5 +1,3 @@
-pub mod Costs
-pub mod Flies
 pub mod Sums
 pub mod Batches
 pub mod Requests

@@ -5,27 +5,7 @@ use base.Fml.{Fml, fobs, fauth}
 use Rattle.ring_records.specs.declared.base.Base.{Base}
 use Rattle.ring_records.specs.declared.input.Input.{Input}
 use Rattle.ring_records.specs.Admission.{fresh, newest}
-use Rattle.ring_records.specs.States.{durable_in}
-use Rattle.group_commit.specs.Desk.{DeskKept}
-
--- what is durable of a desk: the area in use, and the inputs since its opening
-pub record Durable : Type 0 where
-  pub base : Base
-  pub inputs : List Input
-
-abbrev pub durable_part : DeskKept → Durable
-durable_part desk = record { base = desk.view.state.base; inputs = durable_in desk.view.state }
-
--- these inputs more are durable, in the same area
-abbrev pub with_batch : Durable → List Input → Durable
-with_batch d inputs = record d { inputs = d.inputs ++ inputs }
-
--- these inputs more are durable, in the next area, whose snapshot has so many bytes and stands for all
-abbrev pub with_area : Durable → List Input → ℕ → Durable
-with_area d inputs bytes = record {
-  base = record { layout = newest; epoch = d.base.epoch + 1; inputs = length (d.inputs ++ inputs); bytes = bytes };
-  inputs = d.inputs ++ inputs;
-}
+pub use Rattle.group_commit.specs.Next.{Durable, durable_part, with_area, with_batch}
 
 -- ---- the halves: whoever has both may write, and each alone knows what was written last
 

@@ -4,7 +4,7 @@ ghost use Rattle.std.specs.List.{sum_by};
 ghost use Rattle.ring_records.specs.declared.input.Input.{Input};
 ghost use Rattle.ring_records.specs.States.{IsLawfulState};
 ghost use Rattle.ring_records.specs.Message.{is_outside};
-ghost use Rattle.gated_journal.specs.Batch.{landed as receipted, lost};
+ghost use Rattle.gated_journal.specs.Batch.{is_checkpoint, landed as receipted, lost};
 ghost use Rattle.group_commit.specs.Desk.{IsAnswer, seen};
 ghost use Rattle.group_commit.specs.Past.{IsPast};
 ghost use Rattle.group_commit.specs.Ticket.{shown};
@@ -20,8 +20,7 @@ use crate::locked::Locked;
 use crate::look::Look;
 use crate::share::{Share, Tie};
 use crate::waking::{Bells, Guarded};
-use crate::work::Work;
-use gated_journal::{Receipt, Spoiled};
+use gated_journal::{Receipt, Spoiled, Work};
 use group_commit::{Desk, Landed, Stub, Ticket};
 use ring_records::{Packet, Refusal, Reply, Request};
 use std::alloc::AllocError;
@@ -161,6 +160,7 @@ impl<A: Node> Hub<A> {
         receipt: Receipt,
     ) -> Result<Landed, (Receipt, Refusal)>
         ensures count { IfOk result (λ landed. landed.count ≡ length (receipted receipt).inputs) }
+        ensures kind { IfOk result (λ landed. landed.is_checkpoint ≡ is_checkpoint (receipted receipt)) }
         ensures few { IfOk result (λ landed. length landed.decisions.items ≤ landed.count) }
         ensures brought { IfOk result (λ landed. IsBrought A.member A.opening (known_by tie.old).inputs (receipted receipt).inputs landed) }
         ensures batch { OnOk result ((receipted receipt).snapshot ≡ None → known_by tie.new ≡ with_batch (known_by tie.old) (receipted receipt).inputs) }

@@ -3,7 +3,6 @@
 
 mod blanks;
 mod hub;
-mod launching;
 mod ledgers;
 mod locked;
 mod look;
@@ -12,11 +11,10 @@ mod settling;
 mod share;
 mod tied;
 mod waking;
-mod work;
 
 pub use blanks::Blanks;
+pub use gated_journal::Work;
 pub use hub::Hub;
 pub use ledgers::Node;
 pub use look::Look;
 pub use share::{Share, Tie};
-pub use work::Work;

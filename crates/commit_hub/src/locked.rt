@@ -6,8 +6,9 @@ ghost use Rattle.ring_records.specs.Answer.{Answered};
 ghost use Rattle.ring_records.specs.States.{IsNodeState, launched_base, durable_in};
 ghost use Rattle.ring_records.specs.Props.{IsNodeState-prop};
 ghost use Rattle.ring_records.specs.Release.{packets, decisions, window};
-ghost use Rattle.gated_journal.specs.Batch.{landed as receipted, lost};
+ghost use Rattle.gated_journal.specs.Batch.{is_checkpoint, landed as receipted, lost};
 ghost use Rattle.group_commit.specs.Desk.{seen, ended, landed, objection, is_due, launch_objection, IsSubmitted, IsAnswer, IsHere, IsSealed, IsFlying};
+ghost use Rattle.group_commit.specs.Next.{launched_next, IsNoWork, IsUnlaunched, IsWorkOf};
 ghost use Rattle.group_commit.specs.Past.{IsPast};
 ghost use Rattle.group_commit.specs.Ticket.{shown};
 ghost use Rattle.commit_hub.specs.Holders.{count_of, known_by};
@@ -15,17 +16,15 @@ ghost use Rattle.commit_hub.specs.Pages.{places_of, ForAccepted, ForTie};
 ghost use Rattle.commit_hub.specs.Props.{member-prop, summary-prop, durable-prop, IsNextArea-prop};
 ghost use Rattle.commit_hub.specs.Tied.{durable_part, with_batch, with_area};
 ghost use Rattle.commit_hub.specs.Told.{IsBrought, IsLook, IsWindow, look_of};
-ghost use Rattle.commit_hub.specs.Works.{IsLaunch, IsNext, IsNextArea, IsUnlaunched};
+ghost use Rattle.commit_hub.specs.Works.{IsNext, IsNextArea};
 
 use crate::blanks::Blanks;
-use crate::launching::launch;
 use crate::ledgers::Node;
 use crate::look::Look;
 use crate::places::Places;
 use crate::share::{Share, Tie};
 use crate::tied::{Held, audit, follow};
-use crate::work::Work;
-use gated_journal::{Receipt, Spoiled};
+use gated_journal::{Receipt, Spoiled, Work};
 use group_commit::{Desk, Landed, SharedDesk, Stub, Ticket};
 use ring_records::{Packet, Refusal, Reply, Request};
 use std::alloc::AllocError;
@@ -180,7 +179,8 @@ impl<A: Node> Locked<A> {
         ensures next { IfOk result (λ some. IfSome some (IsNext A.member A.opening (known_by tie.old))) }
         ensures none { IfOk result (λ some. IfNone some (A.opened ≤ A.opening.inputs + length (known_by tie.old).inputs)) }
         ensures based { (known_by tie.old).base.inputs ≤ length (known_by tie.old).inputs }
-        ensures work { IfOk result (IsLaunch self.old.shared.desk self.new.shared.desk) }
+        ensures work { IfOk result (λ some. MatchOption some (IsNoWork self.old.shared.desk) (IsWorkOf self.old.shared.desk self.new.shared.desk)) }
+        ensures desk { OnOk result (self.new.shared.desk ≡ launched_next self.old.shared.desk) }
         ensures free { OnOk result (launch_objection self.old.shared.desk.view ≡ None) }
         ensures refusal { IfErr result (IsUnlaunched self.old.shared.desk) }
         ensures same { OnErr result (self.new.shared.desk ≡ self.old.shared.desk) }
@@ -197,7 +197,7 @@ impl<A: Node> Locked<A> {
         audit(held, known);
         // Its inputs are those of the opening, and more.
         accepted.audit(first);
-        launch(desk)
+        desk.launch_next()
     }
 
     /// As on the desk; the tie knows what became durable.
@@ -209,6 +209,7 @@ impl<A: Node> Locked<A> {
         ensures flying { OnOk result (IsFlying self.old.shared.desk (receipted receipt)) }
         ensures works { OnOk result (self.old.shared.desk.view.failed ≡ false) }
         ensures count { IfOk result (λ landed. landed.count ≡ length (receipted receipt).inputs) }
+        ensures kind { IfOk result (λ landed. landed.is_checkpoint ≡ is_checkpoint (receipted receipt)) }
         ensures few { IfOk result (λ landed. length landed.decisions.items ≤ landed.count) }
         ensures brought { IfOk result (λ landed. IsBrought A.member A.opening (known_by tie.old).inputs (receipted receipt).inputs landed) }
         ensures packets { IfOk result (λ landed. (past : List Input) → IsPast A.member A.opening past

@@ -1,5 +1,5 @@
 -- A journal of two areas at rest: one batch more, and another area in its place.
-use Rattle.std.proofs.Common.{◌≡◌, inl, inr, ⊎_elim, ℕ, ◌+◌, ◌≤◌, List, ◌++◌, length, Bool, false, refl, sym, ◌∙◌, ap, subst, arith, length-append}
+use Rattle.std.proofs.Common.{◌≡◌, inl, inr, ⊎_elim, ℕ, ◌+◌, ◌≤◌, List, ◌++◌, length, sym, ◌∙◌, ap, subst, arith, length-append}
 use Rattle.std.proofs.Math.Logic.{∥∥₁_elim}
 use Rattle.std.proofs.Math.Nat.{ℕ_set}
 use Rattle.std.proofs.Math.Bridge.{le_prop}
@@ -10,8 +10,11 @@ use Rattle.ring_records.specs.Admission.{costs_of}
 use Rattle.ring_records.specs.Member.{Member}
 use Rattle.ring_records.proofs.Counts.{costs-joined}
 use Rattle.gated_journal.specs.Frames.{ReadsTo, Appends}
-use Rattle.gated_journal.specs.Areas.{ReadsAt, AllReadAs, ReadsAsOneOf, ReadsAtOneOf, IsGate, IsInUse}
+use Rattle.gated_journal.specs.Areas.{ReadsAt, AllReadAs, ReadsAsOneOf, ReadsAtOneOf, IsGate}
+use Rattle.gated_journal.specs.Place.{IsInUse, IsReadHere, Stands}
 use Rattle.gated_journal.specs.Reading.{Reading, with_more, count_in, used_in}
+use Rattle.gated_journal.specs.declared.area.Chosen.{Chosen}
+use Rattle.gated_journal.specs.declared.place.Place.{Place}
 use Rattle.gated_journal.proofs.AreaAlone.{alone}
 use Rattle.gated_journal.proofs.AreaBeside.{grown, gate_grown}
 
@@ -20,34 +23,40 @@ pub all_read : (header : Member) (disk : Disk) (r : Reading) (start other offset
 all_read header disk r start other offset gate_at is read image left =
     record { start = start; other = other; offset = offset; gate_at = gate_at; at = subst (λ (l : List ℕ). ReadsAt header l r start other offset gate_at) (sym (synced_only disk image is left)) read }
 
-pub in_use : (header : Member) (disk : Disk) (r : Reading) (start other offset gate_at : ℕ) (is_closed : Bool) → IsSynced disk → IsGate is_closed other disk.image → ReadsAt header disk.image r start other offset gate_at
-    → IsInUse header disk start other offset gate_at is_closed r.epoch (count_in r) (used_in r)
-in_use header disk r start other offset gate_at is_closed is gate read = record { synced = is; gate = gate; reads = ∣ (r, (read, (refl, (refl, refl)))) ∣₁ }
+pub in_use : (header : Member) (disk : Disk) (p : Place) (r : Reading) → Stands header disk p r → IsInUse header disk p
+in_use header disk p r s = record { rest = s.rest; reads = ∣ (r, s.here) ∣₁ }
 
--- what all images read as is read at the journal's places, with its numbers
-pub record IsReadHere (header : Member) (disk : Disk) (r : Reading) (start other offset gate_at epoch count used : ℕ) : Type 0 where
-  pub at : ReadsAt header disk.image r start other offset gate_at
-  pub epoch_is : r.epoch ≡ epoch
-  pub count_is : count_in r ≡ count
-  pub used_is : used_in r ≡ used
-
-pub read_here : (header : Member) (disk : Disk) (start other offset gate_at : ℕ) (is_closed : Bool) (epoch count used : ℕ) (r : Reading) → IsInUse header disk start other offset gate_at is_closed epoch count used
-    → MayLeave disk disk.image → AllReadAs header disk r → IsReadHere header disk r start other offset gate_at epoch count used
-read_here header disk start other offset gate_at is_closed epoch count used r rest stays all =
+-- what all images read as is read at the journal's place
+pub read_here : (header : Member) (disk : Disk) (p : Place) (r : Reading) → IsInUse header disk p → MayLeave disk disk.image → AllReadAs header disk r → Stands header disk p r
+read_here header disk p r used stays all =
     let read = all disk.image stays in
-    let same = λ (s : Reading) (at : ReadsAt header disk.image s start other offset gate_at). alone header disk.image r s read.start start read.other other read.offset offset read.gate_at gate_at read.at at in
-    let s = ∥∥₁_elim rest.reads (ℕ_set read.start start) (λ t. (same t.0 t.1.0).start_is) in
-    let o = ∥∥₁_elim rest.reads (ℕ_set read.other other) (λ t. (same t.0 t.1.0).other_is) in
-    let f = ∥∥₁_elim rest.reads (ℕ_set read.offset offset) (λ t. (same t.0 t.1.0).offset_is) in
-    let g = ∥∥₁_elim rest.reads (ℕ_set read.gate_at gate_at) (λ t. (same t.0 t.1.0).gate_is) in
+    let a = p.area in
+    let same = λ (s : Reading) (h : IsReadHere header disk.image p s). alone header disk.image r s read.start a.start read.other a.other read.offset a.offset read.gate_at p.gate_at read.at h.at in
+    let s = ∥∥₁_elim used.reads (ℕ_set read.start a.start) (λ t. (same t.0 t.1).start_is) in
+    let o = ∥∥₁_elim used.reads (ℕ_set read.other a.other) (λ t. (same t.0 t.1).other_is) in
+    let f = ∥∥₁_elim used.reads (ℕ_set read.offset a.offset) (λ t. (same t.0 t.1).offset_is) in
+    let g = ∥∥₁_elim used.reads (ℕ_set read.gate_at p.gate_at) (λ t. (same t.0 t.1).gate_is) in
     record {
-      at = subst (λ (p : ℕ). ReadsAt header disk.image r p other offset gate_at) s
-          (subst (λ (p : ℕ). ReadsAt header disk.image r read.start p offset gate_at) o
-          (subst (λ (p : ℕ). ReadsAt header disk.image r read.start read.other p gate_at) f
-          (subst (λ (p : ℕ). ReadsAt header disk.image r read.start read.other read.offset p) g read.at)));
-      epoch_is = ∥∥₁_elim rest.reads (ℕ_set r.epoch epoch) (λ t. ap (λ (x : Reading). x.epoch) (same t.0 t.1.0).reading ∙ t.1.1.0);
-      count_is = ∥∥₁_elim rest.reads (ℕ_set (count_in r) count) (λ t. ap count_in (same t.0 t.1.0).reading ∙ t.1.1.1.0);
-      used_is = ∥∥₁_elim rest.reads (ℕ_set (used_in r) used) (λ t. ap used_in (same t.0 t.1.0).reading ∙ t.1.1.1.1);
+      rest = used.rest;
+      here = record {
+        capacity = ∥∥₁_elim used.reads (ℕ_set p.capacity header.capacity) (λ t. t.1.capacity);
+        at = subst (λ (k : ℕ). ReadsAt header disk.image r k a.other a.offset p.gate_at) s
+            (subst (λ (k : ℕ). ReadsAt header disk.image r read.start k a.offset p.gate_at) o
+            (subst (λ (k : ℕ). ReadsAt header disk.image r read.start read.other k p.gate_at) f
+            (subst (λ (k : ℕ). ReadsAt header disk.image r read.start read.other read.offset k) g read.at)));
+        epoch = ∥∥₁_elim used.reads (ℕ_set r.epoch a.epoch) (λ t. ap (λ (x : Reading). x.epoch) (same t.0 t.1).reading ∙ t.1.epoch);
+        count = ∥∥₁_elim used.reads (ℕ_set (count_in r) p.count) (λ t. ap count_in (same t.0 t.1).reading ∙ t.1.count);
+        used = ∥∥₁_elim used.reads (ℕ_set (used_in r) p.used) (λ t. ap used_in (same t.0 t.1).reading ∙ t.1.used);
+      };
+    }
+
+-- where each reading of the old place is followed by one of the new
+pub goes_on : (header : Member) (old new : Disk) (p next : Place) (f : Reading → Reading) → IsInUse header old p → IsSynced new → ((r : Reading) → Stands header old p r → Stands header new next (f r)) → IsInUse header new next
+goes_on header old new p next f used is step =
+    let stands = λ (t : (r : Reading) × IsReadHere header old.image p r). step t.0 (record { rest = used.rest; here = t.1 }) in
+    record {
+      rest = record { synced = is; gate = ∥∥₁_elim used.reads (hlevel (le_prop, ℕ_set)) (λ t. (stands t).rest.gate) };
+      reads = ∥∥₁_elim used.reads (hlevel) (λ t. ∣ (f t.0, (stands t).here) ∣₁);
     }
 
 -- ---- a commit
@@ -67,26 +76,25 @@ commit_moment header old image r batch start other offset gate_at n read room mo
     (λ (after : ReadsTo offset image (r.inputs ++ batch) (gate_at + n)). inr (record { start = start; other = other; offset = offset; gate_at = gate_at + n; at = grows (r.inputs ++ batch) (gate_at + n) after room })) moment.frames
 
 -- and what it leaves
-pub commit_done : (header : Member) (old new : List ℕ) (r : Reading) (batch : List Input) (start other offset gate_at n : ℕ) → ReadsAt header old r start other offset gate_at → gate_at + n ≤ start + 14 + header.capacity
-    → ReadsTo offset new (r.inputs ++ batch) (gate_at + n) × Changes gate_at (1 + n) old new → ReadsAt header new (with_more r batch) start other offset (gate_at + n)
-commit_done header old new r batch start other offset gate_at n read room done =
-    grown header old new r start other offset gate_at read (1 + n) done.1 (omega (arith, room)) (r.inputs ++ batch) (gate_at + n) done.0 room
-
-pub commit_next : (header : Member) (disk new : Disk) (start other offset gate_at : ℕ) (is_closed : Bool) (epoch count used n : ℕ) (batch : List Input) → IsInUse header disk start other offset gate_at is_closed epoch count used → IsSynced new
-    → gate_at + n ≤ start + 14 + header.capacity
-    → ((inputs : List Input) → ReadsTo offset disk.image inputs gate_at → ReadsTo offset new.image (inputs ++ batch) (gate_at + n) × Changes gate_at (1 + n) disk.image new.image)
-    → IsInUse header new start other offset (gate_at + n) is_closed epoch (count + length batch) (used + costs_of batch)
-commit_next header disk new start other offset gate_at is_closed epoch count used n batch rest is room step = record {
-  synced = is;
-  gate = ∥∥₁_elim rest.reads (hlevel (le_prop, ℕ_set)) (λ t. gate_grown header disk.image new.image t.0 start other offset gate_at t.1.0 (1 + n) (step t.0.inputs t.1.0.frames).1 (omega (arith, room)) is_closed rest.gate);
-  reads = ∥∥₁_elim rest.reads (hlevel) (λ t. ∣ (
-    with_more t.0 batch,
-    (
-      commit_done header disk.image new.image t.0 batch start other offset gate_at n t.1.0 room (step t.0.inputs t.1.0.frames),
-      (t.1.1.0, (count-more t.0 batch ∙ ap (λ (k : ℕ). k + length batch) t.1.1.1.0, used-more t.0 batch ∙ ap (λ (k : ℕ). k + costs_of batch) t.1.1.1.1)),
-    ),
-  ) ∣₁);
-}
+pub commit_stands : (header : Member) (old new : Disk) (p next : Place) (r : Reading) (batch : List Input) (n : ℕ) → Stands header old p r → IsSynced new → p.gate_at + n ≤ p.area.start + 14 + header.capacity
+    → ReadsTo p.area.offset new.image (r.inputs ++ batch) (p.gate_at + n) × Changes p.gate_at (1 + n) old.image new.image
+    → next.capacity ≡ p.capacity → next.area ≡ p.area → next.gate_at ≡ p.gate_at + n → next.count ≡ p.count + length batch → next.used ≡ p.used + costs_of batch → Stands header new next (with_more r batch)
+commit_stands header old new p next r batch n s is room done capacity area gate_at count used =
+    let a = p.area in
+    let read = grown header old.image new.image r a.start a.other a.offset p.gate_at s.here.at (1 + n) done.1 (omega (arith, room)) (r.inputs ++ batch) (p.gate_at + n) done.0 room in
+    record {
+      rest = record {
+        synced = is;
+        gate = subst (λ (x : Chosen). IsGate x.is_closed x.other new.image) (sym area) (gate_grown header old.image new.image r a.start a.other a.offset p.gate_at s.here.at (1 + n) done.1 (omega (arith, room)) a.is_closed s.rest.gate);
+      };
+      here = record {
+        capacity = capacity ∙ s.here.capacity;
+        at = subst (λ (x : Chosen). ReadsAt header new.image (with_more r batch) x.start x.other x.offset next.gate_at) (sym area) (subst (λ (k : ℕ). ReadsAt header new.image (with_more r batch) a.start a.other a.offset k) (sym gate_at) read);
+        epoch = s.here.epoch ∙ ap (λ (x : Chosen). x.epoch) (sym area);
+        count = count-more r batch ∙ (ap (λ (k : ℕ). k + length batch) s.here.count ∙ sym count);
+        used = used-more r batch ∙ (ap (λ (k : ℕ). k + costs_of batch) s.here.used ∙ sym used);
+      };
+    }
 
 -- ---- a checkpoint
 
@@ -94,12 +102,3 @@ pub checkpoint_moment : (header : Member) (image : List ℕ) (old new : Reading)
 checkpoint_moment header image old new start other offset gate_at next moment =
     ⊎_elim (λ (before : ReadsAt header image old start other offset gate_at). inl (record { start = start; other = other; offset = offset; gate_at = gate_at; at = before }))
     (λ (after : ReadsAt header image new other start next next). inr (record { start = other; other = start; offset = next; gate_at = next; at = after })) moment
-
-pub checkpoint_next : (header : Member) (disk new : Disk) (start other offset gate_at : ℕ) (is_closed : Bool) (epoch count used next : ℕ) (r : Reading) → IsInUse header disk start other offset gate_at is_closed epoch count used → IsSynced new
-    → ((old : Reading) → ReadsAt header disk.image old start other offset gate_at → old.epoch ≡ epoch → ReadsAt header new.image r other start next next × IsGate false start new.image)
-    → IsInUse header new other start next next false r.epoch (count_in r) (used_in r)
-checkpoint_next header disk new start other offset gate_at is_closed epoch count used next r rest is step = record {
-  synced = is;
-  gate = ∥∥₁_elim rest.reads (hlevel (le_prop, ℕ_set)) (λ t. (step t.0 t.1.0 t.1.1.0).1);
-  reads = ∥∥₁_elim rest.reads (hlevel) (λ t. ∣ (r, ((step t.0 t.1.0 t.1.1.0).0, (refl, (refl, refl)))) ∣₁);
-}

@@ -2,14 +2,14 @@
 -- an epoch, the length of a snapshot, the snapshot, and frames behind it.
 use Rattle.std.specs.Prelude.{◌≡◌, ◌≢◌, ◌⊎◌, ◌+◌, ◌<◌, ◌≤◌, ℕ, Bool, true, false, if◌then◌else◌, List, [], ◌∷◌, ◌++◌, length, take, drop, slice_index}
 use Rattle.std.specs.Int.{w32, w64, to_be_bytes}
-use Rattle.disk_model.specs.Disk.{Disk, MayLeave, IsSynced}
+use Rattle.disk_model.specs.Disk.{Disk, MayLeave}
 use Rattle.ring_records.specs.declared.summary.Summary.{Summary}
 use Rattle.ring_records.specs.Admission.{epochs, newest}
 use Rattle.ring_records.specs.Member.{Member}
 use Rattle.ring_records.specs.Snapshot.{Spells, snapshot_of, snapshot_len}
 use Rattle.ring_records.specs.Summary.{empty}
 use Rattle.gated_journal.specs.Frames.{ReadsTo}
-use Rattle.gated_journal.specs.Reading.{Reading, used_in, count_in, number_at, mark, HasHeader}
+use Rattle.gated_journal.specs.Reading.{Reading, number_at, mark, HasHeader}
 
 -- ---- an area
 
@@ -134,12 +134,3 @@ pub record MayReplace (header : Member) (image : List ℕ) (old : Reading) (star
   pub small : epoch < epochs
   pub spells : Spells header.n (snapshot_of s) s
   pub fits : snapshot_len s ≤ header.capacity
-
--- ---- at rest
-
--- Nothing waits for a sync, the other gate is known, and the image is read at these places, as so many inputs that use so
--- much of the capacity, in this epoch.
-pub record IsInUse (header : Member) (disk : Disk) (start other offset gate_at : ℕ) (is_closed : Bool) (epoch count used : ℕ) : Type 0 where
-  pub synced : IsSynced disk
-  pub gate : IsGate is_closed other disk.image
-  pub reads : ∥ ((r : Reading) × (ReadsAt header disk.image r start other offset gate_at × ((r.epoch ≡ epoch) × ((count_in r ≡ count) × (used_in r ≡ used))))) ∥₁

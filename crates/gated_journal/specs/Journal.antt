@@ -9,19 +9,19 @@ module _ {D : Type 0} {g : Ghosts D} where
   device_of journal = journal.device
 
   abbrev pub member_of : Journal D g → Member
-  member_of journal = member journal.node journal.n journal.capacity
+  member_of journal = member journal.node journal.n journal.place.capacity
 
   -- how many inputs it holds, those that are summarised among them
   abbrev pub len_of : Journal D g → ℕ
-  len_of journal = journal.count
+  len_of journal = journal.place.count
 
   -- the epoch of its area in use
   abbrev pub epoch_of : Journal D g → ℕ
-  epoch_of journal = journal.area.epoch
+  epoch_of journal = journal.place.area.epoch
 
   -- how many bytes of the capacity are left
   abbrev pub room_of : Journal D g → ℕ
-  room_of journal = journal.capacity - journal.used
+  room_of journal = journal.place.capacity - journal.place.used
 
   abbrev pub is_spoiled : Journal D g → Bool
   is_spoiled journal = journal.is_spoiled

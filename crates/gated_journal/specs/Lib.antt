@@ -8,6 +8,8 @@ pub mod Frames
 pub mod Journal
 pub mod NextFrame
 pub mod Pieces
+pub mod Place
 pub mod Props
 pub mod Reading
 pub mod Unread
+pub mod Works

@@ -1,23 +1,23 @@
 //! Inputs that become durable together.
-ghost use Rattle.std.specs.Prelude.{◌≡◌, ◌≤◌, ◌*◌, true, length, IfOk, IfErr, OnOk};
+ghost use Rattle.std.specs.Prelude.{◌≡◌, ◌≤◌, ◌*◌, true, None, length, IfOk, IfErr, OnOk};
 ghost use Rattle.ring_records.specs.declared.limits.TheConstants.{BATCH_INPUTS};
 ghost use Rattle.ring_records.specs.Admission.{costs_of};
 ghost use Rattle.gated_journal.specs.Frames.{IsFrame};
 ghost use Rattle.gated_journal.specs.Props.{IsFrame-prop};
 
+use crate::flown::Flown;
 use crate::spell::{cost_of, spell};
 use ring_records::{BATCH_INPUTS, Input, NodeNo, Refusal};
 use std::alloc::Global;
 
-/// 1 to 64 inputs of a node, already spelled. It must be spent: only `commit` ends it.
+/// 1 to 64 inputs of a node, already spelled. It must be spent: only the journal ends it.
 pub struct Batch {
-    pub(crate) node: NodeNo,
-    pub(crate) first: u64,
-    pub(crate) inputs: Vec<Input>,
+    pub(crate) flown: Flown,
     pub(crate) cost: u32,
     pub(crate) bytes: Vec<u8>,
-    ghost framed: { IsFrame inputs.items bytes.items } by { IsFrame-prop inputs.items bytes.items },
-    ghost counted: { cost ≡ costs_of inputs.items },
+    ghost framed: { IsFrame flown.inputs.items bytes.items } by { IsFrame-prop flown.inputs.items bytes.items },
+    ghost plain: { flown.snapshot ≡ None },
+    ghost counted: { cost ≡ costs_of flown.inputs.items },
     ghost small: { cost ≤ 42 * BATCH_INPUTS },
 }
 
@@ -42,27 +42,27 @@ impl Batch {
             return Err(Refusal::OutOfMemory);
         };
         let cost = cost_of(inputs);
-        Ok(Batch {
+        let flown = Flown {
             node,
             first,
             inputs: kept,
-            cost,
-            bytes,
-        })
+            snapshot: None,
+        };
+        Ok(Batch { flown, cost, bytes })
     }
 
     /// The node whose inputs they are.
     pub fn node(&self) -> NodeNo
         ensures { result ≡ (shown self.now).node }
     {
-        self.node
+        self.flown.node
     }
 
     /// The number of the first of its inputs, counted from 0.
     pub fn first(&self) -> u64
         ensures { result ≡ (shown self.now).first }
     {
-        self.first
+        self.flown.first
     }
 
     /// Its inputs, 1 to 64.
@@ -70,7 +70,7 @@ impl Batch {
         ensures value { result.now ≡ (shown self.now).inputs }
         ensures size { is_size (length result.now) ≡ true }
     {
-        &self.inputs
+        &self.flown.inputs
     }
 
     /// The bytes of the capacity that they take, at most 2,688.

@@ -12,7 +12,7 @@ use ring_records::{Input, NodeNo, Refusal, Summary, summary_len, write_summary};
 use std::alloc::{AllocError, Global};
 
 /// A summary of all inputs so far, and those of them that are not durable yet, any number; already spelled. It must be
-/// spent: only `checkpoint` ends it.
+/// spent: only the journal ends it.
 pub struct Checkpoint {
     pub(crate) flown: Flown,
     pub(crate) base: Summary,

@@ -5,20 +5,19 @@ ghost use Rattle.ring_records.specs.Admission.{costs_of, newest};
 ghost use Rattle.ring_records.specs.Member.{member};
 ghost use Rattle.ring_records.specs.Snapshot.{IsSound, snapshot_len};
 ghost use Rattle.ring_records.specs.Summary.{empty};
-ghost use Rattle.gated_journal.specs.Areas.{head_len, AreAreas, ReadsAs, AllReadAs, ReadsAsOneOf, IsInUse};
+ghost use Rattle.gated_journal.specs.Areas.{ReadsAs, AllReadAs, ReadsAsOneOf};
+ghost use Rattle.gated_journal.specs.Place.{IsInUse};
 ghost use Rattle.gated_journal.specs.Reading.{Reading, device_size, with_more, fresh_area, reading_of_opening, count_in, used_in, is_header};
 ghost use Rattle.gated_journal.specs.Unread.{IsFault, IsUnread, IsUnopened};
+ghost use Rattle.gated_journal.specs.Works.{flown_by, summary_by, reading_after, count_after, room_after, epoch_after, IsTaken};
 
 use crate::area::Chosen;
-use crate::checkpoint::number;
-use crate::commit::append;
 use crate::contents::Contents;
-use crate::flown::Flown;
 use crate::format::lay_out;
 use crate::layout::{AREA_A, LAYOUT, area_b, is_header};
 use crate::open::{Opened, open};
-use crate::replace::replace_area;
-use crate::{Batch, Checkpoint, Opening, Receipt, Spoiled};
+use crate::place::Place;
+use crate::{Batch, Checkpoint, Opening, Receipt, Spoiled, Work};
 use disk_model::{Device, FuseDevice};
 use ring_records::{NodeNo, Refusal, costs_of, summary_len};
 use std::alloc::Global;
@@ -29,20 +28,9 @@ pub struct Journal<D: Device> {
     pub(crate) device: D,
     node: NodeNo,
     n: u8,
-    capacity: u32,
-    // the area in use, and where its closed gate is
-    area: Chosen,
-    gate_at: u64,
-    count: u64,
-    used: u64,
+    place: Place,
     is_spoiled: bool,
-    ghost settled: { is_spoiled ≡ false
-        → IsInUse (member node n capacity) (D.disk device) area.start area.other area.offset gate_at area.is_closed area.epoch count used },
-    ghost areas: { AreAreas capacity area.start area.other },
-    ghost within: { gate_at ≤ area.start + head_len + used },
-    ghost counted: { count ≤ 2 ^ 56 + used },
-    ghost least: { LEAST_CAPACITY ≤ capacity },
-    ghost small: { capacity ≤ GREATEST_CAPACITY },
+    ghost settled: { is_spoiled ≡ false → IsInUse (member node n place.capacity) (D.disk device) place },
 }
 
 impl<D: Device> Journal<D> {
@@ -81,15 +69,18 @@ impl<D: Device> Journal<D> {
                     epoch: 1,
                     offset: 68,
                 };
-                Ok(Journal {
-                    device,
-                    node,
-                    n,
+                let place = Place {
                     capacity,
                     area,
                     gate_at: 68,
                     count: 0,
                     used: 38,
+                };
+                Ok(Journal {
+                    device,
+                    node,
+                    n,
+                    place,
                     is_spoiled: false,
                 })
             }
@@ -154,15 +145,18 @@ impl<D: Device> Journal<D> {
                     inputs,
                     gate_at,
                 } = contents;
-                let journal = Journal {
-                    device,
-                    node,
-                    n,
+                let place = Place {
                     capacity,
                     area,
                     gate_at,
                     count: base.inputs + inputs.len() as u64,
                     used: summary_len(&base) + costs_of(&inputs),
+                };
+                let journal = Journal {
+                    device,
+                    node,
+                    n,
+                    place,
                     is_spoiled: false,
                 };
                 let opening = Opening {
@@ -189,7 +183,7 @@ impl<D: Device> Journal<D> {
         ensures from { LEAST_CAPACITY ≤ result }
         ensures to { result ≤ GREATEST_CAPACITY }
     {
-        self.capacity
+        self.place.capacity
     }
 
     /// How many inputs it holds, those that are summarised among them.
@@ -197,7 +191,7 @@ impl<D: Device> Journal<D> {
         ensures value { result ≡ len_of self.now }
         ensures reading { is_spoiled self.now ≡ false → (r : Reading) → AllReadAs (member_of self.now) (D.disk (device_of self.now)) r → result ≡ count_in r }
     {
-        self.count
+        self.place.count
     }
 
     /// How many bytes of the capacity are left.
@@ -206,7 +200,7 @@ impl<D: Device> Journal<D> {
         ensures reading { is_spoiled self.now ≡ false → (r : Reading) → AllReadAs (member_of self.now) (D.disk (device_of self.now)) r
             → result ≡ (member_of self.now).capacity - used_in r }
     {
-        u64::from(self.capacity).saturating_sub(self.used) as u32
+        u64::from(self.place.capacity).saturating_sub(self.place.used) as u32
     }
 
     /// The epoch of its area in use, below 2^40: each checkpoint raises it by 1.
@@ -214,7 +208,7 @@ impl<D: Device> Journal<D> {
         ensures value { result ≡ epoch_of self.now }
         ensures reading { is_spoiled self.now ≡ false → (r : Reading) → AllReadAs (member_of self.now) (D.disk (device_of self.now)) r → result ≡ r.epoch }
     {
-        self.area.epoch
+        self.place.area.epoch
     }
 
     /// Whether the device has failed in a `commit` or a `checkpoint`: then it may hold what was to become durable or not,
@@ -240,11 +234,7 @@ impl<D: Device> Journal<D> {
             device,
             node: _,
             n: _,
-            capacity: _,
-            area: _,
-            gate_at: _,
-            count: _,
-            used: _,
+            place: _,
             is_spoiled: _,
         } = self;
         device
@@ -276,31 +266,7 @@ impl<D: Device> Journal<D> {
         ensures left { OnOk result (room_of self.new ≡ room_of self.old - costs_of (shown batch).inputs) }
         ensures epoch { epoch_of self.new ≡ epoch_of self.old }
     {
-        let Batch {
-            node,
-            first,
-            inputs,
-            cost,
-            bytes,
-        } = batch;
-        self.is_spoiled = true;
-        let more = inputs.len() as u64;
-        let flown = Flown {
-            node,
-            first,
-            inputs,
-            snapshot: None,
-        };
-        match append(&mut self.device, self.gate_at, &bytes) {
-            Ok(()) => {
-                self.gate_at += bytes.len() as u64;
-                self.count += more;
-                self.used += u64::from(cost);
-                self.is_spoiled = false;
-                Ok(Receipt { flown })
-            }
-            Err(_) => Err(Spoiled { flown }),
-        }
+        self.write(Work::Batch(batch))
     }
 
     /// Makes a summary of all inputs durable in place of what the area in use holds, by six device calls. It takes no
@@ -332,26 +298,39 @@ impl<D: Device> Journal<D> {
         ensures next { OnOk result (epoch_of self.new ≡ epoch_of self.old + 1) }
         ensures kept { OnErr result ((len_of self.new ≡ len_of self.old) × (room_of self.new ≡ room_of self.old) × (epoch_of self.new ≡ epoch_of self.old)) }
     {
-        let Checkpoint { flown, base, bytes } = checkpoint;
-        let mut bytes = bytes;
-        let area = self.area;
-        let epoch = area.epoch + 1;
-        number(&mut bytes, epoch);
+        self.write(Work::Checkpoint(checkpoint))
+    }
+
+    /// Makes a work durable, whole, as `commit` and `checkpoint` do. At `Err` the device failed, and the journal is spoiled.
+    pub fn write(&mut self, work: Work) -> Result<Receipt, Spoiled>
+        requires ready { is_spoiled self.old ≡ false }
+        requires taken { IsTaken (member_of self.old) (len_of self.old) (room_of self.old) (epoch_of self.old) work }
+
+        // A stop at any moment of the call leaves what was read before it, or what is read behind the work.
+        ensures any_moment { (r : Reading) → AllReadAs (member_of self.old) (D.disk (device_of self.old)) r
+            → LeavesOnly D.clock D.left_since (device_of self.old) (device_of self.new)
+            (ReadsAsOneOf (member_of self.old) r (reading_after (epoch_of self.old) (summary_by work) (flown_by work).inputs r)) }
+
+        // At `Ok` it is durable.
+        ensures durable { OnOk result ((r : Reading) → AllReadAs (member_of self.old) (D.disk (device_of self.old)) r
+            → AllReadAs (member_of self.old) (D.disk (device_of self.new)) (reading_after (epoch_of self.old) (summary_by work) (flown_by work).inputs r)) }
+        ensures spoils { is_spoiled self.new ≡ is_err result }
+        ensures cause { HasCause (D.count (device_of self.old)) (D.count (device_of self.new)) result }
+        ensures works { Reaches (D.reach (device_of self.old)) (device_size (member_of self.old).capacity) → IsOk result }
+        ensures reach { D.reach (device_of self.new) ≡ D.reach (device_of self.old) }
+        ensures receipt { IfOk result (λ receipt. landed receipt ≡ flown_by work) }
+        ensures spoiled { IfErr result (λ spoiled. lost spoiled ≡ flown_by work) }
+        ensures header { member_of self.new ≡ member_of self.old }
+        ensures len { OnOk result (len_of self.new ≡ count_after (summary_by work) (length (flown_by work).inputs) (len_of self.old)) }
+        ensures room { OnOk result (room_of self.new ≡ room_after (flown_by work).snapshot (member_of self.old).capacity (costs_of (flown_by work).inputs) (room_of self.old)) }
+        ensures epoch { OnOk result (epoch_of self.new ≡ epoch_after (flown_by work).snapshot (epoch_of self.old)) }
+        ensures kept { OnErr result ((len_of self.new ≡ len_of self.old) × (room_of self.new ≡ room_of self.old) × (epoch_of self.new ≡ epoch_of self.old)) }
+    {
         self.is_spoiled = true;
-        match replace_area(&mut self.device, area.other, area.is_closed, &bytes) {
+        let (flown, next, written) = self.place.put(&mut self.device, work);
+        match written {
             Ok(()) => {
-                let used = summary_len(&base);
-                let offset = area.other + 14 + used;
-                self.area = Chosen {
-                    start: area.other,
-                    other: area.start,
-                    is_closed: false,
-                    epoch,
-                    offset,
-                };
-                self.gate_at = offset;
-                self.count = base.inputs;
-                self.used = used;
+                self.place = next;
                 self.is_spoiled = false;
                 Ok(Receipt { flown })
             }

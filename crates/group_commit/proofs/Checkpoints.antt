@@ -1,18 +1,19 @@
 -- When a checkpoint is launched, and the desk then.
-use Rattle.std.proofs.Common.{◌≡◌, ◌+◌, ◌<◌, ◌≤◌, true, false, Bool, cond, Option, Some, None, refl, sym}
+use Rattle.std.proofs.Common.{◌≡◌, ◌+◌, ◌*◌, ◌<◌, ◌≤◌, true, false, Bool, cond, Option, Some, None, refl, sym}
 use Rattle.std.specs.Option.{option_map}
-use Rattle.std.specs.Prelude.{nat_le}
-use Rattle.std.proofs.lemmas.Bool.{leb-false, ltb-false}
+use Rattle.std.specs.Prelude.{nat_le, nat_lt}
+use Rattle.std.proofs.lemmas.Bool.{and_parts, leb-false, leb-true, ltb-false, ltb-true}
 use Rattle.ring_records.specs.declared.refusal.Refusal.TheVariants.{Failed, Busy, Limit, Full}
-use Rattle.ring_records.specs.Admission.{where_so}
+use Rattle.ring_records.specs.Admission.{used, where_so}
 use Rattle.ring_records.specs.Snapshot.{snapshot_len}
-use Rattle.ring_records.specs.States.{is_idle}
+use Rattle.ring_records.specs.States.{is_idle, launched_base}
 use Rattle.ring_records.proofs.Admission.{or_else-none, where_so-none}
 use Rattle.ring_records.proofs.Lists.{none≢some}
-use Rattle.group_commit.specs.Desk.{DeskView, DeskKept, known_all, launch_objection, checkpoint_objection, epochs}
+use Rattle.group_commit.specs.Desk.{DeskView, DeskKept, known_all, is_due, launch_objection, checkpoint_objection, epochs}
+use Rattle.group_commit.specs.Next.{is_checkpoint_next}
 
--- nothing flies
-idle_free : (d : DeskView) → launch_objection d ≡ None → is_idle d.state ≡ true
+-- where nothing is against a launch, nothing flies
+pub idle_free : (d : DeskView) → launch_objection d ≡ None → is_idle d.state ≡ true
 idle_free d e = go d.failed (is_idle d.state) e
   where
     go : (failed idle : Bool) → cond failed (Some Failed) (cond idle None (Some Busy)) ≡ None → idle ≡ true
@@ -40,3 +41,15 @@ may_launch d e =
 pub none_pending : {A B : Type 0} (f : A → B) (o : Option A) → option_map f o ≡ None → o ≡ None
 none_pending f None e = refl
 none_pending f (Some x) e = none≢some (f x) (sym e)
+
+-- where a checkpoint is next, more than half of the capacity is taken, and the snapshot takes a quarter at most
+pub record Due (d : DeskKept) : Type 0 where
+  pub filled : d.view.member.capacity < 2 * used (launched_base d.view.state) d.view.state.inputs
+  pub short : 4 * snapshot_len (known_all d) ≤ d.view.member.capacity
+
+pub due : (d : DeskKept) → is_checkpoint_next d ≡ true → Due d
+due d next =
+    let taken = 2 * used (launched_base d.view.state) d.view.state.inputs in
+    let length = 4 * snapshot_len (known_all d) in
+    let filled = and_parts (nat_lt d.view.member.capacity taken) _ (and_parts (is_due d) _ next).0 in
+    record { filled = ltb-true d.view.member.capacity taken filled.0; short = leb-true length d.view.member.capacity (and_parts (nat_le length d.view.member.capacity) _ filled.1).0 }

@@ -8,6 +8,8 @@ pub mod Since
 pub mod Seen
 pub mod Inside
 pub mod Checkpoints
+pub mod Costs
+pub mod Flies
 pub mod Landing
 pub mod Leaders
 pub mod New

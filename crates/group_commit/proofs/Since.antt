@@ -1,5 +1,5 @@
 -- A desk's state since its opening, by what is known: what happens to it, and that it fits.
-use Rattle.std.proofs.Common.{◌≡◌, ℕ, ◌+◌, ◌<◌, ◌≤◌, List, [], ◌∷◌, ◌++◌, append-nil, length, take, drop, Option, Some, None, inl, inr, refl, sym, ap, ◌∙◌, subst, arith}
+use Rattle.std.proofs.Common.{◌≡◌, ℕ, ◌+◌, ◌*◌, ◌<◌, ◌≤◌, List, [], ◌∷◌, ◌++◌, append-nil, length, take, drop, Option, Some, None, inl, inr, refl, sym, ap, ◌∙◌, subst, arith}
 use Rattle.std.specs.FinMap as map
 use Rattle.std.specs.List.{cons_option, sum_by}
 use Rattle.std.specs.Prelude.{unwrap_or, nat_lt}
@@ -10,7 +10,6 @@ use Rattle.std.proofs.lemmas.List.Sums.{fold-append, sum_by-append}
 use Rattle.std.proofs.lemmas.Option.{same_Some}
 use Rattle.ring_records.specs.declared.base.Base.{Base}
 use Rattle.ring_records.specs.declared.input.Input.{Input}
-use Rattle.ring_records.specs.declared.input.Input.TheVariants.{Stand, Take, Acked}
 use Rattle.ring_records.specs.declared.refusal.Refusal.TheVariants.{Full}
 use Rattle.ring_records.specs.declared.summary.Summary.{Summary}
 use Rattle.ring_records.specs.Admission.{area_bytes, cost, costs_of, snapshot_len, state_len, used, where_so, Fits}
@@ -30,6 +29,7 @@ use Rattle.group_commit.specs.Desk.{epochs}
 use Rattle.group_commit.specs.Kept.{area_behind, state_with}
 use Rattle.group_commit.specs.Opening.{opened_core, core_after, IsOpenTo, IsKnownLawful}
 use Rattle.group_commit.specs.Since.{IsOpenSince, IsLawfulSince, IsAreaOf, IsKnownState, core_in}
+use Rattle.group_commit.proofs.Costs.{base_stays, costs_least, durable_costs, used-joined}
 use Rattle.group_commit.proofs.Opening.{objects_none, EachAfter-from}
 
 -- ---- areas
@@ -131,13 +131,6 @@ known_more m opening s core more knows free known =
       left = known.left;
       fits = known.fits;
     }
-
-used-joined : (base : Base) (l more : List Input) → base.inputs ≤ length l → used base (l ++ more) ≡ used base l + costs_of more
-unfolding used
-used-joined base l more within =
-    let sum = sum_by-append cost (drop base.inputs l) more in
-    let split : costs_of (drop base.inputs (l ++ more)) ≡ costs_of (drop base.inputs l ++ more) = ap costs_of (drop-append-le base.inputs l more within) in
-    omega (arith, sum, split)
 
 pub core_more : (m : Member) (opening : Summary) (s : NodeState) (core new : CoreView) (more : List Input) → IsKnownState m opening s → core ≡ core_in m opening s → new ≡ core_after core more
     → new ≡ core_in m opening (record s { inputs = s.inputs ++ more })
@@ -271,32 +264,18 @@ counted f some (x ∷ xs) =
     let one = some x in
     omega (arith, few, one, sum_by-append f (x ∷ []) xs)
 
--- each takes some
-pub cost_some : (x : Input) → 0 < cost x
-unfolding cost
-cost_some (Stand key bid) = omega arith
-cost_some (Take msg_no msg) = omega arith
-cost_some (Acked upto) = omega arith
-
--- so there are no more of them than bytes
-few_costs : (l : List Input) → length l ≤ costs_of l
-few_costs l = counted cost cost_some l
-
--- so what is not durable is no more than the capacity, where no checkpoint flies
-pub few_wait : (m : Member) (opening : Summary) (s : NodeState) → s.checkpoint ≡ None → IsKnownState m opening s → s.durable ≤ length s.inputs → length (drop s.durable s.inputs) ≤ m.capacity
-unfolding used
-few_wait m opening s none known within = elim (eq-or-lt_of_le within) [
-  | inl all ↦ (let rest = length-drop s.durable s.inputs in omega (arith, rest, all))
+-- what is not durable takes no more than the capacity, where no checkpoint flies
+pub few_wait : (m : Member) (opening : Summary) (s : NodeState) → s.checkpoint ≡ None → IsKnownState m opening s → 16 * length (drop s.durable s.inputs) ≤ m.capacity
+few_wait m opening s none known = elim (eq-or-lt_of_le within) [
+  | inl all ↦ omega (arith, length-drop s.durable s.inputs, all)
   | inr some ↦ (
-      let base : launched_base s ≡ s.base = ap (λ o. unwrap_or o s.base) none in
-      let lawful = subst (λ (b : Base). IsLawfulSince m opening b s.inputs) base known.all in
-      let based = known.counts.based in
-      let fit = all_fit m opening s.base s.inputs lawful (omega (arith, based, some)) in
-      let few = few_costs (drop s.base.inputs s.inputs) in
-      let rest = length-drop s.durable s.inputs in
-      let more = length-drop s.base.inputs s.inputs in
-      omega (arith, fit, few, rest, more, based))
+      let lawful = subst (λ (b : Base). IsLawfulSince m opening b s.inputs) (base_stays s none) known.all in
+      let fit = all_fit m opening s.base s.inputs lawful (omega (arith, known.counts.based, some)) in
+      omega (arith, fit, durable_costs s known.counts, costs_least (drop s.durable s.inputs)))
 ]
+  where
+    within : s.durable ≤ length s.inputs
+    within = omega (arith, known.counts.durable, known.counts.flying)
 
 -- ---- snapshots
 

@@ -30,13 +30,13 @@ use Rattle.group_commit.specs.Past.{shifted}
 use Rattle.group_commit.specs.Vouch.{acceptance, Accepts, IsInput, IsVouched, RepliesFull, refused_or_full}
 use Rattle.group_commit.proofs.Past.{take-front}
 use Rattle.group_commit.proofs.Settling.{drop-front}
-use Rattle.group_commit.proofs.Since.{cost_some}
+use Rattle.group_commit.proofs.Costs.{cost_least}
 
 -- ---- without room
 
 refusal-full : (me n : ℕ) (h : List Input) (x : Input) → refusal me n 0 fresh h x ≡ or_else (objection me n h x) (Some Full)
 unfolding refusal
-refusal-full me n h x = let some = cost_some x in ap (or_else (objection me n h x)) (shortage-full 0 fresh h x (omega arith) (omega (arith, some)))
+refusal-full me n h x = let some = cost_least x in ap (or_else (objection me n h x)) (shortage-full 0 fresh h x (omega arith) (omega (arith, some)))
 
 refused-or : (o : Option Refusal) (good : Reply) → refused_or_full o ≡ unless (or_else o (Some Full)) good
 refused-or None good = refl

@@ -1,6 +1,7 @@
 pub mod Codes
 pub mod Desk
 pub mod Kept
+pub mod Next
 pub mod Opening
 pub mod Outbox
 pub mod Past

@@ -350,5 +350,6 @@ fn count_with(inputs: &[Input], input: &Option<Input>) -> u64
 mod counts;
 mod decisions;
 mod flight;
+mod next;
 mod parts;
 mod vouch;

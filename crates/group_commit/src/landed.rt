@@ -13,6 +13,8 @@ use std::mem::replace;
 pub struct Landed {
     /// How many inputs became durable, at most 64 of a batch.
     pub count: u32,
+    /// Whether it was a checkpoint.
+    pub is_checkpoint: bool,
     /// The messages that they send to the successor, as Carry packets in order, and then, where a message was taken,
     /// one Credit of all that were taken durably, to the predecessor.
     pub packets: Vec<Packet>,
@@ -31,6 +33,7 @@ impl Landed {
     {
         Landed {
             count: 0,
+            is_checkpoint: false,
             packets: Vec::new(alloc),
             decisions: Vec::new(alloc),
         }
@@ -45,6 +48,7 @@ impl Landed {
     {
         Ok(Landed {
             count,
+            is_checkpoint: false,
             packets: Vec::with_capacity(alloc, count as usize + 1)?,
             decisions: Vec::with_capacity(alloc, count as usize)?,
         })

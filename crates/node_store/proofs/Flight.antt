@@ -39,12 +39,12 @@ use Rattle.group_commit.specs.Desk as desks
 use Rattle.group_commit.specs.Past.{moved, shifted}
 use Rattle.group_commit.proofs.Past.{flying-shifted}
 use Rattle.group_commit.proofs.Seen.{launched_shifted, landed_shifted, lawful_launched_all}
-use Rattle.node_store.specs.declared.work.Work.{Work}
-use Rattle.node_store.specs.declared.work.Work.TheVariants as work
+use Rattle.gated_journal.specs.declared.work.Work.{Work}
+use Rattle.gated_journal.specs.declared.work.Work.TheVariants as work
 use Rattle.node_store.specs.Recovery.{IsUnbegun}
 use Rattle.node_store.specs.Standing.{Flies, ReadsOnce, Stands}
 use Rattle.node_store.specs.State.{MayBeLeft, area_with, durable_held, flown_held}
-use Rattle.node_store.specs.Works.{count_after, epoch_after, flown_by, reading_after, room_after, summary_by}
+use Rattle.gated_journal.specs.Works.{count_after, epoch_after, flown_by, reading_after, room_after, summary_by}
 use Rattle.node_store.proofs.Left.{may_be_left}
 
 -- ---- why nothing is launched
@@ -223,7 +223,6 @@ module _ {D : Type 0} {g : Ghosts D} (desk : DeskKept) (journal : Journal D g) (
           ready = ready.works;
           all = all works;
           taken = (ap (λ (n : Numbered). n.node) is ∙ ap (λ (n : Member). n.node) (sym stands.named), ap (λ (n : Numbered). n.first) is ∙ sym ready.count, omega (arith, costs, fits, ready.left, bytes));
-          sized = tt;
           held = ap (with_more (durable_held desk)) inputs ∙ joined;
           other = λ one. omega (arith, some, ap (λ (r : Reading). length r.inputs) (one ∙ sym joined), length-append (durable_held desk).inputs (flying_in (launched s)), flown_count (launched s) batch_counts);
           behind = record {
@@ -281,7 +280,6 @@ module _ {D : Type 0} {g : Ghosts D} (desk : DeskKept) (journal : Journal D g) (
             subst (λ (n : Member). IsSound n.n (base_by made)) (sym stands.named) (sound stands.inside),
             omega (arith, more, ready.area),
           );
-          sized = snapshot ∙ ap (λ (k : Summary). Some (snapshot_len k)) (sym base);
           held = (λ i. fresh_area newest (ready.area i + 1) (base i)) ∙ sym summed;
           other = λ one. omega (arith, ap (λ (r : Reading). r.epoch) one);
           behind = record {

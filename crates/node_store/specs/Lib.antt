@@ -3,4 +3,3 @@ pub mod Props
 pub mod Recovery
 pub mod Standing
 pub mod State
-pub mod Works

@@ -10,12 +10,12 @@ use Rattle.gated_journal.specs.declared.journal.Journal.{Journal}
 use Rattle.gated_journal.specs.Areas.{ReadsAs, AllReadAs}
 use Rattle.gated_journal.specs.Journal.{device_of, member_of, len_of, room_of, epoch_of, is_spoiled}
 use Rattle.gated_journal.specs.Reading.{Reading}
+use Rattle.gated_journal.specs.Works.{IsTaken, count_after, epoch_after, flown_by, reading_after, room_after, summary_by}
+use Rattle.gated_journal.specs.declared.work.Work.{Work}
 use Rattle.node_core.specs.Core.{IsNodeOf}
 use Rattle.group_commit.specs.Desk.{DeskKept, IsFlying, landed, seen}
 use Rattle.group_commit.specs.Past.{IsPast}
-use Rattle.node_store.specs.declared.work.Work.{Work}
 use Rattle.node_store.specs.State.{durable_held, flown_held}
-use Rattle.node_store.specs.Works.{IsSized, IsTaken, count_after, epoch_after, flown_by, reading_after, room_after, summary_by}
 
 -- The image reads as the one or as the other, told in one way only: where both are one, as the old one.
 abbrev pub ReadsOnce : Member → Reading → Reading → List ℕ → Type 0
@@ -54,7 +54,6 @@ module _ {D : Type 0} {g : Ghosts D} where
     pub ready : is_spoiled journal ≡ false
     pub all : AllReadAs (member_of journal) (g.disk (device_of journal)) (durable_held desk)
     pub taken : IsTaken (member_of journal) (len_of journal) (room_of journal) (epoch_of journal) work
-    pub sized : IsSized work
     pub held : reading_after (epoch_of journal) (summary_by work) (flown_by work).inputs (durable_held desk) ≡ flown_held desk
     pub other : durable_held desk ≢ flown_held desk
     pub behind : IsReady (record desk { view = landed desk.view }) false

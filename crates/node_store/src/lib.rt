@@ -3,6 +3,5 @@
 
 pub mod laws;
 mod node;
-mod work;
 
 pub use node::Node;

@@ -23,9 +23,8 @@ ghost use Rattle.node_store.specs.Standing.{Stands};
 ghost use Rattle.node_store.specs.State.{Holds, IsLeft, IsOpenedAs, MayBeLeft, all_held, durable_held, until};
 
 use crate::node::rounds::settle;
-use crate::work::Work;
 use disk_model::{Device, FuseDevice};
-use gated_journal::{Journal, Opening, is_header};
+use gated_journal::{Journal, Opening, Work, is_header};
 use group_commit::{Desk, Landed, Stub, Ticket};
 use ring_records::{Input, NodeNo, Refusal, Reply, Request};
 use std::alloc::Global;
@@ -280,6 +279,7 @@ impl<D: Device> Node<D> {
             Err(refusal) => Err(refusal),
             Ok(None) => Ok(Landed {
                 count: 0,
+                is_checkpoint: false,
                 packets: Vec::new(self.alloc),
                 decisions: Vec::new(self.alloc),
             }),

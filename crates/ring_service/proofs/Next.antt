@@ -10,30 +10,36 @@ use Rattle.ring_records.specs.Snapshot.{snapshot_len}
 use Rattle.ring_records.proofs.Lists.{none≢some}
 use Rattle.node_core.specs.Core.{IsNodeOf}
 use Rattle.gated_journal.specs.Batch.{base_by, numbered_by}
-use Rattle.commit_hub.specs.declared.work.Work.{Work}
-use Rattle.commit_hub.specs.declared.work.Work.TheVariants as works
+use Rattle.gated_journal.specs.declared.work.Work.{Work}
+use Rattle.gated_journal.specs.declared.work.Work.TheVariants as works
 use Rattle.commit_hub.specs.Tied.{Durable, with_area, with_batch}
 use Rattle.commit_hub.specs.Works.{flown_by, summary_by, flying_behind, IsLawfulBehind, IsNext}
-use Rattle.commit_hub.proofs.Costs.{used-joined}
+use Rattle.group_commit.proofs.Costs.{used-joined}
 use Rattle.commit_hub.proofs.Works.{after-inputs}
-use Rattle.ring_service.specs.Rounds.{HasKnown, IsMade, IsSpent, IsTaken, epoch_after, known_behind, room_after}
+use Rattle.gated_journal.specs.Works.{IsTaken, count_after, epoch_after, room_after}
+use Rattle.ring_service.specs.Rounds.{HasKnown, IsMade, IsSpent, known_behind}
 
 -- a journal that has what is known to be durable takes it
 pub takes : (member : Member) (opening : Summary) (known : Durable) (len room epoch : ℕ) (w : Work) → IsNodeOf member.n member.node → HasKnown member opening known len room epoch
     → IsNext member opening known w → IsTaken member len room epoch w
 takes member opening known len room epoch (works.Batch batch) inside has next =
     (next.node, next.first ∙ sym has.count, (let fits = next.room in let left = has.left in omega (arith, fits, left)))
-takes member opening known len room epoch (works.Checkpoint made) inside has next =
+takes member opening known len room epoch (works.Checkpoint made) inside has next = (
+  next.node,
+  next.first ∙ sym has.count,
+  (let short = next.short in omega (arith, short)),
+  next.sound inside,
+  (let more = next.left in let at = has.area in omega (arith, more, at)),
+)
+
+-- and has its inputs more then, which a summary counts too
+pub counts : (member : Member) (opening : Summary) (known : Durable) (len room epoch : ℕ) (w : Work) → HasKnown member opening known len room epoch
+    → IsNext member opening known w → count_after (summary_by w) (length (flown_by w).inputs) len ≡ len + length (flown_by w).inputs
+counts member opening known len room epoch (works.Batch batch) has next = refl
+counts member opening known len room epoch (works.Checkpoint made) has next =
     let inputs = (numbered_by made).inputs in
-    let all : (base_by made).inputs ≡ opening.inputs + length (known.inputs ++ inputs) = ap (λ (s : Summary). s.inputs) next.summary ∙ after-inputs member.node opening (known.inputs ++ inputs) in (
-      next.node,
-      next.first ∙ sym has.count,
-      (let short = next.short in omega (arith, short)),
-      next.sound inside,
-      (let more = next.left in let at = has.area in omega (arith, more, at)),
-      (let count = has.count in omega (arith, all, count, length-append known.inputs inputs)),
-      next.snapshot,
-    )
+    let all : (base_by made).inputs ≡ opening.inputs + length (known.inputs ++ inputs) = ap (λ (s : Summary). s.inputs) next.summary ∙ after-inputs member.node opening (known.inputs ++ inputs) in
+    let count = has.count in omega (arith, all, count, length-append known.inputs inputs)
 
 -- what it makes durable
 pub makes : (member : Member) (opening : Summary) (known : Durable) (w : Work) → (summary_by w ≡ None → length (flown_by w).inputs ≤ 64)

@@ -27,8 +27,9 @@ use Rattle.node_store.specs.State.{Holds, IsOpenedAs, MayBeLeft, area_with, dura
 use Rattle.node_store.proofs.Left.{may_be_left}
 use Rattle.commit_hub.specs.Tied.{Durable, durable_part}
 use Rattle.commit_hub.specs.Works.{IsLawfulBehind}
-use Rattle.commit_hub.proofs.Costs.{durable_count}
-use Rattle.ring_service.specs.Rounds.{IsMade, IsRound, IsStopped, at_rest, known_behind, reading_after, with_flying}
+use Rattle.group_commit.proofs.Costs.{durable_count}
+use Rattle.gated_journal.specs.Works.{reading_after}
+use Rattle.ring_service.specs.Rounds.{IsMade, IsRound, IsStopped, at_rest, known_behind, with_flying}
 use Rattle.ring_service.specs.Series.{Round, AreRounds, IsCut, IsHeld, IsLeftBehind, IsRoundOf, IsSplit, desk_in, device_behind, held_by, inputs_of, known_since}
 
 -- ---- some rounds, and those behind them

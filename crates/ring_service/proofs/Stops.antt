@@ -10,7 +10,8 @@ use Rattle.gated_journal.specs.Areas.{AllReadAs, ReadsAsOneOf}
 use Rattle.gated_journal.specs.Reading.{Reading}
 use Rattle.commit_hub.specs.Tied.{Durable}
 use Rattle.commit_hub.specs.Works.{IsLawfulBehind}
-use Rattle.ring_service.specs.Rounds.{IsMade, IsStopped, at_rest, reading_after, with_flying}
+use Rattle.gated_journal.specs.Works.{reading_after}
+use Rattle.ring_service.specs.Rounds.{IsMade, IsStopped, at_rest, with_flying}
 
 -- what flies is durable alone, where nothing does
 pub none_flies : (known : Durable) → at_rest known ≡ with_flying known [] None

@@ -13,21 +13,14 @@ use Rattle.ring_records.specs.Member.{Member}
 use Rattle.ring_records.specs.Snapshot.{IsSound, snapshot_len}
 use Rattle.ring_records.specs.States.{NodeState, opened}
 use Rattle.gated_journal.specs.Areas.{AllReadAs, ReadsAsOneOf}
-use Rattle.gated_journal.specs.Batch.{shown, numbered_by, base_by}
-use Rattle.gated_journal.specs.Reading.{Reading, fresh_area, with_more}
+use Rattle.gated_journal.specs.Reading.{Reading}
+use Rattle.gated_journal.specs.Works.{reading_after}
 use Rattle.group_commit.specs.declared.landed.Landed.{Landed}
-use Rattle.commit_hub.specs.declared.work.Work.{Work}
-use Rattle.commit_hub.specs.declared.work.Work.TheVariants as works
 use Rattle.commit_hub.specs.Told.{IsBrought}
 use Rattle.commit_hub.specs.Tied.{Durable, with_batch, with_area}
 use Rattle.commit_hub.specs.Works.{IsLawfulBehind, flying_behind}
 
 -- ---- what is made durable: inputs of a batch; or a summary of all inputs, and those of them that were not durable yet
-
--- what a journal reads as then, whose area in use had this epoch
-abbrev pub reading_after : ℕ → Option Summary → List Input → Reading → Reading
-reading_after epoch None inputs r = with_more r inputs
-reading_after epoch (Some base) inputs r = fresh_area newest (epoch + 1) base
 
 -- what is known to be durable then
 abbrev pub known_behind : Option Summary → List Input → Durable → Durable
@@ -71,33 +64,13 @@ pub record IsStopped {V : Type 0} (clock : V → ℕ) (left_since : V → ℕ �
   pub made : IsMade member opening known inputs base
   pub any_moment : LeavesOnly clock left_since old new (ReadsAsOneOf member r (reading_after known.base.epoch base inputs r))
 
--- ---- what a journal takes
-
--- It may be written behind so many inputs, to a journal with so much room whose area in use has this epoch: the conditions
--- of `commit` and of `checkpoint`.
-abbrev pub IsTaken : Member → ℕ → ℕ → ℕ → Work → Type 0
-IsTaken member first room epoch (works.Batch batch) =
-    ((shown batch).node ≡ member.node) × ((shown batch).first ≡ first) × (costs_of (shown batch).inputs ≤ room)
-IsTaken member first room epoch (works.Checkpoint made) =
-    ((numbered_by made).node ≡ member.node) × ((numbered_by made).first ≡ first)
-    × (snapshot_len (base_by made) ≤ member.capacity) × IsSound member.n (base_by made) × (epoch + 1 < 2 ^ 40)
-    × ((base_by made).inputs ≡ first + length (numbered_by made).inputs) × ((numbered_by made).snapshot ≡ Some (snapshot_len (base_by made)))
+-- ---- what a journal has
 
 -- a journal with so many inputs, so much room and this epoch of its area in use has what is known to be durable
 pub record HasKnown (member : Member) (opening : Summary) (known : Durable) (len room epoch : ℕ) : Type 0 where
   pub count : len ≡ opening.inputs + length known.inputs
   pub left : room ≡ member.capacity - used known.base known.inputs
   pub area : epoch ≡ known.base.epoch
-
--- the room that is left behind a batch whose inputs take so many bytes, or behind a snapshot of this length
-abbrev pub room_after : Option ℕ → ℕ → ℕ → ℕ → ℕ
-room_after None capacity costs room = room - costs
-room_after (Some length) capacity costs room = capacity - length
-
--- the epoch of the area in use then
-abbrev pub epoch_after : Option ℕ → ℕ → ℕ
-epoch_after None epoch = epoch
-epoch_after (Some length) epoch = epoch + 1
 
 -- ---- refusals
 

@@ -8,12 +8,13 @@ ghost use Rattle.gated_journal.specs.Batch.{landed, lost};
 ghost use Rattle.gated_journal.specs.Journal.{device_of, member_of, len_of, room_of, epoch_of as journal_epoch, is_spoiled};
 ghost use Rattle.gated_journal.specs.Reading.{Reading, device_size};
 ghost use Rattle.gated_journal.specs.Unread.{IsFault};
+ghost use Rattle.gated_journal.specs.Works.{reading_after};
 ghost use Rattle.decision_board.specs.Boards.{published, pending, refusals, LackedMemory};
 ghost use Rattle.commit_hub.specs.Holders.{known_by};
 ghost use Rattle.commit_hub.specs.Told.{IsBrought};
 ghost use Rattle.commit_hub.specs.Works.{flown_by, summary_by, IsNext};
 ghost use Rattle.node_core.specs.Core.{IsNodeOf};
-ghost use Rattle.ring_service.specs.Rounds.{IsRound, IsStopped, IsIdle, IsSpent, IsTaken, HasKnown, epoch_after, known_behind, reading_after, room_after};
+ghost use Rattle.ring_service.specs.Rounds.{IsRound, IsStopped, IsIdle, IsSpent, HasKnown, known_behind};
 ghost use Rattle.ring_service.specs.Props.{HasKnown-prop};
 
 use crate::gate::Gate;
@@ -180,31 +181,6 @@ impl<V: Device, J: Naming, A: Node> Flusher<V, J, A> {
     }
 }
 
-/// Writes it to the journal, as a batch or as a checkpoint.
-fn write<V: Device>(journal: &mut Journal<V>, work: Work) -> Result<Receipt, Spoiled>
-    requires ready { is_spoiled journal.old ≡ false }
-    requires taken { IsTaken (member_of journal.old) (len_of journal.old) (room_of journal.old) (journal_epoch journal.old) work }
-    ensures durable { OnOk result ((r : Reading) → AllReadAs (member_of journal.old) (V.disk (device_of journal.old)) r
-        → AllReadAs (member_of journal.old) (V.disk (device_of journal.new)) (reading_after (journal_epoch journal.old) (summary_by work) (flown_by work).inputs r)) }
-    ensures spoils { is_spoiled journal.new ≡ is_err result }
-    ensures cause { HasCause (V.count (device_of journal.old)) (V.count (device_of journal.new)) result }
-    ensures works { Reaches (V.reach (device_of journal.old)) (device_size (member_of journal.old).capacity) → IsOk result }
-    ensures receipt { IfOk result (λ receipt. landed receipt ≡ flown_by work) }
-    ensures spoiled { IfErr result (λ spoiled. lost spoiled ≡ flown_by work) }
-    ensures header { member_of journal.new ≡ member_of journal.old }
-    ensures len { OnOk result (len_of journal.new ≡ len_of journal.old + length (flown_by work).inputs) }
-    ensures room { OnOk result (room_of journal.new ≡ room_after (flown_by work).snapshot (member_of journal.old).capacity (costs_in (flown_by work).inputs) (room_of journal.old)) }
-    ensures epoch { OnOk result (journal_epoch journal.new ≡ epoch_after (flown_by work).snapshot (journal_epoch journal.old)) }
-    ensures any_moment { (r : Reading) → AllReadAs (member_of journal.old) (V.disk (device_of journal.old)) r
-        → LeavesOnly V.clock V.left_since (device_of journal.old) (device_of journal.new)
-        (ReadsAsOneOf (member_of journal.old) r (reading_after (journal_epoch journal.old) (summary_by work) (flown_by work).inputs r)) }
-{
-    match work {
-        Work::Batch(batch) => journal.commit(batch),
-        Work::Checkpoint(checkpoint) => journal.checkpoint(checkpoint),
-    }
-}
-
 /// Makes it durable, and tells the hub what became of it. What the hub refuses is ended.
 fn settle<V: Device, A: Node, R: Wait>(
     rt: &R,
@@ -236,7 +212,7 @@ fn settle<V: Device, A: Node, R: Wait>(
         → LeavesOnly V.clock V.left_since (device_of journal.old) (device_of journal.new)
         (ReadsAsOneOf (member_of journal.old) r (reading_after (journal_epoch journal.old) (summary_by work) (flown_by work).inputs r)) }
 {
-    match write(journal, work) {
+    match journal.write(work) {
         Ok(receipt) => match hub.land(rt, tie, receipt) {
             Ok(landed) => Ok(landed),
             Err((receipt, refusal)) => {

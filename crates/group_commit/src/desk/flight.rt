@@ -13,13 +13,13 @@ ghost use Rattle.group_commit.specs.Desk.{launched, landed};
 use crate::desk::Desk;
 use crate::desk::parts::{prepare, summarise};
 use crate::landed::Landed;
-use gated_journal::{Batch, Checkpoint, Receipt, Spoiled};
-use ring_records::{BATCH_INPUTS, EPOCHS, Input, LAYOUT, NodeNo, Refusal};
+use gated_journal::{Batch, Checkpoint, Flown, Receipt, Spoiled};
+use ring_records::{BATCH_INPUTS, EPOCHS, LAYOUT, Refusal};
 
 impl Desk {
     ghost use Rattle.group_commit.specs.Desk.{known_all, seen, launched_all, launch_objection, checkpoint_objection, is_due, IsFlying};
     ghost use Rattle.group_commit.specs.Past.{IsPast};
-    ghost use Rattle.gated_journal.specs.Batch.{shown as batch_shown, landed as receipted, lost, numbered, numbered_with, numbered_by, base_by};
+    ghost use Rattle.gated_journal.specs.Batch.{shown as batch_shown, is_checkpoint, kept_in, landed as receipted, lost, numbered, numbered_with, numbered_by, base_by};
 
     /// The first inputs that wait, at most 64, as a batch to be made durable; they fly from then on. `None` exactly
     /// where none waits. Refused as 9 where the desk has failed, as 12 where a batch or a checkpoint is flying, and as 8.
@@ -106,6 +106,7 @@ impl Desk {
         ensures flying { OnOk result (IsFlying self.old (receipted receipt)) }
         ensures works { OnOk result (self.old.view.failed ≡ false) }
         ensures count { IfOk result (λ landed. landed.count ≡ self.old.view.state.flying - self.old.view.state.durable) }
+        ensures kind { IfOk result (λ landed. landed.is_checkpoint ≡ is_checkpoint (receipted receipt)) }
         ensures few { IfOk result (λ landed. length landed.decisions.items ≤ landed.count) }
         ensures fits { OnOk result (used self.new.view.state.base (durable_in self.new.view.state) ≤ self.new.view.member.capacity) }
         ensures packets { IfOk result (λ landed. (past : List Input) → IsPast self.old.view.member self.old.opening past
@@ -117,15 +118,16 @@ impl Desk {
         ensures back { IfErr result (λ e. receipted e.0 ≡ receipted receipt) }
         ensures same { OnErr result (self.new ≡ self.old) }
     {
-        let snapshot = receipt.snapshot();
-        let flies = self.is_flying(receipt.node(), receipt.first(), receipt.inputs(), snapshot);
+        let flies = self.is_flying(&receipt);
         if self.is_failed || !flies {
             return Err((receipt, Refusal::Foreign));
         }
+        let is_checkpoint = receipt.is_checkpoint();
         let _ = receipt.into_parts();
         let start = self.durable as usize;
         let end = self.flying as usize;
-        let landed = self.outbox.land(&self.inputs[start..end]);
+        let mut landed = self.outbox.land(&self.inputs[start..end]);
+        landed.is_checkpoint = is_checkpoint;
         self.durable = self.flying;
         if let Some(length) = self.pending {
             self.layout = LAYOUT;
@@ -146,8 +148,7 @@ impl Desk {
         ensures back { IfErr result (λ e. lost e.0 ≡ lost spoiled) }
         ensures same { OnErr result (self.new ≡ self.old) }
     {
-        let snapshot = spoiled.snapshot();
-        if !self.is_flying(spoiled.node(), spoiled.first(), spoiled.inputs(), snapshot) {
+        if !self.is_flying(&spoiled) {
             return Err((spoiled, Refusal::Foreign));
         }
         let _ = spoiled.into_parts();
@@ -155,11 +156,15 @@ impl Desk {
         Ok(())
     }
 
-    // Whether these are the inputs that fly, as a batch, or as a checkpoint whose snapshot has this length.
-    fn is_flying(&self, node: NodeNo, first: u64, inputs: &[Input], snapshot: Option<u64>) -> bool
-        ensures yes { result ≡ true → IsFlying self.now (numbered_with node first inputs.now snapshot) }
-        ensures no { result ≡ false → IsFlying self.now (numbered_with node first inputs.now snapshot) → ⊥ }
+    // Whether this is what flies: these inputs, as a batch, or as a checkpoint whose snapshot has this length.
+    fn is_flying(&self, flown: &Flown) -> bool
+        ensures yes { result ≡ true → IsFlying self.now (kept_in flown.now) }
+        ensures no { result ≡ false → IsFlying self.now (kept_in flown.now) → ⊥ }
     {
+        let node = flown.node();
+        let first = flown.first();
+        let inputs = flown.inputs();
+        let snapshot = flown.snapshot();
         let flying = &self.inputs[self.durable as usize..self.flying as usize];
         is_same(&snapshot, &self.pending)
             && node == self.node

@@ -16,8 +16,8 @@ ghost use Rattle.node_store.specs.State.{MayBeLeft};
 
 use crate::node::Node;
 use crate::node::rounds::settle;
-use crate::work::Work;
 use disk_model::Device;
+use gated_journal::Work;
 use group_commit::Landed;
 use ring_records::Refusal;
 

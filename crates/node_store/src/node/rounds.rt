@@ -13,11 +13,9 @@ ghost use Rattle.group_commit.specs.Desk.{IsFlying, landed, seen};
 ghost use Rattle.group_commit.specs.Past.{IsPast};
 ghost use Rattle.node_store.specs.Standing.{Flies, Stands};
 ghost use Rattle.node_store.specs.State.{MayBeLeft, flown_held};
-ghost use Rattle.node_store.specs.Works.{IsSized, IsTaken, count_after, epoch_after, flown_by, reading_after, room_after, summary_by};
 
-use crate::work::Work;
 use disk_model::Device;
-use gated_journal::{Journal, Receipt, Spoiled};
+use gated_journal::{Journal, Receipt, Spoiled, Work};
 use group_commit::{Desk, Landed};
 
 // Makes what flies durable, and tells what that lets the node release. At `Err` the device failed, and so has the desk, of
@@ -43,39 +41,12 @@ pub(crate) fn settle<D: Device>(
     ensures any_moment { LeavesOnly D.clock D.left_since (device_of journal.old) (device_of journal.new) (MayBeLeft desk.old) }
     ensures reach { D.reach (device_of journal.new) ≡ D.reach (device_of journal.old) }
 {
-    match write(journal, work) {
+    match journal.write(work) {
         Ok(receipt) => Ok(land(desk, receipt)),
         Err(spoiled) => {
             fail(desk, spoiled);
             Err(journal.failures())
         }
-    }
-}
-
-// Writes it to the journal, as a batch or as a checkpoint.
-fn write<D: Device>(journal: &mut Journal<D>, work: Work) -> Result<Receipt, Spoiled>
-    requires ready { is_spoiled journal.old ≡ false }
-    requires taken { IsTaken (member_of journal.old) (len_of journal.old) (room_of journal.old) (epoch_of journal.old) work }
-    requires sized { IsSized work }
-    ensures durable { OnOk result ((r : Reading) → AllReadAs (member_of journal.old) (D.disk (device_of journal.old)) r
-        → AllReadAs (member_of journal.old) (D.disk (device_of journal.new)) (reading_after (epoch_of journal.old) (summary_by work) (flown_by work).inputs r)) }
-    ensures spoils { is_spoiled journal.new ≡ is_err result }
-    ensures cause { HasCause (D.count (device_of journal.old)) (D.count (device_of journal.new)) result }
-    ensures works { Reaches (D.reach (device_of journal.old)) (device_size (member_of journal.old).capacity) → IsOk result }
-    ensures reach { D.reach (device_of journal.new) ≡ D.reach (device_of journal.old) }
-    ensures receipt { IfOk result (λ receipt. receipted receipt ≡ flown_by work) }
-    ensures spoiled { IfErr result (λ spoiled. lost spoiled ≡ flown_by work) }
-    ensures header { member_of journal.new ≡ member_of journal.old }
-    ensures len { OnOk result (len_of journal.new ≡ count_after (summary_by work) (length (flown_by work).inputs) (len_of journal.old)) }
-    ensures room { OnOk result (room_of journal.new ≡ room_after (flown_by work).snapshot (member_of journal.old).capacity (costs_of (flown_by work).inputs) (room_of journal.old)) }
-    ensures epoch { OnOk result (epoch_of journal.new ≡ epoch_after (flown_by work).snapshot (epoch_of journal.old)) }
-    ensures any_moment { (r : Reading) → AllReadAs (member_of journal.old) (D.disk (device_of journal.old)) r
-        → LeavesOnly D.clock D.left_since (device_of journal.old) (device_of journal.new)
-        (ReadsAsOneOf (member_of journal.old) r (reading_after (epoch_of journal.old) (summary_by work) (flown_by work).inputs r)) }
-{
-    match work {
-        Work::Batch(batch) => journal.commit(batch),
-        Work::Checkpoint(checkpoint) => journal.checkpoint(checkpoint),
     }
 }
 

@@ -8,8 +8,8 @@ use Rattle.gated_journal.specs.Reading.{Reading}
 use Rattle.commit_hub.specs.Holders.{known_by}
 use Rattle.commit_hub.specs.Tied.{Durable, with_area, with_batch}
 use Rattle.commit_hub.specs.Works.{flown_by, summary_by}
-use Rattle.ring_service.specs.Rounds.{IsTaken, reading_after, room_after}
-use Rattle.ring_service.proofs.Next.{has, knows, takes}
+use Rattle.gated_journal.specs.Works.{IsTaken, reading_after, room_after}
+use Rattle.ring_service.proofs.Next.{counts, has, knows, takes}
 use Rattle.ring_service.proofs.flusher.settle.Goals as goal
 
 pub write-requires-clause-taken : goal.write-requires-clause-taken
@@ -26,7 +26,7 @@ returns-in-Ok-land-clause-few g c =
 pub returns-in-Ok-land-clause-durable : goal.returns-in-Ok-land-clause-durable
 returns-in-Ok-land-clause-durable g c =
     let disk = g.V.Device.disk (device_of c.args.journal.now) in
-    let now = g.V.Device.disk (device_of c.write.new.journal) in
+    let now = g.V.Device.disk (device_of c.write.new.self) in
     let w = c.args.work in
     subst (λ (m : Member). (r : Reading) → AllReadAs m disk r → AllReadAs m now (reading_after (epoch_of c.args.journal.now) (summary_by w) (flown_by w).inputs r)) c.requires.member c.in-Ok.ensures.durable
 
@@ -50,7 +50,7 @@ returns-in-Ok-land-clause-known g c =
     let behind = has g.A.Node.member g.A.Node.opening old (len_of journal) (room_of journal) (epoch_of journal) w c.requires.based c.requires.known c.requires.next in
     let room = ap (λ (m : Member). room_after (flown_by w).snapshot m.capacity (costs_of (flown_by w).inputs) (room_of journal)) c.requires.member in
     record {
-      count = c.in-Ok.ensures.len ∙ (behind.count ∙ ap (λ (d : Durable). g.A.Node.opening.inputs + length d.inputs) (sym is));
+      count = c.in-Ok.ensures.len ∙ (counts g.A.Node.member g.A.Node.opening old (len_of journal) (room_of journal) (epoch_of journal) w c.requires.known c.requires.next ∙ (behind.count ∙ ap (λ (d : Durable). g.A.Node.opening.inputs + length d.inputs) (sym is)));
       left = c.in-Ok.ensures.room ∙ (room ∙ (behind.left ∙ ap (λ (d : Durable). g.A.Node.member.capacity - used d.base d.inputs) (sym is)));
       area = c.in-Ok.ensures.epoch ∙ (behind.area ∙ ap (λ (d : Durable). d.base.epoch) (sym is));
     }

@@ -1,7 +1,7 @@
 use Rattle.std.proofs.Common.{◌≡◌, ◌+◌, ◌≤◌, length, take, sym, ap, ◌∙◌, subst, arith}
 use Rattle.commit_hub.specs.Holders.{known_by}
 use Rattle.commit_hub.specs.Tied.{Durable, durable_part}
-use Rattle.commit_hub.proofs.Costs.{durable_count}
+use Rattle.group_commit.proofs.Costs.{durable_count}
 use Rattle.commit_hub.proofs.Works.{fits_next, launches, none_waits}
 use Rattle.commit_hub.proofs.locked.Locked.launch.Goals as goal
 
@@ -9,7 +9,7 @@ pub invariant_of-self : goal.invariant_of-self
 invariant_of-self g c =
     let old = c.args.self.now in
     let desk = old.shared.desk in
-    let l = launches c.launch.result desk c.launch.new.desk old.counts old.next_is c.launch.ensures.work c.launch.ensures.free c.launch.ensures.same in
+    let l = launches c.launch_next.result desk c.launch_next.new.self old.counts old.next_is c.launch_next.ensures.next c.launch_next.ensures.free c.launch_next.ensures.same in
     record {
       of = l.member ∙ old.of;
       opening = l.opening ∙ old.opening;
@@ -25,7 +25,7 @@ invariant_of-self g c =
 pub returns-clause-next : goal.returns-clause-next
 returns-clause-next g c =
     let old = c.args.self.now in
-    fits_next c.launch.result old.shared.desk _ _ _ old.of old.opening (sym old.held_is ∙ sym c.audit.ensures.equal) c.launch.ensures.fits
+    fits_next c.launch_next.result old.shared.desk _ _ _ old.of old.opening (sym old.held_is ∙ sym c.audit.ensures.equal) c.launch_next.ensures.fits
 
 pub returns-clause-based : goal.returns-clause-based
 returns-clause-based g c =
@@ -41,4 +41,4 @@ returns-clause-none g c =
     let count = ap (λ (d : Durable). length d.inputs) (c.audit.ensures.equal ∙ old.held_is) ∙ durable_count desk.view.state old.counts in
     let durable : g.A.Node.opening.inputs + length (known_by c.args.tie.now).inputs ≡ desk.opening.inputs + desk.view.state.durable = (λ i. (sym old.opening i).inputs + count i) in
     let within : g.A.Node.opened ≤ desk.opening.inputs + length desk.view.state.inputs = omega (arith, c.audit-2.ensures.bound, old.first_is.1, old.first_is.2, old.counted) in
-    none_waits c.launch.result desk c.launch.new.desk _ _ c.launch.ensures.work durable within
+    none_waits c.launch_next.result desk c.launch_next.new.self _ _ c.launch_next.ensures.work durable within

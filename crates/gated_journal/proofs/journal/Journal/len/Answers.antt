@@ -5,5 +5,4 @@ use Rattle.gated_journal.proofs.journal.Journal.len.Goals as goal
 pub returns-clause-reading : goal.returns-clause-reading
 returns-clause-reading g c = λ ready r all.
     let j = c.args.self.now in
-    let a = j.area in
-    sym (read_here _ _ a.start a.other a.offset j.gate_at a.is_closed a.epoch j.count j.used r (j.settled ready) (g.met.D.Device.may_stay j.device) all).count_is
+    sym (read_here _ _ j.place r (j.settled ready) (g.met.D.Device.may_stay j.device) all).here.count

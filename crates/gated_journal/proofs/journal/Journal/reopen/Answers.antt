@@ -1,8 +1,8 @@
-use Rattle.std.proofs.Common.{rules, ◌≡◌, ◌+◌, ℕ, List, length, sym, ◌∙◌, ap, subst, arith}
+use Rattle.std.proofs.Common.{rules, ◌≡◌, ◌+◌, ℕ, List, length, refl, sym, ◌∙◌, ap, subst, arith}
 use Rattle.ring_records.specs.Admission.{costs_of}
 use Rattle.ring_records.specs.Member.{member}
 use Rattle.ring_records.specs.Snapshot.{snapshot_len}
-use Rattle.gated_journal.specs.Areas.{ReadsAt, IsGate, IsInUse}
+use Rattle.gated_journal.specs.Areas.{ReadsAt, IsGate}
 use Rattle.gated_journal.specs.Choose.{reading_of}
 use Rattle.gated_journal.proofs.AreaBeside.{start_low}
 use Rattle.gated_journal.proofs.AreaKept.{behind_snapshot}
@@ -16,12 +16,29 @@ costs_of-requires g c =
     let o = costs _ _ c.in-Ok.field-0.contents.inputs.items c.in-Ok.field-0.contents.gate_at r.frames in
     omega (arith, ap costs_of c.deref.ensures.value, o.bound, r.within, start_low _ _ _ r.areas, r.head.to)
 
-pub overflow_add-journal-in-Ok : goal.overflow_add-journal-in-Ok
-overflow_add-journal-in-Ok g c =
+pub overflow_add-place-in-Ok : goal.overflow_add-place-in-Ok
+overflow_add-place-in-Ok g c =
     let f = c.in-Ok.field-0 in
     let r = c.in-Ok.ensures.reads in
     let o = costs _ _ f.contents.inputs.items f.contents.gate_at r.frames in
     omega (arith, c.costs_of.ensures, ap costs_of c.deref.ensures.value, c.summary_len.ensures.range, o.bound, r.within, start_low _ _ _ r.areas, r.head.to)
+
+pub invariant_of-place : goal.invariant_of-place
+invariant_of-place g c =
+    let f = c.in-Ok.field-0 in
+    let read = c.in-Ok.ensures.reads in
+    let o = costs _ _ f.contents.inputs.items f.contents.gate_at read.frames in
+    let count : length f.contents.inputs.items ≡ c.len.result = search rules in
+    let sum : costs_of f.contents.inputs.items ≡ c.costs_of.result = sym (c.costs_of.ensures ∙ ap costs_of c.deref.ensures.value) in
+    let bytes : snapshot_len f.contents.base ≡ c.summary_len.result = sym c.summary_len.ensures.value in
+    let behind = behind_snapshot c.args.n f.area.start _ (reading_of f.area f.contents) f.area.offset read.base in
+    record {
+      areas = read.areas;
+      within = omega (arith, o.within, behind, sum, bytes);
+      counted = omega (arith, o.counted, sum, count, read.base.snapshot.sound.inputs);
+      least = read.head.from;
+      small = read.head.to;
+    }
 
 pub invariant_of-journal : goal.invariant_of-journal
 invariant_of-journal g c =
@@ -30,23 +47,18 @@ invariant_of-journal g c =
     let disk = g.D.Device.disk c.open.new.device in
     let a = f.area in
     let r = reading_of a f.contents in
-    let o = costs _ _ f.contents.inputs.items f.contents.gate_at c.in-Ok.ensures.reads.frames in
-    let read : ReadsAt header disk.image r a.start a.other a.offset f.contents.gate_at = subst (λ (l : List ℕ). ReadsAt header l r a.start a.other a.offset f.contents.gate_at) (sym c.open.ensures.image) c.in-Ok.ensures.reads in
-    let gate : IsGate a.is_closed a.other disk.image = subst (λ (l : List ℕ). IsGate a.is_closed a.other l) (sym c.open.ensures.image) c.in-Ok.ensures.gate in
-    let rest = in_use header disk r a.start a.other a.offset f.contents.gate_at a.is_closed c.in-Ok.ensures.synced gate read in
-    let count : length f.contents.inputs.items ≡ c.len.result = search rules in
-    let sum : costs_of f.contents.inputs.items ≡ c.costs_of.result = sym (c.costs_of.ensures ∙ ap costs_of c.deref.ensures.value) in
-    let bytes : snapshot_len f.contents.base ≡ c.summary_len.result = sym c.summary_len.ensures.value in
-    let behind = behind_snapshot c.args.n a.start disk.image r a.offset read.base in
+    let same = sym c.open.ensures.image in
     record {
-      settled = λ ready. subst (λ (k : ℕ). IsInUse header disk a.start a.other a.offset f.contents.gate_at a.is_closed a.epoch (f.contents.base.inputs + k) (c.summary_len.result + c.costs_of.result)) count
-          (subst (λ (k : ℕ). IsInUse header disk a.start a.other a.offset f.contents.gate_at a.is_closed a.epoch (f.contents.base.inputs + length f.contents.inputs.items) (c.summary_len.result + k)) sum
-          (subst (λ (k : ℕ). IsInUse header disk a.start a.other a.offset f.contents.gate_at a.is_closed a.epoch (f.contents.base.inputs + length f.contents.inputs.items) (k + costs_of f.contents.inputs.items)) bytes rest));
-      areas = read.areas;
-      within = omega (arith, o.within, behind, sum, bytes);
-      counted = omega (arith, o.counted, sum, count, read.base.snapshot.sound.inputs);
-      least = read.head.from;
-      small = read.head.to;
+      settled = λ ready. in_use header disk _ r (record {
+        rest = record { synced = c.in-Ok.ensures.synced; gate = subst (λ (l : List ℕ). IsGate a.is_closed a.other l) same c.in-Ok.ensures.gate };
+        here = record {
+          capacity = refl;
+          at = subst (λ (l : List ℕ). ReadsAt header l r a.start a.other a.offset f.contents.gate_at) same c.in-Ok.ensures.reads;
+          epoch = refl;
+          count = omega (arith, c.len.ensures);
+          used = omega (arith, c.summary_len.ensures.value, c.costs_of.ensures, ap costs_of c.deref.ensures.value);
+        };
+      });
     }
 
 pub returns-in-Ok-clause-reads : goal.returns-in-Ok-clause-reads

@@ -1,10 +1,10 @@
-use Rattle.std.proofs.Common.{rules, ◌≡◌, ◌-◌, ◌∙◌, ap, sym, subst, List, take, drop}
+use Rattle.std.proofs.Common.{rules, ◌≡◌, ◌-◌, ◌∙◌, sym, subst, take, drop}
 use Rattle.std.specs.Bool.{Decides}
 use lib.Pointwise.{pointwise}
 use Rattle.std.proofs.lemmas.Slice.Eq.{slice_eq-Decides}
 use Rattle.ring_records.specs.declared.input.Input.{Input}
 use Rattle.ring_records.specs.contracts.input.InputPartialEq as derived
-use Rattle.gated_journal.specs.Batch.{numbered_with}
+use Rattle.gated_journal.specs.Batch.{kept_in}
 use Rattle.group_commit.specs.Desk.{DeskKept, IsFlying}
 use Rattle.group_commit.proofs.desk.Desk.is_flying.Goals as goal
 
@@ -12,15 +12,16 @@ same : (a b : Input) → Decides ((derived.TheImpl.eq-value).it a b) (a ≡ b)
 same a b = search rules
 
 -- whether the inputs are those that fly
-told : (c : goal.After-eq-then-first-durable) → Decides c.eq-then-first-durable.result (c.args.inputs.now ≡ take (c.self.inside.flying - c.self.inside.durable) (drop c.self.inside.durable c.self.inside.inputs.items))
+told : (c : goal.After-eq-then-first-durable) → Decides c.eq-then-first-durable.result (c.args.flown.now.inputs.items ≡ take (c.self.inside.flying - c.self.inside.durable) (drop c.self.inside.durable c.self.inside.inputs.items))
 told c =
     let d = c.self.inside in
-    slice_eq-Decides same _ _ _ (c.eq-then-first-durable.ensures ∙ ap (λ (l : List Input). pointwise (derived.TheImpl.eq-value).it c.args.inputs.now (take (d.flying - d.durable) (drop d.durable l))) c.deref.ensures.value)
+    slice_eq-Decides same _ _ _ (c.eq-then-first-durable.ensures
+    ∙ λ i. pointwise (derived.TheImpl.eq-value).it (c.inputs-inputs.ensures.value i) (take (d.flying - d.durable) (drop d.durable (c.deref.ensures.value i))))
 
 pub returns-then-first-durable-clause-yes : goal.returns-then-first-durable-clause-yes
-returns-then-first-durable-clause-yes c = λ e. subst (λ (v : DeskKept). IsFlying v (numbered_with c.args.node c.args.first c.args.inputs.now c.args.snapshot)) c.self.view_is (record { node = search rules; first = search rules; inputs = (told c).0 e; snapshot = search rules })
+returns-then-first-durable-clause-yes c = λ e. subst (λ (v : DeskKept). IsFlying v (kept_in c.args.flown.now)) c.self.view_is (record { node = search rules; first = search rules; inputs = (told c).0 e; snapshot = search rules })
 
 pub returns-then-first-durable-clause-no : goal.returns-then-first-durable-clause-no
 returns-then-first-durable-clause-no c = λ e is.
-    let here = subst (λ (v : DeskKept). IsFlying v (numbered_with c.args.node c.args.first c.args.inputs.now c.args.snapshot)) (sym c.self.view_is) is in
+    let here = subst (λ (v : DeskKept). IsFlying v (kept_in c.args.flown.now)) (sym c.self.view_is) is in
     let yes = (told c).1 here.inputs in cc

@@ -9,7 +9,7 @@ use Rattle.ring_records.specs.Known.{after}
 use Rattle.ring_records.specs.Release.{packets, decisions}
 use Rattle.ring_records.specs.States.{launched_base, durable_in, flown_in, flying_in}
 use Rattle.ring_records.proofs.Counts.{length-filter_map}
-use Rattle.gated_journal.specs.Batch.{numbered_with}
+use Rattle.gated_journal.specs.Batch.{kept_in, landed}
 use Rattle.node_core.specs.declared.effects.Effects.{Effects}
 use Rattle.group_commit.specs.Desk.{DeskKept, IsFlying, seen}
 use Rattle.group_commit.specs.Kept.{IsDesk, HoldsFor, area_behind, decisions_since, state_with}
@@ -28,7 +28,7 @@ land-landed-requires c =
     let d = c.self.inside in
     let i = c.self.invariant in
     record {
-      holds = rw c.deref.ensures.value (
+      holds = rw c.deref-3.ensures.value (
         d.node,
         d.n,
         after d.node d.base (take d.durable d.inputs.items),
@@ -40,8 +40,8 @@ land-landed-requires c =
     }
 
 -- the inputs that flew
-flew : (c : After-land-landed) → take (c.self.inside.flying - c.self.inside.durable) (drop c.self.inside.durable c.deref.result.now) ≡ part c.self.inside.durable c.self.inside.flying c.self.inside.inputs.items
-flew c = ap (part c.self.inside.durable c.self.inside.flying) c.deref.ensures.value
+flew : (c : After-land-landed) → take (c.self.inside.flying - c.self.inside.durable) (drop c.self.inside.durable c.deref-3.result.now) ≡ part c.self.inside.durable c.self.inside.flying c.self.inside.inputs.items
+flew c = ap (part c.self.inside.durable c.self.inside.flying) c.deref-3.ensures.value
 
 -- the outbox once they are durable
 settled : (c : After-land-landed) → HoldsFor c.self.inside.node c.land-landed.new.self c.self.inside.base (take c.self.inside.flying c.self.inside.inputs.items) (drop c.self.inside.flying c.self.inside.inputs.items) (c.self.inside.flying - c.self.inside.flying)
@@ -97,10 +97,10 @@ some_flew : (c : After-land-landed) → c.self.inside.pending ≡ None → c.sel
 some_flew c none =
     let d = c.self.inside in
     let flies : c.is_flying-flies.result ≡ true = search rules in
-    let is = subst (λ (v : DeskKept). IsFlying v (numbered_with c.node.result c.first.result c.inputs.result.now c.snapshot-snapshot.result)) (sym c.self.view_is) (c.is_flying-flies.ensures.yes flies) in
-    let batch : c.args.receipt.flown.snapshot ≡ None = sym c.snapshot-snapshot.ensures ∙ (is.snapshot ∙ ap (λ o. option_map (λ (b : Base). b.bytes) (option_map (area_behind (area_in d) d.flying) o)) none) in
+    let is = subst (λ (v : DeskKept). IsFlying v (landed c.args.receipt)) (sym c.self.view_is) (subst (λ f. IsFlying c.args.self.now (kept_in f)) c.deref.ensures (c.is_flying-flies.ensures.yes flies)) in
+    let batch : c.args.receipt.flown.snapshot ≡ None = is.snapshot ∙ ap (λ o. option_map (λ (b : Base). b.bytes) (option_map (area_behind (area_in d) d.flying) o)) none in
     let one = c.args.receipt.flown.some batch in
-    let count = ap length (sym c.inputs.ensures.value ∙ is.inputs) ∙ part-length d.durable d.flying d.inputs.items c.self.invariant.state.counts.flying in
+    let count = ap length is.inputs ∙ part-length d.durable d.flying d.inputs.items c.self.invariant.state.counts.flying in
     omega (arith, one, count)
 
 -- what is durable then fits

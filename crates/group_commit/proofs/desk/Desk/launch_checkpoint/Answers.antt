@@ -63,9 +63,7 @@ summarise-requires-clause-few c =
     let d = c.self.inside in
     let a = (goal.at.summarise-requires-clause-few c).After-deref in
     let known = c.self.invariant.state in
-    let low = known.counts.durable in
-    let high = known.counts.flying in
-    let few = few_wait (member_in d) d.base (state_in d) (idle-none (state_in d) (may a).idle) known (omega (arith, low, high)) in
+    let few = few_wait (member_in d) d.base (state_in d) (idle-none (state_in d) (may a).idle) known in
     let range : d.capacity < 2 ^ 32 = search rules in
     subst (λ (l : List Input). length l < 2 ^ 32) (sym (waits a)) (omega (arith, few, range))
 

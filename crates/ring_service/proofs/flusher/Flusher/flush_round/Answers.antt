@@ -7,7 +7,8 @@ use Rattle.gated_journal.specs.Reading.{Reading}
 use Rattle.commit_hub.specs.Tied.{Durable}
 use Rattle.commit_hub.specs.Told.{IsBrought}
 use Rattle.commit_hub.specs.Works.{flown_by, summary_by, IsNext}
-use Rattle.ring_service.specs.Rounds.{known_behind, reading_after}
+use Rattle.gated_journal.specs.Works.{reading_after}
+use Rattle.ring_service.specs.Rounds.{known_behind}
 use Rattle.commit_hub.proofs.Works.{of_some}
 use Rattle.ring_service.specs.Flushers.{journal_of}
 use Rattle.ring_service.proofs.Next.{makes}

@@ -1,25 +1,24 @@
--- What a hub launches is lawful while it flies.
+-- What a desk launches is lawful while it flies.
 use Rattle.std.proofs.Common.{◌≡◌, ℕ, ◌+◌, ◌&&◌, true, List, ◌++◌, length, take, Option, Some, None, refl, sym, ap, ◌∙◌, subst, arith, length-take}
 use Rattle.std.specs.Option.{option_map}
 use Rattle.std.specs.Prelude.{is_none, nat_eq}
-use Rattle.std.proofs.lemmas.Bool.{eq-eqb}
+use Rattle.std.proofs.lemmas.Bool.{and_parts, eq-eqb, eqb-true}
 use Rattle.std.proofs.lemmas.List.{take_all, take-take}
+use Rattle.std.proofs.lemmas.Option.{same_Some}
+use Rattle.ring_records.specs.declared.base.Base.{Base}
 use Rattle.ring_records.specs.declared.input.Input.{Input}
 use Rattle.ring_records.specs.Admission.{newest, IsBaseOf, IsLawful}
 use Rattle.ring_records.specs.Member.{Member}
 use Rattle.ring_records.specs.Snapshot.{snapshot_len}
 use Rattle.ring_records.specs.States as states
 use Rattle.ring_records.specs.States.{NodeState, IsNodeState, IsLawfulState, is_idle, launched_base, durable_in, flown_in, flying_in}
-use Rattle.ring_records.proofs.States.{base-first, idle-flies, idle-none, lawful-first, lawful-launched, lawful-launched_all, next-few}
+use Rattle.ring_records.proofs.States.{base-first, idle-none, lawful-first, lawful-launched, lawful-launched_all, next-few}
 use Rattle.gated_journal.specs.Batch.{numbered, numbered_with}
-use Rattle.group_commit.specs.Desk.{DeskKept, DeskView, known_all, launched, launched_all, seen}
+use Rattle.group_commit.specs.Desk.{DeskKept, DeskView, known_all, launched, launched_all, next_area, seen}
 use Rattle.group_commit.specs.Past.{IsPast, moved, shifted}
 use Rattle.group_commit.proofs.Seen.{flown-shifted, launched_shifted, lawful_launched_all}
-use Rattle.commit_hub.specs.Tied.{durable_part}
-use Rattle.commit_hub.specs.Works.{FliesLawfully, flying_behind}
-use Rattle.commit_hub.proofs.Batches.{launched_counts}
-use Rattle.commit_hub.proofs.Costs.{durable_count, flown}
-use Rattle.commit_hub.proofs.Works.{launches_all}
+use Rattle.group_commit.specs.Next.{FliesLawfully, durable_part, flying_behind}
+use Rattle.group_commit.proofs.Costs.{durable_count, flown, launched_counts}
 
 -- ---- what is durable or flies, without what waits
 
@@ -53,12 +52,24 @@ told s bytes counts area =
     let size : s.flying ≡ length (durable_in s ++ flying_in s) = sym (flown_size s counts) ∙ ap length whole in
     λ i. record { inputs = whole i; durable = first i; flying = size i; base = s.base; checkpoint = area i }
 
+-- where all inputs fly as a checkpoint, the counts are in order
+all_counts : (desk : DeskKept) → IsNodeState desk.view.state → IsNodeState (launched_all desk).state
+all_counts desk counts = record {
+  durable = omega (arith, counts.durable, counts.flying);
+  flying = omega arith;
+  based = counts.based;
+  checkpointed = λ b e. sym (ap (λ (c : Base). c.inputs) (same_Some (next_area desk) b e));
+}
+
 -- ---- a desk of which nothing flies
+
+idle_flies : (s : NodeState) → is_idle s ≡ true → s.flying ≡ s.durable
+idle_flies s idle = eqb-true s.flying s.durable (and_parts (nat_eq s.flying s.durable) (is_none s.checkpoint) idle).0
 
 idle_behind : (past : List Input) (s : NodeState) → is_idle s ≡ true → is_idle (shifted past s) ≡ true
 idle_behind past s idle =
     let k = length past in
-    (λ i. nat_eq (k + idle-flies s idle i) (k + s.durable) && is_none (option_map (moved k) (idle-none s idle i)))
+    (λ i. nat_eq (k + idle_flies s idle i) (k + s.durable) && is_none (option_map (moved k) (idle-none s idle i)))
     ∙ ap (λ b. b && true) (eq-eqb (k + s.durable) (k + s.durable) refl)
 
 module _ (desk : DeskKept) (idle : is_idle desk.view.state ≡ true) (counts : IsNodeState desk.view.state)
@@ -82,7 +93,7 @@ module _ (desk : DeskKept) (idle : is_idle desk.view.state ≡ true) (counts : I
       → FliesLawfully desk.view.member desk.opening (durable_part desk) (numbered_with node first (flying_in (launched_all desk).state) (Some (snapshot_len (known_all desk))))
   flies_all node first past is =
       let t : NodeState = (launched_all desk).state in
-      let all : IsNodeState t = (launches_all desk (record desk { view = launched_all desk }) counts refl).counts in
+      let all : IsNodeState t = all_counts desk counts in
       let size : length s.inputs ≡ length (durable_in s ++ flying_in t) = sym (flown_size t all) ∙ ap length (sym (flown t all)) in
       let area : t.checkpoint ≡ (flying_behind (durable_part desk) (flying_in t) (Some (snapshot_len (known_all desk)))).checkpoint =
       λ i. Some (record { layout = newest; epoch = s.base.epoch + 1; inputs = size i; bytes = snapshot_len (known_all desk) }) in

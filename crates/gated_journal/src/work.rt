@@ -1,11 +1,12 @@
-//! What a hub launches.
+//! What a journal makes durable.
 ghost use Rattle.std.specs.Prelude.{◌≡◌, ◌≤◌, None, length};
 ghost use Rattle.ring_records.specs.declared.limits.TheConstants.{BATCH_INPUTS};
-ghost use Rattle.commit_hub.specs.Works.{flown_by, summary_by};
+ghost use Rattle.gated_journal.specs.Batch.{is_checkpoint};
+ghost use Rattle.gated_journal.specs.Works.{flown_by, summary_by, syncs_of};
 
-use gated_journal::{Batch, Checkpoint};
+use crate::{Batch, Checkpoint};
 
-/// What is to be made durable next.
+/// What is to be made durable.
 pub enum Work {
     /// The first inputs that wait, 1 to 64.
     Batch(Batch),
@@ -33,5 +34,22 @@ impl Work {
             Work::Batch(batch) => batch.inputs().len(),
             Work::Checkpoint(made) => made.inputs().len(),
         }
+    }
+
+    /// Whether it is a checkpoint.
+    pub fn is_checkpoint(&self) -> bool
+        ensures { result ≡ is_checkpoint (flown_by self.now) }
+    {
+        match self {
+            Work::Batch(_) => false,
+            Work::Checkpoint(_) => true,
+        }
+    }
+
+    /// How many syncs of the device it takes where none fails: 2 of a batch, 3 of a checkpoint.
+    pub fn syncs(&self) -> u64
+        ensures { result ≡ syncs_of (flown_by self.now) }
+    {
+        if self.is_checkpoint() { 3 } else { 2 }
     }
 }

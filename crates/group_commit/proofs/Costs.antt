@@ -1,12 +1,30 @@
 -- What a node's inputs take of its capacity.
-use Rattle.std.proofs.Common.{◌≡◌, ℕ, ◌+◌, ◌-◌, ◌≤◌, List, ◌++◌, length, take, drop, sym, ap, ◌∙◌, arith, length-take, length-drop}
+use Rattle.std.proofs.Common.{◌≡◌, ℕ, ◌+◌, ◌-◌, ◌*◌, ◌≤◌, List, [], ◌∷◌, ◌++◌, length, take, drop, None, sym, ap, ◌∙◌, arith, length-take, length-drop}
+use Rattle.std.specs.Prelude.{unwrap_or}
 use Rattle.std.proofs.Math.Seq.{take-add}
 use Rattle.std.proofs.lemmas.List.{take-append-drop, take_all, drop-append-le}
 use Rattle.std.proofs.lemmas.List.Sums.{sum_by-append}
 use Rattle.ring_records.specs.declared.base.Base.{Base}
 use Rattle.ring_records.specs.declared.input.Input.{Input}
+use Rattle.ring_records.specs.declared.input.Input.TheVariants.{Stand, Take, Acked}
 use Rattle.ring_records.specs.Admission.{cost, costs_of, used}
-use Rattle.ring_records.specs.States.{NodeState, IsNodeState, durable_in, flown_in, flying_in}
+use Rattle.ring_records.specs.States as states
+use Rattle.ring_records.specs.States.{NodeState, IsNodeState, launched_base, durable_in, flown_in, flying_in}
+use Rattle.ring_records.proofs.Lists.{none≢some}
+
+-- each input takes 16 bytes at least
+pub cost_least : (x : Input) → 16 ≤ cost x
+unfolding cost
+cost_least (Stand key bid) = omega arith
+cost_least (Take msg_no msg) = omega arith
+cost_least (Acked upto) = omega arith
+
+pub costs_least : (l : List Input) → 16 * length l ≤ costs_of l
+costs_least [] = omega arith
+costs_least (x ∷ l) =
+    let few = costs_least l in
+    let one = cost_least x in
+    omega (arith, few, one, sum_by-append cost (x ∷ []) l)
 
 -- inputs behind those that the base stands for are counted
 pub used-joined : (base : Base) (h l : List Input) → base.inputs ≤ length h → used base (h ++ l) ≡ used base h + costs_of l
@@ -39,3 +57,15 @@ not_durable s = take_all (length s.inputs - s.durable) (drop s.durable s.inputs)
 -- what flies is as long as it says
 pub flown_count : (s : NodeState) → IsNodeState s → s.flying ≡ s.durable + length (flying_in s)
 flown_count s counts = omega (arith, counts.durable, counts.flying, length-take (s.flying - s.durable) (drop s.durable s.inputs), length-drop s.durable s.inputs)
+
+-- where nothing but a batch flies, the area in use stays
+pub base_stays : (s : NodeState) → s.checkpoint ≡ None → launched_base s ≡ s.base
+base_stays s none = ap (λ o. unwrap_or o s.base) none
+
+pub launched_counts : (s : NodeState) → s.checkpoint ≡ None → IsNodeState s → IsNodeState (states.launched s)
+launched_counts s none counts = record {
+  durable = omega (arith, counts.durable, counts.flying);
+  flying = omega arith;
+  based = counts.based;
+  checkpointed = λ b e. none≢some b (sym none ∙ e);
+}

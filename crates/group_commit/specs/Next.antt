@@ -1,0 +1,118 @@
+-- What a desk launches next.
+use Rattle.std.specs.Prelude.{ℕ, ◌≡◌, ◌+◌, ◌*◌, ◌<◌, ◌≤◌, ◌⊎◌, ◌&&◌, ◌||◌, not, nat_lt, Bool, true, false, if◌then◌else◌, List, ◌++◌, length, Option, Some, None, MatchOption}
+use Rattle.std.specs.Option.{option_map}
+use Rattle.ring_records.specs.declared.base.Base.{Base}
+use Rattle.ring_records.specs.declared.input.Input.{Input}
+use Rattle.ring_records.specs.declared.refusal.Refusal.{Refusal}
+use Rattle.ring_records.specs.declared.refusal.Refusal.TheVariants as refused
+use Rattle.ring_records.specs.declared.summary.Summary.{Summary}
+use Rattle.ring_records.specs.Admission.{costs_of, newest, used}
+use Rattle.ring_records.specs.Known.{after}
+use Rattle.ring_records.specs.Member.{Member}
+use Rattle.ring_records.specs.Snapshot.{IsSound, snapshot_len}
+use Rattle.ring_records.specs.States.{NodeState, IsLawfulState, durable_in, flying_in}
+use Rattle.gated_journal.specs.declared.checkpoint.Checkpoint.{Checkpoint}
+use Rattle.gated_journal.specs.declared.work.Work.{Work}
+use Rattle.gated_journal.specs.declared.work.Work.TheVariants as works
+use Rattle.gated_journal.specs.Batch.{Numbered, numbered_with, numbered_by, base_by, shown}
+use Rattle.gated_journal.specs.Works.{flown_by, summary_by}
+use Rattle.node_core.specs.Core.{IsNodeOf}
+use Rattle.group_commit.specs.Desk.{DeskKept, epochs, is_due, known_all, launch_objection, launched, launched_all}
+use Rattle.group_commit.specs.Past.{IsPast, shifted}
+
+-- what is durable of a desk: the area in use, and the inputs since its opening
+pub record Durable : Type 0 where
+  pub base : Base
+  pub inputs : List Input
+
+abbrev pub durable_part : DeskKept → Durable
+durable_part desk = record { base = desk.view.state.base; inputs = durable_in desk.view.state }
+
+-- these inputs more are durable, in the same area
+abbrev pub with_batch : Durable → List Input → Durable
+with_batch d inputs = record d { inputs = d.inputs ++ inputs }
+
+-- these inputs more are durable, in the next area, whose snapshot has so many bytes and stands for all
+abbrev pub with_area : Durable → List Input → ℕ → Durable
+with_area d inputs bytes = record {
+  base = record { layout = newest; epoch = d.base.epoch + 1; inputs = length (d.inputs ++ inputs); bytes = bytes };
+  inputs = d.inputs ++ inputs;
+}
+
+-- ---- while it flies
+
+-- the state since its opening of a node of which these inputs fly behind what is known to be durable: as a batch, or as a
+-- checkpoint whose snapshot has so many bytes
+abbrev pub flying_behind : Durable → List Input → Option ℕ → NodeState
+flying_behind d inputs bytes = record {
+  inputs = d.inputs ++ inputs;
+  durable = length d.inputs;
+  flying = length (d.inputs ++ inputs);
+  base = d.base;
+  checkpoint = option_map (λ k. (with_area d inputs k).base) bytes;
+}
+
+-- a state since the opening is lawful behind each past that the opening is of
+abbrev pub IsLawfulBehind : Member → Summary → NodeState → Type 0
+IsLawfulBehind m opening s = (past : List Input) → IsPast m opening past → IsLawfulState m (shifted past s)
+
+-- so is that while these fly
+abbrev pub FliesLawfully : Member → Summary → Durable → Numbered → Type 0
+FliesLawfully m opening known flown = IsLawfulBehind m opening (flying_behind known flown.inputs flown.snapshot)
+
+-- ---- for a journal of the node that has so much durable
+
+-- It may commit the batch.
+pub record IsNextBatch (m : Member) (opening : Summary) (known : Durable) (batch : Numbered) : Type 0 where
+  pub node : batch.node ≡ m.node
+  pub first : batch.first ≡ opening.inputs + length known.inputs
+  pub room : used known.base known.inputs + costs_of batch.inputs ≤ m.capacity
+  pub lawful : FliesLawfully m opening known batch
+
+-- It may make the checkpoint, where the node is one of the ring: its summary is that of all, and it is due, since what is
+-- taken, with the inputs, is more than half of the capacity, the snapshot takes a quarter at most, and an epoch is left.
+pub record IsNextCheckpoint (m : Member) (opening : Summary) (known : Durable) (made : Checkpoint) : Type 0 where
+  pub node : (numbered_by made).node ≡ m.node
+  pub first : (numbered_by made).first ≡ opening.inputs + length known.inputs
+  pub snapshot : (numbered_by made).snapshot ≡ Some (snapshot_len (base_by made))
+  pub summary : base_by made ≡ after m.node opening (known.inputs ++ (numbered_by made).inputs)
+  pub few : 16 * length (numbered_by made).inputs ≤ m.capacity
+  pub filled : m.capacity < 2 * (used known.base known.inputs + costs_of (numbered_by made).inputs)
+  pub short : 4 * snapshot_len (base_by made) ≤ m.capacity
+  pub sound : IsNodeOf m.n m.node → IsSound m.n (base_by made)
+  pub left : known.base.epoch + 1 < epochs
+  pub lawful : FliesLawfully m opening known (numbered_by made)
+
+-- It may take either.
+abbrev pub IsNext : Member → Summary → Durable → Work → Type 0
+IsNext m opening known (works.Batch batch) = IsNextBatch m opening known (shown batch)
+IsNext m opening known (works.Checkpoint made) = IsNextCheckpoint m opening known made
+
+-- so may one of the desk's node that has what the desk has durable
+abbrev pub IsFitting : DeskKept → Work → Type 0
+IsFitting desk work = IsNext desk.view.member desk.opening (durable_part desk) work
+
+-- ---- by the desk
+
+-- its next work is a checkpoint: one is due, and something waits or the desk takes requests
+abbrev pub is_checkpoint_next : DeskKept → Bool
+is_checkpoint_next desk = is_due desk && (nat_lt desk.view.state.durable (length desk.view.state.inputs) || not (desk.view.closed || desk.view.failed))
+
+-- the desk once it flies
+abbrev pub launched_next : DeskKept → DeskKept
+launched_next desk = record desk { view = if is_checkpoint_next desk then launched_all desk else launched desk.view }
+
+-- These are all the inputs that wait, with the summary of all; or the first that wait, one at least, where that is not next.
+pub record IsWorkOf (old new : DeskKept) (work : Work) : Type 0 where
+  pub summary : summary_by work ≡ (if is_checkpoint_next old then Some (known_all old) else None)
+  pub flown : flown_by work ≡ numbered_with old.view.member.node (old.opening.inputs + old.view.state.durable) (flying_in new.view.state) (option_map snapshot_len (summary_by work))
+  pub some : summary_by work ≡ None → old.view.state.durable < length old.view.state.inputs
+
+-- Nothing waits, and no checkpoint is next.
+pub record IsNoWork (desk : DeskKept) : Type 0 where
+  pub all : desk.view.state.durable ≡ length desk.view.state.inputs
+  pub batch : is_checkpoint_next desk ≡ false
+
+-- why nothing is launched
+abbrev pub IsUnlaunched : DeskKept → Refusal → Type 0
+IsUnlaunched desk why = (launch_objection desk.view ≡ Some why) ⊎ ((launch_objection desk.view ≡ None) × (why ≡ refused.OutOfMemory))
