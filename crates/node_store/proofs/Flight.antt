@@ -15,20 +15,18 @@ use Rattle.ring_records.specs.declared.refusal.Refusal.{Refusal}
 use Rattle.ring_records.specs.declared.refusal.Refusal.TheVariants as refused
 use Rattle.ring_records.specs.declared.summary.Summary.{Summary}
 use Rattle.ring_records.specs.Admission.{costs_of, newest, used, where_so}
-use Rattle.ring_records.specs.History.{taken}
 use Rattle.ring_records.specs.Known.{stepped, after}
-use Rattle.ring_records.specs.Lists.{found_after, or_else}
+use Rattle.ring_records.specs.Lists.{or_else}
 use Rattle.ring_records.specs.Member.{Member}
-use Rattle.ring_records.specs.Release.{packets, decisions, carries, credits}
 use Rattle.ring_records.specs.Snapshot.{IsSound, snapshot_len}
-use Rattle.ring_records.specs.States.{NodeState, IsNodeState, IsLawfulState, is_idle, launched_base, launched, durable_in, flown_in, flying_in}
+use Rattle.ring_records.specs.States.{NodeState, IsNodeState, IsLawfulState, is_idle, launched, durable_in, flown_in, flying_in}
 use Rattle.ring_records.proofs.Counts.{costs-joined}
 use Rattle.ring_records.proofs.Lists.{none≢some}
 use Rattle.ring_records.proofs.States.{lawful-launched, lawful-launched_all, lawful-landed, next-few}
 use Rattle.gated_journal.specs.declared.batch.Batch.{Batch}
 use Rattle.gated_journal.specs.declared.checkpoint.Checkpoint.{Checkpoint}
 use Rattle.gated_journal.specs.declared.journal.Journal.{Journal}
-use Rattle.gated_journal.specs.Areas.{ReadsAs, AllReadAs, ReadsAsOneOf}
+use Rattle.gated_journal.specs.Areas.{AllReadAs, ReadsAsOneOf}
 use Rattle.gated_journal.specs.Batch.{Numbered, numbered, numbered_with, numbered_by, base_by, shown}
 use Rattle.gated_journal.specs.Journal.{device_of, member_of, len_of, room_of, epoch_of, is_spoiled}
 use Rattle.gated_journal.specs.Reading.{Reading, fresh_area, with_more}
@@ -42,7 +40,7 @@ use Rattle.group_commit.proofs.Seen.{launched_shifted, landed_shifted, lawful_la
 use Rattle.gated_journal.specs.declared.work.Work.{Work}
 use Rattle.gated_journal.specs.declared.work.Work.TheVariants as work
 use Rattle.node_store.specs.Recovery.{IsUnbegun}
-use Rattle.node_store.specs.Standing.{Flies, ReadsOnce, Stands}
+use Rattle.node_store.specs.Standing.{Flies, Stands}
 use Rattle.node_store.specs.State.{MayBeLeft, area_with, durable_held, flown_held}
 use Rattle.gated_journal.specs.Works.{count_after, epoch_after, flown_by, reading_after, room_after, summary_by}
 use Rattle.node_store.proofs.Left.{may_be_left}
@@ -165,7 +163,7 @@ module _ {D : Type 0} {g : Ghosts D} (desk : DeskKept) (journal : Journal D g) (
   all works image left = ⊎_elim (λ old. old) (λ new. absurd (new.0 (rests works))) (stands.holds image left)
 
   pub durable_all : desk.view.failed ≡ false → AllReadAs desk.view.member (g.disk (device_of journal)) (durable_held desk)
-  durable_all works = λ image left. subst (λ m. ReadsAs m image (durable_held desk)) stands.named (all works image left)
+  durable_all works = rw stands.named at (all works)
 
   module _ (free : launch_objection desk.view ≡ None) where
     abbrev s : NodeState
@@ -216,7 +214,7 @@ module _ {D : Type 0} {g : Ghosts D} (desk : DeskKept) (journal : Journal D g) (
         record {
           inside = stands.inside;
           counts = batch_counts;
-          lawful = λ past of. subst (IsLawfulState m) (sym (launched_shifted past s)) (lawful-launched m (shifted past s) (idle_behind past s ready.idle ready.none) (stands.lawful past of));
+          lawful = λ past of. rw (launched_shifted past s) (lawful-launched m (shifted past s) (idle_behind past s ready.idle ready.none) (stands.lawful past of));
           named = stands.named;
           works = works;
           flying = is_flying (record desk { view = desks.launched desk.view }) (shown batch) (rw ready.none is);
@@ -301,14 +299,14 @@ module _ {D : Type 0} {g : Ghosts D} (desk : DeskKept) (old new : Journal D g) (
 
   -- at each moment an image has it or not
   either : (image : List ℕ) → ReadsAsOneOf (member_of old) (durable_held desk) with_it image → ReadsAsOneOf desk.view.member (durable_held desk) (flown_held desk) image
-  either image read = subst (λ m. ReadsAsOneOf m (durable_held desk) (flown_held desk) image) flies.named (subst (λ r. ReadsAsOneOf (member_of old) (durable_held desk) r image) flies.held read)
+  either image read = rw (flies.named, flies.held) at read
 
   pub moment : (image : List ℕ) → ReadsAsOneOf (member_of old) (durable_held desk) with_it image → MayBeLeft desk image
   moment image read = may_be_left desk image flies.counts flies.lawful (either image read)
 
   -- it landed
   pub landed_all : AllReadAs (member_of old) (g.disk (device_of new)) with_it → AllReadAs desk.view.member (g.disk (device_of new)) (flown_held desk)
-  landed_all read = λ image left. subst (λ m. ReadsAs m image (flown_held desk)) flies.named (subst (λ r. ReadsAs (member_of old) image r) flies.held (read image left))
+  landed_all read = rw (flies.named, flies.held) at read
 
   pub lands : member_of new ≡ member_of old → AllReadAs (member_of old) (g.disk (device_of new)) with_it → is_spoiled new ≡ false
       → len_of new ≡ count_after (summary_by w) (length (flown_by w).inputs) (len_of old)
@@ -317,9 +315,9 @@ module _ {D : Type 0} {g : Ghosts D} (desk : DeskKept) (old new : Journal D g) (
   lands same read unspoiled longer less later = record {
     inside = flies.inside;
     counts = record { durable = omega arith; flying = flies.counts.flying; based = next-few desk.view.state flies.counts; checkpointed = λ b e. none≢some b e };
-    lawful = λ past of. subst (IsLawfulState desk.view.member) (sym (landed_shifted past desk.view.state)) (lawful-landed desk.view.member (seen past desk).state (flies.lawful past of));
+    lawful = λ past of. rw (landed_shifted past desk.view.state) (lawful-landed desk.view.member (seen past desk).state (flies.lawful past of));
     named = same ∙ flies.named;
-    holds = λ image left. inl (subst (λ m. ReadsAs m image (flown_held desk)) (sym (same ∙ flies.named)) (landed_all read image left));
+    holds = λ image left. inl (rw (same, flies.named) (landed_all read image left));
     ready = λ _. let ready = flies.behind in record { idle = refl; none = refl; works = unspoiled; count = longer ∙ ready.count; left = less ∙ ready.left; area = later ∙ ready.area };
   }
 
@@ -331,7 +329,6 @@ module _ {D : Type 0} {g : Ghosts D} (desk : DeskKept) (old new : Journal D g) (
     counts = flies.counts;
     lawful = flies.lawful;
     named = same ∙ flies.named;
-    holds = λ image left. subst (λ m. ReadsOnce m (durable_held desk) (flown_held desk) image) (sym (same ∙ flies.named))
-        (⊎_elim (λ old. inl old) (λ new. inr (flies.other, new)) (either image (read image left)));
+    holds = λ image left. rw (same, flies.named) (⊎_elim (λ old. inl old) (λ new. inr (flies.other, new)) (either image (read image left)));
     ready = λ works'. absurd cc;
   }

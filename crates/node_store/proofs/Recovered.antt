@@ -5,7 +5,6 @@ use Rattle.disk_model.proofs.Ranges.{torn_none}
 use Rattle.ring_records.specs.declared.refusal.Refusal.{Refusal}
 use Rattle.ring_records.specs.declared.refusal.Refusal.TheVariants.{OutOfMemory}
 use Rattle.ring_records.specs.Member.{Member, member}
-use Rattle.ring_records.specs.Snapshot.{IsSound}
 use Rattle.ring_records.specs.States.{NodeState, IsLawfulState, left_by}
 use Rattle.gated_journal.specs.Areas.{ReadsAs, AllReadAs, ReadsAsOneOf}
 use Rattle.gated_journal.specs.Reading.{Reading}
@@ -13,9 +12,9 @@ use Rattle.gated_journal.specs.Unread.{IsFault, IsUnopened}
 use Rattle.gated_journal.proofs.AreaAlone.{one_reading, one_header}
 use Rattle.gated_journal.proofs.Fault.{not_read}
 use Rattle.group_commit.specs.Desk.{DeskKept, core_of, new_desk}
-use Rattle.group_commit.specs.Opening.{IsKnownLawful, IsUnlawful}
+use Rattle.group_commit.specs.Opening.{IsUnlawful}
 use Rattle.node_store.specs.Recovery.{IsNotLawful, IsShort}
-use Rattle.node_store.specs.State.{Holds, IsOpenedAs, ReadsAsLeft, all_held, reading_of}
+use Rattle.node_store.specs.State.{Holds, IsOpenedAs, ReadsAsLeft, reading_of}
 use Rattle.node_store.proofs.Left.{opened_as, free_of}
 
 -- ---- what is read
@@ -39,14 +38,14 @@ pub short_only : (node n capacity found : ℕ) (s : NodeState) (keep : Bool) (r 
 short_only node n capacity found s keep r why Fault capacity_is is lawful (inl short) = inl short
 short_only node n capacity found s keep r why Fault capacity_is is lawful (inr un) =
     let here : IsUnlawful (core_of (member node n capacity) (reading_of node (left_by keep s))) (reading_of node (left_by keep s)).inputs why =
-    subst (λ (t : Reading). IsUnlawful (core_of (member node n capacity) t) t.inputs why) is (subst (λ (k : ℕ). IsUnlawful (core_of (member node n k) r) r.inputs why) capacity_is un) in
+    rw is at (rw capacity_is at un) in
     absurd (free_of (member node n capacity) s keep why lawful here)
 
 -- and where it is opened with no history's, the first of its inputs that is not admitted is told, or that memory is short
 pub not_opened : (node n capacity : ℕ) (journal : Member) (r : Reading) (image : List ℕ) (why : Refusal) → journal ≡ member node n capacity → ReadsAs journal image r
     → (why ≡ OutOfMemory) ⊎ IsUnlawful (core_of (member node n capacity) r) r.inputs why → IsNotLawful node n image why ⊎ IsShort node n image why
-not_opened node n capacity journal r image why named read (inl short) = inr (record { capacity = capacity; reading = r; reads = subst (λ (m : Member). ReadsAs m image r) named read; is = short })
-not_opened node n capacity journal r image why named read (inr un) = inl (record { capacity = capacity; reading = r; reads = subst (λ (m : Member). ReadsAs m image r) named read; unlawful = un })
+not_opened node n capacity journal r image why named read (inl short) = inr (record { capacity = capacity; reading = r; reads = rw named at read; is = short })
+not_opened node n capacity journal r image why named read (inr un) = inl (record { capacity = capacity; reading = r; reads = rw named at read; unlawful = un })
 
 pub short_or_not : (node n : ℕ) (image : List ℕ) (why : Refusal) (Unread : Type 0)
     → IsNotLawful node n image why ⊎ IsShort node n image why → (why ≡ OutOfMemory) ⊎ (Unread ⊎ IsNotLawful node n image why)
@@ -55,7 +54,7 @@ short_or_not node n image why Unread (inr short) = inl short.is
 
 -- the device is handed back as it was, or synced
 pub still_holds : (header : Member) (s : NodeState) (old new : Disk) → MayLeave old old.image → (new ≡ old) ⊎ (new ≡ synced old) → Holds header old s → Holds header new s
-still_holds header s old new stays (inl same) holds = subst (λ (disk : Disk). Holds header disk s) (sym same) holds
+still_holds header s old new stays (inl same) holds = rw same holds
 still_holds header s old new stays (inr is) holds = λ image left.
     let only : image ≡ old.image = torn_none old.image image (subst (λ (disk : Disk). MayLeave disk image) is left) in
     subst (λ (l : List ℕ). ReadsAsLeft header s l) (sym only) (holds old.image stays)
@@ -96,15 +95,3 @@ pub made_again : (desk : DeskKept) (node n found capacity run : ℕ) (s : NodeSt
 made_again desk node n found capacity run s keep r lawful is capacity_is read =
     let made : desk ≡ new_desk (member node n capacity) run (reading_of node (left_by keep s)) = is ∙ (λ i. new_desk (member node n (capacity_is i)) run (read i)) in
     subst (IsOpenedAs (member node n capacity) run (left_by keep s)) (sym made) (opened_as (member node n capacity) run s keep lawful)
-
--- what the journal holds, told of the node that is made of it
-pub as_made : (P : Member → Reading → Type 0) (node n capacity run : ℕ) (journal : Member) (r : Reading) (desk : DeskKept) → journal.node ≡ node → journal.n ≡ n → capacity ≡ journal.capacity
-    → desk ≡ new_desk (member node n capacity) run r → P journal r → P desk.view.member (all_held desk)
-as_made P node n capacity run journal r desk node_is n_is capacity_is is holds =
-    subst (λ (d : DeskKept). P d.view.member (all_held d)) (sym is) (subst (λ (m : Member). P m r) (named_again node n capacity journal node_is n_is capacity_is) holds)
-
-pub lawful_made : (node n capacity run : ℕ) (r : Reading) (desk : DeskKept)
-    → desk ≡ new_desk (member node n capacity) run r → IsSound n r.base → IsKnownLawful (core_of (member node n capacity) r) r.inputs
-    → IsSound n desk.opening × IsKnownLawful (core_of desk.view.member (all_held desk)) desk.view.state.inputs
-lawful_made node n capacity run r desk is sound lawful =
-    subst (λ (d : DeskKept). IsSound n d.opening × IsKnownLawful (core_of d.view.member (all_held d)) d.view.state.inputs) (sym is) (sound, lawful)

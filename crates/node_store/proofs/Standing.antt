@@ -10,13 +10,13 @@ use Rattle.ring_records.specs.Answer.{Answered}
 use Rattle.ring_records.specs.Admission.{newest, used}
 use Rattle.ring_records.specs.Lists.{EachAfter}
 use Rattle.ring_records.specs.Member.{Member}
-use Rattle.ring_records.specs.States.{IsLawfulState, launched_base}
+use Rattle.ring_records.specs.States.{IsLawfulState}
 use Rattle.ring_records.specs.Summary.{empty}
 use Rattle.ring_records.proofs.Lists.{none≢some}
 use Rattle.ring_records.proofs.Snapshots.{length-empty}
 use Rattle.ring_records.proofs.States.{lawful-asked}
 use Rattle.gated_journal.specs.declared.journal.Journal.{Journal}
-use Rattle.gated_journal.specs.Areas.{ReadsAs, AllReadAs, ReadsAsOneOf}
+use Rattle.gated_journal.specs.Areas.{AllReadAs, ReadsAsOneOf}
 use Rattle.gated_journal.specs.Journal.{device_of, member_of, len_of, room_of, epoch_of, is_spoiled}
 use Rattle.gated_journal.specs.Reading.{Reading, count_in, fresh_area, used_in}
 use Rattle.node_core.specs.Core.{IsNodeOf}
@@ -26,7 +26,7 @@ use Rattle.group_commit.specs.Past.{IsPast}
 use Rattle.group_commit.specs.Ticket.{TicketView}
 use Rattle.group_commit.proofs.Seen.{submitted_seen, lawful_seen}
 use Rattle.node_store.specs.Standing.{ReadsOnce, Stands}
-use Rattle.node_store.specs.State.{Holds, MayBeLeft, area_with, durable_held, flown_held}
+use Rattle.node_store.specs.State.{Holds, MayBeLeft, durable_held, flown_held}
 use Rattle.node_store.proofs.Left.{may_be_left}
 
 -- ---- what a stop leaves
@@ -34,7 +34,7 @@ use Rattle.node_store.proofs.Left.{may_be_left}
 module _ {D : Type 0} {g : Ghosts D} (desk : DeskKept) (journal : Journal D g) (stands : Stands desk journal) where
   -- what every image reads as that a stop may leave
   held : (image : List ℕ) → MayLeave (g.disk (device_of journal)) image → ReadsAsOneOf desk.view.member (durable_held desk) (flown_held desk) image
-  held image may = subst (λ (m : Member). ReadsAsOneOf m (durable_held desk) (flown_held desk) image) stands.named (⊎_elim (λ old. inl old) (λ new. inr new.1) (stands.holds image may))
+  held image may = ⊎_elim (λ old. inl old) (λ new. inr new.1) (rw stands.named at (stands.holds image may))
 
   -- each of these may be left of it
   pub left : (image : List ℕ) → MayLeave (g.disk (device_of journal)) image → MayBeLeft desk image
@@ -89,9 +89,7 @@ module _ {D : Type 0} {g : Ghosts D} (desk : DeskKept) (journal : Journal D g) (
         lawful = λ past of. subst (λ (v : DeskView). IsLawfulState v.member v.state) (sym (submitted_seen q desk new ticket past is of) ∙ ap (seen past) is.next)
             (lawful-asked desk.view.member (seen past desk).state q (stands.lawful past of));
         named = stands.named;
-        holds = λ image may.
-            subst (λ (l : List Input). ReadsOnce (member_of journal) (area_with desk s.base l) (area_with desk (launched_base s) (take s.flying (s.inputs ++ more))) image) (sym durable)
-            (subst (λ (l : List Input). ReadsOnce (member_of journal) (durable_held desk) (area_with desk (launched_base s) l) image) (sym flown) (stands.holds image may));
+        holds = λ image may. rw (durable, flown) (stands.holds image may);
         ready = λ works. let r = stands.ready works in record { idle = r.idle; none = r.none; works = r.works; count = r.count; left = rw durable r.left; area = r.area };
       })
 
@@ -109,7 +107,7 @@ module _ {D : Type 0} {g : Ghosts D} (m : Member) (journal : Journal D g) (run :
         counts = record { durable = omega arith; flying = omega arith; based = omega arith; checkpointed = λ b e. none≢some b e };
         lawful = λ past is. lawful_seen m r.layout r.epoch r.base past r.inputs (length r.inputs) (length r.inputs) is lawful (omega arith) (omega arith);
         named = named;
-        holds = λ image may. inl (subst (λ (l : List Input). ReadsAs (member_of journal) image (record r { inputs = l })) (sym whole) (all image may));
+        holds = λ image may. inl (rw whole (all image may));
         ready = λ _. record { idle = refl; none = refl; works = works; count = count; left = rw whole left; area = area };
       }
 

@@ -42,8 +42,8 @@ module _ {D : Type 0} {g : Ghosts D} where
     pub holds : (image : List ℕ) → MayLeave (g.disk (device_of journal)) image → ReadsOnce (member_of journal) (durable_held desk) (flown_held desk) image
     pub ready : desk.view.failed ≡ false → IsReady desk (is_spoiled journal) (len_of journal) (room_of journal) (epoch_of journal)
 
-  -- The work flies of a desk that has not failed. The journal holds what is durable, and takes the work; with it the journal
-  -- holds what flies too, which is something else, and is ready again.
+  -- The work flies of a desk that has not failed, in a lawful state. The journal holds what is durable, and takes the work;
+  -- with it the journal holds what flies too, which is something else, and is ready again.
   pub record Flies (desk : DeskKept) (journal : Journal D g) (work : Work) : Type 0 where
     pub inside : IsNodeOf desk.view.member.n desk.view.member.node
     pub counts : IsNodeState desk.view.state

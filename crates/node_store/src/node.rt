@@ -1,4 +1,4 @@
-ghost use Rattle.std.specs.Prelude.{◌≡◌, ◌+◌, ◌-◌, ◌⊎◌, ◌||◌, ◌<◌, ◌≤◌, ℕ, Bool, List, length, not, true, false, None, Some, IfOk, IfErr, OnOk, OnErr};
+ghost use Rattle.std.specs.Prelude.{◌≡◌, ◌+◌, ◌-◌, ◌⊎◌, ◌||◌, ◌≤◌, ℕ, Bool, List, length, not, true, false, None, Some, IfOk, IfErr, OnOk, OnErr};
 ghost use Rattle.disk_model.specs.Disk.{MayLeave, LeavesOnly, Reaches, synced};
 ghost use Rattle.ring_records.specs.declared.input.Input.{Input};
 ghost use Rattle.ring_records.specs.Admission.{newest, used};
@@ -13,7 +13,7 @@ ghost use Rattle.gated_journal.specs.Journal as journals;
 ghost use Rattle.gated_journal.specs.Reading.{device_size, fresh_area, is_header};
 ghost use Rattle.gated_journal.specs.Unread.{IsFault, IsUnread};
 ghost use Rattle.node_core.specs.Core.{IsNodeOf};
-ghost use Rattle.group_commit.specs.Desk.{DeskKept, new_desk, core_of, seen, ended, launched, landed};
+ghost use Rattle.group_commit.specs.Desk.{new_desk, core_of, seen, ended, launched, landed};
 ghost use Rattle.group_commit.specs.Desk.{objection, IsAnswer, IsHere, IsSealed, IsSubmitted};
 ghost use Rattle.group_commit.specs.Opening.{IsKnownLawful};
 ghost use Rattle.group_commit.specs.Past.{IsPast};

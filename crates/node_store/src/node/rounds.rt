@@ -18,8 +18,8 @@ use disk_model::Device;
 use gated_journal::{Journal, Receipt, Spoiled, Work};
 use group_commit::{Desk, Landed};
 
-// Makes what flies durable, and tells what that lets the node release. At `Err` the device failed, and so has the desk, of
-// which the work flies for good: how many calls of the device have failed.
+// Makes what flies durable, and tells what that lets the node release. At `Err` the device failed, and the desk with it, so
+// that the work flies for good: how many calls of the device have failed.
 pub(crate) fn settle<D: Device>(
     desk: &mut Desk,
     journal: &mut Journal<D>,

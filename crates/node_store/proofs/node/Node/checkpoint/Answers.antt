@@ -1,11 +1,9 @@
-use Rattle.std.proofs.Common.{◌∙◌, sym, subst, ap}
+use Rattle.std.proofs.Common.{◌∙◌, ap}
 use Rattle.disk_model.proofs.Moments.{started, weaken}
 use Rattle.ring_records.specs.Release.{packets, decisions}
 use Rattle.ring_records.specs.States.{durable_in, flying_in}
 use Rattle.ring_records.proofs.Admission.{or_else-none}
-use Rattle.gated_journal.specs.Journal as journals
-use Rattle.group_commit.specs.Desk.{DeskKept, DeskView, launch_objection}
-use Rattle.node_store.specs.State.{MayBeLeft}
+use Rattle.group_commit.specs.Desk.{DeskView, launch_objection}
 use Rattle.node_store.proofs.Flight.{unbegun, no_fault, checkpoint_flies, summed}
 use Rattle.node_store.proofs.Standing.{left}
 use Rattle.node_store.proofs.node.Node.checkpoint.Goals as goal

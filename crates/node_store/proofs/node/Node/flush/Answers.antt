@@ -1,13 +1,11 @@
-use Rattle.std.proofs.Common.{◌∙◌, sym, subst, ap}
+use Rattle.std.proofs.Common.{◌∙◌, sym, ap}
 use Rattle.disk_model.proofs.Moments.{started}
 use Rattle.ring_records.specs.History.{taken}
 use Rattle.ring_records.specs.Lists.{found_after}
 use Rattle.ring_records.specs.Release.{packets, decisions, carries, credits}
 use Rattle.ring_records.specs.States.{durable_in, flying_in}
-use Rattle.gated_journal.specs.Journal as journals
-use Rattle.group_commit.specs.Desk.{DeskKept, DeskView, seen}
+use Rattle.group_commit.specs.Desk.{DeskView, seen}
 use Rattle.group_commit.proofs.Seen.{launched_seen}
-use Rattle.node_store.specs.State.{MayBeLeft, until}
 use Rattle.node_store.proofs.Flight.{batch_flies, durable_all, launch_refused, none_behind, none_launched, works}
 use Rattle.node_store.proofs.Standing.{left}
 use Rattle.node_store.proofs.node.Node.flush.Goals as goal

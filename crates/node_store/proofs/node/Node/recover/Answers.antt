@@ -1,14 +1,10 @@
-use Rattle.std.proofs.Common.{◌≡◌, ◌-◌, ⊎_elim, inl, inr, sym, ap, ◌∙◌, subst, arith}
+use Rattle.std.proofs.Common.{◌≡◌, ◌-◌, ⊎_elim, inl, inr, ap, ◌∙◌, arith}
 use Rattle.disk_model.specs.Disk.{Disk}
 use Rattle.ring_records.specs.Member.{member}
-use Rattle.gated_journal.specs.Areas.{ReadsAs, AllReadAs}
 use Rattle.gated_journal.specs.Journal as journals
 use Rattle.gated_journal.specs.Reading.{reading_of_opening, used_in}
 use Rattle.gated_journal.specs.Unread.{IsFault}
-use Rattle.group_commit.specs.Desk.{DeskKept, new_desk}
-use Rattle.node_store.specs.Standing.{Stands}
-use Rattle.node_store.specs.State.{Holds, all_held}
-use Rattle.node_store.proofs.Recovered.{kept_by, short_only, not_opened, short_or_not, still_holds, same_image, holds_again, no_fault, capacity_again, made_again, named_again, lawful_made, as_made}
+use Rattle.node_store.proofs.Recovered.{kept_by, short_only, not_opened, short_or_not, still_holds, same_image, holds_again, no_fault, capacity_again, made_again, named_again}
 use Rattle.node_store.proofs.Standing.{opens}
 use Rattle.node_store.proofs.node.Node.recover.Goals as goal
 
@@ -45,27 +41,22 @@ pub returns-in-Err-clause-works : goal.returns-in-Err-clause-works
 returns-in-Err-clause-works g c = λ reach. ⊎_elim (λ short. inl short) (λ unread. inr (inl unread)) (c.in-Err.ensures.works reach)
 
 pub returns-in-Ok-open-clause-desk : goal.returns-in-Ok-open-clause-desk
-returns-in-Ok-open-clause-desk g c =
-    let desk = c.in-Ok-open.ensures.desk in
-    desk ∙ ap (λ (d : DeskKept). new_desk (member c.args.node c.args.n d.view.member.capacity) c.args.run (all_held d)) (sym desk)
+returns-in-Ok-open-clause-desk g c = rw c.in-Ok-open.ensures.desk
 
 pub returns-in-Ok-open-clause-lawful : goal.returns-in-Ok-open-clause-lawful
-returns-in-Ok-open-clause-lawful g c =
-    lawful_made c.args.node c.args.n c.capacity.result c.args.run (reading_of_opening c.in-Ok.opening) c.in-Ok-open.desk c.in-Ok-open.ensures.desk c.in-Ok.ensures.sound c.in-Ok-open.ensures.lawful
+returns-in-Ok-open-clause-lawful g c = rw c.in-Ok-open.ensures.desk (c.in-Ok.ensures.sound, c.in-Ok-open.ensures.lawful)
 
 pub returns-in-Ok-open-clause-reads : goal.returns-in-Ok-open-clause-reads
 returns-in-Ok-open-clause-reads g c =
     let read = c.in-Ok.ensures in
-    let image = (g.D.Device.disk c.args.device).image in
-    as_made (λ m r. ReadsAs m image r) c.args.node c.args.n c.capacity.result c.args.run (journals.member_of c.in-Ok.journal) (reading_of_opening c.in-Ok.opening) c.in-Ok-open.desk
-    read.header.0 read.header.1 c.capacity.ensures.value c.in-Ok-open.ensures.desk read.reads
+    let named = named_again c.args.node c.args.n c.capacity.result (journals.member_of c.in-Ok.journal) read.header.0 read.header.1 c.capacity.ensures.value in
+    rw c.in-Ok-open.ensures.desk (rw named at read.reads)
 
 pub returns-in-Ok-open-clause-durable : goal.returns-in-Ok-open-clause-durable
 returns-in-Ok-open-clause-durable g c =
     let read = c.in-Ok.ensures in
-    let disk = g.D.Device.disk (journals.device_of c.in-Ok.journal) in
-    as_made (λ m r. AllReadAs m disk r) c.args.node c.args.n c.capacity.result c.args.run (journals.member_of c.in-Ok.journal) (reading_of_opening c.in-Ok.opening) c.in-Ok-open.desk
-    read.header.0 read.header.1 c.capacity.ensures.value c.in-Ok-open.ensures.desk read.durable
+    let named = named_again c.args.node c.args.n c.capacity.result (journals.member_of c.in-Ok.journal) read.header.0 read.header.1 c.capacity.ensures.value in
+    rw c.in-Ok-open.ensures.desk (rw named at read.durable)
 
 pub returns-in-Ok-open-clause-recovery : goal.returns-in-Ok-open-clause-recovery
 returns-in-Ok-open-clause-recovery g c = λ capacity s lawful holds.
@@ -89,7 +80,7 @@ returns-in-Err-open-clause-recovery_err g c = λ capacity s lawful holds.
     let held = holds_again header other s (g.D.Device.disk (journals.device_of c.in-Ok.journal)) found.1.0 r found.0 found.1.1 c.in-Ok.ensures.durable in (
       short_only c.args.node c.args.n capacity c.capacity.result s found.1.0 r why
           (IsFault (g.D.Device.count c.args.device) (g.D.Device.count c.into_device.result) why) capacity_is found.1.1 lawful c.in-Err-open.ensures.refusal,
-      subst (λ (d : g.row.D.Denot). Holds header (g.D.Device.disk d) s) (sym c.into_device.ensures) held,
+      rw c.into_device.ensures held,
     )
 
 pub returns-in-Ok-open-clause-image : goal.returns-in-Ok-open-clause-image

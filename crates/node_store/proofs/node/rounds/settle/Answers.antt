@@ -1,8 +1,5 @@
-use Rattle.std.proofs.Common.{sym, subst}
 use Rattle.disk_model.proofs.Moments.{weaken, now}
 use Rattle.gated_journal.specs.Journal.{device_of}
-use Rattle.group_commit.specs.Desk.{DeskKept}
-use Rattle.node_store.specs.Standing.{Stands}
 use Rattle.node_store.specs.State.{durable_held}
 use Rattle.node_store.proofs.Flight.{moment, landed_all, lands, breaks}
 use Rattle.node_store.proofs.node.rounds.settle.Goals as goal
