@@ -1,5 +1,6 @@
 //! The program `ringd`, over readers and writers.
 ghost use Rattle.std.specs.Prelude.{◌≡◌, length};
+ghost use Rattle.ring_records.specs.declared.limits.TheConstants.{DOORS};
 ghost use Rattle.ring_service.specs.Words.{IsIn};
 ghost use Rattle.ring_server.specs.Fits.{found_as, IsInOrder, Fits};
 
@@ -96,7 +97,7 @@ where
         + Clock
         + Files<File = File>
         + Net<Listener = TcpListener, Stream = TcpStream>,
-    requires { IsIn 1 32 words.now.doors }
+    requires { IsIn 1 DOORS words.now.doors }
 {
     let settings = take_settings(rt, alloc, words.settings, settings)?;
     if print_settings(out, &settings).is_err() {
@@ -255,7 +256,7 @@ where
         + Clock
         + Files<File = File>
         + Net<Listener = TcpListener, Stream = TcpStream>,
-    requires { IsIn 1 32 words.now.doors }
+    requires { IsIn 1 DOORS words.now.doors }
 {
     // Its lock is held until the last node has ended.
     let folder = open_folder(rt, settings)?;

@@ -1,5 +1,6 @@
 //! What a node serves with.
 ghost use Rattle.std.specs.Prelude.{◌≡◌, ◌+◌, ◌≤◌};
+ghost use Rattle.ring_records.specs.declared.limits.TheConstants.{DOORS};
 ghost use Rattle.commit_hub.specs.Pages.{places_of};
 
 use crate::open_node::OpenNode;
@@ -7,7 +8,7 @@ use commit_hub::Blanks;
 use crossbeam_channel::Receiver;
 use decision_board::Opened;
 use disk_model::Device;
-use ring_records::{NodeNo, Packet};
+use ring_records::{DOORS, NodeNo, Packet};
 use ring_watch::Inquiry;
 use std::alloc::Global;
 use std::net::TcpListener;
@@ -19,14 +20,14 @@ pub struct Doors {
     pub(crate) count: u32,
     pub(crate) sessions: u64,
     pub(crate) idle: Option<Duration>,
-    ghost range: { (1 ≤ count) × (count ≤ 32) },
+    ghost range: { (1 ≤ count) × (count ≤ DOORS) },
 }
 
 impl Doors {
     /// So many doors, 1 to 32, which serve so many sessions together, or sessions without end. A session ends where its
     /// client sends nothing for so many seconds, or takes no answer for as long; 0 is for ever.
     pub fn new(count: u32, sessions: Option<u32>, idle: u32) -> Doors
-        requires { (1 ≤ count) × (count ≤ 32) }
+        requires { (1 ≤ count) × (count ≤ DOORS) }
     {
         Doors {
             count,
@@ -62,7 +63,7 @@ pub struct Site<V: Device> {
     pub(crate) blanks: Blanks,
     pub(crate) history: Opened,
     ghost places: { places_of blanks ≡ entrance.doors.count + 1 },
-    ghost few: { (1 ≤ readers) × (readers ≤ 32) },
+    ghost few: { (1 ≤ readers) × (readers ≤ DOORS) },
 }
 
 impl<V: Device> Site<V> {
@@ -76,7 +77,7 @@ impl<V: Device> Site<V> {
         doors: Doors,
         asked: Option<Receiver<Inquiry>>,
     ) -> Site<V> {
-        let asked = if doors.count < 32 { asked } else { None };
+        let asked = if doors.count < DOORS { asked } else { None };
         let readers = doors.count + u32::from(asked.is_some());
         Site {
             alloc,

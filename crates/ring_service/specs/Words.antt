@@ -1,6 +1,7 @@
 -- The words of ringd.
 use Rattle.std.specs.Prelude.{ℕ, Bool, true, false, ◌≡◌, ◌≤◌, List, [], ◌∷◌, Option, Some, None, IsSomeAnd, pos, unwrap_or, codes}
 use Rattle.std.specs.Str.Parse.{IsNumeral, digits_value, without_leading_plus}
+use Rattle.ring_records.specs.declared.limits.TheConstants.{DOORS}
 use Rattle.clap.specs.Words.{App, HasMatchesOf, Rule, first_value, found_of, new_app, new_rule, one_text, with_rule}
 use Rattle.clap.specs.declared.builder.action.ArgAction.TheVariants.{SetTrue}
 use Rattle.clap.specs.declared.builder.value_parser.ValueParser.TheVariants as parser
@@ -36,7 +37,7 @@ abbrev pub ringd_app : App
 ringd_app =
     let served = with_rule (with_rule (with_version (new_app (codes "ringd"))) settings_rule) (number_rule (codes "serve") 1 1000) in
     let flags = with_rule (with_rule (with_rule served always_rule) (flag_rule (codes "existing"))) (flag_rule (codes "fail-stop")) in
-    let numbers = with_rule (with_rule (with_rule flags make_rule) (number_rule (codes "doors") 1 32)) (number_rule (codes "idle") 0 86400) in
+    let numbers = with_rule (with_rule (with_rule flags make_rule) (number_rule (codes "doors") 1 DOORS)) (number_rule (codes "idle") 0 86400) in
     with_rule numbers (number_rule (codes "status") 1 65535)
 
 abbrev pub IsIn : ℕ → ℕ → ℕ → Type 0
@@ -70,6 +71,6 @@ pub record AreTold (words : List (List ℕ)) (told : Words) : Type 0 where
   pub makes : Flag (one_text (found_of matches) (codes "make")) told.make
   pub existing : Flag (one_text (found_of matches) (codes "existing")) told.existing
   pub fail_stop : Flag (one_text (found_of matches) (codes "fail-stop")) told.fail_stop
-  pub side_by_side : IsSaid 1 32 1 (one_text (found_of matches) (codes "doors")) told.doors
+  pub side_by_side : IsSaid 1 DOORS 1 (one_text (found_of matches) (codes "doors")) told.doors
   pub silence : IsSaid 0 86400 0 (one_text (found_of matches) (codes "idle")) told.idle
   pub told_at : IsMatched 1 65535 (one_text (found_of matches) (codes "status")) told.status

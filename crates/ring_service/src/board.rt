@@ -1,6 +1,7 @@
 //! The board of a node that is opened.
 ghost use Rattle.std.specs.Prelude.{◌≡◌, ◌≤◌, [], List, IfOk, IfErr};
 ghost use Rattle.ring_records.specs.declared.input.Input.{Input};
+ghost use Rattle.ring_records.specs.declared.limits.TheConstants.{DOORS};
 ghost use Rattle.ring_records.specs.States.{durable_in};
 ghost use Rattle.ring_records.specs.Release.{AreLeaders};
 ghost use Rattle.group_commit.specs.Desk.{seen};
@@ -21,7 +22,7 @@ pub fn opened_board<J: Naming>(
     readers: usize,
 ) -> Result<Board<J>, Refusal>
     requires history { opened ≡ J.book }
-    requires readers { (1 ≤ readers) × (readers ≤ 32) }
+    requires readers { (1 ≤ readers) × (readers ≤ DOORS) }
     ensures leaders { IfOk result (λ board. (past : List Input) → IsPast desk.now.view.member desk.now.opening past
         → AreLeaders desk.now.view.member.node (durable_in (seen past desk.now).state) (published board)) }
     ensures pending { IfOk result (λ board. pending board ≡ []) }

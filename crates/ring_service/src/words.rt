@@ -1,11 +1,13 @@
 //! The words of `ringd`.
-ghost use Rattle.std.specs.Prelude.{◌≡◌, ◌≤◌, ◌||◌, false, nat_le, is_none, Option, Some, None, IfOk, IfSome, map, codes, unwrap_or};
+ghost use Rattle.std.specs.Prelude.{◌≡◌, ◌<◌, ◌≤◌, ◌||◌, false, nat_lt, is_none, Option, Some, None, IfOk, IfSome, map, codes, unwrap_or};
+ghost use Rattle.ring_records.specs.declared.limits.TheConstants.{DOORS};
 ghost use Rattle.clap.specs.Words.{app_of, first_value, found_of, one_text, rule_of, with_rule};
 ghost use Rattle.ring_service.specs.Words.{AreTold, Flag, IsIn, IsMatched, IsSaid};
 ghost use Rattle.ring_service.specs.Words.{always_rule, flag_rule, make_rule, number_rule, ringd_app, settings_rule};
 
 use clap::error::ErrorKind;
 use clap::{Arg, ArgAction, ArgMatches, Command, Error, value_parser};
+use ring_records::DOORS;
 use std::alloc::{AllocError, Global};
 
 /// The version of the program.
@@ -41,8 +43,8 @@ pub struct Words<'a> {
 pub fn read_words<'a>(alloc: Global, words: &'a [&'a str]) -> Result<Words<'a>, Error>
     ensures told { IfOk result (λ w. AreTold (map (λ word. word.now) words.now) w) }
     ensures range { IfOk result (λ w. IfSome w.serve (IsIn 1 1000)) }
-    ensures doors { IfOk result (λ w. IsIn 1 32 w.doors) }
-    ensures port { IfOk result (λ w. IfSome w.status (λ port. (1 ≤ port) × (w.doors ≤ 31))) }
+    ensures doors { IfOk result (λ w. IsIn 1 DOORS w.doors) }
+    ensures port { IfOk result (λ w. IfSome w.status (λ port. (1 ≤ port) × (w.doors < DOORS))) }
 {
     let mut command = command(alloc)?;
     let matches = command.try_get_matches_from_mut(words)?;
@@ -135,7 +137,7 @@ fn make_arg<'a>(alloc: Global) -> Result<Arg<'a>, AllocError>
 
 /// `--doors S`
 fn doors_arg<'a>(alloc: Global) -> Arg<'a>
-    ensures rule { rule_of result ≡ number_rule (codes "doors") 1 32 }
+    ensures rule { rule_of result ≡ number_rule (codes "doors") 1 DOORS }
     ensures local { result.global ≡ false }
 {
     Arg::new(alloc, "doors")
@@ -143,7 +145,7 @@ fn doors_arg<'a>(alloc: Global) -> Arg<'a>
         .value_name("S")
         .help_heading("Sessions")
         .help("Serves S sessions side by side at each node, 1 to 32; 1 where it is not said")
-        .value_parser(value_parser!(u32).range(1..=32))
+        .value_parser(value_parser!(u32).range(1..=i64::from(DOORS)))
 }
 
 /// `--idle SECONDS`
@@ -234,9 +236,9 @@ fn port(matches: &ArgMatches<'_>) -> Result<Option<u16>, ErrorKind>
 
 /// Whether the doors leave a place for who tells of the ring, where that is asked for.
 fn have_place(doors: u32, status: Option<u16>) -> bool
-    ensures { result ≡ (is_none status || nat_le doors 31) }
+    ensures { result ≡ (is_none status || nat_lt doors DOORS) }
 {
-    status.is_none() || doors <= 31
+    status.is_none() || doors < DOORS
 }
 
 /// What is matched.
@@ -247,19 +249,19 @@ fn words_of<'a>(matches: &ArgMatches<'a>) -> Result<Words<'a>, ErrorKind>
     ensures make { IfOk result (λ w. Flag (one_text (found_of matches.now) (codes "make")) w.make) }
     ensures existing { IfOk result (λ w. Flag (one_text (found_of matches.now) (codes "existing")) w.existing) }
     ensures fail_stop { IfOk result (λ w. Flag (one_text (found_of matches.now) (codes "fail-stop")) w.fail_stop) }
-    ensures doors { IfOk result (λ w. IsSaid 1 32 1 (one_text (found_of matches.now) (codes "doors")) w.doors) }
+    ensures doors { IfOk result (λ w. IsSaid 1 DOORS 1 (one_text (found_of matches.now) (codes "doors")) w.doors) }
     ensures idle { IfOk result (λ w. IsSaid 0 86400 0 (one_text (found_of matches.now) (codes "idle")) w.idle) }
     ensures range { IfOk result (λ w. IfSome w.serve (IsIn 1 1000)) }
-    ensures side_by_side { IfOk result (λ w. IsIn 1 32 w.doors) }
+    ensures side_by_side { IfOk result (λ w. IsIn 1 DOORS w.doors) }
     ensures status { IfOk result (λ w. IsMatched 1 65535 (one_text (found_of matches.now) (codes "status")) w.status) }
-    ensures port { IfOk result (λ w. IfSome w.status (λ port. (1 ≤ port) × (w.doors ≤ 31))) }
+    ensures port { IfOk result (λ w. IfSome w.status (λ port. (1 ≤ port) × (w.doors < DOORS))) }
 {
     let settings = match matches.get_str("settings") {
         Some(path) => path,
         None => "-",
     };
     let serve = number(matches, "serve", 1, 1000)?;
-    let doors = number(matches, "doors", 1, 32)?;
+    let doors = number(matches, "doors", 1, DOORS)?;
     let idle = number(matches, "idle", 0, 86_400)?;
     let status = port(matches)?;
     let doors = doors.unwrap_or(1);
