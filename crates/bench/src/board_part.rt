@@ -6,7 +6,7 @@ use crate::locked::{Leaders, Lock, Locked};
 use crate::race::{Latest, Publisher, Reader, decision, first_decisions, race};
 use crate::words::{next_amount, next_word};
 use decision_board::{Board, BoardReader, Naming, Opened, is_reader_count};
-use ring_records::{Decision, GroupName, Refusal};
+use ring_records::{Decision, GroupName, Notice, Refusal};
 use std::alloc::Global;
 use std::env::Args;
 use std::marker::Brand;
@@ -78,7 +78,7 @@ struct Poster<'r, 'b, J: Naming, R: Wait> {
 
 impl<'r, 'b, J: Naming, R: Wait> Publisher for Poster<'r, 'b, J, R> {
     fn publish(&mut self, decision: Decision) -> Result<(), Refusal> {
-        self.board.append(decision)?;
+        self.board.append(Notice::Decided(decision))?;
         self.board.publish(self.rt)
     }
 }
@@ -87,6 +87,18 @@ impl<J: Naming> Reader for BoardReader<J> {
     fn latest(&mut self, group: &GroupName) -> Latest {
         BoardReader::latest(self, group)
     }
+}
+
+/// What is published before anyone reads.
+fn first_notices(alloc: Global) -> Result<Vec<Notice>, Refusal> {
+    let mut notices = Vec::new(alloc);
+    for decision in &first_decisions(alloc)? {
+        match notices.push(Notice::Decided(*decision)) {
+            Ok(()) => {}
+            Err(_) => return Err(Refusal::OutOfMemory),
+        }
+    }
+    Ok(notices)
 }
 
 /// How often the readers of a board find a leader.
@@ -98,8 +110,8 @@ fn shared<J: Naming + Send + Sync, R: Threads + Wait + Sync>(
 ) -> Result<u64, Refusal>
     requires { opened ≡ J.book }
 {
-    let decisions = first_decisions(alloc)?;
-    let mut board: Board<J> = Board::new(alloc, opened, &decisions, load.readers)?;
+    let notices = first_notices(alloc)?;
+    let mut board: Board<J> = Board::new(alloc, opened, &notices, load.readers)?;
     let found = read_board(rt, alloc, &mut board, load);
     board.end(rt);
     found
@@ -158,7 +170,7 @@ fn append<J: Naming, R: Wait>(
 fn append_all<J: Naming, R: Wait>(rt: &R, board: &mut Board<J>, keys: u32) -> Result<u32, Refusal> {
     let mut publishes = 0u32;
     for index in 0..keys {
-        board.append(decision(index)?)?;
+        board.append(Notice::Decided(decision(index)?))?;
         if index % PIECE == PIECE - 1 {
             board.publish(rt)?;
             publishes = publishes.saturating_add(1);

@@ -1,9 +1,9 @@
 // A board and its readers by calls.
 ghost use Rattle.std.specs.Prelude.{◌≡◌};
 
-use crate::rows::{Latest, decision, key, term_and_leader};
+use crate::rows::{Latest, decision, key, notices, term_and_leader};
 use decision_board::{Board, BoardReader, Naming, Opened, is_reader_count};
-use ring_records::{Candidate, Decision, Key, Refusal};
+use ring_records::{Candidate, Decision, Key, Notice, Refusal};
 use std::alloc::Global;
 use std::marker::Brand;
 use std::sync::Wait;
@@ -16,7 +16,7 @@ fn publish_all<J: Naming, R: Wait>(
     decisions: &[Decision],
 ) -> Result<(), Refusal> {
     for decision in decisions {
-        board.append(*decision)?;
+        board.append(Notice::Decided(*decision))?;
     }
     board.publish(rt)
 }
@@ -39,7 +39,8 @@ fn read_around<J: Naming, R: Wait>(
 ) -> Result<Reads, Refusal>
     requires { opened ≡ J.book }
 {
-    let mut board: Board<J> = Board::new(alloc, opened, std::slice::from_ref(old), 1)?;
+    let opening = Notice::Decided(*old);
+    let mut board: Board<J> = Board::new(alloc, opened, std::slice::from_ref(&opening), 1)?;
     let place = board.reader();
     let Ok(mut reader) = place else {
         board.end(rt);
@@ -47,7 +48,7 @@ fn read_around<J: Naming, R: Wait>(
     };
     let group = &new.key.group;
     let before = reader.latest(group);
-    let done = board.append(*new);
+    let done = board.append(Notice::Decided(*new));
     let appended = reader.latest(group);
     let shown = board.publish(rt);
     reader.learn(board.tell());
@@ -98,7 +99,8 @@ fn read_all<J: Naming, R: Wait>(
 ) -> Result<Answers, Refusal>
     requires { opened ≡ J.book }
 {
-    let mut board: Board<J> = Board::new(alloc, opened, opening, 32)?;
+    let told = notices(alloc, opening)?;
+    let mut board: Board<J> = Board::new(alloc, opened, &told, 32)?;
     let place = board.reader();
     let Ok(mut reader) = place else {
         board.end(rt);

@@ -1,7 +1,7 @@
 // The groups of a board, one by one.
 ghost use Rattle.std.specs.Prelude.{◌≡◌};
 
-use crate::rows::decision;
+use crate::rows::{decision, notices};
 use decision_board::{Board, Naming, Opened};
 use ring_records::{Decision, Refusal};
 use std::alloc::Global;
@@ -31,7 +31,8 @@ fn read_behind<J: Naming, R: Wait>(
 ) -> Result<Walk, Refusal>
     requires { opened ≡ J.book }
 {
-    let board: Board<J> = Board::new(alloc, opened, decisions, 1)?;
+    let told = notices(alloc, decisions)?;
+    let board: Board<J> = Board::new(alloc, opened, &told, 1)?;
     let place = board.reader();
     let Ok(mut reader) = place else {
         board.end(rt);

@@ -1,4 +1,4 @@
-//! The tests of a board: by calls, with refused growths, and with readers in threads of their own.
+//! The tests of a board: by calls, with floors, with refused growths, and with readers in threads of their own.
 #![tactic(auto)]
 
 #[cfg(test)]
@@ -7,6 +7,8 @@ mod calls;
 mod groups;
 #[cfg(test)]
 mod growths;
+#[cfg(test)]
+mod retired;
 #[cfg(test)]
 mod rows;
 #[cfg(test)]

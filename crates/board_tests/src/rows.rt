@@ -1,5 +1,6 @@
-// Decisions as plain numbers.
-use ring_records::{Candidate, Decision, Key, Refusal, Term};
+// Decisions and notices as plain numbers.
+use ring_records::{Candidate, Decision, Key, Notice, Refusal, Term};
+use std::alloc::Global;
 use std::process::Abort;
 
 /// The key of this group and term.
@@ -12,6 +13,18 @@ pub fn decision(rt: &impl Abort, group: &str, term: u32, node: u8, bid: u32) -> 
     let key = key(rt, group, term);
     let leader = test_rows::candidate(bid, node).expect(rt, "a candidate");
     Decision { key, leader }
+}
+
+/// The notices of these decisions.
+pub fn notices(alloc: Global, decisions: &[Decision]) -> Result<Vec<Notice>, Refusal> {
+    let mut notices = Vec::new(alloc);
+    for decision in decisions {
+        match notices.push(Notice::Decided(*decision)) {
+            Ok(()) => {}
+            Err(_) => return Err(Refusal::OutOfMemory),
+        }
+    }
+    Ok(notices)
 }
 
 /// What a read of the latest leader answers.

@@ -3,7 +3,7 @@ ghost use Rattle.std.specs.Prelude.{◌≡◌};
 
 use crate::rows::{Latest, decision, term_and_leader};
 use decision_board::{Board, BoardReader, Naming, Opened};
-use ring_records::{Decision, GroupName, Key, Refusal, Term};
+use ring_records::{Decision, GroupName, Key, Notice, Refusal, Term};
 use std::alloc::Global;
 use std::marker::Brand;
 use std::sync::Wait;
@@ -18,7 +18,7 @@ fn publish_one<J: Naming, R: Wait>(
     board: &mut Board<J>,
     decision: &Decision,
 ) -> Result<(), Refusal> {
-    board.append(*decision)?;
+    board.append(Notice::Decided(*decision))?;
     board.publish(rt)
 }
 

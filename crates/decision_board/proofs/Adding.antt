@@ -1,21 +1,21 @@
--- The exchange that adds a decision keeps the rule of the history.
+-- The exchange that adds a notice keeps the rule of the history.
 use Rattle.std.proofs.Common.{◌≡◌, ℕ, ◌+◌, ◌<◌, ◌==◌, Bool, true, false, List, [], ◌∷◌, ◌++◌, length, refl, ap, sym, subst, arith, inl, length-append, None}
 use Rattle.std.proofs.lemmas.List.{append-nil}
 use Rattle.std.proofs.lemmas.Bool.Decides.{nat_tests}
 use mathlib.Core.List.{IsPrefix}
 use prog.Atomic.{either}
 use Rattle.logbook.specs.Pages.{Cell, cell, keeps, no_nib, step, Moves, Goes}
-use Rattle.ring_records.specs.declared.decision.Decision.{Decision}
+use Rattle.ring_records.specs.declared.notice.Notice.{Notice}
 use Rattle.ring_records.proofs.Prefixes.{prefix_whole}
 use Rattle.decision_board.specs.History.{IsCounted, Adds}
 
-abbrev pub shown : List Decision → List Decision
+abbrev pub shown : List Notice → List Notice
 shown log = []
 
-abbrev pub moved : List Decision → List Decision → ℕ → Type 0
+abbrev pub moved : List Notice → List Notice → ℕ → Type 0
 moved xs ys n = Unit {0}
 
-pub adds_goes : (log v : List Decision) (d : Decision) (old : ℕ) → length v ≡ old → IsPrefix v log
+pub adds_goes : (log v : List Notice) (d : Notice) (old : ℕ) → length v ≡ old → IsPrefix v log
     → (b : Bool) → (length log == old) ≡ b
     → Goes IsCounted shown moved 0 (v, (no_nib, None)) (λ n. either (n == old) (old + 1) n) (Adds (step 0 old (old + 1) d) (v, (no_nib, None))) ((length log, true) ∷ (0, true) ∷ []) log
 adds_goes log v d old len pre true is =
@@ -42,8 +42,8 @@ adds_goes log v d old len pre false is =
       rw is (ap length all),
     )
 
--- whatever the book is, the exchange adds the decision to all that was seen, or finds that the history is longer
-pub adds_moves : (v : List Decision) (d : Decision) (old : ℕ) → length v ≡ old
+-- whatever the book is, the exchange adds the notice to all that was seen, or finds that the history is longer
+pub adds_moves : (v : List Notice) (d : Notice) (old : ℕ) → length v ≡ old
     → Moves IsCounted shown moved 0 (v, (no_nib, None)) (λ n. either (n == old) (old + 1) n) (Adds (step 0 old (old + 1) d) (v, (no_nib, None)))
 adds_moves v d old len cs log kept pre away =
     let P : List Cell → Type 0 = λ c. (0 < length c) × ((cell c 0).1 ≡ true) × Goes IsCounted shown moved 0

@@ -15,8 +15,9 @@ use Rattle.ring_records.specs.declared.key.Key.{Key}
 use Rattle.ring_records.specs.KeyOrder.{key_cmp}
 use Rattle.ring_records.proofs.KeyRange.{key_at}
 use Rattle.ring_records.specs.declared.decision.Decision.{Decision}
-use Rattle.ring_records.specs.Content.{leads_in}
-use Rattle.decision_board.specs.Leaders.{LeaderMap, HaveTerms, HasTerm, leads, start_of, AreOf}
+use Rattle.ring_records.specs.declared.notice.Notice.{Notice}
+use Rattle.ring_records.specs.Notices.{leads_in}
+use Rattle.decision_board.specs.Leaders.{LeaderMap, FloorMap, HaveTerms, HasTerm, leads, start_of, AreOf}
 use Rattle.decision_board.specs.Next.{IsBehind, IsFirstLed, IsNext}
 use Rattle.decision_board.proofs.Maps.{get_is, latest_of}
 
@@ -73,11 +74,10 @@ module _ (m : BTreeMap Key Candidate) (have : HaveTerms (map.from_entries {R = k
         (e.0.term, some),
       )
 
--- by the leaders that the decisions name
-pub next_same : (m : LeaderMap) (ds : List Decision) (after : Option (List ℕ)) (o : Option Decision) → AreOf m ds → IsNext (leads m) after o → IsNext (leads_in ds) after o
-unfolding AreOf
-next_same m ds after None are is = λ group behind these term. sym (are (key_at group term)) ∙ is group behind these term
-next_same m ds after (Some d) are is = (
-  record { behind = is.0.behind; before = λ group behind less term. sym (are (key_at group term)) ∙ is.0.before group behind less term },
-  latest_of m ds d.key.group (Some (d.key.term, d.leader)) are is.1,
+-- by the leaders that the notices name
+pub next_same : (m : LeaderMap) (f : FloorMap) (ns : List Notice) (after : Option (List ℕ)) (o : Option Decision) → AreOf m f ns → IsNext (leads m) after o → IsNext (leads_in ns) after o
+next_same m f ns after None are is = λ group behind these term. sym (are.keys (key_at group term)) ∙ is group behind these term
+next_same m f ns after (Some d) are is = (
+  record { behind = is.0.behind; before = λ group behind less term. sym (are.keys (key_at group term)) ∙ is.0.before group behind less term },
+  latest_of m f ns d.key.group (Some (d.key.term, d.leader)) are is.1,
 )

@@ -6,7 +6,7 @@ use lib.ListN.{get_elem?}
 use Rattle.crossbeam_utils.specs.Register.{Admits, TurnsAt}
 use Rattle.atomic_table.proofs.Lists.{at_set, at_snoc}
 use Rattle.logbook.specs.Pages.{Book}
-use Rattle.ring_records.specs.declared.decision.Decision.{Decision}
+use Rattle.ring_records.specs.declared.notice.Notice.{Notice}
 use Rattle.ring_records.proofs.Prefixes.{prefix_self, prefix_trans}
 use Rattle.decision_board.specs.declared.store.Store.{Store}
 use Rattle.decision_board.specs.Posts.{IsPosted, Keeps, Shows}
@@ -15,7 +15,7 @@ use Rattle.decision_board.specs.Posts.{IsPosted, Keeps, Shows}
 pub admits : (book : Book) → Admits (Keeps book) []
 admits book x views h = (h.0, λ seat v at. ⊎_elim (h.1 seat v) (λ (e : [] ≡ v). subst (λ w. IsPrefix w x.front.seen.log) e (x.front.seen.log, refl)) (at_snoc views [] v seat at))
 
-pub steps : (book : Book) (seat : ℕ) (v : List Decision) (x y : Store) → (IsPosted book x → IsPosted book y) → IsPrefix x.front.seen.log y.front.seen.log → TurnsAt (Keeps book) seat v x y (Shows book)
+pub steps : (book : Book) (seat : ℕ) (v : List Notice) (x y : Store) → (IsPosted book x → IsPosted book y) → IsPrefix x.front.seen.log y.front.seen.log → TurnsAt (Keeps book) seat v x y (Shows book)
 steps book seat v x y stays up views h at =
     let posted = stays h.0 in
     let ds = y.front.seen.log in (

@@ -1,15 +1,15 @@
 -- The rule of the history, and what its steps tell.
 use Rattle.std.specs.Prelude.{ℕ, ◌≡◌, ◌==◌, true, List, [], ◌∷◌, ◌++◌, length, MatchBool}
 use Rattle.logbook.specs.Pages.{Cell, Step, View, Book, Named}
-use Rattle.ring_records.specs.declared.decision.Decision.{Decision}
+use Rattle.ring_records.specs.declared.notice.Notice.{Notice}
 
 -- the first word is the length of the history. A book has two words, of which this one leaves the second at 0
-abbrev pub IsCounted : List Cell → List Decision → Type 0
+abbrev pub IsCounted : List Cell → List Notice → Type 0
 IsCounted cells log = cells ≡ (length log, true) ∷ (0, true) ∷ []
 
 abbrev pub head_of : Book → Named
 head_of b = record { tracked = true; key = 0; book = b }
 
--- the decision was added to all that had been seen; or the history was longer, and was seen
-abbrev pub Adds : Step Decision → View Decision ℕ → ℕ → View Decision ℕ → Type 0
+-- the notice was added to all that had been seen; or the history was longer, and was seen
+abbrev pub Adds : Step Notice → View Notice ℕ → ℕ → View Notice ℕ → Type 0
 Adds s v found w = MatchBool (found == s.old) (w.0 ≡ v.0 ++ s.ask ∷ []) (length w.0 ≡ found)

@@ -1,23 +1,23 @@
 -- What a copy of the board keeps, and what it becomes.
 use Rattle.std.specs.Prelude.{◌≡◌, List, [], ◌∷◌, ◌++◌, map}
 use Rattle.logbook.specs.Pages.{Book}
-use Rattle.ring_records.specs.declared.decision.Decision.{Decision}
+use Rattle.ring_records.specs.declared.notice.Notice.{Notice}
 use Rattle.decision_board.specs.declared.history.Front.{Front}
 use Rattle.decision_board.specs.declared.store.Store.{Store}
 use Rattle.decision_board.specs.declared.store.Entry.{Entry}
-use Rattle.decision_board.specs.Leaders.{LeaderMap, put}
+use Rattle.decision_board.specs.Leaders.{LeaderMap, FloorMap, taken_in}
 
--- its leaders, and the beginning of the history that they stand for
-abbrev pub state_of : Store → LeaderMap × Front
-state_of store = (store.leaders, store.front)
+-- its leaders and its floors, and the beginning of the history that they stand for
+abbrev pub state_of : Store → LeaderMap × FloorMap × Front
+state_of store = (store.leaders, store.floors, store.front)
 
-abbrev pub after : LeaderMap × Front → Entry → LeaderMap × Front
-after state entry = (put state.0 entry.decision.key entry.decision.leader, entry.front)
+abbrev pub after : LeaderMap × FloorMap × Front → Entry → LeaderMap × FloorMap × Front
+after state entry = ((taken_in (state.0, state.1) entry.notice).0, (taken_in (state.0, state.1) entry.notice).1, entry.front)
 
--- The entries go on from the list ds of the history: the front of each is the history that ends with its decision.
-unfoldable pub GoOn : Book → List Decision → List Entry → Type 0
+-- The entries go on from the list ds of the history: the front of each is the history that ends with its notice.
+unfoldable pub GoOn : Book → List Notice → List Entry → Type 0
 GoOn book ds [] = Unit {0}
-GoOn book ds (e ∷ es) = (e.front.seen.book ≡ book) × (e.front.seen.log ≡ ds ++ e.decision ∷ []) × GoOn book (ds ++ e.decision ∷ []) es
+GoOn book ds (e ∷ es) = (e.front.seen.book ≡ book) × (e.front.seen.log ≡ ds ++ e.notice ∷ []) × GoOn book (ds ++ e.notice ∷ []) es
 
-abbrev pub decisions_of : List Entry → List Decision
-decisions_of es = map (λ e. e.decision) es
+abbrev pub notices_of : List Entry → List Notice
+notices_of es = map (λ e. e.notice) es

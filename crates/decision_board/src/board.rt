@@ -4,7 +4,7 @@ ghost use Rattle.ring_records.specs.declared.refusal.Refusal.TheVariants.{OutOfM
 ghost use Rattle.decision_board.specs.Boards.{published, pending, refusals, LackedMemory, seen, learned};
 ghost use Rattle.decision_board.specs.History.{head_of};
 ghost use Rattle.decision_board.specs.Posts.{IsPosted};
-ghost use Rattle.decision_board.specs.Stores.{GoOn, decisions_of, state_of};
+ghost use Rattle.decision_board.specs.Stores.{GoOn, notices_of, state_of};
 
 use crate::history::{Front, Law, Naming, Opened};
 use crate::reader::BoardReader;
@@ -14,7 +14,7 @@ use crate::told::Told;
 use core::mem::replace_with;
 use left_right::writer::Writer;
 use logbook::Word;
-use ring_records::{Decision, Refusal};
+use ring_records::{Notice, Refusal};
 use std::alloc::{AllocError, Global};
 use std::collections::VecDeque;
 use std::marker::Model;
@@ -27,13 +27,13 @@ pub fn is_reader_count(readers: usize) -> bool
     1 <= readers && readers <= 32
 }
 
-type Publisher<J> = Writer<Store, Entry, [Decision; 0], Posted<J>>;
+type Publisher<J> = Writer<Store, Entry, [Notice; 0], Posted<J>>;
 
-/// The board of one history of decisions. Contracts see the list that readers take, what was appended since, and how many
+/// The board of one history of notices. Contracts see the list that readers take, what was appended since, and how many
 /// growths were refused. It is not dropped: `end` alone ends it.
 pub struct Board<J: Naming> {
-    writer: Writer<Store, Entry, [Decision; 0], Posted<J>>,
-    head: Word<Decision, u64, Law>,
+    writer: Writer<Store, Entry, [Notice; 0], Posted<J>>,
+    head: Word<Notice, u64, Law>,
     start: Front,
     all: Front,
     waiting: VecDeque<Entry>,
@@ -42,32 +42,32 @@ pub struct Board<J: Naming> {
 
 impl<J: Naming> Model for Board<J> {
     ghost use Rattle.std.specs.Prelude.{◌≡◌, List, [], ◌++◌, drop};
-    ghost use Rattle.ring_records.specs.declared.decision.Decision.{Decision};
+    ghost use Rattle.ring_records.specs.declared.notice.Notice.{Notice};
     ghost use Rattle.decision_board.specs.Boards.{BoardView};
     ghost use Rattle.decision_board.specs.History.{head_of};
     ghost use Rattle.decision_board.specs.Posts.{IsPosted};
-    ghost use Rattle.decision_board.specs.Stores.{GoOn, decisions_of};
+    ghost use Rattle.decision_board.specs.Stores.{GoOn, notices_of};
 
     ghost Value = { BoardView };
 
-    ghost view = { λ b. (b.writer.desk.shown.value.front.seen.log, decisions_of (drop b.writer.behind b.writer.log.items ++ b.waiting.items), b.refusals) };
+    ghost view = { λ b. (b.writer.desk.shown.value.front.seen.log, notices_of (drop b.writer.behind b.writer.log.items ++ b.waiting.items), b.refusals) };
 
     ghost invariant = { λ b. (b.head ≡ head_of J.book) × (b.start.seen.book ≡ J.book) × (b.start.seen.log ≡ []) × (b.all.seen.book ≡ J.book)
-        × (b.all.seen.log ≡ b.writer.desk.shown.value.front.seen.log ++ decisions_of (drop b.writer.behind b.writer.log.items ++ b.waiting.items))
+        × (b.all.seen.log ≡ b.writer.desk.shown.value.front.seen.log ++ notices_of (drop b.writer.behind b.writer.log.items ++ b.waiting.items))
         × IsPosted J.book b.writer.desk.shown.value × GoOn J.book b.writer.desk.shown.value.front.seen.log (drop b.writer.behind b.writer.log.items ++ b.waiting.items) };
 }
 
 impl<J: Naming> Board<J> {
-    /// A board that has published these decisions, with places for so many readers, 1 to 32.
+    /// A board that has published these notices, with places for so many readers, 1 to 32.
     pub fn new(
         alloc: Global,
         opened: Opened,
-        decisions: &[Decision],
+        notices: &[Notice],
         readers: usize,
     ) -> Result<Board<J>, Refusal>
         requires history { opened ≡ J.book }
         requires readers { (1 ≤ readers) × (readers ≤ 32) }
-        ensures published { IfOk result (λ b. published b ≡ decisions.now) }
+        ensures published { IfOk result (λ b. published b ≡ notices.now) }
         ensures pending { IfOk result (λ b. pending b ≡ []) }
         ensures refusals { IfOk result (λ b. refusals b ≡ 0) }
         ensures refused { IfErr result (λ e. e ≡ OutOfMemory) }
@@ -76,7 +76,7 @@ impl<J: Naming> Board<J> {
         let mut all = start.again();
         let mut first = Store::new(alloc, start.again());
         let mut second = Store::new(alloc, start.again());
-        if take_all::<J>(&head, &mut all, &mut first, &mut second, decisions).is_err() {
+        if take_all::<J>(&head, &mut all, &mut first, &mut second, notices).is_err() {
             return Err(Refusal::OutOfMemory);
         }
         match Writer::new(alloc, first, second, readers) {
@@ -92,17 +92,17 @@ impl<J: Naming> Board<J> {
         }
     }
 
-    /// Appends a decision, for the next `publish`. Refused as 8, it changed nothing but the count of refused growths.
-    pub fn append(&mut self, decision: Decision) -> Result<(), Refusal>
+    /// Appends a notice, for the next `publish`. Refused as 8, it changed nothing but the count of refused growths.
+    pub fn append(&mut self, notice: Notice) -> Result<(), Refusal>
         ensures published { published self.new ≡ published self.old }
-        ensures pending { OnOk result (pending self.new ≡ pending self.old ++ decision ∷ []) }
+        ensures pending { OnOk result (pending self.new ≡ pending self.old ++ notice ∷ []) }
         ensures refusals { OnOk result (refusals self.new ≡ refusals self.old) }
         ensures refused { IfErr result (λ e. (e ≡ OutOfMemory) × (pending self.new ≡ pending self.old) × LackedMemory self.old self.new) }
     {
         if self.waiting.reserve(1).is_err() {
             return Err(refuse(&mut self.refusals));
         }
-        match entered(&self.head, &mut self.all, &decision) {
+        match entered(&self.head, &mut self.all, &notice) {
             Some(entry) => {
                 self.waiting.push_back_reserved(entry);
                 Ok(())
@@ -182,37 +182,37 @@ fn refuse(refusals: &mut u64) -> Refusal
     Refusal::OutOfMemory
 }
 
-// The decision, and the history that ends with it. None where the history is longer than what was seen, and then nothing
+// The notice, and the history that ends with it. None where the history is longer than what was seen, and then nothing
 // changed: nobody but the board adds to it, but no clause says so.
-fn entered(head: &Word<Decision, u64, Law>, all: &mut Front, decision: &Decision) -> Option<Entry>
+fn entered(head: &Word<Notice, u64, Law>, all: &mut Front, notice: &Notice) -> Option<Entry>
     requires { head.now ≡ head_of all.old.seen.book }
     ensures { MatchOption result (all.new ≡ all.old)
-        (λ e. (e.decision ≡ decision.now) × (e.front ≡ all.new) × (all.new.seen.book ≡ all.old.seen.book) × (all.new.seen.log ≡ all.old.seen.log ++ decision.now ∷ [])) }
+        (λ e. (e.notice ≡ notice.now) × (e.front ≡ all.new) × (all.new.seen.book ≡ all.old.seen.book) × (all.new.seen.log ≡ all.old.seen.log ++ notice.now ∷ [])) }
 {
-    if !all.add(head, decision) {
+    if !all.add(head, notice) {
         return None;
     }
     Some(Entry {
-        decision: *decision,
+        notice: *notice,
         front: all.again(),
     })
 }
 
-// Takes all decisions into both copies.
+// Takes all notices into both copies.
 fn take_all<J: Naming>(
-    head: &Word<Decision, u64, Law>,
+    head: &Word<Notice, u64, Law>,
     all: &mut Front,
     first: &mut Store,
     second: &mut Store,
-    decisions: &[Decision],
+    notices: &[Notice],
 ) -> Result<(), AllocError>
     requires head { head.now ≡ head_of J.book }
     requires posted { IsPosted J.book first.old × (first.old.front ≡ all.old) × (all.old.seen.log ≡ []) }
     requires alike { state_of second.old ≡ state_of first.old }
-    ensures { OnOk result (IsPosted J.book first.new × (first.new.front ≡ all.new) × (all.new.seen.log ≡ decisions.now) × (state_of second.new ≡ state_of first.new)) }
+    ensures { OnOk result (IsPosted J.book first.new × (first.new.front ≡ all.new) × (all.new.seen.log ≡ notices.now) × (state_of second.new ≡ state_of first.new)) }
 {
-    for decision in decisions {
-        let Some(entry) = entered(head, all, decision) else {
+    for notice in notices {
+        let Some(entry) = entered(head, all, notice) else {
             return Err(AllocError);
         };
         first.take_in(&entry)?;
@@ -245,7 +245,7 @@ fn show<J: Naming, R: Wait>(writer: Publisher<J>, rt: &R) -> (Publisher<J>, Resu
     requires goes_on { GoOn J.book writer.desk.shown.value.front.seen.log (drop writer.behind writer.log.items) }
     ensures posted { IsPosted J.book result.0.desk.shown.value }
     ensures values { MatchResult result.1
-        (λ _. (result.0.desk.shown.value.front.seen.log ≡ writer.desk.shown.value.front.seen.log ++ decisions_of (drop writer.behind writer.log.items))
+        (λ _. (result.0.desk.shown.value.front.seen.log ≡ writer.desk.shown.value.front.seen.log ++ notices_of (drop writer.behind writer.log.items))
         × (drop result.0.behind result.0.log.items ≡ []))
         (λ _. (result.0.desk.shown.value ≡ writer.desk.shown.value) × (drop result.0.behind result.0.log.items ≡ drop writer.behind writer.log.items)) }
 {

@@ -1,17 +1,17 @@
-// The history of one board: all decisions that it took in, in order. It exists in proofs alone, and the code keeps its
+// The history of one board: all notices that it took in, in order. It exists in proofs alone, and the code keeps its
 // length.
 ghost use Rattle.std.specs.Prelude.{◌≡◌, ◌<◌, ◌⊎◌, ◌++◌, ◌∷◌, [], length, MatchBool};
 ghost use mathlib.Core.List.{IsPrefix};
 ghost use Rattle.decision_board.specs.History.{head_of};
 
 use logbook::{Gain, Offer, Plain, Play, Rule, Seen, Start, Word};
-use ring_records::Decision;
+use ring_records::Notice;
 use std::marker::{Brand, Model};
 
 /// The rule of the history: its length stands in a word.
 pub struct Law;
 
-impl Rule<Decision, u64> for Law {
+impl Rule<Notice, u64> for Law {
     ghost use Rattle.std.specs.Prelude.{[]};
     ghost use base.Fml.{ftrue};
     ghost use Rattle.decision_board.specs.History.{IsCounted};
@@ -32,31 +32,31 @@ impl Rule<Decision, u64> for Law {
 /// The board trades nothing.
 pub struct Nothing;
 
-impl Gain<Decision, u64> for Nothing {
+impl Gain<Notice, u64> for Nothing {
     ghost use base.Fml.{ftrue};
 
     ghost after = { λ names about answer. ftrue };
 }
 
-/// A step that adds a decision.
+/// A step that adds a notice.
 pub struct Add;
 
-impl Play<Decision, u64> for Add {
+impl Play<Notice, u64> for Add {
     ghost use Rattle.decision_board.specs.History.{Adds};
 
     ghost then = { Adds };
 }
 
-/// What a step asks for: the decision.
-impl Plain<Decision, Decision, u64> for Add {
+/// What a step asks for: the notice.
+impl Plain<Notice, Notice, u64> for Add {
     ghost use Rattle.std.specs.Prelude.{None};
 
-    ghost ask = { λ decision. decision };
+    ghost ask = { λ notice. notice };
 
-    ghost state = { λ decision. None };
+    ghost state = { λ notice. None };
 }
 
-/// Which history a board's decisions are one of. Each call of a program picks it.
+/// Which history a board's notices are one of. Each call of a program picks it.
 pub trait Naming {
     ghost use Rattle.logbook.specs.Pages.{Book};
 
@@ -70,7 +70,7 @@ impl Naming for Brand {
 /// A history that was just begun, for one board. Contracts see it as the history that it is.
 #[derive(Drop)]
 pub struct Opened {
-    head: Word<Decision, u64, Law>,
+    head: Word<Notice, u64, Law>,
     front: Front,
 }
 
@@ -97,7 +97,7 @@ impl Opened {
     }
 
     /// The word that has its length, and its beginning, which is empty.
-    pub(crate) fn into_parts(self) -> (Word<Decision, u64, Law>, Front)
+    pub(crate) fn into_parts(self) -> (Word<Notice, u64, Law>, Front)
         ensures head { result.0 ≡ head_of self }
         ensures book { result.1.seen.book ≡ self }
         ensures empty { result.1.seen.log ≡ [] }
@@ -111,7 +111,7 @@ impl Opened {
 #[derive(Drop)]
 pub struct Front {
     count: u64,
-    pub seen: Seen<Decision, u64, Law>,
+    pub seen: Seen<Notice, u64, Law>,
     pub ghost counted: { count ≡ length seen.log },
 }
 
@@ -145,19 +145,19 @@ impl Front {
         both.learn(&other.seen);
     }
 
-    /// Adds a decision to all that was added, and says whether it did. It did where all that was added was seen.
-    pub fn add(&mut self, head: &Word<Decision, u64, Law>, decision: &Decision) -> bool
+    /// Adds a notice to all that was added, and says whether it did. It did where all that was added was seen.
+    pub fn add(&mut self, head: &Word<Notice, u64, Law>, notice: &Notice) -> bool
         requires { head.now ≡ head_of self.old.seen.book }
         ensures book { self.new.seen.book ≡ self.old.seen.book }
-        ensures log { MatchBool result (self.new.seen.log ≡ self.old.seen.log ++ decision.now ∷ []) (self.new ≡ self.old) }
+        ensures log { MatchBool result (self.new.seen.log ≡ self.old.seen.log ++ notice.now ∷ []) (self.new ≡ self.old) }
     {
         let count = self.count;
         if count == u64::MAX {
             return false;
         }
         let mut seen = self.seen.again();
-        let mut offer: Offer<Decision, u64, Law, Nothing> = seen.plain::<Nothing, Decision, Add>(
-            decision,
+        let mut offer: Offer<Notice, u64, Law, Nothing> = seen.plain::<Nothing, Notice, Add>(
+            notice,
         );
         let mut pen = seen.no_pen();
         let found = head.compare_exchange::<Add, Nothing>(

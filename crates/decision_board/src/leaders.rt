@@ -1,8 +1,8 @@
 // The leaders by key.
-ghost use Rattle.std.specs.Prelude.{◌≡◌, ℕ, OnOk, OnErr};
+ghost use Rattle.std.specs.Prelude.{◌≡◌, ◌<◌, ℕ, None, IsSome, MatchOption, OnOk, OnErr};
 ghost use Rattle.std.specs.FinMap as map;
 ghost use Rattle.ring_records.specs.Leader.{IsLatest};
-ghost use Rattle.decision_board.specs.Leaders.{leads, put, start_of};
+ghost use Rattle.decision_board.specs.Leaders.{leads, put, reaches, start_of, without};
 ghost use Rattle.decision_board.specs.Next.{IsFirstLed, IsNext};
 
 use ring_records::{Candidate, Decision, GroupName, Key, Term};
@@ -111,5 +111,50 @@ impl Leaders {
         let _number = key.term.number();
         self.by_key.insert(key, leader)?;
         Ok(())
+    }
+
+    /// Whether some term of the group from the floor on has a leader.
+    pub fn reaches(&self, group: &GroupName, floor: Term) -> bool
+        ensures { result ≡ reaches self.now group.now floor }
+    {
+        match self.latest(group) {
+            Some(latest) => floor <= latest.0,
+            None => false,
+        }
+    }
+
+    // A key of the group below the floor, if one has a leader.
+    fn under(&self, group: &GroupName, floor: Term) -> Option<Key>
+        ensures { MatchOption result ((term : ℕ) → term < floor → leads self.now group.now term ≡ None)
+            (λ key. (key.group ≡ group.now) × (key.term < floor) × IsSome (map.get self.now key)) }
+    {
+        // The number that is read is known to be 1 at least, where the range begins.
+        let _number = floor.number();
+        let first = Key {
+            group: *group,
+            term: Term::first(),
+        };
+        let end = Key {
+            group: *group,
+            term: floor,
+        };
+        let (key, _leader) = self.by_key.range(first..end).next()?;
+        Some(*key)
+    }
+
+    // Takes the key out.
+    fn remove(&mut self, key: &Key)
+        ensures { self.new ≡ map.remove self.old key.now }
+    {
+        self.by_key.remove(key);
+    }
+
+    /// Takes out the group's leaders below the floor, one by one: the others are not looked at, and no memory is asked for.
+    pub fn drop_under(&mut self, group: &GroupName, floor: Term)
+        ensures { self.new ≡ without self.old group.now floor }
+    {
+        while let Some(key) = self.under(group, floor) {
+            self.remove(&key);
+        }
     }
 }

@@ -1,13 +1,13 @@
 // The readers' end of a board. No call of a reader waits.
-ghost use Rattle.std.specs.Prelude.{◌≡◌, ◌⊎◌, ℕ, [], Option, Some, MatchOption, IfOk, IfErr};
+ghost use Rattle.std.specs.Prelude.{◌≡◌, ◌<◌, ◌≤◌, ◌⊎◌, ℕ, [], Option, Some, MatchOption, IfOk, IfErr, IsErrOf};
 ghost use mathlib.Core.List.{IsPrefix};
 ghost use Rattle.left_right.specs.Sides.{view};
-ghost use Rattle.ring_records.specs.Content.{leader_in, leads_in, IsNotBelow};
+ghost use Rattle.ring_records.specs.Notices.{floor_in, leader_in, leads_in, IsNotBelow};
 ghost use Rattle.ring_records.specs.Leader.{IsLatest};
 ghost use Rattle.ring_records.specs.declared.candidate.Candidate.{Candidate};
-ghost use Rattle.ring_records.specs.declared.refusal.Refusal.TheVariants.{NoPlace};
+ghost use Rattle.ring_records.specs.declared.refusal.Refusal.TheVariants.{NoPlace, Retired};
 ghost use Rattle.decision_board.specs.Next.{IsNext};
-ghost use Rattle.decision_board.specs.Boards.{seen, learned};
+ghost use Rattle.decision_board.specs.Boards.{seen, learned, IsWho};
 
 use crate::history::{Front, Naming};
 use crate::rule::{Posted, Sees};
@@ -15,25 +15,25 @@ use crate::store::Store;
 use crate::told::Told;
 use core::mem::replace_with;
 use left_right::reader::Reader;
-use ring_records::{Candidate, Decision, GroupName, Key, Refusal, Term};
+use ring_records::{Candidate, Decision, GroupName, Key, Notice, Refusal, Term};
 use std::marker::Model;
 
-pub(crate) type Place<J> = Reader<Store, [Decision; 0], Posted<J>>;
+pub(crate) type Place<J> = Reader<Store, [Notice; 0], Posted<J>>;
 
-/// A reader of a board. Contracts see the list of decisions that it saw last, and the longest list that it learned.
+/// A reader of a board. Contracts see the list of notices that it saw last, and the longest list that it learned.
 #[derive(Drop)]
 pub struct BoardReader<J: Naming> {
-    place: Reader<Store, [Decision; 0], Posted<J>>,
+    place: Reader<Store, [Notice; 0], Posted<J>>,
     seen: Front,
     learned: Front,
 }
 
 impl<J: Naming> Model for BoardReader<J> {
     ghost use Rattle.std.specs.Prelude.{◌≡◌, List};
-    ghost use Rattle.ring_records.specs.declared.decision.Decision.{Decision};
+    ghost use Rattle.ring_records.specs.declared.notice.Notice.{Notice};
     ghost use mathlib.Core.List.{IsPrefix};
 
-    ghost Value = { List Decision × List Decision };
+    ghost Value = { List Notice × List Notice };
 
     ghost view = { λ r. (r.seen.seen.log, r.learned.seen.log) };
 
@@ -54,13 +54,16 @@ impl<J: Naming> BoardReader<J> {
         }
     }
 
-    /// The leader for the key in the list that is seen then; refused as 20 after the board's end.
+    /// The leader for the key in the list that is seen then; refused as 23 where the key is below its group's floor there,
+    /// and as 20 after the board's end.
     pub fn who(&mut self, key: &Key) -> Result<Option<Candidate>, Refusal>
         ensures answer { IfOk result (λ a. a ≡ leader_in (seen self.new) key.now) }
-        ensures begins { IfOk result (λ _. IsPrefix (seen self.old) (seen self.new) × IsPrefix (learned self.old) (seen self.new)) }
+        ensures live { IfOk result (λ _. floor_in (seen self.new) key.now.group ≤ key.now.term) }
+        ensures begins { IsErrOf result NoPlace ⊎ (IsPrefix (seen self.old) (seen self.new) × IsPrefix (learned self.old) (seen self.new)) }
         ensures stays { IfOk result (λ a. (leader : Candidate) → leader_in (seen self.old) key.now ≡ Some leader → a ≡ Some leader) }
         ensures learned { learned self.new ≡ learned self.old }
-        ensures refused { IfErr result (λ e. (e ≡ NoPlace) × (self.new ≡ self.old)) }
+        ensures refused { IfErr result (λ e. ((e ≡ NoPlace) × (self.new ≡ self.old))
+            ⊎ ((e ≡ Retired (floor_in (seen self.new) key.now.group)) × (key.now.term < floor_in (seen self.new) key.now.group))) }
     {
         match replace_with(&mut self.place, *key, find::<J>) {
             Some((leader, front)) => {
@@ -69,7 +72,10 @@ impl<J: Naming> BoardReader<J> {
                     return Err(Refusal::NoPlace);
                 }
                 self.seen = front;
-                Ok(leader)
+                match leader {
+                    Ok(leader) => Ok(leader),
+                    Err(floor) => Err(Refusal::Retired(floor)),
+                }
             }
             None => Err(Refusal::NoPlace),
         }
@@ -134,10 +140,13 @@ impl<J: Naming> BoardReader<J> {
     }
 }
 
-// The leader for the key, and the list that names it.
-fn find<J: Naming>(place: Place<J>, key: Key) -> (Place<J>, Option<(Option<Candidate>, Front)>)
+// The leader for the key, or the floor that it is below, and the list that says so.
+fn find<J: Naming>(
+    place: Place<J>,
+    key: Key,
+) -> (Place<J>, Option<(Result<Option<Candidate>, Term>, Front)>)
     ensures { MatchOption result.1 (view result.0.place ≡ view place.place)
-        (λ a. (a.0 ≡ leader_in a.1.seen.log key) × (a.1.seen.book ≡ J.book) × (view result.0.place ≡ a.1.seen.log) × IsPrefix (view place.place) a.1.seen.log) }
+        (λ a. IsWho a.1.seen.log key a.0 × (a.1.seen.book ≡ J.book) × (view result.0.place ≡ a.1.seen.log) × IsPrefix (view place.place) a.1.seen.log) }
 {
     match place.enter_as::<Sees<J>>() {
         Ok(reading) => {

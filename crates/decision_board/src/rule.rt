@@ -2,7 +2,7 @@
 use crate::history::Naming;
 use crate::store::Store;
 use crossbeam_utils::rule::{Outcome, Protocol};
-use ring_records::Decision;
+use ring_records::Notice;
 use std::marker::PhantomData;
 
 /// What is published stands for a beginning of the history J, and each reader saw a beginning of that.
@@ -10,7 +10,7 @@ pub struct Posted<J> {
     of: PhantomData<J>,
 }
 
-impl<J: Naming> Protocol<Store, [Decision; 0]> for Posted<J> {
+impl<J: Naming> Protocol<Store, [Notice; 0]> for Posted<J> {
     ghost use Rattle.std.specs.Prelude.{[]};
     ghost use Rattle.decision_board.specs.Posts.{Keeps};
 
@@ -24,7 +24,7 @@ pub struct Sees<J> {
     of: PhantomData<J>,
 }
 
-impl<J: Naming> Outcome<Store, [Decision; 0]> for Sees<J> {
+impl<J: Naming> Outcome<Store, [Notice; 0]> for Sees<J> {
     ghost use Rattle.decision_board.specs.Posts.{Shows};
 
     ghost then = { Shows J.book };

@@ -4,7 +4,7 @@ ghost use Rattle.std.specs.Prelude.{◌≡◌};
 use crate::history::{Front, Naming};
 use std::marker::{Model, PhantomData};
 
-/// What a board had published when it told it. Contracts see it as that list of decisions.
+/// What a board had published when it told it. Contracts see it as that list of notices.
 #[derive(Drop)]
 pub struct Told<J: Naming> {
     front: Front,
@@ -13,9 +13,9 @@ pub struct Told<J: Naming> {
 
 impl<J: Naming> Model for Told<J> {
     ghost use Rattle.std.specs.Prelude.{◌≡◌, List};
-    ghost use Rattle.ring_records.specs.declared.decision.Decision.{Decision};
+    ghost use Rattle.ring_records.specs.declared.notice.Notice.{Notice};
 
-    ghost Value = { List Decision };
+    ghost Value = { List Notice };
 
     ghost view = { λ t. t.front.seen.log };
 

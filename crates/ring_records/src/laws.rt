@@ -1,5 +1,5 @@
 //! Laws of the definitions: public functions with an empty body, whose contracts say what follows from `specs/` alone.
-ghost use Rattle.std.specs.Prelude.{◌≡◌, ◌↔◌, ◌≤◌, ◌+◌, ◌||◌, ℕ, Bool, Option, true, false, if◌then◌else◌, List, [], ◌∷◌, ◌++◌, Some, None, slice_get, unwrap_or, length, Ok};
+ghost use Rattle.std.specs.Prelude.{◌≡◌, ◌↔◌, ◌⊎◌, ◌<◌, ◌≤◌, ◌+◌, ◌||◌, ◌&&◌, nat_lt, nat_le, ℕ, Bool, Option, true, false, if◌then◌else◌, List, [], ◌∷◌, ◌++◌, Some, None, slice_get, unwrap_or, length, Ok};
 ghost use Rattle.std.specs.FinMap as map;
 ghost use Rattle.std.specs.List.{cons_option, count_by, Contains};
 ghost use Rattle.ring_records.specs.declared.base.Base.{Base};
@@ -10,17 +10,18 @@ ghost use Rattle.ring_records.specs.declared.key.Key.{Key};
 ghost use Rattle.ring_records.specs.declared.msg.Msg.{Msg};
 ghost use Rattle.ring_records.specs.declared.summary.Summary.{Summary};
 ghost use Rattle.ring_records.specs.Admission.{fresh, used, cost, snapshot_len, IsAllowed, IsAdmitted, IsBaseOf, IsLawful, objection, refusal};
+ghost use Rattle.ring_records.specs.declared.notice.Notice.{Notice};
 ghost use Rattle.ring_records.specs.declared.packet.Packet.{Packet};
 ghost use Rattle.ring_records.specs.declared.refusal.Refusal.{Refusal};
 ghost use Rattle.ring_records.specs.declared.request.Request.{Request};
 ghost use Rattle.ring_records.specs.Answer.{Answer, Answers, PacketRests};
-ghost use Rattle.ring_records.specs.Content.{named_by, leader_in, leads_in, IsNotBelow};
 ghost use Rattle.ring_records.specs.Emission.{emit, sent, carry};
 ghost use Rattle.ring_records.specs.History.{names, is_named, touched, bid_for, first_stand, stood, message_of, taken, upto_of, credit, is_stand, stands};
-ghost use Rattle.ring_records.specs.Leader.{makes_leader, first_leader, leader, latest, IsLatest, decided};
+ghost use Rattle.ring_records.specs.Leader.{makes_leader, first_leader, leader, latest, IsLatest, term_of, decided};
 ghost use Rattle.ring_records.specs.Known.{sends, stepped, after, Objects};
 ghost use Rattle.ring_records.specs.Lists.{or_else, EachAfter};
 ghost use Rattle.ring_records.specs.Member.{Member};
+ghost use Rattle.ring_records.specs.Notices.{decided_all, named_by, floor_in, leader_in, leads_in, IsNotBelow};
 ghost use Rattle.ring_records.specs.Record.{AreBytes, HasRecord, BeginsWith, record_of, record_read};
 ghost use Rattle.ring_records.specs.Release.{packets, decisions, window, AreLeaders};
 ghost use Rattle.ring_records.specs.Ring.{IsLegal, part};
@@ -81,13 +82,17 @@ pub fn leaders_listed()
     ensures one { (me : ℕ) (h : List Input) (list other : List Decision) → AreLeaders me h list → AreLeaders me h other → list ≡ other }
 {}
 
-/// The content of a list of decisions. The first decision for a key stays, however the list goes on, and so the latest
-/// leader of a group never goes down. The decisions of a history, in order of key, name the leaders that it knows.
-pub fn content()
-    ensures one_more { (ds : List Decision) (d : Decision) (key : Key) → leader_in (ds ++ d ∷ []) key ≡ or_else (leader_in ds key) (named_by key d) }
-    ensures stays { (ds more : List Decision) (key : Key) (c : Candidate) → leader_in ds key ≡ Some c → leader_in (ds ++ more) key ≡ Some c }
-    ensures never_down { (ds more : List Decision) (group : List ℕ) (a b : Option (ℕ × Candidate)) → IsLatest (leads_in ds group) a → IsLatest (leads_in (ds ++ more) group) b → IsNotBelow a b }
-    ensures leaders { (me : ℕ) (h : List Input) (list : List Decision) (key : Key) → AreLeaders me h list → leader_in list key ≡ leader me h key }
+/// The content of a list of notices. A decision names the leader of its key, unless the key is retired or has one. A floor
+/// that is told counts exactly where it is above the floor of its group and at most the term of its latest leader. However
+/// the list goes on, a leader changes only where its key is retired, and the latest leader of a group never goes down. The
+/// decisions of a history, in order of key, name the leaders that it knows.
+pub fn notices()
+    ensures decided { (ns : List Notice) (d : Decision) (key : Key) → leader_in (ns ++ Notice.Decided d ∷ []) key ≡ (if nat_lt key.term (floor_in ns key.group) then None else or_else (leader_in ns key) (named_by key (Notice.Decided d))) }
+    ensures retired { (ns : List Notice) (group : List ℕ) (f : ℕ) (o : Option (ℕ × Candidate)) → IsLatest (leads_in ns group) o
+        → floor_in (ns ++ Notice.Retired group f ∷ []) group ≡ (if nat_lt (floor_in ns group) f && nat_le f (term_of o) then f else floor_in ns group) }
+    ensures stays { (ns more : List Notice) (key : Key) (c : Candidate) → leader_in ns key ≡ Some c → (leader_in (ns ++ more) key ≡ Some c) ⊎ (key.term < floor_in (ns ++ more) key.group) }
+    ensures never_down { (ns more : List Notice) (group : List ℕ) (a b : Option (ℕ × Candidate)) → IsLatest (leads_in ns group) a → IsLatest (leads_in (ns ++ more) group) b → IsNotBelow a b }
+    ensures leaders { (me : ℕ) (h : List Input) (list : List Decision) (key : Key) → AreLeaders me h list → leader_in (decided_all list) key ≡ leader me h key }
 {}
 
 /// An input is admitted exactly where no cause to refuse it is found, and the history alone allows it exactly where

@@ -7,9 +7,9 @@ use Rattle.ring_records.specs.declared.candidate.Candidate.{Candidate}
 use Rattle.ring_records.specs.declared.decision.Decision.{Decision}
 use Rattle.ring_records.specs.declared.input.Input.{Input}
 use Rattle.ring_records.specs.declared.key.Key.{Key}
-use Rattle.ring_records.specs.Content.{leader_in, leads_in, IsNotBelow}
+use Rattle.ring_records.specs.Notices.{decided_all, leader_in, leads_in, IsNotBelow}
 use Rattle.ring_records.specs.Leader.{IsLatest}
-use Rattle.ring_records.proofs.Content.{leaders_content}
+use Rattle.ring_records.proofs.Notices.{leaders_content}
 use Rattle.ring_records.proofs.Growth.{leader-kept}
 use Rattle.ring_records.proofs.Lists.{none≢some}
 use Rattle.ring_service.specs.Restarts.{AreLater}
@@ -17,7 +17,7 @@ use Rattle.ring_service.specs.Restarts.{AreLater}
 pub decision_stays : (me : ℕ) (h more : List Input) (list longer : List Decision) (d : Decision) → AreLater me h more list longer → Contains list d → Contains longer d
 decision_stays me h more list longer d are has = are.later.all d.key d.leader (leader-kept me h more d.key d.leader (are.before.each d has))
 
-pub named_stays : (me : ℕ) (h more : List Input) (list longer : List Decision) (key : Key) (c : Candidate) → AreLater me h more list longer → leader_in list key ≡ Some c → leader_in longer key ≡ Some c
+pub named_stays : (me : ℕ) (h more : List Input) (list longer : List Decision) (key : Key) (c : Candidate) → AreLater me h more list longer → leader_in (decided_all list) key ≡ Some c → leader_in (decided_all longer) key ≡ Some c
 named_stays me h more list longer key c are e =
     leaders_content me (h ++ more) longer are.later key ∙ leader-kept me h more key c (sym (leaders_content me h list are.before key) ∙ e)
 
@@ -37,6 +37,6 @@ latest_stays was now kept (Some x) (Some y) m n = elim (cases_lt x.0 y.0) [
 ]
 
 pub never_down : (me : ℕ) (h more : List Input) (list longer : List Decision) (group : List ℕ) (a b : Option (ℕ × Candidate)) → AreLater me h more list longer
-    → IsLatest (leads_in list group) a → IsLatest (leads_in longer group) b → IsNotBelow a b
+    → IsLatest (leads_in (decided_all list) group) a → IsLatest (leads_in (decided_all longer) group) b → IsNotBelow a b
 never_down me h more list longer group a b are m n =
-    latest_stays (leads_in list group) (leads_in longer group) (λ term c e. named_stays me h more list longer (record { group = group; term = term }) c are e) a b m n
+    latest_stays (leads_in (decided_all list) group) (leads_in (decided_all longer) group) (λ term c e. named_stays me h more list longer (record { group = group; term = term }) c are e) a b m n

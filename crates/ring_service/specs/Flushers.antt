@@ -2,7 +2,7 @@
 use Rattle.std.specs.Prelude.{Bool, List, ◌++◌}
 use Rattle.std.specs.declared.sync.ledger.Ledger as ledger
 use Rattle.disk_model.specs.declared.device.Device as device
-use Rattle.ring_records.specs.declared.decision.Decision.{Decision}
+use Rattle.ring_records.specs.declared.notice.Notice.{Notice}
 use Rattle.gated_journal.specs.Journal.{device_of}
 use Rattle.gated_journal.specs.declared.journal.Journal.{Journal}
 use Rattle.decision_board.specs.Boards.{BoardView, published, pending}
@@ -26,12 +26,12 @@ module _ {V J A : Type 0} {v : device.Ghosts V} {a : node.Ghosts A} {la : ledger
   abbrev pub board_of : Flusher V J A v a la → BoardView
   board_of flusher = flusher.board
 
-  -- the decisions that the board could not take yet
-  abbrev pub owed_of : Flusher V J A v a la → List Decision
+  -- the notices that the board could not take yet
+  abbrev pub owed_of : Flusher V J A v a la → List Notice
   owed_of flusher = flusher.owed.items
 
-  -- all decisions that it was told of, in order: published, taken by the board, and owed
-  abbrev pub told_to : Flusher V J A v a la → List Decision
+  -- all notices that it was told of, in order: published, taken by the board, and owed
+  abbrev pub told_to : Flusher V J A v a la → List Notice
   told_to flusher = published (board_of flusher) ++ (pending (board_of flusher) ++ owed_of flusher)
 
   -- all that its board took is known to be published

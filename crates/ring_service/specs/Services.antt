@@ -1,8 +1,9 @@
 -- What a service over a hub and a board answers.
-use Rattle.std.specs.Prelude.{ℕ, ◌≡◌, ◌≤◌, ◌+◌, ◌⊎◌, List, Option, Some, Ok, Err}
+use Rattle.std.specs.Prelude.{ℕ, ◌≡◌, ◌<◌, ◌≤◌, ◌+◌, ◌⊎◌, List, Option, Some, Ok, Err}
 use mathlib.Core.List.{IsPrefix}
 use Rattle.ring_records.specs.declared.candidate.Candidate.{Candidate}
-use Rattle.ring_records.specs.declared.decision.Decision.{Decision}
+use Rattle.ring_records.specs.declared.key.Key.{Key}
+use Rattle.ring_records.specs.declared.notice.Notice.{Notice}
 use Rattle.ring_records.specs.declared.input.Input.{Input}
 use Rattle.ring_records.specs.declared.refusal.Refusal.{Refusal}
 use Rattle.ring_records.specs.declared.refusal.Refusal.TheVariants as refused
@@ -12,7 +13,7 @@ use Rattle.ring_records.specs.declared.request.Request.{Request}
 use Rattle.ring_records.specs.declared.request.Request.TheVariants.{Stand, Take, Acked, Who, Latest}
 use Rattle.ring_records.specs.declared.summary.Summary.{Summary}
 use Rattle.ring_records.specs.Answer.{Answered}
-use Rattle.ring_records.specs.Content.{leader_in, leads_in}
+use Rattle.ring_records.specs.Notices.{floor_in, leader_in, leads_in}
 use Rattle.ring_records.specs.Leader.{IsLatest}
 use Rattle.ring_records.specs.Member.{Member}
 use Rattle.group_commit.specs.Desk.{IsAnswer}
@@ -25,7 +26,7 @@ use Rattle.sessions.specs.Session.{Answer}
 use Rattle.ring_service.specs.declared.service.HubService.{HubService}
 
 -- the greatest term of the group with a leader in the list that is seen, and that leader
-pub record IsLatestReply (group : List ℕ) (reply : Reply) (list : List Decision) : Type 0 where
+pub record IsLatestReply (group : List ℕ) (reply : Reply) (list : List Notice) : Type 0 where
   pub latest : Option (ℕ × Candidate)
   pub is : reply ≡ replied.Latest latest
   pub greatest : IsLatest (leads_in list group) latest
@@ -35,7 +36,7 @@ module _ {R J A : Type 0} {a : node.Ghosts A} where
   share_of service = service.share
 
   -- what the service's reader of the board saw last, and the longest list that it learned
-  abbrev pub reader_of : HubService R J A a → List Decision × List Decision
+  abbrev pub reader_of : HubService R J A a → List Notice × List Notice
   reader_of service = service.reader
 
   -- the stub of its last reply to a Stand
@@ -76,12 +77,18 @@ module _ {R J A : Type 0} {a : node.Ghosts A} where
   abbrev pub IsOver : HubService R J A a → Refusal → HubService R J A a → Type 0
   IsOver old why new = (why ≡ refused.NoPlace) × (new ≡ old)
 
+  -- the key is below its group's floor in the list that is seen, which is this
+  pub record IsGivenUp (old : HubService R J A a) (key : Key) (why : Refusal) (new : HubService R J A a) : Type 0 where
+    pub is : why ≡ refused.Retired (floor_in (seen (reader_of new)) key.group)
+    pub below : key.term < floor_in (seen (reader_of new)) key.group
+    pub read : IsRead old new
+
   -- A Stand is answered by the hub, a question for leaders by the board. Nothing else is asked.
   abbrev pub HubAnswers : Member → Summary → HubService R J A a → Request → Answer → HubService R J A a → Type 0
   HubAnswers member opening old (Stand key bid) (Ok reply) new = IsReleased member opening old (Stand key bid) reply new
   HubAnswers member opening old (Stand key bid) (Err why) new = IsUnreleased old why new
   HubAnswers member opening old (Who key) (Ok reply) new = (reply ≡ replied.Leader (leader_in (seen (reader_of new)) key)) × IsRead old new
-  HubAnswers member opening old (Who key) (Err why) new = IsOver old why new
+  HubAnswers member opening old (Who key) (Err why) new = IsOver old why new ⊎ IsGivenUp old key why new
   HubAnswers member opening old (Latest group) (Ok reply) new = IsLatestReply group reply (seen (reader_of new)) × IsRead old new
   HubAnswers member opening old (Latest group) (Err why) new = IsOver old why new
   HubAnswers member opening old (Take number msg) answer new = ⊥

@@ -1,13 +1,16 @@
 //! The board of a node that is opened.
 ghost use Rattle.std.specs.Prelude.{◌≡◌, ◌≤◌, [], List, IfOk, IfErr};
+ghost use Rattle.ring_records.specs.declared.decision.Decision.{Decision};
 ghost use Rattle.ring_records.specs.declared.input.Input.{Input};
 ghost use Rattle.ring_records.specs.declared.limits.TheConstants.{DOORS};
+ghost use Rattle.ring_records.specs.Notices.{decided_all};
 ghost use Rattle.ring_records.specs.States.{durable_in};
 ghost use Rattle.ring_records.specs.Release.{AreLeaders};
 ghost use Rattle.group_commit.specs.Desk.{seen};
 ghost use Rattle.group_commit.specs.Past.{IsPast};
 ghost use Rattle.decision_board.specs.Boards.{published, pending};
 
+use crate::notices::notices_of;
 use decision_board::{Board, Naming, Opened};
 use group_commit::Desk;
 use ring_records::Refusal;
@@ -23,13 +26,16 @@ pub fn opened_board<J: Naming>(
 ) -> Result<Board<J>, Refusal>
     requires history { opened ≡ J.book }
     requires readers { (1 ≤ readers) × (readers ≤ DOORS) }
-    ensures leaders { IfOk result (λ board. (past : List Input) → IsPast desk.now.view.member desk.now.opening past
-        → AreLeaders desk.now.view.member.node (durable_in (seen past desk.now).state) (published board)) }
+    ensures leaders { IfOk result (λ board. (list : List Decision) × (published board ≡ decided_all list) × ((past : List Input) → IsPast desk.now.view.member desk.now.opening past
+        → AreLeaders desk.now.view.member.node (durable_in (seen past desk.now).state) list)) }
     ensures pending { IfOk result (λ board. pending board ≡ []) }
     ensures refusal { IfErr result (λ why. why ≡ Refusal.OutOfMemory) }
 {
     match desk.decisions() {
-        Ok(decisions) => Board::new(alloc, opened, &decisions, readers),
+        Ok(decisions) => match notices_of(alloc, &decisions) {
+            Ok(notices) => Board::new(alloc, opened, &notices, readers),
+            Err(_) => Err(Refusal::OutOfMemory),
+        },
         Err(_) => Err(Refusal::OutOfMemory),
     }
 }

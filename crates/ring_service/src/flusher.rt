@@ -2,6 +2,7 @@
 ghost use Rattle.std.specs.Prelude.{◌≡◌, ◌+◌, ◌-◌, ◌<◌, ◌≤◌, ◌⊎◌, ◌++◌, [], true, false, is_err, length, IfOk, IfErr, IfSome, IfNone, IsErrOf, IsOk, OnErr, OnOk};
 ghost use mathlib.Core.List.{IsPrefix};
 ghost use Rattle.ring_records.specs.Admission.{costs_of as costs_in};
+ghost use Rattle.ring_records.specs.Notices.{decided_all};
 ghost use Rattle.disk_model.specs.Disk.{LeavesOnly, HasCause, Reaches};
 ghost use Rattle.gated_journal.specs.Areas.{AllReadAs, ReadsAsOneOf};
 ghost use Rattle.gated_journal.specs.Batch.{landed, lost};
@@ -18,22 +19,24 @@ ghost use Rattle.ring_service.specs.Rounds.{IsRound, IsStopped, IsIdle, IsSpent,
 ghost use Rattle.ring_service.specs.Props.{HasKnown-prop};
 
 use crate::gate::Gate;
+use crate::notices::owe;
 use commit_hub::{Hub, Node, Tie, Work};
 use decision_board::{Board, Naming};
 use disk_model::Device;
 use gated_journal::{Journal, Receipt, Spoiled};
 use group_commit::Landed;
-use ring_records::{Decision, Refusal};
+use ring_records::{Notice, Refusal};
 use std::alloc::Global;
 use std::collections::VecDeque;
 use std::sync::Wait;
 
-/// The journal and the tie of a hub's node, the board of its decisions, and those that the board could not take yet.
+/// The journal and the tie of a hub's node, the board that is told of its decisions, and the notices that the board could
+/// not take yet.
 pub struct Flusher<V: Device, J: Naming, A: Node> {
     journal: Journal<V>,
     tie: Tie<A>,
     board: Board<J>,
-    owed: VecDeque<Decision>,
+    owed: VecDeque<Notice>,
     is_published: bool,
     has_ended: bool,
     ghost inside: { IsNodeOf A.member.n A.member.node },
@@ -75,7 +78,7 @@ impl<V: Device, J: Naming, A: Node> Flusher<V, J, A> {
     ///
     /// Refused as 8, 9 or 12, nothing was launched: a growth was refused; the flusher has ended or the hub has failed;
     /// something flies. Refused as 15, the device failed, and as 10, the hub refused what came of it, which is ended.
-    /// After 15 and 10 the flusher has ended. Decisions that the board cannot take for memory stay owed, and go first in
+    /// After 15 and 10 the flusher has ended. Notices that the board cannot take for memory stay owed, and go first in
     /// the next round; all that it took is published, but for want of memory, of which `is_published` tells. Behind a
     /// round in which the board was refused no growth nothing is owed, and all is published.
     pub fn flush_round<R: Wait, G: Gate>(
@@ -86,7 +89,7 @@ impl<V: Device, J: Naming, A: Node> Flusher<V, J, A> {
     ) -> Result<Option<Landed>, Refusal>
         ensures round { IfOk result (λ some. IfSome some (λ landed. IsRound V.disk V.clock V.left_since A.member A.opening (device_in self.old) (device_in self.new)
             (known_to self.old) (known_to self.new) landed)) }
-        ensures told { IfOk result (λ some. IfSome some (λ landed. told_to self.new ≡ told_to self.old ++ landed.decisions.items)) }
+        ensures told { IfOk result (λ some. IfSome some (λ landed. told_to self.new ≡ told_to self.old ++ decided_all landed.decisions.items)) }
         ensures published { IsPrefix (published (board_of self.old)) (published (board_of self.new)) }
         ensures pending { is_published self.new ≡ true → pending (board_of self.new) ≡ [] }
         ensures all { IfOk result (λ some. IfSome some (λ _. LackedMemory (board_of self.old) (board_of self.new)
@@ -95,7 +98,7 @@ impl<V: Device, J: Naming, A: Node> Flusher<V, J, A> {
         ensures none { IfOk result (λ some. IfNone some ((journal_of self.new ≡ journal_of self.old) × (known_to self.new ≡ known_to self.old))) }
         ensures kept { IfOk result (λ some. IfNone some (told_to self.new ≡ told_to self.old)) }
 
-        // Refused, no decision is lost.
+        // Refused, no notice is lost.
         ensures refusal { IfErr result (λ why. IsIdle why ⊎ (IsFault (V.count (device_in self.old)) (V.count (device_in self.new)) why ⊎ (why ≡ Refusal.Foreign))) }
         ensures idle { IfErr result (λ why. IsIdle why → (journal_of self.new ≡ journal_of self.old) × (known_to self.new ≡ known_to self.old)) }
         ensures spoiled { IfErr result (λ why. IsFault (V.count (device_in self.old)) (V.count (device_in self.new)) why → is_spoiled (journal_of self.new) ≡ true) }
@@ -139,7 +142,8 @@ impl<V: Device, J: Naming, A: Node> Flusher<V, J, A> {
                         Err(refusal)
                     }
                     Ok(landed) => {
-                        *is_published = board.publish_owed(rt, owed, &landed.decisions).is_ok();
+                        owe(owed, &landed.decisions);
+                        *is_published = board.publish_owed(rt, owed, &[]).is_ok();
                         Ok(Some(landed))
                     }
                 }
@@ -163,8 +167,8 @@ impl<V: Device, J: Naming, A: Node> Flusher<V, J, A> {
         self.is_published
     }
 
-    /// The journal, the board, and the decisions that the board could not take yet.
-    pub fn into_parts(self) -> (Journal<V>, Board<J>, VecDeque<Decision>)
+    /// The journal, the board, and the notices that the board could not take yet.
+    pub fn into_parts(self) -> (Journal<V>, Board<J>, VecDeque<Notice>)
         ensures journal { result.0 ≡ journal_of self }
         ensures board { result.1 ≡ board_of self }
         ensures owed { result.2.items ≡ owed_of self }

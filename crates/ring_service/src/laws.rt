@@ -7,7 +7,7 @@ ghost use Rattle.ring_records.specs.declared.candidate.Candidate.{Candidate};
 ghost use Rattle.ring_records.specs.declared.decision.Decision.{Decision};
 ghost use Rattle.ring_records.specs.declared.input.Input.{Input};
 ghost use Rattle.ring_records.specs.declared.key.Key.{Key};
-ghost use Rattle.ring_records.specs.Content.{leader_in, leads_in, IsNotBelow};
+ghost use Rattle.ring_records.specs.Notices.{decided_all, leader_in, leads_in, IsNotBelow};
 ghost use Rattle.ring_records.specs.Leader.{IsLatest};
 ghost use Rattle.ring_records.specs.States.{NodeState, IsLawfulState, left_by};
 ghost use Rattle.gated_journal.specs.Areas.{AllReadAs};
@@ -77,7 +77,7 @@ pub fn released_by_a_flusher<V: Device, A: Node>()
 pub fn restarted_board()
     ensures decisions { (me : ℕ) (h more : List Input) (list longer : List Decision) (d : Decision) → AreLater me h more list longer → Contains list d → Contains longer d }
     ensures leader { (me : ℕ) (h more : List Input) (list longer : List Decision) (key : Key) (c : Candidate) → AreLater me h more list longer
-        → leader_in list key ≡ Some c → leader_in longer key ≡ Some c }
+        → leader_in (decided_all list) key ≡ Some c → leader_in (decided_all longer) key ≡ Some c }
     ensures never_down { (me : ℕ) (h more : List Input) (list longer : List Decision) (group : List ℕ) (a b : Option (ℕ × Candidate)) → AreLater me h more list longer
-        → IsLatest (leads_in list group) a → IsLatest (leads_in longer group) b → IsNotBelow a b }
+        → IsLatest (leads_in (decided_all list) group) a → IsLatest (leads_in (decided_all longer) group) b → IsNotBelow a b }
 {}

@@ -7,6 +7,7 @@ mod board;
 mod flusher;
 mod gate;
 pub mod laws;
+mod notices;
 mod service;
 mod settings;
 mod start_fault;

@@ -2,7 +2,7 @@ use Rattle.std.proofs.Common.{◌≡◌, ◌+◌, ◌≤◌, ◌++◌, length, t
 use Rattle.std.specs.VecDeque.{deque_len, deque_capacity}
 use Rattle.decision_board.proofs.owed.owe.Given as goal
 
--- the first decisions are owed too, and there is room for the others
-abbrev pub invariant-loop-decision : goal.invariant-loop-decision
-invariant-loop-decision l = (l.owed.items ≡ l.fn.owed.items ++ take l.decision-index l.decisions)
-    × (deque_len l.owed + length l.decisions ≤ deque_capacity l.owed + l.decision-index)
+-- the first notices are owed too, and there is room for the others
+abbrev pub invariant-loop-notice : goal.invariant-loop-notice
+invariant-loop-notice l = (l.owed.items ≡ l.fn.owed.items ++ take l.notice-index l.notices)
+    × (deque_len l.owed + length l.notices ≤ deque_capacity l.owed + l.notice-index)

@@ -8,7 +8,7 @@ pub take_all-requires-clause-posted : goal.take_all-requires-clause-posted
 take_all-requires-clause-posted g c =
     let o = c.into_parts-head.ensures in
     let front = c.new-first.ensures.front ∙ c.again.ensures in
-    let posted = posted_none g.J.Naming.book c.new-first.result c.new-first.ensures.leaders (ap (λ f. f.seen.log) front ∙ o.empty) (ap (λ f. f.seen.book) front ∙ (o.book ∙ c.requires.history)) in
+    let posted = posted_none g.J.Naming.book c.new-first.result c.new-first.ensures.leaders c.new-first.ensures.floors (ap (λ f. f.seen.log) front ∙ o.empty) (ap (λ f. f.seen.book) front ∙ (o.book ∙ c.requires.history)) in
     (posted, front ∙ sym c.again-all.ensures, ap (λ f. f.seen.log) c.again-all.ensures ∙ o.empty)
 
 pub invariant_of-result : goal.invariant_of-result

@@ -13,5 +13,5 @@ compare_exchange-found-requires c =
       mine ∙ sym (ap (λ w. w.book) h),
       pen.0 ∙ (mine ∙ sym (ap (λ w. w.book) h)),
       offer.0,
-      rw (ap (λ w. w.key) h, pen.1, offer.1, offer.3, copy) (adds_moves c.args.self.now.seen.log c.args.decision.now c.args.self.now.count (sym c.args.self.now.counted)),
+      rw (ap (λ w. w.key) h, pen.1, offer.1, offer.3, copy) (adds_moves c.args.self.now.seen.log c.args.notice.now c.args.self.now.count (sym c.args.self.now.counted)),
     )

@@ -1,9 +1,9 @@
 use Rattle.std.proofs.Common.{sym, subst, List}
 use mathlib.Core.List.{IsPrefix}
-use Rattle.ring_records.specs.declared.decision.Decision.{Decision}
-use Rattle.ring_records.specs.Content.{leads_in}
+use Rattle.ring_records.specs.declared.notice.Notice.{Notice}
+use Rattle.ring_records.specs.Notices.{leads_in}
 use Rattle.ring_records.specs.Leader.{IsLatest}
-use Rattle.ring_records.proofs.Content.{latest_in-kept}
+use Rattle.ring_records.proofs.Notices.{latest_in-kept}
 use Rattle.ring_records.proofs.Prefixes.{prefix_trans}
 use Rattle.decision_board.proofs.reader.BoardReader.latest.Goals as goal
 
@@ -16,5 +16,5 @@ returns-else-not-covers-clause-never_down g c before e =
     let on : IsPrefix c.self.inside.seen.seen.log c.in-Some.front.seen.log =
     prefix_trans c.self.inside.seen.seen.log c.self.inside.place.place.me.0.client c.in-Some.front.seen.log c.self.invariant.2 c.in-Some.ensures.3 in
     let old : IsLatest (leads_in c.self.inside.seen.seen.log c.args.group.now) before =
-    subst (λ (s : List Decision × List Decision). IsLatest (leads_in s.0 c.args.group.now) before) (sym c.self.view_is) e in
+    subst (λ (s : List Notice × List Notice). IsLatest (leads_in s.0 c.args.group.now) before) (sym c.self.view_is) e in
     latest_in-kept c.self.inside.seen.seen.log c.in-Some.front.seen.log on c.args.group.now before c.in-Some.latest old c.in-Some.ensures.0

@@ -1,8 +1,8 @@
 use Rattle.std.proofs.Common.{◌⊎◌, List, subst}
 use mathlib.Core.List.{IsPrefix}
-use Rattle.ring_records.specs.declared.decision.Decision.{Decision}
+use Rattle.ring_records.specs.declared.notice.Notice.{Notice}
 use Rattle.decision_board.proofs.reader.BoardReader.learn.Goals as goal
 
 pub returns-else-covers-clause-one_history : goal.returns-else-covers-clause-one_history
 returns-else-covers-clause-one_history g c = rw (← c.self.view_is)
-    (subst (λ (l : List Decision). IsPrefix c.self.inside.seen.seen.log l ⊎ IsPrefix l c.self.inside.seen.seen.log) c.into_front-front.ensures.log c.one_history.ensures)
+    (subst (λ (l : List Notice). IsPrefix c.self.inside.seen.seen.log l ⊎ IsPrefix l c.self.inside.seen.seen.log) c.into_front-front.ensures.log c.one_history.ensures)
