@@ -1,21 +1,16 @@
 -- A batch that a hub launches, and what it lets the node release.
-use Rattle.std.proofs.Common.{◌≡◌, ℕ, ◌+◌, ◌-◌, ◌≤◌, List, ◌++◌, length, append_assoc, Result, Ok, Err, None, IfOk, sym, ap, ◌∙◌, subst, arith}
-use Rattle.std.specs.Prelude.{unwrap_or}
-use Rattle.ring_records.specs.declared.base.Base.{Base}
+use Rattle.std.proofs.Common.{◌≡◌, ℕ, ◌-◌, List, ◌++◌, length, append_assoc, Result, Ok, Err, IfOk, sym, ap, ◌∙◌, subst, arith}
 use Rattle.ring_records.specs.declared.input.Input.{Input}
 use Rattle.ring_records.specs.declared.packet.Packet.{Packet}
 use Rattle.ring_records.specs.declared.summary.Summary.{Summary}
-use Rattle.ring_records.specs.Admission.{costs_of, used}
 use Rattle.ring_records.specs.Member.{Member}
 use Rattle.ring_records.specs.Release.{packets, decisions, window}
 use Rattle.ring_records.specs.States.{NodeState, IsNodeState, IsLawfulState, launched_base, durable_in, flown_in, flying_in}
 use Rattle.ring_records.specs.States as states
-use Rattle.ring_records.proofs.Lists.{none≢some}
-use Rattle.gated_journal.specs.Batch.{Numbered, numbered}
 use Rattle.group_commit.specs.declared.landed.Landed.{Landed}
-use Rattle.group_commit.specs.Desk.{DeskKept, launched, landed, seen}
+use Rattle.group_commit.specs.Desk.{DeskKept, landed, seen}
 use Rattle.group_commit.specs.Past.{IsPast, shifted}
-use Rattle.group_commit.proofs.Costs.{base_stays, flown, flown_count}
+use Rattle.group_commit.proofs.Costs.{flown, flown_count}
 use Rattle.group_commit.proofs.Past.{durable-shifted, flying-shifted}
 use Rattle.commit_hub.specs.Told.{IsBrought, IsWindow}
 
@@ -24,14 +19,6 @@ pub named : (P : Member → Summary → Type 0) (d : DeskKept) (m : Member) (ope
 named P d m opening of from holds = subst (λ (x : Member). P x opening) of (subst (P d.view.member) from holds)
 
 -- ---- lands
-
-pub landed_counts : (s : NodeState) → s.checkpoint ≡ None → IsNodeState s → IsNodeState (states.landed s)
-landed_counts s none counts = record {
-  durable = omega arith;
-  flying = counts.flying;
-  based = omega (arith, ap (λ (b : Base). b.inputs) (base_stays s none), counts.based, counts.durable);
-  checkpointed = λ b e. none≢some b e;
-}
 
 -- as many land as fly
 pub lands_all : (s : NodeState) (count : ℕ) (inputs : List Input) → IsNodeState s → count ≡ s.flying - s.durable → inputs ≡ flying_in s → count ≡ length inputs

@@ -1,4 +1,3 @@
-pub mod Sums
 pub mod Batches
 pub mod Requests
 pub mod Works

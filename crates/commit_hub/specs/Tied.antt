@@ -2,7 +2,6 @@
 use Rattle.std.specs.Prelude.{ℕ, ◌+◌, List, [], ◌++◌, length}
 use Rattle.std.specs.Coded.{Coded, codes}
 use base.Fml.{Fml, fobs, fauth}
-use Rattle.ring_records.specs.declared.base.Base.{Base}
 use Rattle.ring_records.specs.declared.input.Input.{Input}
 use Rattle.ring_records.specs.Admission.{fresh, newest}
 pub use Rattle.group_commit.specs.Next.{Durable, durable_part, with_area, with_batch}

@@ -83,6 +83,3 @@ numbered s epoch bytes whole part behind n bytes_are n_is whole_is part_is =
     let all : take 1 whole ++ (part ++ drop 8 (drop 1 whole)) ≡ new_area newest epoch s = λ i. take 1 (whole_now i) ++ (part_is i ++ drop 8 (drop 1 (whole_now i))) in
     let long : n ≡ length (new_area newest epoch s) = omega (arith, n_is, ap length bytes_are, length-append (snapshot_of s) (0 ∷ [])) in
     ap (λ (l : List ℕ). take n (l ++ behind)) all ∙ take_at (new_area newest epoch s) behind n (sym long)
-
-pub length-blank_area : (s : Summary) → length (blank_area s) ≡ 14 + snapshot_len s
-length-blank_area s = omega (arith, length-append (snapshot_of s) (0 ∷ []), length-snapshot s)

@@ -44,9 +44,6 @@ pub record Spells (inputs : List Input) (head bytes : List ℕ) : Type 0 where
   pub bytes_are : bytes ≡ head ++ records inputs
   pub have : HaveRecords inputs
 
-pub spells-none : (head bytes : List ℕ) → bytes ≡ head → Spells [] head bytes
-spells-none head bytes is = record { bytes_are = is ∙ sym (append-nil head); have = tt }
-
 pub spells-item : (inputs : List Input) (i : ℕ) (x : Input) (head bytes more : List ℕ) → IsItem inputs i x → Spells (take i inputs) head bytes → more ≡ bytes ++ record_of x → HasRecord x → Spells (take (i + 1) inputs) head more
 spells-item inputs i x head bytes more here spells is has =
     let pushed : take (i + 1) inputs ≡ take i inputs ++ x ∷ [] = take-item inputs i x here in

@@ -1,6 +1,6 @@
 -- Records taken from the front of bytes, one after the other.
-use Rattle.std.proofs.Common.{◌≡◌, ℕ, eqb, true, false, ◌+◌, ◌<◌, ◌≤◌, List, [], ◌∷◌, ◌++◌, length, drop, Err, refl, sym, ◌∙◌, ap, arith, append_assoc, length-append, take-append-drop}
-use Rattle.std.proofs.lemmas.List.{append_cancel_left, append-nil}
+use Rattle.std.proofs.Common.{◌≡◌, ℕ, eqb, true, false, ◌+◌, ◌<◌, ◌≤◌, List, [], ◌∷◌, ◌++◌, length, drop, Err, sym, ◌∙◌, ap, arith, append_assoc, length-append, take-append-drop}
+use Rattle.std.proofs.lemmas.List.{append_cancel_left}
 use Rattle.ring_records.specs.declared.input.Input.{Input}
 use Rattle.ring_records.specs.declared.record.RecordFault.{RecordFault}
 use Rattle.ring_records.specs.Record.{BeginsWith, record_of, record_read}
@@ -8,9 +8,6 @@ use Rattle.ring_records.proofs.Records.{record-again, records-apart}
 use Rattle.gated_journal.specs.Frames.{records, HaveRecords}
 use Rattle.gated_journal.specs.NextFrame.{TakesRecords}
 use Rattle.gated_journal.proofs.Spelled.{records-push, have-push}
-
-pub taken_none : (old : List Input) (bytes : List ℕ) → TakesRecords old old 0 bytes bytes
-taken_none old bytes = record { batch = []; added = sym (append-nil old); many = refl; have = tt; spelled = refl }
 
 -- one record more
 pub taken_more : (old mid : List Input) (count size : ℕ) (bytes rest : List ℕ) (x : Input) → TakesRecords old mid count bytes rest → BeginsWith rest x size → TakesRecords old (mid ++ x ∷ []) (count + 1) bytes (drop size rest)

@@ -150,15 +150,3 @@ module _ (layout : ℕ) (found : Found) (rest bytes : List ℕ) (r : IsReader la
       few (Damaged at) is = omega (arith, ap length (r.none (λ going. subst IsOpen is going)))
 
 -- ---- a new reader
-
-pub new_reader : (layout : ℕ) (found : Found) → found.stage ≡ Head → found.snapshot.taken ≡ [] → found.inputs.items ≡ [] → found.at ≡ 0 → IsReader layout found [] []
-new_reader layout found stage snapshot inputs at = record {
-  taken = [];
-  behind = [];
-  whole = refl;
-  at = at;
-  holds = subst (λ (s : Stage). IsFound layout found.snapshot.n s found.snapshot.taken found.inputs.items [] []) (sym stage) (refl, (snapshot, inputs));
-  waits = subst (λ (s : Stage). IsWaiting s []) (sym stage) (omega arith);
-  rest_is = λ going. refl;
-  none = λ closed. refl;
-}

@@ -1,11 +1,11 @@
 -- What a work shows, which journals take it, and what they read as behind it.
-use Rattle.std.specs.Prelude.{◌≡◌, ◌+◌, ◌-◌, ◌^◌, ◌<◌, ◌≤◌, ℕ, if◌then◌else◌, List, length, Option, Some, None}
+use Rattle.std.specs.Prelude.{◌≡◌, ◌+◌, ◌-◌, ◌^◌, ◌<◌, ◌≤◌, ℕ, Bool, if◌then◌else◌, List, length, Option, Some, None}
 use Rattle.ring_records.specs.declared.input.Input.{Input}
 use Rattle.ring_records.specs.declared.summary.Summary.{Summary}
 use Rattle.ring_records.specs.Admission.{costs_of, newest}
 use Rattle.ring_records.specs.Member.{Member}
 use Rattle.ring_records.specs.Snapshot.{IsSound, snapshot_len}
-use Rattle.gated_journal.specs.Batch.{Numbered, is_checkpoint, numbered_by, base_by, shown}
+use Rattle.gated_journal.specs.Batch.{Numbered, numbered_by, base_by, shown}
 use Rattle.gated_journal.specs.Reading.{Reading, fresh_area, with_more}
 use Rattle.gated_journal.specs.declared.work.Work.{Work}
 use Rattle.gated_journal.specs.declared.work.Work.TheVariants as works
@@ -22,9 +22,9 @@ abbrev pub summary_by : Work → Option Summary
 summary_by (works.Batch batch) = None
 summary_by (works.Checkpoint made) = Some (base_by made)
 
--- how many syncs it takes: two of a batch, and one more of a checkpoint, which closes a gate first
-abbrev pub syncs_of : Numbered → ℕ
-syncs_of n = if is_checkpoint n then 3 else 2
+-- how many syncs a checkpoint takes, which closes a gate first, or else a batch
+abbrev pub syncs_of : Bool → ℕ
+syncs_of is_checkpoint = if is_checkpoint then 3 else 2
 
 -- ---- what a journal takes
 

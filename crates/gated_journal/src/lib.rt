@@ -32,4 +32,4 @@ pub use flown::{Flown, Receipt, Spoiled};
 pub use journal::Journal;
 pub use layout::{device_size, is_header};
 pub use opening::Opening;
-pub use work::Work;
+pub use work::{Work, syncs};

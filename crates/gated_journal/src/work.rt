@@ -46,10 +46,17 @@ impl Work {
         }
     }
 
-    /// How many syncs of the device it takes where none fails: 2 of a batch, 3 of a checkpoint.
+    /// How many syncs of the device it takes where none fails.
     pub fn syncs(&self) -> u64
-        ensures { result ≡ syncs_of (flown_by self.now) }
+        ensures { result ≡ syncs_of (is_checkpoint (flown_by self.now)) }
     {
-        if self.is_checkpoint() { 3 } else { 2 }
+        syncs(self.is_checkpoint())
     }
+}
+
+/// How many syncs of its device a journal takes for a checkpoint, 3, or for a batch, 2, where none fails.
+pub fn syncs(is_checkpoint: bool) -> u64
+    ensures { result ≡ syncs_of is_checkpoint }
+{
+    if is_checkpoint { 3 } else { 2 }
 }

@@ -1,29 +1,26 @@
 -- A desk that was opened with no summarised input, for those who hold one: it has no past.
 use Rattle.std.proofs.Common.{◌≡◌, ◌+◌, List, [], ◌∷◌, ◌++◌, append_assoc, length, take, drop, Option, Some, None, refl, sym, ap, ◌∙◌, subst, arith}
-use Rattle.std.specs.List.{cons_option}
 use Rattle.std.specs.Option.{option_map}
 use Rattle.std.proofs.lemmas.List.{length-append}
 use Rattle.std.proofs.lemmas.Option.{slice_get_within, get_or_from_slice_get}
 use Rattle.ring_records.specs.declared.base.Base.{Base}
 use Rattle.ring_records.specs.declared.input.Input.{Input}
 use Rattle.ring_records.specs.declared.refusal.Refusal.{Refusal}
-use Rattle.ring_records.specs.declared.request.Request.{Request}
 use Rattle.ring_records.specs.declared.summary.Summary.{Summary}
-use Rattle.ring_records.specs.Admission.{fresh, IsAdmitted, IsLawful}
+use Rattle.ring_records.specs.Admission.{IsAdmitted, IsLawful}
 use Rattle.ring_records.specs.Lists.{EachAfter}
-use Rattle.ring_records.specs.Member.{Member, IsHistory}
-use Rattle.ring_records.specs.States.{NodeState, IsLawfulState, gained_by}
+use Rattle.ring_records.specs.Member.{Member}
+use Rattle.ring_records.specs.States.{NodeState}
 use Rattle.ring_records.specs.Summary.{empty}
 use Rattle.ring_records.proofs.Admission.{admitted-free}
 use Rattle.ring_records.proofs.Growth.{EachAfter-at}
 use Rattle.ring_records.proofs.Lists.{none≢some}
 use Rattle.ring_records.proofs.LookBack.{IsItem, cut-item}
 use Rattle.ring_records.proofs.Sound.{summary-none}
-use Rattle.group_commit.specs.Desk.{DeskView, DeskKept, seen, answered, ticket_for, submitted, IsSubmitted, IsHere}
-use Rattle.group_commit.specs.Opening.{opened_core, core_after, IsKnownLawful, IsUnlawful, IsOf}
+use Rattle.group_commit.specs.Desk.{DeskKept, seen}
+use Rattle.group_commit.specs.Opening.{opened_core, core_after, IsUnlawful, IsOf}
 use Rattle.group_commit.specs.Past.{IsPast, moved, shifted}
-use Rattle.group_commit.specs.Ticket.{TicketView, ticket_with}
-use Rattle.group_commit.proofs.Past.{follows, free_since, lawful_past, refused-is, used-moved}
+use Rattle.group_commit.proofs.Past.{follows, free_since, refused-is, used-moved}
 use Rattle.group_commit.proofs.Since.{lawful_opened, used-since}
 
 -- no inputs are its past
@@ -48,54 +45,6 @@ shifted_none s =
 
 pub seen_none : (desk : DeskKept) → seen [] desk ≡ desk.view
 seen_none desk = λ i. record desk.view { state = shifted_none desk.view.state i }
-
--- what holds of what is seen holds of what it shows
-pub shown : (P : DeskView → Type 0) (desk : DeskKept) → P (seen [] desk) → P desk.view
-shown P desk holds = subst P (seen_none desk) holds
-
--- ---- what it accepts
-
-pub lawful_new : (m : Member) (l : List Input) → IsKnownLawful (opened_core m empty fresh.bytes) l → IsHistory m l
-lawful_new m l lawful = lawful_past m empty fresh [] l (no_past m empty refl) (lawful_opened m empty fresh l refl lawful)
-
--- a ticket is given for the request as its history says
-pub submitted_new : (q : Request) (old new : DeskKept) (ticket : TicketView) → old.opening ≡ empty → IsSubmitted q old new ticket
-    → (ticket ≡ ticket_for q old.view) × ((new ≡ record old { view = submitted q old.view }) × IsHere new.view ticket (answered old.view q))
-submitted_new q old new ticket is s =
-    let d = old.view in
-    let told = s.answer [] (no_past d.member old.opening is) in
-    let given : s.given ≡ answered d q = told.0 ∙ ap (λ (v : DeskView). answered v q) (seen_none old) in
-    let gains : cons_option s.more [] ≡ gained_by d.member d.state q = told.1 ∙ ap (λ (t : NodeState). gained_by d.member t q) (shifted_none d.state) in (
-      s.ticket_is ∙ ap (ticket_with d.member.node d.run d.issued) given,
-      (
-        s.next ∙ (λ i. record old { view = record d { state = record d.state { inputs = d.state.inputs ++ gains i }; tickets = d.tickets ++ (d.issued, given i) ∷ []; issued = d.issued + 1 } }),
-        subst (IsHere new.view ticket) given s.here,
-      ),
-    )
-
--- each of these on its own
-pub ticket_new : (q : Request) (old new : DeskKept) (ticket : TicketView) → old.opening ≡ empty → IsSubmitted q old new ticket → ticket ≡ ticket_for q old.view
-ticket_new q old new ticket is s = (submitted_new q old new ticket is s).0
-
-pub view_new : (q : Request) (old new : DeskKept) (ticket : TicketView) → old.opening ≡ empty → IsSubmitted q old new ticket → new.view ≡ submitted q old.view
-view_new q old new ticket is s = ap (λ (d : DeskKept). d.view) (submitted_new q old new ticket is s).1.0
-
-pub here_new : (q : Request) (old new : DeskKept) (ticket : TicketView) → old.opening ≡ empty → IsSubmitted q old new ticket → IsHere new.view ticket (answered old.view q)
-here_new q old new ticket is s = (submitted_new q old new ticket is s).1.1
-
--- whatever its opening, it stays
-pub opening_kept : (q : Request) (old new : DeskKept) (ticket : TicketView) → IsSubmitted q old new ticket → new.opening ≡ old.opening
-opening_kept q old new ticket s = ap (λ (d : DeskKept). d.opening) s.next
-
--- ---- what is said of each past
-
--- holds of what it shows
-pub told_new : (P : DeskView → Type 0) (desk : DeskKept) → desk.opening ≡ empty → ((past : List Input) → IsPast desk.view.member desk.opening past → P (seen past desk)) → P desk.view
-told_new P desk is told = shown P desk (told [] (no_past desk.view.member desk.opening is))
-
-pub lawful_state_new : (desk : DeskKept) → desk.opening ≡ empty
-    → ((past : List Input) → IsPast desk.view.member desk.opening past → IsLawfulState desk.view.member (seen past desk).state) → IsLawfulState desk.view.member desk.view.state
-lawful_state_new desk is told = told_new (λ v. IsLawfulState v.member v.state) desk is told
 
 -- ---- what is opened again
 

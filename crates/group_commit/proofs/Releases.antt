@@ -17,31 +17,13 @@ use Rattle.ring_records.specs.Admission.{where_so, already, stale}
 use Rattle.ring_records.specs.Known.{Objects, stood_of, known_of, sends, stepped}
 use Rattle.ring_records.specs.Lists.{or_else}
 use Rattle.ring_records.specs.Release.{numbered}
-use Rattle.ring_records.specs.Snapshot.{IsSound}
 use Rattle.ring_records.proofs.Admission.{or_else-none, where_so-none}
 use Rattle.ring_records.proofs.LookBack.{IsItem, take-item}
 use Rattle.neighbour_link.specs.Outlink.{LinkView, sent_count}
 use Rattle.node_core.specs.Brought.{brought}
 use Rattle.node_core.specs.declared.effects.Effects.{Effects}
 use Rattle.group_commit.specs.declared.released.Released.{Released}
-use Rattle.group_commit.specs.Outbox.{Keeps, leaders_in}
-
--- what it may release by a summary that is sound
-pub keeps_restored : (n : ℕ) (released : Released) (s : Summary) → IsSound n s → released.link.link.credited ≡ s.sent - length s.window → released.link.link.window ≡ s.window → released.decisions.items ≡ leaders_in s → released.taken ≡ s.taken → Keeps released s (leaders_in s)
-keeps_restored n released s sound credited window decided taken =
-    let within = sound.credit in
-    let left = sound.window in
-    let size = ap length window in
-    let acts = sound.acts in
-    record {
-      credited = omega (arith, credited, left, within);
-      window = window;
-      sent = omega (arith, credited, left, within, size);
-      taken = taken;
-      decisions = decided;
-      sent_few = sound.sent;
-      taken_few = omega (arith, acts);
-    }
+use Rattle.group_commit.specs.Outbox.{Keeps}
 
 -- ---- what nothing is against
 

@@ -1,5 +1,5 @@
 -- What is seen of a desk's whole history, behind any past: what its calls make of it, and that its state is lawful.
-use Rattle.std.proofs.Common.{◌≡◌, ℕ, ◌+◌, ◌≤◌, min, Bool, List, [], ◌∷◌, ◌++◌, append_assoc, length, take, Option, Some, None, refl, sym, ap, ◌∙◌, subst, arith}
+use Rattle.std.proofs.Common.{◌≡◌, ℕ, ◌+◌, ◌≤◌, min, List, [], ◌∷◌, ◌++◌, append_assoc, length, take, Option, Some, None, refl, sym, ap, ◌∙◌, subst, arith}
 use Rattle.std.specs.List.{cons_option}
 use Rattle.std.specs.Option.{option_map}
 use Rattle.std.proofs.Math.Seq.{take-add}
@@ -20,7 +20,7 @@ use Rattle.ring_records.specs.Summary.{summary}
 use Rattle.ring_records.proofs.Growth.{EachAfter-take}
 use Rattle.ring_records.proofs.Known.{after-known}
 use Rattle.ring_records.proofs.Lists.{none≢some}
-use Rattle.group_commit.specs.Desk.{DeskKept, first_base, seen, submitted, ended, launched, launched_all, landed, IsSubmitted}
+use Rattle.group_commit.specs.Desk.{DeskKept, first_base, seen, submitted, launched, launched_all, landed, IsSubmitted}
 use Rattle.group_commit.specs.Kept.{state_with}
 use Rattle.group_commit.specs.Opening.{opened_core, IsKnownLawful}
 use Rattle.group_commit.specs.Past.{IsPast, moved, shifted}
@@ -63,17 +63,6 @@ launched_seen past d = λ i. record d.view { state = launched_shifted past d.vie
 -- what flies is durable
 pub landed_seen : (past : List Input) (d : DeskKept) → seen past (record d { view = landed d.view }) ≡ landed (seen past d)
 landed_seen past d = λ i. record d.view { state = landed_shifted past d.view.state i }
-
--- a ticket ended
-pub ended_seen : (past : List Input) (own : ℕ) (d : DeskKept) → seen past (record d { view = ended own d.view }) ≡ ended own (seen past d)
-ended_seen past own d = refl
-
--- it is closed, or has failed
-pub closed_seen : (past : List Input) (closed : Bool) (d : DeskKept) → seen past (record d { view = record d.view { closed = closed } }) ≡ record (seen past d) { closed = closed }
-closed_seen past closed d = refl
-
-pub failed_seen : (past : List Input) (failed : Bool) (d : DeskKept) → seen past (record d { view = record d.view { failed = failed } }) ≡ record (seen past d) { failed = failed }
-failed_seen past failed d = refl
 
 -- ---- its state is lawful
 

@@ -1,5 +1,5 @@
 -- What a desk launches next.
-use Rattle.std.specs.Prelude.{ℕ, ◌≡◌, ◌+◌, ◌*◌, ◌<◌, ◌≤◌, ◌⊎◌, ◌&&◌, ◌||◌, not, nat_lt, Bool, true, false, if◌then◌else◌, List, ◌++◌, length, Option, Some, None, MatchOption}
+use Rattle.std.specs.Prelude.{ℕ, ◌≡◌, ◌+◌, ◌*◌, ◌<◌, ◌≤◌, ◌⊎◌, ◌&&◌, ◌||◌, not, nat_lt, Bool, false, if◌then◌else◌, List, ◌++◌, length, Option, Some, None}
 use Rattle.std.specs.Option.{option_map}
 use Rattle.ring_records.specs.declared.base.Base.{Base}
 use Rattle.ring_records.specs.declared.input.Input.{Input}

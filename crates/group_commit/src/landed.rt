@@ -3,6 +3,7 @@ ghost use Rattle.std.specs.Prelude.{◌≡◌, ◌+◌, ◌++◌, ◌∷◌, ◌
 ghost use Rattle.std.specs.List.{cons_option};
 ghost use Rattle.ring_records.specs.declared.packet.Packet.TheVariants.{Credit};
 
+use gated_journal::syncs;
 use node_core::Effects;
 use ring_records::{Decision, Packet};
 use std::alloc::{AllocError, Global};
@@ -23,7 +24,15 @@ pub struct Landed {
 }
 
 impl Landed {
+    ghost use Rattle.gated_journal.specs.Works.{syncs_of};
     ghost use Rattle.group_commit.specs.Outbox.{IsReady};
+
+    /// How many syncs of the device it took.
+    pub fn syncs(&self) -> u64
+        ensures { result ≡ syncs_of self.now.is_checkpoint }
+    {
+        syncs(self.is_checkpoint)
+    }
 
     // Of no inputs.
     pub(crate) fn new(alloc: Global) -> Landed

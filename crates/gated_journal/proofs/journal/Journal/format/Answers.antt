@@ -1,4 +1,4 @@
-use Rattle.std.proofs.Common.{◌≡◌, ◌+◌, ℕ, sym, ◌∙◌, subst, arith, refl}
+use Rattle.std.proofs.Common.{◌+◌, ℕ, sym, ◌∙◌, subst, arith, refl}
 use Rattle.ring_records.specs.Admission.{newest}
 use Rattle.ring_records.specs.Member.{member}
 use Rattle.ring_records.specs.Summary.{empty}

@@ -1,4 +1,4 @@
-use Rattle.std.proofs.Common.{rules, ◌≡◌, ◌+◌, ℕ, List, length, refl, sym, ◌∙◌, ap, subst, arith}
+use Rattle.std.proofs.Common.{rules, ◌≡◌, ℕ, List, length, refl, sym, ◌∙◌, ap, subst, arith}
 use Rattle.ring_records.specs.Admission.{costs_of}
 use Rattle.ring_records.specs.Member.{member}
 use Rattle.ring_records.specs.Snapshot.{snapshot_len}
