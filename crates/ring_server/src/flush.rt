@@ -20,12 +20,10 @@ fn flush_once<V: Device, J: Naming, A: Node, R: Wait>(
 }
 
 /// Counts what landed, and sends what that releases.
-fn release<R: Wait>(rt: &R, landed: &Landed, is_checkpoint: bool, links: &Links<'_>) {
-    if is_checkpoint {
-        links.tally.count_checkpoint();
-    } else {
-        links.tally.count_batch();
-    }
+fn release<R: Wait>(rt: &R, landed: &Landed, links: &Links<'_>) {
+    links
+        .tally
+        .count_landed(landed.is_checkpoint, landed.syncs());
     links.send_all(rt, &landed.packets);
 }
 
@@ -38,9 +36,8 @@ pub(crate) fn flush_all<V: Device, J: Naming, A: Node, R: Wait + Clock>(
     links: &Links<'_>,
 ) -> bool {
     for _ in rt.forever() {
-        let epoch = flusher.epoch();
         match flush_once(rt, hub, flusher) {
-            Ok(Some(landed)) => release(rt, &landed, flusher.epoch() > epoch, links),
+            Ok(Some(landed)) => release(rt, &landed, links),
             Ok(None) => return true,
             Err(Refusal::OutOfMemory) => rt.sleep(Duration::from_millis(1)),
             Err(_) => break,

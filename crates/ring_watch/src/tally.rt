@@ -4,18 +4,13 @@ use ring_status::RefusalCount;
 use std::alloc::{AllocError, Global};
 use std::sync::atomic::{AtomicU64, Ordering};
 
-/// A batch is written with a sync behind its frame, and one behind its gate.
-const BATCH_SYNCS: u64 = 2;
-
-/// A checkpoint is written with a sync behind the gate that it closes, one behind its snapshot, and one behind its gate.
-const CHECKPOINT_SYNCS: u64 = 3;
-
 /// What the threads of a node count since the start. It is read while they count, so two numbers of it may be of two
 /// moments.
 #[derive(Drop)]
 pub struct Tally {
     batches: AtomicU64,
     checkpoints: AtomicU64,
+    syncs: AtomicU64,
     sessions: AtomicU64,
     busy: AtomicU64,
     // by their numbers, from 1 on
@@ -32,20 +27,21 @@ impl Tally {
         Ok(Tally {
             batches: AtomicU64::new(0),
             checkpoints: AtomicU64::new(0),
+            syncs: AtomicU64::new(0),
             sessions: AtomicU64::new(0),
             busy: AtomicU64::new(0),
             refusals,
         })
     }
 
-    /// A batch is durable.
-    pub fn count_batch(&self) {
-        self.batches.fetch_add(1, Ordering::SeqCst);
-    }
-
-    /// A checkpoint is durable.
-    pub fn count_checkpoint(&self) {
-        self.checkpoints.fetch_add(1, Ordering::SeqCst);
+    /// A batch is durable, or a checkpoint, which took so many syncs.
+    pub fn count_landed(&self, is_checkpoint: bool, syncs: u64) {
+        if is_checkpoint {
+            self.checkpoints.fetch_add(1, Ordering::SeqCst);
+        } else {
+            self.batches.fetch_add(1, Ordering::SeqCst);
+        }
+        self.syncs.fetch_add(syncs, Ordering::SeqCst);
     }
 
     /// A session begins at one of the doors.
@@ -79,9 +75,7 @@ impl Tally {
 
     /// How many syncs all of these took.
     pub fn syncs(&self) -> u64 {
-        let batches = self.batches().saturating_mul(BATCH_SYNCS);
-        let checkpoints = self.checkpoints().saturating_mul(CHECKPOINT_SYNCS);
-        batches.saturating_add(checkpoints)
+        self.syncs.load(Ordering::SeqCst)
     }
 
     /// How many sessions were begun.
