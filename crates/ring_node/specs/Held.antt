@@ -108,7 +108,7 @@ pub record IsShownBy (m : Member) (inputs : List Input) (durable : ℕ) (desk : 
 
 -- ---- what flies
 
--- a desk that launches it: by what it shows, and by what it keeps, which knows no past
+-- the desk once it launched this: of a whole history, and by what it keeps alone
 abbrev pub flies : Flight → DeskView → DeskView
 flies flight desk = record desk { state = launched_as flight desk.member.node desk.state }
 
@@ -116,17 +116,17 @@ abbrev pub launched_by : Flight → DeskKept → DeskView
 launched_by Batch desk = launched desk.view
 launched_by Checkpoint desk = launched_all desk
 
--- want of memory aside its desk launches this
+-- want of memory aside the desk launches this
 abbrev pub MayFly : Flight → DeskKept → Type 0
 MayFly Batch desk = desk.view.failed ≡ false
 MayFly Checkpoint desk = checkpoint_objection desk ≡ None
 
--- so does a node in this state
+-- so does the desk of a node in this state
 abbrev pub MayBegin : Flight → Member → NodeState → Type 0
 MayBegin Batch m s = Unit {0}
 MayBegin Checkpoint m s = checkpoint_refusal m s ≡ None
 
--- and its device is called then
+-- so does that of this node, and calls the device: it may be stopped then
 abbrev pub MayStop : Flight → NodeView → Type 0
 MayStop Batch v = v.durable < length v.inputs
 MayStop Checkpoint v = checkpoint_refusal v.member (state_of v) ≡ None

@@ -72,17 +72,17 @@ given i q w = record w { events = w.events ++ handed w.size i q }
 unfoldable pub asked : Option ℕ → ℕ → Request → RingView → RingView
 asked serial i q w = happens ((i, Submit q) ∷ []) i (held_at w i ++ record { serial = serial; kept = answered_at w i q } ∷ []) w
 
--- it is launched of a node in this state: a batch where something waits, a checkpoint in any case
+-- whether a node in this state launches it: a batch where something waits, a checkpoint in any case
 abbrev pub is_launched : Flight → NodeState → Bool
 is_launched Batch s = nat_lt s.durable (length s.inputs)
 is_launched Checkpoint s = true
 
--- as a batch, or all that the node accepted as a checkpoint
+-- that it does so: with a batch, or with all that it accepted, as a checkpoint
 abbrev pub launch : Flight → Action
 launch Batch = Launch
 launch Checkpoint = LaunchAll
 
--- where it is launched of node i, it lands
+-- what happens then at node i: it is launched, and lands
 abbrev pub landing : Flight → ℕ → NodeState → List (ℕ × Action)
 landing flight i s = if is_launched flight s then (i, launch flight) ∷ (i, Land) ∷ [] else []
 
