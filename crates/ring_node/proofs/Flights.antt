@@ -10,7 +10,7 @@ use Rattle.ring_records.specs.declared.msg.Msg.{Msg}
 use Rattle.ring_records.specs.declared.packet.Packet.{Packet}
 use Rattle.ring_records.specs.declared.refusal.Refusal.{Refusal}
 use Rattle.ring_records.specs.declared.refusal.Refusal.TheVariants as refused
-use Rattle.ring_records.specs.Admission.{where_so}
+use Rattle.ring_records.specs.Admission.{epochs, where_so}
 use Rattle.ring_records.specs.Emission.{sent}
 use Rattle.ring_records.specs.Lists.{or_else}
 use Rattle.ring_records.specs.Member.{Member}
@@ -22,7 +22,7 @@ use Rattle.ring_records.specs.Summary.{summary}
 use Rattle.ring_records.proofs.Lists.{none≢some}
 use Rattle.ring_records.proofs.States.{lawful-launched, lawful-launched_all, lawful-landed}
 use Rattle.gated_journal.specs.Unread.{IsFault}
-use Rattle.group_commit.specs.Desk.{DeskView, DeskKept, known_all, seen, landed, epochs, checkpoint_objection}
+use Rattle.group_commit.specs.Desk.{DeskView, DeskKept, known_all, seen, landed, checkpoint_objection}
 use Rattle.group_commit.specs.Past.{IsPast, moved}
 use Rattle.group_commit.proofs.Seen.{launched_seen, landed_seen, lawful_launched_all}
 use Rattle.node_store.specs.Recovery.{IsUnbegun}
