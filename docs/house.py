@@ -104,10 +104,11 @@ def parameters(text: str) -> int:
 
 
 def declarations(text: str) -> dict[str, Counter]:
-    """Each name that a file of definitions or lemmas declares, with the words of its declaration."""
+    """Each name that a file of definitions or lemmas declares, with the words of its declaration, which ends at an empty line."""
     found: dict[str, Counter] = defaultdict(Counter)
     name = None
     for line in text.splitlines():
+        name = name if line.strip() else None
         it = DECLARED.match(line)
         if it and not line.startswith(("use ", "--", "module ", "mod ", "pub mod ")):
             is_head = re.search(r"\s:\s|\s:$", line) or line.startswith(("data", "record", "pub data", "pub record"))
