@@ -20,7 +20,7 @@ use decision_board::{Board, Naming};
 use disk_model::Device;
 use ring_records::{Packet, Shown};
 use ring_service::{Flusher, opened_board};
-use ring_watch::{Inquiry, Tally};
+use ring_watch::Tally;
 use std::alloc::{AllocError, Global};
 use std::net::TcpListener;
 use std::sync::Wait;

@@ -1,9 +1,8 @@
 //! The flusher's end of a hub.
-ghost use Rattle.std.specs.Prelude.{◌≡◌, ◌+◌, ◌-◌, ◌<◌, ◌≤◌, ◌⊎◌, ◌++◌, [], true, false, is_err, length, IfOk, IfErr, IfSome, IfNone, IsErrOf, IsOk, OnErr, OnOk};
+ghost use Rattle.std.specs.Prelude.{◌≡◌, ◌+◌, ◌-◌, ◌<◌, ◌≤◌, ◌⊎◌, ◌++◌, [], true, false, is_err, length, IfOk, IfErr, IfSome, IfNone, IsErrOf, OnErr, OnOk};
 ghost use mathlib.Core.List.{IsPrefix};
-ghost use Rattle.ring_records.specs.Admission.{costs_of as costs_in};
 ghost use Rattle.ring_records.specs.Notices.{decided_all};
-ghost use Rattle.disk_model.specs.Disk.{LeavesOnly, HasCause, Reaches};
+ghost use Rattle.disk_model.specs.Disk.{LeavesOnly, Reaches};
 ghost use Rattle.gated_journal.specs.Areas.{AllReadAs, ReadsAsOneOf};
 ghost use Rattle.gated_journal.specs.Batch.{landed, lost};
 ghost use Rattle.gated_journal.specs.Journal.{device_of, member_of, len_of, room_of, epoch_of as journal_epoch, is_spoiled};
@@ -23,7 +22,7 @@ use crate::notices::owe;
 use commit_hub::{Hub, Node, Tie, Work};
 use decision_board::{Board, Naming};
 use disk_model::Device;
-use gated_journal::{Journal, Receipt, Spoiled};
+use gated_journal::Journal;
 use group_commit::Landed;
 use ring_records::{Notice, Refusal};
 use std::alloc::Global;

@@ -1,14 +1,13 @@
 // A round of a node: what flies becomes durable, a batch or a checkpoint.
-ghost use Rattle.std.specs.Prelude.{◌≡◌, ◌-◌, List, true, false, is_err, length, IfOk, IfErr, IsOk, OnOk, OnErr};
+ghost use Rattle.std.specs.Prelude.{◌≡◌, ◌-◌, List, true, false, IfOk, IfErr, IsOk, OnOk, OnErr};
 ghost use Rattle.disk_model.specs.Disk.{HasCause, LeavesOnly, Reaches};
 ghost use Rattle.ring_records.specs.declared.input.Input.{Input};
-ghost use Rattle.ring_records.specs.Admission.{costs_of};
 ghost use Rattle.ring_records.specs.Release.{packets, decisions};
 ghost use Rattle.ring_records.specs.States.{durable_in, flying_in};
-ghost use Rattle.gated_journal.specs.Areas.{AllReadAs, ReadsAsOneOf};
+ghost use Rattle.gated_journal.specs.Areas.{AllReadAs};
 ghost use Rattle.gated_journal.specs.Batch.{landed as receipted, lost};
-ghost use Rattle.gated_journal.specs.Journal.{device_of, member_of, len_of, room_of, epoch_of, is_spoiled};
-ghost use Rattle.gated_journal.specs.Reading.{Reading, device_size};
+ghost use Rattle.gated_journal.specs.Journal.{device_of};
+ghost use Rattle.gated_journal.specs.Reading.{device_size};
 ghost use Rattle.group_commit.specs.Desk.{IsFlying, landed, seen};
 ghost use Rattle.group_commit.specs.Past.{IsPast};
 ghost use Rattle.node_store.specs.Standing.{Flies, Stands};
