@@ -56,6 +56,23 @@ fn settings_that_are_refused(rt: HostRuntime) {
     plays(&rt, &[Ends(NO_FILE, b"", 2, UNREAD)]);
 }
 
+/// How long settings are that are one comment, and what is told of them.
+static LENGTHS: [(usize, &[u8]); 2] = [
+    (1_000_000, b"ringd: setting nodes is missing\n"),
+    (1_000_001, UNREAD),
+];
+
+#[test]
+fn settings_have_a_million_bytes_at_most(rt: HostRuntime) {
+    for row in &LENGTHS {
+        let (length, text) = *row;
+        let settings = vec![in rt.alloc(); b'#'; length].expect(&rt, "ample memory");
+        let ended = run(&rt, NONE, &settings);
+        assert_eq!(rt; ended.status, 2);
+        assert_eq!(rt; ended.err.as_slice(), text);
+    }
+}
+
 /// The program ends well on these words and settings, and prints this alone.
 fn shows<R>(rt: &R, words: &[&str], settings: &[u8], text: &[u8])
 where

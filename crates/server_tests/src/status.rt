@@ -165,6 +165,15 @@ const ASKED: Scenario = Scenario {
                     b"\r\nConnection: close\r\n\r\n",
                 ),
             ),
+            // what is refused behind an empty line is answered as it asks
+            Visit::Operator(
+                7235,
+                Status(
+                    b"\r\nHEAD /health HTTP/7\r\n\r\n",
+                    b"400 ",
+                    b"\r\nConnection: close\r\n\r\n",
+                ),
+            ),
             Visit::MeasuresHeads(7235),
             Visit::Asks(7236, b"who blue 4\n", b"none"),
             Visit::Asks(7237, b"who blue 4\n", b"none"),
