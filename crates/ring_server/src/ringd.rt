@@ -302,8 +302,8 @@ where
         + Files<File = File>
         + Net<Listener = TcpListener, Stream = TcpStream>,
     requires order { IsInOrder found_as found.items }
-    requires count { length found.items ≡ basis.now.settings.nodes }
-    requires fits { Fits found_as basis.now.settings.nodes found.items }
+    requires count { length found.items ≡ basis.now.settings.now.nodes }
+    requires fits { Fits found_as basis.now.settings.now.nodes found.items }
 {
     let ready = make_ready(rt, basis, found, made, err)?;
     let Serving {
@@ -335,8 +335,8 @@ fn make_ready<R: Files<File = File>, E: Write>(
     err: &mut E,
 ) -> Result<Vec<Ready<FileDevice>>, RunFault>
     requires order { IsInOrder found_as found.items }
-    requires count { length found.items ≡ basis.now.settings.nodes }
-    requires fits { Fits found_as basis.now.settings.nodes found.items }
+    requires count { length found.items ≡ basis.now.settings.now.nodes }
+    requires fits { Fits found_as basis.now.settings.now.nodes found.items }
 {
     let Basis {
         alloc,
