@@ -6,6 +6,7 @@ use Rattle.gated_journal.specs.Reading.{fresh_area}
 use Rattle.gated_journal.specs.Unread.{IsFault}
 use Rattle.group_commit.specs.Desk.{DeskKept, known_all}
 use Rattle.node_store.specs.Node.{desk_of, device_of}
+use Rattle.node_store.proofs.Flight.{objects as told_by}
 use Rattle.ring_server.proofs.Renewed.{works, objects, unbegun, objected, broken, in_memory}
 use Rattle.ring_server.proofs.open_node.OpenNode.renew.Goals as goal
 
@@ -30,7 +31,8 @@ returns-in-Limit-clause-kept g c = λ _.
 pub returns-in_default : goal.returns-in_default
 returns-in_default g c =
     let node = c.args.self.node in
-    let told = broken _ _ _ c.in-Err.refusal (objects _ _ _ _ _ _ _ node.stands (works _ _ c.args.self.open) c.in-Err.refusal) c.in_default.not-Limit c.in_default.not-Full c.in-Err.ensures.cause in
+    let working = works node.desk.view.closed node.desk.view.failed c.args.self.open in
+    let told = broken _ _ _ c.in-Err.refusal (λ is. objects _ _ working (told_by node.desk node.journal node.stands c.in-Err.refusal is)) c.in_default.not-Limit c.in_default.not-Full c.in-Err.ensures.cause in
     record {
       goes_on = tt;
       written = tt;
