@@ -20,8 +20,8 @@ use Rattle.ring_records.proofs.Sound.{summary-none}
 use Rattle.group_commit.specs.Desk.{DeskKept, seen}
 use Rattle.group_commit.specs.Opening.{opened_core, core_after, IsUnlawful, IsOf}
 use Rattle.group_commit.specs.Past.{IsPast, moved, shifted}
-use Rattle.group_commit.proofs.Past.{follows, free_since, refused-is, used-moved}
-use Rattle.group_commit.proofs.Since.{lawful_opened, used-since}
+use Rattle.group_commit.proofs.Past.{follows, free_since, refused-is, room-moved}
+use Rattle.group_commit.proofs.Since.{lawful_opened, room-since}
 
 -- no inputs are its past
 pub no_past : (m : Member) (opening : Summary) → opening ≡ empty → IsPast m opening []
@@ -50,7 +50,7 @@ seen_none desk = λ i. record desk.view { state = shifted_none desk.view.state i
 
 -- an opening whose inputs go on lawfully from its past is not refused for one of them
 pub no_unlawful : (m : Member) (opening : Summary) (base : Base) (past l : List Input) (why : Refusal) → base.inputs ≡ 0 → IsPast m opening past → IsLawful m.node m.n m.capacity (moved (length past) base) (past ++ l)
-    → IsUnlawful (opened_core m opening base.bytes) l why → ⊥
+    → IsUnlawful (opened_core m opening base) l why → ⊥
 unfolding IsLawful
 no_unlawful m opening base past l why none is lawful un =
     let c = moved (length past) base in
@@ -61,10 +61,10 @@ no_unlawful m opening base past l why none is lawful un =
     let admitted = EachAfter-at (IsAdmitted m.node m.n m.capacity c) [] (past ++ front) un.input (drop (un.index + 1) l) (subst (EachAfter (IsAdmitted m.node m.n m.capacity c) []) cut lawful) in
     let f = follows m opening past front is (free_since m opening base front (lawful_opened m opening base front none un.before)) in
     let sum = length-append past front in
-    let of : IsOf (core_after (opened_core m opening base.bytes) front) c (past ++ front) = record {
+    let of : IsOf (core_after (opened_core m opening base) front) c (past ++ front) = record {
       knows = f.knows;
-      bytes = sym (used-moved base past front ∙ used-since base front none);
+      room = room-since base front none ∙ sym (room-moved base past front);
       within = omega (arith, none, sum);
     } in
     none≢some un.refused_for (sym (admitted-free m.node m.n m.capacity c (past ++ front) un.input admitted)
-    ∙ sym (refused-is (core_after (opened_core m opening base.bytes) front) c (past ++ front) un.input (Some un.refused_for) of un.because))
+    ∙ sym (refused-is (core_after (opened_core m opening base) front) c (past ++ front) un.input (Some un.refused_for) of un.because))

@@ -1,14 +1,15 @@
 -- What a core knows and accepts since it was opened.
-use Rattle.std.proofs.Common.{◌≡◌, ℕ, ◌+◌, List, [], ◌∷◌, ◌++◌, append_assoc, append-nil, take, true, false, Result, Ok, Err, is_err, Option, Some, None, refl, sym, ap, ◌∙◌, subst, arith}
-use Rattle.std.specs.List.{sum_by}
+use Rattle.std.proofs.Common.{◌≡◌, ℕ, ◌+◌, List, [], ◌∷◌, ◌++◌, append_assoc, append-nil, take, Bool, true, false, ◌||◌, Result, Ok, Err, is_err, Option, Some, None, refl, sym, ap, ◌∙◌, subst, arith}
+use Rattle.std.specs.List.{list_any, sum_by}
 use Rattle.std.specs.Prelude.{is_ok, IfOk, IfSome, OnOk, OnErr}
 use Rattle.std.specs.Result.{result_err}
+use Rattle.std.proofs.lemmas.List.Folds.{list_any-append}
 use Rattle.std.proofs.lemmas.List.Sums.{fold-append, sum_by_push}
 use Rattle.std.proofs.lemmas.Option.{same_Some}
 use Rattle.ring_records.specs.declared.input.Input.{Input}
 use Rattle.ring_records.specs.declared.refusal.Refusal.{Refusal}
 use Rattle.ring_records.specs.declared.summary.Summary.{Summary}
-use Rattle.ring_records.specs.Admission.{cost}
+use Rattle.ring_records.specs.Admission.{cost, is_retire, taking}
 use Rattle.ring_records.specs.Known.{Objects, stepped, after}
 use Rattle.ring_records.specs.Lists.{EachAfter}
 use Rattle.ring_records.proofs.Admission.{or_else-none}
@@ -26,18 +27,31 @@ objects_none core x (first, objects, e) = subst (Objects core.size core.known x)
 
 -- ---- one more input
 
+or-none : (b : Bool) → b ≡ (b || false)
+or-none true = refl
+or-none false = refl
+
+or-assoc : (a b c : Bool) → ((a || b) || c) ≡ (a || (b || c))
+or-assoc true b c = refl
+or-assoc false b c = refl
+
 pub core-none : (core : CoreView) → core ≡ core_after core []
-core-none core = let same : core.used ≡ core.used + 0 = omega arith in λ i. record core { used = same i }
+core-none core =
+    let same : core.room.taken ≡ core.room.taken + 0 = omega arith in
+    λ i. record core { room = record core.room { taken = same i; waits = or-none core.room.waits i } }
 
 -- what the core becomes
-pub core-push : (first core new : CoreView) (l : List Input) (x : Input) → core ≡ core_after first l → new ≡ record core { known = stepped core.me core.known x; used = core.used + cost x } → new ≡ core_after first (l ++ x ∷ [])
+pub core-push : (first core new : CoreView) (l : List Input) (x : Input) → core ≡ core_after first l → new ≡ record core { known = stepped core.me core.known x; room = taking x core.room } → new ≡ core_after first (l ++ x ∷ [])
 core-push first core new l x is steps =
     let sum = sum_by_push cost l x in
-    let same : first.used + sum_by cost l + cost x ≡ first.used + sum_by cost (l ++ x ∷ []) = omega (arith, sum) in
-    steps ∙ (ap (λ (c : CoreView). record c { known = stepped c.me c.known x; used = c.used + cost x }) is
-    ∙ λ i. record first { known = sym (after-push first.me first.known l x) i; used = same i })
+    let same : first.room.taken + sum_by cost l + cost x ≡ first.room.taken + sum_by cost (l ++ x ∷ []) = omega (arith, sum) in
+    let waits : ((first.room.waits || list_any is_retire l) || is_retire x) ≡ (first.room.waits || list_any is_retire (l ++ x ∷ [])) =
+    or-assoc first.room.waits (list_any is_retire l) (is_retire x)
+    ∙ ap (λ b. first.room.waits || b) (ap (λ b. list_any is_retire l || b) (or-none (is_retire x)) ∙ sym (list_any-append is_retire l (x ∷ []))) in
+    steps ∙ (ap (λ (c : CoreView). record c { known = stepped c.me c.known x; room = taking x c.room }) is
+    ∙ λ i. record first { known = sym (after-push first.me first.known l x) i; room = record first.room { taken = same i; waits = waits i } })
 
-pub core-item : (first core new : CoreView) (inputs : List Input) (i : ℕ) (x : Input) → core ≡ core_after first (take i inputs) → IsItem inputs i x → new ≡ record core { known = stepped core.me core.known x; used = core.used + cost x }
+pub core-item : (first core new : CoreView) (inputs : List Input) (i : ℕ) (x : Input) → core ≡ core_after first (take i inputs) → IsItem inputs i x → new ≡ record core { known = stepped core.me core.known x; room = taking x core.room }
     → new ≡ core_after first (take (i + 1) inputs)
 core-item first core new inputs i x is here steps = core-push first core new (take i inputs) x is steps ∙ ap (core_after first) (sym (take-item inputs i x here))
 

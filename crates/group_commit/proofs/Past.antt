@@ -1,8 +1,8 @@
 -- A core that knows what a history says refuses, answers and goes on as the history says.
-use Rattle.std.proofs.Common.{◌≡◌, ℕ, ◌+◌, ◌-◌, ◌≤◌, ◌&&◌, List, [], ◌∷◌, ◌++◌, append_assoc, append-nil, length, take, drop, Option, Some, None, refl, sym, ap, ◌∙◌, subst, arith}
-use Rattle.std.specs.List.{cons_option, filter_map}
+use Rattle.std.proofs.Common.{◌≡◌, ℕ, ◌+◌, ◌-◌, ◌≤◌, cond, List, [], ◌∷◌, ◌++◌, append_assoc, append-nil, length, take, drop, Option, Some, None, refl, sym, ap, ◌∙◌, subst, arith}
+use Rattle.std.specs.List.{cons_option, filter_map, list_any}
 use Rattle.std.specs.Option.{option_map}
-use Rattle.std.specs.Prelude.{nat_lt, unwrap_or}
+use Rattle.std.specs.Prelude.{unwrap_or}
 use Rattle.std.proofs.lemmas.Bool.{le-leb}
 use Rattle.std.proofs.Math.Seq.{take-add}
 use Rattle.std.proofs.lemmas.List.{length-append, length-take-le, take-append-le, take_all, drop-drop}
@@ -12,23 +12,23 @@ use Rattle.ring_records.specs.declared.input.Input.{Input}
 use Rattle.ring_records.specs.declared.input.Input.TheVariants.{Stand, Take, Acked}
 use Rattle.ring_records.specs.declared.key.Key.{Key}
 use Rattle.ring_records.specs.declared.refusal.Refusal.{Refusal}
-use Rattle.ring_records.specs.declared.refusal.Refusal.TheVariants.{Full}
 use Rattle.ring_records.specs.declared.reply.Reply.{Reply}
 use Rattle.ring_records.specs.declared.reply.Reply.TheVariants as say
 use Rattle.ring_records.specs.declared.request.Request.{Request}
 use Rattle.ring_records.specs.declared.request.Request.TheVariants as ask
+use Rattle.ring_records.specs.declared.room.Room.{Room}
 use Rattle.ring_records.specs.declared.summary.Summary.{Summary}
-use Rattle.ring_records.specs.Admission.{area_bytes, base_of, cost, costs_of, used, where_so, shortage, objection, refusal, Fits, IsAllowed, IsAdmitted, IsBaseOf, IsLawful}
+use Rattle.ring_records.specs.Admission.{area_bytes, base_of, costs_of, fresh, is_retire, no_room, room_of, snapshot_len, used, shortage, objection, refusal, HasRoom, Fits, IsAllowed, IsAdmitted, IsBaseOf, IsLawful}
 use Rattle.ring_records.specs.Answer.{input_of, if_free, unless, gained, reply, answered}
 use Rattle.ring_records.specs.Emission.{sent, carry}
 use Rattle.ring_records.specs.History.{credit}
 use Rattle.ring_records.specs.Known.{Objects, known_of, leader_of, leads_in, stepped, after}
 use Rattle.ring_records.specs.Leader.{IsLatest, leader, latest, decided}
 use Rattle.ring_records.specs.Lists.{or_else, found_after, EachAfter}
-use Rattle.ring_records.specs.Member.{Member, used_by}
+use Rattle.ring_records.specs.Member.{Member}
 use Rattle.ring_records.specs.States.{NodeState, launched_base, durable_in, flying_in, answered_by, gained_by}
 use Rattle.ring_records.specs.Summary.{summary}
-use Rattle.ring_records.proofs.Admission.{objection-allowed}
+use Rattle.ring_records.proofs.Admission.{none_renews, objection-allowed, plain_room}
 use Rattle.ring_records.proofs.Growth.{EachAfter-take}
 use Rattle.ring_records.proofs.Known.{leader-known, objects-known, stepped-known, credit-next, credit-sent}
 use Rattle.ring_records.proofs.Latest.{latest_is, latest_same, one_latest}
@@ -48,17 +48,20 @@ use Rattle.group_commit.proofs.Settling.{after-push, drop-front}
 -- ---- what it refuses and answers
 
 -- of an input behind the base, room is asked
-room_asked : (capacity : ℕ) (base : Base) (h : List Input) (x : Input) → base.inputs ≤ length h → shortage capacity base h x ≡ where_so (nat_lt capacity (used base h + cost x)) Full
+room_asked : (me capacity renewed : ℕ) (base : Base) (h : List Input) (x : Input) → base.inputs ≤ length h → no_room capacity (room_of base h) x renewed ≡ shortage me capacity base h x
 unfolding shortage
-room_asked capacity base h x within = ap (λ b. where_so (b && nat_lt capacity (used base h + cost x)) Full) (le-leb base.inputs (length h) within)
+room_asked me capacity renewed base h x within =
+    plain_room capacity (room_of base h) x renewed (none_renews base h x)
+    ∙ (sym (plain_room capacity (room_of base h) x (snapshot_len (summary me (h ++ x ∷ []))) (none_renews base h x))
+    ∙ sym (ap (λ b. cond b (no_room capacity (room_of base h) x (snapshot_len (summary me (h ++ x ∷ [])))) None) (le-leb base.inputs (length h) within)))
 
 pub refused-is : (core : CoreView) (base : Base) (h : List Input) (x : Input) (o : Option Refusal) → IsOf core base h → Refuses core x o → o ≡ refusal core.me core.size core.capacity base h x
 unfolding refusal
 refused-is core base h x o of (first, objects, e) =
     let same = objects-known core.me core.size h x first (subst (λ (k : Summary). Objects core.size k x first) of.knows objects) in
     e
-    ∙ ((λ i. or_else (same i) (where_so (nat_lt core.capacity (of.bytes i + cost x)) Full))
-    ∙ ap (or_else (objection core.me core.size h x)) (sym (room_asked core.capacity base h x of.within)))
+    ∙ ((λ i. or_else (same i) (no_room core.capacity (of.room i) x (snapshot_len (stepped core.me core.known x))))
+    ∙ ap (or_else (objection core.me core.size h x)) (room_asked core.me core.capacity (snapshot_len (stepped core.me core.known x)) base h x of.within))
 
 leads : (core : CoreView) (base : Base) (h : List Input) (key : Key) → IsOf core base h → leader_of (known_of core.known key) ≡ leader core.me h key
 leads core base h key of = ap (λ (k : Summary). leader_of (known_of k key)) of.knows ∙ leader-known core.me h key
@@ -152,6 +155,11 @@ unfolding used
 used-moved base past l =
     ap (λ (g : List Input). base.bytes + costs_of g) (sym (drop-drop base.inputs (length past) (past ++ l)) ∙ ap (drop base.inputs) (drop-front past l))
 
+pub room-moved : (base : Base) (past l : List Input) → room_of (moved (length past) base) (past ++ l) ≡ room_of base l
+room-moved base past l =
+    let waits = ap (list_any is_retire) (sym (drop-drop base.inputs (length past) (past ++ l)) ∙ ap (drop base.inputs) (drop-front past l)) in
+    λ i. record { layout = base.layout; epoch = base.epoch; taken = used-moved base past l i; waits = waits i }
+
 -- nothing is asked of what is summarised but that it was allowed
 allowed_within : (m : Member) (base : Base) (before l : List Input) → length before + length l ≤ base.inputs → EachAfter (IsAllowed m.node m.n) before l → EachAfter (IsAdmitted m.node m.n m.capacity base) before l
 unfolding EachAfter Fits
@@ -160,12 +168,14 @@ allowed_within m base before (x ∷ l) within allowed =
     let grown = length-append before (x ∷ []) in
     (record { allowed = allowed.0; fits = λ behind. absurd (omega (arith, within, behind)) }, allowed_within m base (before ++ x ∷ []) l (omega (arith, within, grown)) allowed.1)
 
-fits-moved : (m : Member) (base : Base) (past l : List Input) (x : Input) → Fits m.capacity base l x → Fits m.capacity (moved (length past) base) (past ++ l) x
+fits-moved : (m : Member) (opening : Summary) (base : Base) (past l : List Input) (x : Input) → Follows m opening past (l ++ x ∷ [])
+    → (base.inputs ≤ length l → HasRoom m.capacity (room_of base l) x (snapshot_len (after m.node opening (l ++ x ∷ []))))
+    → Fits m.node m.capacity (moved (length past) base) (past ++ l) x
 unfolding Fits
-fits-moved m base past l x fits = λ within.
+fits-moved m opening base past l x f fits = λ within.
     let sum = length-append past l in
-    let room = fits (omega (arith, sum, within)) in
-    omega (arith, room, used-moved base past l)
+    subst (λ (p : Room × Summary). HasRoom m.capacity p.0 x (snapshot_len p.1))
+    (λ i. (sym (room-moved base past l) i, (f.knows ∙ ap (summary m.node) (sym (append_assoc past l (x ∷ [])))) i)) (fits (omega (arith, sum, within)))
 
 -- what it accepted follows its past, and is lawful behind it
 IsBehind : Member → Summary → Base → List Input → List Input → Type 0
@@ -179,7 +189,7 @@ behind-push m opening base past l x free (f, lawful) =
     let none = objects-known m.node m.n h x None (subst (λ (s : Summary). Objects m.n s x None) f.knows free.free) in (
       follows-push m opening past l x free.free f,
       subst (EachAfter (IsAdmitted m.node m.n m.capacity c) []) (append_assoc past l (x ∷ []))
-          (EachAfter-push (IsAdmitted m.node m.n m.capacity c) [] h x lawful (record { allowed = objection-allowed m.node m.n h x (sym none); fits = fits-moved m base past l x free.fits })),
+          (EachAfter-push (IsAdmitted m.node m.n m.capacity c) [] h x lawful (record { allowed = objection-allowed m.node m.n h x (sym none); fits = fits-moved m opening base past l x (follows-push m opening past l x free.free f) free.fits })),
     )
 
 pub lawful_past : (m : Member) (opening : Summary) (base : Base) (past l : List Input) → IsPast m opening past → IsLawfulSince m opening base l → IsLawful m.node m.n m.capacity (moved (length past) base) (past ++ l)
@@ -223,7 +233,7 @@ core_past m opening past s is known =
     let within = known.next.within in
     record {
       knows = (follows m opening past s.inputs is (free_since m opening (launched_base s) s.inputs known.all)).knows;
-      bytes = sym (used-moved (launched_base s) past s.inputs);
+      room = sym (room-moved (launched_base s) past s.inputs);
       within = omega (arith, within, sum);
     }
 
@@ -255,8 +265,8 @@ given_is m opening past s core q given more number is known knows replies count 
 
 brought-known : (me : ℕ) (h : List Input) (x : Input) → brought me (summary me h) x ≡ record { carry = carry me h x; decided = decided me h x }
 brought-known me h x =
-    let core : CoreView = record { me = me; size = 0; capacity = 0; known = summary me h; used = used_by h } in
-    λ i. record { carry = carries core h x (record { knows = refl; bytes = refl }) i; decided = decides core h x (record { knows = refl; bytes = refl }) i }
+    let core : CoreView = record { me = me; size = 0; capacity = 0; known = summary me h; room = room_of fresh h } in
+    λ i. record { carry = carries core h x (record { knows = refl; room = refl }) i; decided = decides core h x (record { knows = refl; room = refl }) i }
 
 pub found-known : {B : Type 0} (part : Effects → Option B) (f : List Input → Input → Option B) (me n : ℕ) → ((h : List Input) (x : Input) → part (record { carry = carry me h x; decided = decided me h x }) ≡ f h x)
     → (s : Summary) (h l : List Input) → s ≡ summary me h → credit h ≤ length (sent me h) → EachAfter (IsAllowed me n) h l → filter_map part (brought_after me s l) ≡ found_after f h l

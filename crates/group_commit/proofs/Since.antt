@@ -1,23 +1,26 @@
 -- A desk's state since its opening, by what is known: what happens to it, and that it fits.
-use Rattle.std.proofs.Common.{◌≡◌, ℕ, ◌+◌, ◌*◌, ◌<◌, ◌≤◌, List, [], ◌∷◌, ◌++◌, append-nil, length, take, drop, Option, Some, None, inl, inr, refl, sym, ap, ◌∙◌, subst, arith}
+use Rattle.std.proofs.Common.{◌≡◌, ℕ, ◌+◌, ◌*◌, ◌<◌, ◌≤◌, List, [], ◌∷◌, ◌++◌, ◌||◌, false, append-nil, length, take, drop, Option, Some, None, inl, inr, refl, sym, ap, ◌∙◌, subst, arith}
 use Rattle.std.specs.FinMap as map
-use Rattle.std.specs.List.{cons_option, sum_by}
-use Rattle.std.specs.Prelude.{unwrap_or, nat_lt}
+use Rattle.std.specs.List.{cons_option, list_any, sum_by}
+use Rattle.std.specs.Prelude.{unwrap_or}
 use Rattle.std.proofs.Math.Nat.{eq-or-lt_of_le}
 use Rattle.std.proofs.lemmas.Bool.{ltb-false}
-use Rattle.std.proofs.lemmas.List.{length-append, length-take, length-take-le, length-drop, take_all, drop_all, take-take, take-append-drop, take-append-le}
+use Rattle.std.proofs.lemmas.List.{length-append, length-take, length-take-le, length-drop, take_all, drop_all, take-take, take-append-drop, take-append-le, drop-append-le}
+use Rattle.std.proofs.lemmas.List.Folds.{list_any-append}
 use Rattle.std.proofs.lemmas.List.Sums.{fold-append, sum_by-append}
 use Rattle.std.proofs.lemmas.Option.{same_Some}
 use Rattle.ring_records.specs.declared.base.Base.{Base}
 use Rattle.ring_records.specs.declared.input.Input.{Input}
 use Rattle.ring_records.specs.declared.refusal.Refusal.TheVariants.{Full}
+use Rattle.ring_records.specs.declared.input.Input.TheVariants.{Stand, Take, Acked}
+use Rattle.ring_records.specs.declared.room.Room.{Room}
 use Rattle.ring_records.specs.declared.summary.Summary.{Summary}
-use Rattle.ring_records.specs.Admission.{area_bytes, cost, costs_of, snapshot_len, state_len, used, where_so, Fits}
+use Rattle.ring_records.specs.Admission.{area_bytes, cost, costs_of, is_retire, newest, no_room, room_of, room_past, snapshot_len, state_len, used, HasRoom}
 use Rattle.ring_records.specs.Known.{stepped, after}
 use Rattle.ring_records.specs.Lists.{EachAfter}
 use Rattle.ring_records.specs.Member.{Member}
 use Rattle.ring_records.specs.States.{NodeState, launched_base, durable_in, flown_in}
-use Rattle.ring_records.proofs.Admission.{where_so-none, or_else-none}
+use Rattle.ring_records.proofs.Admission.{or_else-none, none_renews, room-had}
 use Rattle.ring_records.proofs.Counts.{used-more}
 use Rattle.ring_records.proofs.Growth.{EachAfter-take}
 use Rattle.ring_records.proofs.Lists.{along, EachAfter-push, none≢some}
@@ -31,6 +34,7 @@ use Rattle.group_commit.specs.Opening.{opened_core, core_after, IsOpenTo, IsKnow
 use Rattle.group_commit.specs.Since.{IsOpenSince, IsLawfulSince, IsAreaOf, IsKnownState, core_in}
 use Rattle.group_commit.proofs.Costs.{base_stays, costs_least, durable_costs, used-joined}
 use Rattle.group_commit.proofs.Opening.{objects_none, EachAfter-from}
+use Rattle.group_commit.proofs.Settling.{after-push}
 
 -- ---- areas
 
@@ -46,14 +50,16 @@ area-first me opening b k h few of = area-same me opening b h (take k h) (let w 
 -- ---- what may be accepted
 
 -- where a core refuses an input for nothing, there is room for it
-pub room_none : (core : CoreView) (x : Input) → Refuses core x None → core.used + cost x ≤ core.capacity
+pub room_none : (core : CoreView) (x : Input) → Refuses core x None → HasRoom core.capacity core.room x (snapshot_len (stepped core.me core.known x))
 room_none core x (first, objects, e) =
-    let room = or_else-none first (where_so (nat_lt core.capacity (core.used + cost x)) Full) (sym e) in
-    ltb-false core.capacity (core.used + cost x) (where_so-none (nat_lt core.capacity (core.used + cost x)) Full room.1)
+    let behind = snapshot_len (stepped core.me core.known x) in
+    room-had core.capacity core.room x behind (or_else-none first (no_room core.capacity core.room x behind) (sym e)).1
 
 open_now : (m : Member) (opening : Summary) (s : NodeState) (x : Input) → Refuses (core_in m opening s) x None → IsOpenSince m opening (launched_base s) s.inputs x
-unfolding Fits
-open_now m opening s x free = record { free = objects_none (core_in m opening s) x free; fits = λ _. room_none (core_in m opening s) x free }
+open_now m opening s x free = record {
+  free = objects_none (core_in m opening s) x free;
+  fits = λ _. subst (λ (t : Summary). HasRoom m.capacity (room_of (launched_base s) s.inputs) x (snapshot_len t)) (sym (after-push m.node opening s.inputs x)) (room_none (core_in m opening s) x free);
+}
 
 lawful-first : (m : Member) (opening : Summary) (b : Base) (k : ℕ) (l : List Input) → IsLawfulSince m opening b l → IsLawfulSince m opening b (take k l)
 lawful-first m opening b k l lawful = EachAfter-take (IsOpenSince m opening b) k l lawful
@@ -64,7 +70,7 @@ lawful-more m opening b l (Some x) free lawful = EachAfter-push (IsOpenSince m o
 
 -- a base asks no room of what it stands for
 rebased : (m : Member) (opening : Summary) (b c : Base) (before l : List Input) → length before + length l ≤ c.inputs → EachAfter (IsOpenSince m opening b) before l → EachAfter (IsOpenSince m opening c) before l
-unfolding EachAfter Fits
+unfolding EachAfter
 rebased m opening b c before [] all each = tt
 rebased m opening b c before (x ∷ l) all each = (
   record { free = each.0.free; fits = λ within. absurd (omega arith) },
@@ -76,21 +82,34 @@ pub used-since : (base : Base) (l : List Input) → base.inputs ≡ 0 → used b
 unfolding used
 used-since base l none = ap (λ n. base.bytes + costs_of (drop n l)) none
 
-pub lawful_opened : (m : Member) (opening : Summary) (base : Base) (l : List Input) → base.inputs ≡ 0 → IsKnownLawful (opened_core m opening base.bytes) l → IsLawfulSince m opening base l
-unfolding Fits
+pub used-first : (base : Base) → base.inputs ≡ 0 → used base [] ≡ base.bytes
+used-first base none = let all = used-since base [] none in omega (arith, all)
+
+pub room-since : (base : Base) (l : List Input) → base.inputs ≡ 0 → room_past (room_of base []) l ≡ room_of base l
+room-since base l none =
+    let first = used-since base [] none in
+    let all = used-since base l none in
+    let taken : used base [] + costs_of l ≡ used base l = omega (arith, first, all) in
+    let waits = (λ i. list_any is_retire (drop (none i) []) || list_any is_retire l) ∙ sym (ap (λ n. list_any is_retire (drop n l)) none) in
+    λ i. record { layout = base.layout; epoch = base.epoch; taken = taken i; waits = waits i }
+
+pub lawful_opened : (m : Member) (opening : Summary) (base : Base) (l : List Input) → base.inputs ≡ 0 → IsKnownLawful (opened_core m opening base) l → IsLawfulSince m opening base l
 lawful_opened m opening base l none lawful =
-    EachAfter-from (IsOpenTo (opened_core m opening base.bytes)) (IsOpenSince m opening base) [] (λ before x free. one before x free) [] l lawful
+    EachAfter-from (IsOpenTo (opened_core m opening base)) (IsOpenSince m opening base) [] (λ before x free. one before x free) [] l lawful
   where
-    one : (before : List Input) (x : Input) → IsOpenTo (opened_core m opening base.bytes) before x → IsOpenSince m opening base before x
+    one : (before : List Input) (x : Input) → IsOpenTo (opened_core m opening base) before x → IsOpenSince m opening base before x
     one before x free =
-        let room = room_none (core_after (opened_core m opening base.bytes) before) x free in
-        record { free = objects_none (core_after (opened_core m opening base.bytes) before) x free; fits = λ _. omega (arith, room, used-since base before none) }
+        record {
+          free = objects_none (core_after (opened_core m opening base) before) x free;
+          fits = λ _. subst (λ (p : Room × Summary). HasRoom m.capacity p.0 x (snapshot_len p.1)) (λ i. (room-since base before none i, sym (after-push m.node opening before x) i))
+              (room_none (core_after (opened_core m opening base) before) x free);
+        }
 
 -- ---- the state
 
 -- it was opened, and so many of these inputs are durable, and so many durable or flying
 pub known_opened : (m : Member) (opening : Summary) (base : Base) (l : List Input) (durable flying : ℕ) → base.inputs ≡ 0 → base.bytes ≡ area_bytes base.layout opening → durable ≤ flying → flying ≤ length l
-    → IsKnownLawful (opened_core m opening base.bytes) l → IsKnownState m opening (state_with base l durable flying None)
+    → IsKnownLawful (opened_core m opening base) l → IsKnownState m opening (state_with base l durable flying None)
 known_opened m opening base l durable flying none bytes low high lawful =
     let area : IsAreaOf m.node opening base l = record { within = omega (arith, none); bytes = bytes ∙ ap (λ k. area_bytes base.layout (after m.node opening (take k l))) (sym none) } in
     let each = lawful_opened m opening base l none lawful in
@@ -105,9 +124,9 @@ known_opened m opening base l durable flying none bytes low high lawful =
     }
 
 -- the core that it was opened with, once it has accepted them
-pub core_opened : (m : Member) (opening : Summary) (base : Base) (l : List Input) (durable flying : ℕ) (core : CoreView) → base.inputs ≡ 0 → core ≡ core_after (opened_core m opening base.bytes) l
+pub core_opened : (m : Member) (opening : Summary) (base : Base) (l : List Input) (durable flying : ℕ) (core : CoreView) → base.inputs ≡ 0 → core ≡ core_after (opened_core m opening base) l
     → core ≡ core_in m opening (state_with base l durable flying None)
-core_opened m opening base l durable flying core none is = is ∙ (λ i. record { me = m.node; size = m.n; capacity = m.capacity; known = after m.node opening l; used = sym (used-since base l none) i })
+core_opened m opening base l durable flying core none is = is ∙ (λ i. record { me = m.node; size = m.n; capacity = m.capacity; known = after m.node opening l; room = room-since base l none i })
 
 -- it accepted the input, if there is one
 pub known_more : (m : Member) (opening : Summary) (s : NodeState) (core : CoreView) (more : Option Input) → core ≡ core_in m opening s → ((x : Input) → more ≡ Some x → Refuses core x None) → IsKnownState m opening s
@@ -132,6 +151,11 @@ known_more m opening s core more knows free known =
       fits = known.fits;
     }
 
+room-joined : (base : Base) (l more : List Input) → base.inputs ≤ length l → room_of base (l ++ more) ≡ room_past (room_of base l) more
+room-joined base l more within =
+    let waits = ap (list_any is_retire) (drop-append-le base.inputs l more within) ∙ list_any-append is_retire (drop base.inputs l) more in
+    λ i. record { layout = base.layout; epoch = base.epoch; taken = used-joined base l more within i; waits = waits i }
+
 pub core_more : (m : Member) (opening : Summary) (s : NodeState) (core new : CoreView) (more : List Input) → IsKnownState m opening s → core ≡ core_in m opening s → new ≡ core_after core more
     → new ≡ core_in m opening (record s { inputs = s.inputs ++ more })
 core_more m opening s core new more known is grows =
@@ -141,7 +165,7 @@ core_more m opening s core new more known is grows =
       size = m.n;
       capacity = m.capacity;
       known = sym (fold-append (stepped m.node) opening s.inputs more) i;
-      used = sym (used-joined (launched_base s) s.inputs more known.next.within) i;
+      room = sym (room-joined (launched_base s) s.inputs more known.next.within) i;
     })
 
 -- what it knew by its first inputs, so many of them
@@ -196,13 +220,14 @@ known_all m opening base l durable flying count bytes None none all spells few f
 
 -- the core, with room counted from its summary
 pub core_all : (m : Member) (opening : Summary) (base : Base) (l : List Input) (durable flying count bytes : ℕ) (pending : Option ℕ) (core new : CoreView) → count ≡ length l → bytes ≡ snapshot_len (after m.node opening l)
-    → core ≡ core_in m opening (state_with base l durable flying pending) → new ≡ record core { used = snapshot_len core.known } → new ≡ core_in m opening (state_with base l durable count (Some bytes))
+    → core ≡ core_in m opening (state_with base l durable flying pending) → new ≡ record core { room = record { layout = newest; epoch = base.epoch + 1; taken = snapshot_len core.known; waits = false } } → new ≡ core_in m opening (state_with base l durable count (Some bytes))
 unfolding used
 core_all m opening base l durable flying count bytes pending core new all spells is steps =
     let none : drop count l ≡ [] = drop_all count l (omega (arith, all)) in
     let same : snapshot_len (after m.node opening l) ≡ bytes + costs_of (drop count l) = (let z : bytes + 0 ≡ bytes = omega arith in sym spells ∙ (sym z ∙ ap (λ (g : List Input). bytes + costs_of g) (sym none))) in
-    steps ∙ (ap (λ (c : CoreView). record c { used = snapshot_len c.known }) is
-    ∙ λ i. record { me = m.node; size = m.n; capacity = m.capacity; known = after m.node opening l; used = same i })
+    let waits : false ≡ list_any is_retire (drop count l) = sym (ap (list_any is_retire) none) in
+    steps ∙ (ap (λ (c : CoreView). record c { room = record { layout = newest; epoch = base.epoch + 1; taken = snapshot_len c.known; waits = false } }) is
+    ∙ λ i. record { me = m.node; size = m.n; capacity = m.capacity; known = after m.node opening l; room = record { layout = newest; epoch = base.epoch + 1; taken = same i; waits = waits i } })
 
 -- what flies is durable
 pub known_landed : (m : Member) (opening : Summary) (s : NodeState) → IsKnownState m opening s → IsKnownState m opening (state_with (launched_base s) s.inputs s.flying s.flying None)
@@ -222,7 +247,6 @@ known_landed m opening s known =
 
 -- what stands behind the base fits
 all_fit : (m : Member) (opening : Summary) (base : Base) (l : List Input) → IsLawfulSince m opening base l → base.inputs < length l → used base l ≤ m.capacity
-unfolding Fits
 all_fit m opening base l lawful some =
     along (IsOpenSince m opening base) (λ g. base.inputs < length g → used base g ≤ m.capacity) (λ g x free _. λ behind. one g x free behind) [] l lawful (λ none. absurd (omega (arith, none))) some
   where
@@ -230,7 +254,7 @@ all_fit m opening base l lawful some =
     one g x free behind =
         let grown = length-append g (x ∷ []) in
         let within : base.inputs ≤ length g = omega (arith, grown, behind) in
-        let room = free.fits within in
+        let room = (free.fits within).plain (none_renews base g x) in
         omega (arith, room, used-more base g x within)
 
 pub first_fit : (m : Member) (opening : Summary) (base : Base) (k : ℕ) (l : List Input) → IsLawfulSince m opening base l → base.inputs < k → k ≤ length l → used base (take k l) ≤ m.capacity

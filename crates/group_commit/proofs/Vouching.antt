@@ -36,7 +36,7 @@ use Rattle.group_commit.proofs.Costs.{cost_least}
 
 refusal-full : (me n : ℕ) (h : List Input) (x : Input) → refusal me n 0 fresh h x ≡ or_else (objection me n h x) (Some Full)
 unfolding refusal
-refusal-full me n h x = let some = cost_least x in ap (or_else (objection me n h x)) (shortage-full 0 fresh h x (omega arith) (omega (arith, some)))
+refusal-full me n h x = let some = cost_least x in ap (or_else (objection me n h x)) (shortage-full me 0 fresh h x refl (omega arith) (omega (arith, some)))
 
 refused-or : (o : Option Refusal) (good : Reply) → refused_or_full o ≡ unless (or_else o (Some Full)) good
 refused-or None good = refl

@@ -9,7 +9,7 @@ use Rattle.ring_records.specs.declared.refusal.Refusal.{Refusal}
 use Rattle.ring_records.specs.declared.refusal.Refusal.TheVariants as refused
 use Rattle.ring_records.specs.declared.request.Request.{Request}
 use Rattle.ring_records.specs.declared.summary.Summary.{Summary}
-use Rattle.ring_records.specs.Admission.{area_bytes, base_of, newest, used, where_so, IsBaseOf, IsLawful}
+use Rattle.ring_records.specs.Admission.{base_of, newest, used, where_so, IsBaseOf, IsLawful}
 pub use Rattle.ring_records.specs.Admission.{epochs}
 use Rattle.ring_records.specs.Answer as answers
 use Rattle.ring_records.specs.Answer.{Answered}
@@ -70,7 +70,7 @@ next_area desk = record {
 
 -- the core of the node before the first input since
 abbrev pub core_of : Member → Reading → CoreView
-core_of member r = opened_core member r.base (area_bytes r.layout r.base)
+core_of member r = opened_core member r.base (first_base r.layout r.epoch r.base)
 
 -- what it shows of its whole history, where this is its past
 abbrev pub seen : List Input → DeskKept → DeskView

@@ -1,5 +1,5 @@
 -- What a desk knows: by the summary that it was opened with, and by its inputs since. That summary may be that of no history.
-use Rattle.std.specs.Prelude.{ℕ, ◌≡◌, ◌+◌, ◌≤◌, List, [], length, take, slice_get, Option, Some, None}
+use Rattle.std.specs.Prelude.{ℕ, ◌≡◌, ◌≤◌, List, [], length, take, slice_get, Option, Some, None}
 use Rattle.std.specs.List.{cons_option}
 use Rattle.ring_records.specs.declared.base.Base.{Base}
 use Rattle.ring_records.specs.declared.candidate.Candidate.{Candidate}
@@ -12,7 +12,7 @@ use Rattle.ring_records.specs.declared.reply.Reply.TheVariants as say
 use Rattle.ring_records.specs.declared.request.Request.{Request}
 use Rattle.ring_records.specs.declared.request.Request.TheVariants as ask
 use Rattle.ring_records.specs.declared.summary.Summary.{Summary}
-use Rattle.ring_records.specs.Admission.{costs_of, used}
+use Rattle.ring_records.specs.Admission.{room_of, room_past}
 use Rattle.ring_records.specs.Answer.{if_free, unless}
 use Rattle.ring_records.specs.Known.{after, known_of, leader_of, leads_in}
 use Rattle.ring_records.specs.Leader.{IsLatest}
@@ -21,13 +21,13 @@ use Rattle.ring_records.specs.Member.{Member}
 use Rattle.ring_records.specs.Summary.{summary}
 use Rattle.node_core.specs.Core.{CoreView, Refuses}
 
--- the core of a node that knows this, where it takes so many bytes of the capacity
-abbrev pub opened_core : Member → Summary → ℕ → CoreView
-opened_core m opening bytes = record { me = m.node; size = m.n; capacity = m.capacity; known = opening; used = bytes }
+-- the core of a node that knows this, for which the area stands
+abbrev pub opened_core : Member → Summary → Base → CoreView
+opened_core m opening area = record { me = m.node; size = m.n; capacity = m.capacity; known = opening; room = room_of area [] }
 
 -- the core once it has accepted these inputs
 abbrev pub core_after : CoreView → List Input → CoreView
-core_after core l = record core { known = after core.me core.known l; used = core.used + costs_of l }
+core_after core l = record core { known = after core.me core.known l; room = room_past core.room l }
 
 -- it refuses the input for nothing, once it has accepted those before it
 abbrev pub IsOpenTo : CoreView → List Input → Input → Type 0
@@ -50,7 +50,7 @@ pub record IsUnlawful (core : CoreView) (inputs : List Input) (why : Refusal) : 
 -- it knows what the history h of its node says, with room counted from the base
 pub record IsOf (core : CoreView) (base : Base) (h : List Input) : Type 0 where
   pub knows : core.known ≡ summary core.me h
-  pub bytes : core.used ≡ used base h
+  pub room : core.room ≡ room_of base h
   pub within : base.inputs ≤ length h
 
 -- ---- what a core answers

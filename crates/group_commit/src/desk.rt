@@ -16,7 +16,7 @@ use crate::outbox::Outbox;
 use crate::ticket::{Stub, Ticket};
 use gated_journal::Opening;
 use node_core::NodeCore;
-use ring_records::{Input, NodeNo, Packet, Refusal, Reply, Request, Summary, summary_len};
+use ring_records::{Input, NodeNo, Packet, Refusal, Reply, Request, Room, Summary, summary_len};
 use std::alloc::{AllocError, AllocFailed, Global};
 use std::collections::BTreeMap;
 use std::marker::Model;
@@ -111,7 +111,13 @@ impl Desk {
             inputs,
         } = opening;
         let taken = area_bytes(layout, &base);
-        let Ok(mut core) = NodeCore::restore(alloc, node, n, capacity, taken, &base) else {
+        let room = Room {
+            layout,
+            epoch,
+            taken,
+            waits: false,
+        };
+        let Ok(mut core) = NodeCore::restore(alloc, node, n, capacity, room, &base) else {
             return Err(Refusal::OutOfMemory);
         };
         let Ok(mut outbox) = Outbox::restore(alloc, n, &base) else {

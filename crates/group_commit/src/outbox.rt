@@ -5,7 +5,7 @@ ghost use Rattle.std.specs.VecDeque.{deque_len, deque_capacity};
 ghost use Rattle.ring_records.specs.declared.decision.Decision.{Decision};
 ghost use Rattle.ring_records.specs.declared.input.Input.{Input};
 ghost use Rattle.ring_records.specs.declared.summary.Summary.{Summary};
-ghost use Rattle.ring_records.specs.Admission.{cost};
+ghost use Rattle.ring_records.specs.Admission.{taking};
 ghost use Rattle.ring_records.specs.Known.{Objects, stepped, after};
 ghost use Rattle.ring_records.specs.Snapshot.{IsSound};
 ghost use Rattle.node_core.specs.Brought.{brought};
@@ -73,7 +73,7 @@ impl Outbox {
     /// nothing.
     pub(crate) fn accept(&mut self, core: &mut NodeCore, input: &Input) -> Result<(), AllocError>
         requires { Refuses core.old input.now None }
-        ensures steps { OnOk result (core.new ≡ record core.old { known = stepped core.old.me core.old.known input.now; used = core.old.used + cost input.now }) }
+        ensures steps { OnOk result (core.new ≡ record core.old { known = stepped core.old.me core.old.known input.now; room = taking input.now core.old.room }) }
         ensures holds { OnOk result ((s : Summary) (decided : List Decision) (l : List Input) (flying : ℕ) → core.old.known ≡ after core.old.me s l → Holds core.old.me self.old s decided l flying
             → Holds core.old.me self.new s decided (l ++ input.now ∷ []) flying) }
         ensures err { OnErr result (core.new ≡ core.old) }

@@ -1,5 +1,5 @@
 // What is against an input: the history, and the bytes that it takes.
-ghost use Rattle.std.specs.Prelude.{◌≡◌, ◌<◌, ◌≤◌, ◌*◌, ◌^◌, length};
+ghost use Rattle.std.specs.Prelude.{◌≡◌, ◌<◌, ◌≤◌, ◌*◌, ◌^◌, ℕ, length};
 ghost use Rattle.std.specs.List.{sum_by};
 ghost use Rattle.ring_records.specs.declared.limits.TheConstants.{INPUT_BYTES};
 ghost use Rattle.ring_records.specs.Admission.{cost, too_many, objection, shortage, used};
@@ -89,7 +89,7 @@ pub(super) fn shortage(
     input: &Input,
 ) -> Option<Refusal>
     requires { length history.now < 2 ^ 56 }
-    ensures { result ≡ shortage capacity base.now history.now input.now }
+    ensures { (me : ℕ) → result ≡ shortage me capacity base.now history.now input.now }
 {
     if (history.len() as u64) < base.inputs {
         return None;

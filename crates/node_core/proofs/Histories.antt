@@ -1,6 +1,6 @@
 -- What a core does whose history is told: its clauses over histories, from what it knows.
-use Rattle.std.proofs.Common.{ℕ, ◌≡◌, ◌+◌, ◌≤◌, Bool, true, false, cond, ◌&&◌, eqb, not, List, [], ◌∷◌, ◌++◌, length, Option, Some, None, refl, sym, ap, subst, ◌∙◌}
-use Rattle.std.specs.Prelude.{is_none, nat_lt}
+use Rattle.std.proofs.Common.{ℕ, ◌≡◌, ◌+◌, ◌≤◌, Bool, true, false, cond, ◌&&◌, eqb, not, List, [], ◌∷◌, ◌++◌, length, Option, Some, None, refl, sym, ap, subst, ◌∙◌, arith}
+use Rattle.std.specs.Prelude.{is_none}
 use Rattle.std.specs.Option.{option_map}
 use Rattle.ring_records.specs.declared.candidate.Candidate.{Candidate}
 use Rattle.ring_records.specs.declared.input.Input.{Input}
@@ -12,7 +12,7 @@ use Rattle.ring_records.specs.declared.packet.Packet.TheVariants.{Carry}
 use Rattle.ring_records.specs.declared.refusal.Refusal.{Refusal}
 use Rattle.ring_records.specs.declared.refusal.Refusal.TheVariants as refused
 use Rattle.ring_records.specs.declared.summary.Summary.{Summary}
-use Rattle.ring_records.specs.Admission.{cost, where_so, objection, refusal, IsAllowed}
+use Rattle.ring_records.specs.Admission.{fresh, no_room, room_of, snapshot_len, taking, objection, refusal, IsAllowed}
 use Rattle.ring_records.specs.Emission.{is_below, passed_on, emit, sent, carry}
 use Rattle.ring_records.specs.History.{first_stand, stood}
 use Rattle.ring_records.specs.Known.{Objects, stepped, known_of, leader_of, leads_in}
@@ -20,8 +20,8 @@ use Rattle.ring_records.specs.Leader.{IsLatest, is_bid, makes_leader, leader, la
 use Rattle.ring_records.specs.Lists.{or_else}
 use Rattle.ring_records.specs.Member.{refusal_by}
 use Rattle.ring_records.specs.Order.{is_key}
-use Rattle.ring_records.proofs.Admission.{or_else-none, objection-allowed, shortage-each}
-use Rattle.ring_records.proofs.Counts.{used-push, none-decided, shown-decided}
+use Rattle.ring_records.proofs.Admission.{or_else-none, objection-allowed, plain_room, shortage-each}
+use Rattle.ring_records.proofs.Counts.{room-push, none-decided, shown-decided}
 use Rattle.ring_records.proofs.Keys.{is_key-same}
 use Rattle.ring_records.proofs.Known.{leader-known, sends-known, objects-known, objects-of, stepped-known}
 use Rattle.ring_records.proofs.Latest.{latest_is, latest_same, one_latest}
@@ -35,8 +35,8 @@ unfolding refusal
 refused-is core h x o s (first, objects, e) =
     let same = objects-known core.me core.size h x first (subst (λ (k : Summary). Objects core.size k x first) s.knows objects) in
     e
-    ∙ ((λ i. or_else (same i) (where_so (nat_lt core.capacity (s.bytes i + cost x)) refused.Full))
-    ∙ ap (or_else (objection core.me core.size h x)) (sym (shortage-each core.capacity h x)))
+    ∙ ((λ i. or_else (same i) (no_room core.capacity (s.room i) x (snapshot_len (stepped core.me core.known x))))
+    ∙ ap (or_else (objection core.me core.size h x)) (plain_room core.capacity (room_of fresh h) x (snapshot_len (stepped core.me core.known x)) refl ∙ sym (shortage-each core.me core.capacity h x)))
 
 -- So a history in which an input is refused by nothing has it refused by nothing here.
 pub refused-of : (core : CoreView) (h : List Input) (x : Input) → CoreStandsFor core h → Refuses core x (refusal_by (member_of core) h x)
@@ -44,8 +44,8 @@ unfolding refusal
 refused-of core h x s = (
   objection core.me core.size h x,
   subst (λ (k : Summary). Objects core.size k x (objection core.me core.size h x)) (sym s.knows) (objects-of core.me core.size h x),
-  ap (or_else (objection core.me core.size h x)) (shortage-each core.capacity h x)
-      ∙ (λ i. or_else (objection core.me core.size h x) (where_so (nat_lt core.capacity (sym s.bytes i + cost x)) refused.Full)),
+  ap (or_else (objection core.me core.size h x)) (shortage-each core.me core.capacity h x ∙ sym (plain_room core.capacity (room_of fresh h) x (snapshot_len (stepped core.me core.known x)) refl))
+      ∙ (λ i. or_else (objection core.me core.size h x) (no_room core.capacity (sym s.room i) x (snapshot_len (stepped core.me core.known x)))),
 )
 
 pub admitted : (core : CoreView) (h : List Input) (x : Input) → CoreStandsFor core h → refusal_by (member_of core) h x ≡ None → Refuses core x None
@@ -104,11 +104,11 @@ decides core h x s = ap (λ (k : Summary). (brought core.me k x).decided) s.know
 
 -- ---- the next history
 
-pub goes_on : (core new : CoreView) (h : List Input) (x : Input) → new ≡ record core { known = stepped core.me core.known x; used = core.used + cost x } → core.known.credit ≤ core.known.sent → Refuses core x None → CoreStandsFor core h → CoreStandsFor new (h ++ x ∷ [])
+pub goes_on : (core new : CoreView) (h : List Input) (x : Input) → new ≡ record core { known = stepped core.me core.known x; room = taking x core.room } → core.known.credit ≤ core.known.sent → Refuses core x None → CoreStandsFor core h → CoreStandsFor new (h ++ x ∷ [])
 goes_on core new h x is within r s = subst (λ (c : CoreView). CoreStandsFor c (h ++ x ∷ [])) (sym is) (record {
   knows = ap (λ (k : Summary). stepped core.me k x) s.knows
       ∙ stepped-known core.me core.size h x (allowed core h x s r) (subst (λ (k : Summary). k.credit ≤ k.sent) s.knows within);
-  bytes = ap (λ n. n + cost x) s.bytes ∙ sym (used-push h x);
+  room = ap (taking x) s.room ∙ sym (room-push fresh h x (omega arith));
 })
 
 -- ---- who leads

@@ -1,10 +1,11 @@
 -- By what a core keeps what it knows.
-use Rattle.std.specs.Prelude.{ℕ, ◌≡◌, ◌+◌, ◌-◌, ◌*◌, ◌^◌, ◌<◌, ◌≤◌, [], ◌++◌, drop, Option, None}
+use Rattle.std.specs.Prelude.{ℕ, ◌≡◌, ◌+◌, ◌-◌, ◌*◌, ◌^◌, ◌<◌, ◌≤◌, false, [], ◌++◌, drop, Option, None}
 use Rattle.std.specs.List.{cons_option}
 use Rattle.ring_records.specs.declared.input.Input.{Input}
 use Rattle.ring_records.specs.declared.input.Input.TheVariants.{Stand, Take, Acked}
 use Rattle.ring_records.specs.declared.limits.TheConstants.{STANDS}
 use Rattle.ring_records.specs.declared.msg.Msg.{Msg}
+use Rattle.ring_records.specs.declared.room.Room.{Room}
 use Rattle.ring_records.specs.declared.summary.Summary.{Summary}
 use Rattle.ring_records.specs.Admission.{snapshot_len}
 use Rattle.ring_records.specs.Known.{passed}
@@ -35,10 +36,11 @@ pub record IsCounted (me n : ℕ) (s : Summary) : Type 0 where
   pub sound : IsNodeOf n me → IsSound n s
 
 -- so many bytes are the length of the snapshot, which stays below 2^64; and no more is credited than was sent
-pub record IsMeasured (s : Summary) (bytes : ℕ) : Type 0 where
+pub record IsMeasured (s : Summary) (bytes : ℕ) (room : Room) : Type 0 where
   pub exact : bytes ≡ snapshot_len s
   pub within : s.credit ≤ s.sent
   pub short : bytes < 2 ^ 63 + 2 ^ 62 + 64 * s.inputs
+  pub plain : room.waits ≡ false
 
 -- the link once this is sent
 abbrev pub sent_on : Option Msg → LinkView → LinkView

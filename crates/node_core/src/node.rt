@@ -1,8 +1,8 @@
 // A node by what it knows, with the capacity of its journal.
-ghost use Rattle.std.specs.Prelude.{◌≡◌, ◌+◌, ◌<◌, ◌≤◌, ◌^◌, ℕ, List, [], ◌∷◌, ◌++◌, length, drop, Bool, nat_lt, None, IfOk, OnOk, OnErr};
+ghost use Rattle.std.specs.Prelude.{◌≡◌, ◌+◌, ◌<◌, ◌≤◌, ◌^◌, ℕ, List, [], ◌∷◌, ◌++◌, length, drop, Bool, false, nat_lt, None, IfOk, OnOk, OnErr};
 ghost use Rattle.std.specs.Result.{result_err};
 ghost use Rattle.ring_records.specs.declared.input.Input.{Input};
-ghost use Rattle.ring_records.specs.Admission.{cost, snapshot_len};
+ghost use Rattle.ring_records.specs.Admission.{newest, snapshot_len, taking};
 ghost use Rattle.ring_records.specs.Emission.{sent, carry};
 ghost use Rattle.ring_records.specs.History.{taken, credit, stands};
 ghost use Rattle.ring_records.specs.Known.{stepped, known_of, leader_of, leads_in};
@@ -17,7 +17,7 @@ use crate::effects::Effects;
 use crate::free::FreeCore;
 use crate::measure::{freed, grown, len_on};
 use ring_records::{
-    Candidate, GroupName, Input, Key, Msg, NodeNo, Refusal, Summary, Term, summary_len,
+    Candidate, GroupName, Input, Key, LAYOUT, Msg, NodeNo, Refusal, Room, Summary, Term, summary_len,
 };
 use std::alloc::{AllocError, Global};
 use std::marker::Model;
@@ -27,8 +27,7 @@ use std::marker::Model;
 pub struct NodeCore {
     core: FreeCore,
     capacity: u32,
-    // The bytes of the capacity that are taken.
-    used: u64,
+    room: Room,
     // The length of the snapshot of what it knows.
     snapshot: u64,
 }
@@ -42,9 +41,9 @@ impl Model for NodeCore {
 
     ghost coded = { coded_core };
 
-    ghost view = { λ c. record { me = c.core.me; size = c.core.size; capacity = c.capacity; known = c.core.known; used = c.used } };
+    ghost view = { λ c. record { me = c.core.me; size = c.core.size; capacity = c.capacity; known = c.core.known; room = c.room } };
 
-    ghost invariant = { λ c. IsMeasured c.core.known c.snapshot };
+    ghost invariant = { λ c. IsMeasured c.core.known c.snapshot c.room };
 }
 
 impl NodeCore {
@@ -54,35 +53,41 @@ impl NodeCore {
         ensures me { result.me ≡ node }
         ensures ring { result.size ≡ n }
         ensures capacity { result.capacity ≡ capacity }
-        ensures value { (result.known ≡ summed.empty) × (result.used ≡ 38) }
+        ensures value { (result.known ≡ summed.empty) × (result.room ≡ record { layout = newest; epoch = 1; taken = 38; waits = false }) }
         ensures empty { CoreStandsFor result [] }
     {
         NodeCore {
             core: FreeCore::new(alloc, node, n),
             capacity,
-            used: 38,
+            room: Room {
+                layout: LAYOUT,
+                epoch: 1,
+                taken: 38,
+                waits: false,
+            },
             snapshot: 38,
         }
     }
 
-    /// Node `node` of a ring of `n` nodes, with a capacity in bytes, of which so many are taken, that knows this. The
-    /// caller sees that it is sound. The error is that of the allocator.
+    /// Node `node` of a ring of `n` nodes, with a capacity in bytes and this room, that knows this. The caller sees that it
+    /// is sound. The error is that of the allocator.
     pub fn restore(
         alloc: Global,
         node: NodeNo,
         n: u8,
         capacity: u32,
-        used: u64,
+        room: Room,
         from: &Summary,
     ) -> Result<NodeCore, AllocError>
-        requires { IsSound n from.now }
-        ensures { IfOk result (λ core. core ≡ record { me = node; size = n; capacity = capacity; known = from.now; used = used }) }
+        requires sound { IsSound n from.now }
+        requires plain { room.waits ≡ false }
+        ensures { IfOk result (λ core. core ≡ record { me = node; size = n; capacity = capacity; known = from.now; room = room }) }
     {
         let core = FreeCore::restore(alloc, node, n, from)?;
         Ok(NodeCore {
             core,
             capacity,
-            used,
+            room,
             snapshot: summary_len(from),
         })
     }
@@ -103,11 +108,16 @@ impl NodeCore {
         self.snapshot
     }
 
-    /// From now on the snapshot of what it knows takes the bytes of the capacity, in place of its inputs so far.
-    pub fn rebase(&mut self)
-        ensures { self.new ≡ record self.old { used = snapshot_len self.old.known } }
+    /// From now on an area of this number stands for all that it knows, and its snapshot takes the bytes of the capacity.
+    pub fn rebase(&mut self, epoch: u64)
+        ensures { self.new ≡ record self.old { room = record { layout = newest; epoch = epoch; taken = snapshot_len self.old.known; waits = false } } }
     {
-        self.used = self.snapshot;
+        self.room = Room {
+            layout: LAYOUT,
+            epoch,
+            taken: self.snapshot,
+            waits: false,
+        };
     }
 
     /// Whether the input may be accepted now. Refused by the first cause that there is: a Stand as 3 where the node
@@ -131,7 +141,7 @@ impl NodeCore {
     /// Accepts an input that `admit` answers Ok of: what it brings. An `Err` changes nothing.
     pub fn apply(&mut self, input: Input) -> Result<Effects, AllocError>
         requires { Refuses self.old input None }
-        ensures steps { OnOk result (self.new ≡ record self.old { known = stepped self.old.me self.old.known input; used = self.old.used + cost input }) }
+        ensures steps { OnOk result (self.new ≡ record self.old { known = stepped self.old.me self.old.known input; room = taking input self.old.room }) }
         ensures brings { IfOk result (λ effects. effects ≡ brought self.old.me self.old.known input) }
         ensures me { self.new.me ≡ self.old.me }
         ensures ring { self.new.size ≡ self.old.size }
@@ -147,7 +157,7 @@ impl NodeCore {
         let effects = self.core.apply(input)?;
         let added = grown(keys, self.core.keys(), &input, &effects) + len_on(&effects);
         self.snapshot = self.snapshot + added as u64 - removed;
-        self.used += cost;
+        self.room.taken += cost;
         Ok(effects)
     }
 
@@ -158,17 +168,17 @@ impl NodeCore {
         Ok(NodeCore {
             core: self.core.try_copy()?,
             capacity: self.capacity,
-            used: self.used,
+            room: self.room,
             snapshot: self.snapshot,
         })
     }
 
     // Whether so many bytes more do not fit the capacity.
     fn is_short(&self, cost: u32) -> bool
-        ensures { result ≡ nat_lt self.now.capacity (self.now.used + cost) }
+        ensures { result ≡ nat_lt self.now.capacity (self.now.room.taken + cost) }
     {
         let capacity = self.capacity as u64;
-        self.used > capacity || cost as u64 > capacity - self.used
+        self.room.taken > capacity || cost as u64 > capacity - self.room.taken
     }
 }
 
@@ -199,10 +209,10 @@ impl NodeCore {
 
     /// The bytes of the capacity that are taken.
     pub fn used(&self) -> u64
-        ensures value { result ≡ self.now.used }
+        ensures value { result ≡ self.now.room.taken }
         ensures known { (h : List Input) → CoreStandsFor self.now h → result ≡ used_by h }
     {
-        self.used
+        self.room.taken
     }
 
     /// How many messages it sent.

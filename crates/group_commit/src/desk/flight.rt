@@ -79,6 +79,7 @@ impl Desk {
             &mut self.outbox,
             self.node,
             first,
+            self.epoch + 1,
             &self.inputs[start..],
         ) {
             Ok(checkpoint) => {

@@ -1,10 +1,10 @@
 // What a desk has its core and its outbox do.
-ghost use Rattle.std.specs.Prelude.{◌≡◌, ◌+◌, ◌-◌, ◌^◌, ◌++◌, ◌∷◌, ◌≤◌, ◌<◌, ◌⊎◌, ℕ, List, [], Some, None, length, take, drop, IfSome, IfOk, IfErr, OnOk, OnErr};
+ghost use Rattle.std.specs.Prelude.{◌≡◌, ◌+◌, ◌-◌, ◌^◌, ◌++◌, ◌∷◌, ◌≤◌, ◌<◌, ◌⊎◌, ℕ, List, [], false, Some, None, length, take, drop, IfSome, IfOk, IfErr, OnOk, OnErr};
 ghost use Rattle.std.specs.List.{cons_option};
 ghost use Rattle.ring_records.specs.declared.decision.Decision.{Decision};
 ghost use Rattle.ring_records.specs.declared.input.Input.{Input};
 ghost use Rattle.ring_records.specs.declared.summary.Summary.{Summary};
-ghost use Rattle.ring_records.specs.Admission.{cost};
+ghost use Rattle.ring_records.specs.Admission.{newest, taking};
 ghost use Rattle.ring_records.specs.Known.{after, stepped};
 ghost use Rattle.ring_records.specs.Snapshot.{IsSound, snapshot_len};
 ghost use Rattle.gated_journal.specs.Batch.{shown as batch_shown, numbered, numbered_with, numbered_by, base_by};
@@ -75,7 +75,7 @@ fn accept_one(
 ) -> Result<(), AllocError>
     requires { Refuses core.old input.now None }
     ensures inputs { OnOk result (inputs.new.items ≡ inputs.old.items ++ input.now ∷ []) }
-    ensures steps { OnOk result (core.new ≡ record core.old { known = stepped core.old.me core.old.known input.now; used = core.old.used + cost input.now }) }
+    ensures steps { OnOk result (core.new ≡ record core.old { known = stepped core.old.me core.old.known input.now; room = taking input.now core.old.room }) }
     ensures holds { OnOk result ((s : Summary) (decided : List Decision) (l : List Input) (flying : ℕ) → core.old.known ≡ after core.old.me s l → Holds core.old.me outbox.old s decided l flying
         → Holds core.old.me outbox.new s decided (l ++ input.now ∷ []) flying) }
     ensures err { OnErr result ((inputs.new.items ≡ inputs.old.items) × (core.new ≡ core.old)) }
@@ -107,13 +107,14 @@ pub(super) fn prepare(
     Batch::new(alloc, node, first, inputs)
 }
 
-// These inputs, which are all that wait and of which the first has this number, as a checkpoint, and the memory for what they
-// bring, so that they may fly. All memory is taken before room is counted from the summary.
+// These inputs, which are all that wait and of which the first has this number, as a checkpoint for an area of this epoch, and
+// the memory for what they bring, so that they may fly. All memory is taken before room is counted from the summary.
 pub(super) fn summarise(
     core: &mut NodeCore,
     outbox: &mut Outbox,
     node: NodeNo,
     first: u64,
+    epoch: u64,
     inputs: &[Input],
 ) -> Result<Checkpoint, Refusal>
     requires few { length inputs.now < 2 ^ 32 }
@@ -121,7 +122,7 @@ pub(super) fn summarise(
     ensures checkpoint { IfOk result (λ made. numbered_by made ≡ numbered_with node first inputs.now (Some (snapshot_len core.old.known))) }
     ensures summary { IfOk result (λ made. base_by made ≡ core.old.known) }
     ensures sound { OnOk result (IsNodeOf core.old.size core.old.me → IsSound core.old.size core.old.known) }
-    ensures rebased { OnOk result (core.new ≡ record core.old { used = snapshot_len core.old.known }) }
+    ensures rebased { OnOk result (core.new ≡ record core.old { room = record { layout = newest; epoch = epoch; taken = snapshot_len core.old.known; waits = false } }) }
     ensures holds { OnOk result ((me : ℕ) (s : Summary) (decided : List Decision) (l : List Input) → Holds me outbox.old s decided l 0 → Holds me outbox.new s decided l (length inputs.now)) }
     ensures refusal { IfErr result (λ refusal. refusal ≡ Refusal.OutOfMemory) }
     ensures same { OnErr result (core.new ≡ core.old) }
@@ -137,7 +138,7 @@ pub(super) fn summarise(
     };
     match Checkpoint::new(alloc, node, first, inputs, from) {
         Ok(checkpoint) => {
-            core.rebase();
+            core.rebase(epoch);
             Ok(checkpoint)
         }
         Err(refusal) => Err(refusal),

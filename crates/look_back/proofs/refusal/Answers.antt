@@ -10,4 +10,4 @@ pub shortage-requires : goal.shortage-requires
 shortage-requires c = (objection-allowed _ _ _ _ (sym c.objection-objection.ensures ∙ is_some-none _ (sym c.is_some.ensures ∙ c.if-is_some.false))).few
 
 pub returns : goal.returns
-returns c = c.shortage.ensures ∙ sym (refusal-fitting _ _ _ _ _ _ _ c.objection-objection.ensures (sym c.is_some.ensures ∙ c.if-is_some.false))
+returns c = c.shortage.ensures _ ∙ sym (refusal-fitting _ _ _ _ _ _ _ c.objection-objection.ensures (sym c.is_some.ensures ∙ c.if-is_some.false))

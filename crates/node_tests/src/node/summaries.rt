@@ -2,6 +2,7 @@
 // as the first one, and its snapshot has the same bytes.
 use super::*;
 use crate::rows::{read, written};
+use ring_records::{LAYOUT, Room};
 
 /// The snapshot of what the node knows, of the length that it tells.
 fn snapshot(rt: &impl Abort, alloc: Global, core: &NodeCore) -> Vec<u8> {
@@ -14,8 +15,13 @@ fn snapshot(rt: &impl Abort, alloc: Global, core: &NodeCore) -> Vec<u8> {
 /// Node 2 of three, with a capacity, as these bytes have it.
 fn restored(rt: &impl Abort, alloc: Global, capacity: u32, bytes: &[u8]) -> NodeCore {
     let from = read(rt, alloc, bytes);
-    let used = bytes.len() as u64;
-    let core = NodeCore::restore(alloc, node(rt, 2), 3, capacity, used, &from);
+    let room = Room {
+        layout: LAYOUT,
+        epoch: 1,
+        taken: bytes.len() as u64,
+        waits: false,
+    };
+    let core = NodeCore::restore(alloc, node(rt, 2), 3, capacity, room, &from);
     core.expect(rt, "ample memory")
 }
 
@@ -67,7 +73,7 @@ fn accepts_alike(rt: &impl Abort, alloc: Global, rig: &mut Rig, op: Op) {
     assert_eq!(rt; accept(rt, &mut other, input), effects);
     assert_eq!(rt; snapshot(rt, alloc, &other), snapshot(rt, alloc, &rig.core));
     assert_eq!(rt; other.used(), bytes.len() as u64 + input.cost() as u64);
-    other.rebase();
+    other.rebase(2);
     show_alike(rt, &rig.core, &other);
 }
 

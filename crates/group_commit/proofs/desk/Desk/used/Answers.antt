@@ -13,7 +13,7 @@ use Rattle.group_commit.proofs.desk.Desk.used.Goals.{After-used}
 
 -- the bytes that its core counts
 counted : (c : After-used) → c.used.result ≡ used (launched_base (state_in c.self.inside)) c.self.inside.inputs.items
-counted c = c.used.ensures.value ∙ ap (λ (v : CoreView). v.used) c.self.invariant.knows
+counted c = c.used.ensures.value ∙ ap (λ (v : CoreView). v.room.taken) c.self.invariant.knows
 
 pub returns-clause-value : goal.returns-clause-value
 returns-clause-value c = counted (goal.at.returns-clause-value c).After-used ∙ ap (λ (v : DeskKept). used (launched_base v.view.state) v.view.state.inputs) c.self.view_is

@@ -4,7 +4,7 @@ use Rattle.std.proofs.lemmas.Option.{slice_get_read}
 use Rattle.ring_records.specs.declared.decision.Decision.{Decision}
 use Rattle.ring_records.specs.declared.input.Input.{Input}
 use Rattle.ring_records.specs.declared.summary.Summary.{Summary}
-use Rattle.ring_records.specs.Admission.{cost}
+use Rattle.ring_records.specs.Admission.{taking}
 use Rattle.ring_records.specs.Known.{Objects, stepped, after}
 use Rattle.ring_records.specs.Lists.{EachAfter}
 use Rattle.ring_records.proofs.LookBack.{IsItem}
@@ -68,7 +68,7 @@ loop-i-preserved c =
     let accepted : is_err c.admit.result ≡ false = search rules in
     let free = subst (Refuses c.loop-i.core x) (why_not c.admit.result accepted) c.admit.ensures.value in
     let is = c.loop-i.invariant.0 in
-    let steps : c.apply.new.self ≡ record c.loop-i.core { known = stepped c.loop-i.core.me c.loop-i.core.known x; used = c.loop-i.core.used + cost x } = search rules in
+    let steps : c.apply.new.self ≡ record c.loop-i.core { known = stepped c.loop-i.core.me c.loop-i.core.known x; room = taking x c.loop-i.core.room } = search rules in
     let brings = c.in-Ok.ensures.brings ∙ ap (λ me. brought me c.loop-i.core.known x) (λ i. (is i).me) in
     let added : is_ok c.add.result ≡ true = search rules in (
       core-item first c.loop-i.core c.apply.new.self c.args.inputs.now c.loop-i.i x is here steps,

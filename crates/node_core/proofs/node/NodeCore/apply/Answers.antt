@@ -1,8 +1,9 @@
-use Rattle.std.proofs.Common.{◌≡◌, ◌+◌, ◌≤◌, ◌∙◌, None, sym, ap, subst, arith}
+use Rattle.std.proofs.Common.{◌≡◌, ◌+◌, ◌≤◌, ◌∙◌, None, false, sym, ap, subst, arith}
 use Rattle.ring_records.specs.declared.input.Input.{Input}
 use Rattle.ring_records.specs.declared.summary.Summary.{Summary}
-use Rattle.ring_records.specs.Admission.{cost}
+use Rattle.ring_records.specs.Admission.{cost, must_renew}
 use Rattle.ring_records.specs.Known.{Objects, sends}
+use Rattle.ring_records.proofs.Admission.{no_renewal}
 use Rattle.node_core.specs.declared.effects.Effects.{Effects}
 use Rattle.node_core.specs.Brought.{brought}
 use Rattle.node_core.specs.Core.{CoreView, FreeView}
@@ -39,7 +40,8 @@ overflow_sub-self c =
 
 pub overflow_add-self-2 : goal.overflow_add-self-2
 overflow_add-self-2 c =
-    let fit : c.self.inside.used + cost c.args.input ≤ c.self.inside.capacity = subst (λ (v : CoreView). v.used + cost c.args.input ≤ v.capacity) (sym c.self.view_is) (fits c.args.self.now c.args.input c.requires) in
+    let plain = subst (λ (v : CoreView). must_renew v.room c.args.input ≡ false) c.self.view_is (no_renewal c.self.inside.room c.args.input c.self.invariant.plain) in
+    let fit : c.self.inside.room.taken + cost c.args.input ≤ c.self.inside.capacity = subst (λ (v : CoreView). v.room.taken + cost c.args.input ≤ v.capacity) (sym c.self.view_is) (fits c.args.self.now c.args.input plain c.requires) in
     let is = c.cost-cost.ensures.value in
     let ranges = c.self.ranges in
     omega arith
@@ -59,10 +61,11 @@ invariant_of-self-2 c =
       exact = omega arith;
       within = subst (λ (s : Summary). s.credit ≤ s.sent) (sym next) (within_next c.self.inside.core.me c.self.inside.core.size c.self.inside.core.known c.args.input free c.self.invariant.within);
       short = omega arith;
+      plain = c.self.invariant.plain;
     }
 
 pub returns-clause-steps : goal.returns-clause-steps
-returns-clause-steps c = stepped_core c.args.self.now c.self.inside.core c.apply.new.self c.self.inside.capacity c.self.inside.used _ c.args.input c.self.view_is c.in_ok-effects.ensures.steps c.cost-cost.ensures.value
+returns-clause-steps c = stepped_core c.args.self.now c.self.inside.core c.apply.new.self c.self.inside.capacity _ c.self.inside.room c.args.input c.self.view_is c.in_ok-effects.ensures.steps c.cost-cost.ensures.value
 
 pub returns-clause-brings : goal.returns-clause-brings
 returns-clause-brings c = c.in_ok-effects.ensures.brings ∙ ap (λ (v : CoreView). brought v.me v.known c.args.input) c.self.view_is
@@ -78,5 +81,5 @@ returns-clause-decided c = λ h s.
 pub returns-clause-stands : goal.returns-clause-stands
 returns-clause-stands c = λ h s.
     goes_on c.args.self.now _ h c.args.input
-    (stepped_core c.args.self.now c.self.inside.core c.apply.new.self c.self.inside.capacity c.self.inside.used _ c.args.input c.self.view_is c.in_ok-effects.ensures.steps c.cost-cost.ensures.value)
+    (stepped_core c.args.self.now c.self.inside.core c.apply.new.self c.self.inside.capacity _ c.self.inside.room c.args.input c.self.view_is c.in_ok-effects.ensures.steps c.cost-cost.ensures.value)
     (subst (λ (v : CoreView). v.known.credit ≤ v.known.sent) c.self.view_is c.self.invariant.within) c.requires s

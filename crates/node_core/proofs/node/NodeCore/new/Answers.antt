@@ -1,5 +1,5 @@
-use Rattle.std.proofs.Common.{◌≡◌, ◌≤◌, [], sym, ap, ◌∙◌, subst, arith}
-use Rattle.ring_records.specs.Admission.{snapshot_len}
+use Rattle.std.proofs.Common.{◌≡◌, ◌≤◌, [], false, refl, sym, ap, ◌∙◌, subst, arith}
+use Rattle.ring_records.specs.Admission.{newest, snapshot_len}
 use Rattle.ring_records.specs.Summary.{empty}
 use Rattle.ring_records.proofs.Counts.{used-each}
 use Rattle.ring_records.proofs.Snapshots.{length-empty}
@@ -11,10 +11,10 @@ pub invariant_of-result : goal.invariant_of-result
 invariant_of-result c =
     let same : c.new.result.known ≡ empty = ap (λ (v : FreeView). v.known) c.new.ensures in
     let len = ap snapshot_len same ∙ length-empty in
-    record { exact = sym len; within = subst (λ s. s.credit ≤ s.sent) (sym same) (omega arith); short = omega arith }
+    record { exact = sym len; within = subst (λ s. s.credit ≤ s.sent) (sym same) (omega arith); short = omega arith; plain = refl }
 
 pub returns-clause-empty : goal.returns-clause-empty
 returns-clause-empty c = record {
   knows = ap (λ (v : FreeView). v.known) c.new.ensures ∙ sym (summary-none c.new.result.me);
-  bytes = sym (used-each []);
+  room = λ i. record { layout = newest; epoch = 1; taken = sym (used-each []) i; waits = false };
 }
