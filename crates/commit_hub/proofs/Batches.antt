@@ -20,10 +20,6 @@ named P d m opening of from holds = subst (λ (x : Member). P x opening) of (sub
 
 -- ---- lands
 
--- as many land as fly
-pub lands_all : (s : NodeState) (count : ℕ) (inputs : List Input) → IsNodeState s → count ≡ s.flying - s.durable → inputs ≡ flying_in s → count ≡ length inputs
-lands_all s count inputs counts lands is = omega (arith, lands, flown_count s counts, ap length is)
-
 -- what flew and is durable now
 pub brings : (old new : DeskKept) (since inputs : List Input) (brought : Landed) → IsNodeState old.view.state → new ≡ record old { view = landed old.view }
     → ((past : List Input) → IsPast new.view.member new.opening past → IsLawfulState new.view.member (seen past new).state)

@@ -159,14 +159,6 @@ le_by a b = at (nat_cmp a b) refl
     at Equal e = let same : a ≡ b = ranked a b Equal (sym e) in ap is_le e ∙ sym (le-leb a b (omega (arith, same)))
     at Greater e = let above : b < a = ranked a b Greater (sym e) in ap is_le e ∙ sym (lt-leb a b above)
 
-pub lt_by : (a b : ℕ) → is_lt (nat_cmp a b) ≡ ltb a b
-lt_by a b = at (nat_cmp a b) refl
-  where
-    at : (o : Ordering) → nat_cmp a b ≡ o → is_lt (nat_cmp a b) ≡ ltb a b
-    at Less e = let less : a < b = ranked a b Less (sym e) in ap is_lt e ∙ sym (lt-ltb a b less)
-    at Equal e = let same : a ≡ b = ranked a b Equal (sym e) in ap is_lt e ∙ sym (le-ltb a b (omega (arith, same)))
-    at Greater e = let above : b < a = ranked a b Greater (sym e) in ap is_lt e ∙ sym (le-ltb a b (omega (arith, above)))
-
 tied_same : (q key : Key) → is_eq (key_cmp q key) ≡ true → q ≡ key
 tied_same q key e = is_key-true q key (sym (is_eq-key_cmp q key) ∙ e)
 

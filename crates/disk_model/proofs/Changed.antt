@@ -17,9 +17,6 @@ puts_changes off bytes old new put =
     let sizes = puts_sizes off bytes old new put in
     record { no_shorter = sizes.0; no_longer = sizes.1; same = λ i lt out. put.others i out }
 
-pub changes_none : (off n : ℕ) (image : List ℕ) → Changes off n image image
-changes_none off n image = record { no_shorter = omega arith; no_longer = omega arith; same = λ i lt out. refl }
-
 -- a range within another
 pub widen : (off n from m : ℕ) (old new : List ℕ) → from ≤ off → off + n ≤ from + m → Changes off n old new → Changes from m old new
 widen off n from m old new above below change = record {

@@ -127,7 +127,3 @@ pub part_within : (off : ℕ) (bytes image : List ℕ) → IsPart off bytes imag
 part_within off bytes image is within =
     let same : length bytes ≡ length (take (length bytes) (drop off image)) = omega (arith, length-take (length bytes) (drop off image), length-drop off image, within) in
     ext_get_or 0 bytes (take (length bytes) (drop off image)) same (λ i lt. is i lt ∙ (sym (get_or-drop off image i 0) ∙ sym (get_or-take (length bytes) (drop off image) i 0 lt)))
-
--- a part as long as the image, from its start
-pub part_whole : (bytes image : List ℕ) → IsPart 0 bytes image → length bytes ≡ length image → bytes ≡ image
-part_whole bytes image is same = ext_get_or 0 bytes image same (λ i lt. is i lt ∙ ap (λ (k : ℕ). get_or image k 0) (omega arith))

@@ -32,10 +32,6 @@ torn_none stable image torn =
     let same : length image ≡ length stable = omega (arith, torn.no_shorter, torn.no_longer) in
     ext_get_or 0 image stable same (λ i lt. torn.same i (omega (arith, lt, same)) tt)
 
--- and that image may be left
-pub torn_stable : (stable : List ℕ) (ranges : List (ℕ × ℕ)) → IsTorn stable ranges stable
-torn_stable stable ranges = record { no_shorter = omega arith; no_longer = omega arith; same = λ i lt out. refl }
-
 -- the new end lies between the old one and that of the range
 pub puts_sizes : (off : ℕ) (bytes old new : List ℕ) → Puts off bytes old new → (length old ≤ length new) × (length new ≤ max (length old) (off + length bytes))
 puts_sizes off bytes old new put =

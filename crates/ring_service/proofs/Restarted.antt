@@ -9,7 +9,7 @@ use Rattle.ring_records.specs.declared.input.Input.{Input}
 use Rattle.ring_records.specs.declared.key.Key.{Key}
 use Rattle.ring_records.specs.Notices.{decided_all, leader_in, leads_in, IsNotBelow}
 use Rattle.ring_records.specs.Leader.{IsLatest}
-use Rattle.ring_records.proofs.Notices.{leaders_content}
+use Rattle.ring_records.proofs.DecisionNotices.{leaders_content}
 use Rattle.ring_records.proofs.Growth.{leader-kept}
 use Rattle.ring_records.proofs.Lists.{none≢some}
 use Rattle.ring_service.specs.Restarts.{AreLater}

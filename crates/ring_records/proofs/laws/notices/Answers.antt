@@ -1,4 +1,5 @@
-use Rattle.ring_records.proofs.Notices.{decided-leads, retired-told, leader_in-stays, latest_in-never_down, leaders_content}
+use Rattle.ring_records.proofs.DecisionNotices.{leaders_content}
+use Rattle.ring_records.proofs.Notices.{decided-leads, retired-told, leader_in-stays, latest_in-never_down}
 use Rattle.ring_records.proofs.laws.notices.Goals as goal
 
 pub returns-clause-decided : goal.returns-clause-decided
