@@ -203,6 +203,7 @@ module _ {V : Type 0} (disk : V → Disk) (clock : V → ℕ) (left_since : V �
           made = is.made;
           some = is.some;
           count = is.count;
+          kind = is.kind;
           next = refl;
           durable = is.durable;
           within = is.within;

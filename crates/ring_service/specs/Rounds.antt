@@ -1,5 +1,5 @@
 -- What a round of a flusher does.
-use Rattle.std.specs.Prelude.{ℕ, ◌≡◌, ◌+◌, ◌-◌, ◌^◌, ◌<◌, ◌≤◌, ◌⊎◌, Bool, true, List, ◌++◌, length, Option, Some, None}
+use Rattle.std.specs.Prelude.{ℕ, ◌≡◌, ◌+◌, ◌-◌, ◌^◌, ◌<◌, ◌≤◌, ◌⊎◌, Bool, true, List, ◌++◌, length, Option, Some, None, is_some}
 use Rattle.std.specs.Option.{option_map}
 use Rattle.disk_model.specs.Disk.{Disk, LeavesOnly}
 use Rattle.ring_records.specs.declared.input.Input.{Input}
@@ -43,8 +43,8 @@ pub record IsMade (member : Member) (opening : Summary) (known : Durable) (input
   pub lawful : IsLawfulBehind member opening (at_rest known) → IsLawfulBehind member opening (with_flying known inputs base)
 
 -- A round made these inputs of the node durable, at least one in a batch: the journal has them behind those that it read
--- as, or in a summary of all in the next epoch, and they are known to be durable behind those that were before. This is
--- what they let the node release. A stop at any moment of it leaves what was read before, or what is read behind it.
+-- as, or in a summary of all in the next epoch, and they are known to be durable behind those that were before. It tells
+-- which of the two, and what they let the node release. A stop at any moment of it leaves what was read before, or what is read behind it.
 pub record IsRound {V : Type 0} (disk : V → Disk) (clock : V → ℕ) (left_since : V → ℕ → List ℕ → Type 0) (member : Member) (opening : Summary)
     (before behind : V) (old new : Durable) (landed : Landed) : Type 0 where
   pub inputs : List Input
@@ -52,6 +52,7 @@ pub record IsRound {V : Type 0} (disk : V → Disk) (clock : V → ℕ) (left_si
   pub made : IsMade member opening old inputs base
   pub some : base ≡ None → 1 ≤ length inputs
   pub count : landed.count ≡ length inputs
+  pub kind : landed.is_checkpoint ≡ is_some base
   pub next : new ≡ known_behind base inputs old
   pub durable : (r : Reading) → AllReadAs member (disk before) r → AllReadAs member (disk behind) (reading_after old.base.epoch base inputs r)
   pub within : (r : Reading) → AllReadAs member (disk before) r → LeavesOnly clock left_since before behind (ReadsAsOneOf member r (reading_after old.base.epoch base inputs r))

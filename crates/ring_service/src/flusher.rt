@@ -1,5 +1,5 @@
 //! The flusher's end of a hub.
-ghost use Rattle.std.specs.Prelude.{◌≡◌, ◌+◌, ◌-◌, ◌<◌, ◌≤◌, ◌⊎◌, ◌++◌, [], true, false, is_err, length, IfOk, IfErr, IfSome, IfNone, IsErrOf, OnErr, OnOk};
+ghost use Rattle.std.specs.Prelude.{◌≡◌, ◌+◌, ◌-◌, ◌<◌, ◌≤◌, ◌⊎◌, ◌++◌, [], true, false, is_err, is_some, length, IfOk, IfErr, IfSome, IfNone, IsErrOf, OnErr, OnOk};
 ghost use mathlib.Core.List.{IsPrefix};
 ghost use Rattle.ring_records.specs.Notices.{decided_all};
 ghost use Rattle.disk_model.specs.Disk.{LeavesOnly, Reaches};
@@ -199,6 +199,7 @@ fn settle<V: Device, A: Node, R: Wait>(
     requires based { (known_by tie.old).base.inputs ≤ length (known_by tie.old).inputs }
     requires known { HasKnown A.member A.opening (known_by tie.old) (len_of journal.old) (room_of journal.old) (journal_epoch journal.old) }
     ensures count { IfOk result (λ landed. landed.count ≡ length (flown_by work).inputs) }
+    ensures kind { IfOk result (λ landed. landed.is_checkpoint ≡ is_some (summary_by work)) }
     ensures brought { IfOk result (λ landed. IsBrought A.member A.opening (known_by tie.old).inputs (flown_by work).inputs landed) }
     ensures few { IfOk result (λ landed. length landed.decisions.items ≤ length (flown_by work).inputs) }
     ensures durable { OnOk result ((r : Reading) → AllReadAs A.member (V.disk (device_of journal.old)) r

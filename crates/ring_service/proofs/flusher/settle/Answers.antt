@@ -1,8 +1,10 @@
-use Rattle.std.proofs.Common.{◌∙◌, ◌≡◌, ◌+◌, ◌-◌, ℕ, None, Some, sym, ap, subst, arith, length}
+use Rattle.std.proofs.Common.{◌∙◌, ◌≡◌, ◌+◌, ◌-◌, ℕ, None, Some, is_some, refl, sym, ap, subst, arith, length}
 use Rattle.ring_records.specs.Admission.{costs_of, used}
 use Rattle.ring_records.specs.Member.{Member}
 use Rattle.gated_journal.specs.Areas.{AllReadAs}
-use Rattle.gated_journal.specs.Batch.{Numbered}
+use Rattle.gated_journal.specs.declared.work.Work.{Work}
+use Rattle.gated_journal.specs.declared.work.Work.TheVariants.{Batch, Checkpoint}
+use Rattle.gated_journal.specs.Batch.{Numbered, is_checkpoint}
 use Rattle.gated_journal.specs.Journal.{device_of, len_of, room_of, epoch_of}
 use Rattle.gated_journal.specs.Reading.{Reading}
 use Rattle.commit_hub.specs.Holders.{known_by}
@@ -21,6 +23,14 @@ write-requires-clause-taken g c =
 pub returns-in-Ok-land-clause-few : goal.returns-in-Ok-land-clause-few
 returns-in-Ok-land-clause-few g c =
     omega (arith, c.in-Ok-land.ensures.few, c.in-Ok-land.ensures.count, ap (λ (flown : Numbered). length flown.inputs) c.in-Ok.ensures.receipt)
+
+-- a work is a checkpoint where it has a summary
+kind : (w : Work) → is_checkpoint (flown_by w) ≡ is_some (summary_by w)
+kind (Batch batch) = refl
+kind (Checkpoint made) = refl
+
+pub returns-in-Ok-land-clause-kind : goal.returns-in-Ok-land-clause-kind
+returns-in-Ok-land-clause-kind g c = c.in-Ok-land.ensures.kind ∙ (ap is_checkpoint c.in-Ok.ensures.receipt ∙ kind c.args.work)
 
 -- what reads so before it, reads with it behind
 pub returns-in-Ok-land-clause-durable : goal.returns-in-Ok-land-clause-durable

@@ -50,6 +50,7 @@ returns-in-Ok-clause-round g c =
       made = makes m o _ w (λ e. omega (arith, (c.count.ensures.size e).1, c.count.ensures.value)) next;
       some = λ e. omega (arith, (c.count.ensures.size e).0, c.count.ensures.value);
       count = c.in-Ok.ensures.count;
+      kind = c.in-Ok.ensures.kind;
       next = c.in-Ok.ensures.next ∙ ap (known_behind (summary_by w) inputs) same;
       durable = subst (λ (k : ℕ). (r : Reading) → AllReadAs m disk r → AllReadAs m behind (reading_after k (summary_by w) inputs r)) (c.args.self.now.known c.if-self.false).area c.in-Ok.ensures.durable;
       within = (
