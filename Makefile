@@ -12,10 +12,11 @@
 # writeback: as root, the disk of bin/ringd refuses a page during one sync, and then the power goes.
 # syncs: the system calls of bin/ringd: whether what an answer rests on was synced before.
 # fuzz: both programs, given what nobody would give them; FUZZ has words of trials/fuzz.py.
+# hangs: one sync of bin/ringd takes 14 seconds, and the status port says so.
 # faults, growths: each call of the system that a ring makes fails in turn, and each growth of the programs is refused.
 # load: bin/ringd under load; LOAD has further words of bench/load.py.
 .PHONY: run test wrong_bodies bench clean always
-.PHONY: ringd install serve fencing clients picture pictures kills load short threads scrapes writeback syncs fuzz faults growths
+.PHONY: ringd install serve fencing clients picture pictures kills load short threads scrapes writeback syncs fuzz faults growths hangs
 
 run:
 	@bench/try.sh examples/first_election.ring
@@ -88,6 +89,9 @@ writeback: bin/ringd
 
 syncs: bin/ringd
 	@trials/syncs.py --ringd bin/ringd
+
+hangs: bin/ringd
+	@trials/hangs.py
 
 fuzz: bin/ringctl bin/ringd
 	@trials/fuzz.py $(FUZZ)

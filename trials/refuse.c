@@ -3,7 +3,7 @@
 // The file that REFUSE names, of 96 bytes, is mapped as the `orders` below; the counts stand in it when the program ends, however it does.
 // Calls of `malloc` and `realloc` count as one name, `openat` counts `open` too. Call number `at`, counted from 1 while `name` is the one
 // that is counted, is refused, and with `for_good` all of that name behind it; `at` 0 refuses none. `way` is the errno that is told, or 0
-// for a `pwrite` that takes one byte.
+// for a `pwrite` that takes one byte. Where `pause` is not 0, the call is not refused, but begins so many milliseconds later.
 #define _GNU_SOURCE
 #include <dlfcn.h>
 #include <errno.h>
@@ -14,13 +14,14 @@
 #include <stdlib.h>
 #include <sys/mman.h>
 #include <sys/syscall.h>
+#include <time.h>
 #include <unistd.h>
 
 enum name { MEMORY, PWRITE, FDATASYNC, FSYNC, FTRUNCATE, RENAME, OPENAT, PREAD, NAMES };
 
 struct orders {
     _Atomic uint64_t counts[NAMES];
-    uint32_t name, way, for_good, unused;
+    uint32_t name, way, for_good, pause;
     _Atomic uint64_t at;
     _Atomic uint64_t refused;
 };
@@ -48,6 +49,11 @@ static int is_refused(enum name name) {
     if (orders == &none || at == 0 || orders->name != name || (orders->for_good ? count < at : count != at))
         return 0;
     atomic_fetch_add(&orders->refused, 1);
+    if (orders->pause) {
+        struct timespec pause = {orders->pause / 1000, orders->pause % 1000 * 1000000L};
+        nanosleep(&pause, NULL);
+        return 0;
+    }
     errno = (int)orders->way;
     return 1;
 }

@@ -10,6 +10,7 @@ use ring_status::NodeStatus;
 use ring_watch::{Inquiry, Page};
 use std::alloc::{AllocError, Global};
 use std::sync::Wait;
+use std::time::Clock;
 
 /// How many groups a page has at most.
 const GROUPS: usize = 1_000;
@@ -45,7 +46,7 @@ pub(crate) fn take_clerk<J: Naming>(
 }
 
 /// What is told of the node. The hub's lock is held once, while counts are copied.
-fn status<A: Node, R: Wait>(
+fn status<A: Node, R: Wait + Clock>(
     rt: &R,
     alloc: Global,
     hub: &Hub<A>,
@@ -54,8 +55,8 @@ fn status<A: Node, R: Wait>(
     links: &Links<'_>,
 ) -> Result<NodeStatus, AllocError> {
     let look = hub.look(rt);
-    let held = held_by(&look);
     let tally = links.tally;
+    let held = held_by(&look, tally.writing(rt));
     Ok(NodeStatus {
         node: links.node,
         port,
@@ -69,6 +70,7 @@ fn status<A: Node, R: Wait>(
         epoch: look.epoch,
         checkpoints: tally.checkpoints(),
         syncs: tally.syncs(),
+        writing: held.writing,
         refusals: tally.refusals(alloc)?,
         sessions: tally.sessions(),
         doors: u64::from(doors),
@@ -130,7 +132,7 @@ fn send_back<T: Drop, R: Wait>(rt: &R, back: Sender<T>, answer: Option<T>) {
 
 impl<J: Naming> Clerk<J> {
     /// Answers what is asked. Where there is no answer, who asks finds none to come.
-    fn answer<A: Node, R: Wait>(
+    fn answer<A: Node, R: Wait + Clock>(
         &mut self,
         rt: &R,
         alloc: Global,
@@ -152,7 +154,7 @@ impl<J: Naming> Clerk<J> {
 }
 
 /// Answers what the clerk is asked, until it is dismissed. Who asks waits for no sync, and the node for no clerk.
-pub(crate) fn serve_clerk<J: Naming, A: Node, R: Wait>(
+pub(crate) fn serve_clerk<J: Naming, A: Node, R: Wait + Clock>(
     rt: &R,
     alloc: Global,
     hub: &Hub<A>,

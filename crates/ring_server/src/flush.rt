@@ -6,17 +6,35 @@ use decision_board::Naming;
 use disk_model::Device;
 use group_commit::Landed;
 use ring_records::Refusal;
-use ring_service::Flusher;
+use ring_service::{Flusher, Gate};
+use ring_watch::Tally;
 use std::sync::Wait;
 use std::time::{Clock, Duration};
 
-/// One round of the flusher, and what it landed.
-fn flush_once<V: Device, J: Naming, A: Node, R: Wait>(
+/// Tells the tally when the device is given something to write.
+#[derive(Drop)]
+struct Writing<'a, R> {
+    rt: &'a R,
+    tally: &'a Tally,
+}
+
+impl<R: Wait + Clock> Gate for Writing<'_, R> {
+    fn before_commit(&mut self, _first: u64, _count: usize) {
+        self.tally.begin_writing(self.rt);
+    }
+}
+
+/// One round of the flusher, and what it landed. While its device is busy the tally knows since when.
+fn flush_once<V: Device, J: Naming, A: Node, R: Wait + Clock>(
     rt: &R,
     hub: &Hub<A>,
     flusher: &mut Flusher<V, J, A>,
+    tally: &Tally,
 ) -> Result<Option<Landed>, Refusal> {
-    flusher.flush_round(rt, hub, &mut ())
+    let mut gate = Writing { rt, tally };
+    let landed = flusher.flush_round(rt, hub, &mut gate);
+    tally.end_writing(rt);
+    landed
 }
 
 /// Counts what landed, and sends what that releases.
@@ -36,7 +54,7 @@ pub(crate) fn flush_all<V: Device, J: Naming, A: Node, R: Wait + Clock>(
     links: &Links<'_>,
 ) -> bool {
     for _ in rt.forever() {
-        match flush_once(rt, hub, flusher) {
+        match flush_once(rt, hub, flusher, links.tally) {
             Ok(Some(landed)) => release(rt, &landed, links),
             Ok(None) => return true,
             Err(Refusal::OutOfMemory) => rt.sleep(Duration::from_millis(1)),

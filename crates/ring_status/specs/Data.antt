@@ -4,7 +4,7 @@ use Rattle.serde_json.specs.Data.{Data, array, boolean, member, no_members, numb
 use Rattle.serde_json.specs.View.{items_of}
 use Rattle.ring_records.specs.declared.decision.Decision.{Decision}
 use Rattle.ring_status.specs.declared.values.Condition.{Condition}
-use Rattle.ring_status.specs.declared.values.Condition.TheVariants.{Well, Limit, Full, Failed}
+use Rattle.ring_status.specs.declared.values.Condition.TheVariants.{Well, Limit, Full, Hangs, Failed}
 use Rattle.ring_status.specs.declared.values.NodeStatus.{NodeStatus}
 use Rattle.ring_status.specs.declared.values.RefusalCount.{RefusalCount}
 use Rattle.ring_status.specs.declared.values.RingStatus.{RingStatus}
@@ -22,6 +22,7 @@ abbrev pub condition_text : Condition → List ℕ
 condition_text Well = codes "well"
 condition_text Limit = codes "limit"
 condition_text Full = codes "full"
+condition_text Hangs = codes "hangs"
 condition_text Failed = codes "failed"
 
 abbrev pub refusal_data : RefusalCount → Data
@@ -36,7 +37,8 @@ journal_data node = object
     (member (codes "epoch") (natural node.epoch)
     (member (codes "inputs") (natural (node.shown).inputs)
     (member (codes "syncs") (natural node.syncs)
-    (member (codes "used") (natural node.used) no_members))))))))
+    (member (codes "used") (natural node.used)
+    (member (codes "writing") (natural node.writing) no_members)))))))))
 
 abbrev pub messages_data : NodeStatus → Data
 messages_data node = object

@@ -4,18 +4,21 @@ use Rattle.std.specs.Fmt.{decimal}
 use Rattle.std.specs.List.{flat_map, list_all}
 use Rattle.ring_records.specs.declared.limits.TheConstants.{INPUT_BYTES, STANDS}
 use Rattle.ring_status.specs.declared.holding.Holding.{Holding}
+use Rattle.ring_status.specs.declared.holding.TheConstants.{HANG_SECONDS}
 use Rattle.ring_status.specs.declared.values.Condition.{Condition}
-use Rattle.ring_status.specs.declared.values.Condition.TheVariants.{Well, Limit, Full, Failed}
+use Rattle.ring_status.specs.declared.values.Condition.TheVariants.{Well, Limit, Full, Hangs, Failed}
 use Rattle.ring_status.specs.declared.values.NodeStatus.{NodeStatus}
 
--- What a node takes that holds so much: nothing where it takes no requests; a Stand or a message takes 42 bytes at most,
+-- What a node takes that holds so much: nothing where it takes no requests; none is durable where its device has been busy
+-- with some for ten seconds; a Stand or a message takes 42 bytes at most,
 -- for which a checkpoint that is due makes room; and a node takes 1,024 Stands at most.
 abbrev pub condition_of : Holding → Bool → Condition
 condition_of held is_open =
     if not is_open then Failed
+    else (if nat_le HANG_SECONDS held.writing then Hangs
     else (if not held.is_due && nat_lt held.capacity (held.used + INPUT_BYTES) then Full
     else (if nat_le STANDS held.stands then Limit
-    else Well))
+    else Well)))
 
 abbrev pub stands_left : Holding → ℕ
 stands_left held = STANDS - held.stands
@@ -24,6 +27,7 @@ abbrev pub takes : Condition → Bool
 takes Well = true
 takes Limit = false
 takes Full = false
+takes Hangs = false
 takes Failed = false
 
 abbrev pub is_well : NodeStatus → Bool
@@ -37,6 +41,7 @@ abbrev pub line_for : ℕ → Condition → List ℕ
 line_for node Well = []
 line_for node Limit = codes "node " ++ decimal node ++ codes " limit\n"
 line_for node Full = codes "node " ++ decimal node ++ codes " full\n"
+line_for node Hangs = codes "node " ++ decimal node ++ codes " hangs\n"
 line_for node Failed = codes "node " ++ decimal node ++ codes " failed\n"
 
 abbrev pub fault_text : NodeStatus → List ℕ

@@ -5,7 +5,7 @@ use Rattle.std.specs.List.{flat_map}
 use Rattle.ring_status.specs.declared.metric.Metric.{Metric}
 use Rattle.ring_status.specs.declared.metric.Metric.TheVariants as of
 use Rattle.ring_status.specs.declared.values.Condition.{Condition}
-use Rattle.ring_status.specs.declared.values.Condition.TheVariants.{Well, Limit, Full, Failed}
+use Rattle.ring_status.specs.declared.values.Condition.TheVariants.{Well, Limit, Full, Hangs, Failed}
 use Rattle.ring_status.specs.declared.values.NodeStatus.{NodeStatus}
 use Rattle.ring_status.specs.declared.values.RefusalCount.{RefusalCount}
 
@@ -13,6 +13,7 @@ use Rattle.ring_status.specs.declared.values.RefusalCount.{RefusalCount}
 
 abbrev pub name_text : Metric → List ℕ
 name_text of.Failed = codes "cinoweta_node_failed"
+name_text of.Hangs = codes "cinoweta_node_hangs"
 name_text of.Full = codes "cinoweta_node_full"
 name_text of.AtLimit = codes "cinoweta_node_at_limit"
 name_text of.Inputs = codes "cinoweta_inputs_total"
@@ -28,6 +29,7 @@ name_text of.Batches = codes "cinoweta_batches_total"
 name_text of.Checkpoints = codes "cinoweta_checkpoints_total"
 name_text of.Epoch = codes "cinoweta_journal_epoch"
 name_text of.Syncs = codes "cinoweta_syncs_total"
+name_text of.Writing = codes "cinoweta_writing_seconds"
 name_text of.Sessions = codes "cinoweta_sessions_total"
 name_text of.Doors = codes "cinoweta_doors"
 name_text of.BusyDoors = codes "cinoweta_doors_busy"
@@ -35,6 +37,7 @@ name_text of.Letters = codes "cinoweta_letters_waiting"
 
 abbrev pub help_text : Metric → List ℕ
 help_text of.Failed = codes "Whether the node failed."
+help_text of.Hangs = codes "Whether its device has taken ten seconds for a batch or a checkpoint."
 help_text of.Full = codes "Whether the node has no room for a Stand or a message."
 help_text of.AtLimit = codes "Whether the node has taken all Stands that it may."
 help_text of.Inputs = codes "Inputs that the node accepted."
@@ -50,6 +53,7 @@ help_text of.Batches = codes "Batches that the node wrote since the start."
 help_text of.Checkpoints = codes "Checkpoints that the node made since the start."
 help_text of.Epoch = codes "Epoch of its journal's area in use, which each checkpoint raises by 1."
 help_text of.Syncs = codes "Syncs of its device since the start."
+help_text of.Writing = codes "Seconds for which its device has been busy with one of these."
 help_text of.Sessions = codes "Sessions begun at the node since the start."
 help_text of.Doors = codes "Doors of the node."
 help_text of.BusyDoors = codes "Doors of the node that serve a session."
@@ -58,6 +62,7 @@ help_text of.Letters = codes "Messages in the node's letterbox."
 -- a counter never goes down but at a start
 abbrev pub kind_text : Metric → List ℕ
 kind_text of.Failed = codes "gauge"
+kind_text of.Hangs = codes "gauge"
 kind_text of.Full = codes "gauge"
 kind_text of.AtLimit = codes "gauge"
 kind_text of.Inputs = codes "counter"
@@ -73,6 +78,7 @@ kind_text of.Batches = codes "counter"
 kind_text of.Checkpoints = codes "counter"
 kind_text of.Epoch = codes "gauge"
 kind_text of.Syncs = codes "counter"
+kind_text of.Writing = codes "gauge"
 kind_text of.Sessions = codes "counter"
 kind_text of.Doors = codes "gauge"
 kind_text of.BusyDoors = codes "gauge"
@@ -83,22 +89,33 @@ abbrev pub failed : Condition → ℕ
 failed Well = 0
 failed Limit = 0
 failed Full = 0
+failed Hangs = 0
 failed Failed = 1
 
 abbrev pub full : Condition → ℕ
 full Well = 0
 full Limit = 0
 full Full = 1
+full Hangs = 0
 full Failed = 0
 
 abbrev pub at_limit : Condition → ℕ
 at_limit Well = 0
 at_limit Limit = 1
 at_limit Full = 0
+at_limit Hangs = 0
 at_limit Failed = 0
+
+abbrev pub hangs : Condition → ℕ
+hangs Well = 0
+hangs Limit = 0
+hangs Full = 0
+hangs Hangs = 1
+hangs Failed = 0
 
 abbrev pub value_of : Metric → NodeStatus → ℕ
 value_of of.Failed node = failed node.condition
+value_of of.Hangs node = hangs node.condition
 value_of of.Full node = full node.condition
 value_of of.AtLimit node = at_limit node.condition
 value_of of.Inputs node = (node.shown).inputs
@@ -114,6 +131,7 @@ value_of of.Batches node = node.batches
 value_of of.Checkpoints node = node.checkpoints
 value_of of.Epoch node = node.epoch
 value_of of.Syncs node = node.syncs
+value_of of.Writing node = node.writing
 value_of of.Sessions node = node.sessions
 value_of of.Doors node = node.doors
 value_of of.BusyDoors node = node.busy
@@ -122,9 +140,9 @@ value_of of.Letters node = node.letters
 -- all of them, in their order
 unfoldable pub metrics : List Metric
 metrics =
-    of.Failed ∷ of.Full ∷ of.AtLimit ∷ of.Inputs ∷ of.Durable ∷ of.Sent
+    of.Failed ∷ of.Hangs ∷ of.Full ∷ of.AtLimit ∷ of.Inputs ∷ of.Durable ∷ of.Sent
     ∷ of.Taken ∷ of.Credit ∷ of.Used ∷ of.Capacity ∷ of.Stands ∷ of.StandsLeft
-    ∷ of.Batches ∷ of.Checkpoints ∷ of.Epoch ∷ of.Syncs ∷ of.Sessions ∷ of.Doors ∷ of.BusyDoors ∷ of.Letters ∷ []
+    ∷ of.Batches ∷ of.Checkpoints ∷ of.Epoch ∷ of.Syncs ∷ of.Writing ∷ of.Sessions ∷ of.Doors ∷ of.BusyDoors ∷ of.Letters ∷ []
 
 -- ---- the text
 

@@ -28,6 +28,7 @@ fn print_fault(out: &mut String, node: &NodeStatus) -> Result<(), AllocError>
         Condition::Well => Ok(()),
         Condition::Limit => writeln!(out, "node {number} limit"),
         Condition::Full => writeln!(out, "node {number} full"),
+        Condition::Hangs => writeln!(out, "node {number} hangs"),
         Condition::Failed => writeln!(out, "node {number} failed"),
     }
 }

@@ -1,4 +1,4 @@
-// What a node holds, and what that says of what it takes.
+// What a node holds and does, and what that says of what it takes.
 ghost use Rattle.std.specs.Prelude.{◌≡◌, ◌+◌, ◌-◌, nat_lt};
 ghost use Rattle.ring_records.specs.declared.limits.TheConstants.{INPUT_BYTES};
 ghost use Rattle.ring_status.specs.Health.{condition_of, stands_left};
@@ -6,7 +6,7 @@ ghost use Rattle.ring_status.specs.Health.{condition_of, stands_left};
 use crate::values::Condition;
 use ring_records::{INPUT_BYTES, STANDS};
 
-/// What a node holds of what it may hold.
+/// What a node holds of what it may hold, and how long it has been writing.
 #[derive(Clone, Copy, Debug, PartialEq, Eq)]
 pub struct Holding {
     /// How many bytes of its capacity its inputs take.
@@ -17,7 +17,12 @@ pub struct Holding {
     pub stands: u64,
     /// Whether a checkpoint is due, which makes room.
     pub is_due: bool,
+    /// For how many seconds its device has been busy with a batch or a checkpoint, 0 where it is with none.
+    pub writing: u64,
 }
+
+/// For how many seconds a device may be busy with a batch or a checkpoint before it hangs.
+const HANG_SECONDS: u64 = 10;
 
 impl Holding {
     /// What a node takes that holds so much, and that takes requests or takes none.
@@ -26,6 +31,8 @@ impl Holding {
     {
         if !is_open {
             Condition::Failed
+        } else if self.writing >= HANG_SECONDS {
+            Condition::Hangs
         } else if !self.is_due && self.is_filled() {
             Condition::Full
         } else if self.stands >= u64::from(STANDS) {

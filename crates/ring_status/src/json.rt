@@ -18,6 +18,7 @@ fn condition_text(condition: Condition) -> &'static str
         Condition::Well => "well",
         Condition::Limit => "limit",
         Condition::Full => "full",
+        Condition::Hangs => "hangs",
         Condition::Failed => "failed",
     }
 }
@@ -49,7 +50,8 @@ fn journal_json(alloc: Global, node: &NodeStatus) -> Result<Value, AllocError>
         "epoch": node.epoch,
         "inputs": node.shown.inputs,
         "syncs": node.syncs,
-        "used": node.used
+        "used": node.used,
+        "writing": node.writing
     })
 }
 

@@ -8,6 +8,7 @@ use crate::values::{Condition, NodeStatus};
 #[derive(Clone, Copy, Debug, PartialEq, Eq)]
 pub enum Metric {
     Failed,
+    Hangs,
     Full,
     AtLimit,
     Inputs,
@@ -23,6 +24,7 @@ pub enum Metric {
     Checkpoints,
     Epoch,
     Syncs,
+    Writing,
     Sessions,
     Doors,
     BusyDoors,
@@ -30,8 +32,9 @@ pub enum Metric {
 }
 
 /// All of them, in the order in which they are told.
-const METRICS: [Metric; 20] = [
+const METRICS: [Metric; 22] = [
     Metric::Failed,
+    Metric::Hangs,
     Metric::Full,
     Metric::AtLimit,
     Metric::Inputs,
@@ -47,6 +50,7 @@ const METRICS: [Metric; 20] = [
     Metric::Checkpoints,
     Metric::Epoch,
     Metric::Syncs,
+    Metric::Writing,
     Metric::Sessions,
     Metric::Doors,
     Metric::BusyDoors,
@@ -68,6 +72,7 @@ impl Metric {
     {
         match self {
             Metric::Failed => "cinoweta_node_failed",
+            Metric::Hangs => "cinoweta_node_hangs",
             Metric::Full => "cinoweta_node_full",
             Metric::AtLimit => "cinoweta_node_at_limit",
             Metric::Inputs => "cinoweta_inputs_total",
@@ -83,6 +88,7 @@ impl Metric {
             Metric::Checkpoints => "cinoweta_checkpoints_total",
             Metric::Epoch => "cinoweta_journal_epoch",
             Metric::Syncs => "cinoweta_syncs_total",
+            Metric::Writing => "cinoweta_writing_seconds",
             Metric::Sessions => "cinoweta_sessions_total",
             Metric::Doors => "cinoweta_doors",
             Metric::BusyDoors => "cinoweta_doors_busy",
@@ -96,6 +102,7 @@ impl Metric {
     {
         match self {
             Metric::Failed => "Whether the node failed.",
+            Metric::Hangs => "Whether its device has taken ten seconds for a batch or a checkpoint.",
             Metric::Full => "Whether the node has no room for a Stand or a message.",
             Metric::AtLimit => "Whether the node has taken all Stands that it may.",
             Metric::Inputs => "Inputs that the node accepted.",
@@ -112,6 +119,7 @@ impl Metric {
             Metric::Epoch =>
                 "Epoch of its journal's area in use, which each checkpoint raises by 1.",
             Metric::Syncs => "Syncs of its device since the start.",
+            Metric::Writing => "Seconds for which its device has been busy with one of these.",
             Metric::Sessions => "Sessions begun at the node since the start.",
             Metric::Doors => "Doors of the node.",
             Metric::BusyDoors => "Doors of the node that serve a session.",
@@ -144,6 +152,7 @@ impl Metric {
     {
         match self {
             Metric::Failed => u64::from(matches!(node.condition, Condition::Failed)),
+            Metric::Hangs => u64::from(matches!(node.condition, Condition::Hangs)),
             Metric::Full => u64::from(matches!(node.condition, Condition::Full)),
             Metric::AtLimit => u64::from(matches!(node.condition, Condition::Limit)),
             Metric::Inputs => node.shown.inputs,
@@ -159,6 +168,7 @@ impl Metric {
             Metric::Checkpoints => node.checkpoints,
             Metric::Epoch => node.epoch,
             Metric::Syncs => node.syncs,
+            Metric::Writing => node.writing,
             Metric::Sessions => node.sessions,
             Metric::Doors => node.doors,
             Metric::BusyDoors => node.busy,

@@ -10,6 +10,8 @@ pub enum Condition {
     Limit,
     /// It takes neither: there is no room for one.
     Full,
+    /// It makes none durable: its device has taken ten seconds or longer for a batch or a checkpoint.
+    Hangs,
     /// It takes neither: its device failed, or a growth was refused.
     Failed,
 }
@@ -47,6 +49,8 @@ pub struct NodeStatus {
     pub checkpoints: u64,
     /// How many syncs of its device it waited for.
     pub syncs: u64,
+    /// For how many seconds its device has been busy with the batch or the checkpoint that it writes, 0 where it writes none.
+    pub writing: u64,
     /// The refusals that its clients were told.
     pub refusals: Vec<RefusalCount>,
     /// How many sessions were begun at its doors.

@@ -3,6 +3,8 @@ use ring_records::REFUSALS;
 use ring_status::RefusalCount;
 use std::alloc::{AllocError, Global};
 use std::sync::atomic::{AtomicU64, Ordering};
+use std::sync::{Mutex, Wait};
+use std::time::{Clock, Instant};
 
 /// What the threads of a node count since the start. It is read while they count, so two numbers of it may be of two
 /// moments.
@@ -13,6 +15,8 @@ pub struct Tally {
     syncs: AtomicU64,
     sessions: AtomicU64,
     busy: AtomicU64,
+    // when its device was given what it writes
+    since: Mutex<Option<Instant>>,
     // by their numbers, from 1 on
     refusals: Vec<AtomicU64>,
 }
@@ -30,8 +34,28 @@ impl Tally {
             syncs: AtomicU64::new(0),
             sessions: AtomicU64::new(0),
             busy: AtomicU64::new(0),
+            since: Mutex::new(None),
             refusals,
         })
+    }
+
+    /// The device is given a batch or a checkpoint now. Where the clock can't be read, nothing is told of how long it takes.
+    pub fn begin_writing<R: Wait + Clock>(&self, rt: &R) {
+        *self.since.lock(rt) = Instant::now(rt).ok();
+    }
+
+    /// The device is done with it, however.
+    pub fn end_writing<R: Wait>(&self, rt: &R) {
+        *self.since.lock(rt) = None;
+    }
+
+    /// For how many seconds the device has been busy with a batch or a checkpoint, 0 where it is with none.
+    pub fn writing<R: Wait + Clock>(&self, rt: &R) -> u64 {
+        let since = *self.since.lock(rt);
+        match (since, Instant::now(rt)) {
+            (Some(since), Ok(now)) => now.saturating_duration_since(since).as_secs(),
+            _ => 0,
+        }
     }
 
     /// A batch is durable, or a checkpoint, which took so many syncs.

@@ -9,7 +9,7 @@ use std::test::Fail;
 
 #[test]
 fn health(rt: HostRuntime) -> Result<(), Fail> {
-    let table: [([Condition; 3], &str); 4] = [
+    let table: [([Condition; 3], &str); 5] = [
         (
             [Condition::Well, Condition::Well, Condition::Well],
             "well\n",
@@ -25,6 +25,10 @@ fn health(rt: HostRuntime) -> Result<(), Fail> {
         (
             [Condition::Well, Condition::Well, Condition::Failed],
             "node 3 failed\n",
+        ),
+        (
+            [Condition::Hangs, Condition::Well, Condition::Well],
+            "node 1 hangs\n",
         ),
     ];
     for (conditions, wanted) in table {
@@ -53,8 +57,8 @@ fn status(rt: HostRuntime) -> Result<(), Fail> {
     assert_eq!(rt;
         status_json(rt.alloc(), &ring)?.as_str(),
         "{\"dir\":\"a\\\"b\",\"nodes\":[{\"journal\":{\"batches\":5,\"capacity\":65536,\"checkpoints\":13,\"durable\":29,\
-         \"epoch\":14,\"inputs\":30,\"syncs\":6,\"used\":1234},\"messages\":{\"credit\":10,\"sent\":12,\"taken\":11,\"waiting\":9},\"node\":2,\
-         \"port\":7102,\"sessions\":{\"begun\":8,\"busy\":3,\"doors\":4,\"refusals\":[{\"count\":2,\"number\":4},\
+         \"epoch\":14,\"inputs\":30,\"syncs\":6,\"used\":1234,\"writing\":12},\"messages\":{\"credit\":10,\"sent\":12,\"taken\":11,\
+         \"waiting\":9},\"node\":2,\"port\":7102,\"sessions\":{\"begun\":8,\"busy\":3,\"doors\":4,\"refusals\":[{\"count\":2,\"number\":4},\
          {\"count\":1,\"number\":25}]},\"stands\":{\"left\":1017,\"taken\":7},\"state\":\"limit\"}],\
          \"started\":1700000000,\"version\":\"0.1.0\"}"
     );
@@ -94,13 +98,15 @@ fn metrics(rt: HostRuntime) -> Result<(), Fail> {
         nodes: &nodes,
     };
     let text = metrics_text(rt.alloc(), &ring)?;
-    // 22 families of two lines each, a line for each node in 20 of them, two of them with two refusals, and the start
-    assert_eq!(rt; text.as_str().lines().count(), 22 * 2 + 20 * 2 + 2 * 2 + 1);
+    // 24 families of two lines each, a line for each node in 22 of them, two of them with two refusals, and the start
+    assert_eq!(rt; text.as_str().lines().count(), 24 * 2 + 22 * 2 + 2 * 2 + 1);
     for part in [
         "# HELP cinoweta_start_time_seconds When the program was started, in Unix time.\n# TYPE \
          cinoweta_start_time_seconds gauge\ncinoweta_start_time_seconds 1700000000\n",
         "# HELP cinoweta_node_full Whether the node has no room for a Stand or a message.\n# TYPE cinoweta_node_full \
          gauge\ncinoweta_node_full{node=\"1\"} 0\ncinoweta_node_full{node=\"2\"} 1\n",
+        "# HELP cinoweta_writing_seconds Seconds for which its device has been busy with one of these.\n# TYPE \
+         cinoweta_writing_seconds gauge\ncinoweta_writing_seconds{node=\"1\"} 12\n",
         "# HELP cinoweta_inputs_total Inputs that the node accepted.\n# TYPE cinoweta_inputs_total \
          counter\ncinoweta_inputs_total{node=\"1\"} 30\ncinoweta_inputs_total{node=\"2\"} 30\n",
         "cinoweta_letters_waiting{node=\"2\"} 9\n# HELP cinoweta_refusals_total Refusals that clients were told since \

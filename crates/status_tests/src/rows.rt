@@ -40,6 +40,7 @@ pub fn node(
         epoch: 14,
         checkpoints: 13,
         syncs: 6,
+        writing: 12,
         refusals,
         sessions: 8,
         doors: 4,

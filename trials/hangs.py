@@ -1,0 +1,159 @@
+#!/usr/bin/env python3
+"""hangs.py [--ringd PATH] [--pause SECONDS]
+
+One sync of a node hangs, from outside: a call of `fdatasync` that begins SECONDS later (14 by default). Meanwhile the status port of the
+ring is asked each half second. Before ten seconds are over `/health` says `well`, then that this node hangs, with 503, and `well` again
+once the sync is over; `/metrics` tells for how long the device has been busy. The Stand that waits for the sync is then answered, and its
+leader is known.
+
+  --ringd PATH   the server, `bin/ringd` by default.
+
+Status 0 where it is so, 1 where it is not, 2 where a word is wrong."""
+
+import argparse
+import http.client
+import os
+import shutil
+import socket
+import struct
+import subprocess
+import sys
+import tempfile
+import time
+from typing import NamedTuple
+
+from refusing import NAMES, NODES, ORDERS, Refusal, Refuser, exchange
+from short import Failed, free_ports
+
+HANG = 10
+EARLY, LATE = 0.5, 2.0
+NODE = 2
+
+
+class Seen(NamedTuple):
+    """What the status port told, so many seconds behind the question."""
+    second: float
+    status: int
+    health: str
+    hangs: int
+    writing: int
+
+
+def get(port: int, target: str) -> tuple[int, str]:
+    """How the status port answers."""
+    asked = http.client.HTTPConnection("127.0.0.1", port, timeout=3)
+    try:
+        asked.request("GET", target)
+        answer = asked.getresponse()
+        return answer.status, answer.read().decode()
+    except (OSError, http.client.HTTPException) as fault:
+        raise Failed(f"{target} is not answered: {fault!r}") from None
+    finally:
+        asked.close()
+
+
+def value(metrics: str, name: str) -> int:
+    """That of the node."""
+    for line in metrics.splitlines():
+        if line.startswith(f'{name}{{node="{NODE}"}} '):
+            return int(line.split()[1])
+    raise Failed(f"/metrics does not tell {name}")
+
+
+def look(port: int, begun: float) -> Seen:
+    """What is told now."""
+    status, health = get(port, "/health")
+    metrics = get(port, "/metrics")[1]
+    return Seen(time.monotonic() - begun, status, health, value(metrics, "cinoweta_node_hangs"), value(metrics, "cinoweta_writing_seconds"))
+
+
+def judge(seen: Seen, pause: float) -> None:
+    """Refuses what must not be told at that moment. Around a change both are taken."""
+    is_well = (seen.status, seen.health, seen.hangs) == (200, "well\n", 0)
+    hangs = (seen.status, seen.health, seen.hangs) == (503, f"node {NODE} hangs\n", 1)
+    if seen.second < HANG - EARLY or seen.second > pause + LATE:
+        right = is_well
+    elif HANG + LATE < seen.second < pause - EARLY:
+        right = hangs
+    else:
+        right = is_well or hangs or seen.health in ("well\n", f"node {NODE} hangs\n")
+    if seen.second < pause - EARLY and abs(seen.writing - seen.second) > LATE:
+        right = False
+    if not right:
+        raise Failed(f"after {seen.second:.1f} s: {seen}")
+
+
+def hang(refuser: Refuser, pause: float) -> None:
+    """The next sync begins so much later."""
+    with open(refuser.orders, "r+b") as file:
+        counts = struct.unpack("=8Q", file.read(64))
+        name = NAMES.index("fdatasync")
+        file.seek(0)
+        rest = ORDERS.pack(*counts, name, 0, 0, int(pause * 1000), counts[name] + 1, 0)[64:]
+        file.seek(64)
+        file.write(rest)
+
+
+def watch(refuser: Refuser, port: int, status: int, pause: float) -> None:
+    """Asks node 2 for a Stand whose sync hangs, and looks at what is told meanwhile."""
+    if get(status, "/health") != (200, "well\n"):
+        raise Failed("a ring that does nothing is not well")
+    hang(refuser, pause)
+    with socket.create_connection(("127.0.0.1", port + NODE - 1), pause + 10) as session:
+        begun = time.monotonic()
+        session.sendall(b"stand red 5 10\n")
+        longest = 0
+        while (passed := time.monotonic() - begun) < pause + 2 * LATE:
+            seen = look(status, begun)
+            judge(seen, pause)
+            longest = max(longest, seen.writing)
+            time.sleep(max(0.0, 0.5 - (time.monotonic() - begun - passed)))
+        answer = b""
+        while not answer.endswith(b"\n"):
+            part = session.recv(64)
+            if not part:
+                raise Failed("the Stand is not answered")
+            answer += part
+        if answer != b"stood\n":
+            raise Failed(f"the Stand is answered with {answer!r}")
+        leader = exchange(session, "who red 5")
+        if leader != f"leader {NODE} 10":
+            raise Failed(f"behind it {leader!r} is told")
+    print(f"a sync of {pause:.0f} s: told from the tenth second on, the device busy for {longest} s at most; then well, and `stood`")
+
+
+def main() -> int:
+    words = argparse.ArgumentParser(usage=__doc__)
+    words.add_argument("--ringd", default="bin/ringd")
+    words.add_argument("--pause", type=float, default=14.0)
+    said = words.parse_args()
+    if not os.access(said.ringd, os.X_OK) or said.pause < HANG + 3:
+        print("hangs.py: ringd is not there, or the pause is under 13 seconds", file=sys.stderr)
+        return 2
+    folder = tempfile.mkdtemp(prefix="hangs.")
+    try:
+        refuser = Refuser(folder)
+        port = free_ports(NODES + 1)
+        settings = os.path.join(folder, "settings")
+        with open(settings, "w", encoding="ascii") as file:
+            file.write(f'nodes = {NODES}\ndir = "{folder}/ring"\nport = {port}\n')
+        os.mkdir(os.path.join(folder, "ring"))
+        ring = [os.path.abspath(said.ringd), "--settings", settings, "--status", str(port + NODES)]
+        with subprocess.Popen(ring, stdin=subprocess.DEVNULL, stdout=subprocess.PIPE, env=refuser.environment(Refusal("fdatasync"))) as process:
+            try:
+                while b"serving" not in (line := process.stdout.readline()):
+                    if not line:
+                        raise Failed("ringd does not serve")
+                watch(refuser, port, port + NODES, said.pause)
+            finally:
+                process.kill()
+    except Failed as fault:
+        print(f"hangs.py: {fault}", file=sys.stderr)
+        return 1
+    finally:
+        shutil.rmtree(folder, ignore_errors=True)
+    return 0
+
+
+if __name__ == "__main__":
+    sys.exit(main())
