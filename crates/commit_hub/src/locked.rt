@@ -291,6 +291,7 @@ impl<A: Node> Locked<A> {
         Look {
             shown: desk.shown(),
             used: desk.used(),
+            snapshot: desk.summary_len(),
             epoch: desk.epoch(),
             capacity: desk.capacity(),
             stands: desk.stands(),

@@ -8,6 +8,8 @@ pub struct Look {
     pub shown: Shown,
     /// The bytes of its capacity that are taken, by a snapshot and by inputs.
     pub used: u64,
+    /// The length of the snapshot that a checkpoint would write now, in bytes.
+    pub snapshot: u64,
     /// The epoch of its journal's area in use.
     pub epoch: u64,
     /// The bytes that they may take.

@@ -63,6 +63,8 @@ fn status<A: Node, R: Wait + Clock>(
         condition: held.condition(look.is_open),
         shown: look.shown,
         used: held.used,
+        snapshot: held.snapshot,
+        renewable: held.is_renewable(),
         capacity: held.capacity,
         stands: held.stands,
         stands_left: held.stands_left(),

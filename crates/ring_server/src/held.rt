@@ -10,6 +10,7 @@ const MOST_AT_ONCE: u64 = (1 + DOORS as u64) * INPUT_BYTES;
 pub(crate) fn held_by(look: &Look, writing: u64) -> Holding {
     Holding {
         used: look.used,
+        snapshot: look.snapshot,
         capacity: u64::from(look.capacity),
         stands: u64::from(look.stands),
         is_due: look.is_due,

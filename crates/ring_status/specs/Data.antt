@@ -36,9 +36,11 @@ journal_data node = object
     (member (codes "durable") (natural (node.shown).durable)
     (member (codes "epoch") (natural node.epoch)
     (member (codes "inputs") (natural (node.shown).inputs)
+    (member (codes "renewable") (boolean node.renewable)
+    (member (codes "snapshot") (natural node.snapshot)
     (member (codes "syncs") (natural node.syncs)
     (member (codes "used") (natural node.used)
-    (member (codes "writing") (natural node.writing) no_members)))))))))
+    (member (codes "writing") (natural node.writing) no_members)))))))))))
 
 abbrev pub messages_data : NodeStatus → Data
 messages_data node = object

@@ -1,5 +1,5 @@
 -- Whether each node takes what it should.
-use Rattle.std.specs.Prelude.{ℕ, ◌+◌, ◌-◌, nat_lt, nat_le, Bool, true, false, not, ◌&&◌, if◌then◌else◌, List, [], ◌++◌, codes}
+use Rattle.std.specs.Prelude.{ℕ, ◌+◌, ◌-◌, ◌*◌, nat_lt, nat_le, Bool, true, false, not, ◌&&◌, if◌then◌else◌, List, [], ◌++◌, codes}
 use Rattle.std.specs.Fmt.{decimal}
 use Rattle.std.specs.List.{flat_map, list_all}
 use Rattle.ring_records.specs.declared.limits.TheConstants.{INPUT_BYTES, STANDS}
@@ -19,6 +19,10 @@ condition_of held is_open =
     else (if not held.is_due && nat_lt held.capacity (held.used + INPUT_BYTES) then Full
     else (if nat_le STANDS held.stands then Limit
     else Well)))
+
+-- the snapshot takes a quarter of the capacity at most
+abbrev pub is_renewable : Holding → Bool
+is_renewable held = nat_le (4 * held.snapshot) held.capacity
 
 abbrev pub stands_left : Holding → ℕ
 stands_left held = STANDS - held.stands

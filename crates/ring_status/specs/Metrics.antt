@@ -1,5 +1,5 @@
 -- The text for Prometheus.
-use Rattle.std.specs.Prelude.{ℕ, List, [], ◌∷◌, ◌++◌, codes}
+use Rattle.std.specs.Prelude.{ℕ, if◌then◌else◌, List, [], ◌∷◌, ◌++◌, codes}
 use Rattle.std.specs.Fmt.{decimal}
 use Rattle.std.specs.List.{flat_map}
 use Rattle.ring_status.specs.declared.metric.Metric.{Metric}
@@ -22,6 +22,8 @@ name_text of.Sent = codes "cinoweta_messages_sent_total"
 name_text of.Taken = codes "cinoweta_messages_taken_total"
 name_text of.Credit = codes "cinoweta_messages_credited_total"
 name_text of.Used = codes "cinoweta_journal_used_bytes"
+name_text of.Snapshot = codes "cinoweta_journal_snapshot_bytes"
+name_text of.Renewable = codes "cinoweta_journal_renewable"
 name_text of.Capacity = codes "cinoweta_journal_capacity_bytes"
 name_text of.Stands = codes "cinoweta_stands_total"
 name_text of.StandsLeft = codes "cinoweta_stands_left"
@@ -45,8 +47,10 @@ help_text of.Durable = codes "Inputs of the node that are durable."
 help_text of.Sent = codes "Messages that the node sent to its successor."
 help_text of.Taken = codes "Messages of its predecessor that the node took."
 help_text of.Credit = codes "Messages that the successor credited."
-help_text of.Used = codes "Bytes of its capacity that the node's inputs take."
-help_text of.Capacity = codes "Bytes of inputs that the node takes."
+help_text of.Used = codes "Bytes of its capacity that its last snapshot and the inputs since take."
+help_text of.Snapshot = codes "Bytes of the snapshot that a checkpoint would write now."
+help_text of.Renewable = codes "Whether another checkpoint can come, with a snapshot of a quarter of the capacity at most."
+help_text of.Capacity = codes "Bytes of a snapshot and of inputs that the node takes."
 help_text of.Stands = codes "Stands that the node took."
 help_text of.StandsLeft = codes "Stands that the node may still take."
 help_text of.Batches = codes "Batches that the node wrote since the start."
@@ -71,6 +75,8 @@ kind_text of.Sent = codes "counter"
 kind_text of.Taken = codes "counter"
 kind_text of.Credit = codes "counter"
 kind_text of.Used = codes "gauge"
+kind_text of.Snapshot = codes "gauge"
+kind_text of.Renewable = codes "gauge"
 kind_text of.Capacity = codes "gauge"
 kind_text of.Stands = codes "counter"
 kind_text of.StandsLeft = codes "gauge"
@@ -124,6 +130,8 @@ value_of of.Sent node = (node.shown).sent
 value_of of.Taken node = (node.shown).taken
 value_of of.Credit node = (node.shown).credit
 value_of of.Used node = node.used
+value_of of.Snapshot node = node.snapshot
+value_of of.Renewable node = (if node.renewable then 1 else 0)
 value_of of.Capacity node = node.capacity
 value_of of.Stands node = node.stands
 value_of of.StandsLeft node = node.stands_left
@@ -141,7 +149,7 @@ value_of of.Letters node = node.letters
 unfoldable pub metrics : List Metric
 metrics =
     of.Failed ∷ of.Hangs ∷ of.Full ∷ of.AtLimit ∷ of.Inputs ∷ of.Durable ∷ of.Sent
-    ∷ of.Taken ∷ of.Credit ∷ of.Used ∷ of.Capacity ∷ of.Stands ∷ of.StandsLeft
+    ∷ of.Taken ∷ of.Credit ∷ of.Used ∷ of.Snapshot ∷ of.Renewable ∷ of.Capacity ∷ of.Stands ∷ of.StandsLeft
     ∷ of.Batches ∷ of.Checkpoints ∷ of.Epoch ∷ of.Syncs ∷ of.Writing ∷ of.Sessions ∷ of.Doors ∷ of.BusyDoors ∷ of.Letters ∷ []
 
 -- ---- the text

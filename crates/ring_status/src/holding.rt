@@ -1,7 +1,7 @@
 // What a node holds and does, and what that says of what it takes.
 ghost use Rattle.std.specs.Prelude.{◌≡◌, ◌+◌, ◌-◌, nat_lt};
 ghost use Rattle.ring_records.specs.declared.limits.TheConstants.{INPUT_BYTES};
-ghost use Rattle.ring_status.specs.Health.{condition_of, stands_left};
+ghost use Rattle.ring_status.specs.Health.{condition_of, is_renewable, stands_left};
 
 use crate::values::Condition;
 use ring_records::{INPUT_BYTES, STANDS};
@@ -9,9 +9,11 @@ use ring_records::{INPUT_BYTES, STANDS};
 /// What a node holds of what it may hold, and how long it has been writing.
 #[derive(Clone, Copy, Debug, PartialEq, Eq)]
 pub struct Holding {
-    /// How many bytes of its capacity its inputs take.
+    /// How many bytes of its capacity are taken, by a snapshot and by inputs.
     pub used: u64,
-    /// How many bytes of inputs it takes.
+    /// The length of the snapshot that a checkpoint would write now, in bytes.
+    pub snapshot: u64,
+    /// How many bytes of a snapshot and of inputs it takes.
     pub capacity: u64,
     /// How many Stands it has taken.
     pub stands: u64,
@@ -47,6 +49,13 @@ impl Holding {
         ensures { result ≡ nat_lt self.now.capacity (self.now.used + INPUT_BYTES) }
     {
         self.used > self.capacity || self.capacity - self.used < INPUT_BYTES
+    }
+
+    /// Whether another checkpoint can come: its snapshot takes a quarter of the capacity at most.
+    pub fn is_renewable(&self) -> bool
+        ensures { result ≡ is_renewable self.now }
+    {
+        self.snapshot <= self.capacity / 4
     }
 
     /// How many more Stands it may take.

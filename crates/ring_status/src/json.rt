@@ -49,6 +49,8 @@ fn journal_json(alloc: Global, node: &NodeStatus) -> Result<Value, AllocError>
         "durable": node.shown.durable,
         "epoch": node.epoch,
         "inputs": node.shown.inputs,
+        "renewable": node.renewable,
+        "snapshot": node.snapshot,
         "syncs": node.syncs,
         "used": node.used,
         "writing": node.writing

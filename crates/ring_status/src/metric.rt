@@ -17,6 +17,8 @@ pub enum Metric {
     Taken,
     Credit,
     Used,
+    Snapshot,
+    Renewable,
     Capacity,
     Stands,
     StandsLeft,
@@ -32,7 +34,7 @@ pub enum Metric {
 }
 
 /// All of them, in the order in which they are told.
-const METRICS: [Metric; 22] = [
+const METRICS: [Metric; 24] = [
     Metric::Failed,
     Metric::Hangs,
     Metric::Full,
@@ -43,6 +45,8 @@ const METRICS: [Metric; 22] = [
     Metric::Taken,
     Metric::Credit,
     Metric::Used,
+    Metric::Snapshot,
+    Metric::Renewable,
     Metric::Capacity,
     Metric::Stands,
     Metric::StandsLeft,
@@ -81,6 +85,8 @@ impl Metric {
             Metric::Taken => "cinoweta_messages_taken_total",
             Metric::Credit => "cinoweta_messages_credited_total",
             Metric::Used => "cinoweta_journal_used_bytes",
+            Metric::Snapshot => "cinoweta_journal_snapshot_bytes",
+            Metric::Renewable => "cinoweta_journal_renewable",
             Metric::Capacity => "cinoweta_journal_capacity_bytes",
             Metric::Stands => "cinoweta_stands_total",
             Metric::StandsLeft => "cinoweta_stands_left",
@@ -110,8 +116,12 @@ impl Metric {
             Metric::Sent => "Messages that the node sent to its successor.",
             Metric::Taken => "Messages of its predecessor that the node took.",
             Metric::Credit => "Messages that the successor credited.",
-            Metric::Used => "Bytes of its capacity that the node's inputs take.",
-            Metric::Capacity => "Bytes of inputs that the node takes.",
+            Metric::Used =>
+                "Bytes of its capacity that its last snapshot and the inputs since take.",
+            Metric::Snapshot => "Bytes of the snapshot that a checkpoint would write now.",
+            Metric::Renewable =>
+                "Whether another checkpoint can come, with a snapshot of a quarter of the capacity at most.",
+            Metric::Capacity => "Bytes of a snapshot and of inputs that the node takes.",
             Metric::Stands => "Stands that the node took.",
             Metric::StandsLeft => "Stands that the node may still take.",
             Metric::Batches => "Batches that the node wrote since the start.",
@@ -161,6 +171,8 @@ impl Metric {
             Metric::Taken => node.shown.taken,
             Metric::Credit => node.shown.credit,
             Metric::Used => node.used,
+            Metric::Snapshot => node.snapshot,
+            Metric::Renewable => u64::from(node.renewable),
             Metric::Capacity => node.capacity,
             Metric::Stands => node.stands,
             Metric::StandsLeft => node.stands_left,

@@ -33,9 +33,13 @@ pub struct NodeStatus {
     pub condition: Condition,
     /// Its inputs, and how far its links are, since its first start.
     pub shown: Shown,
-    /// How many bytes of its capacity its inputs take.
+    /// How many bytes of its capacity are taken, by the snapshot of its last checkpoint and the inputs since.
     pub used: u64,
-    /// How many bytes of inputs it takes.
+    /// The length of the snapshot that a checkpoint would write now, in bytes.
+    pub snapshot: u64,
+    /// Whether another checkpoint can come.
+    pub renewable: bool,
+    /// How many bytes of a snapshot and of inputs it takes.
     pub capacity: u64,
     /// How many Stands it has taken since its first start.
     pub stands: u64,

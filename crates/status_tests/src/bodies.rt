@@ -57,7 +57,7 @@ fn status(rt: HostRuntime) -> Result<(), Fail> {
     assert_eq!(rt;
         status_json(rt.alloc(), &ring)?.as_str(),
         "{\"dir\":\"a\\\"b\",\"nodes\":[{\"journal\":{\"batches\":5,\"capacity\":65536,\"checkpoints\":13,\"durable\":29,\
-         \"epoch\":14,\"inputs\":30,\"syncs\":6,\"used\":1234,\"writing\":12},\"messages\":{\"credit\":10,\"sent\":12,\"taken\":11,\
+         \"epoch\":14,\"inputs\":30,\"renewable\":true,\"snapshot\":345,\"syncs\":6,\"used\":1234,\"writing\":12},\"messages\":{\"credit\":10,\"sent\":12,\"taken\":11,\
          \"waiting\":9},\"node\":2,\"port\":7102,\"sessions\":{\"begun\":8,\"busy\":3,\"doors\":4,\"refusals\":[{\"count\":2,\"number\":4},\
          {\"count\":1,\"number\":25}]},\"stands\":{\"left\":1017,\"taken\":7},\"state\":\"limit\"}],\
          \"started\":1700000000,\"version\":\"0.1.0\"}"
@@ -98,8 +98,8 @@ fn metrics(rt: HostRuntime) -> Result<(), Fail> {
         nodes: &nodes,
     };
     let text = metrics_text(rt.alloc(), &ring)?;
-    // 24 families of two lines each, a line for each node in 22 of them, two of them with two refusals, and the start
-    assert_eq!(rt; text.as_str().lines().count(), 24 * 2 + 22 * 2 + 2 * 2 + 1);
+    // 26 families of two lines each, a line for each node in 24 of them, two of them with two refusals, and the start
+    assert_eq!(rt; text.as_str().lines().count(), 26 * 2 + 24 * 2 + 2 * 2 + 1);
     for part in [
         "# HELP cinoweta_start_time_seconds When the program was started, in Unix time.\n# TYPE \
          cinoweta_start_time_seconds gauge\ncinoweta_start_time_seconds 1700000000\n",

@@ -33,6 +33,8 @@ pub fn node(
             credit: 10,
         },
         used: 1_234,
+        snapshot: 345,
+        renewable: true,
         capacity: 65_536,
         stands: 7,
         stands_left: 1_017,
