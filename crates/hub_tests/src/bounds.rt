@@ -182,6 +182,7 @@ fn one_batch_flies(rt: HostRuntime) -> Result<(), Fail> {
 }
 
 /// A node that stood, took a message of 29 bytes and heard of a credit, none of it durable, behind a snapshot of 38 bytes.
+/// The next one has a key more.
 const THREE: Look = Look {
     shown: Shown {
         inputs: 3,
@@ -191,6 +192,7 @@ const THREE: Look = Look {
         credit: 1,
     },
     used: 38 + 20 + 29 + 16,
+    snapshot: 38 + 13,
     epoch: 1,
     capacity: 4096,
     stands: 1,
@@ -229,7 +231,7 @@ fn an_open_hub_takes_requests(rt: HostRuntime) -> Result<(), Fail> {
     Ok(())
 }
 
-/// Two Stands, of which the first is durable, in a summary of 65 bytes.
+/// Two Stands, of which the first is durable, in a summary of 65 bytes. The next one has a key and a message more.
 const SECOND: Look = Look {
     shown: Shown {
         inputs: 2,
@@ -239,6 +241,7 @@ const SECOND: Look = Look {
         credit: 0,
     },
     used: 65 + 20,
+    snapshot: 65 + 13 + 14,
     epoch: 2,
     capacity: 4096,
     stands: 2,
