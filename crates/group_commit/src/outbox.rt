@@ -5,11 +5,10 @@ ghost use Rattle.std.specs.VecDeque.{deque_len, deque_capacity};
 ghost use Rattle.ring_records.specs.declared.decision.Decision.{Decision};
 ghost use Rattle.ring_records.specs.declared.input.Input.{Input};
 ghost use Rattle.ring_records.specs.declared.summary.Summary.{Summary};
-ghost use Rattle.ring_records.specs.Admission.{taking};
 ghost use Rattle.ring_records.specs.Known.{Objects, stepped, after};
 ghost use Rattle.ring_records.specs.Snapshot.{IsSound};
 ghost use Rattle.node_core.specs.Brought.{brought};
-ghost use Rattle.node_core.specs.Core.{Refuses};
+ghost use Rattle.node_core.specs.Core.{Refuses, taking};
 
 use crate::landed::Landed;
 use crate::released::Released;

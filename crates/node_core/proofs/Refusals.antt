@@ -6,11 +6,11 @@ use Rattle.ring_records.specs.declared.input.Input.{Input}
 use Rattle.ring_records.specs.declared.refusal.Refusal.{Refusal}
 use Rattle.ring_records.specs.declared.refusal.Refusal.TheVariants as refused
 use Rattle.ring_records.specs.declared.room.Room.{Room}
-use Rattle.ring_records.specs.Admission.{cost, is_retire, must_renew, no_room, snapshot_len, taking, where_so}
+use Rattle.ring_records.specs.Admission.{cost, is_retire, must_renew, no_room, snapshot_len, where_so}
 use Rattle.ring_records.specs.Known.{Objects, stepped}
 use Rattle.ring_records.specs.Lists.{or_else}
 use Rattle.ring_records.proofs.Admission.{or_else-none, where_so-none, no_retire, plain_room}
-use Rattle.node_core.specs.Core.{CoreView, FreeView, Refuses}
+use Rattle.node_core.specs.Core.{CoreView, FreeView, Refuses, taking}
 
 pub refuses_first : (core : CoreView) (x : Input) (first : Option Refusal) (r : Refusal) → Objects core.size core.known x first → first ≡ Some r → Refuses core x (Some r)
 refuses_first core x first r objects e = (first, objects, sym (ap (λ o. or_else o (no_room core.capacity core.room x (snapshot_len (stepped core.me core.known x)))) e))

@@ -2,7 +2,7 @@
 ghost use Rattle.std.specs.Prelude.{◌≡◌, ◌+◌, ◌<◌, ◌≤◌, ◌^◌, ℕ, List, [], ◌∷◌, ◌++◌, length, drop, Bool, false, nat_lt, None, IfOk, OnOk, OnErr};
 ghost use Rattle.std.specs.Result.{result_err};
 ghost use Rattle.ring_records.specs.declared.input.Input.{Input};
-ghost use Rattle.ring_records.specs.Admission.{newest, snapshot_len, taking};
+ghost use Rattle.ring_records.specs.Admission.{newest, snapshot_len};
 ghost use Rattle.ring_records.specs.Emission.{sent, carry};
 ghost use Rattle.ring_records.specs.History.{taken, credit, stands};
 ghost use Rattle.ring_records.specs.Known.{stepped, known_of, leader_of, leads_in};
@@ -11,7 +11,7 @@ ghost use Rattle.ring_records.specs.Member.{used_by, refusal_by};
 ghost use Rattle.ring_records.specs.Snapshot.{IsSound};
 ghost use Rattle.ring_records.specs.Summary as summed;
 ghost use Rattle.node_core.specs.Brought.{brought};
-ghost use Rattle.node_core.specs.Core.{CoreStandsFor, IsNodeOf, Refuses, member_of};
+ghost use Rattle.node_core.specs.Core.{CoreStandsFor, IsNodeOf, Refuses, member_of, taking};
 
 use crate::effects::Effects;
 use crate::free::FreeCore;

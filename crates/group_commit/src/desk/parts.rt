@@ -4,11 +4,11 @@ ghost use Rattle.std.specs.List.{cons_option};
 ghost use Rattle.ring_records.specs.declared.decision.Decision.{Decision};
 ghost use Rattle.ring_records.specs.declared.input.Input.{Input};
 ghost use Rattle.ring_records.specs.declared.summary.Summary.{Summary};
-ghost use Rattle.ring_records.specs.Admission.{newest, taking};
+ghost use Rattle.ring_records.specs.Admission.{newest};
 ghost use Rattle.ring_records.specs.Known.{after, stepped};
 ghost use Rattle.ring_records.specs.Snapshot.{IsSound, snapshot_len};
 ghost use Rattle.gated_journal.specs.Batch.{shown as batch_shown, numbered, numbered_with, numbered_by, base_by};
-ghost use Rattle.node_core.specs.Core.{IsNodeOf, Refuses};
+ghost use Rattle.node_core.specs.Core.{IsNodeOf, Refuses, taking};
 ghost use Rattle.group_commit.specs.Opening.{core_after, IsKnownLawful, IsUnlawful};
 ghost use Rattle.group_commit.specs.Outbox.{brought_after, told, Holds};
 
