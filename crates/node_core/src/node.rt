@@ -17,7 +17,8 @@ use crate::effects::Effects;
 use crate::free::FreeCore;
 use crate::measure::{freed, grown, len_on};
 use ring_records::{
-    Candidate, GroupName, Input, Key, LAYOUT, Msg, NodeNo, Refusal, Room, Summary, Term, summary_len,
+    Candidate, GroupName, Input, Key, LAYOUT, Msg, NodeNo, Refusal, Room, Summary, Term,
+    summary_len,
 };
 use std::alloc::{AllocError, Global};
 use std::marker::Model;
@@ -70,7 +71,7 @@ impl NodeCore {
     }
 
     /// Node `node` of a ring of `n` nodes, with a capacity in bytes and this room, that knows this. The caller sees that it
-    /// is sound. The error is that of the allocator.
+    /// is sound, and that its snapshot at most is taken. The error is that of the allocator.
     pub fn restore(
         alloc: Global,
         node: NodeNo,
@@ -80,6 +81,7 @@ impl NodeCore {
         from: &Summary,
     ) -> Result<NodeCore, AllocError>
         requires sound { IsSound n from.now }
+        requires taken { room.taken ≤ snapshot_len from.now }
         requires plain { room.waits ≡ false }
         ensures { IfOk result (λ core. core ≡ record { me = node; size = n; capacity = capacity; known = from.now; room = room }) }
     {
