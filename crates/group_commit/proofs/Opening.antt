@@ -9,14 +9,14 @@ use Rattle.std.proofs.lemmas.Option.{same_Some}
 use Rattle.ring_records.specs.declared.input.Input.{Input}
 use Rattle.ring_records.specs.declared.refusal.Refusal.{Refusal}
 use Rattle.ring_records.specs.declared.summary.Summary.{Summary}
-use Rattle.ring_records.specs.Admission.{cost, is_retire, taking}
+use Rattle.ring_records.specs.Admission.{cost, is_retire}
 use Rattle.ring_records.specs.Known.{Objects, stepped, after}
 use Rattle.ring_records.specs.Lists.{EachAfter}
 use Rattle.ring_records.proofs.Admission.{or_else-none}
 use Rattle.ring_records.proofs.Growth.{EachAfter-front}
 use Rattle.ring_records.proofs.Lists.{EachAfter-push, none≢some}
 use Rattle.ring_records.proofs.LookBack.{IsItem, take-item}
-use Rattle.node_core.specs.Core.{CoreView, Refuses}
+use Rattle.node_core.specs.Core.{CoreView, Refuses, taking}
 use Rattle.group_commit.specs.Opening.{core_after, IsOpenTo, IsKnownLawful}
 use Rattle.group_commit.specs.Outbox.{AreFree}
 use Rattle.group_commit.proofs.Settling.{after-push}

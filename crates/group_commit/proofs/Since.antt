@@ -4,18 +4,15 @@ use Rattle.std.specs.FinMap as map
 use Rattle.std.specs.List.{cons_option, list_any, sum_by}
 use Rattle.std.specs.Prelude.{unwrap_or}
 use Rattle.std.proofs.Math.Nat.{eq-or-lt_of_le}
-use Rattle.std.proofs.lemmas.Bool.{ltb-false}
 use Rattle.std.proofs.lemmas.List.{length-append, length-take, length-take-le, length-drop, take_all, drop_all, take-take, take-append-drop, take-append-le, drop-append-le}
 use Rattle.std.proofs.lemmas.List.Folds.{list_any-append}
 use Rattle.std.proofs.lemmas.List.Sums.{fold-append, sum_by-append}
 use Rattle.std.proofs.lemmas.Option.{same_Some}
 use Rattle.ring_records.specs.declared.base.Base.{Base}
 use Rattle.ring_records.specs.declared.input.Input.{Input}
-use Rattle.ring_records.specs.declared.refusal.Refusal.TheVariants.{Full}
-use Rattle.ring_records.specs.declared.input.Input.TheVariants.{Stand, Take, Acked}
 use Rattle.ring_records.specs.declared.room.Room.{Room}
 use Rattle.ring_records.specs.declared.summary.Summary.{Summary}
-use Rattle.ring_records.specs.Admission.{area_bytes, cost, costs_of, is_retire, newest, no_room, room_of, room_past, snapshot_len, state_len, used, HasRoom}
+use Rattle.ring_records.specs.Admission.{area_bytes, costs_of, is_retire, newest, no_room, room_of, snapshot_len, state_len, used, HasRoom}
 use Rattle.ring_records.specs.Known.{stepped, after}
 use Rattle.ring_records.specs.Lists.{EachAfter}
 use Rattle.ring_records.specs.Member.{Member}
@@ -30,7 +27,7 @@ use Rattle.ring_records.proofs.StatesInOrder.{len-values}
 use Rattle.node_core.specs.Core.{CoreView, Refuses}
 use Rattle.group_commit.specs.Desk.{epochs}
 use Rattle.group_commit.specs.Kept.{area_behind, state_with}
-use Rattle.group_commit.specs.Opening.{opened_core, core_after, IsOpenTo, IsKnownLawful}
+use Rattle.group_commit.specs.Opening.{opened_core, core_after, room_past, IsOpenTo, IsKnownLawful}
 use Rattle.group_commit.specs.Since.{IsOpenSince, IsLawfulSince, IsAreaOf, IsKnownState, core_in}
 use Rattle.group_commit.proofs.Costs.{base_stays, costs_least, durable_costs, used-joined}
 use Rattle.group_commit.proofs.Opening.{objects_none, EachAfter-from}

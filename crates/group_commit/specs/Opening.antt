@@ -1,6 +1,6 @@
 -- What a desk knows: by the summary that it was opened with, and by its inputs since. That summary may be that of no history.
-use Rattle.std.specs.Prelude.{ℕ, ◌≡◌, ◌≤◌, List, [], length, take, slice_get, Option, Some, None}
-use Rattle.std.specs.List.{cons_option}
+use Rattle.std.specs.Prelude.{ℕ, ◌≡◌, ◌+◌, ◌≤◌, ◌||◌, List, [], length, take, slice_get, Option, Some, None}
+use Rattle.std.specs.List.{cons_option, list_any}
 use Rattle.ring_records.specs.declared.base.Base.{Base}
 use Rattle.ring_records.specs.declared.candidate.Candidate.{Candidate}
 use Rattle.ring_records.specs.declared.input.Input.{Input}
@@ -11,8 +11,9 @@ use Rattle.ring_records.specs.declared.reply.Reply.{Reply}
 use Rattle.ring_records.specs.declared.reply.Reply.TheVariants as say
 use Rattle.ring_records.specs.declared.request.Request.{Request}
 use Rattle.ring_records.specs.declared.request.Request.TheVariants as ask
+use Rattle.ring_records.specs.declared.room.Room.{Room}
 use Rattle.ring_records.specs.declared.summary.Summary.{Summary}
-use Rattle.ring_records.specs.Admission.{room_of, room_past}
+use Rattle.ring_records.specs.Admission.{costs_of, is_retire, room_of}
 use Rattle.ring_records.specs.Answer.{if_free, unless}
 use Rattle.ring_records.specs.Known.{after, known_of, leader_of, leads_in}
 use Rattle.ring_records.specs.Leader.{IsLatest}
@@ -24,6 +25,10 @@ use Rattle.node_core.specs.Core.{CoreView, Refuses}
 -- the core of a node that knows this, for which the area stands
 abbrev pub opened_core : Member → Summary → Base → CoreView
 opened_core m opening area = record { me = m.node; size = m.n; capacity = m.capacity; known = opening; room = room_of area [] }
+
+-- what room is told from behind these inputs more
+abbrev pub room_past : Room → List Input → Room
+room_past room l = record room { taken = room.taken + costs_of l; waits = room.waits || list_any is_retire l }
 
 -- the core once it has accepted these inputs
 abbrev pub core_after : CoreView → List Input → CoreView

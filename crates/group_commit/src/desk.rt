@@ -6,7 +6,7 @@ ghost use Rattle.ring_records.specs.Admission.{area_bytes, IsLawful};
 ghost use Rattle.ring_records.specs.Answer.{Answered};
 ghost use Rattle.ring_records.specs.Member.{member};
 ghost use Rattle.ring_records.specs.Release.{window};
-ghost use Rattle.ring_records.specs.Snapshot.{IsSound};
+ghost use Rattle.ring_records.specs.Snapshot.{IsSound, snapshot_len};
 ghost use Rattle.ring_records.specs.States.{IsNodeState, IsLawfulState, launched_base, durable_in};
 
 use crate::desk::parts::{accept, replay};
@@ -341,7 +341,8 @@ impl Desk {
 
 // The bytes that an area of this layout has for the summary.
 fn area_bytes(layout: u8, base: &Summary) -> u64
-    ensures { result ≡ area_bytes layout base.now }
+    ensures value { result ≡ area_bytes layout base.now }
+    ensures within { result ≤ snapshot_len base.now }
 {
     if layout <= 1 { 0 } else { summary_len(base) }
 }

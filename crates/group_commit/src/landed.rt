@@ -1,5 +1,5 @@
 // What a batch or a checkpoint brought.
-ghost use Rattle.std.specs.Prelude.{◌≡◌, ◌+◌, ◌++◌, ◌∷◌, ◌≤◌, ◌<◌, ℕ, [], IfOk, vec_len, vec_capacity};
+ghost use Rattle.std.specs.Prelude.{◌≡◌, ◌+◌, ◌^◌, ◌++◌, ◌∷◌, ◌≤◌, ◌<◌, ℕ, [], IfOk, vec_len, vec_capacity};
 ghost use Rattle.std.specs.List.{cons_option};
 ghost use Rattle.ring_records.specs.declared.packet.Packet.TheVariants.{Credit};
 
@@ -13,7 +13,7 @@ use std::mem::replace;
 #[derive(Drop)]
 pub struct Landed {
     /// How many inputs became durable, at most 64 of a batch.
-    pub count: u32,
+    pub count: u64,
     /// Whether it was a checkpoint.
     pub is_checkpoint: bool,
     /// The messages that they send to the successor, as Carry packets in order, and then, where a message was taken,
@@ -49,7 +49,8 @@ impl Landed {
     }
 
     // Of so many inputs, whose effects are still to be added.
-    pub(crate) fn with_room(alloc: Global, count: u32) -> Result<Landed, AllocError>
+    pub(crate) fn with_room(alloc: Global, count: u64) -> Result<Landed, AllocError>
+        requires few { count < 2 ^ 63 }
         ensures count { IfOk result (λ landed. landed.count ≡ count) }
         ensures packets { IfOk result (λ landed. landed.packets.items ≡ []) }
         ensures decisions { IfOk result (λ landed. landed.decisions.items ≡ []) }

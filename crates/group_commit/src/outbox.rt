@@ -1,15 +1,14 @@
 // What a node may release, and what waits until it may be.
-ghost use Rattle.std.specs.Prelude.{◌≡◌, ◌+◌, ◌++◌, ◌∷◌, ◌<◌, ℕ, List, [], take, length, None, IfOk, OnOk, OnErr};
+ghost use Rattle.std.specs.Prelude.{◌≡◌, ◌+◌, ◌^◌, ◌++◌, ◌∷◌, ◌<◌, ℕ, List, [], take, length, None, IfOk, OnOk, OnErr};
 ghost use Rattle.std.specs.List.{cons_option};
 ghost use Rattle.std.specs.VecDeque.{deque_len, deque_capacity};
 ghost use Rattle.ring_records.specs.declared.decision.Decision.{Decision};
 ghost use Rattle.ring_records.specs.declared.input.Input.{Input};
 ghost use Rattle.ring_records.specs.declared.summary.Summary.{Summary};
-ghost use Rattle.ring_records.specs.Admission.{taking};
 ghost use Rattle.ring_records.specs.Known.{Objects, stepped, after};
 ghost use Rattle.ring_records.specs.Snapshot.{IsSound};
 ghost use Rattle.node_core.specs.Brought.{brought};
-ghost use Rattle.node_core.specs.Core.{Refuses};
+ghost use Rattle.node_core.specs.Core.{Refuses, taking};
 
 use crate::landed::Landed;
 use crate::released::Released;
@@ -90,7 +89,8 @@ impl Outbox {
     }
 
     /// Takes the memory for what so many inputs bring, which fly from now on.
-    pub(crate) fn load(&mut self, count: u32) -> Result<(), AllocError>
+    pub(crate) fn load(&mut self, count: u64) -> Result<(), AllocError>
+        requires few { count < 2 ^ 63 }
         ensures holds { OnOk result ((me : ℕ) (s : Summary) (decided : List Decision) (l : List Input) → Holds me self.old s decided l 0 → Holds me self.new s decided l count) }
         ensures err { OnErr result ((me : ℕ) (s : Summary) (decided : List Decision) (l : List Input) → Holds me self.old s decided l 0 → Holds me self.new s decided l 0) }
     {

@@ -118,7 +118,7 @@ pub fn lands<A: Node, R: Wait + Abort>(
     hub: &Hub<A>,
     tie: &mut Tie<A>,
     receipt: Receipt,
-    count: u32,
+    count: u64,
 ) {
     match hub.land(rt, tie, receipt) {
         Ok(landed) => assert!(rt; landed.count == count),

@@ -35,13 +35,13 @@ pub enum Step {
     /// Nothing is launched, for this cause; where there is none, since nothing waits.
     LaunchesNone(Option<No>),
     /// The journal makes the batch that flies durable, and it lands: so many inputs.
-    Lands(u32),
+    Lands(u64),
     /// The receipt of another journal's batch does not land, and comes back.
     LandsAnother,
     /// The one input that waits becomes durable.
     Flushes,
     /// The checkpoint that is due, of so many inputs, is launched and lands. Its snapshot takes so many bytes.
-    Renews(u32, u32),
+    Renews(u64, u32),
     /// Another journal's batch, which its device spoiled, is refused and comes back.
     SpoilsAnother,
     /// The device fails with the batch that flies.
@@ -216,13 +216,13 @@ impl<A: Node> Station<A> {
         }
     }
 
-    fn lands<R: Wait + Abort>(&mut self, rt: &R, count: u32) {
+    fn lands<R: Wait + Abort>(&mut self, rt: &R, count: u64) {
         let batch = self.batch(rt);
         let receipt = commits(rt, &mut self.journal, batch);
         lands(rt, &self.hub, &mut self.tie, receipt, count);
     }
 
-    fn renews<R: Wait + Abort>(&mut self, rt: &R, count: u32, cost: u32)
+    fn renews<R: Wait + Abort>(&mut self, rt: &R, count: u64, cost: u32)
         requires ring { A.member.n ≡ 3 }
     {
         let made = launches_all(rt, &self.hub, &mut self.tie);

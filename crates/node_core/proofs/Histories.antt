@@ -1,7 +1,11 @@
 -- What a core does whose history is told: its clauses over histories, from what it knows.
-use Rattle.std.proofs.Common.{ℕ, ◌≡◌, ◌+◌, ◌≤◌, Bool, true, false, cond, ◌&&◌, eqb, not, List, [], ◌∷◌, ◌++◌, length, Option, Some, None, refl, sym, ap, subst, ◌∙◌, arith}
+use Rattle.std.proofs.Common.{ℕ, ◌≡◌, ◌+◌, ◌≤◌, Bool, true, false, cond, ◌&&◌, ◌||◌, eqb, not, List, [], ◌∷◌, ◌++◌, length, drop, Option, Some, None, refl, sym, ap, subst, ◌∙◌, arith}
 use Rattle.std.specs.Prelude.{is_none}
+use Rattle.std.specs.List.{list_any}
 use Rattle.std.specs.Option.{option_map}
+use Rattle.std.proofs.lemmas.List.{drop-append-le}
+use Rattle.std.proofs.lemmas.List.Folds.{list_any-append}
+use Rattle.ring_records.specs.declared.base.Base.{Base}
 use Rattle.ring_records.specs.declared.candidate.Candidate.{Candidate}
 use Rattle.ring_records.specs.declared.input.Input.{Input}
 use Rattle.ring_records.specs.declared.input.Input.TheVariants.{Stand, Take, Acked}
@@ -12,7 +16,7 @@ use Rattle.ring_records.specs.declared.packet.Packet.TheVariants.{Carry}
 use Rattle.ring_records.specs.declared.refusal.Refusal.{Refusal}
 use Rattle.ring_records.specs.declared.refusal.Refusal.TheVariants as refused
 use Rattle.ring_records.specs.declared.summary.Summary.{Summary}
-use Rattle.ring_records.specs.Admission.{fresh, no_room, room_of, snapshot_len, taking, objection, refusal, IsAllowed}
+use Rattle.ring_records.specs.Admission.{fresh, is_retire, no_room, room_of, snapshot_len, objection, refusal, IsAllowed}
 use Rattle.ring_records.specs.Emission.{is_below, passed_on, emit, sent, carry}
 use Rattle.ring_records.specs.History.{first_stand, stood}
 use Rattle.ring_records.specs.Known.{Objects, stepped, known_of, leader_of, leads_in}
@@ -21,12 +25,13 @@ use Rattle.ring_records.specs.Lists.{or_else}
 use Rattle.ring_records.specs.Member.{refusal_by}
 use Rattle.ring_records.specs.Order.{is_key}
 use Rattle.ring_records.proofs.Admission.{or_else-none, objection-allowed, plain_room, shortage-each}
-use Rattle.ring_records.proofs.Counts.{room-push, none-decided, shown-decided}
+use Rattle.ring_records.proofs.Counts.{used-more, none-decided, shown-decided}
+use Rattle.ring_records.proofs.History.{or-false}
 use Rattle.ring_records.proofs.Keys.{is_key-same}
 use Rattle.ring_records.proofs.Known.{leader-known, sends-known, objects-known, objects-of, stepped-known}
 use Rattle.ring_records.proofs.Latest.{latest_is, latest_same, one_latest}
 use Rattle.node_core.specs.Brought.{told_by, brought}
-use Rattle.node_core.specs.Core.{CoreView, CoreStandsFor, Refuses, member_of}
+use Rattle.node_core.specs.Core.{CoreView, CoreStandsFor, Refuses, member_of, taking}
 
 -- ---- what is refused
 
@@ -103,6 +108,11 @@ pub decides : (core : CoreView) (h : List Input) (x : Input) → CoreStandsFor c
 decides core h x s = ap (λ (k : Summary). (brought core.me k x).decided) s.knows ∙ (ap told_by (sends-known core.me h x) ∙ decided-sends core.me h x)
 
 -- ---- the next history
+
+room-push : (base : Base) (h : List Input) (x : Input) → base.inputs ≤ length h → room_of base (h ++ x ∷ []) ≡ taking x (room_of base h)
+room-push base h x within =
+    let waits = ap (list_any is_retire) (drop-append-le base.inputs h (x ∷ []) within) ∙ (list_any-append is_retire (drop base.inputs h) (x ∷ []) ∙ ap (λ b. list_any is_retire (drop base.inputs h) || b) (or-false (is_retire x))) in
+    λ i. record { layout = base.layout; epoch = base.epoch; taken = used-more base h x within i; waits = waits i }
 
 pub goes_on : (core new : CoreView) (h : List Input) (x : Input) → new ≡ record core { known = stepped core.me core.known x; room = taking x core.room } → core.known.credit ≤ core.known.sent → Refuses core x None → CoreStandsFor core h → CoreStandsFor new (h ++ x ∷ [])
 goes_on core new h x is within r s = subst (λ (c : CoreView). CoreStandsFor c (h ++ x ∷ [])) (sym is) (record {

@@ -1,16 +1,15 @@
 -- What a core has against an input: first by what it knows, and then by its room.
-use Rattle.std.proofs.Common.{ℕ, ◌≡◌, ◌+◌, ◌≤◌, Bool, true, false, ◌||◌, Option, Some, None, refl, sym, ap, subst, ◌∙◌}
+use Rattle.std.proofs.Common.{ℕ, ◌≡◌, ◌+◌, Bool, true, false, ◌||◌, Option, Some, None, refl, sym, ap, subst, ◌∙◌}
 use Rattle.std.specs.Prelude.{nat_lt}
-use Rattle.std.proofs.lemmas.Bool.{ltb-false}
 use Rattle.ring_records.specs.declared.input.Input.{Input}
 use Rattle.ring_records.specs.declared.refusal.Refusal.{Refusal}
 use Rattle.ring_records.specs.declared.refusal.Refusal.TheVariants as refused
 use Rattle.ring_records.specs.declared.room.Room.{Room}
-use Rattle.ring_records.specs.Admission.{cost, is_retire, must_renew, no_room, snapshot_len, taking, where_so}
+use Rattle.ring_records.specs.Admission.{cost, is_retire, must_renew, no_room, snapshot_len, where_so}
 use Rattle.ring_records.specs.Known.{Objects, stepped}
 use Rattle.ring_records.specs.Lists.{or_else}
-use Rattle.ring_records.proofs.Admission.{or_else-none, where_so-none, no_retire, plain_room}
-use Rattle.node_core.specs.Core.{CoreView, FreeView, Refuses}
+use Rattle.ring_records.proofs.Admission.{or_else-none, no_retire, plain_room}
+use Rattle.node_core.specs.Core.{CoreView, FreeView, Refuses, taking}
 
 pub refuses_first : (core : CoreView) (x : Input) (first : Option Refusal) (r : Refusal) → Objects core.size core.known x first → first ≡ Some r → Refuses core x (Some r)
 refuses_first core x first r objects e = (first, objects, sym (ap (λ o. or_else o (no_room core.capacity core.room x (snapshot_len (stepped core.me core.known x)))) e))
@@ -25,14 +24,9 @@ refuses_last core x first more short plain objects e k f = (
       ∙ λ i. or_else (sym e i) (no_room core.capacity core.room x (snapshot_len (stepped core.me core.known x))))),
 )
 
--- where nothing is said, nothing is known against the input, and it fits
+-- where nothing is said, nothing is known against the input
 pub objects_none : (core : CoreView) (x : Input) → Refuses core x None → Objects core.size core.known x None
 objects_none core x (first, objects, e) = subst (Objects core.size core.known x) (or_else-none _ _ (sym e)).0 objects
-
-pub fits : (core : CoreView) (x : Input) → must_renew core.room x ≡ false → Refuses core x None → core.room.taken + cost x ≤ core.capacity
-fits core x plain (first, objects, e) =
-    ltb-false core.capacity (core.room.taken + cost x)
-    (where_so-none _ _ (sym (plain_room core.capacity core.room x (snapshot_len (stepped core.me core.known x)) plain) ∙ (or_else-none _ _ (sym e)).1))
 
 -- ---- as it is seen once it has accepted an input
 

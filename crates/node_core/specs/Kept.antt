@@ -35,11 +35,13 @@ pub record IsCounted (me n : ℕ) (s : Summary) : Type 0 where
   pub stands_few : s.stands < 2 ^ 16
   pub sound : IsNodeOf n me → IsSound n s
 
--- so many bytes are the length of the snapshot, which stays below 2^64; and no more is credited than was sent
+-- So many bytes are the length of the snapshot: these, and those that are taken of room, stay below 2^64. No more is credited
+-- than was sent, and nothing waits.
 pub record IsMeasured (s : Summary) (bytes : ℕ) (room : Room) : Type 0 where
   pub exact : bytes ≡ snapshot_len s
   pub within : s.credit ≤ s.sent
   pub short : bytes < 2 ^ 63 + 2 ^ 62 + 64 * s.inputs
+  pub taken : room.taken < 2 ^ 63 + 2 ^ 62 + 64 * s.inputs
   pub plain : room.waits ≡ false
 
 -- the link once this is sent

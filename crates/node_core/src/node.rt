@@ -2,7 +2,7 @@
 ghost use Rattle.std.specs.Prelude.{◌≡◌, ◌+◌, ◌<◌, ◌≤◌, ◌^◌, ℕ, List, [], ◌∷◌, ◌++◌, length, drop, Bool, false, nat_lt, None, IfOk, OnOk, OnErr};
 ghost use Rattle.std.specs.Result.{result_err};
 ghost use Rattle.ring_records.specs.declared.input.Input.{Input};
-ghost use Rattle.ring_records.specs.Admission.{newest, snapshot_len, taking};
+ghost use Rattle.ring_records.specs.Admission.{newest, snapshot_len};
 ghost use Rattle.ring_records.specs.Emission.{sent, carry};
 ghost use Rattle.ring_records.specs.History.{taken, credit, stands};
 ghost use Rattle.ring_records.specs.Known.{stepped, known_of, leader_of, leads_in};
@@ -11,13 +11,14 @@ ghost use Rattle.ring_records.specs.Member.{used_by, refusal_by};
 ghost use Rattle.ring_records.specs.Snapshot.{IsSound};
 ghost use Rattle.ring_records.specs.Summary as summed;
 ghost use Rattle.node_core.specs.Brought.{brought};
-ghost use Rattle.node_core.specs.Core.{CoreStandsFor, IsNodeOf, Refuses, member_of};
+ghost use Rattle.node_core.specs.Core.{CoreStandsFor, IsNodeOf, Refuses, member_of, taking};
 
 use crate::effects::Effects;
 use crate::free::FreeCore;
 use crate::measure::{freed, grown, len_on};
 use ring_records::{
-    Candidate, GroupName, Input, Key, LAYOUT, Msg, NodeNo, Refusal, Room, Summary, Term, summary_len,
+    Candidate, GroupName, Input, Key, LAYOUT, Msg, NodeNo, Refusal, Room, Summary, Term,
+    summary_len,
 };
 use std::alloc::{AllocError, Global};
 use std::marker::Model;
@@ -70,7 +71,7 @@ impl NodeCore {
     }
 
     /// Node `node` of a ring of `n` nodes, with a capacity in bytes and this room, that knows this. The caller sees that it
-    /// is sound. The error is that of the allocator.
+    /// is sound, and that its snapshot at most is taken. The error is that of the allocator.
     pub fn restore(
         alloc: Global,
         node: NodeNo,
@@ -80,6 +81,7 @@ impl NodeCore {
         from: &Summary,
     ) -> Result<NodeCore, AllocError>
         requires sound { IsSound n from.now }
+        requires taken { room.taken ≤ snapshot_len from.now }
         requires plain { room.waits ≡ false }
         ensures { IfOk result (λ core. core ≡ record { me = node; size = n; capacity = capacity; known = from.now; room = room }) }
     {

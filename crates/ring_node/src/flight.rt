@@ -1,5 +1,5 @@
 // What a node makes durable at once: a batch, or a checkpoint.
-ghost use Rattle.std.specs.Prelude.{◌≡◌, ◌-◌, ℕ, List, true, length, IfOk, IfErr, OnOk, OnErr};
+ghost use Rattle.std.specs.Prelude.{◌≡◌, ◌-◌, ◌*◌, ◌≤◌, ℕ, List, true, None, length, IfOk, IfErr, OnOk, OnErr};
 ghost use Rattle.disk_model.specs.Disk.{Reaches};
 ghost use Rattle.ring_records.specs.declared.input.Input.{Input};
 ghost use Rattle.ring_records.specs.Release.{packets};
@@ -40,16 +40,17 @@ impl RingNode {
         match launch(&mut self.node, flight) {
             Ok(landed) => {
                 add_carried(&mut self.messages, &landed.packets);
-                Ok(landed.count)
+                Ok(landed.count as u32)
             }
             Err(refusal) => Err(memory_alone(refusal)),
         }
     }
 }
 
-// How many inputs of the desk are not durable yet.
+// How many inputs of the desk are not durable yet: a sixteenth of its capacity's bytes at most, where no checkpoint flies.
 fn waiting(desk: &Desk) -> u64
-    ensures { result ≡ length desk.now.view.state.inputs - desk.now.view.state.durable }
+    ensures value { result ≡ length desk.now.view.state.inputs - desk.now.view.state.durable }
+    ensures few { desk.now.view.state.checkpoint ≡ None → 16 * result ≤ desk.now.view.member.capacity }
 {
     desk.accepted() - desk.durable()
 }

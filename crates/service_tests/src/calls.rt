@@ -92,7 +92,7 @@ pub fn rounds<V: Device, J: Naming, A: Node, R: Wait + Abort, G: Gate>(
     hub: &Hub<A>,
     flusher: &mut Flusher<V, J, A>,
     gate: &mut G,
-) -> (u32, usize) {
+) -> (u64, usize) {
     let mut landed = flusher.flush_round(rt, hub, gate);
     if matches!(landed, Err(Refusal::OutOfMemory)) {
         landed = flusher.flush_round(rt, hub, gate);

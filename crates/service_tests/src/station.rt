@@ -25,7 +25,7 @@ pub enum Step {
     /// The messages 1 to 65 are taken, by which node 2 leads `red` 6 to 70 with bid 30.
     TakesLeaders,
     /// A round makes inputs durable: so many are before them, so many they are, and so many leaders they make known.
-    Rounds(u64, u32, usize),
+    Rounds(u64, u64, usize),
     /// There is no round any more.
     RoundsNot,
     /// The request gets a ticket, a round makes a leader known, and the ticket is redeemed.
@@ -133,7 +133,7 @@ impl<V: Device, J: Naming, A: Node> Station<V, J, A> {
         }
     }
 
-    fn rounds<R: Wait + Abort>(&mut self, rt: &R, first: u64, count: u32, leaders: usize) {
+    fn rounds<R: Wait + Abort>(&mut self, rt: &R, first: u64, count: u64, leaders: usize) {
         let landed = rounds(rt, &self.hub, &mut self.flusher, &mut self.gate);
         assert!(rt; landed == (count, leaders) && self.flusher.is_published());
         assert!(rt; self.gate.first == first && self.gate.count == count as usize);

@@ -61,9 +61,9 @@ enum Step {
     /// Nothing is launched: for this cause, or since nothing waits.
     LaunchesNone(Option<No>),
     /// What flies, so many inputs, lands and releases these packets. The desk knows these leaders by them.
-    Lands(u32, &'static [Sends], &'static [Leads]),
+    Lands(u64, &'static [Sends], &'static [Leads]),
     /// So many inputs are launched and land so.
-    Settles(u32, &'static [Sends], &'static [Leads]),
+    Settles(u64, &'static [Sends], &'static [Leads]),
     /// A receipt of these inputs of this node, behind those before them, is not taken and comes back, and nothing changes.
     IsForeign(u8, &'static [Op], &'static [Op]),
     /// The receipt of what flies is not taken.
@@ -379,7 +379,7 @@ impl Station {
     }
 
     /// What flies, so many inputs, lands: what that releases.
-    fn landed(&mut self, rt: &impl Abort, count: u32) -> Landed {
+    fn landed(&mut self, rt: &impl Abort, count: u64) -> Landed {
         let receipt = self.receipt(rt);
         match self.desk.land(receipt) {
             Ok(landed) => {
@@ -390,7 +390,7 @@ impl Station {
         }
     }
 
-    fn lands(&mut self, rt: &impl Abort, count: u32, sends: &[Sends], leads: &[Leads]) {
+    fn lands(&mut self, rt: &impl Abort, count: u64, sends: &[Sends], leads: &[Leads]) {
         let landed = self.landed(rt, count);
         sends_are(rt, &landed.packets, sends);
         leads_are(rt, &landed.decisions, leads);

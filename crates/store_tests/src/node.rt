@@ -62,13 +62,13 @@ enum Step {
     /// It is closed.
     Closes,
     /// So many inputs become durable, and release these packets. The node knows these leaders by them.
-    Flushes(u32, &'static [Sends], &'static [Leads]),
+    Flushes(u64, &'static [Sends], &'static [Leads]),
     /// The same, at the second call where the first finds no memory, which changes nothing.
-    FlushesAtLast(u32, &'static [Sends], &'static [Leads]),
+    FlushesAtLast(u64, &'static [Sends], &'static [Leads]),
     /// Nothing becomes durable, for this cause.
     Fails(No),
     /// The next checkpoint makes so many inputs durable, and releases these packets. The node knows no leader by them.
-    Checkpoints(u32, &'static [Sends]),
+    Checkpoints(u64, &'static [Sends]),
     /// The next checkpoint makes nothing durable, for this cause, and the node tells what it told.
     ChecksNot(No),
     /// The call of its device behind so many fails.

@@ -4,11 +4,11 @@ ghost use Rattle.std.specs.List.{cons_option};
 ghost use Rattle.ring_records.specs.declared.decision.Decision.{Decision};
 ghost use Rattle.ring_records.specs.declared.input.Input.{Input};
 ghost use Rattle.ring_records.specs.declared.summary.Summary.{Summary};
-ghost use Rattle.ring_records.specs.Admission.{newest, taking};
+ghost use Rattle.ring_records.specs.Admission.{newest};
 ghost use Rattle.ring_records.specs.Known.{after, stepped};
 ghost use Rattle.ring_records.specs.Snapshot.{IsSound, snapshot_len};
 ghost use Rattle.gated_journal.specs.Batch.{shown as batch_shown, numbered, numbered_with, numbered_by, base_by};
-ghost use Rattle.node_core.specs.Core.{IsNodeOf, Refuses};
+ghost use Rattle.node_core.specs.Core.{IsNodeOf, Refuses, taking};
 ghost use Rattle.group_commit.specs.Opening.{core_after, IsKnownLawful, IsUnlawful};
 ghost use Rattle.group_commit.specs.Outbox.{brought_after, told, Holds};
 
@@ -100,7 +100,7 @@ pub(super) fn prepare(
     ensures refusal { IfErr result (λ refusal. refusal ≡ Refusal.OutOfMemory) }
     ensures err { OnErr result ((me : ℕ) (s : Summary) (decided : List Decision) (l : List Input) → Holds me outbox.old s decided l 0 → Holds me outbox.new s decided l 0) }
 {
-    if outbox.load(inputs.len() as u32).is_err() {
+    if outbox.load(inputs.len() as u64).is_err() {
         return Err(Refusal::OutOfMemory);
     }
     let alloc = *outbox.waiting.allocator();
@@ -117,7 +117,6 @@ pub(super) fn summarise(
     epoch: u64,
     inputs: &[Input],
 ) -> Result<Checkpoint, Refusal>
-    requires few { length inputs.now < 2 ^ 32 }
     requires short { snapshot_len core.old.known < 2 ^ 32 }
     ensures checkpoint { IfOk result (λ made. numbered_by made ≡ numbered_with node first inputs.now (Some (snapshot_len core.old.known))) }
     ensures summary { IfOk result (λ made. base_by made ≡ core.old.known) }
@@ -128,7 +127,7 @@ pub(super) fn summarise(
     ensures same { OnErr result (core.new ≡ core.old) }
     ensures err { OnErr result ((me : ℕ) (s : Summary) (decided : List Decision) (l : List Input) → Holds me outbox.old s decided l 0 → Holds me outbox.new s decided l 0) }
 {
-    let count = inputs.len() as u32;
+    let count = inputs.len() as u64;
     if outbox.load(count).is_err() {
         return Err(Refusal::OutOfMemory);
     }

@@ -16,7 +16,7 @@ fn told(made: &Stored) -> (u64, u64, usize, u64) {
 }
 
 /// This is what landed.
-fn landed_are(rt: &impl Abort, landed: &Landed, count: u32, sends: &[Sends], leads: &[Leads]) {
+fn landed_are(rt: &impl Abort, landed: &Landed, count: u64, sends: &[Sends], leads: &[Leads]) {
     assert_eq!(rt; landed.count, count);
     sends_are(rt, &landed.packets, sends);
     leads_are(rt, &landed.decisions, leads);
@@ -195,17 +195,17 @@ impl Rig {
     }
 
     /// The next batch, of so many inputs, becomes durable.
-    pub(super) fn lands(&mut self, rt: &impl Abort, count: u32) {
+    pub(super) fn lands(&mut self, rt: &impl Abort, count: u64) {
         let landed = self.made.flush().expect(rt, "a device that works");
         assert_eq!(rt; landed.count, count);
     }
 
-    fn flushes(&mut self, rt: &impl Abort, count: u32, sends: &[Sends], leads: &[Leads]) {
+    fn flushes(&mut self, rt: &impl Abort, count: u64, sends: &[Sends], leads: &[Leads]) {
         let landed = self.made.flush().expect(rt, "a device that works");
         landed_are(rt, &landed, count, sends, leads);
     }
 
-    fn flushes_at_last(&mut self, rt: &impl Abort, count: u32, sends: &[Sends], leads: &[Leads]) {
+    fn flushes_at_last(&mut self, rt: &impl Abort, count: u64, sends: &[Sends], leads: &[Leads]) {
         let before = told(&self.made);
         match self.made.flush() {
             Ok(landed) => landed_are(rt, &landed, count, sends, leads),
@@ -221,7 +221,7 @@ impl Rig {
         assert_eq!(rt; self.made.flush().err(), Some(no.refusal()));
     }
 
-    fn checkpoints(&mut self, rt: &impl Abort, count: u32, sends: &[Sends]) {
+    fn checkpoints(&mut self, rt: &impl Abort, count: u64, sends: &[Sends]) {
         let landed = self.made.checkpoint().expect(rt, "a device that works");
         landed_are(rt, &landed, count, sends, &[]);
     }

@@ -1,4 +1,4 @@
-use Rattle.std.proofs.Common.{rules, ◌≡◌, ℕ, ◌<◌, ◌≤◌, ◌+◌, ◌-◌, ◌^◌, ◌++◌, ◌∙◌, List, length, take, drop, take_all, Some, None, sym, ap, subst, arith}
+use Rattle.std.proofs.Common.{rules, ◌≡◌, ℕ, ◌≤◌, ◌+◌, ◌-◌, ◌++◌, ◌∙◌, List, length, take, drop, take_all, Some, None, sym, ap, subst, arith}
 use Rattle.std.proofs.lemmas.List.{length-drop}
 use Rattle.ring_records.specs.declared.input.Input.{Input}
 use Rattle.ring_records.specs.Known.{after}
@@ -17,7 +17,7 @@ use Rattle.group_commit.proofs.Inside.{member_in, area_in, state_in}
 use Rattle.group_commit.proofs.Past.{core_past, core_knows}
 use Rattle.group_commit.proofs.Seen.{launched_all_seen}
 use Rattle.group_commit.proofs.Settling.{holds_still}
-use Rattle.group_commit.proofs.Since.{known_all, core_all, few_wait}
+use Rattle.group_commit.proofs.Since.{known_all, core_all}
 use Rattle.group_commit.proofs.desk.Desk.launch_checkpoint.Goals as goal
 use Rattle.group_commit.proofs.desk.Desk.launch_checkpoint.Goals.{After-deref}
 
@@ -57,15 +57,6 @@ waits c =
     let d = c.self.inside in
     let left = length-drop d.durable d.inputs.items in
     ap (λ (l : List Input). take (length l - d.durable) (drop d.durable l)) c.deref.ensures.value ∙ take_all (length d.inputs.items - d.durable) (drop d.durable d.inputs.items) (omega (arith, left))
-
-pub summarise-requires-clause-few : goal.summarise-requires-clause-few
-summarise-requires-clause-few c =
-    let d = c.self.inside in
-    let a = (goal.at.summarise-requires-clause-few c).After-deref in
-    let known = c.self.invariant.state in
-    let few = few_wait (member_in d) d.base (state_in d) (idle-none (state_in d) (may a).idle) known in
-    let range : d.capacity < 2 ^ 32 = search rules in
-    subst (λ (l : List Input). length l < 2 ^ 32) (sym (waits a)) (omega (arith, few, range))
 
 pub invariant_of-self : goal.invariant_of-self
 invariant_of-self c =

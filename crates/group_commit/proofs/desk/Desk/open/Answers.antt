@@ -21,7 +21,7 @@ use Rattle.group_commit.proofs.desk.Desk.open.Goals.{After-restore-2}
 
 -- the core of the node before the inputs since
 restored : (c : After-restore-2) → c.in-Ok.core ≡ core_of (member c.args.node c.args.n c.args.capacity) (reading_of_opening c.args.opening)
-restored c = c.in-Ok.ensures ∙ (λ i. record { me = c.args.node; size = c.args.n; capacity = c.args.capacity; known = c.args.opening.base; room = record { layout = c.args.opening.layout; epoch = c.args.opening.epoch; taken = (c.area_bytes-taken.ensures ∙ sym (used-first (first_base c.args.opening.layout c.args.opening.epoch c.args.opening.base) refl)) i; waits = false } })
+restored c = c.in-Ok.ensures ∙ (λ i. record { me = c.args.node; size = c.args.n; capacity = c.args.capacity; known = c.args.opening.base; room = record { layout = c.args.opening.layout; epoch = c.args.opening.epoch; taken = (c.area_bytes-taken.ensures.value ∙ sym (used-first (first_base c.args.opening.layout c.args.opening.epoch c.args.opening.base) refl)) i; waits = false } })
 
 pub replay-requires : goal.replay-requires
 replay-requires c =
@@ -55,7 +55,7 @@ invariant_of-result c =
     record {
       sound = c.requires;
       knows = core_opened m o.base area l c.len-count.result c.len-count.result c.replay.new.core refl (on_ok c.replay.result replayed c.replay.ensures.knows ∙ (λ i. core_after (began i) (c.deref.ensures.value i)));
-      state = known_opened m o.base area l c.len-count.result c.len-count.result refl c.area_bytes-taken.ensures (omega arith) (omega (arith, count))
+      state = known_opened m o.base area l c.len-count.result c.len-count.result refl c.area_bytes-taken.ensures.value (omega arith) (omega (arith, count))
           (subst (λ (p : CoreView × List Input). IsKnownLawful p.0 p.1) (λ i. (began i, c.deref.ensures.value i)) (on_ok c.replay.result replayed c.replay.ensures.lawful));
       holds = whole_holds m.node c.len-count.result c.replay.new.outbox o.base l count (holds (c.in-Ok-restore.ensures c.args.node));
       given = search (rules, below_none);

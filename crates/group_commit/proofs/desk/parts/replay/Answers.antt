@@ -4,12 +4,11 @@ use Rattle.std.proofs.lemmas.Option.{slice_get_read}
 use Rattle.ring_records.specs.declared.decision.Decision.{Decision}
 use Rattle.ring_records.specs.declared.input.Input.{Input}
 use Rattle.ring_records.specs.declared.summary.Summary.{Summary}
-use Rattle.ring_records.specs.Admission.{taking}
 use Rattle.ring_records.specs.Known.{Objects, stepped, after}
 use Rattle.ring_records.specs.Lists.{EachAfter}
 use Rattle.ring_records.proofs.LookBack.{IsItem}
 use Rattle.node_core.specs.Brought.{brought}
-use Rattle.node_core.specs.Core.{CoreView, Refuses}
+use Rattle.node_core.specs.Core.{CoreView, Refuses, taking}
 use Rattle.group_commit.specs.Opening.{core_after, IsKnownLawful}
 use Rattle.group_commit.specs.Outbox.{brought_after, told, Holds}
 use Rattle.group_commit.proofs.Opening.{objects_none, core-none, core-item, lawful-item, why, why_not, on_ok}

@@ -1,15 +1,13 @@
-use Rattle.std.proofs.Common.{◌≡◌, ◌+◌, ◌≤◌, ◌∙◌, None, false, sym, ap, subst, arith}
+use Rattle.std.proofs.Common.{◌≡◌, ◌+◌, ◌≤◌, ◌∙◌, None, sym, ap, subst, arith}
 use Rattle.ring_records.specs.declared.input.Input.{Input}
 use Rattle.ring_records.specs.declared.summary.Summary.{Summary}
-use Rattle.ring_records.specs.Admission.{cost, must_renew}
 use Rattle.ring_records.specs.Known.{Objects, sends}
-use Rattle.ring_records.proofs.Admission.{no_renewal}
 use Rattle.node_core.specs.declared.effects.Effects.{Effects}
 use Rattle.node_core.specs.Brought.{brought}
 use Rattle.node_core.specs.Core.{CoreView, FreeView}
 use Rattle.node_core.proofs.Histories.{carries, decides, goes_on}
 use Rattle.node_core.proofs.Measures.{acked_within, few_inputs, measured_next, one_more, within_next}
-use Rattle.node_core.proofs.Refusals.{objects_none, fits, stepped_core}
+use Rattle.node_core.proofs.Refusals.{objects_none, stepped_core}
 use Rattle.node_core.proofs.node.NodeCore.apply.Goals as goal
 
 pub freed-removed-requires : goal.freed-removed-requires
@@ -40,10 +38,10 @@ overflow_sub-self c =
 
 pub overflow_add-self-2 : goal.overflow_add-self-2
 overflow_add-self-2 c =
-    let plain = subst (λ (v : CoreView). must_renew v.room c.args.input ≡ false) c.self.view_is (no_renewal c.self.inside.room c.args.input c.self.invariant.plain) in
-    let fit : c.self.inside.room.taken + cost c.args.input ≤ c.self.inside.capacity = subst (λ (v : CoreView). v.room.taken + cost c.args.input ≤ v.capacity) (sym c.self.view_is) (fits c.args.self.now c.args.input plain c.requires) in
-    let is = c.cost-cost.ensures.value in
-    let ranges = c.self.ranges in
+    let free = subst (λ (v : CoreView). Objects v.size v.known c.args.input None) (sym c.self.view_is) (objects_none c.args.self.now c.args.input c.requires) in
+    let few = few_inputs c.self.inside.core.size c.self.inside.core.known c.args.input free in
+    let taken = c.self.invariant.taken in
+    let range = c.cost-cost.ensures.range in
     omega arith
 
 pub invariant_of-self-2 : goal.invariant_of-self-2
@@ -61,6 +59,7 @@ invariant_of-self-2 c =
       exact = omega arith;
       within = subst (λ (s : Summary). s.credit ≤ s.sent) (sym next) (within_next c.self.inside.core.me c.self.inside.core.size c.self.inside.core.known c.args.input free c.self.invariant.within);
       short = omega arith;
+      taken = omega (arith, more, c.self.invariant.taken, c.cost-cost.ensures.range);
       plain = c.self.invariant.plain;
     }
 

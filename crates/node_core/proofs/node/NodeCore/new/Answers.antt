@@ -11,7 +11,7 @@ pub invariant_of-result : goal.invariant_of-result
 invariant_of-result c =
     let same : c.new.result.known ≡ empty = ap (λ (v : FreeView). v.known) c.new.ensures in
     let len = ap snapshot_len same ∙ length-empty in
-    record { exact = sym len; within = subst (λ s. s.credit ≤ s.sent) (sym same) (omega arith); short = omega arith; plain = refl }
+    record { exact = sym len; within = subst (λ s. s.credit ≤ s.sent) (sym same) (omega arith); short = omega arith; taken = omega arith; plain = refl }
 
 pub returns-clause-empty : goal.returns-clause-empty
 returns-clause-empty c = record {

@@ -22,7 +22,7 @@ pub add_carried-requires : goal.add_carried-requires
 add_carried-requires c =
     let at_most = no_more _ _ _ _ _ c.self.invariant.whole c.args.flight c.in-Ok.landed.packets.items (c.in-Ok.ensures.packets c.self.inside.past.items c.self.invariant.behind) in
     let all = length-append c.self.inside.past.items c.self.inside.node.desk.view.state.inputs in
-    let waits = c.waiting-most.ensures ∙ ap (λ (d : DeskKept). length d.view.state.inputs - d.view.state.durable) c.desk.ensures in
+    let waits = c.waiting-most.ensures.value ∙ ap (λ (d : DeskKept). length d.view.state.inputs - d.view.state.durable) c.desk.ensures in
     let same = ap (λ ps. length (carried_in ps)) c.deref.ensures.value in
     let room = c.in_ok-reserve.ensures.ok in
     record { room = omega (arith, at_most, all, waits, same, room) }
