@@ -1,5 +1,5 @@
 -- Notices of decisions: what inputs tell, and what a list that has no others says.
-use Rattle.std.proofs.Common.{ℕ, ◌≡◌, max, Bool, true, false, cond, List, [], ◌∷◌, ◌++◌, Option, Some, None, refl, sym, ap, ◌∙◌, inl, inr, arith}
+use Rattle.std.proofs.Common.{ℕ, ◌≡◌, max, Bool, true, false, cond, List, [], ◌∷◌, ◌++◌, Option, Some, None, refl, sym, ap, subst, ◌∙◌, inl, inr, arith}
 use Rattle.std.specs.List.{filter_map, fold, cons_option, Contains}
 use Rattle.std.specs.Option.{option_map}
 use Rattle.std.proofs.lemmas.Option.{same_Some}
@@ -40,6 +40,22 @@ notices-decided me h [] = refl
 notices-decided me h (x ∷ l) =
     (λ i. cons_option (told-decided me h x i) (notices-decided me (h ++ x ∷ []) l i))
     ∙ all_cons (decided me h x) (decisions me (h ++ x ∷ []) l)
+
+-- ---- a decision among those that are told
+
+pub told-among : (ds : List Decision) (d : Decision) → Contains ds d → Contains (decided_all ds) (Decided d)
+told-among [] d has = Contains-nil d has
+told-among (e ∷ ds) d has = elim (Contains-cons_cases e ds d has) [
+  | inl same ↦ subst (λ (x : Decision). Contains (Decided e ∷ decided_all ds) (Decided x)) same (Contains-here (Decided e) (decided_all ds))
+  | inr later ↦ Contains-later (Decided e) (decided_all ds) (Decided d) (told-among ds d later)
+]
+
+pub among-told : (ds : List Decision) (d : Decision) → Contains (decided_all ds) (Decided d) → Contains ds d
+among-told [] d has = Contains-nil (Decided d) has
+among-told (e ∷ ds) d has = elim (Contains-cons_cases (Decided e) (decided_all ds) (Decided d) has) [
+  | inl same ↦ (let is : e ≡ d = cc in subst (λ (x : Decision). Contains (e ∷ ds) x) is (Contains-here e ds))
+  | inr later ↦ Contains-later e ds d (among-told ds d later)
+]
 
 -- ---- what a list of decisions says
 
