@@ -12,7 +12,7 @@ use crate::found::Found;
 use crate::run_fault::RunFault;
 use disk_model::Device;
 use group_commit::Desk;
-use ring_records::{Notice, NodeNo};
+use ring_records::{NodeNo, Notice};
 use std::alloc::AllocError;
 
 /// Refused with the first two nodes that do not fit, where two do not: a link, of which the node behind it took more
