@@ -71,7 +71,7 @@ fn message(no: u64) -> Result<Msg, Refusal> {
 fn accept(core: &mut NodeCore, input: Input) -> Result<u32, Refusal> {
     core.admit(&input)?;
     match core.apply(input) {
-        Ok(effects) => Ok(effects.decided.is_some() as u32),
+        Ok(effects) => Ok(effects.notice.is_some() as u32),
         Err(_) => Err(Refusal::OutOfMemory),
     }
 }

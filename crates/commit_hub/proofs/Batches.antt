@@ -4,7 +4,7 @@ use Rattle.ring_records.specs.declared.input.Input.{Input}
 use Rattle.ring_records.specs.declared.packet.Packet.{Packet}
 use Rattle.ring_records.specs.declared.summary.Summary.{Summary}
 use Rattle.ring_records.specs.Member.{Member}
-use Rattle.ring_records.specs.Release.{packets, decisions, window}
+use Rattle.ring_records.specs.Release.{packets, notices, window}
 use Rattle.ring_records.specs.States.{NodeState, IsNodeState, IsLawfulState, launched_base, durable_in, flown_in, flying_in}
 use Rattle.ring_records.specs.States as states
 use Rattle.group_commit.specs.declared.landed.Landed.{Landed}
@@ -25,9 +25,9 @@ pub brings : (old new : DeskKept) (since inputs : List Input) (brought : Landed)
     → ((past : List Input) → IsPast new.view.member new.opening past → IsLawfulState new.view.member (seen past new).state)
     → since ≡ durable_in old.view.state → inputs ≡ flying_in old.view.state
     → ((past : List Input) → IsPast old.view.member old.opening past → brought.packets.items ≡ packets old.view.member.node (durable_in (seen past old).state) (flying_in (seen past old).state))
-    → ((past : List Input) → IsPast old.view.member old.opening past → brought.decisions.items ≡ decisions old.view.member.node (durable_in (seen past old).state) (flying_in (seen past old).state))
+    → ((past : List Input) → IsPast old.view.member old.opening past → brought.notices.items ≡ notices old.view.member.node (durable_in (seen past old).state) (flying_in (seen past old).state))
     → IsBrought old.view.member old.opening since inputs brought
-brings old new since inputs brought counts next lawful from is sends decides past behind =
+brings old new since inputs brought counts next lawful from is sends tells past behind =
     let m = old.view.member in
     let s = old.view.state in
     let state : IsLawfulState m (shifted past (states.landed s)) =
@@ -41,7 +41,7 @@ brings old new since inputs brought counts next lawful from is sends decides pas
       lawful = state;
       durable = durable-shifted past (states.landed s) ∙ whole;
       packets = sends past behind ∙ (λ i. packets m.node (durable i) (flies i));
-      decisions = decides past behind ∙ (λ i. decisions m.node (durable i) (flies i));
+      notices = tells past behind ∙ (λ i. notices m.node (durable i) (flies i));
     }
 
 -- what flew, as the batch tells it, is released behind each past

@@ -10,7 +10,7 @@ use Rattle.ring_records.specs.Admission.{snapshot_len, used}
 use Rattle.ring_records.specs.History.{stands}
 use Rattle.ring_records.specs.Member.{Member}
 use Rattle.ring_records.specs.Message.{is_outside}
-use Rattle.ring_records.specs.Release.{packets, decisions, window}
+use Rattle.ring_records.specs.Release.{packets, notices, window}
 use Rattle.ring_records.specs.States.{NodeState, IsLawfulState, launched_base, durable_in, shown_in}
 use Rattle.ring_records.specs.Summary.{summary}
 use Rattle.group_commit.specs.declared.landed.Landed.{Landed}
@@ -36,7 +36,7 @@ pub record IsBroughtBehind (member : Member) (past since inputs : List Input) (l
   pub lawful : IsLawfulState member (shifted past state)
   pub durable : durable_in (shifted past state) ≡ (past ++ since) ++ inputs
   pub packets : landed.packets.items ≡ packets member.node (past ++ since) inputs
-  pub decisions : landed.decisions.items ≡ decisions member.node (past ++ since) inputs
+  pub notices : landed.notices.items ≡ notices member.node (past ++ since) inputs
 
 -- so it is whatever past of the node the opening is of
 abbrev pub IsBrought : Member → Summary → List Input → List Input → Landed → Type 0

@@ -5,7 +5,7 @@ ghost use Rattle.ring_records.specs.Admission.{used};
 ghost use Rattle.ring_records.specs.Answer.{Answered};
 ghost use Rattle.ring_records.specs.States.{IsNodeState, launched_base, durable_in};
 ghost use Rattle.ring_records.specs.Props.{IsNodeState-prop};
-ghost use Rattle.ring_records.specs.Release.{packets, decisions, window};
+ghost use Rattle.ring_records.specs.Release.{packets, notices, window};
 ghost use Rattle.gated_journal.specs.Batch.{is_checkpoint, landed as receipted, lost};
 ghost use Rattle.group_commit.specs.Desk.{seen, ended, landed, objection, is_due, launch_objection, IsSubmitted, IsAnswer, IsHere, IsSealed, IsFlying};
 ghost use Rattle.group_commit.specs.Next.{launched_next, IsNoWork, IsUnlaunched, IsWorkOf};
@@ -210,12 +210,12 @@ impl<A: Node> Locked<A> {
         ensures works { OnOk result (self.old.shared.desk.view.failed ≡ false) }
         ensures count { IfOk result (λ landed. landed.count ≡ length (receipted receipt).inputs) }
         ensures kind { IfOk result (λ landed. landed.is_checkpoint ≡ is_checkpoint (receipted receipt)) }
-        ensures few { IfOk result (λ landed. length landed.decisions.items ≤ landed.count) }
+        ensures few { IfOk result (λ landed. length landed.notices.items ≤ landed.count) }
         ensures brought { IfOk result (λ landed. IsBrought A.member A.opening (known_by tie.old).inputs (receipted receipt).inputs landed) }
         ensures packets { IfOk result (λ landed. (past : List Input) → IsPast A.member A.opening past
             → landed.packets.items ≡ packets A.member.node (durable_in (seen past self.old.shared.desk).state) (receipted receipt).inputs) }
-        ensures decisions { IfOk result (λ landed. (past : List Input) → IsPast A.member A.opening past
-            → landed.decisions.items ≡ decisions A.member.node (durable_in (seen past self.old.shared.desk).state) (receipted receipt).inputs) }
+        ensures notices { IfOk result (λ landed. (past : List Input) → IsPast A.member A.opening past
+            → landed.notices.items ≡ notices A.member.node (durable_in (seen past self.old.shared.desk).state) (receipted receipt).inputs) }
         ensures next { OnOk result (self.new.shared.desk ≡ record self.old.shared.desk { view = landed self.old.shared.desk.view }) }
         ensures batch { OnOk result ((receipted receipt).snapshot ≡ None → known_by tie.new ≡ with_batch (known_by tie.old) (receipted receipt).inputs) }
         ensures checkpoint { OnOk result ((bytes : ℕ) → (receipted receipt).snapshot ≡ Some bytes → known_by tie.new ≡ with_area (known_by tie.old) (receipted receipt).inputs bytes) }

@@ -6,7 +6,7 @@ use Rattle.std.proofs.lemmas.List.{length-append, length-take-le, length-drop, d
 use Rattle.std.proofs.lemmas.List.Elements.{filter_map-append}
 use Rattle.std.proofs.lemmas.List.Sums.{fold-append}
 use Rattle.std.specs.Prelude.{if◌then◌else◌}
-use Rattle.ring_records.specs.declared.decision.Decision.{Decision}
+use Rattle.ring_records.specs.declared.notice.Notice.{Notice}
 use Rattle.ring_records.specs.declared.input.Input.{Input}
 use Rattle.ring_records.specs.declared.msg.Msg.{Msg}
 use Rattle.ring_records.specs.declared.packet.Packet.{Packet}
@@ -16,18 +16,19 @@ use Rattle.ring_records.specs.Admission.{IsAllowed}
 use Rattle.ring_records.specs.Emission.{sent, carry}
 use Rattle.ring_records.specs.History.{taken, credit}
 use Rattle.ring_records.specs.Known.{Objects, stepped, after}
-use Rattle.ring_records.specs.Leader.{decided}
+use Rattle.ring_records.specs.Leader.{told}
 use Rattle.ring_records.specs.Lists.{found_after, EachAfter}
 use Rattle.ring_records.specs.Member.{Member}
-use Rattle.ring_records.specs.Release.{carries, credit_where, credits, packets, decisions}
+use Rattle.ring_records.specs.Notices.{decided_all}
+use Rattle.ring_records.specs.Release.{carries, credit_where, credits, packets, notices}
 use Rattle.ring_records.specs.Summary.{summary}
 use Rattle.ring_records.proofs.Growth.{taken-append, EachAfter-take}
 use Rattle.ring_records.proofs.Known.{credit-sent}
 use Rattle.node_core.specs.declared.effects.Effects.{Effects}
 use Rattle.group_commit.specs.declared.outbox.Outbox.{Outbox}
-use Rattle.group_commit.specs.Kept.{HoldsFor, decisions_since}
+use Rattle.group_commit.specs.Kept.{HoldsFor, notices_since}
 use Rattle.group_commit.specs.Past.{IsPast}
-use Rattle.group_commit.specs.Outbox.{AreFree, brought_after, carried, told, leaders_in, credit_since, Holds}
+use Rattle.group_commit.specs.Outbox.{AreFree, brought_after, carried, told_in, leaders_in, credit_since, Holds}
 use Rattle.group_commit.proofs.Opening.{free-part, EachAfter-behind}
 use Rattle.group_commit.proofs.Past.{follows-take, found-known}
 use Rattle.group_commit.proofs.Settling.{brought-append, length-brought}
@@ -55,9 +56,9 @@ part-length start end inputs within =
 
 -- so they are the first of those that wait
 pub flies : (me start end : ℕ) (outbox : Outbox) (opening : Summary) (inputs : List Input) → start ≤ end → end ≤ length inputs → HoldsFor me outbox opening (take start inputs) (drop start inputs) (end - start)
-    → Holds me outbox (after me opening (take start inputs)) (decisions_since me opening (take start inputs)) (part start end inputs ++ drop end inputs) (length (part start end inputs))
+    → Holds me outbox (after me opening (take start inputs)) (notices_since me opening (take start inputs)) (part start end inputs ++ drop end inputs) (length (part start end inputs))
 flies me start end outbox opening inputs within all holds =
-    subst (λ (p : List Input × ℕ). Holds me outbox (after me opening (take start inputs)) (decisions_since me opening (take start inputs)) p.0 p.1)
+    subst (λ (p : List Input × ℕ). Holds me outbox (after me opening (take start inputs)) (notices_since me opening (take start inputs)) p.0 p.1)
     (λ i. (part-rest start end inputs within i, sym (part-length start end inputs all) i)) holds
 
 -- and nothing is against them
@@ -80,9 +81,9 @@ brought-part me s l rest waiting is =
     ∙ take_all (length l) (brought_after me s l) (omega (arith, count)))
 
 -- the desk once they are durable
-pub lands : (me start end : ℕ) (new : Outbox) (opening : Summary) (inputs : List Input) (all : List Decision) (waiting : List Effects) → start ≤ end → waiting ≡ brought_after me (after me opening (take start inputs)) (drop start inputs)
-    → all ≡ told (take (length (part start end inputs)) waiting)
-    → Holds me new (after me (after me opening (take start inputs)) (part start end inputs)) (decisions_since me opening (take start inputs) ++ all) (drop end inputs) 0
+pub lands : (me start end : ℕ) (new : Outbox) (opening : Summary) (inputs : List Input) (all : List Notice) (waiting : List Effects) → start ≤ end → waiting ≡ brought_after me (after me opening (take start inputs)) (drop start inputs)
+    → all ≡ told_in (take (length (part start end inputs)) waiting)
+    → Holds me new (after me (after me opening (take start inputs)) (part start end inputs)) (notices_since me opening (take start inputs) ++ all) (drop end inputs) 0
     → HoldsFor me new opening (take end inputs) (drop end inputs) (end - end)
 lands me start end new opening inputs all waiting within waits are holds =
     let s = after me opening (take start inputs) in
@@ -91,22 +92,22 @@ lands me start end new opening inputs all waiting within waits are holds =
     let none : 0 ≡ end - end = omega arith in
     let brings = brought-part me s l (drop end inputs) waiting (waits ∙ ap (brought_after me s) (part-rest start end inputs within)) in
     let known = sym (fold-append (stepped me) opening (take start inputs) l) ∙ ap (after me opening) joined in
-    let front = told (brought_after me opening (take start inputs)) in
-    let grown = ap (λ ds. front ++ ds) (are ∙ ap told brings)
-    ∙ (sym (filter_map-append (λ (e : Effects). e.decided) (brought_after me opening (take start inputs)) (brought_after me s l))
-    ∙ (ap told (sym (brought-append me opening (take start inputs) l)) ∙ ap (λ k. told (brought_after me opening k)) joined)) in
-    let more = append_assoc (leaders_in opening) front all ∙ ap (λ ds. leaders_in opening ++ ds) grown in
-    subst (λ (p : (Summary × List Decision) × ℕ). Holds me new p.0.0 p.0.1 (drop end inputs) p.1) (λ i. ((known i, more i), none i)) holds
+    let front = told_in (brought_after me opening (take start inputs)) in
+    let grown = ap (λ ds. front ++ ds) (are ∙ ap told_in brings)
+    ∙ (sym (filter_map-append (λ (e : Effects). e.notice) (brought_after me opening (take start inputs)) (brought_after me s l))
+    ∙ (ap told_in (sym (brought-append me opening (take start inputs) l)) ∙ ap (λ k. told_in (brought_after me opening k)) joined)) in
+    let more = append_assoc (decided_all (leaders_in opening)) front all ∙ ap (λ ns. decided_all (leaders_in opening) ++ ns) grown in
+    subst (λ (p : (Summary × List Notice) × ℕ). Holds me new p.0.0 p.0.1 (drop end inputs) p.1) (λ i. ((known i, more i), none i)) holds
 
 -- all of them are durable
-pub whole_holds : (me count : ℕ) (outbox : Outbox) (opening : Summary) (inputs : List Input) → count ≡ length inputs → Holds me outbox (after me opening inputs) (decisions_since me opening inputs) [] 0 → HoldsFor me outbox opening (take count inputs) (drop count inputs) (count - count)
+pub whole_holds : (me count : ℕ) (outbox : Outbox) (opening : Summary) (inputs : List Input) → count ≡ length inputs → Holds me outbox (after me opening inputs) (notices_since me opening inputs) [] 0 → HoldsFor me outbox opening (take count inputs) (drop count inputs) (count - count)
 whole_holds me count outbox opening inputs all holds =
     let none : 0 ≡ count - count = omega arith in
     subst (λ (p : (List Input × List Input) × ℕ). HoldsFor me outbox opening p.0.0 p.0.1 p.1)
     (λ i. ((sym (take_all count inputs (omega (arith, all))) i, sym (drop_all count inputs (omega (arith, all))) i), none i)) holds
 
 -- more inputs wait behind them
-pub waits_more : (me k : ℕ) (outbox : Outbox) (opening : Summary) (inputs more : List Input) (durable : ℕ) → durable ≤ length inputs → Holds me outbox (after me opening (take durable inputs)) (decisions_since me opening (take durable inputs)) (drop durable inputs ++ more) k
+pub waits_more : (me k : ℕ) (outbox : Outbox) (opening : Summary) (inputs more : List Input) (durable : ℕ) → durable ≤ length inputs → Holds me outbox (after me opening (take durable inputs)) (notices_since me opening (take durable inputs)) (drop durable inputs ++ more) k
     → HoldsFor me outbox opening (take durable (inputs ++ more)) (drop durable (inputs ++ more)) k
 waits_more me k outbox opening inputs more durable within holds =
     subst (λ (p : List Input × List Input). HoldsFor me outbox opening p.0 p.1 k) (λ i. (sym (take-append-le durable inputs more within) i, sym (drop-append-le durable inputs more within) i)) holds
@@ -123,7 +124,7 @@ credits-known h l =
     let count : length (taken (h ++ l)) ≡ length (taken h) + length (taken l) = ap length (taken-append h l) ∙ length-append (taken h) (taken l) in
     ap (credit_since (length (taken h))) count ∙ (credit_by (length (taken h)) (taken l) ∙ ap (credit_where (taken l)) (sym count))
 
--- these are the packets and the decisions of inputs that are allowed after h
+-- these are the packets and the notices of inputs that are allowed after h
 pub packets-known : (me n : ℕ) (s t : Summary) (h l : List Input) → s ≡ summary me h → t ≡ summary me (h ++ l) → credit h ≤ length (sent me h) → EachAfter (IsAllowed me n) h l
     → carried (brought_after me s l) ++ credit_since s.taken t.taken ≡ packets me h l
 unfolding packets carries
@@ -131,9 +132,9 @@ packets-known me n s t h l knows knows_now within allowed = λ i.
     found-known (λ (e : Effects). e.carry) (carry me) me n (λ g x. refl) s h l knows within allowed i
     ++ ((λ j. credit_since ((knows j).taken) ((knows_now j).taken)) ∙ credits-known h l) i
 
-pub decisions-known : (me n : ℕ) (s : Summary) (h l : List Input) → s ≡ summary me h → credit h ≤ length (sent me h) → EachAfter (IsAllowed me n) h l → told (brought_after me s l) ≡ decisions me h l
-unfolding decisions
-decisions-known me n s h l knows within allowed = found-known (λ (e : Effects). e.decided) (decided me) me n (λ g x. refl) s h l knows within allowed
+pub notices-known : (me n : ℕ) (s : Summary) (h l : List Input) → s ≡ summary me h → credit h ≤ length (sent me h) → EachAfter (IsAllowed me n) h l → told_in (brought_after me s l) ≡ notices me h l
+unfolding notices
+notices-known me n s h l knows within allowed = found-known (λ (e : Effects). e.notice) (told me) me n (λ g x. refl) s h l knows within allowed
 
 -- ---- of a node with a past
 
@@ -156,25 +157,26 @@ landed_packets m opening past inputs start end waiting l before now all past_is 
     ∙ packets-known m.node m.n s (after m.node opening (take end inputs)) (past ++ take start inputs) (part start end inputs) f.knows (g.knows ∙ ap (summary m.node) (sym joined)) f.credit
     (allowed-part m (past ++ take start inputs) (part start end inputs) (subst (EachAfter (IsAllowed m.node m.n) []) (sym joined) g.allowed)))
 
-pub landed_decisions : (m : Member) (opening : Summary) (past inputs : List Input) (start end : ℕ) (waiting : List Effects) (l : List Input) (all : List Decision) → IsPast m opening past → AreFree m.node m.n opening inputs → start ≤ end
+pub landed_notices : (m : Member) (opening : Summary) (past inputs : List Input) (start end : ℕ) (waiting : List Effects) (l : List Input) (all : List Notice) → IsPast m opening past → AreFree m.node m.n opening inputs → start ≤ end
     → waiting ≡ brought_after m.node (after m.node opening (take start inputs)) (drop start inputs) → l ≡ part start end inputs
-    → all ≡ told (take (length l) waiting) → all ≡ decisions m.node (past ++ take start inputs) (part start end inputs)
-landed_decisions m opening past inputs start end waiting l all past_is each within waits flown is =
+    → all ≡ told_in (take (length l) waiting) → all ≡ notices m.node (past ++ take start inputs) (part start end inputs)
+landed_notices m opening past inputs start end waiting l all past_is each within waits flown is =
     let s = after m.node opening (take start inputs) in
     let f = follows-take m opening past inputs start past_is each in
     let g = follows-take m opening past inputs end past_is each in
     let joined = append_assoc past (take start inputs) (part start end inputs) ∙ ap (λ k. past ++ k) (part-joins start end inputs within) in
     let brings = ap (λ k. take (length k) waiting) flown ∙ brought-part m.node s (part start end inputs) (drop end inputs) waiting (waits ∙ ap (brought_after m.node s) (part-rest start end inputs within)) in
     is
-    ∙ (ap told brings
-    ∙ decisions-known m.node m.n s (past ++ take start inputs) (part start end inputs) f.knows f.credit
+    ∙ (ap told_in brings
+    ∙ notices-known m.node m.n s (past ++ take start inputs) (part start end inputs) f.knows f.credit
     (allowed-part m (past ++ take start inputs) (part start end inputs) (subst (EachAfter (IsAllowed m.node m.n) []) (sym joined) g.allowed)))
 
--- the decisions of what was known at first, and of the first inputs since
+-- the notices of what was known at first, and of the first inputs since
 pub told-since : (m : Member) (opening : Summary) (past inputs : List Input) (k : ℕ) → IsPast m opening past → AreFree m.node m.n opening inputs
-    → decisions_since m.node opening (take k inputs) ≡ leaders_in opening ++ found_after (decided m.node) past (take k inputs)
+    → notices_since m.node opening (take k inputs) ≡ decided_all (leaders_in opening) ++ notices m.node past (take k inputs)
+unfolding notices
 told-since m opening past inputs k is each =
     let f = follows-take m opening past inputs k is each in
-    ap (λ ds. leaders_in opening ++ ds)
-    (found-known (λ (e : Effects). e.decided) (decided m.node) m.node m.n (λ g x. refl) opening past (take k inputs) is.summed (credit-sent m.node m.n past is.allowed)
+    ap (λ ns. decided_all (leaders_in opening) ++ ns)
+    (found-known (λ (e : Effects). e.notice) (told m.node) m.node m.n (λ g x. refl) opening past (take k inputs) is.summed (credit-sent m.node m.n past is.allowed)
     (allowed-part m past (take k inputs) f.allowed))

@@ -3,6 +3,7 @@ use Rattle.std.proofs.Common.{◌≡◌, ℕ, Bool, true, false, cond, List, [],
 use Rattle.std.specs.FinMap as fin
 use Rattle.std.specs.FinMap.{find}
 use Rattle.std.specs.List.{Contains, AllByRecursion, cons_option, filter_map}
+use Rattle.std.specs.Option.{option_map}
 use Rattle.std.specs.List.Sorted.{IsPermutation, IsSortedByKey, IsStrictlySortedBy}
 use Rattle.std.specs.Ordering.{is_eq}
 use Rattle.std.proofs.lemmas.Map.Keys.{IsDistinct-from_sorted}
@@ -12,20 +13,22 @@ use Rattle.ring_records.specs.declared.decision.Decision.{Decision}
 use Rattle.ring_records.specs.declared.input.Input.{Input}
 use Rattle.ring_records.specs.declared.key.Key.{Key}
 use Rattle.ring_records.specs.declared.key_state.KeyState.{KeyState}
+use Rattle.ring_records.specs.declared.notice.Notice.TheVariants.{Decided}
 use Rattle.ring_records.specs.declared.summary.Summary.{Summary}
 use Rattle.ring_records.specs.History.{touched}
 use Rattle.ring_records.specs.KeyOrder.{key_cmp}
 use Rattle.ring_records.specs.KeyStates.{by_state}
-use Rattle.ring_records.specs.Leader.{leader, decided}
-use Rattle.ring_records.specs.Lists.{found_after}
-use Rattle.ring_records.specs.Release.{by_key, AreLeaders}
+use Rattle.ring_records.specs.Leader.{leader}
+use Rattle.ring_records.specs.Notices.{decided_all}
+use Rattle.ring_records.specs.Release.{decisions, notices, by_key, AreLeaders}
 use Rattle.ring_records.specs.Summary.{state_of, key_states, summary}
 use Rattle.ring_records.proofs.Decisions.{AreDecided, more, in_order}
+use Rattle.ring_records.proofs.DecisionNotices.{notices-decided}
 use Rattle.ring_records.proofs.Leader.{Contains-here, Contains-later, Contains-nil, Contains-cons_cases}
 use Rattle.ring_records.proofs.Lists.{none≢some}
 use Rattle.ring_records.proofs.StatesInOrder.{IsOwn, sorted-own, each-entry}
 use Rattle.ring_records.proofs.Summaries.{get-states, untouched-leader}
-use Rattle.group_commit.specs.Outbox.{led, leaders_in}
+use Rattle.group_commit.specs.Outbox.{led, leaders_in, decision_in}
 
 -- ---- the states of a history
 
@@ -110,10 +113,31 @@ leaders-decided me h = record {
     was key c leads true touch = refl
     was key c leads false touch = none≢some c (sym (untouched-leader me h key touch) ∙ leads)
 
+-- ---- their notices
+
+all-append : (ds more : List Decision) → decided_all (ds ++ more) ≡ decided_all ds ++ decided_all more
+all-append [] more = refl
+all-append (d ∷ ds) more = ap (λ ns. Decided d ∷ ns) (all-append ds more)
+
+pub all-push : (ds : List Decision) (o : Option Decision) → decided_all (ds ++ cons_option o []) ≡ decided_all ds ++ cons_option (option_map Decided o) []
+all-push ds None = all-append ds []
+all-push ds (Some d) = all-append ds (d ∷ [])
+
+all_among : (ds : List Decision) → filter_map decision_in (decided_all ds) ≡ ds
+all_among [] = refl
+all_among (d ∷ ds) = ap (λ rest. d ∷ rest) (all_among ds)
+
 -- ---- what a desk sorts
 
-pub leaders-known : (me : ℕ) (s : Summary) (h l : List Input) (list sorted : List Decision) → s ≡ summary me h → list ≡ leaders_in s ++ found_after (decided me) h l → IsPermutation list sorted
+-- the decisions among what it tells
+pub decisions-among : (me : ℕ) (h l : List Input) (ds : List Decision) → filter_map decision_in (decided_all ds ++ notices me h l) ≡ ds ++ decisions me h l
+decisions-among me h l ds =
+    ap (filter_map decision_in) (ap (λ ns. decided_all ds ++ ns) (notices-decided me h l) ∙ sym (all-append ds (decisions me h l)))
+    ∙ all_among (ds ++ decisions me h l)
+
+pub leaders-known : (me : ℕ) (s : Summary) (h l : List Input) (list sorted : List Decision) → s ≡ summary me h → list ≡ leaders_in s ++ decisions me h l → IsPermutation list sorted
     → IsSortedByKey (λ (d : Decision). d.key) key_cmp sorted → AreLeaders me (h ++ l) sorted
+unfolding decisions
 leaders-known me s h l list sorted knows is moved ascends =
     in_order me (h ++ l) list sorted
-    (subst (AreDecided me (h ++ l)) (sym (is ∙ ap (λ (t : Summary). leaders_in t ++ found_after (decided me) h l) knows)) (more me h l (leaders_in (summary me h)) (leaders-decided me h))) moved ascends
+    (subst (AreDecided me (h ++ l)) (sym (is ∙ ap (λ (t : Summary). leaders_in t ++ decisions me h l) knows)) (more me h l (leaders_in (summary me h)) (leaders-decided me h))) moved ascends

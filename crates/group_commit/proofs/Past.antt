@@ -23,7 +23,7 @@ use Rattle.ring_records.specs.Answer.{input_of, if_free, unless, gained, reply, 
 use Rattle.ring_records.specs.Emission.{sent, carry}
 use Rattle.ring_records.specs.History.{credit}
 use Rattle.ring_records.specs.Known.{Objects, known_of, leader_of, leads_in, stepped, after}
-use Rattle.ring_records.specs.Leader.{IsLatest, leader, latest, decided}
+use Rattle.ring_records.specs.Leader.{IsLatest, leader, latest, told}
 use Rattle.ring_records.specs.Lists.{or_else, found_after, EachAfter}
 use Rattle.ring_records.specs.Member.{Member}
 use Rattle.ring_records.specs.States.{NodeState, launched_base, durable_in, flying_in, answered_by, gained_by}
@@ -36,7 +36,7 @@ use Rattle.ring_records.proofs.Lists.{along, EachAfter-push}
 use Rattle.node_core.specs.Brought.{brought}
 use Rattle.node_core.specs.Core.{CoreView, Refuses}
 use Rattle.node_core.specs.declared.effects.Effects.{Effects}
-use Rattle.node_core.proofs.Histories.{carries, decides}
+use Rattle.node_core.proofs.Histories.{carries, tells}
 use Rattle.group_commit.specs.Opening.{IsOf, Replies}
 use Rattle.group_commit.specs.Past.{IsPast, moved, shifted}
 use Rattle.group_commit.specs.Since.{IsOpenSince, IsLawfulSince, IsAreaOf, IsKnownState, core_in}
@@ -263,12 +263,12 @@ given_is m opening past s core q given more number is known knows replies count 
 
 -- ---- what its inputs bring
 
-brought-known : (me : ℕ) (h : List Input) (x : Input) → brought me (summary me h) x ≡ record { carry = carry me h x; decided = decided me h x }
+brought-known : (me : ℕ) (h : List Input) (x : Input) → brought me (summary me h) x ≡ record { carry = carry me h x; notice = told me h x }
 brought-known me h x =
     let core : CoreView = record { me = me; size = 0; capacity = 0; known = summary me h; room = room_of fresh h } in
-    λ i. record { carry = carries core h x (record { knows = refl; room = refl }) i; decided = decides core h x (record { knows = refl; room = refl }) i }
+    λ i. record { carry = carries core h x (record { knows = refl; room = refl }) i; notice = tells core h x (record { knows = refl; room = refl }) i }
 
-pub found-known : {B : Type 0} (part : Effects → Option B) (f : List Input → Input → Option B) (me n : ℕ) → ((h : List Input) (x : Input) → part (record { carry = carry me h x; decided = decided me h x }) ≡ f h x)
+pub found-known : {B : Type 0} (part : Effects → Option B) (f : List Input → Input → Option B) (me n : ℕ) → ((h : List Input) (x : Input) → part (record { carry = carry me h x; notice = told me h x }) ≡ f h x)
     → (s : Summary) (h l : List Input) → s ≡ summary me h → credit h ≤ length (sent me h) → EachAfter (IsAllowed me n) h l → filter_map part (brought_after me s l) ≡ found_after f h l
 unfolding brought_after found_after EachAfter
 found-known part f me n is s h [] knows within allowed = refl

@@ -4,7 +4,7 @@ use Rattle.std.specs.List.{cons_option}
 use Rattle.std.specs.Prelude.{vec_len, vec_capacity}
 use Rattle.std.proofs.lemmas.List.{take_all, length-take-le}
 use Rattle.std.proofs.lemmas.List.Sums.{fold-append}
-use Rattle.ring_records.specs.declared.decision.Decision.{Decision}
+use Rattle.ring_records.specs.declared.notice.Notice.{Notice}
 use Rattle.ring_records.specs.declared.input.Input.{Input}
 use Rattle.ring_records.specs.declared.summary.Summary.{Summary}
 use Rattle.ring_records.specs.Known.{Objects, stepped, after}
@@ -16,7 +16,7 @@ use Rattle.node_core.specs.declared.effects.Effects.{Effects}
 use Rattle.group_commit.specs.declared.landed.Landed.{Landed}
 use Rattle.group_commit.specs.declared.outbox.Outbox.{Outbox}
 use Rattle.group_commit.specs.declared.released.Released.{Released}
-use Rattle.group_commit.specs.Outbox.{AreFree, brought_after, carried, told, Keeps, HasRoom, IsReady, IsBlank, Holds}
+use Rattle.group_commit.specs.Outbox.{AreFree, brought_after, carried, told_in, Keeps, HasRoom, IsReady, IsBlank, Holds}
 
 -- ---- what inputs bring
 
@@ -37,34 +37,34 @@ unfolding brought_after
 length-brought me s [] = refl
 length-brought me s (x ∷ l) = let rest = length-brought me (stepped me s x) l in omega arith
 
--- the decisions among it, with those of one input more
-pub told-item : (me : ℕ) (s : Summary) (l : List Input) (i : ℕ) (x : Input) (effects : Effects) (before : List Decision) → IsItem l i x → effects ≡ brought me (after me s (take i l)) x
-    → (before ++ told (brought_after me s (take i l))) ++ cons_option effects.decided [] ≡ before ++ told (brought_after me s (take (i + 1) l))
+-- the notices among it, with those of one input more
+pub told-item : (me : ℕ) (s : Summary) (l : List Input) (i : ℕ) (x : Input) (effects : Effects) (before : List Notice) → IsItem l i x → effects ≡ brought me (after me s (take i l)) x
+    → (before ++ told_in (brought_after me s (take i l))) ++ cons_option effects.notice [] ≡ before ++ told_in (brought_after me s (take (i + 1) l))
 told-item me s l i x effects before here brings =
-    append_assoc before (told (brought_after me s (take i l))) (cons_option effects.decided [])
-    ∙ ap (λ ds. before ++ ds) (ap (λ (e : Effects). told (brought_after me s (take i l)) ++ cons_option e.decided []) brings
-    ∙ sym (ap (λ k. told (brought_after me s k)) (take-item l i x here)
-    ∙ (ap told (brought-push me s (take i l) x) ∙ filter_map-push (λ (e : Effects). e.decided) (brought_after me s (take i l)) (brought me (after me s (take i l)) x))))
+    append_assoc before (told_in (brought_after me s (take i l))) (cons_option effects.notice [])
+    ∙ ap (λ ds. before ++ ds) (ap (λ (e : Effects). told_in (brought_after me s (take i l)) ++ cons_option e.notice []) brings
+    ∙ sym (ap (λ k. told_in (brought_after me s k)) (take-item l i x here)
+    ∙ (ap told_in (brought-push me s (take i l) x) ∙ filter_map-push (λ (e : Effects). e.notice) (brought_after me s (take i l)) (brought me (after me s (take i l)) x))))
 
 -- ---- an outbox where nothing waits
 
-pub holds_restored : (me : ℕ) (outbox : Outbox) (s : Summary) (decided : List Decision) → Keeps outbox.released s decided → vec_len outbox.released.decisions ≤ vec_capacity outbox.released.decisions
-    → outbox.waiting.items ≡ [] → IsBlank outbox.landing → Holds me outbox s decided [] 0
+pub holds_restored : (me : ℕ) (outbox : Outbox) (s : Summary) (list : List Notice) → Keeps outbox.released s list → vec_len outbox.released.notices ≤ vec_capacity outbox.released.notices
+    → outbox.waiting.items ≡ [] → IsBlank outbox.landing → Holds me outbox s list [] 0
 unfolding brought_after
-holds_restored me outbox s decided keeps room none blank = record {
+holds_restored me outbox s list keeps room none blank = record {
   released = keeps;
   waiting = none;
-  room = record { messages = omega arith; decisions = omega (arith, room) };
+  room = record { messages = omega arith; notices = omega (arith, room) };
   blank = blank;
   ready = λ less. absurd (omega (arith, less));
   count = λ less. absurd (omega (arith, less));
 }
 
 -- one more durable input
-pub holds_next : (me : ℕ) (old new : Outbox) (s t : Summary) (decided more : List Decision) → Holds me old s decided [] 0 → new.waiting ≡ old.waiting → new.landing ≡ old.landing
+pub holds_next : (me : ℕ) (old new : Outbox) (s t : Summary) (list more : List Notice) → Holds me old s list [] 0 → new.waiting ≡ old.waiting → new.landing ≡ old.landing
     → Keeps new.released t more → HasRoom new.released 0 → Holds me new t more [] 0
 unfolding brought_after
-holds_next me old new s t decided more holds same_waiting same_landing keeps room = record {
+holds_next me old new s t list more holds same_waiting same_landing keeps room = record {
   released = keeps;
   waiting = (λ i. (same_waiting i).items) ∙ holds.waiting;
   room = room;
@@ -76,10 +76,10 @@ holds_next me old new s t decided more holds same_waiting same_landing keeps roo
 -- ---- what waits
 
 -- one more input waits
-pub waits_next : (me flying : ℕ) (old new : Outbox) (s : Summary) (decided : List Decision) (l : List Input) (x : Input) (effects : Effects) → Holds me old s decided l flying → effects ≡ brought me (after me s l) x
-    → new.released ≡ old.released → new.landing ≡ old.landing → new.waiting.items ≡ old.waiting.items ++ effects ∷ [] → Holds me new s decided (l ++ x ∷ []) flying
-waits_next me flying old new s decided l x effects holds brings same_released same_landing more = record {
-  released = subst (λ (r : Released). Keeps r s decided) (sym same_released) holds.released;
+pub waits_next : (me flying : ℕ) (old new : Outbox) (s : Summary) (list : List Notice) (l : List Input) (x : Input) (effects : Effects) → Holds me old s list l flying → effects ≡ brought me (after me s l) x
+    → new.released ≡ old.released → new.landing ≡ old.landing → new.waiting.items ≡ old.waiting.items ++ effects ∷ [] → Holds me new s list (l ++ x ∷ []) flying
+waits_next me flying old new s list l x effects holds brings same_released same_landing more = record {
+  released = subst (λ (r : Released). Keeps r s list) (sym same_released) holds.released;
   waiting = more ∙ (λ i. holds.waiting i ++ brings i ∷ []) ∙ sym (brought-push me s l x);
   room = subst (λ (r : Released). HasRoom r flying) (sym same_released) holds.room;
   blank = subst IsBlank (sym same_landing) holds.blank;
@@ -88,20 +88,20 @@ waits_next me flying old new s decided l x effects holds brings same_released sa
 }
 
 -- the memory for what flies is there, or nothing flies
-pub holds_loaded : (me flying count : ℕ) (old new : Outbox) (s : Summary) (decided : List Decision) (l : List Input) → Holds me old s decided l flying → new.waiting ≡ old.waiting → Keeps new.released s decided → HasRoom new.released count
-    → IsBlank new.landing → (0 < count → IsReady new.landing count) → (0 < count → new.landing.count ≡ count) → Holds me new s decided l count
-holds_loaded me flying count old new s decided l holds same keeps room blank ready counts =
+pub holds_loaded : (me flying count : ℕ) (old new : Outbox) (s : Summary) (list : List Notice) (l : List Input) → Holds me old s list l flying → new.waiting ≡ old.waiting → Keeps new.released s list → HasRoom new.released count
+    → IsBlank new.landing → (0 < count → IsReady new.landing count) → (0 < count → new.landing.count ≡ count) → Holds me new s list l count
+holds_loaded me flying count old new s list l holds same keeps room blank ready counts =
     record { released = keeps; waiting = (λ i. (same i).items) ∙ holds.waiting; room = room; blank = blank; ready = ready; count = counts }
 
 pub idle : {A : Type 0} → 0 < 0 → A
 idle less = absurd (omega (arith, less))
 
 -- where nothing flies, it needs no memory for what flies
-pub holds_still : (me flying : ℕ) (outbox : Outbox) (s : Summary) (decided : List Decision) (l : List Input) → Holds me outbox s decided l flying → Holds me outbox s decided l 0
-holds_still me flying outbox s decided l holds = record {
+pub holds_still : (me flying : ℕ) (outbox : Outbox) (s : Summary) (list : List Notice) (l : List Input) → Holds me outbox s list l flying → Holds me outbox s list l 0
+holds_still me flying outbox s list l holds = record {
   released = holds.released;
   waiting = holds.waiting;
-  room = record { messages = omega arith; decisions = (let all = holds.room.decisions in omega arith) };
+  room = record { messages = omega arith; notices = (let all = holds.room.notices in omega arith) };
   blank = holds.blank;
   ready = λ less. absurd (omega (arith, less));
   count = λ less. absurd (omega (arith, less));
@@ -158,12 +158,12 @@ pub record Settles (outbox : Outbox) (landed : Landed) (waited : List Effects) (
   pub room : HasRoom outbox.released (count - i)
   pub ready : IsReady landed (count - i)
   pub packets : landed.packets.items ≡ carried (take i waited)
-  pub decisions : landed.decisions.items ≡ told (take i waited)
+  pub notices : landed.notices.items ≡ told_in (take i waited)
   pub counts : landed.count ≡ count
 
-pub settles_none : (me : ℕ) (old new : Outbox) (landed : Landed) (s : Summary) (decided : List Decision) (l : List Input) (count : ℕ) → 0 < count → Holds me old s decided l count
+pub settles_none : (me : ℕ) (old new : Outbox) (landed : Landed) (s : Summary) (list : List Notice) (l : List Input) (count : ℕ) → 0 < count → Holds me old s list l count
     → landed ≡ old.landing → new.released ≡ old.released → new.waiting ≡ old.waiting → IsBlank new.landing → Settles new landed old.waiting.items count 0
-settles_none me old new landed s decided l count some holds same released waits blank =
+settles_none me old new landed s list l count some holds same released waits blank =
     let all : count ≡ count - 0 = omega arith in
     record {
       blank = blank;
@@ -171,7 +171,7 @@ settles_none me old new landed s decided l count some holds same released waits 
       room = subst (λ (p : Released × ℕ). HasRoom p.0 p.1) (λ i. (sym released i, all i)) holds.room;
       ready = subst (λ (p : Landed × ℕ). IsReady p.0 p.1) (λ i. (sym same i, all i)) (holds.ready some);
       packets = (λ i. (same i).packets.items) ∙ holds.blank.packets;
-      decisions = (λ i. (same i).decisions.items) ∙ holds.blank.decisions;
+      notices = (λ i. (same i).notices.items) ∙ holds.blank.notices;
       counts = (λ i. (same i).count) ∙ holds.count some;
     }
 
@@ -180,8 +180,8 @@ settles_end outbox landed waited count i all settles = subst (Settles outbox lan
 
 pub settles_next : (old new : Outbox) (landed now : Landed) (waited : List Effects) (count i : ℕ) (effects : Effects) → Settles old landed waited count i → i < count → old.waiting.items ≡ effects ∷ new.waiting.items
     → IsBlank new.landing → ((k : ℕ) → HasRoom old.released (k + 1) → HasRoom new.released k) → ((k : ℕ) → IsReady landed (k + 1) → IsReady now k)
-    → now.packets.items ≡ landed.packets.items ++ cons_option effects.carry [] → now.decisions.items ≡ landed.decisions.items ++ cons_option effects.decided [] → now.count ≡ landed.count → Settles new now waited count (i + 1)
-settles_next old new landed now waited count i effects settles less split blank room ready packets decisions counts =
+    → now.packets.items ≡ landed.packets.items ++ cons_option effects.carry [] → now.notices.items ≡ landed.notices.items ++ cons_option effects.notice [] → now.count ≡ landed.count → Settles new now waited count (i + 1)
+settles_next old new landed now waited count i effects settles less split blank room ready packets notices counts =
     let left : count - i ≡ count - (i + 1) + 1 = omega (arith, less) in
     let goes = passes i waited new.waiting.items effects (sym settles.waits ∙ split) in
     record {
@@ -190,27 +190,27 @@ settles_next old new landed now waited count i effects settles less split blank 
       room = room (count - (i + 1)) (subst (HasRoom old.released) left settles.room);
       ready = ready (count - (i + 1)) (subst (IsReady landed) left settles.ready);
       packets = packets ∙ ap (λ l. l ++ cons_option effects.carry []) settles.packets ∙ sym (ap carried goes.0 ∙ filter_map-push (λ (e : Effects). e.carry) (take i waited) effects);
-      decisions = decisions ∙ ap (λ l. l ++ cons_option effects.decided []) settles.decisions ∙ sym (ap told goes.0 ∙ filter_map-push (λ (e : Effects). e.decided) (take i waited) effects);
+      notices = notices ∙ ap (λ l. l ++ cons_option effects.notice []) settles.notices ∙ sym (ap told_in goes.0 ∙ filter_map-push (λ (e : Effects). e.notice) (take i waited) effects);
       counts = counts ∙ settles.counts;
     }
 
 -- what the node may release, once so many have landed
-pub keeps_next : (me : ℕ) (new : Released) (s : Summary) (decided : List Decision) (l : List Input) (waited rest : List Effects) (i : ℕ) (x : Input) (effects : Effects) → IsItem l i x → drop i waited ≡ effects ∷ rest
-    → Keeps new (stepped me (after me s (take i l)) x) ((decided ++ told (take i waited)) ++ cons_option effects.decided []) → Keeps new (after me s (take (i + 1) l)) (decided ++ told (take (i + 1) waited))
-keeps_next me new s decided l waited rest i x effects here split keeps =
+pub keeps_next : (me : ℕ) (new : Released) (s : Summary) (list : List Notice) (l : List Input) (waited rest : List Effects) (i : ℕ) (x : Input) (effects : Effects) → IsItem l i x → drop i waited ≡ effects ∷ rest
+    → Keeps new (stepped me (after me s (take i l)) x) ((list ++ told_in (take i waited)) ++ cons_option effects.notice []) → Keeps new (after me s (take (i + 1) l)) (list ++ told_in (take (i + 1) waited))
+keeps_next me new s list l waited rest i x effects here split keeps =
     let known = ap (after me s) (take-item l i x here) ∙ after-push me s (take i l) x in
-    let more = ap told (passes i waited rest effects split).0 ∙ filter_map-push (λ (e : Effects). e.decided) (take i waited) effects in
-    subst (λ (p : Summary × List Decision). Keeps new p.0 p.1) (λ k. (sym known k, (append_assoc decided (told (take i waited)) (cons_option effects.decided []) ∙ ap (λ ds. decided ++ ds) (sym more)) k)) keeps
+    let more = ap told_in (passes i waited rest effects split).0 ∙ filter_map-push (λ (e : Effects). e.notice) (take i waited) effects in
+    subst (λ (p : Summary × List Notice). Keeps new p.0 p.1) (λ k. (sym known k, (append_assoc list (told_in (take i waited)) (cons_option effects.notice []) ∙ ap (λ ds. list ++ ds) (sym more)) k)) keeps
 
 -- nothing flies behind what landed
-pub holds_landed : (me : ℕ) (old new : Outbox) (landed : Landed) (s : Summary) (decided all : List Decision) (l rest : List Input) → Holds me old s decided (l ++ rest) (length l) → Settles new landed old.waiting.items (length l) (length l)
-    → Keeps new.released (after me s (take (length l) l)) (decided ++ told (take (length l) old.waiting.items)) → all ≡ told (take (length l) old.waiting.items) → Holds me new (after me s l) (decided ++ all) rest 0
-holds_landed me old new landed s decided all l rest holds settles keeps are =
+pub holds_landed : (me : ℕ) (old new : Outbox) (landed : Landed) (s : Summary) (list all : List Notice) (l rest : List Input) → Holds me old s list (l ++ rest) (length l) → Settles new landed old.waiting.items (length l) (length l)
+    → Keeps new.released (after me s (take (length l) l)) (list ++ told_in (take (length l) old.waiting.items)) → all ≡ told_in (take (length l) old.waiting.items) → Holds me new (after me s l) (list ++ all) rest 0
+holds_landed me old new landed s list all l rest holds settles keeps are =
     let whole = take_all (length l) l (omega arith) in
     let none_left : length l - length l ≡ 0 = omega arith in
     let front = sym (length-brought me s l) in
     record {
-      released = subst (λ (p : Summary × List Decision). Keeps new.released p.0 p.1) (λ i. (after me s (whole i), decided ++ sym are i)) keeps;
+      released = subst (λ (p : Summary × List Notice). Keeps new.released p.0 p.1) (λ i. (after me s (whole i), list ++ sym are i)) keeps;
       waiting = settles.waits ∙ (λ i. drop (front i) ((holds.waiting ∙ brought-append me s l rest) i)) ∙ drop-front (brought_after me s l) (brought_after me (after me s l) rest);
       room = subst (HasRoom new.released) none_left settles.room;
       blank = settles.blank;

@@ -1,11 +1,13 @@
 -- What an outbox holds, where a node knows s by its durable inputs.
-use Rattle.std.specs.Prelude.{ℕ, ◌≡◌, ◌+◌, ◌<◌, ◌≤◌, nat_lt, if◌then◌else◌, List, [], ◌∷◌, Option, None, vec_len, vec_capacity}
+use Rattle.std.specs.Prelude.{ℕ, ◌≡◌, ◌+◌, ◌<◌, ◌≤◌, nat_lt, if◌then◌else◌, List, [], ◌∷◌, Option, Some, None, vec_len, vec_capacity}
 use Rattle.std.specs.FinMap as map
 use Rattle.std.specs.List.{filter_map}
 use Rattle.std.specs.Option.{option_map}
 use Rattle.ring_records.specs.declared.decision.Decision.{Decision}
 use Rattle.ring_records.specs.declared.input.Input.{Input}
 use Rattle.ring_records.specs.declared.key_state.KeyState.{KeyState}
+use Rattle.ring_records.specs.declared.notice.Notice.{Notice}
+use Rattle.ring_records.specs.declared.notice.Notice.TheVariants.{Decided, Retired}
 use Rattle.ring_records.specs.declared.packet.Packet.{Packet}
 use Rattle.ring_records.specs.declared.packet.Packet.TheVariants.{Credit}
 use Rattle.ring_records.specs.declared.summary.Summary.{Summary}
@@ -40,9 +42,14 @@ leaders_in s = filter_map led (map.values s.keys)
 abbrev pub carried : List Effects → List Packet
 carried effects = filter_map (λ (e : Effects). e.carry) effects
 
--- the decisions among it
-abbrev pub told : List Effects → List Decision
-told effects = filter_map (λ (e : Effects). e.decided) effects
+-- the notices among it
+abbrev pub told_in : List Effects → List Notice
+told_in effects = filter_map (λ (e : Effects). e.notice) effects
+
+-- the decision that the notice tells
+abbrev pub decision_in : Notice → Option Decision
+decision_in (Decided d) = Some d
+decision_in (Retired group floor) = None
 
 -- one credit of all messages that are taken now, where more are than before
 abbrev pub credit_since : ℕ → ℕ → List Packet
@@ -50,13 +57,13 @@ credit_since before now = if nat_lt before now then Credit now ∷ [] else []
 
 -- ---- what is kept
 
--- it has what a node that knows s may release, with these decisions
-pub record Keeps (released : Released) (s : Summary) (decided : List Decision) : Type 0 where
+-- it has what a node that knows s may release, with these notices
+pub record Keeps (released : Released) (s : Summary) (list : List Notice) : Type 0 where
   pub credited : released.link.link.credited ≡ s.credit
   pub window : released.link.link.window ≡ s.window
   pub sent : sent_count released.link.link ≡ s.sent
   pub taken : released.taken ≡ s.taken
-  pub decisions : released.decisions.items ≡ decided
+  pub notices : released.notices.items ≡ list
   -- no more was sent, and no more was taken, than there were inputs
   pub sent_few : s.sent ≤ s.inputs
   pub taken_few : s.taken ≤ s.inputs
@@ -64,22 +71,22 @@ pub record Keeps (released : Released) (s : Summary) (decided : List Decision) :
 -- so many inputs more take no memory
 pub record HasRoom (released : Released) (count : ℕ) : Type 0 where
   pub messages : count ≤ released.link.room
-  pub decisions : vec_len released.decisions + count ≤ vec_capacity released.decisions
+  pub notices : vec_len released.notices + count ≤ vec_capacity released.notices
 
 -- what so many inputs bring takes no memory
 pub record IsReady (landed : Landed) (count : ℕ) : Type 0 where
   pub packets : vec_len landed.packets + (count + 1) ≤ vec_capacity landed.packets
-  pub decisions : vec_len landed.decisions + count ≤ vec_capacity landed.decisions
+  pub notices : vec_len landed.notices + count ≤ vec_capacity landed.notices
 
 -- nothing landed yet
 pub record IsBlank (landed : Landed) : Type 0 where
   pub packets : landed.packets.items ≡ []
-  pub decisions : landed.decisions.items ≡ []
+  pub notices : landed.notices.items ≡ []
 
--- It has what the durable inputs, by which node me knows s, let it release, with these decisions, and what each input of l
+-- It has what the durable inputs, by which node me knows s, let it release, with these notices, and what each input of l
 -- brings, which wait behind them. So many of these fly, and land without memory.
-pub record Holds (me : ℕ) (outbox : Outbox) (s : Summary) (decided : List Decision) (l : List Input) (flying : ℕ) : Type 0 where
-  pub released : Keeps outbox.released s decided
+pub record Holds (me : ℕ) (outbox : Outbox) (s : Summary) (list : List Notice) (l : List Input) (flying : ℕ) : Type 0 where
+  pub released : Keeps outbox.released s list
   pub waiting : outbox.waiting.items ≡ brought_after me s l
   pub room : HasRoom outbox.released flying
   pub blank : IsBlank outbox.landing

@@ -5,7 +5,7 @@ ghost use Rattle.ring_records.specs.declared.packet.Packet.TheVariants.{Credit};
 
 use gated_journal::syncs;
 use node_core::Effects;
-use ring_records::{Decision, Packet};
+use ring_records::{Notice, Packet};
 use std::alloc::{AllocError, Global};
 use std::mem::replace;
 
@@ -19,8 +19,8 @@ pub struct Landed {
     /// The messages that they send to the successor, as Carry packets in order, and then, where a message was taken,
     /// one Credit of all that were taken durably, to the predecessor.
     pub packets: Vec<Packet>,
-    /// The leaders that they made known, in order.
-    pub decisions: Vec<Decision>,
+    /// What they tell a board, in order: the leaders that they made known.
+    pub notices: Vec<Notice>,
 }
 
 impl Landed {
@@ -38,13 +38,13 @@ impl Landed {
     pub(crate) fn new(alloc: Global) -> Landed
         ensures count { result.count ≡ 0 }
         ensures packets { result.packets.items ≡ [] }
-        ensures decisions { result.decisions.items ≡ [] }
+        ensures notices { result.notices.items ≡ [] }
     {
         Landed {
             count: 0,
             is_checkpoint: false,
             packets: Vec::new(alloc),
-            decisions: Vec::new(alloc),
+            notices: Vec::new(alloc),
         }
     }
 
@@ -53,14 +53,14 @@ impl Landed {
         requires few { count < 2 ^ 63 }
         ensures count { IfOk result (λ landed. landed.count ≡ count) }
         ensures packets { IfOk result (λ landed. landed.packets.items ≡ []) }
-        ensures decisions { IfOk result (λ landed. landed.decisions.items ≡ []) }
+        ensures notices { IfOk result (λ landed. landed.notices.items ≡ []) }
         ensures room { IfOk result (λ landed. IsReady landed count) }
     {
         Ok(Landed {
             count,
             is_checkpoint: false,
             packets: Vec::with_capacity(alloc, count as usize + 1)?,
-            decisions: Vec::with_capacity(alloc, count as usize)?,
+            notices: Vec::with_capacity(alloc, count as usize)?,
         })
     }
 
@@ -68,7 +68,7 @@ impl Landed {
     pub(crate) fn hand_out(&mut self) -> Landed
         ensures given { result ≡ self.old }
         ensures packets { self.new.packets.items ≡ [] }
-        ensures decisions { self.new.decisions.items ≡ [] }
+        ensures notices { self.new.notices.items ≡ [] }
     {
         let alloc = *self.packets.allocator();
         replace(self, Landed::new(alloc))
@@ -78,19 +78,19 @@ impl Landed {
     pub(crate) fn add(&mut self, effects: &Effects)
         requires room { IsReady self.old 1 }
         ensures packets { self.new.packets.items ≡ self.old.packets.items ++ cons_option effects.now.carry [] }
-        ensures decisions { self.new.decisions.items ≡ self.old.decisions.items ++ cons_option effects.now.decided [] }
+        ensures notices { self.new.notices.items ≡ self.old.notices.items ++ cons_option effects.now.notice [] }
         ensures count { self.new.count ≡ self.old.count }
         ensures room { (k : ℕ) → IsReady self.old (k + 1) → IsReady self.new k }
     {
         push_carry(&mut self.packets, &effects.carry);
-        push_decision(&mut self.decisions, &effects.decided);
+        push_notice(&mut self.notices, &effects.notice);
     }
 
     // Adds the credit of all messages that were taken.
     pub(crate) fn credit(&mut self, upto: u64)
         requires room { IsReady self.old 0 }
         ensures packets { self.new.packets.items ≡ self.old.packets.items ++ Credit upto ∷ [] }
-        ensures decisions { self.new.decisions.items ≡ self.old.decisions.items }
+        ensures notices { self.new.notices.items ≡ self.old.notices.items }
         ensures count { self.new.count ≡ self.old.count }
     {
         push_packet(&mut self.packets, &Packet::Credit { upto });
@@ -120,14 +120,14 @@ fn push_carry(packets: &mut Vec<Packet>, carry: &Option<Packet>)
     }
 }
 
-/// Adds the decision, if there is one.
-pub(crate) fn push_decision(decisions: &mut Vec<Decision>, decided: &Option<Decision>)
-    requires room { vec_len decisions.old < vec_capacity decisions.old }
-    ensures items { decisions.new.items ≡ decisions.old.items ++ cons_option decided.now [] }
-    ensures len { vec_len decisions.new ≤ vec_len decisions.old + 1 }
-    ensures capacity { vec_capacity decisions.new ≡ vec_capacity decisions.old }
+/// Adds the notice, if there is one.
+pub(crate) fn push_notice(notices: &mut Vec<Notice>, notice: &Option<Notice>)
+    requires room { vec_len notices.old < vec_capacity notices.old }
+    ensures items { notices.new.items ≡ notices.old.items ++ cons_option notice.now [] }
+    ensures len { vec_len notices.new ≤ vec_len notices.old + 1 }
+    ensures capacity { vec_capacity notices.new ≡ vec_capacity notices.old }
 {
-    if let Some(decision) = decided {
-        decisions.push_reserved(*decision);
+    if let Some(notice) = notice {
+        notices.push_reserved(*notice);
     }
 }

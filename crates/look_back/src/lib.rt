@@ -8,10 +8,11 @@ ghost use Rattle.ring_records.specs.Admission.{objection, shortage, refusal};
 ghost use Rattle.ring_records.specs.Emission.{is_below, passed_on, emit, sent, carry};
 ghost use Rattle.ring_records.specs.History.{names, is_named, touched, bid_for, is_stand, message_of, upto_of, first_stand, stood, taken, credit, stands};
 ghost use Rattle.ring_records.specs.Order.{is_key};
-ghost use Rattle.ring_records.specs.Leader.{is_bid, makes_leader, first_leader, leader, decided, greater_term, term_led, latest};
+ghost use Rattle.ring_records.specs.Leader.{is_bid, makes_leader, first_leader, leader, decided, told, greater_term, term_led, latest};
 
 use ring_records::{
-    Base, Bid, Candidate, Decision, GroupName, Input, Key, Msg, NodeNo, Packet, Refusal, Term,
+    Base, Bid, Candidate, Decision, GroupName, Input, Key, Msg, NodeNo, Notice, Packet, Refusal,
+    Term,
 };
 use std::alloc::{AllocError, Global};
 
@@ -20,7 +21,7 @@ mod releases;
 mod replies;
 
 use objections::{objection, shortage};
-pub use releases::{decisions, packets, window};
+pub use releases::{notices, packets, window};
 pub use replies::answer;
 
 /// Whether some Stand or Take of the history names the key.
@@ -179,6 +180,16 @@ pub fn decided(me: NodeNo, history: &[Input], input: &Input) -> Option<Decision>
         Input::Stand { .. } => None,
         Input::Take { msg, .. } => decided_by(me, history, msg),
         Input::Acked { .. } => None,
+    }
+}
+
+/// What the input after the history tells a board: what it decides.
+pub fn told(me: NodeNo, history: &[Input], input: &Input) -> Option<Notice>
+    ensures { result ≡ told me history.now input.now }
+{
+    match decided(me, history, input) {
+        Some(decision) => Some(Notice::Decided(decision)),
+        None => None,
     }
 }
 

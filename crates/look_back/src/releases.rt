@@ -1,9 +1,9 @@
 // What a node releases once its inputs are durable.
 ghost use Rattle.std.specs.Prelude.{◌≡◌, ◌++◌, IfOk};
-ghost use Rattle.ring_records.specs.Release.{packets, decisions, window};
+ghost use Rattle.ring_records.specs.Release.{packets, notices, window};
 
-use crate::{carry, credit, decided, sent, takes};
-use ring_records::{Decision, Input, NodeNo, Packet};
+use crate::{carry, credit, sent, takes, told};
+use ring_records::{Input, NodeNo, Notice, Packet};
 use std::alloc::{AllocError, Global};
 
 /// What node `me` releases once a batch is durable behind the inputs before it: each message that the batch sends under
@@ -30,23 +30,23 @@ pub fn packets(
     Ok(packets)
 }
 
-/// The leaders that become known to node `me` once a batch is durable behind the inputs before it, in order.
-pub fn decisions(
+/// What node `me` tells a board once a batch is durable behind the inputs before it, in order.
+pub fn notices(
     alloc: Global,
     me: NodeNo,
     before: &[Input],
     batch: &[Input],
-) -> Result<Vec<Decision>, AllocError>
-    ensures { IfOk result (λ known. known.items ≡ decisions me before.now batch.now) }
+) -> Result<Vec<Notice>, AllocError>
+    ensures { IfOk result (λ list. list.items ≡ notices me before.now batch.now) }
 {
     let whole = joined(alloc, before, batch)?;
-    let mut decisions = Vec::new(alloc);
+    let mut notices = Vec::new(alloc);
     for (index, input) in batch.iter().enumerate() {
-        if let Some(decision) = decided(me, &whole[..before.len() + index], input) {
-            decisions.push(decision)?;
+        if let Some(notice) = told(me, &whole[..before.len() + index], input) {
+            notices.push(notice)?;
         }
     }
-    Ok(decisions)
+    Ok(notices)
 }
 
 /// What node `me` releases again where the history is durable: each message that was sent and not credited.

@@ -12,6 +12,7 @@ use Rattle.ring_records.specs.declared.input.Input.TheVariants.{Stand, Take, Ack
 use Rattle.ring_records.specs.declared.key.Key.{Key}
 use Rattle.ring_records.specs.declared.msg.Msg.{Msg}
 use Rattle.ring_records.specs.declared.msg.Msg.TheVariants.{Token, Elected}
+use Rattle.ring_records.specs.declared.notice.Notice.TheVariants.{Decided}
 use Rattle.ring_records.specs.declared.packet.Packet.TheVariants.{Carry}
 use Rattle.ring_records.specs.declared.refusal.Refusal.{Refusal}
 use Rattle.ring_records.specs.declared.refusal.Refusal.TheVariants as refused
@@ -20,12 +21,12 @@ use Rattle.ring_records.specs.Admission.{fresh, is_retire, no_room, room_of, sna
 use Rattle.ring_records.specs.Emission.{is_below, passed_on, emit, sent, carry}
 use Rattle.ring_records.specs.History.{first_stand, stood}
 use Rattle.ring_records.specs.Known.{Objects, stepped, known_of, leader_of, leads_in}
-use Rattle.ring_records.specs.Leader.{IsLatest, is_bid, makes_leader, leader, latest, newly, decided}
+use Rattle.ring_records.specs.Leader.{IsLatest, is_bid, makes_leader, leader, latest, newly, decided, told}
 use Rattle.ring_records.specs.Lists.{or_else}
 use Rattle.ring_records.specs.Member.{refusal_by}
 use Rattle.ring_records.specs.Order.{is_key}
 use Rattle.ring_records.proofs.Admission.{or_else-none, objection-allowed, plain_room, shortage-each}
-use Rattle.ring_records.proofs.Counts.{used-more, none-decided, shown-decided}
+use Rattle.ring_records.proofs.Counts.{used-more, shown-decided}
 use Rattle.ring_records.proofs.History.{or-false}
 use Rattle.ring_records.proofs.Keys.{is_key-same}
 use Rattle.ring_records.proofs.Known.{leader-known, sends-known, objects-known, objects-of, stepped-known}
@@ -64,7 +65,7 @@ allowed core h x s r = objection-allowed core.me core.size h x (or_else-none _ _
 
 -- an Elected goes on exactly where a leader becomes known
 token_told : (own bid below same : Bool) (known : Option Candidate) (key : Key) (c : Candidate) → same ≡ true
-    → told_by (cond own (cond (bid && is_none known) (Some (Elected key c)) None) (cond below (Some (Token key c)) None)) ≡ newly key known (or_else known (cond (same && own && bid) (Some c) None))
+    → told_by (cond own (cond (bid && is_none known) (Some (Elected key c)) None) (cond below (Some (Token key c)) None)) ≡ option_map Decided (newly key known (or_else known (cond (same && own && bid) (Some c) None)))
 token_told own bid below false known key c e = absurd cc
 token_told true true below true None key c e = refl
 token_told true true below true (Some d) key c e = refl
@@ -76,36 +77,36 @@ token_told false bid false true None key c e = refl
 token_told false bid false true (Some d) key c e = refl
 
 elected_told : (own same : Bool) (known : Option Candidate) (key : Key) (c : Candidate) → same ≡ true
-    → told_by (cond (not own && is_none known) (Some (Elected key c)) None) ≡ newly key known (or_else known (cond (same && not own) (Some c) None))
+    → told_by (cond (not own && is_none known) (Some (Elected key c)) None) ≡ option_map Decided (newly key known (or_else known (cond (same && not own) (Some c) None)))
 elected_told own false known key c e = absurd cc
 elected_told true true None key c e = refl
 elected_told true true (Some d) key c e = refl
 elected_told false true None key c e = refl
 elected_told false true (Some d) key c e = refl
 
-told : (me : ℕ) (h : List Input) (msg_no : ℕ) (msg : Msg) (on : Option Msg) → emit me h (Take msg_no msg) ≡ on → told_by on ≡ decided me h (Take msg_no msg)
-unfolding emit passed_on makes_leader stood
-told me h msg_no (Token key c) on e =
+take_tells : (me : ℕ) (h : List Input) (msg_no : ℕ) (msg : Msg) (on : Option Msg) → emit me h (Take msg_no msg) ≡ on → told_by on ≡ told me h (Take msg_no msg)
+unfolding told emit passed_on makes_leader stood
+take_tells me h msg_no (Token key c) on e =
     ap told_by (sym e)
     ∙ (token_told (eqb c.node me) (is_bid (first_stand h key) c.bid) (is_below (first_stand h key) me c) (is_key key key) (leader me h key) key c (is_key-same key)
-    ∙ shown-decided me h msg_no (Token key c) key (leader me h key) (makes_leader me key h (Take 0 (Token key c))) refl refl refl)
-told me h msg_no (Elected key c) on e =
+    ∙ ap (option_map Decided) (shown-decided me h msg_no (Token key c) key (leader me h key) (makes_leader me key h (Take 0 (Token key c))) refl refl refl))
+take_tells me h msg_no (Elected key c) on e =
     ap told_by (sym e)
     ∙ (elected_told (eqb c.node me) (is_key key key) (leader me h key) key c (is_key-same key)
-    ∙ shown-decided me h msg_no (Elected key c) key (leader me h key) (makes_leader me key h (Take 0 (Elected key c))) refl refl refl)
+    ∙ ap (option_map Decided) (shown-decided me h msg_no (Elected key c) key (leader me h key) (makes_leader me key h (Take 0 (Elected key c))) refl refl refl))
 
-decided-sends : (me : ℕ) (h : List Input) (x : Input) → told_by (emit me h x) ≡ decided me h x
-unfolding emit decided
-decided-sends me h (Stand key bid) = sym (none-decided me h key bid)
-decided-sends me h (Take msg_no msg) = told me h msg_no msg (emit me h (Take msg_no msg)) refl
-decided-sends me h (Acked upto) = refl
+told-sent : (me : ℕ) (h : List Input) (x : Input) → told_by (emit me h x) ≡ told me h x
+unfolding emit told
+told-sent me h (Stand key bid) = refl
+told-sent me h (Take msg_no msg) = take_tells me h msg_no msg (emit me h (Take msg_no msg)) refl
+told-sent me h (Acked upto) = refl
 
 pub carries : (core : CoreView) (h : List Input) (x : Input) → CoreStandsFor core h → (brought core.me core.known x).carry ≡ carry core.me h x
 unfolding carry
 carries core h x s = ap (λ (k : Summary). (brought core.me k x).carry) s.knows ∙ ap (option_map (Carry (length (sent core.me h)))) (sends-known core.me h x)
 
-pub decides : (core : CoreView) (h : List Input) (x : Input) → CoreStandsFor core h → (brought core.me core.known x).decided ≡ decided core.me h x
-decides core h x s = ap (λ (k : Summary). (brought core.me k x).decided) s.knows ∙ (ap told_by (sends-known core.me h x) ∙ decided-sends core.me h x)
+pub tells : (core : CoreView) (h : List Input) (x : Input) → CoreStandsFor core h → (brought core.me core.known x).notice ≡ told core.me h x
+tells core h x s = ap (λ (k : Summary). (brought core.me k x).notice) s.knows ∙ (ap told_by (sends-known core.me h x) ∙ told-sent core.me h x)
 
 -- ---- the next history
 

@@ -35,7 +35,7 @@ bare_len key = 6 + length key.group
 -- brings this: a key is named first, it has a bid, its leader becomes known.
 abbrev pub grown : ℕ → ℕ → Input → Effects → ℕ
 grown before after (Stand key bid) effects = bare_len key + 4
-grown before after (Take msg_no msg) effects = (if nat_lt before after then bare_len (key_of msg) else 0) + (if is_some effects.decided then 5 else 0)
+grown before after (Take msg_no msg) effects = (if nat_lt before after then bare_len (key_of msg) else 0) + (if is_some effects.notice then 5 else 0)
 grown before after (Acked upto) effects = 0
 
 -- the bytes of the messages that the input takes out of the window

@@ -44,10 +44,10 @@ fn named(before: usize, after: usize, key: &Key) -> u32
 
 // Those of a leader that becomes known.
 fn led(effects: &Effects) -> u32
-    ensures value { result ≡ (if is_some effects.now.decided then 5 else 0) }
+    ensures value { result ≡ (if is_some effects.now.notice then 5 else 0) }
     ensures range { result ≤ 5 }
 {
-    if effects.decided.is_some() { 5 } else { 0 }
+    if effects.notice.is_some() { 5 } else { 0 }
 }
 
 /// The bytes of the messages that the input takes out of the window, where nothing is said against it.

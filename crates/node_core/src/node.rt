@@ -6,7 +6,7 @@ ghost use Rattle.ring_records.specs.Admission.{newest, snapshot_len};
 ghost use Rattle.ring_records.specs.Emission.{sent, carry};
 ghost use Rattle.ring_records.specs.History.{taken, credit, stands};
 ghost use Rattle.ring_records.specs.Known.{stepped, known_of, leader_of, leads_in};
-ghost use Rattle.ring_records.specs.Leader.{IsLatest, leader, latest, decided};
+ghost use Rattle.ring_records.specs.Leader.{IsLatest, leader, latest, told};
 ghost use Rattle.ring_records.specs.Member.{used_by, refusal_by};
 ghost use Rattle.ring_records.specs.Snapshot.{IsSound};
 ghost use Rattle.ring_records.specs.Summary as summed;
@@ -149,7 +149,7 @@ impl NodeCore {
         ensures ring { self.new.size ≡ self.old.size }
         ensures capacity { self.new.capacity ≡ self.old.capacity }
         ensures carry { IfOk result (λ effects. (h : List Input) → CoreStandsFor self.old h → effects.carry ≡ carry self.old.me h input) }
-        ensures decided { IfOk result (λ effects. (h : List Input) → CoreStandsFor self.old h → effects.decided ≡ decided self.old.me h input) }
+        ensures told { IfOk result (λ effects. (h : List Input) → CoreStandsFor self.old h → effects.notice ≡ told self.old.me h input) }
         ensures stands { OnOk result ((h : List Input) → CoreStandsFor self.old h → CoreStandsFor self.new (h ++ input ∷ [])) }
         ensures err { OnErr result (self.new ≡ self.old) }
     {

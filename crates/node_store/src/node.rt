@@ -4,7 +4,7 @@ ghost use Rattle.ring_records.specs.declared.input.Input.{Input};
 ghost use Rattle.ring_records.specs.Admission.{newest, used};
 ghost use Rattle.ring_records.specs.Answer.{Answered};
 ghost use Rattle.ring_records.specs.Member.{member};
-ghost use Rattle.ring_records.specs.Release.{packets, decisions};
+ghost use Rattle.ring_records.specs.Release.{packets, notices};
 ghost use Rattle.ring_records.specs.Snapshot.{IsSound};
 ghost use Rattle.ring_records.specs.States.{NodeState, IsNodeState, IsLawfulState, durable_in, flying_in, left_by};
 ghost use Rattle.ring_records.specs.Summary.{empty};
@@ -255,8 +255,8 @@ impl<D: Device> Node<D> {
         ensures count { IfOk result (λ l. l.count ≡ (launched (desk_of self.old).view).state.flying - (state_of self.old).durable) }
         ensures packets { IfOk result (λ l. (past : List Input) → IsPast (member_of self.old) (desk_of self.old).opening past
             → l.packets.items ≡ packets (member_of self.old).node (durable_in (seen past (desk_of self.old)).state) (flying_in (launched (seen past (desk_of self.old))).state)) }
-        ensures decisions { IfOk result (λ l. (past : List Input) → IsPast (member_of self.old) (desk_of self.old).opening past
-            → l.decisions.items ≡ decisions (member_of self.old).node (durable_in (seen past (desk_of self.old)).state) (flying_in (launched (seen past (desk_of self.old))).state)) }
+        ensures notices { IfOk result (λ l. (past : List Input) → IsPast (member_of self.old) (desk_of self.old).opening past
+            → l.notices.items ≡ notices (member_of self.old).node (durable_in (seen past (desk_of self.old)).state) (flying_in (launched (seen past (desk_of self.old))).state)) }
         ensures durable { OnOk result (AllReadAs (member_of self.old) (D.disk (device_of self.new)) (durable_held (desk_of self.new))) }
         ensures works { OnOk result ((desk_of self.old).view.failed ≡ false) }
 
@@ -281,7 +281,7 @@ impl<D: Device> Node<D> {
                 count: 0,
                 is_checkpoint: false,
                 packets: Vec::new(self.alloc),
-                decisions: Vec::new(self.alloc),
+                notices: Vec::new(self.alloc),
             }),
             Ok(Some(batch)) => match settle(&mut self.desk, &mut self.journal, Work::Batch(batch)) {
                 Ok(landed) => Ok(landed),

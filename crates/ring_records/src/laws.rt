@@ -23,6 +23,7 @@ ghost use Rattle.ring_records.specs.Lists.{or_else, EachAfter};
 ghost use Rattle.ring_records.specs.Member.{Member};
 ghost use Rattle.ring_records.specs.Notices.{decided_all, named_by, floor_in, leader_in, leads_in, IsNotBelow};
 ghost use Rattle.ring_records.specs.Record.{AreBytes, HasRecord, BeginsWith, record_of, record_read};
+ghost use Rattle.ring_records.specs.Release as release;
 ghost use Rattle.ring_records.specs.Release.{packets, decisions, window, AreLeaders};
 ghost use Rattle.ring_records.specs.Ring.{IsLegal, part};
 ghost use Rattle.ring_records.specs.Snapshot.{snapshot_of, IsSound, Spells, has_stood};
@@ -85,7 +86,7 @@ pub fn leaders_listed()
 /// The content of a list of notices. A decision names the leader of its key, unless the key is retired or has one. A floor
 /// that is told counts exactly where it is above the floor of its group and at most the term of its latest leader. However
 /// the list goes on, a leader changes only where its key is retired, and the latest leader of a group never goes down. The
-/// decisions of a history, in order of key, name the leaders that it knows.
+/// decisions of a history, in order of key, name the leaders that it knows. What inputs tell is what they decide.
 pub fn notices()
     ensures decided { (ns : List Notice) (d : Decision) (key : Key) → leader_in (ns ++ Notice.Decided d ∷ []) key ≡ (if nat_lt key.term (floor_in ns key.group) then None else or_else (leader_in ns key) (named_by key (Notice.Decided d))) }
     ensures retired { (ns : List Notice) (group : List ℕ) (f : ℕ) (o : Option (ℕ × Candidate)) → IsLatest (leads_in ns group) o
@@ -93,6 +94,7 @@ pub fn notices()
     ensures stays { (ns more : List Notice) (key : Key) (c : Candidate) → leader_in ns key ≡ Some c → (leader_in (ns ++ more) key ≡ Some c) ⊎ (key.term < floor_in (ns ++ more) key.group) }
     ensures never_down { (ns more : List Notice) (group : List ℕ) (a b : Option (ℕ × Candidate)) → IsLatest (leads_in ns group) a → IsLatest (leads_in (ns ++ more) group) b → IsNotBelow a b }
     ensures leaders { (me : ℕ) (h : List Input) (list : List Decision) (key : Key) → AreLeaders me h list → leader_in (decided_all list) key ≡ leader me h key }
+    ensures told { (me : ℕ) (h l : List Input) → release.notices me h l ≡ decided_all (decisions me h l) }
 {}
 
 /// An input is admitted exactly where no cause to refuse it is found, and the history alone allows it exactly where

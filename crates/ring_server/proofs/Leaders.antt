@@ -2,9 +2,12 @@
 use Rattle.std.proofs.Common.{ℕ, zero, suc, ◌≡◌, ◌<◌, ◌≤◌, ◌+◌, ◌-◌, ◌⊎◌, List, Some, inl, inr, refl, sym, ◌∙◌, ap, subst, arith}
 use Rattle.ring_records.specs.declared.decision.Decision.{Decision}
 use Rattle.ring_records.specs.declared.input.Input.{Input}
+use Rattle.ring_records.specs.declared.notice.Notice.{Notice}
 use Rattle.ring_records.specs.Fitting.{LeadersFit}
 use Rattle.ring_records.specs.Leader.{leader}
+use Rattle.ring_records.specs.Notices.{decided_all}
 use Rattle.ring_records.specs.Release.{AreLeaders}
+use Rattle.ring_records.proofs.DecisionNotices.{told-among, among-told}
 use Rattle.ring_server.specs.Fits.{Agrees, Differs, IsApart}
 
 -- The list has the leaders that node j knows by its history. Node, history and list go by other names.
@@ -12,15 +15,15 @@ pub AreLeaders-along : (me j : ℕ) (own other : List Input) (list : List Decisi
 AreLeaders-along me j own other list e f known = subst (λ (k : ℕ). AreLeaders k other list) e (subst (λ (h : List Input). AreLeaders me h list) f known)
 
 -- what is said of a node's leaders, where node and history go by other names
-pub Agrees-along : (i j : ℕ) (own other : List Input) (list : List Decision) → i ≡ j → own ≡ other → Agrees i own list → Agrees j other list
+pub Agrees-along : (i j : ℕ) (own other : List Input) (list : List Notice) → i ≡ j → own ≡ other → Agrees i own list → Agrees j other list
 Agrees-along i j own other list e f agrees = subst (λ (k : ℕ). Agrees k other list) e (subst (λ (h : List Input). Agrees i h list) f agrees)
 
-pub Differs-along : (i j : ℕ) (own other : List Input) (list : List Decision) → i ≡ j → own ≡ other → Differs i own list → Differs j other list
+pub Differs-along : (i j : ℕ) (own other : List Input) (list : List Notice) → i ≡ j → own ≡ other → Differs i own list → Differs j other list
 Differs-along i j own other list e f differs = subst (λ (k : ℕ). Differs k other list) e (subst (λ (h : List Input). Differs i h list) f differs)
 
-module _ (i j : ℕ) (h : ℕ → List Input) (list told : List Decision) (same : told ≡ list) (known : AreLeaders j (h j) list) where
+module _ (i j : ℕ) (h : ℕ → List Input) (list : List Decision) (told : List Notice) (same : told ≡ decided_all list) (known : AreLeaders j (h j) list) where
   pub fit : Agrees i (h i) told → LeadersFit i j (h i) (h j)
-  fit agrees key c d here there = subst (Agrees i (h i)) same agrees (record { key = key; leader = d }) c (known.all key d there) here
+  fit agrees key c d here there = subst (Agrees i (h i)) same agrees (record { key = key; leader = d }) c (told-among list (record { key = key; leader = d }) (known.all key d there)) here
 
   pub apart : (n m : ℕ) → j ≡ m → (1 ≤ i) × (i ≤ n) → (1 ≤ j) × (j ≤ n) → Differs i (h i) told → IsApart n h i m
   apart n m number one other found =
@@ -33,7 +36,7 @@ module _ (i j : ℕ) (h : ℕ → List Input) (list told : List Decision) (same 
           one = differs.other;
           two = differs.told.leader;
           here = differs.known;
-          there = known.each differs.told differs.among;
+          there = known.each differs.told (among-told list differs.told differs.among);
           differ = differs.differ;
         });
       })

@@ -6,6 +6,8 @@ use Rattle.ring_records.specs.declared.candidate.Candidate.{Candidate}
 use Rattle.ring_records.specs.declared.decision.Decision.{Decision}
 use Rattle.ring_records.specs.declared.input.Input.{Input}
 use Rattle.ring_records.specs.declared.key.Key.{Key}
+use Rattle.ring_records.specs.declared.notice.Notice.{Notice}
+use Rattle.ring_records.specs.declared.notice.Notice.TheVariants.{Decided}
 use Rattle.ring_records.specs.Fitting.{LinkFits, RingFits}
 use Rattle.ring_records.specs.Leader.{leader}
 use Rattle.ring_records.specs.Place.{after}
@@ -59,17 +61,17 @@ module _ {A : Type 0} (desk_in : A → DeskKept) where
   abbrev pub Fits : ℕ → List A → Type 0
   Fits n ring = (pasts : ℕ → List Input) → ArePasts pasts ring → RingFits n (history pasts ring)
 
--- ---- leaders beside decisions
+-- ---- leaders beside what is told
 
--- node i knows no leader for a key of these decisions but the one that they tell
-abbrev pub Agrees : ℕ → List Input → List Decision → Type 0
-Agrees i h list = (told : Decision) (c : Candidate) → Contains list told → leader i h told.key ≡ Some c → c ≡ told.leader
+-- node i knows no leader for the key of a decision among these notices but the one that it tells
+abbrev pub Agrees : ℕ → List Input → List Notice → Type 0
+Agrees i h list = (told : Decision) (c : Candidate) → Contains list (Decided told) → leader i h told.key ≡ Some c → c ≡ told.leader
 
 -- node i knows another leader than one of these decisions tells for its key
-pub record Differs (i : ℕ) (h : List Input) (list : List Decision) : Type 0 where
+pub record Differs (i : ℕ) (h : List Input) (list : List Notice) : Type 0 where
   pub told : Decision
   pub other : Candidate
-  pub among : Contains list told
+  pub among : Contains list (Decided told)
   pub known : leader i h told.key ≡ Some other
   pub differ : other ≢ told.leader
 

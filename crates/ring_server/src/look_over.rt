@@ -12,7 +12,7 @@ use crate::found::Found;
 use crate::run_fault::RunFault;
 use disk_model::Device;
 use group_commit::Desk;
-use ring_records::{Decision, NodeNo};
+use ring_records::{NodeNo, Notice};
 use std::alloc::AllocError;
 
 /// Refused with the first two nodes that do not fit, where two do not: a link, of which the node behind it took more
@@ -59,40 +59,42 @@ fn look_at_leaders<V: Device>(ring: &[Found<V>]) -> Result<(), RunFault>
     ensures apart { IfErr result (λ fault. (pasts : ℕ → List Input) → ArePasts found_as pasts ring.now → IsCause (length ring.now) (history found_as pasts ring.now) fault) }
 {
     for place in 0..ring.len() {
-        let Ok(decisions) = desk_at(ring, place).decisions() else {
+        let Ok(told) = desk_at(ring, place).decisions() else {
             return Err(RunFault::Memory(AllocError));
         };
-        if let Some(other) = differing(ring, place, &decisions) {
+        if let Some(other) = differing(ring, place, &told) {
             return Err(RunFault::Apart(other, number_at(ring, place)));
         }
     }
     Ok(())
 }
 
-/// The first node before a place that knows another leader for the key of a decision.
-fn differing<V: Device>(ring: &[Found<V>], place: usize, decisions: &[Decision]) -> Option<NodeNo>
+/// The first node before a place that knows another leader for the key of a decision that is told.
+fn differing<V: Device>(ring: &[Found<V>], place: usize, told: &[Notice]) -> Option<NodeNo>
     requires order { IsInOrder found_as ring.now }
     requires inside { place ≤ length ring.now }
-    ensures none { IfNone result ((pasts : ℕ → List Input) → ArePasts found_as pasts ring.now → (i : ℕ) → 1 ≤ i → i ≤ place → Agrees i (history found_as pasts ring.now i) decisions.now) }
-    ensures some { IfSome result (λ i. (1 ≤ i) × (i ≤ place) × ((pasts : ℕ → List Input) → ArePasts found_as pasts ring.now → Differs i (history found_as pasts ring.now i) decisions.now)) }
+    ensures none { IfNone result ((pasts : ℕ → List Input) → ArePasts found_as pasts ring.now → (i : ℕ) → 1 ≤ i → i ≤ place → Agrees i (history found_as pasts ring.now i) told.now) }
+    ensures some { IfSome result (λ i. (1 ≤ i) × (i ≤ place) × ((pasts : ℕ → List Input) → ArePasts found_as pasts ring.now → Differs i (history found_as pasts ring.now i) told.now)) }
 {
     for before in 0..place {
-        if !agrees(desk_at(ring, before), decisions) {
+        if !agrees(desk_at(ring, before), told) {
             return Some(number_at(ring, before));
         }
     }
     None
 }
 
-/// Whether the node knows no other leader for the key of a decision.
-fn agrees(desk: &Desk, decisions: &[Decision]) -> bool
-    ensures yes { IsTrue result → (past : List Input) → IsPast desk.now.view.member desk.now.opening past → Agrees desk.now.view.member.node (past ++ desk.now.view.state.inputs) decisions.now }
-    ensures no { result ≡ false → (past : List Input) → IsPast desk.now.view.member desk.now.opening past → Differs desk.now.view.member.node (past ++ desk.now.view.state.inputs) decisions.now }
+/// Whether the node knows no other leader for the key of a decision that is told.
+fn agrees(desk: &Desk, told: &[Notice]) -> bool
+    ensures yes { IsTrue result → (past : List Input) → IsPast desk.now.view.member desk.now.opening past → Agrees desk.now.view.member.node (past ++ desk.now.view.state.inputs) told.now }
+    ensures no { result ≡ false → (past : List Input) → IsPast desk.now.view.member desk.now.opening past → Differs desk.now.view.member.node (past ++ desk.now.view.state.inputs) told.now }
 {
-    for decision in decisions {
-        if let Some(leader) = desk.who(&decision.key) {
-            if leader != decision.leader {
-                return false;
+    for notice in told {
+        if let Notice::Decided(decision) = notice {
+            if let Some(leader) = desk.who(&decision.key) {
+                if leader != decision.leader {
+                    return false;
+                }
             }
         }
     }

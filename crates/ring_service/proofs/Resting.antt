@@ -8,12 +8,15 @@ use Rattle.disk_model.specs.Disk.{Disk, MayLeave, LeavesOnly}
 use Rattle.disk_model.proofs.Moments.{weaken}
 use Rattle.ring_records.specs.declared.decision.Decision.{Decision}
 use Rattle.ring_records.specs.declared.input.Input.{Input}
+use Rattle.ring_records.specs.declared.notice.Notice.{Notice}
+use Rattle.ring_records.specs.declared.notice.Notice.TheVariants.{Decided}
 use Rattle.ring_records.specs.declared.summary.Summary.{Summary}
 use Rattle.ring_records.specs.Leader.{decided, leader}
 use Rattle.ring_records.specs.Lists.{found_after}
 use Rattle.ring_records.specs.Member.{Member}
 use Rattle.ring_records.specs.Release.{decisions}
 use Rattle.ring_records.specs.States.{NodeState, durable_in, flown_in, left_by}
+use Rattle.ring_records.proofs.DecisionNotices.{among-told, notices-decided}
 use Rattle.ring_records.proofs.Decisions.{decided-leads}
 use Rattle.ring_records.proofs.Growth.{EachAfter-front, leader-kept}
 use Rattle.ring_records.proofs.Lists.{found_after-append}
@@ -75,11 +78,11 @@ rests m past since round s image brought left begins = record {
   left = left;
   begins = begins;
   packets = brought.packets;
-  decisions = brought.decisions;
+  notices = brought.notices;
   leaders = λ keep d has.
       let first = begins keep in
       subst (λ (l : List Input). leader m.node l d.key ≡ Some d.leader) first.1
-      (found_leads m.node (past ++ since) round.inputs first.0 d (subst (λ (ds : List Decision). Contains ds d) brought.decisions has));
+      (found_leads m.node (past ++ since) round.inputs first.0 d (among-told (decisions m.node (past ++ since) round.inputs) d (subst (λ (ns : List Notice). Contains ns (Decided d)) (brought.notices ∙ notices-decided m.node (past ++ since) round.inputs) has)));
 }
 
 module _ {V : Type 0} (disk : V → Disk) (clock : V → ℕ) (left_since : V → ℕ → List ℕ → Type 0) (m : Member) (opening : Summary) where

@@ -5,12 +5,13 @@ use mathlib.Core.List.{IsPrefix}
 use Rattle.disk_model.specs.Disk.{Disk, LeavesOnly}
 use Rattle.ring_records.specs.declared.decision.Decision.{Decision}
 use Rattle.ring_records.specs.declared.input.Input.{Input}
+use Rattle.ring_records.specs.declared.notice.Notice.TheVariants.{Decided}
 use Rattle.ring_records.specs.declared.summary.Summary.{Summary}
 use Rattle.ring_records.specs.Known.{after}
 use Rattle.ring_records.specs.Leader.{leader}
 use Rattle.ring_records.specs.Lists.{EachAfter}
 use Rattle.ring_records.specs.Member.{Member}
-use Rattle.ring_records.specs.Release.{packets, decisions}
+use Rattle.ring_records.specs.Release.{packets, notices}
 use Rattle.ring_records.specs.States.{NodeState, IsNodeState, left_by}
 use Rattle.gated_journal.specs.Areas.{AllReadAs}
 use Rattle.gated_journal.specs.Reading.{Reading}
@@ -116,8 +117,8 @@ pub record RestsOnBehind {V : Type 0} (member : Member) (past since : List Input
   pub left : IsLeft member state image
   pub begins : (keep : Bool) → IsPrefix ((past ++ since) ++ round.inputs) (left_by keep state).inputs
   pub packets : round.landed.packets.items ≡ packets member.node (past ++ since) round.inputs
-  pub decisions : round.landed.decisions.items ≡ decisions member.node (past ++ since) round.inputs
-  pub leaders : (keep : Bool) (d : Decision) → Contains round.landed.decisions.items d → leader member.node (left_by keep state).inputs d.key ≡ Some d.leader
+  pub notices : round.landed.notices.items ≡ notices member.node (past ++ since) round.inputs
+  pub leaders : (keep : Bool) (d : Decision) → Contains round.landed.notices.items (Decided d) → leader member.node (left_by keep state).inputs d.key ≡ Some d.leader
 
 -- so it is whatever past of the node the opening is of
 abbrev pub RestsOn : {V : Type 0} → Member → Summary → Durable → Round V → List ℕ → Type 0

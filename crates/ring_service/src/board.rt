@@ -10,7 +10,6 @@ ghost use Rattle.group_commit.specs.Desk.{seen};
 ghost use Rattle.group_commit.specs.Past.{IsPast};
 ghost use Rattle.decision_board.specs.Boards.{published, pending};
 
-use crate::notices::notices_of;
 use decision_board::{Board, Naming, Opened};
 use group_commit::Desk;
 use ring_records::Refusal;
@@ -32,10 +31,7 @@ pub fn opened_board<J: Naming>(
     ensures refusal { IfErr result (λ why. why ≡ Refusal.OutOfMemory) }
 {
     match desk.decisions() {
-        Ok(decisions) => match notices_of(alloc, &decisions) {
-            Ok(notices) => Board::new(alloc, opened, &notices, readers),
-            Err(_) => Err(Refusal::OutOfMemory),
-        },
+        Ok(notices) => Board::new(alloc, opened, &notices, readers),
         Err(_) => Err(Refusal::OutOfMemory),
     }
 }

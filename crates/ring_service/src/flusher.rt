@@ -1,7 +1,6 @@
 //! The flusher's end of a hub.
 ghost use Rattle.std.specs.Prelude.{◌≡◌, ◌+◌, ◌-◌, ◌<◌, ◌≤◌, ◌⊎◌, ◌++◌, [], true, false, is_err, is_some, length, IfOk, IfErr, IfSome, IfNone, IsErrOf, OnErr, OnOk};
 ghost use mathlib.Core.List.{IsPrefix};
-ghost use Rattle.ring_records.specs.Notices.{decided_all};
 ghost use Rattle.disk_model.specs.Disk.{LeavesOnly, Reaches};
 ghost use Rattle.gated_journal.specs.Areas.{AllReadAs, ReadsAsOneOf};
 ghost use Rattle.gated_journal.specs.Batch.{landed, lost};
@@ -18,7 +17,6 @@ ghost use Rattle.ring_service.specs.Rounds.{IsRound, IsStopped, IsIdle, IsSpent,
 ghost use Rattle.ring_service.specs.Props.{HasKnown-prop};
 
 use crate::gate::Gate;
-use crate::notices::owe;
 use commit_hub::{Hub, Node, Tie, Work};
 use decision_board::{Board, Naming};
 use disk_model::Device;
@@ -29,8 +27,8 @@ use std::alloc::Global;
 use std::collections::VecDeque;
 use std::sync::Wait;
 
-/// The journal and the tie of a hub's node, the board that is told of its decisions, and the notices that the board could
-/// not take yet.
+/// The journal and the tie of a hub's node, the board that is told its notices, and those that the board could not take
+/// yet.
 pub struct Flusher<V: Device, J: Naming, A: Node> {
     journal: Journal<V>,
     tie: Tie<A>,
@@ -88,7 +86,7 @@ impl<V: Device, J: Naming, A: Node> Flusher<V, J, A> {
     ) -> Result<Option<Landed>, Refusal>
         ensures round { IfOk result (λ some. IfSome some (λ landed. IsRound V.disk V.clock V.left_since A.member A.opening (device_in self.old) (device_in self.new)
             (known_to self.old) (known_to self.new) landed)) }
-        ensures told { IfOk result (λ some. IfSome some (λ landed. told_to self.new ≡ told_to self.old ++ decided_all landed.decisions.items)) }
+        ensures told { IfOk result (λ some. IfSome some (λ landed. told_to self.new ≡ told_to self.old ++ landed.notices.items)) }
         ensures published { IsPrefix (published (board_of self.old)) (published (board_of self.new)) }
         ensures pending { is_published self.new ≡ true → pending (board_of self.new) ≡ [] }
         ensures all { IfOk result (λ some. IfSome some (λ _. LackedMemory (board_of self.old) (board_of self.new)
@@ -141,8 +139,7 @@ impl<V: Device, J: Naming, A: Node> Flusher<V, J, A> {
                         Err(refusal)
                     }
                     Ok(landed) => {
-                        owe(owed, &landed.decisions);
-                        *is_published = board.publish_owed(rt, owed, &[]).is_ok();
+                        *is_published = board.publish_owed(rt, owed, &landed.notices).is_ok();
                         Ok(Some(landed))
                     }
                 }
@@ -201,7 +198,7 @@ fn settle<V: Device, A: Node, R: Wait>(
     ensures count { IfOk result (λ landed. landed.count ≡ length (flown_by work).inputs) }
     ensures kind { IfOk result (λ landed. landed.is_checkpoint ≡ is_some (summary_by work)) }
     ensures brought { IfOk result (λ landed. IsBrought A.member A.opening (known_by tie.old).inputs (flown_by work).inputs landed) }
-    ensures few { IfOk result (λ landed. length landed.decisions.items ≤ length (flown_by work).inputs) }
+    ensures few { IfOk result (λ landed. length landed.notices.items ≤ length (flown_by work).inputs) }
     ensures durable { OnOk result ((r : Reading) → AllReadAs A.member (V.disk (device_of journal.old)) r
         → AllReadAs A.member (V.disk (device_of journal.new)) (reading_after (journal_epoch journal.old) (summary_by work) (flown_by work).inputs r)) }
     ensures ready { OnOk result (is_spoiled journal.new ≡ false) }

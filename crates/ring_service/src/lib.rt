@@ -7,7 +7,6 @@ mod board;
 mod flusher;
 mod gate;
 pub mod laws;
-mod notices;
 mod service;
 mod settings;
 mod start_fault;

@@ -98,7 +98,7 @@ pub fn rounds<V: Device, J: Naming, A: Node, R: Wait + Abort, G: Gate>(
         landed = flusher.flush_round(rt, hub, gate);
     }
     match landed {
-        Ok(Some(landed)) => (landed.count, landed.decisions.len()),
+        Ok(Some(landed)) => (landed.count, landed.notices.len()),
         Ok(None) => panic!(rt; "nothing waits"),
         Err(refusal) => panic!(rt; "{refusal}"),
     }

@@ -159,8 +159,8 @@ fn launches_none(rt: &impl Abort, desk: &mut Desk, no: Option<No>) {
 
 /// The desk has these decisions, in this order.
 fn decides(rt: &impl Abort, desk: &Desk, leads: &[Leads]) {
-    let decisions = desk.decisions().expect(rt, "ample memory");
-    leads_are(rt, &decisions, leads);
+    let told = desk.decisions().expect(rt, "ample memory");
+    leads_are(rt, &told, leads);
 }
 
 /// For the key of the Stand the desk knows this leader, of this bid and node, or none.
@@ -393,6 +393,6 @@ impl Station {
     fn lands(&mut self, rt: &impl Abort, count: u64, sends: &[Sends], leads: &[Leads]) {
         let landed = self.landed(rt, count);
         sends_are(rt, &landed.packets, sends);
-        leads_are(rt, &landed.decisions, leads);
+        leads_are(rt, &landed.notices, leads);
     }
 }

@@ -1,5 +1,5 @@
 // What desks and nodes are given and give, in plain numbers. All numbers and names of rows are in their ranges.
-use ring_records::{Decision, Input, NodeNo, Packet, Refusal, Reply, Request};
+use ring_records::{Decision, Input, NodeNo, Notice, Packet, Refusal, Reply, Request};
 use std::alloc::Global;
 use std::process::Abort;
 use test_rows::{Ask, Op, Say, Sends, candidate, key};
@@ -64,13 +64,13 @@ pub fn sends_are(rt: &impl Abort, packets: &[Packet], sends: &[Sends]) {
 /// That a candidate leads: the group and the term, and the bid and the node of the candidate.
 pub type Leads = (&'static str, u32, u32, u8);
 
-/// The decisions are these, in this order.
-pub fn leads_are(rt: &impl Abort, decisions: &[Decision], leads: &[Leads]) {
-    assert_eq!(rt; decisions.len(), leads.len());
+/// The notices tell these decisions, in this order, and nothing else.
+pub fn leads_are(rt: &impl Abort, notices: &[Notice], leads: &[Leads]) {
+    assert_eq!(rt; notices.len(), leads.len());
     for (place, (group, term, bid, node)) in leads.iter().enumerate() {
         let key = key(group, *term).expect(rt, "a key");
         let leader = candidate(*bid, *node).expect(rt, "a candidate");
-        let decision = Decision { key, leader };
-        assert_eq!(rt; decisions.get(place).copied(), Some(decision), "{place}");
+        let notice = Notice::Decided(Decision { key, leader });
+        assert_eq!(rt; notices.get(place).copied(), Some(notice), "{place}");
     }
 }

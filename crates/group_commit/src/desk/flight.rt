@@ -2,7 +2,7 @@
 ghost use Rattle.std.specs.Prelude.{◌≡◌, ◌+◌, ◌-◌, ◌*◌, ◌<◌, ◌≤◌, ◌⊎◌, List, true, false, Some, None, length, nat_lt, nat_le, IfSome, MatchOption, IfOk, IfErr, OnOk, OnErr};
 ghost use Rattle.ring_records.specs.declared.input.Input.{Input};
 ghost use Rattle.ring_records.specs.Admission.{epochs, used};
-ghost use Rattle.ring_records.specs.Release.{packets, decisions};
+ghost use Rattle.ring_records.specs.Release.{packets, notices};
 ghost use Rattle.ring_records.specs.Snapshot.{IsSound, snapshot_len};
 ghost use Rattle.ring_records.specs.States as states;
 ghost use Rattle.ring_records.specs.States.{launched_base, durable_in, flown_in, flying_in};
@@ -108,12 +108,12 @@ impl Desk {
         ensures works { OnOk result (self.old.view.failed ≡ false) }
         ensures count { IfOk result (λ landed. landed.count ≡ self.old.view.state.flying - self.old.view.state.durable) }
         ensures kind { IfOk result (λ landed. landed.is_checkpoint ≡ is_checkpoint (receipted receipt)) }
-        ensures few { IfOk result (λ landed. length landed.decisions.items ≤ landed.count) }
+        ensures few { IfOk result (λ landed. length landed.notices.items ≤ landed.count) }
         ensures fits { OnOk result (used self.new.view.state.base (durable_in self.new.view.state) ≤ self.new.view.member.capacity) }
         ensures packets { IfOk result (λ landed. (past : List Input) → IsPast self.old.view.member self.old.opening past
             → landed.packets.items ≡ packets self.old.view.member.node (durable_in (seen past self.old).state) (flying_in (seen past self.old).state)) }
-        ensures decisions { IfOk result (λ landed. (past : List Input) → IsPast self.old.view.member self.old.opening past
-            → landed.decisions.items ≡ decisions self.old.view.member.node (durable_in (seen past self.old).state) (flying_in (seen past self.old).state)) }
+        ensures notices { IfOk result (λ landed. (past : List Input) → IsPast self.old.view.member self.old.opening past
+            → landed.notices.items ≡ notices self.old.view.member.node (durable_in (seen past self.old).state) (flying_in (seen past self.old).state)) }
         ensures next { OnOk result (self.new ≡ record self.old { view = landed self.old.view }) }
         ensures foreign { IfErr result (λ e. (e.1 ≡ Refusal.Foreign) × (IsFlying self.old (receipted receipt) → self.old.view.failed ≡ false → ⊥)) }
         ensures back { IfErr result (λ e. receipted e.0 ≡ receipted receipt) }

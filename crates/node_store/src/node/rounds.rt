@@ -2,7 +2,7 @@
 ghost use Rattle.std.specs.Prelude.{◌≡◌, ◌-◌, List, true, false, IfOk, IfErr, IsOk, OnOk, OnErr};
 ghost use Rattle.disk_model.specs.Disk.{HasCause, LeavesOnly, Reaches};
 ghost use Rattle.ring_records.specs.declared.input.Input.{Input};
-ghost use Rattle.ring_records.specs.Release.{packets, decisions};
+ghost use Rattle.ring_records.specs.Release.{packets, notices};
 ghost use Rattle.ring_records.specs.States.{durable_in, flying_in};
 ghost use Rattle.gated_journal.specs.Areas.{AllReadAs};
 ghost use Rattle.gated_journal.specs.Batch.{landed as receipted, lost};
@@ -30,8 +30,8 @@ pub(crate) fn settle<D: Device>(
     ensures count { IfOk result (λ l. l.count ≡ desk.old.view.state.flying - desk.old.view.state.durable) }
     ensures packets { IfOk result (λ l. (past : List Input) → IsPast desk.old.view.member desk.old.opening past
         → l.packets.items ≡ packets desk.old.view.member.node (durable_in (seen past desk.old).state) (flying_in (seen past desk.old).state)) }
-    ensures decisions { IfOk result (λ l. (past : List Input) → IsPast desk.old.view.member desk.old.opening past
-        → l.decisions.items ≡ decisions desk.old.view.member.node (durable_in (seen past desk.old).state) (flying_in (seen past desk.old).state)) }
+    ensures notices { IfOk result (λ l. (past : List Input) → IsPast desk.old.view.member desk.old.opening past
+        → l.notices.items ≡ notices desk.old.view.member.node (durable_in (seen past desk.old).state) (flying_in (seen past desk.old).state)) }
     ensures durable { OnOk result (AllReadAs desk.old.view.member (D.disk (device_of journal.new)) (flown_held desk.old)) }
     ensures failed { OnErr result (desk.new ≡ record desk.old { view = record desk.old.view { failed = true } }) }
     ensures failures { IfErr result (λ failures. failures ≡ D.count (device_of journal.new)) }
@@ -56,8 +56,8 @@ fn land(desk: &mut Desk, receipt: Receipt) -> Landed
     ensures count { result.count ≡ desk.old.view.state.flying - desk.old.view.state.durable }
     ensures packets { (past : List Input) → IsPast desk.old.view.member desk.old.opening past
         → result.packets.items ≡ packets desk.old.view.member.node (durable_in (seen past desk.old).state) (flying_in (seen past desk.old).state) }
-    ensures decisions { (past : List Input) → IsPast desk.old.view.member desk.old.opening past
-        → result.decisions.items ≡ decisions desk.old.view.member.node (durable_in (seen past desk.old).state) (flying_in (seen past desk.old).state) }
+    ensures notices { (past : List Input) → IsPast desk.old.view.member desk.old.opening past
+        → result.notices.items ≡ notices desk.old.view.member.node (durable_in (seen past desk.old).state) (flying_in (seen past desk.old).state) }
     ensures next { desk.new ≡ record desk.old { view = landed desk.old.view } }
 {
     match desk.land(receipt) {

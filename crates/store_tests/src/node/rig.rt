@@ -19,7 +19,7 @@ fn told(made: &Stored) -> (u64, u64, usize, u64) {
 fn landed_are(rt: &impl Abort, landed: &Landed, count: u64, sends: &[Sends], leads: &[Leads]) {
     assert_eq!(rt; landed.count, count);
     sends_are(rt, &landed.packets, sends);
-    leads_are(rt, &landed.decisions, leads);
+    leads_are(rt, &landed.notices, leads);
 }
 
 impl Rig {
@@ -251,8 +251,8 @@ impl Rig {
     }
 
     fn decides(&self, rt: &impl Abort, leads: &[Leads]) {
-        let decisions = self.made.desk().decisions().expect(rt, "ample memory");
-        leads_are(rt, &decisions, leads);
+        let told = self.made.desk().decisions().expect(rt, "ample memory");
+        leads_are(rt, &told, leads);
     }
 
     fn stops<R: Abort + AllocGlobal>(self, rt: &R, tear: Tear) -> Rig {

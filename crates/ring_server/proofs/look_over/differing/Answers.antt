@@ -10,7 +10,7 @@ returns-then-not-agrees-clause-some g c =
     let i = c.loop-before.before + 1 in (
       omega (arith, number),
       omega (arith, number, c.loop-before-test.true, c.requires.inside),
-      λ pasts are. Differs-along _ _ _ _ c.args.decisions.now (own.number ∙ sym number) (ap (λ l. pasts i ++ l) own.inputs ∙ ap (history found_as pasts c.args.ring.now) (sym number))
+      λ pasts are. Differs-along _ _ _ _ c.args.told.now (own.number ∙ sym number) (ap (λ l. pasts i ++ l) own.inputs ∙ ap (history found_as pasts c.args.ring.now) (sym number))
           (c.if-not-agrees.ensures.no refl (pasts i) (own.past pasts are)),
     )
 
@@ -19,10 +19,10 @@ loop-before-preserved g c pasts are =
     let own = c.desk_at.ensures in
     let i = c.loop-before.before + 1 in
     below_more _ _ (c.loop-before.invariant pasts are)
-    (Agrees-along _ i _ (history found_as pasts c.args.ring.now i) c.args.decisions.now own.number (ap (λ l. pasts i ++ l) own.inputs) (c.if-not-agrees.ensures.yes refl (pasts i) (own.past pasts are)))
+    (Agrees-along _ i _ (history found_as pasts c.args.ring.now i) c.args.told.now own.number (ap (λ l. pasts i ++ l) own.inputs) (c.if-not-agrees.ensures.yes refl (pasts i) (own.past pasts are)))
 
 pub returns-clause-none : goal.returns-clause-none
 returns-clause-none g c pasts are i low high =
     let same : i - 1 + 1 ≡ i = omega (arith, low) in
-    subst (λ (n : ℕ). Agrees n (history found_as pasts c.args.ring.now n) c.args.decisions.now) same
+    subst (λ (n : ℕ). Agrees n (history found_as pasts c.args.ring.now n) c.args.told.now) same
     (c.loop-before.invariant pasts are (i - 1) (omega (arith, low, high, c.loop-before-test.false)))

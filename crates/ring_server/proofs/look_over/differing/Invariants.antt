@@ -5,4 +5,4 @@ use Rattle.ring_server.proofs.look_over.differing.Given as goal
 
 -- the nodes before this place agree
 abbrev pub invariant-loop-before : goal.invariant-loop-before
-invariant-loop-before g l = (pasts : ℕ → List Input) → ArePasts found_as pasts l.ring → (k : ℕ) → k < l.before → Agrees (k + 1) (history found_as pasts l.ring (k + 1)) l.decisions
+invariant-loop-before g l = (pasts : ℕ → List Input) → ArePasts found_as pasts l.ring → (k : ℕ) → k < l.before → Agrees (k + 1) (history found_as pasts l.ring (k + 1)) l.told

@@ -1,5 +1,5 @@
 use Rattle.std.proofs.Common.{◌≡◌, ◌+◌, length, sym, ap, ◌∙◌}
-use Rattle.ring_records.specs.Release.{packets, decisions}
+use Rattle.ring_records.specs.Release.{packets, notices}
 use Rattle.ring_records.proofs.Lists.{none≢some}
 use Rattle.gated_journal.specs.Batch.{landed as receipted}
 use Rattle.group_commit.specs.Desk.{DeskKept, landed}
@@ -34,17 +34,17 @@ returns-in-Ok-clause-brought g c =
     let since = ap (λ (d : Durable). d.inputs) (c.follow.ensures.equal ∙ old.held_is) in
     named (λ m opening. IsBrought m opening (known_by c.args.tie.now).inputs (receipted c.args.receipt).inputs c.in-Ok.landed) desk _ _ old.of old.opening
     (brings desk c.land.new.self _ _ c.in-Ok.landed old.counts c.in-Ok.ensures.next c.accepted-accepted.ensures.lawful since
-    c.in-Ok.ensures.flying.inputs c.in-Ok.ensures.packets c.in-Ok.ensures.decisions)
+    c.in-Ok.ensures.flying.inputs c.in-Ok.ensures.packets c.in-Ok.ensures.notices)
 
 pub returns-in-Ok-clause-packets : goal.returns-in-Ok-clause-packets
 returns-in-Ok-clause-packets g c =
     let old = c.args.self.now in
     released packets c.in-Ok.landed.packets.items old.shared.desk _ _ _ old.of old.opening c.in-Ok.ensures.flying.inputs c.in-Ok.ensures.packets
 
-pub returns-in-Ok-clause-decisions : goal.returns-in-Ok-clause-decisions
-returns-in-Ok-clause-decisions g c =
+pub returns-in-Ok-clause-notices : goal.returns-in-Ok-clause-notices
+returns-in-Ok-clause-notices g c =
     let old = c.args.self.now in
-    released decisions c.in-Ok.landed.decisions.items old.shared.desk _ _ _ old.of old.opening c.in-Ok.ensures.flying.inputs c.in-Ok.ensures.decisions
+    released notices c.in-Ok.landed.notices.items old.shared.desk _ _ _ old.of old.opening c.in-Ok.ensures.flying.inputs c.in-Ok.ensures.notices
 
 pub returns-in-Ok-clause-batch : goal.returns-in-Ok-clause-batch
 returns-in-Ok-clause-batch g c =

@@ -3,21 +3,21 @@ use Rattle.std.specs.Option.{option_map}
 use Rattle.std.proofs.lemmas.List.{length-take}
 use Rattle.ring_records.specs.declared.base.Base.{Base}
 use Rattle.ring_records.specs.declared.input.Input.{Input}
-use Rattle.ring_records.specs.declared.decision.Decision.{Decision}
+use Rattle.ring_records.specs.declared.notice.Notice.{Notice}
 use Rattle.ring_records.specs.Admission.{used}
 use Rattle.ring_records.specs.Known.{after}
-use Rattle.ring_records.specs.Release.{packets, decisions}
+use Rattle.ring_records.specs.Release.{packets, notices}
 use Rattle.ring_records.specs.States.{launched_base, durable_in, flown_in, flying_in}
 use Rattle.ring_records.proofs.Counts.{length-filter_map}
 use Rattle.gated_journal.specs.Batch.{kept_in, landed}
 use Rattle.node_core.specs.declared.effects.Effects.{Effects}
 use Rattle.group_commit.specs.Desk.{DeskKept, IsFlying, seen}
-use Rattle.group_commit.specs.Kept.{IsDesk, HoldsFor, area_behind, decisions_since, state_with}
+use Rattle.group_commit.specs.Kept.{IsDesk, HoldsFor, area_behind, notices_since, state_with}
 use Rattle.group_commit.specs.Past.{IsPast}
-use Rattle.group_commit.specs.Outbox.{AreFree, Holds, told}
+use Rattle.group_commit.specs.Outbox.{AreFree, Holds, told_in}
 use Rattle.group_commit.proofs.Checkpoints.{none_pending}
 use Rattle.group_commit.proofs.Inside.{member_in, area_in, state_in}
-use Rattle.group_commit.proofs.Landing.{part, part-length, flies, free, lands, landed_packets, landed_decisions}
+use Rattle.group_commit.proofs.Landing.{part, part-length, flies, free, lands, landed_packets, landed_notices}
 use Rattle.group_commit.proofs.Past.{free_since, durable-shifted, flying-shifted}
 use Rattle.group_commit.proofs.Since.{known_landed, flown_fit}
 use Rattle.group_commit.proofs.desk.Desk.land.Goals as goal
@@ -32,7 +32,7 @@ land-landed-requires c =
         d.node,
         d.n,
         after d.node d.base (take d.durable d.inputs.items),
-        decisions_since d.node d.base (take d.durable d.inputs.items),
+        notices_since d.node d.base (take d.durable d.inputs.items),
         drop d.flying d.inputs.items,
         flies d.node d.durable d.flying d.outbox d.base d.inputs.items i.state.counts.durable i.state.counts.flying i.holds,
         free d.node d.n d.durable d.flying d.base d.inputs.items i.state.counts.durable (free_since (member_in d) d.base (launched_base (state_in d)) d.inputs.items i.state.all),
@@ -51,12 +51,12 @@ settled c =
     let l = part d.durable d.flying d.inputs.items in
     let rest = drop d.flying d.inputs.items in
     let s = after d.node d.base (take d.durable d.inputs.items) in
-    let decided = decisions_since d.node d.base (take d.durable d.inputs.items) in
-    let holds : Holds d.node d.outbox s decided (l ++ rest) (length l) → AreFree d.node d.n s l → Holds d.node c.land-landed.new.self (after d.node s l) (decided ++ c.land-landed.result.decisions.items) rest 0 =
-    subst (λ (k : List Input). Holds d.node d.outbox s decided (k ++ rest) (length k) → AreFree d.node d.n s k → Holds d.node c.land-landed.new.self (after d.node s k) (decided ++ c.land-landed.result.decisions.items) rest 0)
-    (flew c) (c.land-landed.ensures.holds d.node d.n s decided rest) in
-    lands d.node d.durable d.flying c.land-landed.new.self d.base d.inputs.items c.land-landed.result.decisions.items d.outbox.waiting.items i.state.counts.durable i.holds.waiting
-    (c.land-landed.ensures.decisions ∙ ap (λ (k : List Input). told (take (length k) d.outbox.waiting.items)) (flew c))
+    let list = notices_since d.node d.base (take d.durable d.inputs.items) in
+    let holds : Holds d.node d.outbox s list (l ++ rest) (length l) → AreFree d.node d.n s l → Holds d.node c.land-landed.new.self (after d.node s l) (list ++ c.land-landed.result.notices.items) rest 0 =
+    subst (λ (k : List Input). Holds d.node d.outbox s list (k ++ rest) (length k) → AreFree d.node d.n s k → Holds d.node c.land-landed.new.self (after d.node s k) (list ++ c.land-landed.result.notices.items) rest 0)
+    (flew c) (c.land-landed.ensures.holds d.node d.n s list rest) in
+    lands d.node d.durable d.flying c.land-landed.new.self d.base d.inputs.items c.land-landed.result.notices.items d.outbox.waiting.items i.state.counts.durable i.holds.waiting
+    (c.land-landed.ensures.notices ∙ ap (λ (k : List Input). told_in (take (length k) d.outbox.waiting.items)) (flew c))
     (holds (flies d.node d.durable d.flying d.outbox d.base d.inputs.items i.state.counts.durable i.state.counts.flying i.holds) (free d.node d.n d.durable d.flying d.base d.inputs.items i.state.counts.durable (free_since (member_in d) d.base (launched_base (state_in d)) d.inputs.items i.state.all)))
 
 -- the desk then, where this is the area that is in use, and no other is pending
@@ -86,11 +86,11 @@ invariant_of-self-in_default c =
     landed_desk (goal.at.invariant_of-self-in_default c).After-land-landed (area_in d) d.pending (ap (λ o. launched_base (state_with (area_in d) d.inputs.items d.durable d.flying o)) c.in_default.is) c.in_default.is
 
 -- inputs make as many leaders known as they are, at most
-few : (count k : ℕ) (all : List Decision) (waiting : List Effects) → count ≡ k → all ≡ told (take k waiting) → length all ≤ count
-few count k all waiting same are = omega (arith, same, ap length are, length-filter_map (λ (e : Effects). e.decided) (take k waiting), length-take k waiting)
+few : (count k : ℕ) (all : List Notice) (waiting : List Effects) → count ≡ k → all ≡ told_in (take k waiting) → length all ≤ count
+few count k all waiting same are = omega (arith, same, ap length are, length-filter_map (λ (e : Effects). e.notice) (take k waiting), length-take k waiting)
 
 pub returns-clause-few : goal.returns-clause-few
-returns-clause-few c = few _ _ _ c.self.inside.outbox.waiting.items c.land-landed.ensures.count c.land-landed.ensures.decisions
+returns-clause-few c = few _ _ _ c.self.inside.outbox.waiting.items c.land-landed.ensures.count c.land-landed.ensures.notices
 
 -- an input flew, where no checkpoint did
 some_flew : (c : After-land-landed) → c.self.inside.pending ≡ None → c.self.inside.durable < c.self.inside.flying
@@ -134,14 +134,14 @@ returns-clause-packets c =
     (settled a).released.taken c.land-landed.ensures.packets
     ∙ (λ k. packets d.node (sym (durable-shifted past s) k) (sym (flying-shifted past s) k)))
 
-pub returns-clause-decisions : goal.returns-clause-decisions
-returns-clause-decisions c =
+pub returns-clause-notices : goal.returns-clause-notices
+returns-clause-notices c =
     let d = c.self.inside in
     let i = c.self.invariant in
-    let a = (goal.at.returns-clause-decisions c).After-land-landed in
+    let a = (goal.at.returns-clause-notices c).After-land-landed in
     let m = member_in d in
     let s = state_in d in
     let each = free_since m d.base (launched_base s) d.inputs.items i.state.all in
-    subst (λ (v : DeskKept). (past : List Input) → IsPast v.view.member v.opening past → c.land-landed.result.decisions.items ≡ decisions v.view.member.node (durable_in (seen past v).state) (flying_in (seen past v).state)) c.self.view_is (λ past is.
-    landed_decisions m d.base past d.inputs.items d.durable d.flying d.outbox.waiting.items _ _ is each i.state.counts.durable i.holds.waiting (flew a) c.land-landed.ensures.decisions
-    ∙ (λ k. decisions d.node (sym (durable-shifted past s) k) (sym (flying-shifted past s) k)))
+    subst (λ (v : DeskKept). (past : List Input) → IsPast v.view.member v.opening past → c.land-landed.result.notices.items ≡ notices v.view.member.node (durable_in (seen past v).state) (flying_in (seen past v).state)) c.self.view_is (λ past is.
+    landed_notices m d.base past d.inputs.items d.durable d.flying d.outbox.waiting.items _ _ is each i.state.counts.durable i.holds.waiting (flew a) c.land-landed.ensures.notices
+    ∙ (λ k. notices d.node (sym (durable-shifted past s) k) (sym (flying-shifted past s) k)))

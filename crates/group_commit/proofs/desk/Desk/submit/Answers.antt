@@ -8,7 +8,7 @@ use Rattle.ring_records.specs.States.{NodeState, launched_base, gained_by}
 use Rattle.node_core.specs.Core.{Refuses}
 use Rattle.group_commit.specs.Desk.{DeskKept, IsSubmitted, answered, seen}
 use Rattle.group_commit.specs.declared.desk.Desk.TheInside.{Inside}
-use Rattle.group_commit.specs.Kept.{AreBelow, AreAnswers, HoldsFor, decisions_since, state_with}
+use Rattle.group_commit.specs.Kept.{AreBelow, AreAnswers, HoldsFor, notices_since, state_with}
 use Rattle.group_commit.specs.Outbox.{Holds}
 use Rattle.group_commit.specs.Past.{IsPast, shifted}
 use Rattle.group_commit.specs.Since.{IsKnownState, core_in}
@@ -102,14 +102,14 @@ holds_more c accepted =
     let i = c.self.invariant in
     let me : d.core.me ≡ d.node = λ k. (i.knows k).me in
     let s = after d.node d.base (take d.durable d.inputs.items) in
-    let decided = decisions_since d.node d.base (take d.durable d.inputs.items) in
+    let list = notices_since d.node d.base (take d.durable d.inputs.items) in
     let waits = drop d.durable d.inputs.items in
     let more = cons_option c.judge.result.1 [] in
     let within : d.durable ≤ length d.inputs.items = (let a = i.state.counts.durable in let b = i.state.counts.flying in omega arith) in
-    let holds = on_ok c.accept.result accepted c.accept.ensures.holds s decided waits (d.flying - d.durable) (subst (λ n. d.core.known ≡ after n s waits) (sym me) (knows_front (member_in d) d.base (state_in d) d.core d.durable i.knows)) in
+    let holds = on_ok c.accept.result accepted c.accept.ensures.holds s list waits (d.flying - d.durable) (subst (λ n. d.core.known ≡ after n s waits) (sym me) (knows_front (member_in d) d.base (state_in d) d.core d.durable i.knows)) in
     subst (λ (l : List Input). HoldsFor d.node c.accept.new.outbox d.base (take d.durable l) (drop d.durable l) (d.flying - d.durable)) (sym (on_ok c.accept.result accepted c.accept.ensures.inputs))
     (waits_more d.node (d.flying - d.durable) c.accept.new.outbox d.base d.inputs.items more d.durable within
-    (subst (λ n. Holds n d.outbox s decided waits (d.flying - d.durable) → Holds n c.accept.new.outbox s decided (waits ++ more) (d.flying - d.durable)) me holds i.holds))
+    (subst (λ n. Holds n d.outbox s list waits (d.flying - d.durable) → Holds n c.accept.new.outbox s list (waits ++ more) (d.flying - d.durable)) me holds i.holds))
 
 pub invariant_of-self-2 : goal.invariant_of-self-2
 invariant_of-self-2 c =

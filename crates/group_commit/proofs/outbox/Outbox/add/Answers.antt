@@ -7,6 +7,6 @@ add-requires-clause-free c = let a = c.requires.free in (a.0, a.1, a.2, a.3, c.r
 
 pub returns : goal.returns
 returns c = record {
-  holds = λ me n s decided holds free brings.
-      holds_next me c.args.self.now _ s _ decided _ holds refl refl (c.add.ensures.keeps me n s decided (c.reserve.ensures.keeps s decided holds.released) free brings) (c.add.ensures.room 0 (search rules));
+  holds = λ me n s list holds free brings.
+      holds_next me c.args.self.now _ s _ list _ holds refl refl (c.add.ensures.keeps me n s list (c.reserve.ensures.keeps s list holds.released) free brings) (c.add.ensures.room 0 (search rules));
 }

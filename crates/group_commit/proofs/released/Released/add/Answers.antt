@@ -21,16 +21,16 @@ credit-requires-clause-sent c =
     (may_credit a.0 a.1 c.queue.new.link.link a.2 c.args.input.now c.in-Acked.upto q a.5 c.in-Acked.is).1
 
 pub returns-in-Stand-clause-keeps : goal.returns-in-Stand-clause-keeps
-returns-in-Stand-clause-keeps c = λ me n s decided keeps free brings.
-    next_stand me c.args.self.now _ s decided _ c.args.input.now c.in-Stand.key c.in-Stand.bid keeps c.in-Stand.is
-    (queued me c.args.self.now _ s decided c.args.input.now c.args.effects.now keeps brings c.queue.ensures.credited c.queue.ensures.window) refl c.push_decision.ensures.items
+returns-in-Stand-clause-keeps c = λ me n s list keeps free brings.
+    next_stand me c.args.self.now _ s list _ c.args.input.now c.in-Stand.key c.in-Stand.bid keeps c.in-Stand.is
+    (queued me c.args.self.now _ s list c.args.input.now c.args.effects.now keeps brings c.queue.ensures.credited c.queue.ensures.window) refl c.push_notice.ensures.items
 
 pub returns-in-Take-clause-keeps : goal.returns-in-Take-clause-keeps
-returns-in-Take-clause-keeps c = λ me n s decided keeps free brings.
-    next_take me c.args.self.now _ s decided _ c.args.input.now c.in-Take.no c.in-Take.msg keeps c.in-Take.is
-    (queued me c.args.self.now _ s decided c.args.input.now c.args.effects.now keeps brings c.queue.ensures.credited c.queue.ensures.window) refl c.push_decision.ensures.items
+returns-in-Take-clause-keeps c = λ me n s list keeps free brings.
+    next_take me c.args.self.now _ s list _ c.args.input.now c.in-Take.no c.in-Take.msg keeps c.in-Take.is
+    (queued me c.args.self.now _ s list c.args.input.now c.args.effects.now keeps brings c.queue.ensures.credited c.queue.ensures.window) refl c.push_notice.ensures.items
 
 pub returns-in-Acked-clause-keeps : goal.returns-in-Acked-clause-keeps
-returns-in-Acked-clause-keeps c = λ me n s decided keeps free brings.
-    next_acked me n c.args.self.now _ _ s decided _ c.args.input.now c.in-Acked.upto keeps c.in-Acked.is free
-    (queued me c.args.self.now _ s decided c.args.input.now c.args.effects.now keeps brings c.queue.ensures.credited c.queue.ensures.window) c.credit.ensures.credited c.credit.ensures.window refl c.push_decision.ensures.items
+returns-in-Acked-clause-keeps c = λ me n s list keeps free brings.
+    next_acked me n c.args.self.now _ _ s list _ c.args.input.now c.in-Acked.upto keeps c.in-Acked.is free
+    (queued me c.args.self.now _ s list c.args.input.now c.args.effects.now keeps brings c.queue.ensures.credited c.queue.ensures.window) c.credit.ensures.credited c.credit.ensures.window refl c.push_notice.ensures.items

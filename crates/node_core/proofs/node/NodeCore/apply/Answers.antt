@@ -5,7 +5,7 @@ use Rattle.ring_records.specs.Known.{Objects, sends}
 use Rattle.node_core.specs.declared.effects.Effects.{Effects}
 use Rattle.node_core.specs.Brought.{brought}
 use Rattle.node_core.specs.Core.{CoreView, FreeView}
-use Rattle.node_core.proofs.Histories.{carries, decides, goes_on}
+use Rattle.node_core.proofs.Histories.{carries, tells, goes_on}
 use Rattle.node_core.proofs.Measures.{acked_within, few_inputs, measured_next, one_more, within_next}
 use Rattle.node_core.proofs.Refusals.{objects_none, stepped_core}
 use Rattle.node_core.proofs.node.NodeCore.apply.Goals as goal
@@ -73,9 +73,9 @@ pub returns-clause-carry : goal.returns-clause-carry
 returns-clause-carry c = λ h s.
     ap (λ (e : Effects). e.carry) (c.in_ok-effects.ensures.brings ∙ ap (λ (v : CoreView). brought v.me v.known c.args.input) c.self.view_is) ∙ carries c.args.self.now h c.args.input s
 
-pub returns-clause-decided : goal.returns-clause-decided
-returns-clause-decided c = λ h s.
-    ap (λ (e : Effects). e.decided) (c.in_ok-effects.ensures.brings ∙ ap (λ (v : CoreView). brought v.me v.known c.args.input) c.self.view_is) ∙ decides c.args.self.now h c.args.input s
+pub returns-clause-told : goal.returns-clause-told
+returns-clause-told c = λ h s.
+    ap (λ (e : Effects). e.notice) (c.in_ok-effects.ensures.brings ∙ ap (λ (v : CoreView). brought v.me v.known c.args.input) c.self.view_is) ∙ tells c.args.self.now h c.args.input s
 
 pub returns-clause-stands : goal.returns-clause-stands
 returns-clause-stands c = λ h s.

@@ -1,6 +1,6 @@
 use Rattle.std.proofs.Common.{◌∙◌, ap}
 use Rattle.disk_model.proofs.Moments.{started, weaken}
-use Rattle.ring_records.specs.Release.{packets, decisions}
+use Rattle.ring_records.specs.Release.{packets, notices}
 use Rattle.ring_records.specs.States.{durable_in, flying_in}
 use Rattle.ring_records.proofs.Admission.{or_else-none}
 use Rattle.group_commit.specs.Desk.{DeskView, launch_objection}
@@ -35,10 +35,10 @@ returns-in-Ok-settle-clause-packets g c = λ past is.
     let launch = c.in-Ok.ensures in
     (rw launch.next at c.in-Ok-settle.ensures.packets) past is ∙ ap (λ (v : DeskView). packets v.member.node (durable_in v.state) (flying_in v.state)) (rw launch.next at (launch.lifted past is))
 
-pub returns-in-Ok-settle-clause-decisions : goal.returns-in-Ok-settle-clause-decisions
-returns-in-Ok-settle-clause-decisions g c = λ past is.
+pub returns-in-Ok-settle-clause-notices : goal.returns-in-Ok-settle-clause-notices
+returns-in-Ok-settle-clause-notices g c = λ past is.
     let launch = c.in-Ok.ensures in
-    (rw launch.next at c.in-Ok-settle.ensures.decisions) past is ∙ ap (λ (v : DeskView). decisions v.member.node (durable_in v.state) (flying_in v.state)) (rw launch.next at (launch.lifted past is))
+    (rw launch.next at c.in-Ok-settle.ensures.notices) past is ∙ ap (λ (v : DeskView). notices v.member.node (durable_in v.state) (flying_in v.state)) (rw launch.next at (launch.lifted past is))
 
 pub returns-in-Ok-settle-clause-durable : goal.returns-in-Ok-settle-clause-durable
 returns-in-Ok-settle-clause-durable g c =

@@ -2,7 +2,7 @@ use Rattle.std.proofs.Common.{◌∙◌, sym, ap}
 use Rattle.disk_model.proofs.Moments.{started}
 use Rattle.ring_records.specs.History.{taken}
 use Rattle.ring_records.specs.Lists.{found_after}
-use Rattle.ring_records.specs.Release.{packets, decisions, carries, credits}
+use Rattle.ring_records.specs.Release.{packets, notices, carries, credits}
 use Rattle.ring_records.specs.States.{durable_in, flying_in}
 use Rattle.group_commit.specs.Desk.{DeskView, seen}
 use Rattle.group_commit.proofs.Seen.{launched_seen}
@@ -36,12 +36,12 @@ returns-in-Ok-None-clause-packets g c = λ past is.
     let none = none_behind past desk.view.state (rw c.in-Ok-None.field-0-is at c.in-Ok-None.ensures.none) in
     c.new.ensures.items ∙ ap (packets desk.view.member.node (durable_in (seen past desk).state)) (sym none)
 
-pub returns-in-Ok-None-clause-decisions : goal.returns-in-Ok-None-clause-decisions
-unfolding decisions found_after
-returns-in-Ok-None-clause-decisions g c = λ past is.
+pub returns-in-Ok-None-clause-notices : goal.returns-in-Ok-None-clause-notices
+unfolding notices found_after
+returns-in-Ok-None-clause-notices g c = λ past is.
     let desk = c.args.self.now.desk in
     let none = none_behind past desk.view.state (rw c.in-Ok-None.field-0-is at c.in-Ok-None.ensures.none) in
-    c.new-in-Ok-None.ensures.items ∙ ap (decisions desk.view.member.node (durable_in (seen past desk).state)) (sym none)
+    c.new-in-Ok-None.ensures.items ∙ ap (notices desk.view.member.node (durable_in (seen past desk).state)) (sym none)
 
 pub returns-in-Ok-None-clause-durable : goal.returns-in-Ok-None-clause-durable
 returns-in-Ok-None-clause-durable g c =
@@ -70,10 +70,10 @@ returns-in-Ok-clause-packets g c = λ past is.
     let next = c.in-Ok-Some.ensures.next in
     (rw next at c.in-Ok.ensures.packets) past is ∙ ap (λ (v : DeskView). packets v.member.node (durable_in v.state) (flying_in v.state)) (launched_seen past c.args.self.now.desk)
 
-pub returns-in-Ok-clause-decisions : goal.returns-in-Ok-clause-decisions
-returns-in-Ok-clause-decisions g c = λ past is.
+pub returns-in-Ok-clause-notices : goal.returns-in-Ok-clause-notices
+returns-in-Ok-clause-notices g c = λ past is.
     let next = c.in-Ok-Some.ensures.next in
-    (rw next at c.in-Ok.ensures.decisions) past is ∙ ap (λ (v : DeskView). decisions v.member.node (durable_in v.state) (flying_in v.state)) (launched_seen past c.args.self.now.desk)
+    (rw next at c.in-Ok.ensures.notices) past is ∙ ap (λ (v : DeskView). notices v.member.node (durable_in v.state) (flying_in v.state)) (launched_seen past c.args.self.now.desk)
 
 pub returns-in-Ok-clause-durable : goal.returns-in-Ok-clause-durable
 returns-in-Ok-clause-durable g c =

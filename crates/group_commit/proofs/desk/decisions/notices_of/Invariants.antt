@@ -1,7 +1,7 @@
 use Rattle.std.proofs.Common.{◌≡◌, ◌+◌, ◌≤◌, length, take}
 use Rattle.std.specs.Vec.{vec_len, vec_capacity}
 use Rattle.ring_records.specs.Notices.{decided_all}
-use Rattle.ring_service.proofs.notices.notices_of.Given as goal
+use Rattle.group_commit.proofs.desk.decisions.notices_of.Given as goal
 
 -- the notices of the first decisions are there, and there is room for the others
 abbrev pub invariant-loop-decision : goal.invariant-loop-decision
