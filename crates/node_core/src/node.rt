@@ -17,7 +17,8 @@ use crate::effects::Effects;
 use crate::free::FreeCore;
 use crate::measure::{freed, grown, len_on};
 use ring_records::{
-    Candidate, GroupName, Input, Key, LAYOUT, Msg, NodeNo, Refusal, Room, Summary, Term, summary_len,
+    Candidate, GroupName, Input, Key, LAYOUT, Msg, NodeNo, Refusal, Room, Summary, Term,
+    summary_len,
 };
 use std::alloc::{AllocError, Global};
 use std::marker::Model;
@@ -88,7 +89,7 @@ impl NodeCore {
             core,
             capacity,
             room,
-            snapshot: summary_len(from),
+            snapshot: summary_len(from, LAYOUT),
         })
     }
 
@@ -101,16 +102,16 @@ impl NodeCore {
         self.core.summary(alloc)
     }
 
-    /// The length of the snapshot of what it knows, in bytes.
+    /// The length of the snapshot of what it knows in the newest layout, in bytes.
     pub fn summary_len(&self) -> u64
-        ensures { result ≡ snapshot_len self.now.known }
+        ensures { result ≡ snapshot_len newest self.now.known }
     {
         self.snapshot
     }
 
     /// From now on an area of this number stands for all that it knows, and its snapshot takes the bytes of the capacity.
     pub fn rebase(&mut self, epoch: u64)
-        ensures { self.new ≡ record self.old { room = record { layout = newest; epoch = epoch; taken = snapshot_len self.old.known; waits = false } } }
+        ensures { self.new ≡ record self.old { room = record { layout = newest; epoch = epoch; taken = snapshot_len newest self.old.known; waits = false } } }
     {
         self.room = Room {
             layout: LAYOUT,
