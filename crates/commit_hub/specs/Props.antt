@@ -5,7 +5,7 @@ use Rattle.std.proofs.Props.{props}
 use Rattle.ring_records.specs.declared.summary.Summary.{Summary}
 use Rattle.ring_records.specs.Member.{Member}
 use Rattle.ring_records.specs.States.{NodeState}
-use Rattle.node_core.specs.Codes.{coded_summary}
+use Rattle.ring_records.specs.Codes.{coded_summary}
 use Rattle.commit_hub.specs.Tied.{Durable, coded_durable}
 use Rattle.commit_hub.specs.Works.{IsNextArea}
 

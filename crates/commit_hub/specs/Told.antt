@@ -6,7 +6,7 @@ use Rattle.ring_records.specs.declared.refusal.Refusal.{Refusal}
 use Rattle.ring_records.specs.declared.refusal.Refusal.TheVariants as refused
 use Rattle.ring_records.specs.declared.request.Request.{Request}
 use Rattle.ring_records.specs.declared.summary.Summary.{Summary}
-use Rattle.ring_records.specs.Admission.{snapshot_len, used}
+use Rattle.ring_records.specs.Admission.{newest, snapshot_len, used}
 use Rattle.ring_records.specs.History.{stands}
 use Rattle.ring_records.specs.Member.{Member}
 use Rattle.ring_records.specs.Message.{is_outside}
@@ -57,7 +57,7 @@ abbrev pub look_of : Member → NodeState → Bool → Bool → Look
 look_of member s is_due is_open = record {
   shown = shown_in member.node s;
   used = used (launched_base s) s.inputs;
-  snapshot = snapshot_len (summary member.node s.inputs);
+  snapshot = snapshot_len newest (summary member.node s.inputs);
   epoch = s.base.epoch;
   capacity = member.capacity;
   stands = stands s.inputs;

@@ -2,16 +2,17 @@
 use Rattle.std.proofs.Common.{◌≡◌, ◌≢◌, ⊎_elim, ℕ, ◌+◌, ◌<◌, List, refl, sym, ◌∙◌, ap, subst, arith}
 use Rattle.std.proofs.lemmas.Bool.{cases_eq}
 use Rattle.ring_records.specs.Member.{Member}
+use Rattle.ring_records.specs.Snapshot.{Spells}
 use Rattle.ring_records.proofs.SnapshotWhole.{one-spelled}
 use Rattle.gated_journal.specs.Frames.{ReadsTo}
-use Rattle.gated_journal.specs.Areas.{epoch_at, snapshot_at, Counts, ReadsAt, ReadsAs}
+use Rattle.gated_journal.specs.Areas.{IsLayout, epoch_at, snapshot_at, Counts, ReadsAt, ReadsAs}
 use Rattle.gated_journal.specs.Reading.{Reading}
 use Rattle.gated_journal.proofs.AreaBeside.{where_are}
 use Rattle.gated_journal.proofs.Unique.{unique, header_unique}
 
 -- an area that is read counts
 pub counts : (header : Member) (image : List ℕ) (r : Reading) (start other offset gate_at : ℕ) → ReadsAt header image r start other offset gate_at → Counts start image
-counts header image r start other offset gate_at read = record { gate = read.gate; known = sym read.base.layout ∙ read.base.known }
+counts header image r start other offset gate_at read = record { gate = read.gate; known = subst IsLayout read.base.layout read.base.known }
 
 -- what is read, and where
 pub record SameReading (r s : Reading) (start start2 other other2 offset offset2 gate_at gate_at2 : ℕ) : Type 0 where
@@ -37,8 +38,9 @@ same_area : (header : Member) (image : List ℕ) (r s : Reading) (start other ot
 same_area header image r s start other other2 offset offset2 gate_at gate_at2 one two =
     let offset_is : offset ≡ offset2 = one.base.offset_is ∙ sym two.base.offset_is in
     let both = unique offset image r.inputs s.inputs gate_at gate_at2 one.frames (subst (λ (p : ℕ). ReadsTo p image s.inputs gate_at2) (sym offset_is) two.frames) in
-    let base : r.base ≡ s.base = one-spelled header.n (snapshot_at start image) r.base s.base one.base.snapshot two.base.snapshot in
     let layout : r.layout ≡ s.layout = one.base.layout ∙ sym two.base.layout in
+    let base : r.base ≡ s.base =
+    one-spelled r.layout header.n (snapshot_at start image) r.base s.base one.base.snapshot (subst (λ (k : ℕ). Spells k header.n (snapshot_at start image) s.base) (sym layout) two.base.snapshot) in
     let epoch : r.epoch ≡ s.epoch = one.base.epoch ∙ sym two.base.epoch in
     record {
       reading = λ i. record { layout = layout i; epoch = epoch i; base = base i; inputs = both.0 i };

@@ -23,30 +23,30 @@ use Rattle.gated_journal.proofs.Kept.{put_behind, take_same}
 use Rattle.gated_journal.proofs.Results.{not_both}
 
 -- the snapshot of a node without inputs
-snapshot-empty : snapshot_of empty ≡ replicate {A = ℕ} 38 0
+snapshot-empty : snapshot_of newest empty ≡ replicate {A = ℕ} 38 0
 unfolding snapshot_of counts_bytes
 snapshot-empty =
     let known : fin.FinMap key_cmp KeyState = fin.empty in
     let none : fin.len known ≡ 0 = len-empty key_cmp KeyState in
     let keys : fin.values known ≡ [] = nil_from_length (fin.values known) (len-values known ∙ none) in
-    λ i. counts_bytes empty (none i) ++ flat_map state_bytes (keys i) ++ []
+    λ i. counts_bytes empty (none i) ++ flat_map state_bytes (keys i) ++ [] ++ []
 
 -- each byte of a new device
 pub bytes-new_areas : (header : Member) → new_areas header ≡ mark ++ header.node ∷ header.n ∷ to_be_bytes w32 header.capacity ++ 0 ∷ 0 ∷ 1 ∷ 2 ∷ to_be_bytes w64 1 ++ to_be_bytes w32 38 ++ replicate {A = ℕ} 39 0
 bytes-new_areas header =
-    λ i. mark ++ header.node ∷ header.n ∷ to_be_bytes w32 header.capacity ++ 0 ∷ 0 ∷ 1 ∷ 2 ∷ to_be_bytes w64 1 ++ to_be_bytes w32 (length-empty i) ++ snapshot-empty i ++ 0 ∷ []
+    λ i. mark ++ header.node ∷ header.n ∷ to_be_bytes w32 header.capacity ++ 0 ∷ 0 ∷ 1 ∷ 2 ∷ to_be_bytes w64 1 ++ to_be_bytes w32 (length-empty newest (omega arith) i) ++ snapshot-empty i ++ 0 ∷ []
 
 -- how many bytes that is
 pub length-new_areas : (header : Member) → length (new_areas header) ≡ 69
-length-new_areas header = omega (arith, length-new_area newest 1 empty, length-empty)
+length-new_areas header = omega (arith, length-new_area newest 1 empty, length-empty newest (omega arith))
 
 -- Area A is read where the device begins so and area B does not count.
 module _ (header : Member) (new rest : List ℕ) (from : 4096 ≤ header.capacity) (to : header.capacity ≤ 1048576) (whole : new ≡ new_areas header ++ rest) (none : Counts (31 + header.capacity) new → ⊥) where
   stage : IsStaged header.n 16 new (fresh_area newest 1 empty) 68
   stage =
-      let spells : Spells header.n (snapshot_of empty) empty = record { is = refl; sound = sound-empty header.n; few_keys = omega (arith, len-empty key_cmp KeyState) } in
-      subst (λ (k : ℕ). IsStaged header.n 16 new (fresh_area newest 1 empty) (30 + k)) length-empty
-      (staged 16 1 empty rest new (ap (λ (l : List ℕ). drop 17 l) whole) (omega arith) (omega (arith, length-empty)) header.n spells)
+      let spells : Spells newest header.n (snapshot_of newest empty) empty = record { is = refl; sound = sound-empty header.n; few_keys = omega (arith, len-empty key_cmp KeyState); plain = λ old. refl } in
+      subst (λ (k : ℕ). IsStaged header.n 16 new (fresh_area newest 1 empty) (30 + k)) (length-empty newest (omega arith))
+      (staged 16 1 empty rest new (ap (λ (l : List ℕ). drop 17 l) whole) (omega arith) (omega (arith, length-empty newest (omega arith))) header.n spells)
 
   pub laid : ReadsAt header new (fresh_area newest 1 empty) 16 (31 + header.capacity) 68 68
   laid =

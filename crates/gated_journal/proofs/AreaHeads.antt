@@ -1,9 +1,11 @@
 -- The head of an area, read from a device that may end within it.
-use Rattle.std.proofs.Common.{◌≡◌, ◌⊎◌, ⊎_elim, ℕ, zero, suc, ◌+◌, ◌*◌, ◌-◌, ◌<◌, ◌≤◌, List, ◌++◌, length, drop, replicate, get_or, refl, sym, ◌∙◌, ap, arith, length-append, length-drop}
+use Rattle.std.proofs.Common.{◌≡◌, ◌⊎◌, inl, inr, ⊎_elim, ℕ, zero, suc, ◌+◌, ◌*◌, ◌-◌, ◌<◌, ◌≤◌, List, ◌++◌, length, drop, replicate, get_or, refl, sym, ◌∙◌, ap, arith, length-append, length-drop}
 use Rattle.std.proofs.lemmas.Bool.{cases_lt}
 use Rattle.std.proofs.lemmas.List.{get_or-drop, get_or_append_left, get_or-append_right, get_or_past, length-replicate}
 use Rattle.disk_model.specs.Disk.{IsPart}
 use Rattle.disk_model.proofs.Images.{zeros}
+use Rattle.ring_records.specs.Admission.{newest, oldest_area}
+use Rattle.gated_journal.specs.Areas.{IsLayout}
 use Rattle.gated_journal.specs.Choose.{IsHeadOf}
 use Rattle.gated_journal.specs.Reading.{number_at}
 use Rattle.gated_journal.specs.declared.area.Head.{Head}
@@ -29,6 +31,12 @@ number_moved (suc k) off from xs ys same =
     let rest = number_moved k off from xs ys (λ i lt. same i (omega (arith, lt))) in
     let last = same k (omega arith) in
     λ i. rest i * 256 + last i
+
+-- areas of a layout are read, or not
+pub cases_layout : (layout : ℕ) → IsLayout layout ⊎ (IsLayout layout → ⊥)
+cases_layout layout =
+    ⊎_elim (λ (old : layout < oldest_area). inr (λ known. omega (arith, old, known.0)))
+    (λ (from : oldest_area ≤ layout). ⊎_elim (λ (new : newest < layout). inr (λ known. omega (arith, new, known.1))) (λ (to : layout ≤ newest). inl (from, to)) (cases_lt newest layout)) (cases_lt layout oldest_area)
 
 -- the head that is read is the area's
 pub head_there : (start : ℕ) (bytes image : List ℕ) (head : Head) → IsPart start bytes image → length bytes ≡ 14 → IsHeadOf head 0 bytes → IsHeadOf head start image

@@ -4,7 +4,7 @@ use Rattle.ring_records.specs.declared.input.Input.{Input}
 use Rattle.ring_records.specs.Snapshot.{Spells, snapshot_len}
 use Rattle.ring_records.proofs.Snapshots.{length-snapshot}
 use Rattle.gated_journal.specs.Frames.{ReadsTo}
-use Rattle.gated_journal.specs.Areas.{epoch_at, size_at, snapshot_at, Counts, HasBase}
+use Rattle.gated_journal.specs.Areas.{IsLayout, epoch_at, size_at, snapshot_at, Counts, HasBase}
 use Rattle.gated_journal.specs.Reading.{Reading}
 use Rattle.gated_journal.proofs.Behind.{inside, still, gate_closed}
 use Rattle.gated_journal.proofs.Kept.{SameBytes, fewer, byte_same, number_same, part_same}
@@ -34,7 +34,7 @@ base_kept n start image other r offset has in_other same =
       small = has.small;
       offset_is = has.offset_is ∙ ap (λ (k : ℕ). start + 14 + k) (sym size_same);
       there = in_other;
-      snapshot = subst (λ (bytes : List ℕ). Spells n bytes r.base) (sym snapshot_same) has.snapshot;
+      snapshot = subst (λ (bytes : List ℕ). Spells r.layout n bytes r.base) (sym snapshot_same) has.snapshot;
     }
 
 -- it says nothing of the inputs
@@ -46,7 +46,7 @@ base_behind n start image r inputs offset has =
 pub counts_kept : (start : ℕ) (image other : List ℕ) → SameBytes start 10 image other → Counts start other → Counts start image
 counts_kept start image other same counts = record {
   gate = sym (byte_same start 10 image other start (omega arith) (omega arith) same) ∙ counts.gate;
-  known = sym (byte_same start 10 image other (start + 1) (omega arith) (omega arith) same) ∙ counts.known;
+  known = subst IsLayout (byte_same start 10 image other (start + 1) (omega arith) (omega arith) same) counts.known;
 }
 
 pub older_kept : (start : ℕ) (image other : List ℕ) (epoch : ℕ) → SameBytes start 10 image other → (Counts start image → epoch_at start image < epoch) → Counts start other → epoch_at start other < epoch
@@ -61,8 +61,8 @@ pub low : (n start : ℕ) (image : List ℕ) (r : Reading) (offset gate_at : ℕ
 low n start image r offset gate_at base frames = (omega (arith, base.offset_is), omega (arith, frames.ends), inside offset image r.inputs gate_at frames)
 
 -- they begin behind the snapshot
-pub behind_snapshot : (n start : ℕ) (image : List ℕ) (r : Reading) (offset : ℕ) → HasBase n start image r offset → offset ≡ start + 14 + snapshot_len r.base
+pub behind_snapshot : (n start : ℕ) (image : List ℕ) (r : Reading) (offset : ℕ) → HasBase n start image r offset → offset ≡ start + 14 + snapshot_len r.layout r.base
 behind_snapshot n start image r offset base =
     let size = size_at start image in
     let long : length (snapshot_at start image) ≡ size = omega (arith, length-take size (drop (start + 14) image), length-drop (start + 14) image, base.offset_is, base.there) in
-    omega (arith, ap length base.snapshot.is, long, base.offset_is, length-snapshot r.base)
+    omega (arith, ap length base.snapshot.is, long, base.offset_is, length-snapshot r.layout r.base)

@@ -4,10 +4,9 @@ use Rattle.std.proofs.lemmas.Bool.{cases_eq, cases_lt}
 use Rattle.std.proofs.lemmas.List.{append-nil, take_at, take_all, get_or_append_left}
 use Rattle.ring_records.specs.declared.input.Input.{Input}
 use Rattle.ring_records.specs.declared.summary.Summary.{Summary}
-use Rattle.ring_records.specs.Admission.{newest}
 use Rattle.ring_records.specs.Snapshot.{Spells}
 use Rattle.ring_records.specs.SnapshotPart.{NoMore}
-use Rattle.gated_journal.specs.Areas.{epoch_at}
+use Rattle.gated_journal.specs.Areas.{IsLayout, epoch_at}
 use Rattle.gated_journal.specs.Choose.{IsHeadOf}
 use Rattle.gated_journal.specs.Found.{IsHead, InSnapshot, InFrames, IsFound}
 use Rattle.gated_journal.specs.Frames.{body, frames}
@@ -15,7 +14,7 @@ use Rattle.gated_journal.specs.Pieces.{IsNoArea, IsAreaDamaged}
 use Rattle.gated_journal.specs.NextFrame.{TakesFrame}
 use Rattle.gated_journal.specs.declared.area.Head as head_of
 use Rattle.gated_journal.specs.declared.found.Stage.{Stage}
-use Rattle.gated_journal.proofs.AreaHeads.{number_moved}
+use Rattle.gated_journal.proofs.AreaHeads.{cases_layout, number_moved}
 use Rattle.gated_journal.proofs.Behind.{frames-push, joined-push, sized-push}
 use Rattle.gated_journal.proofs.Pieces.{take_through, unspelled}
 
@@ -59,7 +58,7 @@ module _ (layout : ℕ) (bytes : List ℕ) (head : head_of.Head) (long : 14 ≤ 
   first_long : length (take 14 bytes) ≡ 14
   first_long = omega (arith, length-take 14 bytes, long)
 
-  pub good_head : (head.gate ≡ 1) × ((head.layout ≡ layout) × ((layout ≡ newest) × (head.epoch < 2 ^ 40))) → InSnapshot layout [] (take 14 bytes) head.size
+  pub good_head : (head.gate ≡ 1) × ((head.layout ≡ layout) × ((IsLayout layout) × (head.epoch < 2 ^ 40))) → InSnapshot layout [] (take 14 bytes) head.size
   good_head good = record {
     head = take 14 bytes;
     size = head.size;
@@ -84,7 +83,7 @@ module _ (layout : ℕ) (bytes : List ℕ) (head : head_of.Head) (long : 14 ≤ 
     epoch_is : epoch_at 0 (bytes ++ more) ≡ head.epoch
     epoch_is = number_moved 8 2 2 (bytes ++ more) (take 14 bytes) (λ i lt. byte_at (2 + i) (omega (arith, lt))) ∙ sym found.epoch
 
-    pub bad_head : ((head.gate ≡ 1) × ((head.layout ≡ layout) × ((layout ≡ newest) × (head.epoch < 2 ^ 40))) → ⊥) → IsAreaDamaged layout n (bytes ++ more) 0
+    pub bad_head : ((head.gate ≡ 1) × ((head.layout ≡ layout) × ((IsLayout layout) × (head.epoch < 2 ^ 40))) → ⊥) → IsAreaDamaged layout n (bytes ++ more) 0
     bad_head bad = record { cause = inl (refl, which) }
       where
         which : IsNoArea layout n (bytes ++ more)
@@ -92,9 +91,9 @@ module _ (layout : ℕ) (bytes : List ℕ) (head : head_of.Head) (long : 14 ≤ 
             ⊎_elim
             (λ (gate : head.gate ≡ 1). ⊎_elim
             (λ (same : head.layout ≡ layout). ⊎_elim
-            (λ (known : layout ≡ newest). inr (inr (inr (inr (inl (⊎_elim (λ (small : head.epoch < 2 ^ 40). absurd (bad (gate, (same, (known, small))))) (λ (great : 2 ^ 40 ≤ head.epoch). omega (arith, great, epoch_is))
+            (λ (known : IsLayout layout). inr (inr (inr (inr (inl (⊎_elim (λ (small : head.epoch < 2 ^ 40). absurd (bad (gate, (same, (known, small))))) (λ (great : 2 ^ 40 ≤ head.epoch). omega (arith, great, epoch_is))
             (cases_lt head.epoch (2 ^ 40))))))))
-            (λ unknown. inr (inr (inl unknown))) (cases_eq layout newest))
+            (λ unknown. inr (inr (inl unknown))) (cases_layout layout))
             (λ other. inr (inl (λ e. other (found.layout ∙ (sym (byte_at 1 (omega arith)) ∙ e))))) (cases_eq head.layout layout))
             (λ shut. inl (λ e. shut (found.gate ∙ (sym (byte_at 0 (omega arith)) ∙ e)))) (cases_eq head.gate 1)
 
@@ -112,7 +111,7 @@ snapshot_more layout old new taken bytes left size s is fits there = record {
 }
 
 -- nothing of it is to come, and it is that of a summary
-pub snapshot_read : (layout n : ℕ) (snapshot taken : List ℕ) (base : Summary) → InSnapshot layout snapshot taken 0 → Spells n snapshot base → InFrames layout n snapshot taken []
+pub snapshot_read : (layout n : ℕ) (snapshot taken : List ℕ) (base : Summary) → InSnapshot layout snapshot taken 0 → Spells layout n snapshot base → InFrames layout n snapshot taken []
 snapshot_read layout n snapshot taken base s spells = record {
   head = s.head;
   base = base;
@@ -125,32 +124,32 @@ snapshot_read layout n snapshot taken base s spells = record {
 }
 
 -- or of none
-pub snapshot_unread : (layout n : ℕ) (snapshot taken behind : List ℕ) → InSnapshot layout snapshot taken 0 → ((base : Summary) → Spells n snapshot base → ⊥) → (more : List ℕ)
+pub snapshot_unread : (layout n : ℕ) (snapshot taken behind : List ℕ) → InSnapshot layout snapshot taken 0 → ((base : Summary) → Spells layout n snapshot base → ⊥) → (more : List ℕ)
     → IsAreaDamaged layout n ((taken ++ behind) ++ more) 0
 snapshot_unread layout n snapshot taken behind s none more =
     subst (λ (l : List ℕ). IsAreaDamaged layout n l 0) (sym (append_assoc taken behind more))
-    (unspelled layout n snapshot taken (behind ++ more) 0 s (λ base spells. none base (subst (λ (l : List ℕ). Spells n l base) (append-nil snapshot) spells)))
+    (unspelled layout n snapshot taken (behind ++ more) 0 s (λ base spells. none base (subst (λ (l : List ℕ). Spells layout n l base) (append-nil snapshot) spells)))
 
 -- no part of it stands at the front of the bytes
 pub snapshot_broken : (layout n : ℕ) (snapshot taken bytes : List ℕ) (left there : ℕ) → InSnapshot layout snapshot taken left → 0 < left → there ≡ min (length bytes) left → (there < left → 38 ≤ there)
-    → NoMore n snapshot (take there bytes) → (more : List ℕ) → IsAreaDamaged layout n ((taken ++ bytes) ++ more) 0
+    → NoMore layout n snapshot (take there bytes) → (more : List ℕ) → IsAreaDamaged layout n ((taken ++ bytes) ++ more) 0
 snapshot_broken layout n snapshot taken bytes left there s some is enough none more =
     subst (λ (l : List ℕ). IsAreaDamaged layout n l 0) (sym (append_assoc taken bytes more)) (unspelled layout n snapshot taken (bytes ++ more) left s (⊎_elim short long (cases_lt (length bytes) left)))
   where
-    short : length bytes < left → (base : Summary) → Spells n (snapshot ++ take left (bytes ++ more)) base → ⊥
+    short : length bytes < left → (base : Summary) → Spells layout n (snapshot ++ take left (bytes ++ more)) base → ⊥
     short less base spells =
         let k = left - length bytes in
         let all : take there bytes ≡ bytes = take_all there bytes (omega (arith, is, less)) in
         let split : take left (bytes ++ more) ≡ take there bytes ++ take k more =
         take_through bytes more k left (omega (arith, less)) ∙ ap (λ (l : List ℕ). l ++ take k more) (sym all) in
-        none (take k more) base (inl (omega (arith, ap length all, is, less, enough (omega (arith, is, less))))) (omega (arith, ap length all, is, less, enough (omega (arith, is, less)))) (subst (λ (l : List ℕ). Spells n (snapshot ++ l) base) split spells)
+        none (take k more) base (inl (omega (arith, ap length all, is, less, enough (omega (arith, is, less))))) (omega (arith, ap length all, is, less, enough (omega (arith, is, less)))) (subst (λ (l : List ℕ). Spells layout n (snapshot ++ l) base) split spells)
 
-    long : left ≤ length bytes → (base : Summary) → Spells n (snapshot ++ take left (bytes ++ more)) base → ⊥
+    long : left ≤ length bytes → (base : Summary) → Spells layout n (snapshot ++ take left (bytes ++ more)) base → ⊥
     long all base spells =
         let same : there ≡ left = omega (arith, is, all) in
         let split : take left (bytes ++ more) ≡ take there bytes ++ [] =
         take_front left bytes more all ∙ (ap (λ (m : ℕ). take m bytes) (sym same) ∙ sym (append-nil (take there bytes))) in
-        none [] base (inr refl) (omega (arith, length-take there bytes, same, all, some)) (subst (λ (l : List ℕ). Spells n (snapshot ++ l) base) split spells)
+        none [] base (inr refl) (omega (arith, length-take there bytes, same, all, some)) (subst (λ (l : List ℕ). Spells layout n (snapshot ++ l) base) split spells)
 
 -- ---- the frames
 

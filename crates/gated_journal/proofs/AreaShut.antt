@@ -5,7 +5,7 @@ use Rattle.std.proofs.lemmas.List.{get_or_past}
 use Rattle.disk_model.specs.Disk.{Changes, Puts}
 use Rattle.disk_model.proofs.Changed.{byte_below, byte_above}
 use Rattle.ring_records.specs.Member.{Member}
-use Rattle.gated_journal.specs.Areas.{epoch_at, ReadsAt, IsGate, IsStaged, first_write}
+use Rattle.gated_journal.specs.Areas.{IsLayout, epoch_at, ReadsAt, IsGate, IsStaged, first_write}
 use Rattle.gated_journal.specs.Reading.{Reading}
 use Rattle.gated_journal.proofs.AreaBeside.{InOrder, where_are, swapped, beside}
 use Rattle.gated_journal.proofs.AreaKept.{frames_kept, base_kept, older_kept, low}
@@ -33,10 +33,10 @@ closing false header image new r start other offset gate_at read gate changes =
     same_bytes : other < length image → get_or new other 0 ≡ 1 → SameBytes other 10 image new
     same_bytes there is_open = record { each = λ i lt. each i there is_open }
 
-    none : length image ≤ other → get_or new (other + 1) 0 ≡ 2 → ⊥
+    none : length image ≤ other → IsLayout (get_or new (other + 1) 0) → ⊥
     none past known =
         let zero_there : get_or new (other + 1) 0 ≡ 0 = get_or_past new (other + 1) 0 (omega (arith, changes.no_longer, past)) in
-        omega (arith, known, zero_there)
+        omega (arith, known.0, zero_there)
 
 -- and then it is closed
 pub closed_then : (is_closed : Bool) (other : ℕ) (image new : List ℕ) → IsGate is_closed other image → Puts (first_write is_closed other) (0 ∷ []) image new → IsGate true other new

@@ -3,7 +3,8 @@ use Rattle.std.proofs.Common.{◌≡◌, ◌⊎◌, inl, inr, ⊎_elim, ℕ, ◌
 use Rattle.ring_records.specs.declared.refusal.Refusal.{Refusal}
 use Rattle.ring_records.specs.declared.refusal.Refusal.TheVariants.{Damaged}
 use Rattle.ring_records.specs.Member.{Member}
-use Rattle.gated_journal.specs.Areas.{AreAreas, epoch_at, Counts, HasBase, ReadsAt, ReadsAs}
+use Rattle.ring_records.specs.Snapshot.{Spells}
+use Rattle.gated_journal.specs.Areas.{AreAreas, epoch_at, snapshot_at, Counts, HasBase, ReadsAt, ReadsAs}
 use Rattle.gated_journal.specs.Choose.{IsChosen, IsUnchosen}
 use Rattle.gated_journal.specs.Damage.{IsBroken, IsHeadBroken, GoesPast, AreFramesBroken, IsAreaBroken, AreAreasUnread}
 use Rattle.gated_journal.specs.Frames.{ReadsTo}
@@ -58,7 +59,7 @@ not_unchosen capacity image start other areas here (inr both) =
 head_whole : (n start : ℕ) (image : List ℕ) (r : Reading) (offset : ℕ) → HasBase n start image r offset → IsHeadBroken n start image → ⊥
 head_whole n start image r offset base (inl short) = omega (arith, short, base.offset_is, base.there)
 head_whole n start image r offset base (inr (inl great)) = omega (arith, great, base.epoch, base.small)
-head_whole n start image r offset base (inr (inr none)) = none r.base base.snapshot
+head_whole n start image r offset base (inr (inr none)) = none r.base (subst (λ (k : ℕ). Spells k n (snapshot_at start image) r.base) base.layout base.snapshot)
 
 -- what the frames of an area are broken by
 abbrev AreBroken : ℕ → ℕ → ℕ → List ℕ → Refusal → Type 0

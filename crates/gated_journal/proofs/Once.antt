@@ -2,16 +2,18 @@
 use Rattle.std.proofs.Common.{◌≡◌, ◌≢◌, ℕ, ◌+◌, List, [], ◌∷◌, ◌++◌, length, drop, get_or, ap}
 use Rattle.std.proofs.Math.Path.{Σ_path, to_path_p}
 use Rattle.std.proofs.Props.{props}
-use Rattle.std.specs.Coded.{le_prop, Unit-prop, ×_prop}
+use Rattle.std.specs.Coded.{Coded-set, le_prop, Unit-prop, ×_prop}
 use Rattle.ring_records.specs.declared.input.Input.{Input}
 use Rattle.ring_records.specs.declared.candidate.Candidate.{Candidate}
 use Rattle.ring_records.specs.declared.key.Key.{Key}
 use Rattle.ring_records.specs.declared.key_state.KeyState.{KeyState}
 use Rattle.ring_records.specs.declared.msg.Msg.{Msg}
 use Rattle.ring_records.specs.declared.summary.Summary.{Summary}
+use Rattle.ring_records.specs.Codes.{coded_summary}
 use Rattle.ring_records.specs.Member.{Member}
 use Rattle.ring_records.specs.Message.{key_of}
 use Rattle.ring_records.specs.Snapshot.{IsCandidateOf, IsStateOf, IsMessageOf, IsSound, Spells}
+use Rattle.ring_records.specs.Summary.{empty}
 use Rattle.gated_journal.specs.Areas.{AreAreas, HasBase, ReadsAt, ReadsAs}
 use Rattle.gated_journal.specs.Frames.{frames, joined, AreBatches, ReadsTo}
 use Rattle.gated_journal.specs.Props.{key_prop, candidate_prop, IsBatch-prop}
@@ -107,8 +109,9 @@ IsSound-prop n s p q i = record {
   messages = λ msg there. IsMessageOf-prop n msg (p.messages msg there) (q.messages msg there) i;
 }
 
-Spells-prop : (n : ℕ) (bytes : List ℕ) (s : Summary) → IsProp (Spells n bytes s)
-Spells-prop n bytes s p q i = record { is = Bytes-set _ _ p.is q.is i; sound = IsSound-prop n s p.sound q.sound i; few_keys = le_prop p.few_keys q.few_keys i }
+Spells-prop : (layout n : ℕ) (bytes : List ℕ) (s : Summary) → IsProp (Spells layout n bytes s)
+Spells-prop layout n bytes s p q i =
+    record { is = Bytes-set _ _ p.is q.is i; sound = IsSound-prop n s p.sound q.sound i; few_keys = le_prop p.few_keys q.few_keys i; plain = λ old. Coded-set coded_summary s empty (p.plain old) (q.plain old) i }
 
 -- ---- a journal
 
@@ -129,12 +132,12 @@ AreAreas-prop capacity start other p q i = record { both = Numbers-set _ _ p.bot
 HasBase-prop : (n start : ℕ) (image : List ℕ) (r : Reading) (offset : ℕ) → IsProp (HasBase n start image r offset)
 HasBase-prop n start image r offset p q i = record {
   layout = Numbers-set _ _ p.layout q.layout i;
-  known = Numbers-set _ _ p.known q.known i;
+  known = (le_prop p.known.0 q.known.0 i, le_prop p.known.1 q.known.1 i);
   epoch = Numbers-set _ _ p.epoch q.epoch i;
   small = le_prop p.small q.small i;
   offset_is = Numbers-set _ _ p.offset_is q.offset_is i;
   there = le_prop p.there q.there i;
-  snapshot = Spells-prop n _ r.base p.snapshot q.snapshot i;
+  snapshot = Spells-prop r.layout n _ r.base p.snapshot q.snapshot i;
 }
 
 -- where an image is read: the area in use, the other one, the frames, and their closed gate

@@ -57,6 +57,9 @@ module _ (layout n : ℕ) (snapshot taken behind : List ℕ) (left : ℕ) (s : I
   size_of : size_at 0 (taken ++ behind) ≡ length snapshot + left
   size_of = ap (size_at 0) whole_snapshot ∙ (size_there layout s.size s.head (snapshot ++ behind) s.is_head ∙ sym s.left_is)
 
+  layout_of : layout_at 0 (taken ++ behind) ≡ layout
+  layout_of = ap (layout_at 0) whole_snapshot ∙ layout_there layout s.size s.head (snapshot ++ behind) s.is_head
+
   snapshot_is : snapshot_at 0 (taken ++ behind) ≡ snapshot ++ take left behind
   snapshot_is =
       let tail : drop 14 (taken ++ behind) ≡ snapshot ++ behind = ap (drop 14) whole_snapshot ∙ drop_at s.head (snapshot ++ behind) 14 s.is_head.long in
@@ -83,8 +86,8 @@ module _ (layout n : ℕ) (snapshot taken behind : List ℕ) (left : ℕ) (s : I
       }
 
   -- it is that of none
-  pub unspelled : ((base : Summary) → Spells n (snapshot ++ take left behind) base → ⊥) → IsAreaDamaged layout n (taken ++ behind) 0
-  unspelled none = record { cause = inl (refl, inr (inr (inr (inr (inr (λ base spells. none base (subst (λ (l : List ℕ). Spells n l base) snapshot_is spells))))))) }
+  pub unspelled : ((base : Summary) → Spells layout n (snapshot ++ take left behind) base → ⊥) → IsAreaDamaged layout n (taken ++ behind) 0
+  unspelled none = record { cause = inl (refl, inr (inr (inr (inr (inr (λ base spells. none base (subst (λ (k : ℕ). Spells k n (snapshot ++ take left behind) base) layout_of (subst (λ (l : List ℕ). Spells (layout_at 0 (taken ++ behind)) n l base) snapshot_is spells)))))))) }
 
 -- ---- frames
 
@@ -120,7 +123,7 @@ module _ (layout n : ℕ) (snapshot taken behind : List ℕ) (inputs : List Inpu
         small = subst (λ (k : ℕ). k < 2 ^ 40) (sym (ap (epoch_at 0) whole_frames ∙ epoch_there layout (length snapshot) f.head rest f.is_head)) f.is_head.small;
         offset_is = refl;
         there = omega (arith, size_is, ap length whole_frames, length-append f.head rest, length-append snapshot (frames f.batches ++ behind), f.is_head.long);
-        snapshot = subst (λ (l : List ℕ). Spells n l f.base) (sym spelled) f.spells;
+        snapshot = subst (λ (l : List ℕ). Spells layout n l f.base) (sym spelled) f.spells;
       }
 
   frames_there : drop (frames_of 0 (taken ++ behind)) (taken ++ behind) ≡ frames f.batches ++ behind
@@ -218,4 +221,4 @@ not_both layout n bytes s inputs gate_at at read damaged = ⊎_elim (λ none. no
     no_area (inr (inr (inl known))) = known read.base.known
     no_area (inr (inr (inr (inl short)))) = omega (arith, short, read.base.there)
     no_area (inr (inr (inr (inr (inl great))))) = omega (arith, great, read.base.epoch, read.base.small)
-    no_area (inr (inr (inr (inr (inr none))))) = none s read.base.snapshot
+    no_area (inr (inr (inr (inr (inr none))))) = none s (subst (λ (k : ℕ). Spells k n (snapshot_at 0 bytes) s) read.base.layout read.base.snapshot)

@@ -45,6 +45,7 @@ reader_closed layout found rest bytes piece closed r = record {
   behind = r.behind ++ piece;
   whole = ap (λ (l : List ℕ). l ++ piece) r.whole ∙ append_assoc r.taken r.behind piece;
   at = r.at;
+  layout_is = r.layout_is;
   holds = closed_found layout found.snapshot.n found.stage found.snapshot.taken found.inputs.items r.taken r.behind piece closed r.holds;
   waits = closed_waits found.stage r.behind piece closed;
   rest_is = λ going. absurd (closed going);
@@ -65,6 +66,7 @@ reader_alike layout found other rest kept bytes a same r = record {
   behind = r.behind;
   whole = r.whole;
   at = a.at ∙ r.at;
+  layout_is = a.layout ∙ r.layout_is;
   holds = alike_holds layout found other r.taken r.behind a r.holds;
   waits = subst (λ (s : Stage). IsWaiting s r.behind) (sym a.stage) r.waits;
   rest_is = λ going. r.rest_is (subst IsOpen a.stage going) ∙ sym same;
@@ -72,10 +74,10 @@ reader_alike layout found other rest kept bytes a same r = record {
 }
 
 -- the bytes of the rest and of the piece were taken up to here
-pub reader_more : (layout size : ℕ) (found now : Found) (rest bytes piece left : List ℕ) → IsOpen found.stage → (r : IsReader layout found rest bytes) → size ≤ length (rest ++ piece) → now.at ≡ found.at + size
+pub reader_more : (layout size : ℕ) (found now : Found) (rest bytes piece left : List ℕ) → IsOpen found.stage → (r : IsReader layout found rest bytes) → now.snapshot.layout ≡ found.snapshot.layout → size ≤ length (rest ++ piece) → now.at ≡ found.at + size
     → Holds layout now (r.taken ++ take size (rest ++ piece)) (drop size (rest ++ piece)) → IsWaiting now.stage (drop size (rest ++ piece)) → (IsOpen now.stage → left ≡ drop size (rest ++ piece)) → ((IsOpen now.stage → ⊥) → left ≡ [])
     → IsReader layout now left (bytes ++ piece)
-reader_more layout size found now rest bytes piece left going r fits at holds waits kept none =
+reader_more layout size found now rest bytes piece left going r layout_is fits at holds waits kept none =
     let all : List ℕ = rest ++ piece in
     record {
       taken = r.taken ++ take size all;
@@ -83,6 +85,7 @@ reader_more layout size found now rest bytes piece left going r fits at holds wa
       whole = ap (λ (l : List ℕ). l ++ piece) (r.whole ∙ ap (λ (l : List ℕ). r.taken ++ l) (r.rest_is going)) ∙ (append_assoc r.taken rest piece
           ∙ (ap (λ (l : List ℕ). r.taken ++ l) (sym (take-append-drop size all)) ∙ sym (append_assoc r.taken (take size all) (drop size all))));
       at = omega (arith, at, r.at, length-append r.taken (take size all), length-take size all, fits);
+      layout_is = layout_is ∙ r.layout_is;
       holds = holds;
       waits = waits;
       rest_is = λ still. sym (kept still);

@@ -68,19 +68,19 @@ module _ (layout : ℕ) (found : Found) (rest bytes : List ℕ) (r : IsReader la
   done_frames : found.stage ≡ Done → IsFound layout found.snapshot.n Done found.snapshot.taken found.inputs.items r.taken r.behind
   done_frames is = subst (λ (s : Stage). IsFound layout found.snapshot.n s found.snapshot.taken found.inputs.items r.taken r.behind) is r.holds
 
-  pub done_read : found.stage ≡ Done → (base : Summary) → Spells found.snapshot.n found.snapshot.taken base → (more : List ℕ)
+  pub done_read : found.stage ≡ Done → (base : Summary) → Spells found.snapshot.layout found.snapshot.n found.snapshot.taken base → (more : List ℕ)
       → IsAreaRead layout found.snapshot.n (bytes ++ more) base found.inputs.items found.at
   done_read is base spells more =
       let f = (done_frames is).0 in
       let other : InFrames layout found.snapshot.n found.snapshot.taken r.taken found.inputs.items =
-      record { head = f.head; base = base; batches = f.batches; is_head = f.is_head; spells = spells; taken_is = f.taken_is; sized = f.sized; same = f.same } in
+      record { head = f.head; base = base; batches = f.batches; is_head = f.is_head; spells = subst (λ (k : ℕ). Spells k found.snapshot.n found.snapshot.taken base) r.layout_is spells; taken_is = f.taken_is; sized = f.sized; same = f.same } in
       let read = more_frames layout found.snapshot.n found.snapshot.taken r.taken r.behind found.inputs.items other (done_frames is).1 more in
       subst (λ (k : ℕ). IsAreaRead layout found.snapshot.n (bytes ++ more) base found.inputs.items k) (sym r.at)
       (subst (λ (l : List ℕ). IsAreaRead layout found.snapshot.n (l ++ more) base found.inputs.items (length r.taken)) (sym r.whole) read)
 
   -- its snapshot is that of a summary
-  pub done_base : found.stage ≡ Done → (base : Summary) × Spells found.snapshot.n found.snapshot.taken base
-  done_base is = let f = (done_frames is).0 in (f.base, f.spells)
+  pub done_base : found.stage ≡ Done → (base : Summary) × Spells found.snapshot.layout found.snapshot.n found.snapshot.taken base
+  done_base is = let f = (done_frames is).0 in (f.base, subst (λ (k : ℕ). Spells k found.snapshot.n found.snapshot.taken f.base) (sym r.layout_is) f.spells)
 
   -- ---- a damaged one
 

@@ -1,10 +1,10 @@
--- The two areas of a journal, and what an image reads as by the one that is read (layout 2). An area is a gate, a layout,
+-- The two areas of a journal, and what an image reads as by the one that is read. An area is a gate, a layout,
 -- an epoch, the length of a snapshot, the snapshot, and frames behind it.
 use Rattle.std.specs.Prelude.{◌≡◌, ◌≢◌, ◌⊎◌, ◌+◌, ◌<◌, ◌≤◌, ℕ, Bool, true, false, if◌then◌else◌, List, [], ◌∷◌, ◌++◌, length, take, drop, slice_index}
 use Rattle.std.specs.Int.{w32, w64, to_be_bytes}
 use Rattle.disk_model.specs.Disk.{Disk, MayLeave}
 use Rattle.ring_records.specs.declared.summary.Summary.{Summary}
-use Rattle.ring_records.specs.Admission.{epochs, newest}
+use Rattle.ring_records.specs.Admission.{epochs, newest, oldest_area}
 use Rattle.ring_records.specs.Member.{Member}
 use Rattle.ring_records.specs.Snapshot.{Spells, snapshot_of, snapshot_len}
 use Rattle.ring_records.specs.Summary.{empty}
@@ -47,29 +47,33 @@ frames_of start image = start + head_len + size_at start image
 abbrev pub snapshot_at : ℕ → List ℕ → List ℕ
 snapshot_at start image = take (size_at start image) (drop (start + head_len) image)
 
+-- areas of this layout are read
+abbrev pub IsLayout : ℕ → Type 0
+IsLayout layout = (oldest_area ≤ layout) × (layout ≤ newest)
+
 -- the area counts: its gate is there and open, and its layout is known
 pub record Counts (start : ℕ) (image : List ℕ) : Type 0 where
   pub gate : slice_index image start ≡ 1
-  pub known : layout_at start image ≡ newest
+  pub known : IsLayout (layout_at start image)
 
 -- Behind the gate at `start` stand the layout, the epoch and the snapshot of r, for a ring of n, and its frames begin at
 -- `offset`.
 pub record HasBase (n start : ℕ) (image : List ℕ) (r : Reading) (offset : ℕ) : Type 0 where
   pub layout : r.layout ≡ layout_at start image
-  pub known : r.layout ≡ newest
+  pub known : IsLayout r.layout
   pub epoch : r.epoch ≡ epoch_at start image
   pub small : r.epoch < epochs
   pub offset_is : offset ≡ frames_of start image
   pub there : offset ≤ length image
-  pub snapshot : Spells n (snapshot_at start image) r.base
+  pub snapshot : Spells r.layout n (snapshot_at start image) r.base
 
 -- the bytes behind the gate of an area without frames, and its closed gate
 abbrev pub new_area : ℕ → ℕ → Summary → List ℕ
-new_area layout epoch s = layout ∷ to_be_bytes w64 epoch ++ to_be_bytes w32 (snapshot_len s) ++ snapshot_of s ++ 0 ∷ []
+new_area layout epoch s = layout ∷ to_be_bytes w64 epoch ++ to_be_bytes w32 (snapshot_len layout s) ++ snapshot_of layout s ++ 0 ∷ []
 
 -- the same with zeros in place of the layout and the epoch
-abbrev pub blank_area : Summary → List ℕ
-blank_area s = 0 ∷ 0 ∷ 0 ∷ 0 ∷ 0 ∷ 0 ∷ 0 ∷ 0 ∷ 0 ∷ to_be_bytes w32 (snapshot_len s) ++ snapshot_of s ++ 0 ∷ []
+abbrev pub blank_area : ℕ → Summary → List ℕ
+blank_area layout s = 0 ∷ 0 ∷ 0 ∷ 0 ∷ 0 ∷ 0 ∷ 0 ∷ 0 ∷ 0 ∷ to_be_bytes w32 (snapshot_len layout s) ++ snapshot_of layout s ++ 0 ∷ []
 
 -- ---- the area that is read
 
@@ -132,5 +136,5 @@ pub record MayReplace (header : Member) (image : List ℕ) (old : Reading) (star
   pub gate : IsGate is_closed other image
   pub newer : old.epoch < epoch
   pub small : epoch < epochs
-  pub spells : Spells header.n (snapshot_of s) s
-  pub fits : snapshot_len s ≤ header.capacity
+  pub spells : Spells newest header.n (snapshot_of newest s) s
+  pub fits : snapshot_len newest s ≤ header.capacity

@@ -1,5 +1,6 @@
 -- What a batch, a checkpoint, a receipt and a spoiled batch show.
 use Rattle.std.specs.Prelude.{ℕ, Bool, ◌&&◌, nat_le, if◌then◌else◌, List, Option, None, Some, is_some}
+use Rattle.ring_records.specs.Admission.{newest}
 use Rattle.ring_records.specs.declared.input.Input.{Input}
 use Rattle.ring_records.specs.declared.limits.TheConstants.{BATCH_INPUTS}
 use Rattle.ring_records.specs.declared.refusal.Refusal.{Refusal}
@@ -45,7 +46,7 @@ lost spoiled = kept_in spoiled.flown
 
 -- those that a checkpoint takes to the device, with the length of its snapshot
 abbrev pub numbered_by : Checkpoint → Numbered
-numbered_by checkpoint = numbered_with checkpoint.flown.node checkpoint.flown.first checkpoint.flown.inputs.items (Some (snapshot_len checkpoint.base))
+numbered_by checkpoint = numbered_with checkpoint.flown.node checkpoint.flown.first checkpoint.flown.inputs.items (Some (snapshot_len newest checkpoint.base))
 
 -- the summary that it makes durable
 abbrev pub base_by : Checkpoint → Summary

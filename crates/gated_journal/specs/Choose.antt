@@ -1,6 +1,6 @@
 -- Which of the two areas is read, and what the parts of the reader find of it.
 use Rattle.std.specs.Prelude.{◌≡◌, ◌⊎◌, ◌^◌, ◌<◌, ◌≤◌, ℕ, List, length, slice_index}
-use Rattle.ring_records.specs.Admission.{epochs, newest}
+use Rattle.ring_records.specs.Admission.{epochs}
 use Rattle.gated_journal.specs.Areas.{area_a, area_b, AreAreas, layout_at, epoch_at, size_at, frames_of, Counts, IsGate}
 use Rattle.gated_journal.specs.Reading.{Reading}
 use Rattle.gated_journal.specs.declared.area.Area.{Area}
@@ -44,6 +44,7 @@ pub record IsHeadOf (head : Head) (start : ℕ) (image : List ℕ) : Type 0 wher
 pub record IsUsed (capacity : ℕ) (image : List ℕ) (chosen : Chosen) : Type 0 where
   pub areas : AreAreas capacity chosen.start chosen.other
   pub area : IsChosen chosen.start chosen.other image
+  pub layout : chosen.layout ≡ layout_at chosen.start image
   pub epoch : chosen.epoch ≡ epoch_at chosen.start image
   pub small : chosen.epoch < epochs
   pub offset : chosen.offset ≡ frames_of chosen.start image
@@ -53,4 +54,4 @@ pub record IsUsed (capacity : ℕ) (image : List ℕ) (chosen : Chosen) : Type 0
 
 -- what the area that was chosen is read as
 abbrev pub reading_of : Chosen → Contents → Reading
-reading_of chosen found = record { layout = newest; epoch = chosen.epoch; base = found.base; inputs = found.inputs.items }
+reading_of chosen found = record { layout = chosen.layout; epoch = chosen.epoch; base = found.base; inputs = found.inputs.items }

@@ -6,7 +6,7 @@ use Rattle.ring_records.specs.declared.refusal.Refusal.TheVariants.{Damaged}
 use Rattle.ring_records.specs.declared.summary.Summary.{Summary}
 use Rattle.ring_records.specs.Admission.{epochs}
 use Rattle.ring_records.specs.Snapshot.{Spells}
-use Rattle.gated_journal.specs.Areas.{area_a, head_len, AreAreas, epoch_at, frames_of, snapshot_at, HasBase}
+use Rattle.gated_journal.specs.Areas.{area_a, head_len, AreAreas, layout_at, epoch_at, frames_of, snapshot_at, HasBase}
 use Rattle.gated_journal.specs.Choose.{IsChosen, IsUnchosen}
 use Rattle.gated_journal.specs.Frames.{body, frames, joined, IsBatch, AreBatches, ReadsTo}
 use Rattle.gated_journal.specs.Reading.{Reading}
@@ -43,7 +43,7 @@ pub record IsBroken (offset : ℕ) (image : List ℕ) (refusal : Refusal) : Type
 abbrev pub IsHeadBroken : ℕ → ℕ → List ℕ → Type 0
 IsHeadBroken n start image =
     (length image < frames_of start image)
-    ⊎ ((epochs ≤ epoch_at start image) ⊎ ((s : Summary) → Spells n (snapshot_at start image) s → ⊥))
+    ⊎ ((epochs ≤ epoch_at start image) ⊎ ((s : Summary) → Spells (layout_at start image) n (snapshot_at start image) s → ⊥))
 
 -- frames from this offset on end behind this bound
 pub record GoesPast (bound offset : ℕ) (image : List ℕ) : Type 0 where

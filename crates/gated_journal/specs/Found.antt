@@ -4,9 +4,9 @@ use Rattle.ring_records.specs.declared.input.Input.{Input}
 use Rattle.ring_records.specs.declared.refusal.Refusal.{Refusal}
 use Rattle.ring_records.specs.declared.refusal.Refusal.TheVariants as refused
 use Rattle.ring_records.specs.declared.summary.Summary.{Summary}
-use Rattle.ring_records.specs.Admission.{epochs, newest}
+use Rattle.ring_records.specs.Admission.{epochs}
 use Rattle.ring_records.specs.Snapshot.{Spells}
-use Rattle.gated_journal.specs.Areas.{layout_at, epoch_at, size_at}
+use Rattle.gated_journal.specs.Areas.{IsLayout, layout_at, epoch_at, size_at}
 use Rattle.gated_journal.specs.Frames.{frames, joined, AreBatches}
 use Rattle.gated_journal.specs.Pieces.{IsAreaDamaged, IsNextFront}
 use Rattle.gated_journal.specs.declared.area_reader.Fed.{Fed}
@@ -22,7 +22,7 @@ pub record IsHead (layout size : ℕ) (head : List ℕ) : Type 0 where
   pub long : length head ≡ 14
   pub gate : slice_index head 0 ≡ 1
   pub layout_is : layout_at 0 head ≡ layout
-  pub known : layout ≡ newest
+  pub known : IsLayout layout
   pub small : epoch_at 0 head < epochs
   pub size_is : size_at 0 head ≡ size
 
@@ -40,7 +40,7 @@ pub record InFrames (layout n : ℕ) (snapshot taken : List ℕ) (inputs : List 
   pub base : Summary
   pub batches : List (List Input)
   pub is_head : IsHead layout (length snapshot) head
-  pub spells : Spells n snapshot base
+  pub spells : Spells layout n snapshot base
   pub taken_is : taken ≡ head ++ (snapshot ++ frames batches)
   pub sized : AreBatches batches
   pub same : inputs ≡ joined batches
@@ -108,6 +108,7 @@ HasRoom found bytes = IsRoom found.stage found.snapshot.room (vec_capacity found
 pub record AreAlike (found other : Found) : Type 0 where
   pub stage : other.stage ≡ found.stage
   pub n : other.snapshot.n ≡ found.snapshot.n
+  pub layout : other.snapshot.layout ≡ found.snapshot.layout
   pub snapshot : other.snapshot.taken ≡ found.snapshot.taken
   pub inputs : other.inputs.items ≡ found.inputs.items
   pub at : other.at ≡ found.at
@@ -121,6 +122,7 @@ pub record IsReader (layout : ℕ) (found : Found) (rest bytes : List ℕ) : Typ
   pub behind : List ℕ
   pub whole : bytes ≡ taken ++ behind
   pub at : found.at ≡ length taken
+  pub layout_is : found.snapshot.layout ≡ layout
   pub holds : Holds layout found taken behind
   pub waits : IsWaiting found.stage behind
   pub rest_is : IsOpen found.stage → behind ≡ rest

@@ -5,8 +5,8 @@ use Rattle.ring_records.specs.declared.limits.TheConstants.{BATCH_INPUTS}
 use Rattle.ring_records.specs.declared.refusal.Refusal.{Refusal}
 use Rattle.ring_records.specs.declared.refusal.Refusal.TheVariants.{Damaged}
 use Rattle.ring_records.specs.declared.summary.Summary.{Summary}
-use Rattle.ring_records.specs.Admission.{epochs, newest}
-use Rattle.gated_journal.specs.Areas.{head_len, layout_at, epoch_at, frames_of, HasBase}
+use Rattle.ring_records.specs.Admission.{epochs}
+use Rattle.gated_journal.specs.Areas.{head_len, IsLayout, layout_at, epoch_at, frames_of, HasBase}
 use Rattle.gated_journal.specs.Damage.{ReadsUpTo, IsDamagedAt, IsHeadBroken}
 use Rattle.gated_journal.specs.Frames.{body, IsBatch, ReadsTo}
 use Rattle.gated_journal.specs.Reading.{Reading, number_at}
@@ -40,7 +40,7 @@ pub record IsAreaRead (layout n : ℕ) (bytes : List ℕ) (s : Summary) (inputs 
 
 -- no area of this layout begins there: the gate is not open, the layout is another or not known, or the head is broken
 abbrev pub IsNoArea : ℕ → ℕ → List ℕ → Type 0
-IsNoArea layout n bytes = (slice_index bytes 0 ≢ 1) ⊎ ((layout_at 0 bytes ≢ layout) ⊎ ((layout ≢ newest) ⊎ IsHeadBroken n 0 bytes))
+IsNoArea layout n bytes = (slice_index bytes 0 ≢ 1) ⊎ ((layout_at 0 bytes ≢ layout) ⊎ ((IsLayout layout → ⊥) ⊎ IsHeadBroken n 0 bytes))
 
 -- the area has a head, and its frames are damaged at this offset
 pub record AreFramesDamaged (layout n : ℕ) (bytes : List ℕ) (at : ℕ) : Type 0 where
@@ -74,7 +74,7 @@ IsNextFront behind = (behind ≡ []) ⊎ ((tail : List ℕ) × ((behind ≡ 1 �
 pub record IsSnapshotFront (layout : ℕ) (bytes : List ℕ) (kept : ℕ) : Type 0 where
   pub gate : slice_index bytes 0 ≡ 1
   pub layout_is : layout_at 0 bytes ≡ layout
-  pub known : layout ≡ newest
+  pub known : IsLayout layout
   pub small : epoch_at 0 bytes < epochs
   pub ends : length bytes < frames_of 0 bytes
   pub there : head_len + kept ≤ length bytes

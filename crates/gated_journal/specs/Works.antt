@@ -34,7 +34,7 @@ IsTaken member count room epoch (works.Batch batch) =
     ((shown batch).node ≡ member.node) × ((shown batch).first ≡ count) × (costs_of (shown batch).inputs ≤ room)
 IsTaken member count room epoch (works.Checkpoint made) =
     ((numbered_by made).node ≡ member.node) × ((numbered_by made).first ≡ count)
-    × (snapshot_len (base_by made) ≤ member.capacity) × IsSound member.n (base_by made) × (epoch + 1 < 2 ^ 40)
+    × (snapshot_len newest (base_by made) ≤ member.capacity) × IsSound member.n (base_by made) × (epoch + 1 < 2 ^ 40)
 
 -- ---- what it makes of a journal: by its summary, or the length of that, where it is a checkpoint
 

@@ -6,7 +6,7 @@ ghost use Rattle.gated_journal.specs.Choose.{IsHeadOf, IsChosen, IsUnchosen, IsU
 ghost use Rattle.gated_journal.specs.Damage.{AreAreasUnread};
 ghost use Rattle.gated_journal.specs.Unread.{IsFault};
 
-use crate::layout::{AREA_A, area_b};
+use crate::layout::{AREA_A, area_b, is_layout};
 use crate::read::read_part;
 use disk_model::Device;
 use ring_records::{EPOCHS, Refusal};
@@ -27,6 +27,7 @@ pub(crate) struct Chosen {
     // where the other one begins, and whether its gate is there and closed
     pub(crate) other: u64,
     pub(crate) is_closed: bool,
+    pub(crate) layout: u8,
     pub(crate) epoch: u64,
     // where its frames begin
     pub(crate) offset: u64,
@@ -56,7 +57,7 @@ impl Head {
     fn counts(&self) -> bool
         ensures { (start : ℕ) (image : List ℕ) → IsHeadOf self.now start image → Decides result (Counts start image) }
     {
-        self.gate == 1 && self.layout == 2
+        self.gate == 1 && is_layout(self.layout)
     }
 }
 
@@ -98,6 +99,7 @@ fn take_area(head: &Head, start: u64, over: &Head, other: u64, size: u64) -> Res
         start,
         other,
         is_closed: other < size && over.gate != 1,
+        layout: head.layout,
         epoch: head.epoch,
         offset,
     })

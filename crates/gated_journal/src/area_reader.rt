@@ -61,7 +61,7 @@ impl AreaReader {
         AreaReader {
             offset,
             layout,
-            found: Found::new(alloc, n),
+            found: Found::new(alloc, layout, n),
             rest: Vec::new(alloc),
             fed: Joined::new(),
         }

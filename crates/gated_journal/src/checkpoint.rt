@@ -17,19 +17,19 @@ pub struct Checkpoint {
     pub(crate) flown: Flown,
     pub(crate) base: Summary,
     pub(crate) bytes: Vec<u8>,
-    ghost framed: { bytes.items ≡ blank_area base },
-    ghost sized: { flown.snapshot ≡ Some (snapshot_len base) },
-    ghost short: { snapshot_len base < 2 ^ 32 },
+    ghost framed: { bytes.items ≡ blank_area newest base },
+    ghost sized: { flown.snapshot ≡ Some (snapshot_len newest base) },
+    ghost short: { snapshot_len newest base < 2 ^ 32 },
     ghost few_keys: { map.len base.keys < 2 ^ 32 },
 }
 
 // The bytes of an area without frames behind its gate, with zeros in place of the layout and the epoch.
 fn blank_area(alloc: Global, base: &Summary) -> Result<Vec<u8>, AllocError>
-    requires short { snapshot_len base.now < 2 ^ 32 }
+    requires short { snapshot_len newest base.now < 2 ^ 32 }
     requires few_keys { map.len base.now.keys < 2 ^ 32 }
-    ensures { IfOk result (λ bytes. bytes.items ≡ blank_area base.now) }
+    ensures { IfOk result (λ bytes. bytes.items ≡ blank_area newest base.now) }
 {
-    let snapshot = write_summary(alloc, base)?;
+    let snapshot = write_summary(alloc, base, LAYOUT)?;
     let size = snapshot.len() as u32;
     let mut bytes = vec![in alloc; 0; 9]?;
     bytes.extend_from_slice(&size.to_be_bytes())?;
@@ -41,7 +41,7 @@ fn blank_area(alloc: Global, base: &Summary) -> Result<Vec<u8>, AllocError>
 /// Writes the layout and the epoch in front of an area's bytes.
 pub(crate) fn number(bytes: &mut Vec<u8>, epoch: u64)
     requires { 9 ≤ length bytes.old.items }
-    ensures { (base : Summary) → bytes.old.items ≡ blank_area base → bytes.new.items ≡ new_area newest epoch base }
+    ensures { (base : Summary) → bytes.old.items ≡ blank_area newest base → bytes.new.items ≡ new_area newest epoch base }
 {
     bytes[0] = LAYOUT;
     bytes[1..9].copy_from_slice(&epoch.to_be_bytes());
@@ -59,9 +59,9 @@ impl Checkpoint {
         inputs: &[Input],
         base: Summary,
     ) -> Result<Checkpoint, Refusal>
-        requires short { snapshot_len base < 2 ^ 32 }
+        requires short { snapshot_len newest base < 2 ^ 32 }
         requires few_keys { map.len base.keys < 2 ^ 32 }
-        ensures value { IfOk result (λ checkpoint. numbered_by checkpoint ≡ numbered_with node first inputs.now (Some (snapshot_len base))) }
+        ensures value { IfOk result (λ checkpoint. numbered_by checkpoint ≡ numbered_with node first inputs.now (Some (snapshot_len newest base))) }
         ensures base { IfOk result (λ checkpoint. base_by checkpoint ≡ base) }
         ensures refusal { IfErr result (λ refusal. refusal ≡ Refusal.OutOfMemory) }
     {
@@ -71,7 +71,7 @@ impl Checkpoint {
         let Ok(kept) = inputs.to_vec(alloc) else {
             return Err(Refusal::OutOfMemory);
         };
-        let snapshot = summary_len(&base);
+        let snapshot = summary_len(&base, LAYOUT);
         Ok(Checkpoint {
             flown: Flown {
                 node,
@@ -114,8 +114,8 @@ impl Checkpoint {
 
     /// The bytes of the capacity that its snapshot takes.
     pub fn cost(&self) -> u32
-        ensures { result ≡ snapshot_len (base_by self.now) }
+        ensures { result ≡ snapshot_len newest (base_by self.now) }
     {
-        summary_len(&self.base) as u32
+        summary_len(&self.base, LAYOUT) as u32
     }
 }

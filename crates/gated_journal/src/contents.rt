@@ -27,21 +27,22 @@ pub(crate) struct Contents {
 fn read_contents<D: Device>(
     alloc: Global,
     device: &mut D,
+    layout: u8,
     n: u8,
     start: u64,
 ) -> Result<Contents, Refusal>
     requires there { start ≤ length (D.disk device.old).image }
-    ensures area { IfOk result (λ found. IsAreaAt n start (D.disk device.old).image found.base found.inputs.items found.gate_at) }
+    ensures area { IfOk result (λ found. IsAreaAt layout n start (D.disk device.old).image found.base found.inputs.items found.gate_at) }
     ensures disk { D.disk device.new ≡ D.disk device.old }
     ensures any_moment { LeavesOnly D.clock D.left_since device.old device.new (MayLeave (D.disk device.old)) }
-    ensures refusal { IfErr result (λ refusal. IsFault (D.count device.old) (D.count device.new) refusal ⊎ IsContentless n start (D.disk device.old).image refusal) }
+    ensures refusal { IfErr result (λ refusal. IsFault (D.count device.old) (D.count device.new) refusal ⊎ IsContentless layout n start (D.disk device.old).image refusal) }
     ensures later { D.count device.old ≤ D.count device.new }
     ensures same { OnOk result (D.count device.new ≡ D.count device.old) }
     ensures first { IfErr result (λ refusal. IsFault (D.count device.old) (D.count device.new) refusal ⊎ (D.count device.new ≡ D.count device.old)) }
-    ensures works { Reaches (D.reach device.old) (length (D.disk device.old).image) → IfErr result (λ refusal. IsContentless n start (D.disk device.old).image refusal) }
+    ensures works { Reaches (D.reach device.old) (length (D.disk device.old).image) → IfErr result (λ refusal. IsContentless layout n start (D.disk device.old).image refusal) }
     ensures reach { D.reach device.new ≡ D.reach device.old }
 {
-    match feed_all(alloc, device, n, start) {
+    match feed_all(alloc, device, layout, n, start) {
         Err(refusal) => Err(refusal),
         Ok(reader) => match reader.finish() {
             Err(refusal) => Err(refusal),
@@ -77,7 +78,7 @@ pub(crate) fn read_area<D: Device>(
     ensures reach { D.reach device.new ≡ D.reach device.old }
 {
     let bound = chosen.start + 14 + u64::from(capacity);
-    match read_contents(alloc, device, n, chosen.start) {
+    match read_contents(alloc, device, chosen.layout, n, chosen.start) {
         Err(refusal) => Err(refusal),
         Ok(contents) => {
             let gate_at = contents.gate_at;

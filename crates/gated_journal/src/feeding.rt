@@ -6,7 +6,6 @@ ghost use Rattle.gated_journal.specs.Feeding.{IsFed, IsContentless};
 ghost use Rattle.gated_journal.specs.Pieces.{with_piece, IsPieceDamaged};
 ghost use Rattle.gated_journal.specs.Unread.{IsFault};
 
-use crate::layout::LAYOUT;
 use crate::read::read_part;
 use crate::{AreaReader, Fed};
 use disk_model::Device;
@@ -44,28 +43,29 @@ fn feed_from<D: Device>(
     reader.feed(piece)
 }
 
-/// Feeds a new reader the area at `start`, until it is done or no bytes are left. Refused as 15, as 16 with the offset of
+/// Feeds a new reader the area of this layout at `start`, until it is done or no bytes are left. Refused as 15, as 16 with the offset of
 /// what is damaged, and as 8.
 pub(crate) fn feed_all<D: Device>(
     alloc: Global,
     device: &mut D,
+    layout: u8,
     n: u8,
     start: u64,
 ) -> Result<AreaReader, Refusal>
     requires there { start ≤ length (D.disk device.old).image }
-    ensures fed { IfOk result (λ reader. IsFed n start (D.disk device.old).image reader) }
+    ensures fed { IfOk result (λ reader. IsFed layout n start (D.disk device.old).image reader) }
     ensures small { IfOk result (λ reader. reader.offset + length reader.bytes < 2 ^ 64) }
     ensures disk { D.disk device.new ≡ D.disk device.old }
     ensures any_moment { LeavesOnly D.clock D.left_since device.old device.new (MayLeave (D.disk device.old)) }
-    ensures refusal { IfErr result (λ refusal. IsFault (D.count device.old) (D.count device.new) refusal ⊎ IsContentless n start (D.disk device.old).image refusal) }
+    ensures refusal { IfErr result (λ refusal. IsFault (D.count device.old) (D.count device.new) refusal ⊎ IsContentless layout n start (D.disk device.old).image refusal) }
     ensures later { D.count device.old ≤ D.count device.new }
     ensures same { OnOk result (D.count device.new ≡ D.count device.old) }
     ensures first { IfErr result (λ refusal. IsFault (D.count device.old) (D.count device.new) refusal ⊎ (D.count device.new ≡ D.count device.old)) }
-    ensures works { Reaches (D.reach device.old) (length (D.disk device.old).image) → IfErr result (λ refusal. IsContentless n start (D.disk device.old).image refusal) }
+    ensures works { Reaches (D.reach device.old) (length (D.disk device.old).image) → IfErr result (λ refusal. IsContentless layout n start (D.disk device.old).image refusal) }
     ensures reach { D.reach device.new ≡ D.reach device.old }
 {
     let size = device.size();
-    let mut reader = AreaReader::new(alloc, start, LAYOUT, n);
+    let mut reader = AreaReader::new(alloc, start, layout, n);
     let mut buffer = [0; PIECE];
     let mut at = start;
     while at < size {

@@ -29,9 +29,10 @@ pub(crate) struct Found {
 }
 
 impl Found {
-    /// Nothing yet of an area of a ring of `n` nodes.
-    pub(crate) fn new(alloc: Global, n: u8) -> Found
+    /// Nothing yet of an area of this layout, of a ring of `n` nodes.
+    pub(crate) fn new(alloc: Global, layout: u8, n: u8) -> Found
         ensures n { result.snapshot.n ≡ n }
+        ensures layout { result.snapshot.layout ≡ layout }
         ensures stage { result.stage ≡ Stage.Head }
         ensures snapshot { result.snapshot.taken ≡ [] }
         ensures inputs { result.inputs.items ≡ [] }
@@ -39,7 +40,7 @@ impl Found {
     {
         Found {
             stage: Stage::Head,
-            snapshot: SummaryReader::new(alloc, n),
+            snapshot: SummaryReader::new(alloc, n, layout),
             inputs: Vec::new(alloc),
             at: 0,
         }

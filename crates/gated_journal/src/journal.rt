@@ -66,6 +66,7 @@ impl<D: Device> Journal<D> {
                     start: AREA_A,
                     other: area_b(capacity),
                     is_closed,
+                    layout: LAYOUT,
                     epoch: 1,
                     offset: 68,
                 };
@@ -150,7 +151,7 @@ impl<D: Device> Journal<D> {
                     area,
                     gate_at,
                     count: base.inputs + inputs.len() as u64,
-                    used: summary_len(&base) + costs_of(&inputs),
+                    used: summary_len(&base, area.layout) + costs_of(&inputs),
                 };
                 let journal = Journal {
                     device,
@@ -160,7 +161,7 @@ impl<D: Device> Journal<D> {
                     is_spoiled: false,
                 };
                 let opening = Opening {
-                    layout: LAYOUT,
+                    layout: area.layout,
                     epoch: area.epoch,
                     base,
                     inputs,
@@ -275,7 +276,7 @@ impl<D: Device> Journal<D> {
         requires ready { is_spoiled self.old ≡ false }
         requires node { (numbered_by checkpoint).node ≡ (member_of self.old).node }
         requires first { (numbered_by checkpoint).first ≡ len_of self.old }
-        requires fits { snapshot_len (base_by checkpoint) ≤ (member_of self.old).capacity }
+        requires fits { snapshot_len newest (base_by checkpoint) ≤ (member_of self.old).capacity }
         requires sound { IsSound (member_of self.old).n (base_by checkpoint) }
         requires epoch { epoch_of self.old + 1 < 2 ^ 40 }
 
@@ -294,7 +295,7 @@ impl<D: Device> Journal<D> {
         ensures spoiled { IfErr result (λ spoiled. lost spoiled ≡ numbered_by checkpoint) }
         ensures header { member_of self.new ≡ member_of self.old }
         ensures len { OnOk result (len_of self.new ≡ (base_by checkpoint).inputs) }
-        ensures room { OnOk result (room_of self.new ≡ (member_of self.old).capacity - snapshot_len (base_by checkpoint)) }
+        ensures room { OnOk result (room_of self.new ≡ (member_of self.old).capacity - snapshot_len newest (base_by checkpoint)) }
         ensures next { OnOk result (epoch_of self.new ≡ epoch_of self.old + 1) }
         ensures kept { OnErr result ((len_of self.new ≡ len_of self.old) × (room_of self.new ≡ room_of self.old) × (epoch_of self.new ≡ epoch_of self.old)) }
     {

@@ -1,16 +1,23 @@
 //! Where a journal lies on its device.
-ghost use Rattle.std.specs.Prelude.{◌≡◌};
+ghost use Rattle.std.specs.Prelude.{◌≡◌, Decides};
 ghost use Rattle.ring_records.specs.Member.{member};
-ghost use Rattle.gated_journal.specs.Areas.{area_b};
+ghost use Rattle.gated_journal.specs.Areas.{IsLayout, area_b};
 ghost use Rattle.gated_journal.specs.Reading.{device_size, is_header};
 
-use ring_records::{GREATEST_CAPACITY, LEAST_CAPACITY, NodeNo};
+use ring_records::{GREATEST_CAPACITY, LEAST_CAPACITY, NodeNo, OLDEST_AREA};
 
-/// The layout of the areas that are written, and the only one that is read.
+/// The layout of the areas that are written.
 pub(crate) use ring_records::LAYOUT;
 
 /// The offset of area A: it stands behind the header.
 pub(crate) const AREA_A: u64 = 16;
+
+/// Whether areas of this layout are read.
+pub(crate) fn is_layout(layout: u8) -> bool
+    ensures { Decides result (IsLayout layout) }
+{
+    OLDEST_AREA <= layout && layout <= LAYOUT
+}
 
 /// The offset of area B: it stands where area A ends at the latest.
 pub(crate) fn area_b(capacity: u32) -> u64

@@ -5,7 +5,7 @@ ghost use Rattle.ring_records.specs.Summary.{empty};
 ghost use Rattle.gated_journal.specs.Reading.{fresh_area, reading_of_opening};
 
 use crate::layout::LAYOUT;
-use ring_records::{Input, KeyStates, Messages, Summary};
+use ring_records::{Input, Summary};
 use std::alloc::Global;
 
 /// What the area in use of a journal holds: a summary of the first inputs, and the inputs behind these.
@@ -29,15 +29,7 @@ impl Opening {
         Opening {
             layout: LAYOUT,
             epoch: 1,
-            base: Summary {
-                inputs: 0,
-                taken: 0,
-                credit: 0,
-                sent: 0,
-                stands: 0,
-                keys: KeyStates::from_sorted(Vec::new(alloc)),
-                window: Messages::from_vec(Vec::new(alloc)),
-            },
+            base: Summary::empty(alloc),
             inputs: Vec::new(alloc),
         }
     }

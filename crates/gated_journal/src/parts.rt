@@ -3,7 +3,8 @@
 ghost use Rattle.std.specs.Prelude.{◌≡◌, ◌+◌, ◌*◌, ◌-◌, ◌++◌, ◌⊎◌, ◌<◌, ◌≤◌, ◌^◌, ℕ, List, [], length, take, drop, vec_len, vec_capacity, Decides, Err, IfOk, IfErr, OnOk, OnErr, IsOk};
 ghost use Rattle.ring_records.specs.declared.input.Input.{Input};
 ghost use Rattle.ring_records.specs.declared.refusal.Refusal.TheVariants as refused;
-ghost use Rattle.ring_records.specs.Admission.{epochs, newest};
+ghost use Rattle.ring_records.specs.Admission.{epochs};
+ghost use Rattle.gated_journal.specs.Areas.{IsLayout};
 ghost use Rattle.gated_journal.specs.Choose.{IsHeadOf};
 ghost use Rattle.gated_journal.specs.Pieces.{IsAreaRead, IsAreaDamaged};
 ghost use Rattle.gated_journal.specs.Found.{InSnapshot, InFrames, IsFound, IsWaiting, IsBefore, IsOpen, IsRoom, Holds, HasRoom, AreAlike, IsReader, answer_of};
@@ -11,7 +12,7 @@ ghost use Rattle.gated_journal.specs.Found.{InSnapshot, InFrames, IsFound, IsWai
 use crate::area::{Head, head_in};
 use crate::area_reader::Fed;
 use crate::found::{Found, Stage};
-use crate::layout::LAYOUT;
+use crate::layout::is_layout;
 use crate::next_frame::{is_short, take_frame};
 use ring_records::{EPOCHS, Input, Refusal, Summary, SummaryReader};
 use std::alloc::AllocError;
@@ -23,12 +24,14 @@ pub(crate) fn read_on(
     rest: &mut Vec<u8>,
     piece: &[u8],
 ) -> Result<(), AllocError>
+    requires layout { found.old.snapshot.layout ≡ layout }
     requires small { IsOpen found.old.stage → found.old.at + (length rest.old.items + length piece.now) < 2 ^ 64 }
     ensures reads { OnOk result ((bytes : List ℕ) → IsReader layout found.old rest.old.items bytes → IsReader layout found.new rest.new.items (bytes ++ piece.now)) }
     ensures kept { OnErr result ((bytes : List ℕ) → IsReader layout found.old rest.old.items bytes → IsReader layout found.new rest.new.items bytes) }
     ensures err { OnErr result (found.new.stage ≡ found.old.stage) }
     ensures again { IsOpen found.old.stage ⊎ (IsOk result × (found.new.stage ≡ found.old.stage)) }
     ensures n { found.new.snapshot.n ≡ found.old.snapshot.n }
+    ensures layout { found.new.snapshot.layout ≡ found.old.snapshot.layout }
 {
     match found.stage {
         Stage::Head => read_open(found, layout, rest, piece),
@@ -86,12 +89,14 @@ fn read_open(
     rest: &mut Vec<u8>,
     piece: &[u8],
 ) -> Result<(), AllocError>
+    requires layout { found.old.snapshot.layout ≡ layout }
     requires is_open { IsOpen found.old.stage }
     requires small { found.old.at + (length rest.old.items + length piece.now) < 2 ^ 64 }
     ensures reads { OnOk result ((bytes : List ℕ) → IsReader layout found.old rest.old.items bytes → IsReader layout found.new rest.new.items (bytes ++ piece.now)) }
     ensures alike { OnErr result (AreAlike found.old found.new) }
     ensures rest { OnErr result (rest.new.items ≡ rest.old.items) }
     ensures n { found.new.snapshot.n ≡ found.old.snapshot.n }
+    ensures layout { found.new.snapshot.layout ≡ found.old.snapshot.layout }
 {
     make_room(found, rest.len() + piece.len())?;
     rest.extend_from_slice(piece)?;
@@ -135,6 +140,7 @@ fn make_snapshot_room(
     bytes: usize,
 ) -> Result<(), AllocError>
     ensures n { snapshot.new.n ≡ snapshot.old.n }
+    ensures layout { snapshot.new.layout ≡ snapshot.old.layout }
     ensures taken { snapshot.new.taken ≡ snapshot.old.taken }
     ensures room { OnOk result (IsBefore stage → bytes ≤ snapshot.new.room) }
 {
@@ -149,6 +155,7 @@ fn make_snapshot_room(
 
 // Takes all that is whole from the front of the bytes, and tells how many that are.
 fn take_all(found: &mut Found, layout: u8, bytes: &[u8]) -> usize
+    requires layout { found.old.snapshot.layout ≡ layout }
     requires small { found.old.at + length bytes.now < 2 ^ 64 }
     requires room { HasRoom found.old (length bytes.now) }
     ensures holds { (taken : List ℕ) → found.old.at ≡ length taken → Holds layout found.old taken bytes.now
@@ -157,6 +164,7 @@ fn take_all(found: &mut Found, layout: u8, bytes: &[u8]) -> usize
     ensures size { result ≤ length bytes.now }
     ensures at { found.new.at ≡ found.old.at + result }
     ensures n { found.new.snapshot.n ≡ found.old.snapshot.n }
+    ensures layout { found.new.snapshot.layout ≡ found.old.snapshot.layout }
 {
     let mut taken = 0;
     let mut size = take_next(found, layout, bytes);
@@ -169,6 +177,7 @@ fn take_all(found: &mut Found, layout: u8, bytes: &[u8]) -> usize
 
 // Takes the next part, where it is whole, and tells how long it is.
 fn take_next(found: &mut Found, layout: u8, bytes: &[u8]) -> usize
+    requires layout { found.old.snapshot.layout ≡ layout }
     requires small { found.old.at + length bytes.now < 2 ^ 64 }
     requires room { HasRoom found.old (length bytes.now) }
     ensures holds { (taken : List ℕ) → found.old.at ≡ length taken → Holds layout found.old taken bytes.now
@@ -178,6 +187,7 @@ fn take_next(found: &mut Found, layout: u8, bytes: &[u8]) -> usize
     ensures size { result ≤ length bytes.now }
     ensures at { found.new.at ≡ found.old.at + result }
     ensures n { found.new.snapshot.n ≡ found.old.snapshot.n }
+    ensures layout { found.new.snapshot.layout ≡ found.old.snapshot.layout }
 {
     let (stage, size) = take_part(found, layout, bytes);
     found.stage = stage;
@@ -186,6 +196,7 @@ fn take_next(found: &mut Found, layout: u8, bytes: &[u8]) -> usize
 }
 
 fn take_part(found: &mut Found, layout: u8, bytes: &[u8]) -> (Stage, usize)
+    requires layout { found.old.snapshot.layout ≡ layout }
     requires room { HasRoom found.old (length bytes.now) }
     ensures holds { (taken : List ℕ) → found.old.at ≡ length taken → Holds layout found.old taken bytes.now
         → IsFound layout found.new.snapshot.n result.0 found.new.snapshot.taken found.new.inputs.items (taken ++ take result.1 bytes.now) (drop result.1 bytes.now) }
@@ -194,6 +205,7 @@ fn take_part(found: &mut Found, layout: u8, bytes: &[u8]) -> (Stage, usize)
     ensures size { result.1 ≤ length bytes.now }
     ensures at { found.new.at ≡ found.old.at }
     ensures n { found.new.snapshot.n ≡ found.old.snapshot.n }
+    ensures layout { found.new.snapshot.layout ≡ found.old.snapshot.layout }
 {
     match found.stage {
         Stage::Head => take_head(&found.snapshot, layout, bytes),
@@ -205,6 +217,7 @@ fn take_part(found: &mut Found, layout: u8, bytes: &[u8]) -> (Stage, usize)
 }
 
 fn take_head(snapshot: &SummaryReader, layout: u8, bytes: &[u8]) -> (Stage, usize)
+    requires layout { snapshot.now.layout ≡ layout }
     ensures holds { snapshot.now.taken ≡ [] → IsFound layout snapshot.now.n result.0 snapshot.now.taken [] (take result.1 bytes.now) (drop result.1 bytes.now) }
     ensures waits { result.1 ≡ 0 → IsWaiting result.0 bytes.now }
     ensures size { result.1 ≤ length bytes.now }
@@ -230,14 +243,15 @@ fn head_at(bytes: &[u8]) -> Head
 
 // Whether an area of this layout has this head, and the layout is read.
 fn is_read(head: &Head, layout: u8) -> bool
-    ensures { Decides result ((head.now.gate ≡ 1) × ((head.now.layout ≡ layout) × ((layout ≡ newest) × (head.now.epoch < epochs)))) }
+    ensures { Decides result ((head.now.gate ≡ 1) × ((head.now.layout ≡ layout) × ((IsLayout layout) × (head.now.epoch < epochs)))) }
 {
-    head.gate == 1 && head.layout == layout && layout == LAYOUT && head.epoch < EPOCHS
+    head.gate == 1 && head.layout == layout && is_layout(layout) && head.epoch < EPOCHS
 }
 
 // What stands next where so many bytes of the snapshot are still to come. Where none are it is judged.
 fn stage_behind(snapshot: &SummaryReader, left: u32) -> Stage
-    ensures { (layout : ℕ) (taken behind : List ℕ) → InSnapshot layout snapshot.now.taken taken left → IsFound layout snapshot.now.n result snapshot.now.taken [] taken behind }
+    ensures { (layout : ℕ) (taken behind : List ℕ) → snapshot.now.layout ≡ layout → InSnapshot layout snapshot.now.taken taken left
+        → IsFound layout snapshot.now.n result snapshot.now.taken [] taken behind }
 {
     if left > 0 {
         return Stage::Snapshot(left);
@@ -252,12 +266,13 @@ fn stage_behind(snapshot: &SummaryReader, left: u32) -> Stage
 // A part of a snapshot has 38 bytes at most, so it is judged once these are there, or all that are left.
 fn take_snapshot(snapshot: &mut SummaryReader, left: u32, bytes: &[u8]) -> (Stage, usize)
     requires room { length bytes.now ≤ snapshot.old.room }
-    ensures holds { (layout : ℕ) (taken : List ℕ) → InSnapshot layout snapshot.old.taken taken left → 0 < left
+    ensures holds { (layout : ℕ) (taken : List ℕ) → snapshot.old.layout ≡ layout → InSnapshot layout snapshot.old.taken taken left → 0 < left
         → IsFound layout snapshot.new.n result.0 snapshot.new.taken [] (taken ++ take result.1 bytes.now) (drop result.1 bytes.now) }
     ensures waits { 0 < left → result.1 ≡ 0 → IsWaiting result.0 bytes.now }
     ensures room { 1 ≤ result.1 → length bytes.now - result.1 ≤ snapshot.new.room }
     ensures size { result.1 ≤ length bytes.now }
     ensures n { snapshot.new.n ≡ snapshot.old.n }
+    ensures layout { snapshot.new.layout ≡ snapshot.old.layout }
 {
     let least = (left as usize).min(38);
     if bytes.len() < least {

@@ -11,6 +11,7 @@ use crate::area::Chosen;
 use crate::checkpoint::number;
 use crate::commit::append;
 use crate::flown::Flown;
+use crate::layout::LAYOUT;
 use crate::replace::replace_area;
 use crate::{Batch, Checkpoint, Work};
 use disk_model::{Device, DeviceFault};
@@ -79,7 +80,7 @@ impl Place {
                     base,
                     mut bytes,
                 } = made;
-                let used = summary_len(&base);
+                let used = summary_len(&base, LAYOUT);
                 let offset = self.area.other + 14 + used;
                 let epoch = self.area.epoch + 1;
                 let next = Place {
@@ -88,6 +89,7 @@ impl Place {
                         start: self.area.other,
                         other: self.area.start,
                         is_closed: false,
+                        layout: LAYOUT,
                         epoch,
                         offset,
                     },

@@ -29,8 +29,9 @@ pub(crate) fn write_area<D: Device>(
         → IsGate is_closed other (D.disk device.old).image → length bytes.now ≤ head_len + header.capacity → ReadsAt header (D.disk device.new).image r start other offset gate_at) }
 
     // At Ok the new area stands there, whole.
-    ensures staged { OnOk result ((n epoch : ℕ) (s : Summary) → bytes.now ≡ new_area newest epoch s → epoch < epochs → snapshot_len s < 2 ^ 32 → Spells n (snapshot_of s) s
-        → IsStaged n other (D.disk device.new).image (fresh_area newest epoch s) (other + head_len + snapshot_len s)) }
+    ensures staged { OnOk result ((n epoch : ℕ) (s : Summary) → bytes.now ≡ new_area newest epoch s → epoch < epochs
+        → snapshot_len newest s < 2 ^ 32 → Spells newest n (snapshot_of newest s) s
+        → IsStaged n other (D.disk device.new).image (fresh_area newest epoch s) (other + head_len + snapshot_len newest s)) }
     ensures synced { OnOk result (IsSynced (D.disk device.new)) }
     ensures cause { HasCause (D.count device.old) (D.count device.new) result }
     ensures reach { IsInReach (other + 1 + length bytes.now) (D.reach device.old) (D.reach device.new) result }
@@ -68,10 +69,10 @@ pub(crate) fn replace_area<D: Device>(
     // A stop at any moment of the call leaves what was read before, or the new area.
     ensures any_moment { (header : Member) (old : Reading) (start offset gate_at epoch : ℕ) (s : Summary) → IsSynced (D.disk device.old)
         → MayReplace header (D.disk device.old).image old start other offset gate_at is_closed epoch s → bytes.now ≡ new_area newest epoch s
-        → LeavesOnly D.clock D.left_since device.old device.new (ReadsAtOneOf header old start other offset gate_at (fresh_area newest epoch s) (other + head_len + snapshot_len s)) }
+        → LeavesOnly D.clock D.left_since device.old device.new (ReadsAtOneOf header old start other offset gate_at (fresh_area newest epoch s) (other + head_len + snapshot_len newest s)) }
     ensures done { OnOk result ((header : Member) (old : Reading) (start offset gate_at epoch : ℕ) (s : Summary)
         → MayReplace header (D.disk device.old).image old start other offset gate_at is_closed epoch s → bytes.now ≡ new_area newest epoch s
-        → ReadsAt header (D.disk device.new).image (fresh_area newest epoch s) other start (other + head_len + snapshot_len s) (other + head_len + snapshot_len s)
+        → ReadsAt header (D.disk device.new).image (fresh_area newest epoch s) other start (other + head_len + snapshot_len newest s) (other + head_len + snapshot_len newest s)
         × IsGate false start (D.disk device.new).image) }
     ensures synced { OnOk result (IsSynced (D.disk device.new)) }
     ensures cause { HasCause (D.count device.old) (D.count device.new) result }

@@ -90,14 +90,14 @@ module _ (desk : DeskKept) (idle : is_idle desk.view.state ≡ true) (counts : I
 
   -- all of them do, as a checkpoint
   pub flies_all : (node first : ℕ)
-      → FliesLawfully desk.view.member desk.opening (durable_part desk) (numbered_with node first (flying_in (launched_all desk).state) (Some (snapshot_len (known_all desk))))
+      → FliesLawfully desk.view.member desk.opening (durable_part desk) (numbered_with node first (flying_in (launched_all desk).state) (Some (snapshot_len newest (known_all desk))))
   flies_all node first past is =
       let t : NodeState = (launched_all desk).state in
       let all : IsNodeState t = all_counts desk counts in
       let size : length s.inputs ≡ length (durable_in s ++ flying_in t) = sym (flown_size t all) ∙ ap length (sym (flown t all)) in
-      let area : t.checkpoint ≡ (flying_behind (durable_part desk) (flying_in t) (Some (snapshot_len (known_all desk)))).checkpoint =
-      λ i. Some (record { layout = newest; epoch = s.base.epoch + 1; inputs = size i; bytes = snapshot_len (known_all desk) }) in
+      let area : t.checkpoint ≡ (flying_behind (durable_part desk) (flying_in t) (Some (snapshot_len newest (known_all desk)))).checkpoint =
+      λ i. Some (record { layout = newest; epoch = s.base.epoch + 1; inputs = size i; bytes = snapshot_len newest (known_all desk) }) in
       let flies : IsLawfulState m (shifted past t) =
       subst (λ (v : DeskView). IsLawfulState v.member v.state) (sym (lawful_launched_all past desk is (lawful past is)))
       (lawful-launched_all m (seen past desk).state (idle_behind past s idle) (lawful past is)) in
-      subst (λ (u : NodeState). IsLawfulState m (shifted past u)) (told t (Some (snapshot_len (known_all desk))) all area) (first_behind m past t flies)
+      subst (λ (u : NodeState). IsLawfulState m (shifted past u)) (told t (Some (snapshot_len newest (known_all desk))) all area) (first_behind m past t flies)

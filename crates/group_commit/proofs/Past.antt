@@ -18,7 +18,7 @@ use Rattle.ring_records.specs.declared.request.Request.{Request}
 use Rattle.ring_records.specs.declared.request.Request.TheVariants as ask
 use Rattle.ring_records.specs.declared.room.Room.{Room}
 use Rattle.ring_records.specs.declared.summary.Summary.{Summary}
-use Rattle.ring_records.specs.Admission.{area_bytes, base_of, costs_of, fresh, is_retire, no_room, room_of, snapshot_len, used, shortage, objection, refusal, HasRoom, Fits, IsAllowed, IsAdmitted, IsBaseOf, IsLawful}
+use Rattle.ring_records.specs.Admission.{area_bytes, base_of, costs_of, fresh, is_retire, no_room, room_of, snapshot_len, used, shortage, objection, refusal, HasRoom, Fits, IsAllowed, IsAdmitted, IsBaseOf, IsLawful, newest}
 use Rattle.ring_records.specs.Answer.{input_of, if_free, unless, gained, reply, answered}
 use Rattle.ring_records.specs.Emission.{sent, carry}
 use Rattle.ring_records.specs.History.{credit}
@@ -52,16 +52,16 @@ room_asked : (me capacity renewed : ℕ) (base : Base) (h : List Input) (x : Inp
 unfolding shortage
 room_asked me capacity renewed base h x within =
     plain_room capacity (room_of base h) x renewed (none_renews base h x)
-    ∙ (sym (plain_room capacity (room_of base h) x (snapshot_len (summary me (h ++ x ∷ []))) (none_renews base h x))
-    ∙ sym (ap (λ b. cond b (no_room capacity (room_of base h) x (snapshot_len (summary me (h ++ x ∷ [])))) None) (le-leb base.inputs (length h) within)))
+    ∙ (sym (plain_room capacity (room_of base h) x (snapshot_len newest (summary me (h ++ x ∷ []))) (none_renews base h x))
+    ∙ sym (ap (λ b. cond b (no_room capacity (room_of base h) x (snapshot_len newest (summary me (h ++ x ∷ [])))) None) (le-leb base.inputs (length h) within)))
 
 pub refused-is : (core : CoreView) (base : Base) (h : List Input) (x : Input) (o : Option Refusal) → IsOf core base h → Refuses core x o → o ≡ refusal core.me core.size core.capacity base h x
 unfolding refusal
 refused-is core base h x o of (first, objects, e) =
     let same = objects-known core.me core.size h x first (subst (λ (k : Summary). Objects core.size k x first) of.knows objects) in
     e
-    ∙ ((λ i. or_else (same i) (no_room core.capacity (of.room i) x (snapshot_len (stepped core.me core.known x))))
-    ∙ ap (or_else (objection core.me core.size h x)) (room_asked core.me core.capacity (snapshot_len (stepped core.me core.known x)) base h x of.within))
+    ∙ ((λ i. or_else (same i) (no_room core.capacity (of.room i) x (snapshot_len newest (stepped core.me core.known x))))
+    ∙ ap (or_else (objection core.me core.size h x)) (room_asked core.me core.capacity (snapshot_len newest (stepped core.me core.known x)) base h x of.within))
 
 leads : (core : CoreView) (base : Base) (h : List Input) (key : Key) → IsOf core base h → leader_of (known_of core.known key) ≡ leader core.me h key
 leads core base h key of = ap (λ (k : Summary). leader_of (known_of k key)) of.knows ∙ leader-known core.me h key
@@ -169,12 +169,12 @@ allowed_within m base before (x ∷ l) within allowed =
     (record { allowed = allowed.0; fits = λ behind. absurd (omega (arith, within, behind)) }, allowed_within m base (before ++ x ∷ []) l (omega (arith, within, grown)) allowed.1)
 
 fits-moved : (m : Member) (opening : Summary) (base : Base) (past l : List Input) (x : Input) → Follows m opening past (l ++ x ∷ [])
-    → (base.inputs ≤ length l → HasRoom m.capacity (room_of base l) x (snapshot_len (after m.node opening (l ++ x ∷ []))))
+    → (base.inputs ≤ length l → HasRoom m.capacity (room_of base l) x (snapshot_len newest (after m.node opening (l ++ x ∷ []))))
     → Fits m.node m.capacity (moved (length past) base) (past ++ l) x
 unfolding Fits
 fits-moved m opening base past l x f fits = λ within.
     let sum = length-append past l in
-    subst (λ (p : Room × Summary). HasRoom m.capacity p.0 x (snapshot_len p.1))
+    subst (λ (p : Room × Summary). HasRoom m.capacity p.0 x (snapshot_len newest p.1))
     (λ i. (sym (room-moved base past l) i, (f.knows ∙ ap (summary m.node) (sym (append_assoc past l (x ∷ [])))) i)) (fits (omega (arith, sum, within)))
 
 -- what it accepted follows its past, and is lawful behind it

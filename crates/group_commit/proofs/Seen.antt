@@ -123,7 +123,7 @@ launched_all_seen past d is knows =
     λ i. record d.view {
       state = record (shifted past s) {
         flying = sym size i;
-        checkpoint = Some (record { layout = newest; epoch = s.base.epoch + 1; inputs = sym size i; bytes = snapshot_len (knows i) });
+        checkpoint = Some (record { layout = newest; epoch = s.base.epoch + 1; inputs = sym size i; bytes = snapshot_len newest (knows i) });
       };
     }
 

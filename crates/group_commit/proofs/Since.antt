@@ -21,7 +21,7 @@ use Rattle.ring_records.proofs.Admission.{or_else-none, none_renews, room-had}
 use Rattle.ring_records.proofs.Counts.{used-more}
 use Rattle.ring_records.proofs.Growth.{EachAfter-take}
 use Rattle.ring_records.proofs.Lists.{along, EachAfter-push, none≢some}
-use Rattle.ring_records.proofs.Snapshots.{snapshot-sum}
+use Rattle.ring_records.proofs.Snapshots.{length-parts}
 use Rattle.ring_records.proofs.States.{next-few}
 use Rattle.ring_records.proofs.StatesInOrder.{len-values}
 use Rattle.node_core.specs.Core.{CoreView, Refuses}
@@ -47,15 +47,15 @@ area-first me opening b k h few of = area-same me opening b h (take k h) (let w 
 -- ---- what may be accepted
 
 -- where a core refuses an input for nothing, there is room for it
-pub room_none : (core : CoreView) (x : Input) → Refuses core x None → HasRoom core.capacity core.room x (snapshot_len (stepped core.me core.known x))
+pub room_none : (core : CoreView) (x : Input) → Refuses core x None → HasRoom core.capacity core.room x (snapshot_len newest (stepped core.me core.known x))
 room_none core x (first, objects, e) =
-    let behind = snapshot_len (stepped core.me core.known x) in
+    let behind = snapshot_len newest (stepped core.me core.known x) in
     room-had core.capacity core.room x behind (or_else-none first (no_room core.capacity core.room x behind) (sym e)).1
 
 open_now : (m : Member) (opening : Summary) (s : NodeState) (x : Input) → Refuses (core_in m opening s) x None → IsOpenSince m opening (launched_base s) s.inputs x
 open_now m opening s x free = record {
   free = objects_none (core_in m opening s) x free;
-  fits = λ _. subst (λ (t : Summary). HasRoom m.capacity (room_of (launched_base s) s.inputs) x (snapshot_len t)) (sym (after-push m.node opening s.inputs x)) (room_none (core_in m opening s) x free);
+  fits = λ _. subst (λ (t : Summary). HasRoom m.capacity (room_of (launched_base s) s.inputs) x (snapshot_len newest t)) (sym (after-push m.node opening s.inputs x)) (room_none (core_in m opening s) x free);
 }
 
 lawful-first : (m : Member) (opening : Summary) (b : Base) (k : ℕ) (l : List Input) → IsLawfulSince m opening b l → IsLawfulSince m opening b (take k l)
@@ -98,7 +98,7 @@ lawful_opened m opening base l none lawful =
     one before x free =
         record {
           free = objects_none (core_after (opened_core m opening base) before) x free;
-          fits = λ _. subst (λ (p : Room × Summary). HasRoom m.capacity p.0 x (snapshot_len p.1)) (λ i. (room-since base before none i, sym (after-push m.node opening before x) i))
+          fits = λ _. subst (λ (p : Room × Summary). HasRoom m.capacity p.0 x (snapshot_len newest p.1)) (λ i. (room-since base before none i, sym (after-push m.node opening before x) i))
               (room_none (core_after (opened_core m opening base) before) x free);
         }
 
@@ -193,7 +193,7 @@ core_launched m opening base l durable flying k (Some bytes) none = none≢some 
 core_launched m opening base l durable flying k None none = refl
 
 -- a checkpoint flies
-pub known_all : (m : Member) (opening : Summary) (base : Base) (l : List Input) (durable flying count bytes : ℕ) (pending : Option ℕ) → pending ≡ None → count ≡ length l → bytes ≡ snapshot_len (after m.node opening l)
+pub known_all : (m : Member) (opening : Summary) (base : Base) (l : List Input) (durable flying count bytes : ℕ) (pending : Option ℕ) → pending ≡ None → count ≡ length l → bytes ≡ snapshot_len newest (after m.node opening l)
     → base.epoch + 1 < epochs → bytes ≤ m.capacity → IsKnownState m opening (state_with base l durable flying pending) → IsKnownState m opening (state_with base l durable count (Some bytes))
 known_all m opening base l durable flying count bytes (Some other) none all spells few fits known = none≢some other (sym none)
 known_all m opening base l durable flying count bytes None none all spells few fits known =
@@ -208,7 +208,7 @@ known_all m opening base l durable flying count bytes None none all spells few f
         checkpointed = λ b e. sym (ap (λ (c : Base). c.inputs) (same_Some next b e));
       };
       base = known.base;
-      next = record { within = omega (arith, all); bytes = spells ∙ ap (λ (g : List Input). snapshot_len (after m.node opening g)) (sym whole) };
+      next = record { within = omega (arith, all); bytes = spells ∙ ap (λ (g : List Input). snapshot_len newest (after m.node opening g)) (sym whole) };
       held = lawful-first m opening base count l known.all;
       all = rebased m opening base next [] l (omega (arith, all)) known.all;
       left = λ b e. subst (λ (c : Base). c.epoch < epochs) (same_Some next b e) few;
@@ -216,14 +216,14 @@ known_all m opening base l durable flying count bytes None none all spells few f
     }
 
 -- the core, with room counted from its summary
-pub core_all : (m : Member) (opening : Summary) (base : Base) (l : List Input) (durable flying count bytes : ℕ) (pending : Option ℕ) (core new : CoreView) → count ≡ length l → bytes ≡ snapshot_len (after m.node opening l)
-    → core ≡ core_in m opening (state_with base l durable flying pending) → new ≡ record core { room = record { layout = newest; epoch = base.epoch + 1; taken = snapshot_len core.known; waits = false } } → new ≡ core_in m opening (state_with base l durable count (Some bytes))
+pub core_all : (m : Member) (opening : Summary) (base : Base) (l : List Input) (durable flying count bytes : ℕ) (pending : Option ℕ) (core new : CoreView) → count ≡ length l → bytes ≡ snapshot_len newest (after m.node opening l)
+    → core ≡ core_in m opening (state_with base l durable flying pending) → new ≡ record core { room = record { layout = newest; epoch = base.epoch + 1; taken = snapshot_len newest core.known; waits = false } } → new ≡ core_in m opening (state_with base l durable count (Some bytes))
 unfolding used
 core_all m opening base l durable flying count bytes pending core new all spells is steps =
     let none : drop count l ≡ [] = drop_all count l (omega (arith, all)) in
-    let same : snapshot_len (after m.node opening l) ≡ bytes + costs_of (drop count l) = (let z : bytes + 0 ≡ bytes = omega arith in sym spells ∙ (sym z ∙ ap (λ (g : List Input). bytes + costs_of g) (sym none))) in
+    let same : snapshot_len newest (after m.node opening l) ≡ bytes + costs_of (drop count l) = (let z : bytes + 0 ≡ bytes = omega arith in sym spells ∙ (sym z ∙ ap (λ (g : List Input). bytes + costs_of g) (sym none))) in
     let waits : false ≡ list_any is_retire (drop count l) = sym (ap (list_any is_retire) none) in
-    steps ∙ (ap (λ (c : CoreView). record c { room = record { layout = newest; epoch = base.epoch + 1; taken = snapshot_len c.known; waits = false } }) is
+    steps ∙ (ap (λ (c : CoreView). record c { room = record { layout = newest; epoch = base.epoch + 1; taken = snapshot_len newest c.known; waits = false } }) is
     ∙ λ i. record { me = m.node; size = m.n; capacity = m.capacity; known = after m.node opening l; room = record { layout = newest; epoch = base.epoch + 1; taken = same i; waits = waits i } })
 
 -- what flies is durable
@@ -301,8 +301,8 @@ few_wait m opening s none known = elim (eq-or-lt_of_le within) [
 -- ---- snapshots
 
 -- each key takes some bytes of a snapshot
-pub few_keys : (s : Summary) → map.len s.keys ≤ snapshot_len s
+pub few_keys : (s : Summary) → map.len s.keys ≤ snapshot_len newest s
 few_keys s =
     let count = len-values s.keys in
     let few = counted state_len (λ state. omega arith) (map.values s.keys) in
-    omega (arith, count, few, snapshot-sum s)
+    omega (arith, count, few, length-parts newest s (omega arith))

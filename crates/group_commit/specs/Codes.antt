@@ -2,7 +2,7 @@
 use Rattle.std.specs.Prelude.{refl}
 use Rattle.std.specs.Coded.{Coded, code_by, coded×, codes}
 use Rattle.ring_records.specs.declared.summary.Summary.{Summary}
-use Rattle.node_core.specs.Codes.{coded_summary}
+use Rattle.ring_records.specs.Codes.{coded_summary}
 use Rattle.group_commit.specs.Desk.{DeskView, DeskKept}
 
 pub coded_view : Coded DeskView

@@ -65,7 +65,7 @@ next_area desk = record {
   layout = newest;
   epoch = desk.view.state.base.epoch + 1;
   inputs = length desk.view.state.inputs;
-  bytes = snapshot_len (known_all desk);
+  bytes = snapshot_len newest (known_all desk);
 }
 
 -- the core of the node before the first input since
@@ -166,14 +166,14 @@ abbrev pub checkpoint_objection : DeskKept → Option Refusal
 checkpoint_objection desk =
     or_else (launch_objection desk.view)
     (or_else (where_so (nat_le epochs (desk.view.state.base.epoch + 1)) refused.Limit)
-    (where_so (nat_lt desk.view.member.capacity (snapshot_len (known_all desk))) refused.Full))
+    (where_so (nat_lt desk.view.member.capacity (snapshot_len newest (known_all desk))) refused.Full))
 
 -- a checkpoint is worth its calls: more than half of the capacity is taken, the snapshot takes a quarter at most, and the
 -- journal may write one more area
 abbrev pub is_due : DeskKept → Bool
 is_due desk =
     nat_lt desk.view.member.capacity (2 * used (launched_base desk.view.state) desk.view.state.inputs)
-    && (nat_le (4 * snapshot_len (known_all desk)) desk.view.member.capacity
+    && (nat_le (4 * snapshot_len newest (known_all desk)) desk.view.member.capacity
     && nat_lt ((launched_base desk.view.state).epoch + 1) epochs)
 
 -- ---- replies

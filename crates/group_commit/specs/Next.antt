@@ -74,11 +74,11 @@ pub record IsNextBatch (m : Member) (opening : Summary) (known : Durable) (batch
 pub record IsNextCheckpoint (m : Member) (opening : Summary) (known : Durable) (made : Checkpoint) : Type 0 where
   pub node : (numbered_by made).node ≡ m.node
   pub first : (numbered_by made).first ≡ opening.inputs + length known.inputs
-  pub snapshot : (numbered_by made).snapshot ≡ Some (snapshot_len (base_by made))
+  pub snapshot : (numbered_by made).snapshot ≡ Some (snapshot_len newest (base_by made))
   pub summary : base_by made ≡ after m.node opening (known.inputs ++ (numbered_by made).inputs)
   pub few : 16 * length (numbered_by made).inputs ≤ m.capacity
   pub filled : m.capacity < 2 * (used known.base known.inputs + costs_of (numbered_by made).inputs)
-  pub short : 4 * snapshot_len (base_by made) ≤ m.capacity
+  pub short : 4 * snapshot_len newest (base_by made) ≤ m.capacity
   pub sound : IsNodeOf m.n m.node → IsSound m.n (base_by made)
   pub left : known.base.epoch + 1 < epochs
   pub lawful : FliesLawfully m opening known (numbered_by made)
@@ -105,7 +105,7 @@ launched_next desk = record desk { view = if is_checkpoint_next desk then launch
 -- These are all the inputs that wait, with the summary of all; or the first that wait, one at least, where that is not next.
 pub record IsWorkOf (old new : DeskKept) (work : Work) : Type 0 where
   pub summary : summary_by work ≡ (if is_checkpoint_next old then Some (known_all old) else None)
-  pub flown : flown_by work ≡ numbered_with old.view.member.node (old.opening.inputs + old.view.state.durable) (flying_in new.view.state) (option_map snapshot_len (summary_by work))
+  pub flown : flown_by work ≡ numbered_with old.view.member.node (old.opening.inputs + old.view.state.durable) (flying_in new.view.state) (option_map (snapshot_len newest) (summary_by work))
   pub some : summary_by work ≡ None → old.view.state.durable < length old.view.state.inputs
 
 -- Nothing waits, and no checkpoint is next.

@@ -4,7 +4,7 @@ use Rattle.std.specs.Prelude.{ℕ, ◌≡◌, ◌<◌, ◌≤◌, List, [], ◌�
 use Rattle.ring_records.specs.declared.base.Base.{Base}
 use Rattle.ring_records.specs.declared.input.Input.{Input}
 use Rattle.ring_records.specs.declared.summary.Summary.{Summary}
-use Rattle.ring_records.specs.Admission.{area_bytes, room_of, snapshot_len, HasRoom}
+use Rattle.ring_records.specs.Admission.{area_bytes, room_of, snapshot_len, HasRoom, newest}
 use Rattle.ring_records.specs.Known.{Objects, after}
 use Rattle.ring_records.specs.Lists.{EachAfter}
 use Rattle.ring_records.specs.Member.{Member}
@@ -15,7 +15,7 @@ use Rattle.group_commit.specs.Desk.{epochs}
 -- nothing is against the input behind these inputs since, and it fits, with room counted from the base
 pub record IsOpenSince (m : Member) (opening : Summary) (base : Base) (before : List Input) (x : Input) : Type 0 where
   pub free : Objects m.n (after m.node opening before) x None
-  pub fits : base.inputs ≤ length before → HasRoom m.capacity (room_of base before) x (snapshot_len (after m.node opening (before ++ x ∷ [])))
+  pub fits : base.inputs ≤ length before → HasRoom m.capacity (room_of base before) x (snapshot_len newest (after m.node opening (before ++ x ∷ [])))
 
 -- so each of these is, behind those before it
 abbrev pub IsLawfulSince : Member → Summary → Base → List Input → Type 0

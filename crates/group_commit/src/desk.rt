@@ -2,11 +2,11 @@
 ghost use Rattle.std.specs.Prelude.{◌≡◌, ◌+◌, ◌++◌, ◌≤◌, ◌⊎◌, ◌||◌, List, [], not, true, Some, None, length, MatchOption, IfOk, IfErr, OnOk, OnErr};
 ghost use Rattle.std.specs.List.{cons_option};
 ghost use Rattle.ring_records.specs.declared.input.Input.{Input};
-ghost use Rattle.ring_records.specs.Admission.{area_bytes, IsLawful};
+ghost use Rattle.ring_records.specs.Admission.{IsLawful};
 ghost use Rattle.ring_records.specs.Answer.{Answered};
 ghost use Rattle.ring_records.specs.Member.{member};
 ghost use Rattle.ring_records.specs.Release.{window};
-ghost use Rattle.ring_records.specs.Snapshot.{IsSound, snapshot_len};
+ghost use Rattle.ring_records.specs.Snapshot.{IsSound};
 ghost use Rattle.ring_records.specs.States.{IsNodeState, IsLawfulState, launched_base, durable_in};
 
 use crate::desk::parts::{accept, replay};
@@ -110,7 +110,7 @@ impl Desk {
             base,
             inputs,
         } = opening;
-        let taken = area_bytes(layout, &base);
+        let taken = summary_len(&base, layout);
         let room = Room {
             layout,
             epoch,
@@ -337,14 +337,6 @@ impl Desk {
         }
         None
     }
-}
-
-// The bytes that an area of this layout has for the summary.
-fn area_bytes(layout: u8, base: &Summary) -> u64
-    ensures value { result ≡ area_bytes layout base.now }
-    ensures within { result ≤ snapshot_len base.now }
-{
-    if layout <= 1 { 0 } else { summary_len(base) }
 }
 
 // How many inputs there are with this one, if there is one.

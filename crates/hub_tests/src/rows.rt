@@ -68,7 +68,7 @@ fn opening_behind<R: Abort + AllocGlobal>(rt: &R) -> Opening
     Opening {
         layout: 2,
         epoch: 2,
-        base: read_summary(rt.alloc(), &STOOD, 3).expect(rt, "a snapshot"),
+        base: read_summary(rt.alloc(), &STOOD, 3, 2).expect(rt, "a snapshot"),
         inputs: Vec::new(rt.alloc()),
     }
 }

@@ -8,7 +8,7 @@ ghost use Rattle.gated_journal.specs.Journal.{member_of};
 use crate::devices::{self, memory_device, reads};
 use disk_model::{Device, FuseDevice, MemDevice, Tear};
 use gated_journal::{Batch, Checkpoint, Journal, Opening, Receipt, Spoiled, device_size};
-use ring_records::{Input, NodeNo, Refusal, read_summary, summary_len};
+use ring_records::{Input, LAYOUT, NodeNo, Refusal, read_summary, summary_len};
 use std::alloc::{AllocGlobal, Global};
 use std::process::Abort;
 use test_rows::{Note, Op};
@@ -152,8 +152,8 @@ fn checkpoint<R: Abort + AllocGlobal>(
 ) -> Checkpoint
     ensures { IsSound 3 (base_by result) }
 {
-    let summary = read_summary(rt.alloc(), snapshot, 3).expect(rt, "a snapshot");
-    assert!(rt; summary_len(&summary) <= u64::from(u32::MAX));
+    let summary = read_summary(rt.alloc(), snapshot, 3, LAYOUT).expect(rt, "a snapshot");
+    assert!(rt; summary_len(&summary, LAYOUT) <= u64::from(u32::MAX));
     assert!(rt; summary.keys.len() <= u32::MAX as usize);
     let counted = summary.inputs;
     let made = Checkpoint::new(rt.alloc(), NodeNo::first(), first, inputs, summary);

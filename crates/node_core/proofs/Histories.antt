@@ -17,7 +17,7 @@ use Rattle.ring_records.specs.declared.packet.Packet.TheVariants.{Carry}
 use Rattle.ring_records.specs.declared.refusal.Refusal.{Refusal}
 use Rattle.ring_records.specs.declared.refusal.Refusal.TheVariants as refused
 use Rattle.ring_records.specs.declared.summary.Summary.{Summary}
-use Rattle.ring_records.specs.Admission.{fresh, is_retire, no_room, room_of, snapshot_len, objection, refusal, IsAllowed}
+use Rattle.ring_records.specs.Admission.{fresh, is_retire, no_room, room_of, snapshot_len, objection, refusal, IsAllowed, newest}
 use Rattle.ring_records.specs.Emission.{is_below, passed_on, emit, sent, carry}
 use Rattle.ring_records.specs.History.{first_stand, stood}
 use Rattle.ring_records.specs.Known.{Objects, stepped, known_of, leader_of, leads_in}
@@ -41,8 +41,8 @@ unfolding refusal
 refused-is core h x o s (first, objects, e) =
     let same = objects-known core.me core.size h x first (subst (λ (k : Summary). Objects core.size k x first) s.knows objects) in
     e
-    ∙ ((λ i. or_else (same i) (no_room core.capacity (s.room i) x (snapshot_len (stepped core.me core.known x))))
-    ∙ ap (or_else (objection core.me core.size h x)) (plain_room core.capacity (room_of fresh h) x (snapshot_len (stepped core.me core.known x)) refl ∙ sym (shortage-each core.me core.capacity h x)))
+    ∙ ((λ i. or_else (same i) (no_room core.capacity (s.room i) x (snapshot_len newest (stepped core.me core.known x))))
+    ∙ ap (or_else (objection core.me core.size h x)) (plain_room core.capacity (room_of fresh h) x (snapshot_len newest (stepped core.me core.known x)) refl ∙ sym (shortage-each core.me core.capacity h x)))
 
 -- So a history in which an input is refused by nothing has it refused by nothing here.
 pub refused-of : (core : CoreView) (h : List Input) (x : Input) → CoreStandsFor core h → Refuses core x (refusal_by (member_of core) h x)
@@ -50,8 +50,8 @@ unfolding refusal
 refused-of core h x s = (
   objection core.me core.size h x,
   subst (λ (k : Summary). Objects core.size k x (objection core.me core.size h x)) (sym s.knows) (objects-of core.me core.size h x),
-  ap (or_else (objection core.me core.size h x)) (shortage-each core.me core.capacity h x ∙ sym (plain_room core.capacity (room_of fresh h) x (snapshot_len (stepped core.me core.known x)) refl))
-      ∙ (λ i. or_else (objection core.me core.size h x) (no_room core.capacity (sym s.room i) x (snapshot_len (stepped core.me core.known x)))),
+  ap (or_else (objection core.me core.size h x)) (shortage-each core.me core.capacity h x ∙ sym (plain_room core.capacity (room_of fresh h) x (snapshot_len newest (stepped core.me core.known x)) refl))
+      ∙ (λ i. or_else (objection core.me core.size h x) (no_room core.capacity (sym s.room i) x (snapshot_len newest (stepped core.me core.known x)))),
 )
 
 pub admitted : (core : CoreView) (h : List Input) (x : Input) → CoreStandsFor core h → refusal_by (member_of core) h x ≡ None → Refuses core x None

@@ -15,7 +15,7 @@ use Rattle.ring_records.specs.declared.msg.Msg.{Msg}
 use Rattle.ring_records.specs.declared.msg.Msg.TheVariants.{Token, Elected}
 use Rattle.ring_records.specs.declared.summary.Summary.{Summary}
 use Rattle.ring_records.specs.declared.refusal.Refusal.TheVariants as refused
-use Rattle.ring_records.specs.Admission.{state_len, msg_len, snapshot_len, where_so, already, stale}
+use Rattle.ring_records.specs.Admission.{state_len, msg_len, snapshot_len, where_so, already, stale, newest}
 use Rattle.ring_records.specs.Lists.{or_else}
 use Rattle.ring_records.specs.Emission.{is_below}
 use Rattle.ring_records.specs.Known.{passed, shown, stood_of, leader_of, sends, stepped, known_of, Objects}
@@ -26,7 +26,7 @@ use Rattle.ring_records.proofs.Admission.{or_else-none, where_so-none}
 use Rattle.ring_records.proofs.Compare.{get-put, keys_total}
 use Rattle.ring_records.proofs.Keys.{is_key-same}
 use Rattle.ring_records.proofs.KeysPut.{part_of, keys-put}
-use Rattle.ring_records.proofs.Snapshots.{snapshot-sum}
+use Rattle.ring_records.proofs.Snapshots.{length-parts}
 use Rattle.node_core.specs.Brought.{told_by, brought}
 use Rattle.node_core.specs.Measure.{AreNamed, bare_len, grown, len_of, len_at, freed, len_on}
 use Rattle.node_core.specs.declared.effects.Effects.{Effects}
@@ -46,10 +46,10 @@ sent-more window None = ap (sum_by msg_len) (append-nil window) ∙ plus_none (s
 sent-more window (Some msg) = sum_by-append msg_len window (msg ∷ []) ∙ ap (λ n. sum_by msg_len window + n) (sum_by-cons msg_len msg [] ∙ sym (plus_none (msg_len msg)))
 
 -- one key is put, and this is sent
-named_measured : (s u : Summary) (key : Key) (v : KeyState) (on : Option Msg) → u.keys ≡ map.insert s.keys key v → u.window ≡ s.window ++ cons_option on [] → snapshot_len u + (len_of (known_of s key) + 0) ≡ snapshot_len s + (len_of (known_of u key) + len_on on)
+named_measured : (s u : Summary) (key : Key) (v : KeyState) (on : Option Msg) → u.keys ≡ map.insert s.keys key v → u.window ≡ s.window ++ cons_option on [] → snapshot_len newest u + (len_of (known_of s key) + 0) ≡ snapshot_len newest s + (len_of (known_of u key) + len_on on)
 named_measured s u key v on put more =
-    let a = snapshot-sum s in
-    let b = snapshot-sum u in
+    let a = length-parts newest s (omega arith) in
+    let b = length-parts newest u (omega arith) in
     let c = ap (λ m. sum_by state_len (map.values m)) put in
     let d = keys-put state_len s.keys key v in
     let g = part-len (map.get s.keys key) in
@@ -57,12 +57,12 @@ named_measured s u key v on put more =
     let f = ap (sum_by msg_len) more ∙ sent-more s.window on in
     omega arith
 
-pub measured : (me : ℕ) (s : Summary) (x : Input) → snapshot_len (stepped me s x) + (len_at s x + freed s x) ≡ snapshot_len s + (len_at (stepped me s x) x + len_on (sends me s x))
+pub measured : (me : ℕ) (s : Summary) (x : Input) → snapshot_len newest (stepped me s x) + (len_at s x + freed s x) ≡ snapshot_len newest s + (len_at (stepped me s x) x + len_on (sends me s x))
 measured me s (Stand key bid) = named_measured s (stepped me s (Stand key bid)) key _ (sends me s (Stand key bid)) refl refl
 measured me s (Take msg_no msg) = named_measured s (stepped me s (Take msg_no msg)) (key_of msg) _ (sends me s (Take msg_no msg)) refl refl
 measured me s (Acked upto) =
-    let a = snapshot-sum s in
-    let b = snapshot-sum (stepped me s (Acked upto)) in
+    let a = length-parts newest s (omega arith) in
+    let b = length-parts newest (stepped me s (Acked upto)) (omega arith) in
     let c = sum_by-take-drop msg_len s.window (upto - s.credit) in
     omega arith
 
@@ -166,13 +166,13 @@ at_grown me n s (Acked upto) free are_named = refl
 
 -- The length, and what is taken off and added, told of the core as it is seen: so many keys are named before the input, and
 -- so many with it.
-pub measured_next : (me n : ℕ) (s u : Summary) (x : Input) (bytes before after removed more on : ℕ) (effects : Effects) → Objects n s x None → AreNamed s → u ≡ stepped me s x → bytes ≡ snapshot_len s
+pub measured_next : (me n : ℕ) (s u : Summary) (x : Input) (bytes before after removed more on : ℕ) (effects : Effects) → Objects n s x None → AreNamed s → u ≡ stepped me s x → bytes ≡ snapshot_len newest s
     → before ≡ map.len s.keys → after ≡ map.len u.keys → effects ≡ brought me s x → removed ≡ freed s x → more ≡ grown before after x effects → on ≡ len_on (sends me s x)
-    → snapshot_len u + removed ≡ bytes + (more + on)
+    → snapshot_len newest u + removed ≡ bytes + (more + on)
 measured_next me n s u x bytes before after removed more on effects free are_named e is was are brings less grew sent =
     let law = measured me s x in
     let at = at_grown me n s x free are_named in
-    let len = ap snapshot_len e in
+    let len = ap (snapshot_len newest) e in
     let grows : more ≡ grown (map.len s.keys) (map.len (stepped me s x).keys) x (brought me s x) =
     grew ∙ (λ i. grown (was i) (are i) x (brings i)) ∙ ap (λ (k : Summary). grown (map.len s.keys) (map.len k.keys) x (brought me s x)) e in
     omega arith

@@ -5,14 +5,14 @@ use Rattle.ring_records.specs.declared.input.Input.{Input}
 use Rattle.ring_records.specs.declared.refusal.Refusal.{Refusal}
 use Rattle.ring_records.specs.declared.refusal.Refusal.TheVariants as refused
 use Rattle.ring_records.specs.declared.room.Room.{Room}
-use Rattle.ring_records.specs.Admission.{cost, is_retire, must_renew, no_room, snapshot_len, where_so}
+use Rattle.ring_records.specs.Admission.{cost, is_retire, must_renew, newest, no_room, snapshot_len, where_so}
 use Rattle.ring_records.specs.Known.{Objects, stepped}
 use Rattle.ring_records.specs.Lists.{or_else}
 use Rattle.ring_records.proofs.Admission.{or_else-none, no_retire, plain_room}
 use Rattle.node_core.specs.Core.{CoreView, FreeView, Refuses, taking}
 
 pub refuses_first : (core : CoreView) (x : Input) (first : Option Refusal) (r : Refusal) → Objects core.size core.known x first → first ≡ Some r → Refuses core x (Some r)
-refuses_first core x first r objects e = (first, objects, sym (ap (λ o. or_else o (no_room core.capacity core.room x (snapshot_len (stepped core.me core.known x)))) e))
+refuses_first core x first r objects e = (first, objects, sym (ap (λ o. or_else o (no_room core.capacity core.room x (snapshot_len newest (stepped core.me core.known x)))) e))
 
 pub refuses_last : (core : CoreView) (x : Input) (first : Option Refusal) (more : ℕ) (short : Bool) → must_renew core.room x ≡ false → Objects core.size core.known x first → first ≡ None → more ≡ cost x → short ≡ nat_lt core.capacity (core.room.taken + more) → Refuses core x (where_so short refused.Full)
 refuses_last core x first more short plain objects e k f = (
@@ -20,8 +20,8 @@ refuses_last core x first more short plain objects e k f = (
   objects,
   ap (λ b. where_so b refused.Full) f
       ∙ ((λ i. where_so (nat_lt core.capacity (core.room.taken + k i)) refused.Full)
-      ∙ (sym (plain_room core.capacity core.room x (snapshot_len (stepped core.me core.known x)) plain)
-      ∙ λ i. or_else (sym e i) (no_room core.capacity core.room x (snapshot_len (stepped core.me core.known x))))),
+      ∙ (sym (plain_room core.capacity core.room x (snapshot_len newest (stepped core.me core.known x)) plain)
+      ∙ λ i. or_else (sym e i) (no_room core.capacity core.room x (snapshot_len newest (stepped core.me core.known x))))),
 )
 
 -- where nothing is said, nothing is known against the input

@@ -7,7 +7,7 @@ use Rattle.ring_records.specs.declared.limits.TheConstants.{STANDS}
 use Rattle.ring_records.specs.declared.msg.Msg.{Msg}
 use Rattle.ring_records.specs.declared.room.Room.{Room}
 use Rattle.ring_records.specs.declared.summary.Summary.{Summary}
-use Rattle.ring_records.specs.Admission.{snapshot_len}
+use Rattle.ring_records.specs.Admission.{snapshot_len, newest}
 use Rattle.ring_records.specs.Known.{passed}
 use Rattle.ring_records.specs.Message.{key_of}
 use Rattle.ring_records.specs.Snapshot.{IsSound}
@@ -38,7 +38,7 @@ pub record IsCounted (me n : ℕ) (s : Summary) : Type 0 where
 -- So many bytes are the length of the snapshot: these, and those that are taken of room, stay below 2^64. No more is credited
 -- than was sent, and nothing waits.
 pub record IsMeasured (s : Summary) (bytes : ℕ) (room : Room) : Type 0 where
-  pub exact : bytes ≡ snapshot_len s
+  pub exact : bytes ≡ snapshot_len newest s
   pub within : s.credit ≤ s.sent
   pub short : bytes < 2 ^ 63 + 2 ^ 62 + 64 * s.inputs
   pub taken : room.taken < 2 ^ 63 + 2 ^ 62 + 64 * s.inputs

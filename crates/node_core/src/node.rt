@@ -71,7 +71,7 @@ impl NodeCore {
     }
 
     /// Node `node` of a ring of `n` nodes, with a capacity in bytes and this room, that knows this. The caller sees that it
-    /// is sound, and that its snapshot at most is taken. The error is that of the allocator.
+    /// is sound, and that less than 2^63 + 2^62 bytes are taken. The error is that of the allocator.
     pub fn restore(
         alloc: Global,
         node: NodeNo,
@@ -81,7 +81,7 @@ impl NodeCore {
         from: &Summary,
     ) -> Result<NodeCore, AllocError>
         requires sound { IsSound n from.now }
-        requires taken { room.taken ≤ snapshot_len from.now }
+        requires taken { room.taken < 2 ^ 63 + 2 ^ 62 }
         requires plain { room.waits ≡ false }
         ensures { IfOk result (λ core. core ≡ record { me = node; size = n; capacity = capacity; known = from.now; room = room }) }
     {
@@ -90,7 +90,7 @@ impl NodeCore {
             core,
             capacity,
             room,
-            snapshot: summary_len(from),
+            snapshot: summary_len(from, LAYOUT),
         })
     }
 
@@ -103,16 +103,16 @@ impl NodeCore {
         self.core.summary(alloc)
     }
 
-    /// The length of the snapshot of what it knows, in bytes.
+    /// The length of the snapshot of what it knows in the newest layout, in bytes.
     pub fn summary_len(&self) -> u64
-        ensures { result ≡ snapshot_len self.now.known }
+        ensures { result ≡ snapshot_len newest self.now.known }
     {
         self.snapshot
     }
 
     /// From now on an area of this number stands for all that it knows, and its snapshot takes the bytes of the capacity.
     pub fn rebase(&mut self, epoch: u64)
-        ensures { self.new ≡ record self.old { room = record { layout = newest; epoch = epoch; taken = snapshot_len self.old.known; waits = false } } }
+        ensures { self.new ≡ record self.old { room = record { layout = newest; epoch = epoch; taken = snapshot_len newest self.old.known; waits = false } } }
     {
         self.room = Room {
             layout: LAYOUT,

@@ -147,7 +147,7 @@ module _ {D : Type 0} {g : Ghosts D} (desk : DeskKept) (journal : Journal D g) (
 
   pub objects : (why : Refusal) → checkpoint_objection desk ≡ Some why → ((desk.view.failed ≡ true) × (why ≡ refused.Failed)) ⊎ ((why ≡ refused.Limit) ⊎ (why ≡ refused.Full))
   objects why is = ⊎_elim (λ told. inl (failed_or why told)) (λ other. inr other)
-      (objects_for (launch_objection desk.view) (nat_le epochs (desk.view.state.base.epoch + 1)) (nat_lt desk.view.member.capacity (snapshot_len (known_all desk))) why is)
+      (objects_for (launch_objection desk.view) (nat_le epochs (desk.view.state.base.epoch + 1)) (nat_lt desk.view.member.capacity (snapshot_len newest (known_all desk))) why is)
 
   pub unbegun : (why : Refusal) → (checkpoint_objection desk ≡ Some why) ⊎ ((checkpoint_objection desk ≡ None) × (why ≡ refused.OutOfMemory)) → IsUnbegun why
   unbegun why (inl told) = ⊎_elim (λ failed. inl failed.1) (λ other. inr (⊎_elim (λ few. inl few) (λ long. inr (inl long)) other)) (objects why told)
@@ -256,11 +256,11 @@ module _ {D : Type 0} {g : Ghosts D} (desk : DeskKept) (journal : Journal D g) (
         let front : take (length s.inputs) (take (length s.inputs) s.inputs) ≡ s.inputs = ap (take (length s.inputs)) all_of ∙ all_of in
         λ i. record { layout = newest; epoch = s.base.epoch + 1; base = after m.node desk.opening (front i); inputs = none_of i }
 
-    pub checkpoint_flies : (made : Checkpoint) → base_by made ≡ known_all desk → (IsNodeOf m.n m.node → IsSound m.n (base_by made)) → snapshot_len (base_by made) ≤ m.capacity → s.base.epoch + 1 < epochs
-        → numbered_by made ≡ numbered_with m.node first (flying_in flies_all.view.state) (Some (snapshot_len (known_all desk))) → Flies flies_all journal (work.Checkpoint made)
+    pub checkpoint_flies : (made : Checkpoint) → base_by made ≡ known_all desk → (IsNodeOf m.n m.node → IsSound m.n (base_by made)) → snapshot_len newest (base_by made) ≤ m.capacity → s.base.epoch + 1 < epochs
+        → numbered_by made ≡ numbered_with m.node first (flying_in flies_all.view.state) (Some (snapshot_len newest (known_all desk))) → Flies flies_all journal (work.Checkpoint made)
     checkpoint_flies made base sound fits more is =
         let ready = stands.ready works in
-        let snapshot : (numbered_by made).snapshot ≡ Some (snapshot_len (known_all desk)) = ap (λ (n : Numbered). n.snapshot) is in
+        let snapshot : (numbered_by made).snapshot ≡ Some (snapshot_len newest (known_all desk)) = ap (λ (n : Numbered). n.snapshot) is in
         record {
           inside = stands.inside;
           counts = all_counts;

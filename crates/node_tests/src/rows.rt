@@ -2,7 +2,7 @@
 ghost use Rattle.ring_records.specs.Snapshot.{IsSound};
 
 use ring_records::{
-    Bid, Candidate, Input, Key, Msg, NodeNo, Refusal, Summary, read_summary, write_summary,
+    Bid, Candidate, Input, Key, LAYOUT, Msg, NodeNo, Refusal, Summary, read_summary, write_summary,
 };
 use std::alloc::Global;
 use std::process::Abort;
@@ -52,14 +52,14 @@ pub fn refusal(rt: &impl Abort, cause: Option<Cause>) -> Option<Refusal> {
 /// The snapshot of this summary.
 pub fn written(rt: &impl Abort, alloc: Global, summary: &Summary) -> Vec<u8> {
     assert!(rt; summary.keys.len() <= u32::MAX as usize, "few keys");
-    write_summary(alloc, summary).expect(rt, "ample memory")
+    write_summary(alloc, summary, LAYOUT).expect(rt, "ample memory")
 }
 
 /// The summary whose snapshot these bytes are, in a ring of three.
 pub fn read(rt: &impl Abort, alloc: Global, bytes: &[u8]) -> Summary
     ensures { IsSound 3 result }
 {
-    match read_summary(alloc, bytes, 3) {
+    match read_summary(alloc, bytes, 3, LAYOUT) {
         Ok(summary) => summary,
         Err(refusal) => panic!(rt; "{refusal}"),
     }

@@ -1,11 +1,13 @@
-// Snapshots byte for byte, and bytes that are none.
+// Snapshots byte for byte, in each layout, and bytes that are none.
 use crate::rows::{bid, key, messages};
-use ring_records::{KeyState, Refusal, Summary, read_summary, summary_len, write_summary};
+use ring_records::{
+    KeyState, Refusal, Summary, SummaryReader, read_summary, summary_len, write_summary,
+};
 use std::alloc::Global;
 use std::process::Abort;
 use test_rows::Note::Token;
 
-/// The snapshot of node 1 that stood for red 5 with bid 10, and whose token is not credited yet.
+/// The snapshot in layout 2 of node 1 that stood for red 5 with bid 10, and whose token is not credited yet.
 static STOOD: [u8; 65] = [
     0, 0, 0, 0, 0, 0, 0, 1, 0, 0, 0, 0, 0, 0, 0, 0, 0, 0, 0, 0, 0, 0, 0, 0, 0, 0, 0, 0, 0, 0, 0, 1,
     0, 1, 0, 0, 0, 1, 3, 0x72, 0x65, 0x64, 0, 0, 0, 5, 1, 0, 0, 0, 10, 2, 3, 0x72, 0x65, 0x64, 0,
@@ -30,24 +32,29 @@ fn with(rt: &impl Abort, alloc: Global, bytes: &[u8], at: u8, put: &[u8]) -> Vec
     edited
 }
 
-/// The bytes are the summary's snapshot.
-fn has_snapshot(rt: &impl Abort, alloc: Global, summary: &Summary, bytes: &[u8]) {
-    assert_eq!(rt; summary_len(summary), bytes.len() as u64);
+/// The bytes are the summary's snapshot in this layout.
+fn is_written(rt: &impl Abort, alloc: Global, summary: &Summary, layout: u8, bytes: &[u8]) {
+    assert_eq!(rt; summary_len(summary, layout), bytes.len() as u64);
     assert!(rt; summary.keys.len() <= u32::MAX as usize, "few keys");
-    let written = write_summary(alloc, summary).expect(rt, "ample memory");
+    let written = write_summary(alloc, summary, layout).expect(rt, "ample memory");
     assert_eq!(rt; written.as_slice(), bytes);
+}
+
+/// The bytes are the summary's snapshot in layout 2.
+fn has_snapshot(rt: &impl Abort, alloc: Global, summary: &Summary, bytes: &[u8]) {
+    is_written(rt, alloc, summary, 2, bytes);
 }
 
 /// The bytes are read and written again as they are.
 fn goes_there_and_back(rt: &impl Abort, alloc: Global, bytes: &[u8]) {
-    let summary = read_summary(alloc, bytes, 3).expect(rt, "a snapshot");
+    let summary = read_summary(alloc, bytes, 3, 2).expect(rt, "a snapshot");
     has_snapshot(rt, alloc, &summary, bytes);
 }
 
 #[test]
 fn snapshot_bytes(rt: HostRuntime) {
     let alloc = rt.alloc();
-    let summary = read_summary(alloc, &STOOD, 3).expect(&rt, "a snapshot");
+    let summary = read_summary(alloc, &STOOD, 3, 2).expect(&rt, "a snapshot");
     let counts = [summary.inputs, summary.taken, summary.credit, summary.sent];
     assert_eq!(rt; counts, [1, 0, 0, 1]);
     assert_eq!(rt; summary.stands, 1);
@@ -72,7 +79,7 @@ fn snapshots_go_there_and_back(rt: HostRuntime) {
 
 /// The bytes are refused as damaged.
 fn is_damaged(rt: &impl Abort, alloc: Global, bytes: &[u8]) {
-    let refusal = read_summary(alloc, bytes, 3).err();
+    let refusal = read_summary(alloc, bytes, 3, 2).err();
     assert_eq!(rt; refusal, Some(Refusal::Damaged(0)), "{bytes:?}");
 }
 
@@ -90,7 +97,7 @@ fn a_snapshot_is_whole(rt: HostRuntime) {
 /// With the byte there the bytes are damaged, or they are the snapshot of another summary.
 fn is_none_or_another(rt: &impl Abort, alloc: Global, at: u8, byte: u8) {
     let bytes = with(rt, alloc, &STOOD, at, &[byte]);
-    match read_summary(alloc, &bytes, 3) {
+    match read_summary(alloc, &bytes, 3, 2) {
         Ok(summary) => has_snapshot(rt, alloc, &summary, &bytes),
         Err(refusal) => assert_eq!(rt; refusal, Refusal::Damaged(0)),
     }
@@ -146,5 +153,103 @@ fn keys_rise(rt: HostRuntime) {
     for (at, byte) in rows {
         let bytes = with(&rt, alloc, &TOOK, at, &[byte]);
         is_damaged(&rt, alloc, &bytes);
+    }
+}
+
+/// What these bytes are read as in this layout, part after part, where they are a snapshot.
+fn read_in_parts(rt: &impl Abort, alloc: Global, bytes: &[u8], layout: u8) -> Option<Summary> {
+    let mut reader = SummaryReader::new(alloc, 3, layout);
+    let mut rest = bytes;
+    for _ in 0..bytes.len() {
+        reader.reserve(rest.len()).expect(rt, "ample memory");
+        match reader.take(rest) {
+            Some(size) => rest = &rest[size..],
+            None => break,
+        }
+    }
+    if !rest.is_empty() {
+        return None;
+    }
+    reader.finish().ok()
+}
+
+/// What a row begins with.
+#[derive(Clone, Copy)]
+enum Begins {
+    Nothing,
+    /// The parts of a node without inputs.
+    NoInputs,
+    /// Those of the node that stood.
+    Stood,
+}
+
+impl Begins {
+    fn bytes(self) -> &'static [u8] {
+        match self {
+            Begins::Nothing => &[],
+            Begins::NoInputs => &[0; 38],
+            Begins::Stood => &STOOD,
+        }
+    }
+}
+
+/// The snapshots of layouts 1, 2 and 3, and bytes that are none there: what they begin with, and what stands behind it.
+static LAYOUTS: [(u8, Begins, &[u8], bool); 18] = [
+    (1, Begins::Nothing, &[], true),
+    (1, Begins::Nothing, &[0], false),
+    (1, Begins::NoInputs, &[], false),
+    (1, Begins::Stood, &[], false),
+    (2, Begins::Nothing, &[], false),
+    (2, Begins::NoInputs, &[], true),
+    (2, Begins::Stood, &[], true),
+    (2, Begins::Stood, &[0, 0, 0, 0], false), // bytes left over
+    (3, Begins::Nothing, &[0, 0, 0, 0], false),
+    (3, Begins::NoInputs, &[0, 0, 0, 0], true),
+    (3, Begins::Stood, &[0, 0, 0, 0], true),
+    (3, Begins::Stood, &[], false), // the number of floors is not there
+    (3, Begins::Stood, &[0], false),
+    (3, Begins::Stood, &[0, 0, 0], false),
+    (3, Begins::Stood, &[0, 0, 0, 1], false), // a floor
+    (3, Begins::Stood, &[1, 0, 0, 0], false),
+    (3, Begins::NoInputs, &[0, 0, 1, 0], false),
+    (3, Begins::Stood, &[0, 0, 0, 0, 0], false), // a byte left over
+];
+
+/// The bytes are read as the snapshot that they are, whole and part after part, and written again; or they are refused.
+fn is_judged(
+    rt: &impl Abort,
+    alloc: Global,
+    layout: u8,
+    begins: Begins,
+    end: &[u8],
+    is_snapshot: bool,
+) {
+    let mut bytes = Vec::from_slice(alloc, begins.bytes()).expect(rt, "ample memory");
+    bytes.extend_from_slice(end).expect(rt, "ample memory");
+    match read_summary(alloc, &bytes, 3, layout) {
+        Ok(summary) => {
+            assert!(rt; is_snapshot, "{layout} {bytes:?}");
+            is_written(rt, alloc, &summary, layout, &bytes);
+        }
+        Err(refusal) => {
+            assert!(rt; !is_snapshot, "{layout} {bytes:?}");
+            assert_eq!(rt; refusal, Refusal::Damaged(0));
+        }
+    }
+    match read_in_parts(rt, alloc, &bytes, layout) {
+        Some(summary) => {
+            assert!(rt; is_snapshot, "{layout} {bytes:?}");
+            is_written(rt, alloc, &summary, layout, &bytes);
+        }
+        None => assert!(rt; !is_snapshot, "{layout} {bytes:?}"),
+    }
+}
+
+#[test]
+fn snapshots_by_layout(rt: HostRuntime) {
+    let alloc = rt.alloc();
+    for row in &LAYOUTS {
+        let (layout, begins, end, is_snapshot) = *row;
+        is_judged(&rt, alloc, layout, begins, end, is_snapshot);
     }
 }

@@ -10,7 +10,7 @@ use Rattle.ring_records.specs.declared.msg.Msg.{Msg}
 use Rattle.ring_records.specs.declared.packet.Packet.{Packet}
 use Rattle.ring_records.specs.declared.refusal.Refusal.{Refusal}
 use Rattle.ring_records.specs.declared.refusal.Refusal.TheVariants as refused
-use Rattle.ring_records.specs.Admission.{epochs, where_so}
+use Rattle.ring_records.specs.Admission.{epochs, where_so, newest}
 use Rattle.ring_records.specs.Emission.{sent}
 use Rattle.ring_records.specs.Lists.{or_else}
 use Rattle.ring_records.specs.Member.{Member}
@@ -71,7 +71,7 @@ unmoved k None e = refl
 unmoved k (Some b) e = none≢some _ (sym e)
 
 -- the snapshot of what it knows is that of its whole history
-snapshot_is : (past : List Input) (d : DeskKept) → IsPast d.view.member d.opening past → IsLawfulState d.view.member (seen past d).state → snapshot_len (known_all d) ≡ snapshot_len (summary d.view.member.node (past ++ d.view.state.inputs))
+snapshot_is : (past : List Input) (d : DeskKept) → IsPast d.view.member d.opening past → IsLawfulState d.view.member (seen past d).state → snapshot_len newest (known_all d) ≡ snapshot_len newest (summary d.view.member.node (past ++ d.view.state.inputs))
 snapshot_is past d is lawful = ap (λ (v : DeskView). (launched_base v.state).bytes) (lawful_launched_all past d is lawful)
 
 -- what is objected to a checkpoint is what its whole history says
@@ -90,7 +90,7 @@ limit_or_full true false = λ e. absurd cc
 limit_or_full false false = tt
 
 pub no_memory : (m : Member) (s : NodeState) → IfSome (checkpoint_refusal m s) (λ why. why ≡ refused.OutOfMemory → ⊥)
-no_memory m s = limit_or_full (nat_lt m.capacity (snapshot_len (summary m.node s.inputs))) (nat_le epochs (s.base.epoch + 1))
+no_memory m s = limit_or_full (nat_lt m.capacity (snapshot_len newest (summary m.node s.inputs))) (nat_le epochs (s.base.epoch + 1))
 
 -- a node at work launches what it may begin
 pub may_fly : (flight : Flight) (past : List Input) (d : DeskKept) (reach : Reach) (queue : List HeldView) → IsPast d.view.member d.opening past → IsServed (seen past d) reach queue → MayBegin flight d.view.member (state_of (view_with (seen past d) queue)) → MayFly flight d

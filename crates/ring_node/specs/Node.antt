@@ -6,7 +6,7 @@ use Rattle.ring_records.specs.declared.refusal.Refusal.{Refusal}
 use Rattle.ring_records.specs.declared.refusal.Refusal.TheVariants.{Full, Limit}
 use Rattle.ring_records.specs.declared.request.Request.{Request}
 use Rattle.ring_records.specs.States.{NodeState, launched_base, gained_by, answered_by, launched, launched_all, left_by}
-use Rattle.ring_records.specs.Admission.{epochs, fresh, where_so}
+use Rattle.ring_records.specs.Admission.{epochs, fresh, where_so, newest}
 use Rattle.ring_records.specs.Emission.{sent}
 use Rattle.ring_records.specs.History.{credit}
 use Rattle.ring_records.specs.Lists.{or_else}
@@ -53,7 +53,7 @@ asked_with serial q v = record v { inputs = v.inputs ++ gained_by v.member (stat
 -- why no checkpoint is begun, want of memory aside: the journal may write no other area, or the snapshot of all inputs is
 -- longer than the capacity
 abbrev pub checkpoint_refusal : Member → NodeState → Option Refusal
-checkpoint_refusal m s = or_else (where_so (nat_le epochs (s.base.epoch + 1)) Limit) (where_so (nat_lt m.capacity (snapshot_len (summary m.node s.inputs))) Full)
+checkpoint_refusal m s = or_else (where_so (nat_le epochs (s.base.epoch + 1)) Limit) (where_so (nat_lt m.capacity (snapshot_len newest (summary m.node s.inputs))) Full)
 
 -- node me in this state launches it
 abbrev pub launched_as : Flight → ℕ → NodeState → NodeState

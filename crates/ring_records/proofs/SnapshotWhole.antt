@@ -1,10 +1,10 @@
 -- Snapshots: what is read of one is spelled there, and what is spelled is read again, so bytes spell one summary at most.
-use Rattle.std.proofs.Common.{ℕ, suc, ◌≡◌, ◌+◌, ◌-◌, ◌^◌, ◌<◌, ◌≤◌, ltb, List, [], ◌∷◌, ◌++◌, map as list_map, length, Ok, Err, refl, sym, ap, subst, ◌∙◌, append_assoc, append-nil, arith, zero, inl, inr, ◌⊎◌}
+use Rattle.std.proofs.Common.{ℕ, suc, ◌≡◌, ◌+◌, ◌-◌, ◌^◌, ◌<◌, ◌≤◌, Bool, true, false, cond, eqb, leb, ltb, List, [], ◌∷◌, ◌++◌, map as list_map, length, Ok, Err, refl, sym, ap, subst, ◌∙◌, append_assoc, append-nil, arith, zero, inl, inr, ◌⊎◌}
 use Rattle.std.specs.FinMap as fin
 use Rattle.std.specs.Int.{w16, w32, w64, to_be_bytes}
 use Rattle.std.specs.List.{count_by, flat_map, AllByRecursion, Contains}
 use Rattle.std.specs.Prelude.{Result}
-use Rattle.std.proofs.lemmas.Bool.{ltb-false, le-ltb}
+use Rattle.std.proofs.lemmas.Bool.{cases_lt, eqb-true, ltb-false, le-ltb}
 use Rattle.std.proofs.lemmas.Nat.{be_bytes_2, from_be_bytes-to_be_bytes_2}
 use Rattle.ring_records.specs.declared.key.Key.{Key}
 use Rattle.ring_records.specs.declared.key_state.KeyState.{KeyState}
@@ -15,12 +15,16 @@ use Rattle.ring_records.specs.declared.refusal.Refusal.{Refusal}
 use Rattle.ring_records.specs.declared.refusal.Refusal.TheVariants as refused
 use Rattle.ring_records.specs.declared.snapshot_read.Counts.{Counts}
 use Rattle.ring_records.specs.declared.summary.Summary.{Summary}
+use Rattle.ring_records.specs.KeyOrder.{key_cmp}
 use Rattle.ring_records.specs.KeyStates.{under_key, keyed}
 use Rattle.ring_records.specs.Record.{AreBytes, number_at}
-use Rattle.ring_records.specs.Snapshot.{state_bytes, msg_bytes, counts_bytes, snapshot_of, has_stood, IsStateOf, IsMessageOf, IsSound, Spells}
-use Rattle.ring_records.specs.SnapshotRead.{state_at, msg_at, items_at, counts_at, window_size, at_end, parts_at, AreFitting, IsBroken}
+use Rattle.ring_records.specs.Snapshot.{state_bytes, msg_bytes, counts_bytes, floors_bytes, snapshot_of, has_stood, IsStateOf, IsMessageOf, IsSound, Spells}
+use Rattle.ring_records.specs.Summary.{empty}
+use Rattle.ring_records.specs.SnapshotRead.{state_at, msg_at, items_at, counts_at, window_size, at_end, no_floor_at, floors_at, parts_at, AreFitting, IsBroken}
 use Rattle.ring_records.proofs.Compare.{get-key}
-use Rattle.ring_records.proofs.Fields.{bind_ok, must_not_ok, same_ok, Takes, Takes-then, IsWide, wide_32, wide_64, number-found, number-again}
+use Rattle.ring_records.proofs.Fields.{bind_ok, must_ok, must_not_ok, same_ok, Takes, Takes-then, IsWide, wide_32, wide_64, number-found, number-again}
+use Rattle.ring_records.proofs.Snapshots.{snapshot-plain, snapshot-parts}
+use Rattle.ring_records.proofs.Sound.{sound-empty}
 use Rattle.ring_records.proofs.SnapshotItems.{IsOwnState, state-found, state-again, msg-found, msg-again, items-found, items-again}
 use Rattle.ring_records.proofs.StatesInOrder.{values-keyed, len-values, IsOwn, sorted-own, entries-own, each-entry, each-found, each-value}
 
@@ -88,9 +92,13 @@ counts-again k rest inputs taken credit sent stands keys =
 abbrev pub Parts : Type 0
 Parts = Counts × List KeyState × List Msg
 
+-- what stands behind the messages
+abbrev pub end_of : ℕ → List ℕ
+end_of layout = floors_bytes layout empty
+
 -- the bytes are these parts, one behind the other
-pub record AreParts (n : ℕ) (bytes : List ℕ) (p : Parts) : Type 0 where
-  pub is : bytes ≡ numbers p.0 ++ (flat_map state_bytes p.1 ++ flat_map msg_bytes p.2)
+pub record AreParts (layout n : ℕ) (bytes : List ℕ) (p : Parts) : Type 0 where
+  pub is : bytes ≡ (numbers p.0 ++ (flat_map state_bytes p.1 ++ flat_map msg_bytes p.2)) ++ end_of layout
   pub few : p.0.stands < 2 ^ 16
   pub few_keys : p.0.keys < 2 ^ 32
   pub credit : p.0.credit ≤ p.0.sent
@@ -103,12 +111,45 @@ end-found : (x y : Parts) (rest : List ℕ) → at_end x rest ≡ Ok y → (x �
 end-found x y [] e = (same_ok x y e, refl)
 end-found x y (b ∷ rest) e = absurd cc
 
-joined : (bytes a b c r1 r2 r3 : List ℕ) → bytes ≡ a ++ r1 → r1 ≡ b ++ r2 → r2 ≡ c ++ r3 → r3 ≡ [] → bytes ≡ a ++ (b ++ c)
-joined bytes a b c r1 r2 r3 p q r s = p ∙ ap (λ (l : List ℕ). a ++ l) (q ∙ ap (λ (l : List ℕ). b ++ l) (r ∙ (ap (λ (l : List ℕ). c ++ l) s ∙ append-nil c)))
+joined : (bytes a b c d r1 r2 r3 r4 : List ℕ) → bytes ≡ a ++ r1 → r1 ≡ b ++ r2 → r2 ≡ c ++ r3 → r3 ≡ d ++ r4 → r4 ≡ [] → bytes ≡ (a ++ (b ++ c)) ++ d
+joined bytes a b c d r1 r2 r3 r4 p q r s t =
+    p ∙ ap (λ (l : List ℕ). a ++ l) (q ∙ ap (λ (l : List ℕ). b ++ l) (r ∙ ap (λ (l : List ℕ). c ++ l) (s ∙ (ap (λ (l : List ℕ). d ++ l) t ∙ append-nil d))))
+    ∙ sym (append_assoc a (b ++ c) d ∙ ap (λ (l : List ℕ). a ++ l) (append_assoc b c d))
 
-parts-found : (n : ℕ) (bytes : List ℕ) (p : Parts) → AreBytes bytes → parts_at n bytes ≡ Ok p → AreParts n bytes p
+no_floor-found : (bytes rest : List ℕ) → AreBytes bytes → no_floor_at bytes ≡ Ok rest → Takes bytes (to_be_bytes w32 0) rest
+unfolding no_floor_at
+no_floor-found bytes rest are e =
+    let a = bind_ok (number_at w32 bytes) _ rest e in
+    let zero = must_ok (eqb a.0.0 0) Number a.0.1 rest a.2 in
+    let found = number-found w32 (2 ^ 32) wide_32 bytes a.0 are a.1 in
+    subst (λ (r : List ℕ). Takes bytes (to_be_bytes w32 0) r) zero.1 (subst (λ (count : ℕ). Takes bytes (to_be_bytes w32 count) a.0.1) (eqb-true a.0.0 0 zero.0) found.0)
+
+pub no_floor-taken : (bytes rest : List ℕ) → AreBytes bytes → no_floor_at bytes ≡ Ok rest → bytes ≡ to_be_bytes w32 0 ++ rest
+no_floor-taken bytes rest are e = (no_floor-found bytes rest are e).parts
+
+pub no_floor-again : (rest : List ℕ) → no_floor_at (to_be_bytes w32 0 ++ rest) ≡ Ok rest
+unfolding no_floor_at
+no_floor-again rest = rw (number-again w32 (2 ^ 32) wide_32 0 rest (omega arith)) refl
+
+floors-found : (layout : ℕ) (bytes rest : List ℕ) → AreBytes bytes → floors_at layout bytes ≡ Ok rest → bytes ≡ end_of layout ++ rest
+unfolding floors_at
+floors-found layout bytes rest are e = go (leb layout 2) e
+  where
+    go : (b : Bool) → cond b (Ok bytes) (no_floor_at bytes) ≡ Ok rest → bytes ≡ cond b [] (to_be_bytes w32 0) ++ rest
+    go true e = same_ok bytes rest e
+    go false e = no_floor-taken bytes rest are e
+
+floors-again : (layout : ℕ) → floors_at layout (end_of layout) ≡ Ok []
+unfolding floors_at
+floors-again layout = go (leb layout 2)
+  where
+    go : (b : Bool) → ◌≡◌ {A = Result (List ℕ) RecordFault} (cond b (Ok (cond b [] (to_be_bytes w32 0))) (no_floor_at (cond b [] (to_be_bytes w32 0)))) (Ok [])
+    go true = refl
+    go false = no_floor-again []
+
+parts-found : (layout n : ℕ) (bytes : List ℕ) (p : Parts) → AreBytes bytes → parts_at layout n bytes ≡ Ok p → AreParts layout n bytes p
 unfolding parts_at
-parts-found n bytes p are e =
+parts-found layout n bytes p are e =
     let a = bind_ok (counts_at bytes) _ p e in
     let k : Counts = a.0.0 in
     let b = bind_ok (window_size k) _ p a.2 in
@@ -118,9 +159,11 @@ parts-found n bytes p are e =
     let counts = counts-found bytes a.0 are a.1 in
     let states = items-found (state_at n) state_bytes (IsOwnState n) (state-found n) k.keys a.0.1 c.0 counts.0.left c.1 in
     let msgs = items-found (msg_at n) msg_bytes (IsMessageOf n) (msg-found n) b.0 c.0.1 d.0 states.taken.left d.1 in
-    let last = end-found (k, c.0.0, d.0.0) p d.0.1 d.2 in
-    subst (AreParts n bytes) {x = (k, c.0.0, d.0.0)} last.0 (record {
-      is = joined bytes (numbers k) (flat_map state_bytes c.0.0) (flat_map msg_bytes d.0.0) a.0.1 c.0.1 d.0.1 counts.0.parts states.taken.parts msgs.taken.parts last.1;
+    let f = bind_ok (floors_at layout d.0.1) _ p d.2 in
+    let last = end-found (k, c.0.0, d.0.0) p f.0 f.2 in
+    subst (AreParts layout n bytes) {x = (k, c.0.0, d.0.0)} last.0 (record {
+      is = joined bytes (numbers k) (flat_map state_bytes c.0.0) (flat_map msg_bytes d.0.0) (end_of layout) a.0.1 c.0.1 d.0.1 f.0 counts.0.parts states.taken.parts msgs.taken.parts (floors-found layout d.0.1 f.0 msgs.taken.left f.1)
+          last.1;
       few = counts.1;
       few_keys = counts.2;
       credit = ltb-false k.sent k.credit size.0;
@@ -139,16 +182,18 @@ Contains-each P [] each x there = let below = there.1 in absurd (omega arith)
 Contains-each P (y ∷ xs) each x (zero, below, e) = subst P e each.0
 Contains-each P (y ∷ xs) each x (suc k, below, e) = Contains-each P xs each.1 x (k, omega arith, e)
 
-pub parts-spelled : (n : ℕ) (bytes : List ℕ) (k : Counts) (states : List KeyState) (msgs : List Msg) → AreParts n bytes (k, states, msgs) → AreFitting k states → Spells n bytes (made_of k states msgs)
-unfolding snapshot_of counts_bytes
-parts-spelled n bytes k states msgs parts fits =
+pub parts-spelled : (layout n : ℕ) (bytes : List ℕ) (k : Counts) (states : List KeyState) (msgs : List Msg) → 2 ≤ layout → AreParts layout n bytes (k, states, msgs) → AreFitting k states
+    → Spells layout n bytes (made_of k states msgs)
+unfolding counts_bytes
+parts-spelled layout n bytes k states msgs newer parts fits =
     let values : fin.values (keyed states) ≡ states = values-keyed states fits.rising in
     let count : fin.len (keyed states) ≡ k.keys = sym (len-values (keyed states)) ∙ (ap length values ∙ parts.keys) in
     let front : List ℕ = to_be_bytes w64 k.inputs ++ to_be_bytes w64 k.taken ++ to_be_bytes w64 k.credit ++ to_be_bytes w64 k.sent ++ to_be_bytes w16 k.stands in
     record {
       is = parts.is
-          ∙ (sym (append_assoc (numbers k) (flat_map state_bytes states) (flat_map msg_bytes msgs))
-          ∙ (λ i. (front ++ to_be_bytes w32 (sym count i)) ++ flat_map state_bytes (sym values i) ++ flat_map msg_bytes msgs));
+          ∙ (ap (λ (l : List ℕ). l ++ end_of layout) (sym (append_assoc (numbers k) (flat_map state_bytes states) (flat_map msg_bytes msgs)))
+          ∙ ((λ i. ((front ++ to_be_bytes w32 (sym count i)) ++ flat_map state_bytes (sym values i) ++ flat_map msg_bytes msgs) ++ end_of layout)
+          ∙ sym (snapshot-parts layout (made_of k states msgs) newer)));
       sound = record {
         inputs = fits.inputs;
         acts = fits.acts;
@@ -161,11 +206,12 @@ parts-spelled n bytes k states msgs parts fits =
         messages = Contains-each (IsMessageOf n) msgs parts.messages;
       };
       few_keys = subst (λ (c : ℕ). c < 2 ^ 32) (sym count) parts.few_keys;
+      plain = λ old. absurd (omega (arith, old, newer));
     }
 
-pub read-spelled : (n : ℕ) (bytes : List ℕ) (k : Counts) (states : List KeyState) (msgs : List Msg) → AreBytes bytes → parts_at n bytes ≡ Ok (k, states, msgs) → AreFitting k states
-    → Spells n bytes (made_of k states msgs)
-read-spelled n bytes k states msgs are e fits = parts-spelled n bytes k states msgs (parts-found n bytes (k, states, msgs) are e) fits
+pub read-spelled : (layout n : ℕ) (bytes : List ℕ) (k : Counts) (states : List KeyState) (msgs : List Msg) → 2 ≤ layout → AreBytes bytes → parts_at layout n bytes ≡ Ok (k, states, msgs) → AreFitting k states
+    → Spells layout n bytes (made_of k states msgs)
+read-spelled layout n bytes k states msgs newer are e fits = parts-spelled layout n bytes k states msgs newer (parts-found layout n bytes (k, states, msgs) are e) fits
 
 -- ---- what is spelled is read
 
@@ -198,9 +244,9 @@ module _ (n : ℕ) (s : Summary) (sound : IsSound n s) where
     rising = sorted-own (fin.entries s.keys) own-entries (fin.entries_sorted s.keys);
   }
 
-  pub parts-again : fin.len s.keys < 2 ^ 32 → parts_at n (snapshot_of s) ≡ Ok (counts_of s, fin.values s.keys, s.window)
-  unfolding parts_at snapshot_of counts_bytes
-  parts-again few =
+  pub parts-again : (layout : ℕ) → 2 ≤ layout → fin.len s.keys < 2 ^ 32 → parts_at layout n (snapshot_of layout s) ≡ Ok (counts_of s, fin.values s.keys, s.window)
+  unfolding parts_at counts_bytes
+  parts-again layout newer few =
       let k : Counts = counts_of s in
       let states : List ℕ = flat_map state_bytes (fin.values s.keys) in
       let msgs : List ℕ = flat_map msg_bytes s.window in
@@ -208,42 +254,59 @@ module _ (n : ℕ) (s : Summary) (sound : IsSound n s) where
       let acts : s.taken + s.stands ≤ s.inputs = sound.acts in
       let sent : s.sent ≤ s.inputs = sound.sent in
       let credit : s.credit ≤ s.sent = sound.credit in
-      let regrouped : numbers k ++ states ++ msgs ≡ numbers k ++ (states ++ msgs) = append_assoc (numbers k) states msgs in
-      let counts = counts-again k (states ++ msgs) (omega arith) (omega arith) (omega arith) (omega arith) sound.few few in
+      let end : List ℕ = end_of layout in
+      let regrouped : (numbers k ++ states ++ msgs) ++ end ≡ numbers k ++ (states ++ (msgs ++ end)) =
+      append_assoc (numbers k ++ states) msgs end ∙ append_assoc (numbers k) states (msgs ++ end) in
+      let counts = counts-again k (states ++ (msgs ++ end)) (omega arith) (omega arith) (omega arith) (omega arith) sound.few few in
       let size : window_size k ≡ Ok (s.sent - s.credit) = rw (le-ltb s.sent s.credit credit) refl in
-      let keys : items_at (state_at n) (fin.len s.keys) (states ++ msgs) ≡ Ok (fin.values s.keys, msgs) =
-      ap (λ c. items_at (state_at n) c (states ++ msgs)) (sym (len-values s.keys)) ∙ items-again (state_at n) state_bytes (IsOwnState n) (state-again n) (fin.values s.keys) msgs states-each in
-      let window : items_at (msg_at n) (s.sent - s.credit) msgs ≡ Ok (s.window, []) =
-      (λ i. items_at (msg_at n) (sym sound.window i) (sym (append-nil msgs) i)) ∙ items-again (msg_at n) msg_bytes (IsMessageOf n) (msg-again n) s.window [] (each-Contained (IsMessageOf n) s.window sound.messages) in
-      ap (parts_at n) regrouped ∙ rw (counts, size, keys, window) refl
+      let keys : items_at (state_at n) (fin.len s.keys) (states ++ (msgs ++ end)) ≡ Ok (fin.values s.keys, msgs ++ end) =
+      ap (λ c. items_at (state_at n) c (states ++ (msgs ++ end))) (sym (len-values s.keys)) ∙ items-again (state_at n) state_bytes (IsOwnState n) (state-again n) (fin.values s.keys) (msgs ++ end) states-each in
+      let window : items_at (msg_at n) (s.sent - s.credit) (msgs ++ end) ≡ Ok (s.window, end) =
+      ap (λ c. items_at (msg_at n) c (msgs ++ end)) (sym sound.window) ∙ items-again (msg_at n) msg_bytes (IsMessageOf n) (msg-again n) s.window end (each-Contained (IsMessageOf n) s.window sound.messages) in
+      let floors : floors_at layout end ≡ Ok [] = floors-again layout in
+      ap (parts_at layout n) (snapshot-parts layout s newer ∙ regrouped) ∙ rw (counts, size, keys, window, floors) refl
 
-pub spelled-read : (n : ℕ) (bytes : List ℕ) (s : Summary) → Spells n bytes s → parts_at n bytes ≡ Ok (counts_of s, fin.values s.keys, s.window)
-spelled-read n bytes s spells = ap (parts_at n) spells.is ∙ parts-again n s spells.sound spells.few_keys
+pub spelled-read : (layout n : ℕ) (bytes : List ℕ) (s : Summary) → 2 ≤ layout → Spells layout n bytes s → parts_at layout n bytes ≡ Ok (counts_of s, fin.values s.keys, s.window)
+spelled-read layout n bytes s newer spells = ap (parts_at layout n) spells.is ∙ parts-again n s spells.sound layout newer spells.few_keys
 
-pub none-spelled : (n : ℕ) (bytes : List ℕ) (fault : RecordFault) → parts_at n bytes ≡ Err fault → (s : Summary) → Spells n bytes s → ⊥
-none-spelled n bytes fault e s spells = apart _ _ (sym (spelled-read n bytes s spells) ∙ e)
+pub none-spelled : (layout n : ℕ) (bytes : List ℕ) (fault : RecordFault) → 2 ≤ layout → parts_at layout n bytes ≡ Err fault → (s : Summary) → Spells layout n bytes s → ⊥
+none-spelled layout n bytes fault newer e s spells = apart _ _ (sym (spelled-read layout n bytes s newer spells) ∙ e)
   where
     apart : (x : Parts) (d : RecordFault) → ◌≡◌ {A = Result Parts RecordFault} (Ok x) (Err d) → ⊥
     apart x d f = cc f
 
-pub unfit-spelled : (n : ℕ) (bytes : List ℕ) (k : Counts) (states : List KeyState) (msgs : List Msg) → parts_at n bytes ≡ Ok (k, states, msgs) → (AreFitting k states → ⊥)
-    → (s : Summary) → Spells n bytes s → ⊥
-unfit-spelled n bytes k states msgs e unfit s spells =
-    let same : ◌≡◌ {A = Parts} (counts_of s, fin.values s.keys, s.window) (k, states, msgs) = same_ok _ _ (sym (spelled-read n bytes s spells) ∙ e) in
+pub unfit-spelled : (layout n : ℕ) (bytes : List ℕ) (k : Counts) (states : List KeyState) (msgs : List Msg) → 2 ≤ layout → parts_at layout n bytes ≡ Ok (k, states, msgs) → (AreFitting k states → ⊥)
+    → (s : Summary) → Spells layout n bytes s → ⊥
+unfit-spelled layout n bytes k states msgs newer e unfit s spells =
+    let same : ◌≡◌ {A = Parts} (counts_of s, fin.values s.keys, s.window) (k, states, msgs) = same_ok _ _ (sym (spelled-read layout n bytes s newer spells) ∙ e) in
     unfit (subst (λ (p : Parts). AreFitting p.0 p.1) same (sound-fits n s spells.sound))
 
--- bytes spell one summary at most
-pub one-spelled : (n : ℕ) (bytes : List ℕ) (s t : Summary) → Spells n bytes s → Spells n bytes t → s ≡ t
-one-spelled n bytes s t a b = λ i. record { inputs = (same i).0.inputs; taken = (same i).0.taken; credit = (same i).0.credit; sent = (same i).0.sent; stands = (same i).0.stands; keys = keys i; window = (same i).2 }
+one-read : (layout n : ℕ) (bytes : List ℕ) (s t : Summary) → 2 ≤ layout → Spells layout n bytes s → Spells layout n bytes t → s ≡ t
+one-read layout n bytes s t newer a b = λ i. record { inputs = (same i).0.inputs; taken = (same i).0.taken; credit = (same i).0.credit; sent = (same i).0.sent; stands = (same i).0.stands; keys = keys i; window = (same i).2 }
   where
     same : ◌≡◌ {A = Parts} (counts_of s, fin.values s.keys, s.window) (counts_of t, fin.values t.keys, t.window)
-    same = same_ok _ _ (sym (spelled-read n bytes s a) ∙ spelled-read n bytes t b)
+    same = same_ok _ _ (sym (spelled-read layout n bytes s newer a) ∙ spelled-read layout n bytes t newer b)
 
     keys : s.keys ≡ t.keys
     keys = fin.same_entries_map s.keys t.keys
         (sym (entries-own (fin.entries s.keys) (own-entries n s a.sound)) ∙ (ap (λ (p : Parts). list_map under_key p.1) same ∙ entries-own (fin.entries t.keys) (own-entries n t b.sound)))
 
-pub broken-spelled : (n : ℕ) (bytes : List ℕ) (e : Refusal) (found : Result Parts RecordFault) → found ≡ parts_at n bytes → IsBroken e found
-    → (e ≡ refused.OutOfMemory) ⊎ ((e ≡ refused.Damaged 0) × ((s : Summary) → Spells n bytes s → ⊥))
-broken-spelled n bytes e (Ok x) is broken = inl broken
-broken-spelled n bytes e (Err fault) is broken = elim broken [ inl damaged ↦ inr (damaged, none-spelled n bytes fault (sym is)) | inr memory ↦ inl memory ]
+-- bytes spell one summary at most
+pub one-spelled : (layout n : ℕ) (bytes : List ℕ) (s t : Summary) → Spells layout n bytes s → Spells layout n bytes t → s ≡ t
+one-spelled layout n bytes s t a b = elim (cases_lt layout 2) [ inl old ↦ a.plain (omega (arith, old)) ∙ sym (b.plain (omega (arith, old))) | inr newer ↦ one-read layout n bytes s t newer a b ]
+
+pub broken-spelled : (layout n : ℕ) (bytes : List ℕ) (e : Refusal) (found : Result Parts RecordFault) → 2 ≤ layout → found ≡ parts_at layout n bytes → IsBroken e found
+    → (e ≡ refused.OutOfMemory) ⊎ ((e ≡ refused.Damaged 0) × ((s : Summary) → Spells layout n bytes s → ⊥))
+broken-spelled layout n bytes e (Ok x) newer is broken = inl broken
+broken-spelled layout n bytes e (Err fault) newer is broken = elim broken [ inl damaged ↦ inr (damaged, none-spelled layout n bytes fault newer (sym is)) | inr memory ↦ inl memory ]
+
+-- in layout 1 no bytes spell the summary of no inputs
+pub plain-spelled : (layout n : ℕ) (bytes : List ℕ) → layout ≤ 1 → length bytes ≡ 0 → Spells layout n bytes empty
+plain-spelled layout n (b ∷ bytes) old none = absurd cc
+plain-spelled layout n [] old none = record { is = sym (snapshot-plain layout empty old); sound = sound-empty n; few_keys = few; plain = λ e. refl }
+  where
+    few : fin.len empty.keys < 2 ^ 32
+    few = omega (arith, fin.len-empty key_cmp KeyState)
+
+pub not-plain : (layout n : ℕ) (bytes : List ℕ) (s : Summary) → layout ≤ 1 → Spells layout n bytes s → 1 ≤ length bytes → ⊥
+not-plain layout n bytes s old spells some = omega (arith, ap (λ (l : List ℕ). length l) (spells.is ∙ snapshot-plain layout s old), some)

@@ -1,9 +1,11 @@
 -- How long a snapshot is.
-use Rattle.std.proofs.Common.{ℕ, ◌≡◌, ◌+◌, cond, List, [], ◌∷◌, length, Option, Some, None, refl, sym, ap, ◌∙◌, arith}
+use Rattle.std.proofs.Common.{ℕ, ◌≡◌, ◌+◌, ◌<◌, ◌≤◌, Bool, true, false, leb, cond, ⊎_elim, ◌++◌, List, [], ◌∷◌, length, Option, Some, None, refl, sym, ap, ◌∙◌, arith}
 use Rattle.std.specs.FinMap as fin
 use Rattle.std.specs.List.{flat_map, sum_by}
 use Rattle.std.specs.List.Sorted.{IsStrictlySortedBy}
 use Rattle.std.specs.Prelude.{is_some}
+use Rattle.std.specs.Int.{w32, to_be_bytes}
+use Rattle.std.proofs.lemmas.Bool.{cases_lt, le-leb, lt-leb}
 use Rattle.std.proofs.lemmas.List.{length-append}
 use Rattle.std.proofs.lemmas.List.Sums.{sum_by-cons}
 use Rattle.ring_records.specs.declared.candidate.Candidate.{Candidate}
@@ -12,8 +14,8 @@ use Rattle.ring_records.specs.declared.msg.Msg.{Msg}
 use Rattle.ring_records.specs.declared.summary.Summary.{Summary}
 use Rattle.ring_records.specs.Message.{key_of, candidate_of}
 use Rattle.ring_records.specs.Record.{key_bytes, candidate_bytes}
-use Rattle.ring_records.specs.Admission.{snapshot_len, state_len, msg_len}
-use Rattle.ring_records.specs.Snapshot.{bid_bytes, leader_bytes, state_bytes, msg_bytes, counts_bytes, snapshot_of}
+use Rattle.ring_records.specs.Admission.{snapshot_len, floors_len, state_len, msg_len}
+use Rattle.ring_records.specs.Snapshot.{bid_bytes, leader_bytes, state_bytes, msg_bytes, counts_bytes, keys_bytes, window_bytes, floors_bytes, snapshot_of}
 use Rattle.ring_records.specs.Summary.{empty}
 use Rattle.ring_records.proofs.StatesInOrder.{values-keyed}
 use Rattle.ring_records.proofs.Records.{length-key_bytes, length-candidate_bytes}
@@ -43,18 +45,53 @@ length-counts : (s : Summary) (keys : ℕ) → length (counts_bytes s keys) ≡ 
 unfolding counts_bytes
 length-counts s keys = omega (arith, length-append {A = ℕ})
 
-pub snapshot-sum : (s : Summary) → snapshot_len s ≡ 38 + (sum_by state_len (fin.values s.keys) + sum_by msg_len s.window)
-unfolding snapshot_len
-snapshot-sum s = refl
+-- ---- by layout
 
-pub length-snapshot : (s : Summary) → length (snapshot_of s) ≡ snapshot_len s
-unfolding snapshot_of snapshot_len
-length-snapshot s =
-    let counts = length-counts s (fin.len s.keys) in
+-- the parts that stand in every snapshot
+abbrev pub parts_of : Summary → List ℕ
+parts_of s = counts_bytes s (fin.len s.keys) ++ keys_bytes s ++ window_bytes s
+
+pub snapshot-plain : (layout : ℕ) (s : Summary) → layout ≤ 1 → snapshot_of layout s ≡ []
+unfolding snapshot_of
+snapshot-plain layout s plain = ap (λ (b : Bool). cond b [] (parts_of s ++ floors_bytes layout s)) (le-leb layout 1 plain)
+
+pub snapshot-parts : (layout : ℕ) (s : Summary) → 2 ≤ layout → snapshot_of layout s ≡ parts_of s ++ floors_bytes layout s
+unfolding snapshot_of
+snapshot-parts layout s newer = ap (λ (b : Bool). cond b [] (parts_of s ++ floors_bytes layout s)) (lt-leb layout 1 newer)
+
+pub length-plain : (layout : ℕ) (s : Summary) → layout ≤ 1 → snapshot_len layout s ≡ 0
+unfolding snapshot_len
+length-plain layout s plain = ap (λ (b : Bool). cond b 0 (38 + (sum_by state_len (fin.values s.keys) + sum_by msg_len s.window) + floors_len layout)) (le-leb layout 1 plain)
+
+pub length-parts : (layout : ℕ) (s : Summary) → 2 ≤ layout → snapshot_len layout s ≡ 38 + (sum_by state_len (fin.values s.keys) + sum_by msg_len s.window) + floors_len layout
+unfolding snapshot_len
+length-parts layout s newer = ap (λ (b : Bool). cond b 0 (38 + (sum_by state_len (fin.values s.keys) + sum_by msg_len s.window) + floors_len layout)) (lt-leb layout 1 newer)
+
+-- behind the window stands nothing in layout 2, and then the number 0
+pub floors-none : (layout : ℕ) (s : Summary) → layout ≤ 2 → floors_bytes layout s ≡ []
+floors-none layout s old = ap (λ (b : Bool). cond b [] (to_be_bytes w32 0)) (le-leb layout 2 old)
+
+pub floors-zero : (layout : ℕ) (s : Summary) → 2 < layout → floors_bytes layout s ≡ to_be_bytes w32 0
+floors-zero layout s new = ap (λ (b : Bool). cond b [] (to_be_bytes w32 0)) (lt-leb layout 2 new)
+
+pub length-floors : (layout : ℕ) (s : Summary) → length (floors_bytes layout s) ≡ floors_len layout
+length-floors layout s = go (leb layout 2)
+  where
+    go : (b : Bool) → length (cond b [] (to_be_bytes w32 0)) ≡ cond b 0 4
+    go true = refl
+    go false = refl
+
+pub length-snapshot : (layout : ℕ) (s : Summary) → length (snapshot_of layout s) ≡ snapshot_len layout s
+length-snapshot layout s = ⊎_elim
+    (λ (old : layout < 2). ap (λ (l : List ℕ). length l) (snapshot-plain layout s (omega (arith, old))) ∙ sym (length-plain layout s (omega (arith, old))))
+    (λ (newer : 2 ≤ layout). (let counts = length-counts s (fin.len s.keys) in
     let states = length-flat state_bytes state_len length-state (fin.values s.keys) in
     let msgs = length-flat msg_bytes msg_len length-msg s.window in
-    omega (arith, length-append {A = ℕ})
+    let floors = length-floors layout s in
+    let sum = length-parts layout s newer in
+    ap (λ (l : List ℕ). length l) (snapshot-parts layout s newer) ∙ omega (arith, length-append {A = ℕ}, counts, states, msgs, floors, sum)))
+    (cases_lt layout 2)
 
-pub length-empty : snapshot_len empty ≡ 38
+pub length-empty : (layout : ℕ) → 2 ≤ layout → snapshot_len layout empty ≡ 38 + floors_len layout
 unfolding IsStrictlySortedBy
-length-empty = snapshot-sum empty ∙ ap (λ (ss : List KeyState). 38 + (sum_by state_len ss + 0)) (values-keyed [] tt)
+length-empty layout newer = length-parts layout empty newer ∙ ap (λ (ss : List KeyState). 38 + (sum_by state_len ss + 0) + floors_len layout) (values-keyed [] tt)

@@ -1,5 +1,5 @@
--- The bytes of a summary in a journal, and which bytes spell one. Numbers are big-endian.
-use Rattle.std.specs.Prelude.{ℕ, ◌≡◌, ◌+◌, ◌-◌, ◌^◌, ◌<◌, ◌≤◌, Bool, if◌then◌else◌, List, [], ◌∷◌, ◌++◌, length, Option, Some, None, is_some}
+-- The bytes of a summary in a journal, by layout, and which bytes spell one. Numbers are big-endian.
+use Rattle.std.specs.Prelude.{ℕ, ◌≡◌, ◌+◌, ◌-◌, ◌^◌, ◌<◌, ◌≤◌, Bool, nat_le, if◌then◌else◌, List, [], ◌∷◌, ◌++◌, length, Option, Some, None, is_some}
 use Rattle.std.specs.FinMap as fin
 use Rattle.std.specs.Int.{w16, w32, w64, to_be_bytes}
 use Rattle.std.specs.List.{flat_map, count_by, Contains}
@@ -11,6 +11,7 @@ use Rattle.ring_records.specs.declared.summary.Summary.{Summary}
 pub use Rattle.ring_records.specs.Admission.{snapshot_len}
 use Rattle.ring_records.specs.Message.{key_of, candidate_of}
 use Rattle.ring_records.specs.Record.{key_bytes, candidate_bytes, take_kind, IsKeyInRange, IsCandidateInRange}
+use Rattle.ring_records.specs.Summary.{empty}
 
 -- ---- the bytes
 
@@ -48,9 +49,13 @@ keys_bytes s = flat_map state_bytes (fin.values s.keys)
 abbrev pub window_bytes : Summary → List ℕ
 window_bytes s = flat_map msg_bytes s.window
 
--- the snapshot
-unfoldable pub snapshot_of : Summary → List ℕ
-snapshot_of s = counts_bytes s (fin.len s.keys) ++ keys_bytes s ++ window_bytes s
+-- how many groups have a floor, from layout 3 on: none yet
+abbrev pub floors_bytes : ℕ → Summary → List ℕ
+floors_bytes layout s = if nat_le layout 2 then [] else to_be_bytes w32 0
+
+-- the snapshot: none in layout 1, which has no area
+unfoldable pub snapshot_of : ℕ → Summary → List ℕ
+snapshot_of layout s = if nat_le layout 1 then [] else counts_bytes s (fin.len s.keys) ++ keys_bytes s ++ window_bytes s ++ floors_bytes layout s
 
 -- ---- what a snapshot is asked for: where one of these fails it is broken
 
@@ -86,8 +91,9 @@ pub record IsSound (n : ℕ) (s : Summary) : Type 0 where
   pub states : (key : Key) (state : KeyState) → fin.get s.keys key ≡ Some state → IsStateOf n key state
   pub messages : (msg : Msg) → Contains s.window msg → IsMessageOf n msg
 
--- the bytes are the snapshot of s, which a node of a ring of n may have
-pub record Spells (n : ℕ) (bytes : List ℕ) (s : Summary) : Type 0 where
-  pub is : bytes ≡ snapshot_of s
+-- the bytes are the snapshot of s in this layout, which a node of a ring of n may have
+pub record Spells (layout n : ℕ) (bytes : List ℕ) (s : Summary) : Type 0 where
+  pub is : bytes ≡ snapshot_of layout s
   pub sound : IsSound n s
   pub few_keys : fin.len s.keys < 2 ^ 32
+  pub plain : layout ≤ 1 → s ≡ empty

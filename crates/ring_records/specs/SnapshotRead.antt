@@ -1,5 +1,5 @@
 -- What reading finds in the bytes of a snapshot, from left to right.
-use Rattle.std.specs.Prelude.{ℕ, zero, suc, ◌≡◌, ◌+◌, ◌-◌, ◌==◌, ◌^◌, ◌≤◌, ◌⊎◌, nat_lt, if◌then◌else◌, List, [], ◌∷◌, ◌++◌, Some, None, Result, Ok, Err}
+use Rattle.std.specs.Prelude.{ℕ, zero, suc, ◌≡◌, ◌+◌, ◌-◌, ◌==◌, ◌^◌, ◌≤◌, ◌⊎◌, nat_lt, nat_le, if◌then◌else◌, List, [], ◌∷◌, ◌++◌, Some, None, Result, Ok, Err}
 use Rattle.std.specs.Int.{w16, w32, w64}
 use Rattle.std.specs.List.{count_by}
 use Rattle.std.specs.List.Sorted.{IsStrictlySortedBy}
@@ -101,13 +101,25 @@ abbrev pub at_end : {A : Type 0} → A → List ℕ → Result A RecordFault
 at_end x [] = Ok x
 at_end x (b ∷ rest) = Err Number
 
-unfoldable pub parts_at : ℕ → List ℕ → Result (Counts × List KeyState × List Msg) RecordFault
-parts_at n bytes = do
+-- behind the number of floors, which is 0
+unfoldable pub no_floor_at : List ℕ → Result (List ℕ) RecordFault
+no_floor_at bytes = do
+  count ← number_at w32 bytes
+  if count.0 == 0 then Ok count.1 else Err Number
+
+-- behind the floors, which stand there from layout 3 on
+unfoldable pub floors_at : ℕ → List ℕ → Result (List ℕ) RecordFault
+floors_at layout bytes = if nat_le layout 2 then Ok bytes else no_floor_at bytes
+
+-- the parts of a snapshot of a layout that has some
+unfoldable pub parts_at : ℕ → ℕ → List ℕ → Result (Counts × List KeyState × List Msg) RecordFault
+parts_at layout n bytes = do
   counts ← counts_at bytes
   size ← window_size counts.0
   states ← items_at (state_at n) counts.0.keys counts.1
   msgs ← items_at (msg_at n) size states.1
-  at_end (counts.0, states.0, msgs.0) msgs.1
+  rest ← floors_at layout msgs.1
+  at_end (counts.0, states.0, msgs.0) rest
 
 -- the counts fit each other and the states, which are in order of key
 pub record AreFitting (k : Counts) (states : List KeyState) : Type 0 where

@@ -8,7 +8,7 @@ use Rattle.ring_records.specs.declared.refusal.Refusal.{Refusal}
 use Rattle.ring_records.specs.declared.request.Request.{Request}
 use Rattle.ring_records.specs.declared.shown.Shown.{Shown}
 use Rattle.ring_records.specs.Admission.{base_of, newest, refusal, IsBaseOf, IsLawful}
-use Rattle.ring_records.specs.Answer.{Answered, gained, answer, answered}
+use Rattle.ring_records.specs.Answer.{Answered, gained, answered}
 use Rattle.ring_records.specs.Emission.{sent}
 use Rattle.ring_records.specs.History.{taken, credit}
 use Rattle.ring_records.specs.Member.{Member}

@@ -9,7 +9,7 @@ ghost use Rattle.ring_records.specs.declared.input.Input.{Input};
 ghost use Rattle.ring_records.specs.declared.key.Key.{Key};
 ghost use Rattle.ring_records.specs.declared.msg.Msg.{Msg};
 ghost use Rattle.ring_records.specs.declared.summary.Summary.{Summary};
-ghost use Rattle.ring_records.specs.Admission.{fresh, used, cost, snapshot_len, IsAllowed, IsAdmitted, IsBaseOf, IsLawful, objection, refusal};
+ghost use Rattle.ring_records.specs.Admission.{fresh, used, cost, snapshot_len, floors_len, IsAllowed, IsAdmitted, IsBaseOf, IsLawful, objection, refusal};
 ghost use Rattle.ring_records.specs.declared.notice.Notice.{Notice};
 ghost use Rattle.ring_records.specs.declared.packet.Packet.{Packet};
 ghost use Rattle.ring_records.specs.declared.refusal.Refusal.{Refusal};
@@ -177,9 +177,9 @@ pub fn summary_sound()
 {}
 
 /// Bytes are the snapshot of one summary at most, whatever it is asked to be of. A snapshot has as many bytes as the rule
-/// of room counts: 38 where it is of no inputs.
+/// of room counts: 38 where it is of no inputs, and 42 from layout 3 on.
 pub fn snapshots()
-    ensures one { (n : ℕ) (bytes : List ℕ) (s t : Summary) → Spells n bytes s → Spells n bytes t → s ≡ t }
-    ensures len { (s : Summary) → length (snapshot_of s) ≡ snapshot_len s }
-    ensures none { snapshot_len empty ≡ 38 }
+    ensures one { (layout n : ℕ) (bytes : List ℕ) (s t : Summary) → Spells layout n bytes s → Spells layout n bytes t → s ≡ t }
+    ensures len { (layout : ℕ) (s : Summary) → length (snapshot_of layout s) ≡ snapshot_len layout s }
+    ensures none { (layout : ℕ) → 2 ≤ layout → snapshot_len layout empty ≡ 38 + floors_len layout }
 {}

@@ -15,6 +15,9 @@ pub const GREATEST_CAPACITY: u32 = 1_048_576;
 /// The layout of the areas that a journal writes.
 pub const LAYOUT: u8 = 2;
 
+/// The least layout of an area that a journal reads.
+pub const OLDEST_AREA: u8 = 2;
+
 /// The areas of a journal are numbered below this.
 pub const EPOCHS: u64 = 1 << 40;
 

@@ -1,20 +1,33 @@
-// The bytes of a summary in a journal.
+// The bytes of a summary in a journal, by layout.
 ghost use Rattle.std.specs.Prelude.{◌≡◌, ◌++◌, ◌+◌, ◌*◌, ◌<◌, ◌≤◌, ◌^◌, length, IfOk, OnOk};
 ghost use Rattle.std.specs.FinMap as map;
 ghost use Rattle.std.specs.List.{flat_map, sum_by};
-ghost use Rattle.ring_records.specs.Admission.{state_len, msg_len, snapshot_len};
+ghost use Rattle.ring_records.specs.Admission.{state_len, msg_len, floors_len, snapshot_len};
 ghost use Rattle.ring_records.specs.Record.{key_bytes, candidate_bytes};
-ghost use Rattle.ring_records.specs.Snapshot.{flags, counts_bytes, state_bytes, msg_bytes, snapshot_of};
+ghost use Rattle.ring_records.specs.declared.summary.Summary.{Summary};
+ghost use Rattle.ring_records.specs.Snapshot.{flags, counts_bytes, state_bytes, msg_bytes, floors_bytes, snapshot_of};
 
-use crate::{Candidate, Key, KeyState, Msg, Summary};
+use crate::{Candidate, Key, KeyState, Msg, OLDEST_AREA, Summary};
 use std::alloc::{AllocError, Global};
 
-/// The length of its snapshot in bytes, below 2^63 + 2^62.
-pub fn summary_len(summary: &Summary) -> u64
-    ensures value { result ≡ snapshot_len summary.now }
+/// The length of its snapshot in this layout, in bytes, below 2^63 + 2^62.
+pub fn summary_len(summary: &Summary, layout: u8) -> u64
+    ensures value { result ≡ snapshot_len layout summary.now }
     ensures range { result < 2 ^ 63 + 2 ^ 62 }
 {
-    38 + states_len(summary.keys.as_slice()) + messages_len(summary.window.as_slice())
+    if layout < OLDEST_AREA {
+        return 0;
+    }
+    let states = states_len(summary.keys.as_slice());
+    38 + (states + messages_len(summary.window.as_slice())) + floors_len(layout)
+}
+
+// The bytes behind the messages.
+fn floors_len(layout: u8) -> u64
+    ensures value { result ≡ floors_len layout }
+    ensures bound { result ≤ 4 }
+{
+    if layout > 2 { 4 } else { 0 }
 }
 
 fn states_len(states: &[KeyState]) -> u64
@@ -59,17 +72,32 @@ pub fn msg_len(msg: &Msg) -> u32
     11 + msg.key().group.as_bytes().len() as u32
 }
 
-/// The snapshot of the summary: the bytes by which it stands in a journal. The error is that of the allocator.
-pub fn write_summary(alloc: Global, summary: &Summary) -> Result<Vec<u8>, AllocError>
+/// The snapshot of the summary in this layout: the bytes by which it stands in a journal, none in layout 1. The error is
+/// that of the allocator.
+pub fn write_summary(alloc: Global, summary: &Summary, layout: u8) -> Result<Vec<u8>, AllocError>
     requires keys { map.len summary.now.keys < 2 ^ 32 }
-    ensures value { IfOk result (λ bytes. bytes.items ≡ snapshot_of summary.now) }
-    ensures len { IfOk result (λ bytes. length bytes.items ≡ snapshot_len summary.now) }
+    ensures value { IfOk result (λ bytes. bytes.items ≡ snapshot_of layout summary.now) }
+    ensures len { IfOk result (λ bytes. length bytes.items ≡ snapshot_len layout summary.now) }
 {
     let mut out = Vec::new(alloc);
+    if layout < OLDEST_AREA {
+        return Ok(out);
+    }
     put_counts(&mut out, summary, summary.keys.len() as u32)?;
     put_states(&mut out, summary.keys.as_slice())?;
     put_messages(&mut out, summary.window.as_slice())?;
+    put_floors(&mut out, layout)?;
     Ok(out)
+}
+
+// The number of floors, where the layout has it.
+fn put_floors(out: &mut Vec<u8>, layout: u8) -> Result<(), AllocError>
+    ensures { OnOk result ((s : Summary) → out.new.items ≡ out.old.items ++ floors_bytes layout s) }
+{
+    if layout > 2 {
+        out.extend_from_slice(&[0; 4])?;
+    }
+    Ok(())
 }
 
 #[tactic(auto, unfolding(crate::specs::Snapshot::counts_bytes))]

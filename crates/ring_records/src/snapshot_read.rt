@@ -1,5 +1,5 @@
 // Reading the bytes of a summary.
-ghost use Rattle.std.specs.Prelude.{◌≡◌, ◌++◌, ◌∷◌, ◌⊎◌, [], Decides, IfOk, IfErr, Ok};
+ghost use Rattle.std.specs.Prelude.{◌≡◌, ◌≤◌, ◌++◌, ◌∷◌, ◌⊎◌, [], Decides, IfOk, IfErr, Ok};
 ghost use Rattle.std.specs.Int.{w16};
 ghost use Rattle.std.specs.List.{count_by};
 ghost use Rattle.std.specs.List.Sorted.{IsStrictlySortedBy};
@@ -9,10 +9,13 @@ ghost use Rattle.ring_records.specs.declared.refusal.Refusal.TheVariants.{Damage
 ghost use Rattle.ring_records.specs.KeyStates.{by_state};
 ghost use Rattle.ring_records.specs.Record.{Finds, number_at};
 ghost use Rattle.ring_records.specs.Snapshot.{Spells, has_stood};
-ghost use Rattle.ring_records.specs.SnapshotRead.{candidate_in, state_behind, state_at, named_at, token_of, elected_of, msg_behind, msg_at, items_at, counts_at, parts_at, AreFitting, IsBroken};
+ghost use Rattle.ring_records.specs.SnapshotRead.{candidate_in, state_behind, state_at, named_at, token_of, elected_of, msg_behind, msg_at, items_at};
+ghost use Rattle.ring_records.specs.SnapshotRead.{counts_at, no_floor_at, floors_at, parts_at, AreFitting, IsBroken};
 
 use crate::record::{RecordFault, bid_of, byte_of, candidate_of, key_of, u32_of, u64_of};
-use crate::{Bid, Candidate, Key, KeyState, KeyStates, Messages, Msg, Refusal, Summary};
+use crate::{
+    Bid, Candidate, Key, KeyState, KeyStates, Messages, Msg, OLDEST_AREA, Refusal, Summary,
+};
 use std::alloc::{AllocError, Global};
 use std::cmp::Ordering;
 
@@ -27,13 +30,27 @@ pub(crate) struct Counts {
     pub(crate) keys: u32,
 }
 
-/// The summary whose snapshot these bytes are, in a ring of `n` nodes; refused as 16 with offset 0 where they are that
-/// of none, and as 8.
-pub fn read_summary(alloc: Global, bytes: &[u8], n: u8) -> Result<Summary, Refusal>
-    ensures found { IfOk result (λ s. Spells n bytes.now s) }
-    ensures broken { IfErr result (λ e. (e ≡ OutOfMemory) ⊎ ((e ≡ Damaged 0) × ((s : Summary) → ¬ (Spells n bytes.now s)))) }
+/// The summary whose snapshot these bytes are in this layout, in a ring of `n` nodes; refused as 16 with offset 0 where
+/// they are that of none, and as 8.
+pub fn read_summary(alloc: Global, bytes: &[u8], n: u8, layout: u8) -> Result<Summary, Refusal>
+    ensures found { IfOk result (λ s. Spells layout n bytes.now s) }
+    ensures broken { IfErr result (λ e. (e ≡ OutOfMemory) ⊎ ((e ≡ Damaged 0) × ((s : Summary) → ¬ (Spells layout n bytes.now s)))) }
 {
-    let (counts, states, messages) = match parts_of(alloc, bytes, n) {
+    if layout >= OLDEST_AREA {
+        return read_parts(alloc, bytes, n, layout);
+    }
+    match bytes {
+        [] => Ok(Summary::empty(alloc)),
+        [..] => Err(Refusal::Damaged(0)),
+    }
+}
+
+fn read_parts(alloc: Global, bytes: &[u8], n: u8, layout: u8) -> Result<Summary, Refusal>
+    requires newer { 2 ≤ layout }
+    ensures found { IfOk result (λ s. Spells layout n bytes.now s) }
+    ensures broken { IfErr result (λ e. (e ≡ OutOfMemory) ⊎ ((e ≡ Damaged 0) × ((s : Summary) → ¬ (Spells layout n bytes.now s)))) }
+{
+    let (counts, states, messages) = match parts_of(alloc, bytes, n, layout) {
         Ok(parts) => parts,
         Err(refusal) => return Err(refusal),
     };
@@ -56,9 +73,10 @@ fn parts_of(
     alloc: Global,
     bytes: &[u8],
     n: u8,
+    layout: u8,
 ) -> Result<(Counts, Vec<KeyState>, Vec<Msg>), Refusal>
-    ensures found { IfOk result (λ x. parts_at n bytes.now ≡ Ok (x.0, x.1.items, x.2.items)) }
-    ensures broken { IfErr result (λ e. IsBroken e (parts_at n bytes.now)) }
+    ensures found { IfOk result (λ x. parts_at layout n bytes.now ≡ Ok (x.0, x.1.items, x.2.items)) }
+    ensures broken { IfErr result (λ e. IsBroken e (parts_at layout n bytes.now)) }
 {
     let (counts, rest) = match counts_of(bytes) {
         Ok(x) => x,
@@ -75,10 +93,37 @@ fn parts_of(
         Ok(x) => x,
         Err(refusal) => return Err(refusal),
     };
+    let rest = match behind_floors(layout, rest) {
+        Ok(rest) => rest,
+        Err(_) => return Err(Refusal::Damaged(0)),
+    };
     match rest {
         [] => Ok((counts, states, messages)),
         [..] => Err(Refusal::Damaged(0)),
     }
+}
+
+// The bytes behind the floors, of which there are none.
+#[tactic(auto, unfolding(crate::specs::SnapshotRead::floors_at))]
+fn behind_floors(layout: u8, bytes: &[u8]) -> Result<&[u8], RecordFault>
+    ensures { Finds (λ x. x.now) result (floors_at layout bytes.now) }
+{
+    if layout < 3 {
+        return Ok(bytes);
+    }
+    no_floor_of(bytes)
+}
+
+// The bytes behind the number of floors, which is 0.
+#[tactic(auto, unfolding(crate::specs::SnapshotRead::no_floor_at))]
+pub(crate) fn no_floor_of(bytes: &[u8]) -> Result<&[u8], RecordFault>
+    ensures { Finds (λ x. x.now) result (no_floor_at bytes.now) }
+{
+    let (count, rest) = u32_of(bytes)?;
+    if count != 0 {
+        return Err(RecordFault::Number);
+    }
+    Ok(rest)
 }
 
 #[tactic(auto, unfolding(crate::specs::SnapshotRead::counts_at))]

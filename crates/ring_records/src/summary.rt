@@ -63,3 +63,22 @@ pub struct Summary {
     /// The messages that were sent and not credited, oldest first.
     pub window: Messages,
 }
+
+impl Summary {
+    ghost use Rattle.ring_records.specs.Summary.{empty};
+
+    /// That of a node without inputs. It takes no memory.
+    pub fn empty(alloc: Global) -> Summary
+        ensures { result ≡ empty }
+    {
+        Summary {
+            inputs: 0,
+            taken: 0,
+            credit: 0,
+            sent: 0,
+            stands: 0,
+            keys: KeyStates::from_sorted(Vec::new(alloc)),
+            window: Messages::from_vec(Vec::new(alloc)),
+        }
+    }
+}

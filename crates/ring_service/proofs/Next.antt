@@ -4,7 +4,7 @@ use Rattle.std.proofs.lemmas.List.{drop_all}
 use Rattle.std.proofs.lemmas.Option.{same_Some}
 use Rattle.ring_records.specs.declared.input.Input.{Input}
 use Rattle.ring_records.specs.declared.summary.Summary.{Summary}
-use Rattle.ring_records.specs.Admission.{costs_of, used}
+use Rattle.ring_records.specs.Admission.{costs_of, used, newest}
 use Rattle.ring_records.specs.Member.{Member}
 use Rattle.ring_records.specs.Snapshot.{snapshot_len}
 use Rattle.ring_records.proofs.Lists.{none≢some}
@@ -56,7 +56,7 @@ pub knows : (member : Member) (opening : Summary) (known new : Durable) (w : Wor
     → ((flown_by w).snapshot ≡ None → new ≡ with_batch known (flown_by w).inputs) → ((bytes : ℕ) → (flown_by w).snapshot ≡ Some bytes → new ≡ with_area known (flown_by w).inputs bytes)
     → new ≡ known_behind (summary_by w) (flown_by w).inputs known
 knows member opening known new (works.Batch batch) next plain anew = plain refl
-knows member opening known new (works.Checkpoint made) next plain anew = anew (snapshot_len (base_by made)) next.snapshot
+knows member opening known new (works.Checkpoint made) next plain anew = anew (snapshot_len newest (base_by made)) next.snapshot
 
 -- all that the area stands for takes no other bytes
 alone : (known : Durable) (inputs : List Input) (bytes : ℕ) → used (with_area known inputs bytes).base (known.inputs ++ inputs) ≡ bytes
@@ -78,7 +78,7 @@ has member opening known len room epoch (works.Checkpoint made) based before nex
     let inputs = (numbered_by made).inputs in
     record {
       count = (let count = before.count in omega (arith, count, length-append known.inputs inputs));
-      left = ap (λ (o : Option ℕ). room_after o member.capacity (costs_of inputs) room) next.snapshot ∙ ap (λ k. member.capacity - k) (sym (alone known inputs (snapshot_len (base_by made))));
+      left = ap (λ (o : Option ℕ). room_after o member.capacity (costs_of inputs) room) next.snapshot ∙ ap (λ k. member.capacity - k) (sym (alone known inputs (snapshot_len newest (base_by made))));
       area = ap (λ (o : Option ℕ). epoch_after o epoch) next.snapshot ∙ ap (λ k. k + 1) before.area;
     }
 

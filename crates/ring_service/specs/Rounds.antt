@@ -25,7 +25,7 @@ use Rattle.commit_hub.specs.Works.{IsLawfulBehind, flying_behind}
 -- what is known to be durable then
 abbrev pub known_behind : Option Summary → List Input → Durable → Durable
 known_behind None inputs d = with_batch d inputs
-known_behind (Some base) inputs d = with_area d inputs (snapshot_len base)
+known_behind (Some base) inputs d = with_area d inputs (snapshot_len newest base)
 
 -- the state since its opening of a node that has this durable, and nothing else
 abbrev pub at_rest : Durable → NodeState
@@ -33,7 +33,7 @@ at_rest d = opened d.base d.inputs
 
 -- and while these inputs fly behind it, as a batch, or as a checkpoint with this summary
 abbrev pub with_flying : Durable → List Input → Option Summary → NodeState
-with_flying d inputs base = flying_behind d inputs (option_map snapshot_len base)
+with_flying d inputs base = flying_behind d inputs (option_map (snapshot_len newest) base)
 
 -- A batch has few inputs. A summary is that of all inputs: of those since the opening that were durable before, and then
 -- these. Where what was durable is lawful, it is so while these fly.

@@ -5,7 +5,7 @@ use Rattle.ring_records.specs.declared.base.Base.{Base}
 use Rattle.ring_records.specs.declared.input.Input.{Input}
 use Rattle.ring_records.specs.declared.reply.Reply.TheVariants as say
 use Rattle.ring_records.specs.declared.request.Request.TheVariants as ask
-use Rattle.ring_records.specs.Admission.{fresh, cost, used, already, is_touched, stale, out_of_turn, too_many, no_room, objection, shortage, refusal}
+use Rattle.ring_records.specs.Admission.{fresh, cost, used, already, is_touched, stale, out_of_turn, too_many, no_room, objection, shortage, refusal, newest}
 use Rattle.ring_records.specs.Answer.{input_of, gained, reply}
 use Rattle.ring_records.specs.Emission.{is_below, passed_on, emit, sent}
 use Rattle.ring_records.specs.History.{names, is_named, touched, bid_for, first_stand, stood, message_of, taken, upto_of, credit, is_stand, stands}
@@ -33,7 +33,7 @@ counted = record { layout = 2; epoch = 1; inputs = 0; bytes = 38 }
 
 fresh_is : fresh ≡ counted
 unfolding counted
-fresh_is = λ i. record { layout = 2; epoch = 1; inputs = 0; bytes = length-empty i }
+fresh_is = λ i. record { layout = 2; epoch = 1; inputs = 0; bytes = length-empty newest (omega arith) i }
 
 module _ (base : Base) (n capacity : ℕ) where
   -- the events, where each node begins with this base

@@ -7,7 +7,7 @@ ghost use Rattle.gated_journal.specs.Journal.{member_of};
 use crate::rows::inputs;
 use disk_model::{FuseDevice, MemDevice};
 use gated_journal::{Batch, Checkpoint, Journal, Receipt, Spoiled, device_size};
-use ring_records::{NodeNo, read_summary, summary_len};
+use ring_records::{LAYOUT, NodeNo, read_summary, summary_len};
 use std::alloc::AllocGlobal;
 use std::process::Abort;
 use test_rows::Op;
@@ -89,8 +89,8 @@ fn checkpoint_of<R: Abort + AllocGlobal>(
 ) -> Checkpoint
     ensures { IsSound 3 (base_by result) }
 {
-    let base = read_summary(rt.alloc(), snapshot, 3).expect(rt, "a snapshot");
-    assert!(rt; summary_len(&base) <= u64::from(u32::MAX));
+    let base = read_summary(rt.alloc(), snapshot, 3, LAYOUT).expect(rt, "a snapshot");
+    assert!(rt; summary_len(&base, LAYOUT) <= u64::from(u32::MAX));
     assert!(rt; base.keys.len() <= u32::MAX as usize);
     let made = Checkpoint::new(rt.alloc(), journal.node(), journal.len(), &[], base);
     made.expect(rt, "ample memory")

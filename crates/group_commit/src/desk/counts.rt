@@ -1,7 +1,7 @@
 //! What a desk shows and counts of its inputs.
 ghost use Rattle.std.specs.Prelude.{◌≡◌, ◌+◌, ◌-◌, ◌^◌, ◌<◌, List, length, nat_lt};
 ghost use Rattle.ring_records.specs.declared.input.Input.{Input};
-ghost use Rattle.ring_records.specs.Admission.{snapshot_len, used};
+ghost use Rattle.ring_records.specs.Admission.{newest, snapshot_len, used};
 ghost use Rattle.ring_records.specs.Emission.{sent};
 ghost use Rattle.ring_records.specs.History.{taken, credit, stands};
 ghost use Rattle.ring_records.specs.Leader.{leader};
@@ -131,7 +131,7 @@ impl Desk {
 
     /// The length of the snapshot of all its inputs, in bytes: that of the next checkpoint.
     pub fn summary_len(&self) -> u64
-        ensures { (past : List Input) → IsPast self.now.view.member self.now.opening past → result ≡ snapshot_len (summary self.now.view.member.node (seen past self.now).state.inputs) }
+        ensures { (past : List Input) → IsPast self.now.view.member self.now.opening past → result ≡ snapshot_len newest (summary self.now.view.member.node (seen past self.now).state.inputs) }
     {
         self.core.summary_len()
     }

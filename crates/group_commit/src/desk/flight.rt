@@ -1,7 +1,7 @@
 //! What a desk has fly: batches and checkpoints, until the device took them or failed.
 ghost use Rattle.std.specs.Prelude.{◌≡◌, ◌+◌, ◌-◌, ◌*◌, ◌<◌, ◌≤◌, ◌⊎◌, List, true, false, Some, None, length, nat_lt, nat_le, IfSome, MatchOption, IfOk, IfErr, OnOk, OnErr};
 ghost use Rattle.ring_records.specs.declared.input.Input.{Input};
-ghost use Rattle.ring_records.specs.Admission.{epochs, used};
+ghost use Rattle.ring_records.specs.Admission.{epochs, used, newest};
 ghost use Rattle.ring_records.specs.Release.{packets, notices};
 ghost use Rattle.ring_records.specs.Snapshot.{IsSound, snapshot_len};
 ghost use Rattle.ring_records.specs.States as states;
@@ -55,11 +55,11 @@ impl Desk {
     /// as 12 where a batch or a checkpoint is flying, as 6 where the journal may write no other area, as 7 where the
     /// summary's snapshot is longer than the capacity, and as 8.
     pub fn launch_checkpoint(&mut self) -> Result<Checkpoint, Refusal>
-        ensures checkpoint { IfOk result (λ made. numbered_by made ≡ numbered_with self.old.view.member.node (self.old.opening.inputs + self.old.view.state.durable) (flying_in self.new.view.state) (Some (snapshot_len (known_all self.old)))) }
+        ensures checkpoint { IfOk result (λ made. numbered_by made ≡ numbered_with self.old.view.member.node (self.old.opening.inputs + self.old.view.state.durable) (flying_in self.new.view.state) (Some (snapshot_len newest (known_all self.old)))) }
         ensures summary { IfOk result (λ made. base_by made ≡ known_all self.old) }
         ensures known { IfOk result (λ made. (past : List Input) → IsPast self.old.view.member self.old.opening past → base_by made ≡ summary self.old.view.member.node (seen past self.old).state.inputs) }
         ensures sound { IfOk result (λ made. IsNodeOf self.old.view.member.n self.old.view.member.node → IsSound self.old.view.member.n (base_by made)) }
-        ensures fits { IfOk result (λ made. snapshot_len (base_by made) ≤ self.old.view.member.capacity) }
+        ensures fits { IfOk result (λ made. snapshot_len newest (base_by made) ≤ self.old.view.member.capacity) }
         ensures epoch { OnOk result (self.old.view.state.base.epoch + 1 < epochs) }
         ensures next { OnOk result (self.new ≡ record self.old { view = launched_all self.old }) }
         ensures lifted { OnOk result ((past : List Input) → IsPast self.old.view.member self.old.opening past

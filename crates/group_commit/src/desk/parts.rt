@@ -117,11 +117,11 @@ pub(super) fn summarise(
     epoch: u64,
     inputs: &[Input],
 ) -> Result<Checkpoint, Refusal>
-    requires short { snapshot_len core.old.known < 2 ^ 32 }
-    ensures checkpoint { IfOk result (λ made. numbered_by made ≡ numbered_with node first inputs.now (Some (snapshot_len core.old.known))) }
+    requires short { snapshot_len newest core.old.known < 2 ^ 32 }
+    ensures checkpoint { IfOk result (λ made. numbered_by made ≡ numbered_with node first inputs.now (Some (snapshot_len newest core.old.known))) }
     ensures summary { IfOk result (λ made. base_by made ≡ core.old.known) }
     ensures sound { OnOk result (IsNodeOf core.old.size core.old.me → IsSound core.old.size core.old.known) }
-    ensures rebased { OnOk result (core.new ≡ record core.old { room = record { layout = newest; epoch = epoch; taken = snapshot_len core.old.known; waits = false } }) }
+    ensures rebased { OnOk result (core.new ≡ record core.old { room = record { layout = newest; epoch = epoch; taken = snapshot_len newest core.old.known; waits = false } }) }
     ensures holds { OnOk result ((me : ℕ) (s : Summary) (list : List Notice) (l : List Input) → Holds me outbox.old s list l 0 → Holds me outbox.new s list l (length inputs.now)) }
     ensures refusal { IfErr result (λ refusal. refusal ≡ Refusal.OutOfMemory) }
     ensures same { OnErr result (core.new ≡ core.old) }

@@ -7,12 +7,12 @@ use Rattle.gated_journal.proofs.contents.read_contents.Goals as goal
 pub returns-in-Ok-finish-clause-area : goal.returns-in-Ok-finish-clause-area
 returns-in-Ok-finish-clause-area g c =
     let f = c.in-Ok-finish in
-    area_at c.args.n c.args.start (g.D.Device.disk c.args.device.now).image c.in-Ok.reader c.in-Ok.ensures.fed f.base f.inputs.items f.gate_at f.ensures.reads
+    area_at c.args.layout c.args.n c.args.start (g.D.Device.disk c.args.device.now).image c.in-Ok.reader c.in-Ok.ensures.fed f.base f.inputs.items f.gate_at f.ensures.reads
 
-damaged : (g : _) (c : goal.In-Err-finish g) → IsContentless c.args.n c.args.start (g.D.Device.disk c.args.device.now).image c.in-Err-finish.refusal
+damaged : (g : _) (c : goal.In-Err-finish g) → IsContentless c.args.layout c.args.n c.args.start (g.D.Device.disk c.args.device.now).image c.in-Err-finish.refusal
 damaged g c =
     let e = c.in-Err-finish in
-    area_damaged c.args.n c.args.start (g.D.Device.disk c.args.device.now).image c.in-Ok.reader c.in-Ok.ensures.fed e.refusal (λ done. not_both (sym (e.ensures.done done))) e.ensures.broken
+    area_damaged c.args.layout c.args.n c.args.start (g.D.Device.disk c.args.device.now).image c.in-Ok.reader c.in-Ok.ensures.fed e.refusal (λ done. not_both (sym (e.ensures.done done))) e.ensures.broken
 
 pub returns-in-Err-finish-clause-refusal : goal.returns-in-Err-finish-clause-refusal
 returns-in-Err-finish-clause-refusal g c = inr (damaged g c)

@@ -35,7 +35,7 @@ loop-at-preserved g c =
     record {
       from = omega (arith, inv.from);
       to = omega (arith, c.min-there.ensures, c.loop-at-test.true);
-      reader = fed_next c.args.n c.args.start image at there _ c.loop-at.reader c.feed_from.new.reader (Ok More) c.in-Ok-More.field-0 More inv.from inv.reader (λ i. take (long i) (drop at (same i))) c.in-Ok-More.field-0-is told.fed;
+      reader = fed_next c.args.layout c.args.n c.args.start image at there _ c.loop-at.reader c.feed_from.new.reader (Ok More) c.in-Ok-More.field-0 More inv.from inv.reader (λ i. take (long i) (drop at (same i))) c.in-Ok-More.field-0-is told.fed;
       disk = c.feed_from.ensures.disk ∙ inv.disk;
       moments = joins D.clock D.left_since c.args.device.now c.loop-at.device c.feed_from.new.device _ inv.moments time;
       count = told.same ∙ inv.count;
@@ -51,8 +51,8 @@ returns-in-Ok-Done-clause-fed g c =
     let image = (D.disk c.args.device.now).image in
     let long : length (take there c.loop-at.buffer) ≡ there = search rules in
     let same = ap (λ (d : Disk). d.image) inv.disk in
-    let now = fed_next c.args.n c.args.start image at there _ c.loop-at.reader c.feed_from.new.reader (Ok More) c.in-Ok-Done.field-0 Done inv.from inv.reader (λ i. take (long i) (drop at (same i))) c.in-Ok-Done.field-0-is c.in-Ok-Done.ensures.fed in
-    fed_done c.args.n c.args.start image (at + there) c.feed_from.new.reader (omega (arith, inv.from)) (omega (arith, c.min-there.ensures, c.loop-at-test.true, c.size-size.ensures)) now
+    let now = fed_next c.args.layout c.args.n c.args.start image at there _ c.loop-at.reader c.feed_from.new.reader (Ok More) c.in-Ok-Done.field-0 Done inv.from inv.reader (λ i. take (long i) (drop at (same i))) c.in-Ok-Done.field-0-is c.in-Ok-Done.ensures.fed in
+    fed_done c.args.layout c.args.n c.args.start image (at + there) c.feed_from.new.reader (omega (arith, inv.from)) (omega (arith, c.min-there.ensures, c.loop-at-test.true, c.size-size.ensures)) now
 
 pub returns-in-Err-clause-refusal : goal.returns-in-Err-clause-refusal
 returns-in-Err-clause-refusal g c =
@@ -64,7 +64,7 @@ returns-in-Err-clause-refusal g c =
     let long : length (take there c.loop-at.buffer) ≡ there = search rules in
     let same = ap (λ (d : Disk). d.image) inv.disk in
     ⊎_elim (λ fault. inl (subst (λ (k : ℕ). IsFault k (D.count c.feed_from.new.device) c.in-Err.refusal) inv.count fault))
-    (λ told. inr (piece_damaged c.args.n c.args.start image at there _ c.loop-at.reader (Ok More) c.in-Err.refusal inv.from inv.reader (λ i. take (long i) (drop at (same i))) told)) c.in-Err.ensures.refusal
+    (λ told. inr (piece_damaged c.args.layout c.args.n c.args.start image at there _ c.loop-at.reader (Ok More) c.in-Err.refusal inv.from inv.reader (λ i. take (long i) (drop at (same i))) told)) c.in-Err.ensures.refusal
 
 pub returns-in-Err-clause-works : goal.returns-in-Err-clause-works
 returns-in-Err-clause-works g c = λ reach.
@@ -77,4 +77,4 @@ returns-in-Err-clause-works g c = λ reach.
     let same = ap (λ (d : Disk). d.image) inv.disk in
     let here : Reaches (D.reach c.loop-at.device) (length (D.disk c.loop-at.device).image) =
     subst (λ (d : Disk). Reaches (D.reach c.loop-at.device) (length d.image)) (sym inv.disk) (subst (λ (r : Reach). Reaches r (length image)) (sym inv.reach) reach) in
-    piece_damaged c.args.n c.args.start image at there _ c.loop-at.reader (Ok More) c.in-Err.refusal inv.from inv.reader (λ i. take (long i) (drop at (same i))) (c.in-Err.ensures.works here)
+    piece_damaged c.args.layout c.args.n c.args.start image at there _ c.loop-at.reader (Ok More) c.in-Err.refusal inv.from inv.reader (λ i. take (long i) (drop at (same i))) (c.in-Err.ensures.works here)

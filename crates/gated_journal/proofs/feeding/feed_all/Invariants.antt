@@ -8,7 +8,7 @@ abbrev pub invariant-loop-at : goal.invariant-loop-at
 invariant-loop-at g l = record {
   from : l.start ≤ l.at;
   to : l.at ≤ l.size;
-  reader : l.reader ≡ fed_to l.n l.start (g.D.Device.disk l.fn.device).image l.at (Ok More);
+  reader : l.reader ≡ fed_to l.layout l.n l.start (g.D.Device.disk l.fn.device).image l.at (Ok More);
   disk : g.D.Device.disk l.device ≡ g.D.Device.disk l.fn.device;
   moments : LeavesOnly g.D.Device.clock g.D.Device.left_since l.fn.device l.device (MayLeave (g.D.Device.disk l.fn.device));
   count : g.D.Device.count l.device ≡ g.D.Device.count l.fn.device;

@@ -20,4 +20,4 @@ returns-clause-reads c = λ bytes r.
     subst (λ (l : List ℕ). Holds layout now (before.taken ++ take size l) (drop size l)) same (c.take_all-taken.ensures.holds before.taken before.at held) in
     let waits : IsWaiting now.stage (drop size all) = subst (λ (l : List ℕ). IsWaiting now.stage (drop size l)) same (c.take_all-taken.ensures.waits before.taken before.at held) in
     let kept : IsOpen now.stage → c.keep_behind.new.bytes.items ≡ drop size all = λ still. c.keep_behind.ensures.kept still ∙ ap (λ (l : List ℕ). drop size l) c.in_ok-extend_from_slice.ensures.items in
-    reader_more layout size found now rest bytes c.args.piece.now c.keep_behind.new.bytes.items going before (omega (arith, c.take_all-taken.ensures.size, ap length same)) c.take_all-taken.ensures.at holds waits kept c.keep_behind.ensures.none
+    reader_more layout size found now rest bytes c.args.piece.now c.keep_behind.new.bytes.items going before c.take_all-taken.ensures.layout (omega (arith, c.take_all-taken.ensures.size, ap length same)) c.take_all-taken.ensures.at holds waits kept c.keep_behind.ensures.none

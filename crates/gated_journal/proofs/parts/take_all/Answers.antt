@@ -16,10 +16,11 @@ loop-size-preserved c =
     let here : (from : List ℕ) → c.args.found.now.at ≡ length from → c.loop-size.found.at ≡ length (from ++ take k bytes) =
     λ from at. omega (arith, inv.1, at, length-append from (take k bytes), length-take k bytes, inv.0) in
     let now : (from : List ℕ) → c.args.found.now.at ≡ length from → Holds layout c.args.found.now from bytes → Holds layout c.loop-size.found (from ++ take k bytes) _ =
-    λ from at holds. subst (λ (l : List ℕ). Holds layout c.loop-size.found (from ++ take k bytes) l) (sym rest) (inv.3 from at holds) in (
+    λ from at holds. subst (λ (l : List ℕ). Holds layout c.loop-size.found (from ++ take k bytes) l) (sym rest) (inv.4 from at holds) in (
       omega (arith, t.ensures.size, ap length rest, length-drop k bytes, inv.0),
       omega (arith, t.ensures.at, inv.1),
       t.ensures.n ∙ inv.2,
+      t.ensures.layout ∙ inv.3,
       λ from at holds. subst (λ (l : List ℕ). Holds layout t.new.found l (drop (k + m) bytes)) (taken_behind from bytes k m)
           (subst (λ (l : List ℕ). Holds layout t.new.found ((from ++ take k bytes) ++ take m (drop k bytes)) l) (drop-drop m k bytes)
           (subst (λ (l : List ℕ). Holds layout t.new.found ((from ++ take k bytes) ++ take m l) (drop m l)) rest (t.ensures.holds (from ++ take k bytes) (here from at) (now from at holds)))),

@@ -18,6 +18,6 @@ returns-then-not-is_read-clause-holds c = λ empty. (
 
 pub returns-clause-holds : goal.returns-clause-holds
 returns-clause-holds c = λ empty.
-    c.stage_behind.ensures c.args.layout (take 14 c.args.bytes.now) (drop 14 c.args.bytes.now)
+    c.stage_behind.ensures c.args.layout (take 14 c.args.bytes.now) (drop 14 c.args.bytes.now) c.requires.layout
     (subst (λ (l : List ℕ). InSnapshot c.args.layout l (take 14 c.args.bytes.now) c.head_at-head.result.size) (sym empty)
     (good_head c.args.layout c.args.bytes.now c.head_at-head.result (omega (arith, c.if-bytes-lt14.false)) c.head_at-head.ensures (c.is_read.ensures.0 c.if-not-is_read.false)))

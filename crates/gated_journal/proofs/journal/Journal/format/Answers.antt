@@ -33,7 +33,7 @@ invariant_of-result g c =
           at = subst (λ (k : ℕ). ReadsAt header disk.image (fresh_area newest 1 empty) 16 k 68 68) second c.in-Ok.ensures.reads;
           epoch = refl;
           count = omega arith;
-          used = omega (arith, length-empty);
+          used = omega (arith, length-empty newest (omega arith));
         };
       });
     }

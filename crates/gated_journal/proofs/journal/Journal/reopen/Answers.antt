@@ -30,7 +30,7 @@ invariant_of-place g c =
     let o = costs _ _ f.contents.inputs.items f.contents.gate_at read.frames in
     let count : length f.contents.inputs.items ≡ c.len.result = search rules in
     let sum : costs_of f.contents.inputs.items ≡ c.costs_of.result = sym (c.costs_of.ensures ∙ ap costs_of c.deref.ensures.value) in
-    let bytes : snapshot_len f.contents.base ≡ c.summary_len.result = sym c.summary_len.ensures.value in
+    let bytes : snapshot_len f.area.layout f.contents.base ≡ c.summary_len.result = sym c.summary_len.ensures.value in
     let behind = behind_snapshot c.args.n f.area.start _ (reading_of f.area f.contents) f.area.offset read.base in
     record {
       areas = read.areas;

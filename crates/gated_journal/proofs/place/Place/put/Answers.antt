@@ -113,8 +113,8 @@ may_replace header image p r k taken here gate = record {
   gate = gate;
   newer = omega (arith, here.epoch);
   small = taken.4;
-  spells = record { is = refl; sound = taken.3; few_keys = k.few_keys };
-  fits = subst (λ (n : ℕ). snapshot_len k.base ≤ n) here.capacity taken.2;
+  spells = record { is = refl; sound = taken.3; few_keys = k.few_keys; plain = λ old. absurd (omega (arith, old)) };
+  fits = subst (λ (n : ℕ). snapshot_len newest k.base ≤ n) here.capacity taken.2;
 }
 
 pub returns-in-Checkpoint-clause-any_moment : goal.returns-in-Checkpoint-clause-any_moment
@@ -124,7 +124,7 @@ returns-in-Checkpoint-clause-any_moment g c = rw c.in-Checkpoint.is (λ header r
     let k = c.in-Checkpoint.made in
     let next = fresh_area newest (p.area.epoch + 1) k.base in
     weaken g.D.Device.clock g.D.Device.left_since d c.replace_area-written.new.device _ (ReadsAsOneOf header r next)
-    (λ image moment. checkpoint_moment header image r next p.area.start p.area.other p.area.offset p.gate_at (p.area.other + 14 + snapshot_len k.base) moment)
+    (λ image moment. checkpoint_moment header image r next p.area.start p.area.other p.area.offset p.gate_at (p.area.other + 14 + snapshot_len newest k.base) moment)
     (c.replace_area-written.ensures.any_moment header r p.area.start p.area.offset p.gate_at (p.area.epoch + 1) k.base s.rest.synced
     (may_replace header (g.D.Device.disk d).image p r k taken s.here s.rest.gate) (c.deref-in-Checkpoint.ensures.value ∙ c.number.ensures k.base k.framed)))
 
@@ -150,7 +150,7 @@ pub returns-in-Checkpoint-clause-reach : goal.returns-in-Checkpoint-clause-reach
 returns-in-Checkpoint-clause-reach g c =
     let p = c.args.self.now in
     let k = c.in-Checkpoint.made in
-    let bytes : length c.deref-in-Checkpoint.result.now ≡ 14 + snapshot_len k.base = ap length (c.deref-in-Checkpoint.ensures.value ∙ c.number.ensures k.base k.framed) ∙ length-new_area newest (p.area.epoch + 1) k.base in
+    let bytes : length c.deref-in-Checkpoint.result.now ≡ 14 + snapshot_len newest k.base = ap length (c.deref-in-Checkpoint.ensures.value ∙ c.number.ensures k.base k.framed) ∙ length-new_area newest (p.area.epoch + 1) k.base in
     let t = subst (λ (w : Work). (header : Member) × IsTakenAt header p w) c.in-Checkpoint.is c.requires in
     let low = start_low p.capacity p.area.other p.area.start (swapped p.capacity p.area.start p.area.other p.areas) in
     record {

@@ -1,5 +1,6 @@
 use Rattle.std.proofs.Common.{rules, ◌≡◌, ℕ, ◌≤◌, ◌+◌, ◌-◌, ◌++◌, ◌∙◌, List, length, take, drop, take_all, Some, None, sym, ap, subst, arith}
 use Rattle.std.proofs.lemmas.List.{length-drop}
+use Rattle.ring_records.specs.Admission.{newest}
 use Rattle.ring_records.specs.declared.input.Input.{Input}
 use Rattle.ring_records.specs.Known.{after}
 use Rattle.ring_records.specs.Snapshot.{snapshot_len}
@@ -66,7 +67,7 @@ invariant_of-self c =
     let m = member_in d in
     let none = no_other a in
     let all : c.len.result ≡ length d.inputs.items = search rules in
-    let spells : c.summary_len-length.result ≡ snapshot_len (after d.node d.base d.inputs.items) = c.summary_len-length.ensures ∙ ap (λ (v : CoreView). snapshot_len v.known) i.knows in
+    let spells : c.summary_len-length.result ≡ snapshot_len newest (after d.node d.base d.inputs.items) = c.summary_len-length.ensures ∙ ap (λ (v : CoreView). snapshot_len newest v.known) i.knows in
     let s = after d.node d.base (take d.durable d.inputs.items) in
     let list = notices_since d.node d.base (take d.durable d.inputs.items) in
     let count : length (drop d.durable d.inputs.items) ≡ c.len.result - d.durable = length-drop d.durable d.inputs.items ∙ ap (λ n. n - d.durable) (sym all) in
@@ -93,7 +94,7 @@ returns-in-Ok-clause-lifted c =
     let i = c.self.invariant in
     let a = (goal.at.returns-in-Ok-clause-lifted c).After-deref in
     let all : c.len.result ≡ length d.inputs.items = search rules in
-    let spells : c.summary_len-length.result ≡ snapshot_len (after d.node d.base d.inputs.items) = c.summary_len-length.ensures ∙ ap (λ (v : CoreView). snapshot_len v.known) i.knows in
+    let spells : c.summary_len-length.result ≡ snapshot_len newest (after d.node d.base d.inputs.items) = c.summary_len-length.ensures ∙ ap (λ (v : CoreView). snapshot_len newest v.known) i.knows in
     subst (λ (v : DeskKept). (past : List Input) → IsPast v.view.member v.opening past
     → seen past (next_by a c.len.result c.summary_len-length.result) ≡ record (seen past v) { state = states.launched_all v.view.member.node (seen past v).state }) c.self.view_is
     (λ past is. (λ k. seen past (next_by a (all k) (spells k))) ∙ launched_all_seen past (shown_by a) is (core_past (member_in d) d.base past (state_in d) is i.state).knows)

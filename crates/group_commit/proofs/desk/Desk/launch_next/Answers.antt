@@ -2,7 +2,7 @@ use Rattle.std.proofs.Common.{◌≡◌, ◌+◌, ◌*◌, ◌≤◌, ◌++◌, 
 use Rattle.std.proofs.lemmas.List.{take-append-drop}
 use Rattle.ring_records.specs.declared.base.Base.{Base}
 use Rattle.ring_records.specs.declared.summary.Summary.{Summary}
-use Rattle.ring_records.specs.Admission.{costs_of, used}
+use Rattle.ring_records.specs.Admission.{costs_of, used, newest}
 use Rattle.ring_records.specs.Known.{after}
 use Rattle.ring_records.specs.Snapshot.{snapshot_len}
 use Rattle.ring_records.specs.States as states
@@ -38,12 +38,12 @@ returns-in-Ok-clause-fits c =
           let base : used (launched_base s) s.inputs ≡ used s.base s.inputs = ap (λ (b : Base). used b s.inputs) (idle-base s idle) in
           omega (arith, is.filled, base, durable_costs s counts, ap costs_of inputs)
           );
-      short = subst (λ (b : Summary). 4 * snapshot_len b ≤ m.capacity) (sym launch.summary) is.short;
+      short = subst (λ (b : Summary). 4 * snapshot_len newest b ≤ m.capacity) (sym launch.summary) is.short;
       sound = launch.sound;
       left = launch.epoch;
       lawful = (
           let from = desk.opening.inputs + s.durable in
-          let snapshot = Some (snapshot_len (known_all desk)) in
+          let snapshot = Some (snapshot_len newest (known_all desk)) in
           let flown = launch.checkpoint ∙ ap (λ (d : DeskKept). numbered_with m.node from (flying_in d.view.state) snapshot) launch.next in
           subst (FliesLawfully m desk.opening (durable_part desk)) (sym flown) (flies_all desk idle counts c.accepted-accepted.ensures.lawful m.node from)
           );

@@ -22,7 +22,7 @@ use Rattle.group_commit.proofs.desk.Desk.open.Goals.{After-restore-2}
 
 -- the core of the node before the inputs since
 restored : (c : After-restore-2) → c.in-Ok.core ≡ core_of (member c.args.node c.args.n c.args.capacity) (reading_of_opening c.args.opening)
-restored c = c.in-Ok.ensures ∙ (λ i. record { me = c.args.node; size = c.args.n; capacity = c.args.capacity; known = c.args.opening.base; room = record { layout = c.args.opening.layout; epoch = c.args.opening.epoch; taken = (c.area_bytes-taken.ensures.value ∙ sym (used-first (first_base c.args.opening.layout c.args.opening.epoch c.args.opening.base) refl)) i; waits = false } })
+restored c = c.in-Ok.ensures ∙ (λ i. record { me = c.args.node; size = c.args.n; capacity = c.args.capacity; known = c.args.opening.base; room = record { layout = c.args.opening.layout; epoch = c.args.opening.epoch; taken = (c.summary_len-taken.ensures.value ∙ sym (used-first (first_base c.args.opening.layout c.args.opening.epoch c.args.opening.base) refl)) i; waits = false } })
 
 pub replay-requires : goal.replay-requires
 replay-requires c =
@@ -46,7 +46,7 @@ invariant_of-result c =
     let o = c.args.opening in
     let l = o.inputs.items in
     let first = restored (goal.at.invariant_of-result c).After-restore-2 in
-    let area : Base = record { layout = o.layout; epoch = o.epoch; inputs = 0; bytes = c.area_bytes-taken.result } in
+    let area : Base = record { layout = o.layout; epoch = o.epoch; inputs = 0; bytes = c.summary_len-taken.result } in
     let began : c.in-Ok.core ≡ opened_core m o.base area = c.in-Ok.ensures ∙ (λ i. record { me = m.node; size = m.n; capacity = m.capacity; known = o.base; room = record { layout = o.layout; epoch = o.epoch; taken = sym (used-first area refl) i; waits = false } }) in
     let replayed : is_ok c.replay.result ≡ true = search rules in
     let count : c.len-count.result ≡ length l = search rules in
@@ -56,7 +56,7 @@ invariant_of-result c =
     record {
       sound = c.requires;
       knows = core_opened m o.base area l c.len-count.result c.len-count.result c.replay.new.core refl (on_ok c.replay.result replayed c.replay.ensures.knows ∙ (λ i. core_after (began i) (c.deref.ensures.value i)));
-      state = known_opened m o.base area l c.len-count.result c.len-count.result refl c.area_bytes-taken.ensures.value (omega arith) (omega (arith, count))
+      state = known_opened m o.base area l c.len-count.result c.len-count.result refl c.summary_len-taken.ensures.value (omega arith) (omega (arith, count))
           (subst (λ (p : CoreView × List Input). IsKnownLawful p.0 p.1) (λ i. (began i, c.deref.ensures.value i)) (on_ok c.replay.result replayed c.replay.ensures.lawful));
       holds = whole_holds m.node c.len-count.result c.replay.new.outbox o.base l count (holds (c.in-Ok-restore.ensures c.args.node));
       given = search (rules, below_none);

@@ -10,7 +10,7 @@ use Rattle.node_core.proofs.node.NodeCore.new.Goals as goal
 pub invariant_of-result : goal.invariant_of-result
 invariant_of-result c =
     let same : c.new.result.known ≡ empty = ap (λ (v : FreeView). v.known) c.new.ensures in
-    let len = ap snapshot_len same ∙ length-empty in
+    let len = ap (snapshot_len newest) same ∙ length-empty newest (omega arith) in
     record { exact = sym len; within = subst (λ s. s.credit ≤ s.sent) (sym same) (omega arith); short = omega arith; taken = omega arith; plain = refl }
 
 pub returns-clause-empty : goal.returns-clause-empty

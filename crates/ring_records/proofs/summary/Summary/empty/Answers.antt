@@ -2,7 +2,7 @@ use Rattle.std.proofs.Common.{List, sym, subst}
 use Rattle.std.specs.List.Sorted.{IsStrictlySortedBy}
 use Rattle.ring_records.specs.declared.key_state.KeyState.{KeyState}
 use Rattle.ring_records.specs.KeyStates.{by_state}
-use Rattle.gated_journal.proofs.opening.Opening.fresh.Goals as goal
+use Rattle.ring_records.proofs.summary.Summary.empty.Goals as goal
 
 pub from_sorted-requires : goal.from_sorted-requires
 unfolding IsStrictlySortedBy
