@@ -82,7 +82,6 @@ impl Place {
                 } = made;
                 let used = summary_len(&base, LAYOUT);
                 let offset = self.area.other + 14 + used;
-                let epoch = self.area.epoch + 1;
                 let next = Place {
                     capacity: self.capacity,
                     area: Chosen {
@@ -90,14 +89,14 @@ impl Place {
                         other: self.area.start,
                         is_closed: false,
                         layout: LAYOUT,
-                        epoch,
+                        epoch: self.area.epoch + 1,
                         offset,
                     },
                     gate_at: offset,
                     count: base.inputs,
                     used,
                 };
-                number(&mut bytes, epoch);
+                number(&mut bytes, next.area.epoch);
                 let written = replace_area(device, self.area.other, self.area.is_closed, &bytes);
                 (flown, next, written)
             }
