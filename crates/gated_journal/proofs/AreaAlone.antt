@@ -37,8 +37,9 @@ same_area : (header : Member) (image : List ℕ) (r s : Reading) (start other ot
     → ReadsAt header image s start other2 offset2 gate_at2 → SameReading r s start start other other2 offset offset2 gate_at gate_at2
 same_area header image r s start other other2 offset offset2 gate_at gate_at2 one two =
     let offset_is : offset ≡ offset2 = one.base.offset_is ∙ sym two.base.offset_is in
-    let both = unique offset image r.inputs s.inputs gate_at gate_at2 one.frames (subst (λ (p : ℕ). ReadsTo p image s.inputs gate_at2) (sym offset_is) two.frames) in
     let layout : r.layout ≡ s.layout = one.base.layout ∙ sym two.base.layout in
+    let both = unique offset image r.inputs s.inputs gate_at gate_at2 one.frames
+    (subst (λ (k : ℕ). ReadsTo k offset image s.inputs gate_at2) (sym layout) (subst (λ (p : ℕ). ReadsTo s.layout p image s.inputs gate_at2) (sym offset_is) two.frames)) in
     let base : r.base ≡ s.base =
     one-spelled r.layout header.n (snapshot_at start image) r.base s.base one.base.snapshot (subst (λ (k : ℕ). Spells k header.n (snapshot_at start image) s.base) (sym layout) two.base.snapshot) in
     let epoch : r.epoch ≡ s.epoch = one.base.epoch ∙ sym two.base.epoch in

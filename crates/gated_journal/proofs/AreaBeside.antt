@@ -44,7 +44,7 @@ module _ (header : Member) (image new : List ℕ) (r : Reading) (start other off
         (⊎_elim (λ (a : (start ≡ 16) × (other ≡ 31 + capacity)). inr (omega (arith, a.0, a.1, fits))) (λ (b : (start ≡ 31 + capacity) × (other ≡ 16)). inl (omega (arith, b.0, b.1, p), omega (arith, b.0, b.1, p))) at)
 
     -- a commit: other frames, which begin at the same offset
-    pub grown : (inputs : List Input) (end : ℕ) → ReadsTo offset new inputs end → end ≤ start + 14 + capacity → ReadsAt header new (record r { inputs = inputs }) start other offset end
+    pub grown : (inputs : List Input) (end : ℕ) → ReadsTo r.layout offset new inputs end → end ≤ start + 14 + capacity → ReadsAt header new (record r { inputs = inputs }) start other offset end
     grown inputs end frames within =
         let p = places in
         let front : SameBytes start (gate_at - start) image new = kept gate_at n start (gate_at - start) image new changes (inl (omega (arith, p), omega (arith, p))) in

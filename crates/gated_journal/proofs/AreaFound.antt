@@ -34,7 +34,7 @@ module _ (n capacity : ℕ) (image : List ℕ) (chosen : Chosen) (used : IsUsed 
   frames_begin : chosen.start + frames_of 0 (drop chosen.start image) ≡ chosen.offset
   frames_begin = omega (arith, used.offset, size_behind chosen.start image)
 
-  pub area_frames : (base : Summary) (inputs : List Input) (gate_at : ℕ) → IsAreaAt chosen.layout n chosen.start image base inputs gate_at → ReadsTo chosen.offset image inputs gate_at
+  pub area_frames : (base : Summary) (inputs : List Input) (gate_at : ℕ) → IsAreaAt chosen.layout n chosen.start image base inputs gate_at → ReadsTo chosen.layout chosen.offset image inputs gate_at
   area_frames base inputs gate_at a =
       reads_behind chosen.start image (frames_of 0 (drop chosen.start image)) chosen.offset a.at gate_at inputs frames_begin (sym a.gate_is) a.read.frames
 
@@ -110,7 +110,7 @@ module _ (n capacity : ℕ) (image : List ℕ) (chosen : Chosen) (used : IsUsed 
 
 -- the area is read, where the image has a header
 pub area_found : (header : Member) (image : List ℕ) (chosen : Chosen) (r : Reading) (gate_at : ℕ) → HasHeader header image → IsUsed header.capacity image chosen → HasBase header.n chosen.start image r chosen.offset
-    → ReadsTo chosen.offset image r.inputs gate_at → gate_at ≤ chosen.start + 14 + header.capacity → ReadsAt header image r chosen.start chosen.other chosen.offset gate_at
+    → ReadsTo r.layout chosen.offset image r.inputs gate_at → gate_at ≤ chosen.start + 14 + header.capacity → ReadsAt header image r chosen.start chosen.other chosen.offset gate_at
 area_found header image chosen r gate_at head used base frames within = record {
   head = head;
   areas = used.areas;

@@ -10,7 +10,7 @@ use Rattle.gated_journal.proofs.Behind.{inside, still, gate_closed}
 use Rattle.gated_journal.proofs.Kept.{SameBytes, fewer, byte_same, number_same, part_same}
 
 -- frames up to their closed gate
-pub frames_kept : (offset : ℕ) (image other : List ℕ) (inputs : List Input) (gate_at : ℕ) → ReadsTo offset image inputs gate_at → gate_at < length other → SameBytes offset (gate_at + 1 - offset) image other → ReadsTo offset other inputs gate_at
+pub frames_kept : {layout : ℕ} (offset : ℕ) (image other : List ℕ) (inputs : List Input) (gate_at : ℕ) → ReadsTo layout offset image inputs gate_at → gate_at < length other → SameBytes offset (gate_at + 1 - offset) image other → ReadsTo layout offset other inputs gate_at
 frames_kept offset image other inputs gate_at r in_other same =
     let gate : get_or other gate_at 0 ≡ get_or image gate_at 0 = byte_same offset (gate_at + 1 - offset) image other gate_at (omega (arith, r.ends)) (omega (arith, r.ends)) same in
     still offset image other inputs gate_at r (fewer offset (gate_at + 1 - offset) offset (gate_at - offset) image other (omega arith) (omega (arith, r.ends)) same) in_other
@@ -57,7 +57,7 @@ older_kept start image other epoch same older counts =
 -- ---- where things lie
 
 -- the frames begin behind the head, and end behind where they begin
-pub low : (n start : ℕ) (image : List ℕ) (r : Reading) (offset gate_at : ℕ) → HasBase n start image r offset → ReadsTo offset image r.inputs gate_at → (start + 14 ≤ offset) × (offset ≤ gate_at) × (gate_at < length image)
+pub low : (n start : ℕ) (image : List ℕ) (r : Reading) (offset gate_at : ℕ) → HasBase n start image r offset → ReadsTo r.layout offset image r.inputs gate_at → (start + 14 ≤ offset) × (offset ≤ gate_at) × (gate_at < length image)
 low n start image r offset gate_at base frames = (omega (arith, base.offset_is), omega (arith, frames.ends), inside offset image r.inputs gate_at frames)
 
 -- they begin behind the snapshot

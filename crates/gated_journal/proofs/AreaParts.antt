@@ -154,7 +154,7 @@ snapshot_broken layout n snapshot taken bytes left there s some is enough none m
 -- ---- the frames
 
 -- one frame more
-pub frames_more : (layout n : ℕ) (snapshot taken bytes : List ℕ) (old new : List Input) (size : ℕ) (tail : List ℕ) → InFrames layout n snapshot taken old → bytes ≡ 1 ∷ tail → TakesFrame old new tail size
+pub frames_more : (layout n : ℕ) (snapshot taken bytes : List ℕ) (old new : List Input) (size : ℕ) (tail : List ℕ) → InFrames layout n snapshot taken old → bytes ≡ 1 ∷ tail → TakesFrame layout old new tail size
     → InFrames layout n snapshot (taken ++ take (1 + size) bytes) new
 frames_more layout n snapshot taken bytes old new size tail f is t =
     let batch = t.batch in

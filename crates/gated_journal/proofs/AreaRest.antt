@@ -69,15 +69,15 @@ used-more r batch = omega (arith, costs-joined r.inputs batch)
 
 -- each moment of it
 pub commit_moment : (header : Member) (old image : List ℕ) (r : Reading) (batch : List Input) (start other offset gate_at n : ℕ) → ReadsAt header old r start other offset gate_at → gate_at + n ≤ start + 14 + header.capacity
-    → Appends offset r.inputs batch gate_at n old image → ReadsAsOneOf header r (with_more r batch) image
+    → Appends r.layout offset r.inputs batch gate_at n old image → ReadsAsOneOf header r (with_more r batch) image
 commit_moment header old image r batch start other offset gate_at n read room moment =
     let grows = grown header old image r start other offset gate_at read (1 + n) moment.changes (omega (arith, room)) in
-    ⊎_elim (λ (before : ReadsTo offset image r.inputs gate_at). inl (record { start = start; other = other; offset = offset; gate_at = gate_at; at = grows r.inputs gate_at before read.within }))
-    (λ (after : ReadsTo offset image (r.inputs ++ batch) (gate_at + n)). inr (record { start = start; other = other; offset = offset; gate_at = gate_at + n; at = grows (r.inputs ++ batch) (gate_at + n) after room })) moment.frames
+    ⊎_elim (λ (before : ReadsTo r.layout offset image r.inputs gate_at). inl (record { start = start; other = other; offset = offset; gate_at = gate_at; at = grows r.inputs gate_at before read.within }))
+    (λ (after : ReadsTo r.layout offset image (r.inputs ++ batch) (gate_at + n)). inr (record { start = start; other = other; offset = offset; gate_at = gate_at + n; at = grows (r.inputs ++ batch) (gate_at + n) after room })) moment.frames
 
 -- and what it leaves
 pub commit_stands : (header : Member) (old new : Disk) (p next : Place) (r : Reading) (batch : List Input) (n : ℕ) → Stands header old p r → IsSynced new → p.gate_at + n ≤ p.area.start + 14 + header.capacity
-    → ReadsTo p.area.offset new.image (r.inputs ++ batch) (p.gate_at + n) × Changes p.gate_at (1 + n) old.image new.image
+    → ReadsTo r.layout p.area.offset new.image (r.inputs ++ batch) (p.gate_at + n) × Changes p.gate_at (1 + n) old.image new.image
     → next.capacity ≡ p.capacity → next.area ≡ p.area → next.gate_at ≡ p.gate_at + n → next.count ≡ p.count + length batch → next.used ≡ p.used + costs_of batch → Stands header new next (with_more r batch)
 commit_stands header old new p next r batch n s is room done capacity area gate_at count used =
     let a = p.area in

@@ -20,11 +20,11 @@ length-body : (inputs : List Input) → length (body inputs) ≡ 6 + length (rec
 length-body inputs = omega arith
 
 -- a frame takes no more bytes than its inputs by their costs
-frames-within : (batches : List (List Input)) → AreBatches batches → length (frames batches) ≤ costs_of (joined batches)
-frames-within [] sized = omega arith
-frames-within (b ∷ batches) sized =
+frames-within : (layout : ℕ) (batches : List (List Input)) → AreBatches layout batches → length (frames batches) ≤ costs_of (joined batches)
+frames-within layout [] sized = omega arith
+frames-within layout (b ∷ batches) sized =
     let some : 1 ≤ length b = sized.0.some in
-    omega (arith, frames-within batches sized.1, costs-joined b (joined batches), costs-parts b, length-append (body b) (frames batches), length-body b, some)
+    omega (arith, frames-within layout batches sized.1, costs-joined b (joined batches), costs-parts b, length-append (body b) (frames batches), length-body b, some)
 
 -- records are longer than what a frame adds to them, so the sum of the costs is less than twice the bytes
 records-long : (inputs : List Input) → 7 * length inputs ≤ length (records inputs)
@@ -43,7 +43,7 @@ pub record Fits (batch : List Input) (bytes : List ℕ) : Type 0 where
   pub count : length batch ≤ costs_of batch
   pub some : 1 ≤ costs_of batch
 
-pub fits : (batch : List Input) (bytes : List ℕ) → IsFrame batch bytes → Fits batch bytes
+pub fits : {layout : ℕ} (batch : List Input) (bytes : List ℕ) → IsFrame layout batch bytes → Fits batch bytes
 fits batch bytes frame =
     let some : 1 ≤ length batch = frame.is_batch.some in
     record {
@@ -60,11 +60,11 @@ pub record Costs (offset : ℕ) (inputs : List Input) (gate_at : ℕ) : Type 0 w
   pub counted : length inputs ≤ costs_of inputs
   pub bound : costs_of inputs + 2 * offset ≤ 2 * gate_at
 
-pub costs : (offset : ℕ) (image : List ℕ) (inputs : List Input) (gate_at : ℕ) → ReadsTo offset image inputs gate_at → Costs offset inputs gate_at
-costs offset image inputs gate_at r =
+pub costs : {layout : ℕ} (offset : ℕ) (image : List ℕ) (inputs : List Input) (gate_at : ℕ) → ReadsTo layout offset image inputs gate_at → Costs offset inputs gate_at
+costs {layout = layout} offset image inputs gate_at r =
     let same = ap costs_of r.same in
     record {
-      within = omega (arith, r.ends, same, frames-within r.batches r.sized);
+      within = omega (arith, r.ends, same, frames-within layout r.batches r.sized);
       counted = omega (arith, costs-parts inputs);
       bound = omega (arith, r.ends, same, costs-bound r.batches);
     }

@@ -62,23 +62,26 @@ head_whole n start image r offset base (inr (inl great)) = omega (arith, great, 
 head_whole n start image r offset base (inr (inr none)) = none r.base (subst (λ (k : ℕ). Spells k n (snapshot_at start image) r.base) base.layout base.snapshot)
 
 -- what the frames of an area are broken by
-abbrev AreBroken : ℕ → ℕ → ℕ → List ℕ → Refusal → Type 0
-AreBroken bound start offset image refusal = IsBroken offset image refusal ⊎ ((refusal ≡ Damaged start) × GoesPast bound offset image)
+abbrev AreBroken : ℕ → ℕ → ℕ → ℕ → List ℕ → Refusal → Type 0
+AreBroken layout bound start offset image refusal = IsBroken layout offset image refusal ⊎ ((refusal ≡ Damaged start) × GoesPast layout bound offset image)
 
 -- frames that end within the bound are not
-frames_whole : (bound start offset : ℕ) (image : List ℕ) (r : Reading) (gate_at : ℕ) (refusal : Refusal) → ReadsTo offset image r.inputs gate_at → gate_at ≤ bound → AreBroken bound start offset image refusal → ⊥
+frames_whole : (bound start offset : ℕ) (image : List ℕ) (r : Reading) (gate_at : ℕ) (refusal : Refusal) → ReadsTo r.layout offset image r.inputs gate_at → gate_at ≤ bound → AreBroken r.layout bound start offset image refusal → ⊥
 frames_whole bound start offset image r gate_at refusal read within (inl broken) = not_both offset image r.inputs gate_at broken.gate_at read broken.damaged
 frames_whole bound start offset image r gate_at refusal read within (inr past) =
     let same = (unique offset image r.inputs past.1.inputs gate_at past.1.gate_at read past.1.frames).1 in omega (arith, same, within, past.1.past)
 
 -- and others are so in one way
-frames_once : (bound start offset : ℕ) (image : List ℕ) (refusal other : Refusal) → AreBroken bound start offset image refusal → AreBroken bound start offset image other → refusal ≡ other
+frames_once : {layout : ℕ} (bound start offset : ℕ) (image : List ℕ) (refusal other : Refusal) → AreBroken layout bound start offset image refusal → AreBroken layout bound start offset image other → refusal ≡ other
 frames_once bound start offset image refusal other (inl a) (inl b) = a.is ∙ ap Damaged (damaged_once offset image a.gate_at b.gate_at a.damaged b.damaged) ∙ sym b.is
 frames_once bound start offset image refusal other (inl a) (inr b) = absurd (not_both offset image b.1.inputs b.1.gate_at a.gate_at b.1.frames a.damaged)
 frames_once bound start offset image refusal other (inr a) (inl b) = absurd (not_both offset image a.1.inputs a.1.gate_at b.gate_at a.1.frames b.damaged)
 frames_once bound start offset image refusal other (inr a) (inr b) = a.0 ∙ sym b.0
 
--- the frames begin at one place
+-- they are of one layout, and begin at one place
+of_layout : (n start : ℕ) (image : List ℕ) (r s : Reading) (offset offset2 : ℕ) → HasBase n start image r offset → HasBase n start image s offset2 → r.layout ≡ s.layout
+of_layout n start image r s offset offset2 one two = one.layout ∙ sym two.layout
+
 begins : (n start : ℕ) (image : List ℕ) (r s : Reading) (offset offset2 : ℕ) → HasBase n start image r offset → HasBase n start image s offset2 → offset ≡ offset2
 begins n start image r s offset offset2 one two = one.offset_is ∙ sym two.offset_is
 
@@ -95,9 +98,10 @@ areas_read header image r start other offset gate_at refusal read unread =
     at_start k same (inl head) = head_whole header.n start image r offset read.base (subst (λ (p : ℕ). IsHeadBroken header.n p image) same head.1)
     at_start k same (inr frames) =
         let base : HasBase header.n start image frames.reading frames.offset = subst (λ (p : ℕ). HasBase header.n p image frames.reading frames.offset) same frames.base in
-        let cause : AreBroken (start + 14 + header.capacity) start frames.offset image refusal = subst (λ (p : ℕ). AreBroken (p + 14 + header.capacity) p frames.offset image refusal) same frames.cause in
+        let cause : AreBroken frames.reading.layout (start + 14 + header.capacity) start frames.offset image refusal = subst (λ (p : ℕ). AreBroken frames.reading.layout (p + 14 + header.capacity) p frames.offset image refusal) same frames.cause in
         frames_whole (start + 14 + header.capacity) start offset image r gate_at refusal read.frames read.within
-        (subst (λ (p : ℕ). AreBroken (start + 14 + header.capacity) start p image refusal) (begins header.n start image frames.reading r frames.offset offset base read.base) cause)
+        (subst (λ (k : ℕ). AreBroken k (start + 14 + header.capacity) start offset image refusal) (of_layout header.n start image frames.reading r frames.offset offset base read.base)
+        (subst (λ (p : ℕ). AreBroken frames.reading.layout (start + 14 + header.capacity) start p image refusal) (begins header.n start image frames.reading r frames.offset offset base read.base) cause))
 
     broken : IsAreaBroken header.n header.capacity image refusal → ⊥
     broken b = at_start b.start (one_chosen header.capacity image b.start b.other start other b.areas read.areas b.area here) b.cause
@@ -114,7 +118,8 @@ areas_once n capacity image refusal other one two = both one.cause two.cause
     in_area start (inr a) (inl b) = absurd (head_whole n start image a.reading a.offset a.base b.1)
     in_area start (inr a) (inr b) =
         frames_once (start + 14 + capacity) start a.offset image refusal other a.cause
-        (subst (λ (p : ℕ). AreBroken (start + 14 + capacity) start p image other) (begins n start image b.reading a.reading b.offset a.offset b.base a.base) b.cause)
+        (subst (λ (k : ℕ). AreBroken k (start + 14 + capacity) start a.offset image other) (of_layout n start image b.reading a.reading b.offset a.offset b.base a.base)
+        (subst (λ (p : ℕ). AreBroken b.reading.layout (start + 14 + capacity) start p image other) (begins n start image b.reading a.reading b.offset a.offset b.base a.base) b.cause))
 
     both : ((refusal ≡ Damaged 16) × IsUnchosen capacity image) ⊎ IsAreaBroken n capacity image refusal → ((other ≡ Damaged 16) × IsUnchosen capacity image) ⊎ IsAreaBroken n capacity image other → refusal ≡ other
     both (inl a) (inl b) = a.0 ∙ sym b.0

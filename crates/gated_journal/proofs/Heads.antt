@@ -16,9 +16,9 @@ count_at tail = from_be_bytes w16 (get_or tail 0 0 ∷ get_or tail 1 0 ∷ [])
 abbrev pub size_at : List ℕ → ℕ
 size_at tail = from_be_bytes w32 (get_or tail 2 0 ∷ get_or tail 3 0 ∷ get_or tail 4 0 ∷ get_or tail 5 0 ∷ [])
 
-pub records-short : (inputs : List Input) → HaveRecords inputs → length (records inputs) ≤ 35 * length inputs
-records-short [] have = omega arith
-records-short (x ∷ inputs) have = omega (arith, record-short x have.0, records-short inputs have.1, length-append (record_of x) (records inputs))
+pub records-short : (layout : ℕ) (inputs : List Input) → HaveRecords layout inputs → length (records inputs) ≤ 35 * length inputs
+records-short layout [] have = omega arith
+records-short layout (x ∷ inputs) have = omega (arith, record-short x have.0.0, records-short layout inputs have.1, length-append (record_of x) (records inputs))
 
 -- what the head of a frame shows
 pub record Shows (tail : List ℕ) (batch : List Input) : Type 0 where
@@ -27,13 +27,13 @@ pub record Shows (tail : List ℕ) (batch : List Input) : Type 0 where
   pub long : 6 + length (records batch) ≤ length tail
   pub found : records batch ≡ take (length (records batch)) (drop 6 tail)
 
-pub shows : (tail : List ℕ) (batch : List Input) (rest : List ℕ) → IsBatch batch → tail ≡ body batch ++ rest → Shows tail batch
-shows tail batch rest is framed =
+pub shows : {layout : ℕ} (tail : List ℕ) (batch : List Input) (rest : List ℕ) → IsBatch layout batch → tail ≡ body batch ++ rest → Shows tail batch
+shows {layout = layout} tail batch rest is framed =
     let behind : List ℕ = records batch ++ rest in
     let n = length batch in
     let m = length (records batch) in
     let few : n < 2 ^ 16 = omega (arith, is.few) in
-    let short : m < 2 ^ 32 = omega (arith, records-short batch is.have, is.few) in
+    let short : m < 2 ^ 32 = omega (arith, records-short layout batch is.have, is.few) in
     let whole : tail ≡ to_be_bytes w16 n ++ (to_be_bytes w32 m ++ behind) = framed in
     record {
       count = sym (ap count_at whole ∙ from_be_bytes-to_be_bytes_2 n few);
@@ -80,5 +80,5 @@ head tail are long some few fits =
       few = few;
       whole = six tail long ∙ ap (λ (l : List ℕ). get_or tail 0 0 ∷ get_or tail 1 0 ∷ get_or tail 2 0 ∷ get_or tail 3 0 ∷ get_or tail 4 0 ∷ get_or tail 5 0 ∷ l) parts
           ∙ (λ i. sym count_bytes i ++ (sym size_bytes i ++ (found ++ drop (6 + length found) tail)));
-      alone = λ batch rest is framed. let s = shows tail batch rest is framed in (s.count, s.found ∙ ap (λ (k : ℕ). take k (drop 6 tail)) s.size);
+      alone = λ layout batch rest is framed. let s = shows tail batch rest is framed in (s.count, s.found ∙ ap (λ (k : ℕ). take k (drop 6 tail)) s.size);
     }

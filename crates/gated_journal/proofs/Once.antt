@@ -24,9 +24,9 @@ use Rattle.gated_journal.proofs.Unique.{parts-unique}
 Inputs-set : IsSet (List Input)
 Inputs-set = hlevel props
 
-AreBatches-prop : (batches : List (List Input)) → IsProp (AreBatches batches)
-AreBatches-prop [] = Unit-prop
-AreBatches-prop (batch ∷ batches) = ×_prop (IsBatch-prop batch) (AreBatches-prop batches)
+AreBatches-prop : (layout : ℕ) (batches : List (List Input)) → IsProp (AreBatches layout batches)
+AreBatches-prop layout [] = Unit-prop
+AreBatches-prop layout (batch ∷ batches) = ×_prop (IsBatch-prop layout batch) (AreBatches-prop layout batches)
 
 -- a value with a fact that has one proof at most
 with_fact : {A : Type 0} {B : A → Type 0} → ((x : A) → IsProp (B x)) → (u v : (x : A) × B x) → u.0 ≡ v.0 → u ≡ v
@@ -36,10 +36,10 @@ with_fact {B = B} once u v same = Σ_path same (to_path_p (λ i. B (same i)) (on
 abbrev Parts : Type 0
 Parts = List (List Input) × (ℕ × List ℕ)
 
-module _ (offset : ℕ) (image : List ℕ) (inputs : List Input) (gate_at : ℕ) where
+module _ (layout offset : ℕ) (image : List ℕ) (inputs : List Input) (gate_at : ℕ) where
   record Facts (parts : Parts) : Type 0 where
     whole : drop offset image ≡ frames parts.0 ++ parts.1.0 ∷ parts.1.1
-    sized : AreBatches parts.0
+    sized : AreBatches layout parts.0
     closed : parts.1.0 ≢ 1
     same : inputs ≡ joined parts.0
     ends : gate_at ≡ offset + length (frames parts.0)
@@ -51,19 +51,19 @@ module _ (offset : ℕ) (image : List ℕ) (inputs : List Input) (gate_at : ℕ)
       let ends_prop : IsProp (gate_at ≡ offset + length (frames parts.0)) = hlevel props in
       λ i. record {
         whole = bytes_set _ _ p.whole q.whole i;
-        sized = AreBatches-prop parts.0 p.sized q.sized i;
+        sized = AreBatches-prop layout parts.0 p.sized q.sized i;
         closed = closed_prop p.closed q.closed i;
         same = Inputs-set _ _ p.same q.same i;
         ends = ends_prop p.ends q.ends i;
       }
 
-  abbrev parts_of : ReadsTo offset image inputs gate_at → (parts : Parts) × Facts parts
+  abbrev parts_of : ReadsTo layout offset image inputs gate_at → (parts : Parts) × Facts parts
   parts_of r = ((r.batches, (r.gate, r.after)), record { whole = r.whole; sized = r.sized; closed = r.closed; same = r.same; ends = r.ends })
 
-  abbrev reads_by : ((parts : Parts) × Facts parts) → ReadsTo offset image inputs gate_at
+  abbrev reads_by : ((parts : Parts) × Facts parts) → ReadsTo layout offset image inputs gate_at
   reads_by r = record { batches = r.0.0; gate = r.0.1.0; after = r.0.1.1; whole = r.1.whole; sized = r.1.sized; closed = r.1.closed; same = r.1.same; ends = r.1.ends }
 
-  pub ReadsTo-prop : IsProp (ReadsTo offset image inputs gate_at)
+  pub ReadsTo-prop : IsProp (ReadsTo layout offset image inputs gate_at)
   ReadsTo-prop p q =
       let same = parts-unique offset image inputs inputs gate_at gate_at p q in
       let gate : p.gate ≡ q.gate = ap (λ (l : List ℕ). get_or l 0 0) same.1 in
@@ -155,7 +155,7 @@ module _ (header : Member) (image : List ℕ) (r : Reading) where
     gate = Numbers-set _ _ p.gate q.gate i;
     base = HasBase-prop header.n places.0 image r places.1.1.0 p.base q.base i;
     older = λ counts. le_prop (p.older counts) (q.older counts) i;
-    frames = ReadsTo-prop places.1.1.0 image r.inputs places.1.1.1 p.frames q.frames i;
+    frames = ReadsTo-prop r.layout places.1.1.0 image r.inputs places.1.1.1 p.frames q.frames i;
     within = le_prop p.within q.within i;
   }
 

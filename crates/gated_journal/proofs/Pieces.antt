@@ -92,8 +92,8 @@ module _ (layout n : ℕ) (snapshot taken behind : List ℕ) (left : ℕ) (s : I
 -- ---- frames
 
 -- the bytes end, or a gate is open and no frame is behind it
-abbrev pub NoFramed : List ℕ → Type 0
-NoFramed behind = (behind ≡ []) ⊎ ((tail : List ℕ) × ((behind ≡ 1 ∷ tail) × NoFrame tail))
+abbrev pub NoFramed : ℕ → List ℕ → Type 0
+NoFramed layout behind = (behind ≡ []) ⊎ ((tail : List ℕ) × ((behind ≡ 1 ∷ tail) × NoFrame layout tail))
 
 module _ (layout n : ℕ) (snapshot taken behind : List ℕ) (inputs : List Input) (f : InFrames layout n snapshot taken inputs) where
   whole_frames : taken ++ behind ≡ f.head ++ (snapshot ++ (frames f.batches ++ behind))
@@ -134,7 +134,7 @@ module _ (layout n : ℕ) (snapshot taken behind : List ℕ) (inputs : List Inpu
   ends_at : length taken ≡ frames_of 0 (taken ++ behind) + length (frames f.batches)
   ends_at = omega (arith, size_is, ap length f.taken_is, length-append f.head (snapshot ++ frames f.batches), length-append snapshot (frames f.batches), f.is_head.long)
 
-  up_to : ReadsUpTo (frames_of 0 (taken ++ behind)) (taken ++ behind) inputs (length taken)
+  up_to : ReadsUpTo layout (frames_of 0 (taken ++ behind)) (taken ++ behind) inputs (length taken)
   up_to = record {
     batches = f.batches;
     whole = frames_there ∙ ap (λ (l : List ℕ). frames f.batches ++ l) (sym (drop_at taken behind (length taken) refl));
@@ -161,7 +161,7 @@ module _ (layout n : ℕ) (snapshot taken behind : List ℕ) (inputs : List Inpu
   }
 
   -- there is neither a closed gate nor a frame
-  pub not_framed : NoFramed behind → IsAreaDamaged layout n (taken ++ behind) (length taken)
+  pub not_framed : NoFramed layout behind → IsAreaDamaged layout n (taken ++ behind) (length taken)
   not_framed none =
       let same : drop (length taken) (taken ++ behind) ≡ behind = drop_at taken behind (length taken) refl in
       record {
@@ -172,7 +172,7 @@ module _ (layout n : ℕ) (snapshot taken behind : List ℕ) (inputs : List Inpu
           damaged = record {
             inputs = inputs;
             up_to = up_to;
-            broken = ⊎_elim (λ (e : behind ≡ []). inl (same ∙ e)) (λ (p : (tail : List ℕ) × ((behind ≡ 1 ∷ tail) × NoFrame tail)). inr (p.0, (same ∙ p.1.0, p.1.1))) none;
+            broken = ⊎_elim (λ (e : behind ≡ []). inl (same ∙ e)) (λ (p : (tail : List ℕ) × ((behind ≡ 1 ∷ tail) × NoFrame layout tail)). inr (p.0, (same ∙ p.1.0, p.1.1))) none;
           };
         });
       }
@@ -199,12 +199,12 @@ more_frames layout n snapshot taken behind inputs f closed more =
     subst (λ (l : List ℕ). IsAreaRead layout n l f.base inputs (length taken)) (sym (append_assoc taken behind more)) (read_whole layout n snapshot taken (behind ++ more) inputs f still)
 
 -- no frame stands at the head of enough bytes, and so none does at the head of more
-pub none_behind : (tail more : List ℕ) → IsEnough tail → NoFrame tail → NoFrame (tail ++ more)
-none_behind tail more enough none batch rest is e =
-    let front = prefix tail more (body batch) rest (enough batch more rest is e) e in
+pub none_behind : {layout : ℕ} (tail more : List ℕ) → IsEnough tail → NoFrame layout tail → NoFrame layout (tail ++ more)
+none_behind {layout = layout} tail more enough none batch rest is e =
+    let front = prefix tail more (body batch) rest (enough layout batch more rest is e) e in
     none batch front.0 is front.1
 
-pub damaged_frame : (layout n : ℕ) (snapshot taken tail : List ℕ) (inputs : List Input) → InFrames layout n snapshot taken inputs → IsEnough tail → NoFrame tail → (behind more : List ℕ) → behind ≡ 1 ∷ tail
+pub damaged_frame : (layout n : ℕ) (snapshot taken tail : List ℕ) (inputs : List Input) → InFrames layout n snapshot taken inputs → IsEnough tail → NoFrame layout tail → (behind more : List ℕ) → behind ≡ 1 ∷ tail
     → IsAreaDamaged layout n ((taken ++ behind) ++ more) (length taken)
 damaged_frame layout n snapshot taken tail inputs f enough none behind more is =
     subst (λ (l : List ℕ). IsAreaDamaged layout n l (length taken)) (sym (append_assoc taken behind more))

@@ -36,7 +36,7 @@ module _ (start : ℕ) (image : List ℕ) where
       let tail = tail_at 14 (start + 14) refl in
       λ i. take (size i) (tail i)
 
-  pub reads_behind : (offset from gate_at end : ℕ) (inputs : List Input) → start + offset ≡ from → start + gate_at ≡ end → ReadsTo offset (drop start image) inputs gate_at → ReadsTo from image inputs end
+  pub reads_behind : {layout : ℕ} (offset from gate_at end : ℕ) (inputs : List Input) → start + offset ≡ from → start + gate_at ≡ end → ReadsTo layout offset (drop start image) inputs gate_at → ReadsTo layout from image inputs end
   reads_behind offset from gate_at end inputs begins stops r = record {
     batches = r.batches;
     gate = r.gate;
@@ -48,8 +48,8 @@ module _ (start : ℕ) (image : List ℕ) where
     ends = omega (arith, r.ends, begins, stops);
   }
 
-  pub damaged_behind : (offset from gate_at end : ℕ) → start + offset ≡ from → start + gate_at ≡ end → IsDamagedAt offset (drop start image) gate_at → IsDamagedAt from image end
-  damaged_behind offset from gate_at end begins stops d =
+  pub damaged_behind : {layout : ℕ} (offset from gate_at end : ℕ) → start + offset ≡ from → start + gate_at ≡ end → IsDamagedAt layout offset (drop start image) gate_at → IsDamagedAt layout from image end
+  damaged_behind {layout = layout} offset from gate_at end begins stops d =
       let tails = tail_at gate_at end stops in
       record {
         inputs = d.inputs;
@@ -61,5 +61,5 @@ module _ (start : ℕ) (image : List ℕ) where
           ends = omega (arith, d.up_to.ends, begins, stops);
         };
         broken = ⊎_elim (λ (none : drop gate_at (drop start image) ≡ []). inl (sym tails ∙ none))
-            (λ (some : (tail : List ℕ) × ((drop gate_at (drop start image) ≡ 1 ∷ tail) × NoFrame tail)). inr (some.0, (sym tails ∙ some.1.0, some.1.1))) d.broken;
+            (λ (some : (tail : List ℕ) × ((drop gate_at (drop start image) ≡ 1 ∷ tail) × NoFrame layout tail)). inr (some.0, (sym tails ∙ some.1.0, some.1.1))) d.broken;
       }

@@ -9,18 +9,18 @@ use Rattle.gated_journal.specs.Pieces.{IsFrameFront, IsNextFront, IsAreaFront, I
 use Rattle.gated_journal.proofs.Pieces.{NoFramed}
 use Rattle.gated_journal.proofs.Heads.{count_at, size_at, shows, records-short}
 
-headless : (tail : List ℕ) → length tail < 6 → NoFrame tail
+headless : {layout : ℕ} (tail : List ℕ) → length tail < 6 → NoFrame layout tail
 headless tail short batch rest is e = let s = shows tail batch rest is e in omega (arith, short, s.long)
 
-too_short : (tail : List ℕ) → length tail < 6 + size_at tail → NoFrame tail
+too_short : {layout : ℕ} (tail : List ℕ) → length tail < 6 + size_at tail → NoFrame layout tail
 too_short tail short batch rest is e = let s = shows tail batch rest is e in omega (arith, short, s.long, s.size)
 
 -- no frame is whole of which this is the front
-pub no_frame : (tail : List ℕ) → IsFrameFront tail → NoFrame tail
+pub no_frame : {layout : ℕ} (tail : List ℕ) → IsFrameFront tail → NoFrame layout tail
 no_frame tail (inl short) = headless tail short
 no_frame tail (inr front) = too_short tail (omega (arith, front.1.1))
 
-pub no_framed : (behind : List ℕ) → IsNextFront behind → NoFramed behind
+pub no_framed : {layout : ℕ} (behind : List ℕ) → IsNextFront behind → NoFramed layout behind
 no_framed behind (inl none) = inl none
 no_framed behind (inr front) = inr (front.0, (front.1.0, no_frame front.0 front.1.1))
 
@@ -51,11 +51,11 @@ module _ (tail more : List ℕ) (long : 6 ≤ length tail) where
       λ i. from_be_bytes w32 (a i ∷ b i ∷ c i ∷ d i ∷ [])
 
 pub enough : (tail : List ℕ) → 6 ≤ length tail → (count_at tail ≤ 64 → size_at tail ≤ 35 * count_at tail → length tail < 6 + size_at tail → ⊥) → IsEnough tail
-enough tail long not_short batch more rest is e =
+enough tail long not_short layout batch more rest is e =
     let s = shows (tail ++ more) batch rest is e in
     let count = count_there tail more long in
     let size = size_there tail more long in
     let body_is : length (body batch) ≡ 6 + length (records batch) = omega arith in
     ⊎_elim
-    (λ (short : length tail < 6 + size_at tail). absurd (not_short (omega (arith, s.count, count, is.few)) (omega (arith, s.size, size, s.count, count, records-short batch is.have)) short))
+    (λ (short : length tail < 6 + size_at tail). absurd (not_short (omega (arith, s.count, count, is.few)) (omega (arith, s.size, size, s.count, count, records-short layout batch is.have)) short))
     (λ (all : 6 + size_at tail ≤ length tail). omega (arith, all, s.size, size, body_is)) (cases_lt (length tail) (6 + size_at tail))

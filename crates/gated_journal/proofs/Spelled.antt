@@ -2,20 +2,37 @@
 use Rattle.std.proofs.Common.{◌≡◌, ℕ, ◌+◌, ◌*◌, ◌≤◌, List, [], ◌∷◌, ◌++◌, length, take, Ok, refl, sym, ◌∙◌, ap, subst, arith, append_assoc, length-append}
 use Rattle.std.proofs.lemmas.List.{append-nil}
 use Rattle.ring_records.specs.declared.input.Input.{Input}
-use Rattle.ring_records.specs.Admission.{cost, costs_of}
+use Rattle.ring_records.specs.declared.input.Input.TheVariants.{Stand, Take, Acked}
+use Rattle.ring_records.specs.Admission.{cost, costs_of, newest}
 use Rattle.ring_records.specs.Record.{AreBytes, HasRecord, record_of, record_read}
 use Rattle.ring_records.proofs.Counts.{costs-joined}
 use Rattle.ring_records.proofs.LookBack.{IsItem, take-item}
 use Rattle.ring_records.proofs.Records.{cost-record, record-found}
-use Rattle.gated_journal.specs.Frames.{records, HaveRecords}
+use Rattle.gated_journal.specs.Frames.{records, Suits, HaveRecords, IsFrame}
 
 pub records-push : (inputs : List Input) (x : Input) → records (inputs ++ x ∷ []) ≡ records inputs ++ record_of x
 records-push [] x = append-nil (record_of x)
 records-push (y ∷ inputs) x = ap (λ (l : List ℕ). record_of y ++ l) (records-push inputs x) ∙ sym (append_assoc (record_of y) (records inputs) (record_of x))
 
-pub have-push : (inputs : List Input) (x : Input) → HaveRecords inputs → HasRecord x → HaveRecords (inputs ++ x ∷ [])
-have-push [] x have has = (has, tt)
-have-push (y ∷ inputs) x have has = (have.0, have-push inputs x have.1 has)
+pub have-push : (layout : ℕ) (inputs : List Input) (x : Input) → HaveRecords layout inputs → HasRecord x → Suits layout x → HaveRecords layout (inputs ++ x ∷ [])
+have-push layout [] x have has suited = ((has, suited), tt)
+have-push layout (y ∷ inputs) x have has suited = (have.0, have-push layout inputs x have.1 has suited)
+
+-- each input suits each layout
+pub suits : (layout : ℕ) (x : Input) → Suits layout x
+suits layout (Stand key bid) = tt
+suits layout (Take msg_no msg) = tt
+suits layout (Acked upto) = tt
+
+pub have-suited : (layout other : ℕ) (inputs : List Input) → HaveRecords layout inputs → HaveRecords other inputs
+have-suited layout other [] have = tt
+have-suited layout other (x ∷ inputs) have = ((have.0.0, suits other x), have-suited layout other inputs have.1)
+
+pub frame-suited : (layout other : ℕ) (batch : List Input) (bytes : List ℕ) → IsFrame layout batch bytes → IsFrame other batch bytes
+frame-suited layout other batch bytes frame = record {
+  is_batch = record { some = frame.is_batch.some; few = frame.is_batch.few; have = have-suited layout other batch frame.is_batch.have };
+  bytes_are = frame.bytes_are;
+}
 
 -- the sum of the costs of these inputs, by which they are longer than their records, and its bound
 pub record Sums (inputs : List Input) (sum count : ℕ) : Type 0 where
@@ -42,12 +59,12 @@ written-has x n out are again = (record-found (take n out ++ []) x n (subst (λ 
 -- the records of the first inputs stand behind a head
 pub record Spells (inputs : List Input) (head bytes : List ℕ) : Type 0 where
   pub bytes_are : bytes ≡ head ++ records inputs
-  pub have : HaveRecords inputs
+  pub have : HaveRecords newest inputs
 
 pub spells-item : (inputs : List Input) (i : ℕ) (x : Input) (head bytes more : List ℕ) → IsItem inputs i x → Spells (take i inputs) head bytes → more ≡ bytes ++ record_of x → HasRecord x → Spells (take (i + 1) inputs) head more
 spells-item inputs i x head bytes more here spells is has =
     let pushed : take (i + 1) inputs ≡ take i inputs ++ x ∷ [] = take-item inputs i x here in
     subst (λ (l : List Input). Spells l head more) (sym pushed) (record {
       bytes_are = is ∙ ap (λ (l : List ℕ). l ++ record_of x) spells.bytes_are ∙ append_assoc head (records (take i inputs)) (record_of x) ∙ ap (λ (l : List ℕ). head ++ l) (sym (records-push (take i inputs) x));
-      have = have-push (take i inputs) x spells.have has;
+      have = have-push newest (take i inputs) x spells.have has (suits newest x);
     })

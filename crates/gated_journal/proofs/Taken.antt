@@ -1,62 +1,77 @@
 -- Records taken from the front of bytes, one after the other.
 use Rattle.std.proofs.Common.{◌≡◌, ℕ, eqb, true, false, ◌+◌, ◌<◌, ◌≤◌, List, [], ◌∷◌, ◌++◌, length, drop, Err, sym, ◌∙◌, ap, arith, append_assoc, length-append, take-append-drop}
-use Rattle.std.proofs.lemmas.List.{append_cancel_left}
+use Rattle.std.specs.Int.{w16, w32, to_be_bytes}
+use Rattle.std.proofs.lemmas.List.{append-nil, append_cancel_left}
 use Rattle.ring_records.specs.declared.input.Input.{Input}
 use Rattle.ring_records.specs.declared.record.RecordFault.{RecordFault}
 use Rattle.ring_records.specs.Record.{BeginsWith, record_of, record_read}
 use Rattle.ring_records.proofs.Records.{record-again, records-apart}
 use Rattle.gated_journal.specs.Frames.{records, HaveRecords}
-use Rattle.gated_journal.specs.NextFrame.{TakesRecords}
-use Rattle.gated_journal.proofs.Spelled.{records-push, have-push}
+use Rattle.gated_journal.specs.NextFrame.{HasHead, TakesRecords, TakesFrame}
+use Rattle.gated_journal.proofs.Spelled.{records-push, have-push, suits}
 
 -- one record more
-pub taken_more : (old mid : List Input) (count size : ℕ) (bytes rest : List ℕ) (x : Input) → TakesRecords old mid count bytes rest → BeginsWith rest x size → TakesRecords old (mid ++ x ∷ []) (count + 1) bytes (drop size rest)
-taken_more old mid count size bytes rest x taken begins =
+pub taken_more : {layout : ℕ} (old mid : List Input) (count size : ℕ) (bytes rest : List ℕ) (x : Input) → TakesRecords layout old mid count bytes rest → BeginsWith rest x size → TakesRecords layout old (mid ++ x ∷ []) (count + 1) bytes (drop size rest)
+taken_more {layout = layout} old mid count size bytes rest x taken begins =
     let rest_is : rest ≡ record_of x ++ drop size rest = sym (take-append-drop size rest) ∙ ap (λ (l : List ℕ). l ++ drop size rest) begins.front in
     record {
       batch = taken.batch ++ x ∷ [];
       added = ap (λ (l : List Input). l ++ x ∷ []) taken.added ∙ append_assoc old taken.batch (x ∷ []);
       many = omega (arith, length-append taken.batch (x ∷ []), taken.many);
-      have = have-push taken.batch x taken.have begins.has;
+      have = have-push layout taken.batch x taken.have begins.has (suits layout x);
       spelled = taken.spelled ∙ ap (λ (l : List ℕ). records taken.batch ++ l) rest_is ∙ sym (append_assoc (records taken.batch) (record_of x) (drop size rest))
           ∙ ap (λ (l : List ℕ). l ++ drop size rest) (sym (records-push taken.batch x));
     }
 
 -- what is left of a batch behind those that were taken
-record Left (got batch : List Input) (rest : List ℕ) : Type 0 where
+record Left (layout : ℕ) (got batch : List Input) (rest : List ℕ) : Type 0 where
   more : List Input
   many : length batch ≡ length got + length more
-  have : HaveRecords more
+  have : HaveRecords layout more
   rest_is : rest ≡ records more
 
-left : (got batch : List Input) (rest : List ℕ) → HaveRecords got → HaveRecords batch → length got ≤ length batch → records got ++ rest ≡ records batch → Left got batch rest
-left [] batch rest had have le e = record { more = batch; many = omega arith; have = have; rest_is = e }
-left (x ∷ got) [] rest had have le e = absurd (omega (arith, le))
-left (x ∷ got) (y ∷ batch) rest had have le e =
+left : (layout : ℕ) (got batch : List Input) (rest : List ℕ) → HaveRecords layout got → HaveRecords layout batch → length got ≤ length batch → records got ++ rest ≡ records batch → Left layout got batch rest
+left layout [] batch rest had have le e = record { more = batch; many = omega arith; have = have; rest_is = e }
+left layout (x ∷ got) [] rest had have le e = absurd (omega (arith, le))
+left layout (x ∷ got) (y ∷ batch) rest had have le e =
     let parts : record_of x ++ (records got ++ rest) ≡ record_of y ++ records batch = sym (append_assoc (record_of x) (records got) rest) ∙ e in
-    let first : x ≡ y = records-apart x y (records got ++ rest) (records batch) had.0 have.0 parts in
+    let first : x ≡ y = records-apart x y (records got ++ rest) (records batch) had.0.0 have.0.0 parts in
     let same : record_of x ++ (records got ++ rest) ≡ record_of x ++ records batch = parts ∙ ap (λ (z : Input). record_of z ++ records batch) (sym first) in
-    let behind = left got batch rest had.1 have.1 (omega (arith, le)) (append_cancel_left (record_of x) (records got ++ rest) (records batch) same) in
+    let behind = left layout got batch rest had.1 have.1 (omega (arith, le)) (append_cancel_left (record_of x) (records got ++ rest) (records batch) same) in
     record { more = behind.more; many = omega (arith, behind.many); have = behind.have; rest_is = behind.rest_is }
 
 -- where no record follows there were no more
-pub no_record : (old new batch : List Input) (got : ℕ) (bytes rest : List ℕ) (fault : RecordFault) → TakesRecords old new got bytes rest → record_read rest ≡ Err fault → got < length batch → HaveRecords batch → bytes ≡ records batch → ⊥
-no_record old new batch got bytes rest fault taken broken fewer have whole =
-    let behind = left taken.batch batch rest taken.have have (omega (arith, taken.many, fewer)) (sym taken.spelled ∙ whole) in
+pub no_record : {layout : ℕ} (old new batch : List Input) (got : ℕ) (bytes rest : List ℕ) (fault : RecordFault) → TakesRecords layout old new got bytes rest → record_read rest ≡ Err fault → got < length batch → HaveRecords layout batch → bytes ≡ records batch → ⊥
+no_record {layout = layout} old new batch got bytes rest fault taken broken fewer have whole =
+    let behind = left layout taken.batch batch rest taken.have have (omega (arith, taken.many, fewer)) (sym taken.spelled ∙ whole) in
     starts behind.more behind.have (omega (arith, behind.many, taken.many, fewer)) behind.rest_is
   where
-    starts : (more : List Input) → HaveRecords more → 0 < length more → rest ≡ records more → ⊥
+    starts : (more : List Input) → HaveRecords layout more → 0 < length more → rest ≡ records more → ⊥
     starts [] have some is = omega (arith, some)
     starts (y ∷ more) have some is =
-        let found = sym broken ∙ ap record_read is ∙ record-again y (records more) have.0 in
+        let found = sym broken ∙ ap record_read is ∙ record-again y (records more) have.0.0 in
         cc
 
 -- where something follows there were not just so many
-pub no_rest : (old new batch : List Input) (got : ℕ) (bytes rest : List ℕ) → TakesRecords old new got bytes rest → eqb (length rest) 0 ≡ false → length batch ≡ got → HaveRecords batch → bytes ≡ records batch → ⊥
-no_rest old new batch got bytes rest taken some many have whole =
-    let behind = left taken.batch batch rest taken.have have (omega (arith, taken.many, many)) (sym taken.spelled ∙ whole) in
+pub no_rest : {layout : ℕ} (old new batch : List Input) (got : ℕ) (bytes rest : List ℕ) → TakesRecords layout old new got bytes rest → eqb (length rest) 0 ≡ false → length batch ≡ got → HaveRecords layout batch → bytes ≡ records batch → ⊥
+no_rest {layout = layout} old new batch got bytes rest taken some many have whole =
+    let behind = left layout taken.batch batch rest taken.have have (omega (arith, taken.many, many)) (sym taken.spelled ∙ whole) in
     ends behind.more (omega (arith, behind.many, taken.many, many)) behind.rest_is
   where
     ends : (more : List Input) → length more ≡ 0 → rest ≡ records more → ⊥
     ends [] none is = let empty : eqb (length rest) 0 ≡ true = ap (λ (l : List ℕ). eqb (length l) 0) is in cc
     ends (y ∷ more) none is = omega (arith, none)
+
+-- the records of a frame, behind its head
+pub whole_frame : {layout : ℕ} (old new : List Input) (count : ℕ) (tail found : List ℕ) → HasHead tail count found → TakesRecords layout old new count found [] → TakesFrame layout old new tail (6 + length found)
+whole_frame old new count tail found h t =
+    let same : found ≡ records t.batch = t.spelled ∙ append-nil (records t.batch) in
+    let rest : List ℕ = drop (6 + length found) tail in
+    record {
+      batch = t.batch;
+      rest = rest;
+      added = t.added;
+      is_batch = record { some = omega (arith, t.many, h.some); few = omega (arith, t.many, h.few); have = t.have };
+      framed = h.whole ∙ (λ i. to_be_bytes w16 (sym t.many i) ++ (to_be_bytes w32 (length (same i)) ++ (same i ++ rest)));
+      size_is = omega (arith, ap (λ (l : List ℕ). length l) same);
+    }

@@ -89,7 +89,7 @@ pub record ReadsAt (header : Member) (image : List ℕ) (r : Reading) (start oth
   pub gate : slice_index image start ≡ 1
   pub base : HasBase header.n start image r offset
   pub older : Counts other image → epoch_at other image < r.epoch
-  pub frames : ReadsTo offset image r.inputs gate_at
+  pub frames : ReadsTo r.layout offset image r.inputs gate_at
   pub within : gate_at ≤ start + head_len + header.capacity
 
 -- *Reading*: the image reads as r
@@ -127,7 +127,7 @@ first_write is_closed other = if is_closed then other + 1 else other
 pub record IsStaged (n other : ℕ) (image : List ℕ) (r : Reading) (offset : ℕ) : Type 0 where
   pub there : other < length image
   pub base : HasBase n other image r offset
-  pub frames : ReadsTo offset image r.inputs offset
+  pub frames : ReadsTo r.layout offset image r.inputs offset
 
 -- The other area may be replaced by that of s in this epoch: the image is read at these places in a lesser one, and the
 -- snapshot is sound and fits the capacity.

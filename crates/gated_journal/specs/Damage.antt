@@ -14,28 +14,28 @@ use Rattle.gated_journal.specs.Reading.{Reading}
 -- ---- the frames
 
 -- from this offset on there are frames of these inputs, up to `gate_at`
-pub record ReadsUpTo (offset : ℕ) (image : List ℕ) (inputs : List Input) (gate_at : ℕ) : Type 0 where
+pub record ReadsUpTo (layout offset : ℕ) (image : List ℕ) (inputs : List Input) (gate_at : ℕ) : Type 0 where
   pub batches : List (List Input)
   pub whole : drop offset image ≡ frames batches ++ drop gate_at image
-  pub sized : AreBatches batches
+  pub sized : AreBatches layout batches
   pub same : inputs ≡ joined batches
   pub ends : gate_at ≡ offset + length (frames batches)
 
 -- no frame stands at the head of these bytes
-abbrev pub NoFrame : List ℕ → Type 0
-NoFrame tail = (batch : List Input) (rest : List ℕ) → IsBatch batch → tail ≡ body batch ++ rest → ⊥
+abbrev pub NoFrame : ℕ → List ℕ → Type 0
+NoFrame layout tail = (batch : List Input) (rest : List ℕ) → IsBatch layout batch → tail ≡ body batch ++ rest → ⊥
 
 -- There are frames up to `gate_at`, and there no byte, or an open gate with no frame behind it.
-pub record IsDamagedAt (offset : ℕ) (image : List ℕ) (gate_at : ℕ) : Type 0 where
+pub record IsDamagedAt (layout offset : ℕ) (image : List ℕ) (gate_at : ℕ) : Type 0 where
   pub inputs : List Input
-  pub up_to : ReadsUpTo offset image inputs gate_at
-  pub broken : (drop gate_at image ≡ []) ⊎ ((tail : List ℕ) × ((drop gate_at image ≡ 1 ∷ tail) × NoFrame tail))
+  pub up_to : ReadsUpTo layout offset image inputs gate_at
+  pub broken : (drop gate_at image ≡ []) ⊎ ((tail : List ℕ) × ((drop gate_at image ≡ 1 ∷ tail) × NoFrame layout tail))
 
 -- the refusal says where they are damaged
-pub record IsBroken (offset : ℕ) (image : List ℕ) (refusal : Refusal) : Type 0 where
+pub record IsBroken (layout offset : ℕ) (image : List ℕ) (refusal : Refusal) : Type 0 where
   pub gate_at : ℕ
   pub is : refusal ≡ Damaged gate_at
-  pub damaged : IsDamagedAt offset image gate_at
+  pub damaged : IsDamagedAt layout offset image gate_at
 
 -- ---- the areas
 
@@ -46,10 +46,10 @@ IsHeadBroken n start image =
     ⊎ ((epochs ≤ epoch_at start image) ⊎ ((s : Summary) → Spells (layout_at start image) n (snapshot_at start image) s → ⊥))
 
 -- frames from this offset on end behind this bound
-pub record GoesPast (bound offset : ℕ) (image : List ℕ) : Type 0 where
+pub record GoesPast (layout bound offset : ℕ) (image : List ℕ) : Type 0 where
   pub inputs : List Input
   pub gate_at : ℕ
-  pub frames : ReadsTo offset image inputs gate_at
+  pub frames : ReadsTo layout offset image inputs gate_at
   pub past : bound < gate_at
 
 -- the head of the area is whole, and its frames are broken or take more than the capacity
@@ -57,7 +57,7 @@ pub record AreFramesBroken (n capacity start : ℕ) (image : List ℕ) (refusal 
   pub reading : Reading
   pub offset : ℕ
   pub base : HasBase n start image reading offset
-  pub cause : IsBroken offset image refusal ⊎ ((refusal ≡ Damaged start) × GoesPast (start + head_len + capacity) offset image)
+  pub cause : IsBroken reading.layout offset image refusal ⊎ ((refusal ≡ Damaged start) × GoesPast reading.layout (start + head_len + capacity) offset image)
 
 -- the area that is read is broken, in its head or in its frames
 pub record IsAreaBroken (n capacity : ℕ) (image : List ℕ) (refusal : Refusal) : Type 0 where

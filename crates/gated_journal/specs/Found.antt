@@ -42,7 +42,7 @@ pub record InFrames (layout n : ℕ) (snapshot taken : List ℕ) (inputs : List 
   pub is_head : IsHead layout (length snapshot) head
   pub spells : Spells layout n snapshot base
   pub taken_is : taken ≡ head ++ (snapshot ++ frames batches)
-  pub sized : AreBatches batches
+  pub sized : AreBatches layout batches
   pub same : inputs ≡ joined batches
 
 -- a closed gate stands at the front of the bytes

@@ -1,8 +1,9 @@
--- Frames of inputs, and what is read behind an offset. Numbers are big-endian.
+-- Frames of inputs, by the layout of their area, and what is read behind an offset. Numbers are big-endian.
 use Rattle.std.specs.Prelude.{◌≡◌, ◌≢◌, ◌⊎◌, ◌+◌, ◌≤◌, ℕ, List, [], ◌∷◌, ◌++◌, length, drop}
 use Rattle.std.specs.Int.{w16, w32, to_be_bytes}
 use Rattle.disk_model.specs.Disk.{Changes}
 use Rattle.ring_records.specs.declared.input.Input.{Input}
+use Rattle.ring_records.specs.declared.input.Input.TheVariants.{Stand, Take, Acked}
 use Rattle.ring_records.specs.declared.limits.TheConstants.{BATCH_INPUTS}
 use Rattle.ring_records.specs.Record.{HasRecord, record_of}
 
@@ -22,19 +23,25 @@ abbrev pub frames : List (List Input) → List ℕ
 frames [] = []
 frames (batch ∷ batches) = 1 ∷ (body batch ++ frames batches)
 
-abbrev pub HaveRecords : List Input → Type 0
-HaveRecords [] = Unit {0}
-HaveRecords (x ∷ inputs) = HasRecord x × HaveRecords inputs
+-- the frames of an area of this layout may hold the input: each one that there is
+abbrev pub Suits : ℕ → Input → Type 0
+Suits layout (Stand key bid) = Unit {0}
+Suits layout (Take msg_no msg) = Unit {0}
+Suits layout (Acked upto) = Unit {0}
 
--- 1 to 64 inputs that have records
-pub record IsBatch (inputs : List Input) : Type 0 where
+abbrev pub HaveRecords : ℕ → List Input → Type 0
+HaveRecords layout [] = Unit {0}
+HaveRecords layout (x ∷ inputs) = (HasRecord x × Suits layout x) × HaveRecords layout inputs
+
+-- 1 to 64 inputs that have records in this layout
+pub record IsBatch (layout : ℕ) (inputs : List Input) : Type 0 where
   pub some : 1 ≤ length inputs
   pub few : length inputs ≤ BATCH_INPUTS
-  pub have : HaveRecords inputs
+  pub have : HaveRecords layout inputs
 
-abbrev pub AreBatches : List (List Input) → Type 0
-AreBatches [] = Unit {0}
-AreBatches (batch ∷ batches) = IsBatch batch × AreBatches batches
+abbrev pub AreBatches : ℕ → List (List Input) → Type 0
+AreBatches layout [] = Unit {0}
+AreBatches layout (batch ∷ batches) = IsBatch layout batch × AreBatches layout batches
 
 -- all inputs, in order
 abbrev pub joined : List (List Input) → List Input
@@ -42,26 +49,26 @@ joined [] = []
 joined (batch ∷ batches) = batch ++ joined batches
 
 -- the bytes are the batch's frame behind its gate, and the next gate, which is closed
-pub record IsFrame (batch : List Input) (bytes : List ℕ) : Type 0 where
-  pub is_batch : IsBatch batch
+pub record IsFrame (layout : ℕ) (batch : List Input) (bytes : List ℕ) : Type 0 where
+  pub is_batch : IsBatch layout batch
   pub bytes_are : bytes ≡ body batch ++ 0 ∷ []
 
 -- ---- how they are read
 
--- From this offset on there are frames of these inputs, and then, at `gate_at`, one byte that is not 1: a closed gate.
+-- From this offset on there are frames of these inputs, in this layout, and then, at `gate_at`, one byte that is not 1: a closed gate.
 -- Nothing is said of the bytes before the offset, nor of those behind the gate.
-pub record ReadsTo (offset : ℕ) (image : List ℕ) (inputs : List Input) (gate_at : ℕ) : Type 0 where
+pub record ReadsTo (layout offset : ℕ) (image : List ℕ) (inputs : List Input) (gate_at : ℕ) : Type 0 where
   pub batches : List (List Input)
   pub gate : ℕ
   pub after : List ℕ
   pub whole : drop offset image ≡ frames batches ++ gate ∷ after
-  pub sized : AreBatches batches
+  pub sized : AreBatches layout batches
   pub closed : gate ≢ 1
   pub same : inputs ≡ joined batches
   pub ends : gate_at ≡ offset + length (frames batches)
 
 -- A moment of a commit of n bytes behind the gate at this offset: the frames have the batch or not, and no byte outside
 -- the gate and the n bytes behind it has changed.
-pub record Appends (offset : ℕ) (inputs batch : List Input) (gate_at n : ℕ) (old new : List ℕ) : Type 0 where
-  pub frames : ReadsTo offset new inputs gate_at ⊎ ReadsTo offset new (inputs ++ batch) (gate_at + n)
+pub record Appends (layout offset : ℕ) (inputs batch : List Input) (gate_at n : ℕ) (old new : List ℕ) : Type 0 where
+  pub frames : ReadsTo layout offset new inputs gate_at ⊎ ReadsTo layout offset new (inputs ++ batch) (gate_at + n)
   pub changes : Changes gate_at (1 + n) old new

@@ -11,21 +11,21 @@ pub record HasHead (tail : List ℕ) (count : ℕ) (found : List ℕ) : Type 0 w
   pub some : 1 ≤ count
   pub few : count ≤ BATCH_INPUTS
   pub whole : tail ≡ to_be_bytes w16 count ++ (to_be_bytes w32 (length found) ++ (found ++ drop (6 + length found) tail))
-  pub alone : (batch : List Input) (rest : List ℕ) → IsBatch batch → tail ≡ body batch ++ rest → (length batch ≡ count) × (records batch ≡ found)
+  pub alone : (layout : ℕ) (batch : List Input) (rest : List ℕ) → IsBatch layout batch → tail ≡ body batch ++ rest → (length batch ≡ count) × (records batch ≡ found)
 
 -- new has so many inputs more than old, whose records stand in these bytes before the rest
-pub record TakesRecords (old new : List Input) (count : ℕ) (bytes rest : List ℕ) : Type 0 where
+pub record TakesRecords (layout : ℕ) (old new : List Input) (count : ℕ) (bytes rest : List ℕ) : Type 0 where
   pub batch : List Input
   pub added : new ≡ old ++ batch
   pub many : length batch ≡ count
-  pub have : HaveRecords batch
+  pub have : HaveRecords layout batch
   pub spelled : bytes ≡ records batch ++ rest
 
 -- new has the inputs of the frame of this size at the head more than old
-pub record TakesFrame (old new : List Input) (tail : List ℕ) (size : ℕ) : Type 0 where
+pub record TakesFrame (layout : ℕ) (old new : List Input) (tail : List ℕ) (size : ℕ) : Type 0 where
   pub batch : List Input
   pub rest : List ℕ
   pub added : new ≡ old ++ batch
-  pub is_batch : IsBatch batch
+  pub is_batch : IsBatch layout batch
   pub framed : tail ≡ body batch ++ rest
   pub size_is : size ≡ length (body batch)

@@ -36,7 +36,7 @@ reading_with layout bytes s inputs = record { layout = layout; epoch = epoch_at 
 pub record IsAreaRead (layout n : ℕ) (bytes : List ℕ) (s : Summary) (inputs : List Input) (gate_at : ℕ) : Type 0 where
   pub gate : slice_index bytes 0 ≡ 1
   pub base : HasBase n 0 bytes (reading_with layout bytes s inputs) (frames_of 0 bytes)
-  pub frames : ReadsTo (frames_of 0 bytes) bytes inputs gate_at
+  pub frames : ReadsTo layout (frames_of 0 bytes) bytes inputs gate_at
 
 -- no area of this layout begins there: the gate is not open, the layout is another or not known, or the head is broken
 abbrev pub IsNoArea : ℕ → ℕ → List ℕ → Type 0
@@ -47,7 +47,7 @@ pub record AreFramesDamaged (layout n : ℕ) (bytes : List ℕ) (at : ℕ) : Typ
   pub base_of : Summary
   pub gate : slice_index bytes 0 ≡ 1
   pub base : HasBase n 0 bytes (reading_with layout bytes base_of []) (frames_of 0 bytes)
-  pub damaged : IsDamagedAt (frames_of 0 bytes) bytes at
+  pub damaged : IsDamagedAt layout (frames_of 0 bytes) bytes at
 
 -- The bytes are no such area: they are damaged at this offset.
 pub record IsAreaDamaged (layout n : ℕ) (bytes : List ℕ) (at : ℕ) : Type 0 where
@@ -88,7 +88,7 @@ pub record AreFramesFront (layout n : ℕ) (bytes : List ℕ) (kept : ℕ) : Typ
   pub gate_at : ℕ
   pub gate : slice_index bytes 0 ≡ 1
   pub base : HasBase n 0 bytes (reading_with layout bytes base_of inputs) (frames_of 0 bytes)
-  pub frames : ReadsUpTo (frames_of 0 bytes) bytes inputs gate_at
+  pub frames : ReadsUpTo layout (frames_of 0 bytes) bytes inputs gate_at
   pub front : IsNextFront (drop gate_at bytes)
   pub kept_is : gate_at + kept ≡ length bytes
 
@@ -101,4 +101,4 @@ IsAreaFront layout n bytes kept = ((length bytes < head_len) × (kept ≡ length
 
 -- a frame at the head of these bytes, whatever follows them, does not go beyond them
 abbrev pub IsEnough : List ℕ → Type 0
-IsEnough tail = (batch : List Input) (more rest : List ℕ) → IsBatch batch → tail ++ more ≡ body batch ++ rest → length (body batch) ≤ length tail
+IsEnough tail = (layout : ℕ) (batch : List Input) (more rest : List ℕ) → IsBatch layout batch → tail ++ more ≡ body batch ++ rest → length (body batch) ≤ length tail

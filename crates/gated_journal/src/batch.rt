@@ -1,7 +1,7 @@
 //! Inputs that become durable together.
 ghost use Rattle.std.specs.Prelude.{◌≡◌, ◌≤◌, ◌*◌, true, None, length, IfOk, IfErr, OnOk};
 ghost use Rattle.ring_records.specs.declared.limits.TheConstants.{BATCH_INPUTS};
-ghost use Rattle.ring_records.specs.Admission.{costs_of};
+ghost use Rattle.ring_records.specs.Admission.{costs_of, newest};
 ghost use Rattle.gated_journal.specs.Frames.{IsFrame};
 ghost use Rattle.gated_journal.specs.Props.{IsFrame-prop};
 
@@ -15,7 +15,7 @@ pub struct Batch {
     pub(crate) flown: Flown,
     pub(crate) cost: u32,
     pub(crate) bytes: Vec<u8>,
-    ghost framed: { IsFrame flown.inputs.items bytes.items } by { IsFrame-prop flown.inputs.items bytes.items },
+    ghost framed: { IsFrame newest flown.inputs.items bytes.items } by { IsFrame-prop newest flown.inputs.items bytes.items },
     ghost plain: { flown.snapshot ≡ None },
     ghost counted: { cost ≡ costs_of flown.inputs.items },
     ghost small: { cost ≤ 42 * BATCH_INPUTS },

@@ -13,10 +13,13 @@ pub(crate) fn append<D: Device>(
     bytes: &[u8],
 ) -> Result<(), DeviceFault>
     requires fits { gate_at + 1 + length bytes.now < 2 ^ 64 }
-    ensures any_moment { (offset : ℕ) (inputs batch : List Input) → IsSynced (D.disk device.old) → ReadsTo offset (D.disk device.old).image inputs gate_at → IsFrame batch bytes.now
-        → LeavesOnly D.clock D.left_since device.old device.new (Appends offset inputs batch gate_at (length bytes.now) (D.disk device.old).image) }
-    ensures done { OnOk result ((offset : ℕ) (inputs batch : List Input) → IsSynced (D.disk device.old) → ReadsTo offset (D.disk device.old).image inputs gate_at → IsFrame batch bytes.now
-        → ReadsTo offset (D.disk device.new).image (inputs ++ batch) (gate_at + length bytes.now) × Changes gate_at (1 + length bytes.now) (D.disk device.old).image (D.disk device.new).image) }
+    ensures any_moment { (layout offset : ℕ) (inputs batch : List Input) → IsSynced (D.disk device.old) → ReadsTo layout offset (D.disk device.old).image inputs gate_at
+        → IsFrame layout batch bytes.now
+        → LeavesOnly D.clock D.left_since device.old device.new (Appends layout offset inputs batch gate_at (length bytes.now) (D.disk device.old).image) }
+    ensures done { OnOk result ((layout offset : ℕ) (inputs batch : List Input) → IsSynced (D.disk device.old) → ReadsTo layout offset (D.disk device.old).image inputs gate_at
+        → IsFrame layout batch bytes.now
+        → ReadsTo layout offset (D.disk device.new).image (inputs ++ batch) (gate_at + length bytes.now)
+        × Changes gate_at (1 + length bytes.now) (D.disk device.old).image (D.disk device.new).image) }
     ensures synced { OnOk result (IsSynced (D.disk device.new)) }
     ensures cause { HasCause (D.count device.old) (D.count device.new) result }
     ensures reach { IsInReach (gate_at + 1 + length bytes.now) (D.reach device.old) (D.reach device.new) result }

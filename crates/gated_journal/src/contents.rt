@@ -66,7 +66,7 @@ pub(crate) fn read_area<D: Device>(
 ) -> Result<Contents, Refusal>
     requires used { IsUsed capacity (D.disk device.old).image chosen.now }
     ensures base { IfOk result (λ found. HasBase n chosen.now.start (D.disk device.old).image (reading_of chosen.now found) chosen.now.offset) }
-    ensures frames { IfOk result (λ found. ReadsTo chosen.now.offset (D.disk device.old).image found.inputs.items found.gate_at) }
+    ensures frames { IfOk result (λ found. ReadsTo chosen.now.layout chosen.now.offset (D.disk device.old).image found.inputs.items found.gate_at) }
     ensures within { IfOk result (λ found. found.gate_at ≤ chosen.now.start + head_len + capacity) }
     ensures disk { D.disk device.new ≡ D.disk device.old }
     ensures any_moment { LeavesOnly D.clock D.left_since device.old device.new (MayLeave (D.disk device.old)) }
@@ -99,7 +99,7 @@ pub(crate) fn read_areas<D: Device>(
 ) -> Result<(Chosen, Contents), Refusal>
     ensures used { IfOk result (λ r. IsUsed capacity (D.disk device.old).image r.0) }
     ensures base { IfOk result (λ r. HasBase n r.0.start (D.disk device.old).image (reading_of r.0 r.1) r.0.offset) }
-    ensures frames { IfOk result (λ r. ReadsTo r.0.offset (D.disk device.old).image r.1.inputs.items r.1.gate_at) }
+    ensures frames { IfOk result (λ r. ReadsTo r.0.layout r.0.offset (D.disk device.old).image r.1.inputs.items r.1.gate_at) }
     ensures within { IfOk result (λ r. r.1.gate_at ≤ r.0.start + head_len + capacity) }
     ensures disk { D.disk device.new ≡ D.disk device.old }
     ensures any_moment { LeavesOnly D.clock D.left_since device.old device.new (MayLeave (D.disk device.old)) }

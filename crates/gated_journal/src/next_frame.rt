@@ -29,7 +29,7 @@ pub(crate) fn is_short(tail: &[u8]) -> bool
 
 // How many inputs the frame at the head has, and their records.
 fn head_of(tail: &[u8]) -> Option<(usize, &[u8])>
-    ensures { MatchOption result (NoFrame tail.now) (λ head. HasHead tail.now head.0 head.1.now) }
+    ensures { MatchOption result ((layout : ℕ) → NoFrame layout tail.now) (λ head. HasHead tail.now head.0 head.1.now) }
 {
     if tail.len() < 6 {
         return None;
@@ -45,8 +45,8 @@ fn head_of(tail: &[u8]) -> Option<(usize, &[u8])>
 // Takes so many records from the bytes, and tells whether they were there and nothing else.
 fn take_records(inputs: &mut Vec<Input>, bytes: &[u8], count: usize) -> bool
     requires room { length bytes.now ≤ 9 * (vec_capacity inputs.old - vec_len inputs.old) }
-    ensures taken { result ≡ true → TakesRecords inputs.old.items inputs.new.items count bytes.now [] }
-    ensures broken { result ≡ false → (batch : List Input) → length batch ≡ count → HaveRecords batch → bytes.now ≡ records batch → ⊥ }
+    ensures taken { result ≡ true → (layout : ℕ) → TakesRecords layout inputs.old.items inputs.new.items count bytes.now [] }
+    ensures broken { result ≡ false → (layout : ℕ) (batch : List Input) → length batch ≡ count → HaveRecords layout batch → bytes.now ≡ records batch → ⊥ }
     ensures room { result ≡ true → 9 * (vec_capacity inputs.old - vec_len inputs.old) ≤ 9 * (vec_capacity inputs.new - vec_len inputs.new) + length bytes.now }
 {
     let mut rest = bytes;
@@ -63,7 +63,8 @@ fn take_records(inputs: &mut Vec<Input>, bytes: &[u8], count: usize) -> bool
 /// Takes the inputs of the frame at the head, and tells how long it is.
 pub(crate) fn take_frame(inputs: &mut Vec<Input>, tail: &[u8]) -> Option<usize>
     requires room { length tail.now ≤ 9 * (vec_capacity inputs.old - vec_len inputs.old) }
-    ensures frame { MatchOption result (NoFrame tail.now) (λ size. TakesFrame inputs.old.items inputs.new.items tail.now size) }
+    ensures frame { MatchOption result ((layout : ℕ) → NoFrame layout tail.now) (λ size. (layout : ℕ) → TakesFrame layout inputs.old.items inputs.new.items tail.now size) }
+    ensures size { MatchOption result (Unit {0}) (λ size. size ≤ length tail.now) }
     ensures room { MatchOption result (Unit {0}) (λ size. 9 * (vec_capacity inputs.old - vec_len inputs.old) ≤ 9 * (vec_capacity inputs.new - vec_len inputs.new) + size) }
 {
     let (count, records) = match head_of(tail) {

@@ -1,7 +1,7 @@
 //! A frame's bytes.
 ghost use Rattle.std.specs.Prelude.{◌≡◌, ◌≤◌, ◌+◌, ◌*◌, ◌^◌, ◌<◌, ◌++◌, ◌∷◌, [], length, IfOk, OnOk};
 ghost use Rattle.ring_records.specs.declared.limits.TheConstants.{BATCH_INPUTS};
-ghost use Rattle.ring_records.specs.Admission.{costs_of};
+ghost use Rattle.ring_records.specs.Admission.{costs_of, newest};
 ghost use Rattle.ring_records.specs.Record.{AreBytes, HasRecord, record_of};
 ghost use Rattle.gated_journal.specs.Frames.{IsFrame, records};
 
@@ -43,7 +43,7 @@ fn push_record(bytes: &mut Vec<u8>, input: &Input) -> Result<(), AllocError>
 pub(crate) fn spell(alloc: Global, inputs: &[Input]) -> Result<Vec<u8>, AllocError>
     requires some { 1 ≤ length inputs.now }
     requires few { length inputs.now ≤ BATCH_INPUTS }
-    ensures { IfOk result (λ bytes. IsFrame inputs.now bytes.items) }
+    ensures { IfOk result (λ bytes. IsFrame newest inputs.now bytes.items) }
 {
     let count = inputs.len() as u16;
     let len = cost_of(inputs) - 7 * u32::from(count);

@@ -9,7 +9,7 @@ pub returns-clause-fault : goal.returns-clause-fault
 returns-clause-fault c = one_fault
 
 pub returns-clause-frames : goal.returns-clause-frames
-returns-clause-frames c = not_both
+returns-clause-frames c = λ layout. not_both {layout = layout}
 
 pub returns-clause-gate_at : goal.returns-clause-gate_at
-returns-clause-gate_at c = damaged_once
+returns-clause-gate_at c = λ layout. damaged_once {layout = layout}

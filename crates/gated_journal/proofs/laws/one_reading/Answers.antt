@@ -9,4 +9,4 @@ pub returns-clause-header : goal.returns-clause-header
 returns-clause-header c = one_header
 
 pub returns-clause-frames : goal.returns-clause-frames
-returns-clause-frames c = unique
+returns-clause-frames c = λ layout. unique {layout = layout}
