@@ -211,6 +211,7 @@ impl<A: Node> Locked<A> {
         ensures count { IfOk result (λ landed. landed.count ≡ length (receipted receipt).inputs) }
         ensures kind { IfOk result (λ landed. landed.is_checkpoint ≡ is_checkpoint (receipted receipt)) }
         ensures few { IfOk result (λ landed. length landed.notices.items ≤ landed.count) }
+        ensures again { IfOk result (λ landed. landed.again.items ≡ landed.notices.items) }
         ensures brought { IfOk result (λ landed. IsBrought A.member A.opening (known_by tie.old).inputs (receipted receipt).inputs landed) }
         ensures packets { IfOk result (λ landed. (past : List Input) → IsPast A.member A.opening past
             → landed.packets.items ≡ packets A.member.node (durable_in (seen past self.old.shared.desk).state) (receipted receipt).inputs) }

@@ -1,5 +1,6 @@
 -- What contracts see of a board and of a reader.
 use Rattle.std.specs.Prelude.{ℕ, ◌≡◌, ◌+◌, ◌-◌, ◌^◌, ◌<◌, ◌≤◌, min, List, Option, Result, Ok, Err}
+use Rattle.std.specs.List.{flat_map}
 use Rattle.ring_records.specs.declared.candidate.Candidate.{Candidate}
 use Rattle.ring_records.specs.declared.key.Key.{Key}
 use Rattle.ring_records.specs.declared.notice.Notice.{Notice}
@@ -18,6 +19,10 @@ pending board = board.1
 
 abbrev pub refusals : BoardView → ℕ
 refusals board = board.2
+
+-- the notices that are owed, of one round after the other
+abbrev pub in_rounds : List (List Notice) → List Notice
+in_rounds rounds = flat_map (λ round. round) rounds
 
 -- a growth was refused from the one to the other: the count of these rose, save at 2^64 - 1, where it stays
 pub record LackedMemory (old new : BoardView) : Type 0 where

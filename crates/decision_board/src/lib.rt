@@ -17,5 +17,6 @@ mod told;
 
 pub use board::{Board, is_reader_count};
 pub use history::{Naming, Opened};
+pub use owed::Owed;
 pub use reader::BoardReader;
 pub use told::Told;

@@ -159,6 +159,7 @@ pub record Settles (outbox : Outbox) (landed : Landed) (waited : List Effects) (
   pub ready : IsReady landed (count - i)
   pub packets : landed.packets.items ≡ carried (take i waited)
   pub notices : landed.notices.items ≡ told_in (take i waited)
+  pub again : landed.again.items ≡ landed.notices.items
   pub counts : landed.count ≡ count
 
 pub settles_none : (me : ℕ) (old new : Outbox) (landed : Landed) (s : Summary) (list : List Notice) (l : List Input) (count : ℕ) → 0 < count → Holds me old s list l count
@@ -172,6 +173,7 @@ settles_none me old new landed s list l count some holds same released waits bla
       ready = subst (λ (p : Landed × ℕ). IsReady p.0 p.1) (λ i. (sym same i, all i)) (holds.ready some);
       packets = (λ i. (same i).packets.items) ∙ holds.blank.packets;
       notices = (λ i. (same i).notices.items) ∙ holds.blank.notices;
+      again = (λ i. (same i).again.items) ∙ (holds.blank.again ∙ sym ((λ i. (same i).notices.items) ∙ holds.blank.notices));
       counts = (λ i. (same i).count) ∙ holds.count some;
     }
 
@@ -180,8 +182,8 @@ settles_end outbox landed waited count i all settles = subst (Settles outbox lan
 
 pub settles_next : (old new : Outbox) (landed now : Landed) (waited : List Effects) (count i : ℕ) (effects : Effects) → Settles old landed waited count i → i < count → old.waiting.items ≡ effects ∷ new.waiting.items
     → IsBlank new.landing → ((k : ℕ) → HasRoom old.released (k + 1) → HasRoom new.released k) → ((k : ℕ) → IsReady landed (k + 1) → IsReady now k)
-    → now.packets.items ≡ landed.packets.items ++ cons_option effects.carry [] → now.notices.items ≡ landed.notices.items ++ cons_option effects.notice [] → now.count ≡ landed.count → Settles new now waited count (i + 1)
-settles_next old new landed now waited count i effects settles less split blank room ready packets notices counts =
+    → now.packets.items ≡ landed.packets.items ++ cons_option effects.carry [] → now.notices.items ≡ landed.notices.items ++ cons_option effects.notice [] → now.again.items ≡ landed.again.items ++ cons_option effects.notice [] → now.count ≡ landed.count → Settles new now waited count (i + 1)
+settles_next old new landed now waited count i effects settles less split blank room ready packets notices again counts =
     let left : count - i ≡ count - (i + 1) + 1 = omega (arith, less) in
     let goes = passes i waited new.waiting.items effects (sym settles.waits ∙ split) in
     record {
@@ -191,6 +193,7 @@ settles_next old new landed now waited count i effects settles less split blank 
       ready = ready (count - (i + 1)) (subst (IsReady landed) left settles.ready);
       packets = packets ∙ ap (λ l. l ++ cons_option effects.carry []) settles.packets ∙ sym (ap carried goes.0 ∙ filter_map-push (λ (e : Effects). e.carry) (take i waited) effects);
       notices = notices ∙ ap (λ l. l ++ cons_option effects.notice []) settles.notices ∙ sym (ap told_in goes.0 ∙ filter_map-push (λ (e : Effects). e.notice) (take i waited) effects);
+      again = again ∙ (ap (λ l. l ++ cons_option effects.notice []) settles.again ∙ sym notices);
       counts = counts ∙ settles.counts;
     }
 

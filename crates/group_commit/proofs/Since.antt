@@ -1,10 +1,9 @@
 -- A desk's state since its opening, by what is known: what happens to it, and that it fits.
-use Rattle.std.proofs.Common.{◌≡◌, ℕ, ◌+◌, ◌*◌, ◌<◌, ◌≤◌, List, [], ◌∷◌, ◌++◌, ◌||◌, false, append-nil, length, take, drop, Option, Some, None, inl, inr, refl, sym, ap, ◌∙◌, subst, arith}
+use Rattle.std.proofs.Common.{◌≡◌, ℕ, ◌+◌, ◌<◌, ◌≤◌, List, [], ◌∷◌, ◌++◌, ◌||◌, false, append-nil, length, take, drop, Option, Some, None, refl, sym, ap, ◌∙◌, subst, arith}
 use Rattle.std.specs.FinMap as map
 use Rattle.std.specs.List.{cons_option, list_any, sum_by}
 use Rattle.std.specs.Prelude.{unwrap_or}
-use Rattle.std.proofs.Math.Nat.{eq-or-lt_of_le}
-use Rattle.std.proofs.lemmas.List.{length-append, length-take, length-take-le, length-drop, take_all, drop_all, take-take, take-append-drop, take-append-le, drop-append-le}
+use Rattle.std.proofs.lemmas.List.{length-append, length-take, length-take-le, take_all, drop_all, take-take, take-append-drop, take-append-le, drop-append-le}
 use Rattle.std.proofs.lemmas.List.Folds.{list_any-append}
 use Rattle.std.proofs.lemmas.List.Sums.{fold-append, sum_by-append}
 use Rattle.std.proofs.lemmas.Option.{same_Some}
@@ -29,7 +28,7 @@ use Rattle.group_commit.specs.Desk.{epochs}
 use Rattle.group_commit.specs.Kept.{area_behind, state_with}
 use Rattle.group_commit.specs.Opening.{opened_core, core_after, room_past, IsOpenTo, IsKnownLawful}
 use Rattle.group_commit.specs.Since.{IsOpenSince, IsLawfulSince, IsAreaOf, IsKnownState, core_in}
-use Rattle.group_commit.proofs.Costs.{base_stays, costs_least, durable_costs, used-joined}
+use Rattle.group_commit.proofs.Costs.{used-joined}
 use Rattle.group_commit.proofs.Opening.{objects_none, EachAfter-from}
 use Rattle.group_commit.proofs.Settling.{after-push}
 
@@ -243,7 +242,7 @@ known_landed m opening s known =
 -- ---- room
 
 -- what stands behind the base fits
-all_fit : (m : Member) (opening : Summary) (base : Base) (l : List Input) → IsLawfulSince m opening base l → base.inputs < length l → used base l ≤ m.capacity
+pub all_fit : (m : Member) (opening : Summary) (base : Base) (l : List Input) → IsLawfulSince m opening base l → base.inputs < length l → used base l ≤ m.capacity
 all_fit m opening base l lawful some =
     along (IsOpenSince m opening base) (λ g. base.inputs < length g → used base g ≤ m.capacity) (λ g x free _. λ behind. one g x free behind) [] l lawful (λ none. absurd (omega (arith, none))) some
   where
@@ -284,19 +283,6 @@ counted f some (x ∷ xs) =
     let few = counted f some xs in
     let one = some x in
     omega (arith, few, one, sum_by-append f (x ∷ []) xs)
-
--- what is not durable takes no more than the capacity, where no checkpoint flies
-pub few_wait : (m : Member) (opening : Summary) (s : NodeState) → s.checkpoint ≡ None → IsKnownState m opening s → 16 * length (drop s.durable s.inputs) ≤ m.capacity
-few_wait m opening s none known = elim (eq-or-lt_of_le within) [
-  | inl all ↦ omega (arith, length-drop s.durable s.inputs, all)
-  | inr some ↦ (
-      let lawful = subst (λ (b : Base). IsLawfulSince m opening b s.inputs) (base_stays s none) known.all in
-      let fit = all_fit m opening s.base s.inputs lawful (omega (arith, known.counts.based, some)) in
-      omega (arith, fit, durable_costs s known.counts, costs_least (drop s.durable s.inputs)))
-]
-  where
-    within : s.durable ≤ length s.inputs
-    within = omega (arith, known.counts.durable, known.counts.flying)
 
 -- ---- snapshots
 

@@ -76,7 +76,6 @@ pub record IsNextCheckpoint (m : Member) (opening : Summary) (known : Durable) (
   pub first : (numbered_by made).first ≡ opening.inputs + length known.inputs
   pub snapshot : (numbered_by made).snapshot ≡ Some (snapshot_len newest (base_by made))
   pub summary : base_by made ≡ after m.node opening (known.inputs ++ (numbered_by made).inputs)
-  pub few : 16 * length (numbered_by made).inputs ≤ m.capacity
   pub filled : m.capacity < 2 * (used known.base known.inputs + costs_of (numbered_by made).inputs)
   pub short : 4 * snapshot_len newest (base_by made) ≤ m.capacity
   pub sound : IsNodeOf m.n m.node → IsSound m.n (base_by made)

@@ -77,11 +77,13 @@ pub record HasRoom (released : Released) (count : ℕ) : Type 0 where
 pub record IsReady (landed : Landed) (count : ℕ) : Type 0 where
   pub packets : vec_len landed.packets + (count + 1) ≤ vec_capacity landed.packets
   pub notices : vec_len landed.notices + count ≤ vec_capacity landed.notices
+  pub again : vec_len landed.again + count ≤ vec_capacity landed.again
 
 -- nothing landed yet
 pub record IsBlank (landed : Landed) : Type 0 where
   pub packets : landed.packets.items ≡ []
   pub notices : landed.notices.items ≡ []
+  pub again : landed.again.items ≡ []
 
 -- It has what the durable inputs, by which node me knows s, let it release, with these notices, and what each input of l
 -- brings, which wait behind them. So many of these fly, and land without memory.

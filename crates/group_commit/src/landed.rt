@@ -1,5 +1,5 @@
 // What a batch or a checkpoint brought.
-ghost use Rattle.std.specs.Prelude.{◌≡◌, ◌+◌, ◌^◌, ◌++◌, ◌∷◌, ◌≤◌, ◌<◌, ℕ, [], IfOk, vec_len, vec_capacity};
+ghost use Rattle.std.specs.Prelude.{◌≡◌, ◌+◌, ◌^◌, ◌++◌, ◌∷◌, ◌≤◌, ◌<◌, ℕ, [], false, IfOk, vec_len, vec_capacity};
 ghost use Rattle.std.specs.List.{cons_option};
 ghost use Rattle.ring_records.specs.declared.packet.Packet.TheVariants.{Credit};
 
@@ -9,7 +9,8 @@ use ring_records::{Notice, Packet};
 use std::alloc::{AllocError, Global};
 use std::mem::replace;
 
-/// What may be released once a batch or a checkpoint is durable.
+/// What may be released once a batch or a checkpoint is durable. The notices are there twice: for who releases them, and
+/// for who keeps them until a board has memory for them.
 #[derive(Drop)]
 pub struct Landed {
     /// How many inputs became durable, at most 64 of a batch.
@@ -21,6 +22,7 @@ pub struct Landed {
     pub packets: Vec<Packet>,
     /// What they tell a board, in order: the leaders that they made known.
     pub notices: Vec<Notice>,
+    again: Vec<Notice>,
 }
 
 impl Landed {
@@ -34,17 +36,29 @@ impl Landed {
         syncs(self.is_checkpoint)
     }
 
-    // Of no inputs.
-    pub(crate) fn new(alloc: Global) -> Landed
+    /// The notices once more, as a list to keep, which takes no memory. After that it has none to give.
+    pub fn take_notices(&mut self) -> Vec<Notice>
+        ensures again { result ≡ self.old.again }
+        ensures same { self.new ≡ record self.old { again = self.new.again } }
+    {
+        let alloc = *self.packets.allocator();
+        replace(&mut self.again, Vec::new(alloc))
+    }
+
+    /// Of no inputs.
+    pub fn new(alloc: Global) -> Landed
         ensures count { result.count ≡ 0 }
+        ensures kind { result.is_checkpoint ≡ false }
         ensures packets { result.packets.items ≡ [] }
         ensures notices { result.notices.items ≡ [] }
+        ensures again { result.again.items ≡ [] }
     {
         Landed {
             count: 0,
             is_checkpoint: false,
             packets: Vec::new(alloc),
             notices: Vec::new(alloc),
+            again: Vec::new(alloc),
         }
     }
 
@@ -54,6 +68,7 @@ impl Landed {
         ensures count { IfOk result (λ landed. landed.count ≡ count) }
         ensures packets { IfOk result (λ landed. landed.packets.items ≡ []) }
         ensures notices { IfOk result (λ landed. landed.notices.items ≡ []) }
+        ensures again { IfOk result (λ landed. landed.again.items ≡ []) }
         ensures room { IfOk result (λ landed. IsReady landed count) }
     {
         Ok(Landed {
@@ -61,6 +76,7 @@ impl Landed {
             is_checkpoint: false,
             packets: Vec::with_capacity(alloc, count as usize + 1)?,
             notices: Vec::with_capacity(alloc, count as usize)?,
+            again: Vec::with_capacity(alloc, count as usize)?,
         })
     }
 
@@ -69,6 +85,7 @@ impl Landed {
         ensures given { result ≡ self.old }
         ensures packets { self.new.packets.items ≡ [] }
         ensures notices { self.new.notices.items ≡ [] }
+        ensures again { self.new.again.items ≡ [] }
     {
         let alloc = *self.packets.allocator();
         replace(self, Landed::new(alloc))
@@ -79,11 +96,13 @@ impl Landed {
         requires room { IsReady self.old 1 }
         ensures packets { self.new.packets.items ≡ self.old.packets.items ++ cons_option effects.now.carry [] }
         ensures notices { self.new.notices.items ≡ self.old.notices.items ++ cons_option effects.now.notice [] }
+        ensures again { self.new.again.items ≡ self.old.again.items ++ cons_option effects.now.notice [] }
         ensures count { self.new.count ≡ self.old.count }
         ensures room { (k : ℕ) → IsReady self.old (k + 1) → IsReady self.new k }
     {
         push_carry(&mut self.packets, &effects.carry);
         push_notice(&mut self.notices, &effects.notice);
+        push_notice(&mut self.again, &effects.notice);
     }
 
     // Adds the credit of all messages that were taken.
@@ -91,6 +110,7 @@ impl Landed {
         requires room { IsReady self.old 0 }
         ensures packets { self.new.packets.items ≡ self.old.packets.items ++ Credit upto ∷ [] }
         ensures notices { self.new.notices.items ≡ self.old.notices.items }
+        ensures again { self.new.again.items ≡ self.old.again.items }
         ensures count { self.new.count ≡ self.old.count }
     {
         push_packet(&mut self.packets, &Packet::Credit { upto });

@@ -108,6 +108,7 @@ impl Outbox {
         ensures count { result.count ≡ length inputs.now }
         ensures packets { result.packets.items ≡ carried (take (length inputs.now) self.old.waiting.items) ++ credit_since self.old.released.taken self.new.released.taken }
         ensures notices { result.notices.items ≡ told_in (take (length inputs.now) self.old.waiting.items) }
+        ensures again { result.again.items ≡ result.notices.items }
         ensures holds { (me n : ℕ) (s : Summary) (list : List Notice) (rest : List Input) → Holds me self.old s list (inputs.now ++ rest) (length inputs.now) → AreFree me n s inputs.now
             → Holds me self.new (after me s inputs.now) (list ++ result.notices.items) rest 0 }
     {
@@ -124,6 +125,7 @@ impl Outbox {
         ensures count { result.count ≡ length inputs.now }
         ensures packets { result.packets.items ≡ carried (take (length inputs.now) self.old.waiting.items) ++ credit_since self.old.released.taken self.new.released.taken }
         ensures notices { result.notices.items ≡ told_in (take (length inputs.now) self.old.waiting.items) }
+        ensures again { result.again.items ≡ result.notices.items }
         ensures holds { (me n : ℕ) (s : Summary) (list : List Notice) (rest : List Input) → Holds me self.old s list (inputs.now ++ rest) (length inputs.now) → AreFree me n s inputs.now
             → Holds me self.new (after me s inputs.now) (list ++ result.notices.items) rest 0 }
     {

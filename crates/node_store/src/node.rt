@@ -277,12 +277,7 @@ impl<D: Device> Node<D> {
     {
         match self.desk.launch() {
             Err(refusal) => Err(refusal),
-            Ok(None) => Ok(Landed {
-                count: 0,
-                is_checkpoint: false,
-                packets: Vec::new(self.alloc),
-                notices: Vec::new(self.alloc),
-            }),
+            Ok(None) => Ok(Landed::new(self.alloc)),
             Ok(Some(batch)) => match settle(&mut self.desk, &mut self.journal, Work::Batch(batch)) {
                 Ok(landed) => Ok(landed),
                 Err(failures) => Err(Refusal::Device(failures)),

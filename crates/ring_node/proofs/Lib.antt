@@ -5,3 +5,4 @@ pub mod Ring
 pub mod Sending
 pub mod Serving
 pub mod Shown
+pub mod Waits

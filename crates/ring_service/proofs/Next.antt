@@ -1,5 +1,5 @@
 -- What a hub launches, and the journal of its flusher takes.
-use Rattle.std.proofs.Common.{◌≡◌, ◌+◌, ◌-◌, ◌*◌, ◌≤◌, inl, inr, ℕ, Bool, List, ◌++◌, length, drop, Option, Some, None, refl, sym, ap, ◌∙◌, subst, arith, length-append}
+use Rattle.std.proofs.Common.{◌≡◌, ◌+◌, ◌-◌, ◌≤◌, inl, inr, ℕ, Bool, List, ◌++◌, length, drop, Option, Some, None, refl, sym, ap, ◌∙◌, subst, arith, length-append}
 use Rattle.std.proofs.lemmas.List.{drop_all}
 use Rattle.std.proofs.lemmas.Option.{same_Some}
 use Rattle.ring_records.specs.declared.input.Input.{Input}
@@ -81,12 +81,6 @@ has member opening known len room epoch (works.Checkpoint made) based before nex
       left = ap (λ (o : Option ℕ). room_after o member.capacity (costs_of inputs) room) next.snapshot ∙ ap (λ k. member.capacity - k) (sym (alone known inputs (snapshot_len newest (base_by made))));
       area = ap (λ (o : Option ℕ). epoch_after o epoch) next.snapshot ∙ ap (λ k. k + 1) before.area;
     }
-
--- there are a sixteenth as many inputs as bytes of the capacity at most
-pub few : (member : Member) (opening : Summary) (known : Durable) (w : Work) → 4096 ≤ member.capacity → (summary_by w ≡ None → length (flown_by w).inputs ≤ 64)
-    → IsNext member opening known w → 16 * length (flown_by w).inputs ≤ member.capacity
-few member opening known (works.Batch batch) large some next = let count = some refl in omega (arith, count, large)
-few member opening known (works.Checkpoint made) large some next = next.few
 
 -- it is seen of the journal that it was written
 pub shows : (member : Member) (opening : Summary) (known : Durable) (before area : ℕ) (w : Work) (spoiled : Bool) → (summary_by w ≡ None → 1 ≤ length (flown_by w).inputs)

@@ -5,7 +5,7 @@ use Rattle.disk_model.specs.declared.device.Device as device
 use Rattle.ring_records.specs.declared.notice.Notice.{Notice}
 use Rattle.gated_journal.specs.Journal.{device_of}
 use Rattle.gated_journal.specs.declared.journal.Journal.{Journal}
-use Rattle.decision_board.specs.Boards.{BoardView, published, pending}
+use Rattle.decision_board.specs.Boards.{BoardView, published, pending, in_rounds}
 use Rattle.commit_hub.specs.declared.ledgers.Node as node
 use Rattle.commit_hub.specs.Holders.{known_by}
 use Rattle.commit_hub.specs.Tied.{Durable}
@@ -28,7 +28,7 @@ module _ {V J A : Type 0} {v : device.Ghosts V} {a : node.Ghosts A} {la : ledger
 
   -- the notices that the board could not take yet
   abbrev pub owed_of : Flusher V J A v a la → List Notice
-  owed_of flusher = flusher.owed.items
+  owed_of flusher = in_rounds flusher.owed.items
 
   -- all notices that it was told of, in order: published, taken by the board, and owed
   abbrev pub told_to : Flusher V J A v a la → List Notice

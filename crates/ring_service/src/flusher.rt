@@ -8,7 +8,7 @@ ghost use Rattle.gated_journal.specs.Journal.{device_of, member_of, len_of, room
 ghost use Rattle.gated_journal.specs.Reading.{Reading, device_size};
 ghost use Rattle.gated_journal.specs.Unread.{IsFault};
 ghost use Rattle.gated_journal.specs.Works.{reading_after};
-ghost use Rattle.decision_board.specs.Boards.{published, pending, refusals, LackedMemory};
+ghost use Rattle.decision_board.specs.Boards.{published, pending, refusals, in_rounds, LackedMemory};
 ghost use Rattle.commit_hub.specs.Holders.{known_by};
 ghost use Rattle.commit_hub.specs.Told.{IsBrought};
 ghost use Rattle.commit_hub.specs.Works.{flown_by, summary_by, IsNext};
@@ -18,11 +18,11 @@ ghost use Rattle.ring_service.specs.Props.{HasKnown-prop};
 
 use crate::gate::Gate;
 use commit_hub::{Hub, Node, Tie, Work};
-use decision_board::{Board, Naming};
+use decision_board::{Board, Naming, Owed};
 use disk_model::Device;
 use gated_journal::Journal;
 use group_commit::Landed;
-use ring_records::{Notice, Refusal};
+use ring_records::Refusal;
 use std::alloc::Global;
 use std::collections::VecDeque;
 use std::sync::Wait;
@@ -33,7 +33,7 @@ pub struct Flusher<V: Device, J: Naming, A: Node> {
     journal: Journal<V>,
     tie: Tie<A>,
     board: Board<J>,
-    owed: VecDeque<Notice>,
+    owed: VecDeque<Owed>,
     is_published: bool,
     has_ended: bool,
     ghost inside: { IsNodeOf A.member.n A.member.node },
@@ -124,8 +124,8 @@ impl<V: Device, J: Naming, A: Node> Flusher<V, J, A> {
             is_published,
             has_ended,
         } = self;
-        // Each input makes one leader known at most, and takes 16 bytes of the capacity at least, also where it waits.
-        if owed.reserve(journal.capacity() as usize / 16).is_err() {
+        // A place for what the board cannot take of this round.
+        if owed.reserve(1).is_err() {
             return Err(Refusal::OutOfMemory);
         }
         match hub.launch(rt, tie) {
@@ -138,8 +138,9 @@ impl<V: Device, J: Naming, A: Node> Flusher<V, J, A> {
                         *has_ended = true;
                         Err(refusal)
                     }
-                    Ok(landed) => {
-                        *is_published = board.publish_owed(rt, owed, &landed.notices).is_ok();
+                    Ok(mut landed) => {
+                        let told = landed.take_notices();
+                        *is_published = board.publish_owed(rt, owed, told).is_ok();
                         Ok(Some(landed))
                     }
                 }
@@ -163,11 +164,11 @@ impl<V: Device, J: Naming, A: Node> Flusher<V, J, A> {
         self.is_published
     }
 
-    /// The journal, the board, and the notices that the board could not take yet.
-    pub fn into_parts(self) -> (Journal<V>, Board<J>, VecDeque<Notice>)
+    /// The journal, the board, and the notices that the board could not take yet, a list for each round that told some.
+    pub fn into_parts(self) -> (Journal<V>, Board<J>, VecDeque<Owed>)
         ensures journal { result.0 ≡ journal_of self }
         ensures board { result.1 ≡ board_of self }
-        ensures owed { result.2.items ≡ owed_of self }
+        ensures owed { in_rounds result.2.items ≡ owed_of self }
     {
         let Flusher {
             journal,
@@ -198,7 +199,7 @@ fn settle<V: Device, A: Node, R: Wait>(
     ensures count { IfOk result (λ landed. landed.count ≡ length (flown_by work).inputs) }
     ensures kind { IfOk result (λ landed. landed.is_checkpoint ≡ is_some (summary_by work)) }
     ensures brought { IfOk result (λ landed. IsBrought A.member A.opening (known_by tie.old).inputs (flown_by work).inputs landed) }
-    ensures few { IfOk result (λ landed. length landed.notices.items ≤ length (flown_by work).inputs) }
+    ensures again { IfOk result (λ landed. landed.again.items ≡ landed.notices.items) }
     ensures durable { OnOk result ((r : Reading) → AllReadAs A.member (V.disk (device_of journal.old)) r
         → AllReadAs A.member (V.disk (device_of journal.new)) (reading_after (journal_epoch journal.old) (summary_by work) (flown_by work).inputs r)) }
     ensures ready { OnOk result (is_spoiled journal.new ≡ false) }

@@ -39,7 +39,7 @@ pub enum Play<'a> {
     Together(&'a Flags, Duo),
 }
 
-/// What a hub leaves: its journal, how many decisions are owed, and what it was settled with where its clients were
+/// What a hub leaves: its journal, how many rounds the board is owed, and what it was settled with where its clients were
 /// together.
 #[derive(Drop)]
 pub struct Ended<V: Device> {

@@ -27,7 +27,7 @@ const STAND_RED: Ask = Ask::Stand("red", 5, 10);
 
 const STAND_GREEN: Ask = Ask::Stand("green", 1, 3);
 
-/// How many inputs the journal has, whether it is spoiled, and how many decisions are owed.
+/// How many inputs the journal has, whether it is spoiled, and how many rounds the board is owed.
 fn counts<V: Device + Drop>(
     ended: Result<Ended<V>, Refusal>,
 ) -> Result<(u64, bool, usize), Refusal> {

@@ -109,6 +109,7 @@ impl Desk {
         ensures count { IfOk result (λ landed. landed.count ≡ self.old.view.state.flying - self.old.view.state.durable) }
         ensures kind { IfOk result (λ landed. landed.is_checkpoint ≡ is_checkpoint (receipted receipt)) }
         ensures few { IfOk result (λ landed. length landed.notices.items ≤ landed.count) }
+        ensures again { IfOk result (λ landed. landed.again.items ≡ landed.notices.items) }
         ensures fits { OnOk result (used self.new.view.state.base (durable_in self.new.view.state) ≤ self.new.view.member.capacity) }
         ensures packets { IfOk result (λ landed. (past : List Input) → IsPast self.old.view.member self.old.opening past
             → landed.packets.items ≡ packets self.old.view.member.node (durable_in (seen past self.old).state) (flying_in (seen past self.old).state)) }

@@ -1,6 +1,6 @@
 use Rattle.std.proofs.Common.{arith}
 use Rattle.std.proofs.lemmas.List.{length-drop}
-use Rattle.group_commit.proofs.Since.{few_wait}
+use Rattle.ring_node.proofs.Waits.{few_wait}
 use Rattle.ring_node.proofs.flight.waiting.Goals as goal
 
 pub returns-clause-few : goal.returns-clause-few

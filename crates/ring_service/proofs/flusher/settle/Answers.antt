@@ -20,10 +20,6 @@ write-requires-clause-taken g c =
     subst (λ (m : Member). IsTaken m (len_of journal) (room_of journal) (epoch_of journal) c.args.work) (sym c.requires.member)
     (takes g.A.Node.member g.A.Node.opening _ _ _ _ c.args.work c.requires.inside c.requires.known c.requires.next)
 
-pub returns-in-Ok-land-clause-few : goal.returns-in-Ok-land-clause-few
-returns-in-Ok-land-clause-few g c =
-    omega (arith, c.in-Ok-land.ensures.few, c.in-Ok-land.ensures.count, ap (λ (flown : Numbered). length flown.inputs) c.in-Ok.ensures.receipt)
-
 -- a work is a checkpoint where it has a summary
 kind : (w : Work) → is_checkpoint (flown_by w) ≡ is_some (summary_by w)
 kind (Batch batch) = refl

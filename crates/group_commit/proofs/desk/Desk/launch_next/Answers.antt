@@ -14,7 +14,6 @@ use Rattle.group_commit.specs.Next.{FliesLawfully, durable_part}
 use Rattle.group_commit.proofs.Checkpoints.{due, idle_free, may_launch}
 use Rattle.group_commit.proofs.Costs.{durable_costs, durable_count, flown_costs, launched_counts, not_durable}
 use Rattle.group_commit.proofs.Flies.{flies_all, flies_batch}
-use Rattle.group_commit.proofs.Since.{few_wait}
 use Rattle.group_commit.proofs.desk.Desk.launch_next.Goals as goal
 
 pub returns-in-Ok-clause-fits : goal.returns-in-Ok-clause-fits
@@ -33,7 +32,6 @@ returns-in-Ok-clause-fits c =
       first = ap (λ (n : Numbered). n.first) launch.checkpoint ∙ ap (λ k. desk.opening.inputs + k) (sym (durable_count s counts));
       snapshot = refl;
       summary = launch.summary ∙ ap (after m.node desk.opening) (sym (take-append-drop s.durable s.inputs) ∙ ap (λ l. durable_in s ++ l) (sym inputs));
-      few = subst (λ l. 16 * length l ≤ m.capacity) (sym inputs) (few_wait m desk.opening s (idle-none s idle) c.accepted-accepted.ensures.known);
       filled = (
           let base : used (launched_base s) s.inputs ≡ used s.base s.inputs = ap (λ (b : Base). used b s.inputs) (idle-base s idle) in
           omega (arith, is.filled, base, durable_costs s counts, ap costs_of inputs)

@@ -11,7 +11,7 @@ use Rattle.group_commit.proofs.outbox.Outbox.settle.Goals as goal
 pub loop-i-init : goal.loop-i-init
 loop-i-init c =
     let a = c.requires.holds in (
-      settles_none a.0 c.args.self.now _ _ a.2 a.3 _ (length c.args.inputs.now) c.requires.some a.5 c.hand_out-landed.ensures.given refl refl (record { packets = c.hand_out-landed.ensures.packets; notices = c.hand_out-landed.ensures.notices }),
+      settles_none a.0 c.args.self.now _ _ a.2 a.3 _ (length c.args.inputs.now) c.requires.some a.5 c.hand_out-landed.ensures.given refl refl (record { packets = c.hand_out-landed.ensures.packets; notices = c.hand_out-landed.ensures.notices; again = c.hand_out-landed.ensures.again }),
       λ me n s list rest holds free. (subst (Keeps c.args.self.now.released s) (sym (append-nil list)) holds.released),
     )
 
@@ -38,7 +38,7 @@ loop-i-preserved c =
     let settles = c.loop-i.invariant.0 in
     let split = c.in-Some.ensures.items ∙ ap (λ (e : Effects). e ∷ c.pop_front.new.self.items) (sym c.brought.view_is) in (
       settles_next c.loop-i.self _ c.loop-i.landed _ c.args.self.now.waiting.items (length c.args.inputs.now) c.loop-i.i c.brought.inside.effects settles c.loop-i-test.true split settles.blank
-          c.add.ensures.room c.add-in-loop-i.ensures.room c.add-in-loop-i.ensures.packets c.add-in-loop-i.ensures.notices c.add-in-loop-i.ensures.count,
+          c.add.ensures.room c.add-in-loop-i.ensures.room c.add-in-loop-i.ensures.packets c.add-in-loop-i.ensures.notices c.add-in-loop-i.ensures.again c.add-in-loop-i.ensures.count,
       λ me n s list rest holds free.
           let brings = first_of c.brought.inside.effects (sym split ∙ (settles.waits ∙ brings_next me s c.args.inputs.now rest c.args.self.now.waiting.items c.loop-i.i x holds.waiting here)) in
           keeps_next me c.add.new.self s list c.args.inputs.now c.args.self.now.waiting.items c.pop_front.new.self.items c.loop-i.i x c.brought.inside.effects here (sym settles.waits ∙ split)
@@ -58,3 +58,9 @@ returns-else-self-taken-clause-holds c = λ me n s list rest holds free.
     let settles = settles_end _ _ _ _ c.loop-i.i all c.loop-i.invariant.0 in
     holds_landed me c.args.self.now c.loop-i.self c.loop-i.landed s list _ c.args.inputs.now rest holds settles
     (subst (λ k. Keeps c.loop-i.self.released (after me s (take k c.args.inputs.now)) (list ++ told_in (take k c.args.self.now.waiting.items))) all (c.loop-i.invariant.1 me n s list rest holds free)) settles.notices
+
+pub returns-then-self-taken-clause-again : goal.returns-then-self-taken-clause-again
+returns-then-self-taken-clause-again c = c.credit.ensures.again ∙ (c.loop-i.invariant.0.again ∙ sym c.credit.ensures.notices)
+
+pub returns-else-self-taken-clause-again : goal.returns-else-self-taken-clause-again
+returns-else-self-taken-clause-again c = c.loop-i.invariant.0.again

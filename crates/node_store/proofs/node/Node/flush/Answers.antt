@@ -34,14 +34,14 @@ unfolding packets carries credits found_after taken
 returns-in-Ok-None-clause-packets g c = λ past is.
     let desk = c.args.self.now.desk in
     let none = none_behind past desk.view.state (rw c.in-Ok-None.field-0-is at c.in-Ok-None.ensures.none) in
-    c.new.ensures.items ∙ ap (packets desk.view.member.node (durable_in (seen past desk).state)) (sym none)
+    c.new.ensures.packets ∙ ap (packets desk.view.member.node (durable_in (seen past desk).state)) (sym none)
 
 pub returns-in-Ok-None-clause-notices : goal.returns-in-Ok-None-clause-notices
 unfolding notices found_after
 returns-in-Ok-None-clause-notices g c = λ past is.
     let desk = c.args.self.now.desk in
     let none = none_behind past desk.view.state (rw c.in-Ok-None.field-0-is at c.in-Ok-None.ensures.none) in
-    c.new-in-Ok-None.ensures.items ∙ ap (notices desk.view.member.node (durable_in (seen past desk).state)) (sym none)
+    c.new.ensures.notices ∙ ap (notices desk.view.member.node (durable_in (seen past desk).state)) (sym none)
 
 pub returns-in-Ok-None-clause-durable : goal.returns-in-Ok-None-clause-durable
 returns-in-Ok-None-clause-durable g c =

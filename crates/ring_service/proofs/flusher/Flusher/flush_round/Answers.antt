@@ -2,6 +2,7 @@ use Rattle.std.proofs.Common.{ℕ, sym, ap, subst, arith, ◌∙◌}
 use Rattle.ring_records.specs.Member.{Member}
 use Rattle.gated_journal.specs.Journal.{device_of, member_of, epoch_of}
 use Rattle.gated_journal.specs.Areas.{AllReadAs}
+use Rattle.group_commit.specs.declared.landed.Landed.{Landed}
 use Rattle.commit_hub.specs.Holders.{known_by}
 use Rattle.gated_journal.specs.Reading.{Reading}
 use Rattle.commit_hub.specs.Tied.{Durable}
@@ -44,13 +45,14 @@ returns-in-Ok-clause-round g c =
     let behind = g.V.Device.disk (device_of c.settle.new.journal) in
     let next = of_some c.in-Ok-Some.field-0 w (IsNext m o (known_by c.args.self.now.tie)) c.in-Ok-Some.field-0-is c.in-Ok-Some.ensures.next in
     let same = c.launch.ensures.tie in
+    let kept = c.take_notices-told.ensures.same in
     record {
       inputs = inputs;
       base = summary_by w;
       made = makes m o _ w (λ e. omega (arith, (c.count.ensures.size e).1, c.count.ensures.value)) next;
       some = λ e. omega (arith, (c.count.ensures.size e).0, c.count.ensures.value);
-      count = c.in-Ok.ensures.count;
-      kind = c.in-Ok.ensures.kind;
+      count = ap (λ (l : Landed). l.count) kept ∙ c.in-Ok.ensures.count;
+      kind = ap (λ (l : Landed). l.is_checkpoint) kept ∙ c.in-Ok.ensures.kind;
       next = c.in-Ok.ensures.next ∙ ap (known_behind (summary_by w) inputs) same;
       durable = subst (λ (k : ℕ). (r : Reading) → AllReadAs m disk r → AllReadAs m behind (reading_after k (summary_by w) inputs r)) (c.args.self.now.known c.if-self.false).area c.in-Ok.ensures.durable;
       within = (
@@ -59,7 +61,15 @@ returns-in-Ok-clause-round g c =
           λ r reads. moments g.V.Device.clock g.V.Device.left_since (device_of journal) (device_of c.settle.new.journal) (member_of journal) m (known_by c.args.self.now.tie) (epoch_of journal) r inputs (summary_by w)
           of (c.args.self.now.known c.if-self.false).area (c.settle.ensures.any_moment r (subst (λ (x : Member). AllReadAs x disk r) (sym of) reads))
           );
-      brought = subst (λ (d : Durable). IsBrought m o d.inputs inputs c.in-Ok.landed) same c.in-Ok.ensures.brought;
+      brought = λ past is.
+          let brought = subst (λ (d : Durable). IsBrought m o d.inputs inputs c.in-Ok.landed) same c.in-Ok.ensures.brought past is in
+          record {
+            state = brought.state;
+            lawful = brought.lawful;
+            durable = brought.durable;
+            packets = ap (λ (l : Landed). l.packets.items) kept ∙ brought.packets;
+            notices = ap (λ (l : Landed). l.notices.items) kept ∙ brought.notices;
+          };
     }
 
 pub returns-in-Err-settle-clause-any_moment : goal.returns-in-Err-settle-clause-any_moment
