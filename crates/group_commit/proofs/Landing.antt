@@ -17,7 +17,7 @@ use Rattle.ring_records.specs.Emission.{sent, carry}
 use Rattle.ring_records.specs.History.{taken, credit}
 use Rattle.ring_records.specs.Known.{Objects, stepped, after}
 use Rattle.ring_records.specs.Leader.{told}
-use Rattle.ring_records.specs.Lists.{found_after, EachAfter}
+use Rattle.ring_records.specs.Lists.{EachAfter}
 use Rattle.ring_records.specs.Member.{Member}
 use Rattle.ring_records.specs.Notices.{decided_all}
 use Rattle.ring_records.specs.Release.{carries, credit_where, credits, packets, notices}

@@ -9,7 +9,7 @@ use Rattle.ring_records.specs.declared.base.Base.{Base}
 use Rattle.ring_records.specs.declared.input.Input.{Input}
 use Rattle.ring_records.specs.declared.request.Request.{Request}
 use Rattle.ring_records.specs.declared.summary.Summary.{Summary}
-use Rattle.ring_records.specs.Admission.{area_bytes, newest, IsAllowed, IsAdmitted, IsBaseOf, IsLawful}
+use Rattle.ring_records.specs.Admission.{newest, IsAllowed, IsAdmitted, IsBaseOf, IsLawful}
 use Rattle.ring_records.specs.Known.{Objects, after}
 use Rattle.ring_records.specs.Lists.{EachAfter}
 use Rattle.ring_records.specs.Member.{Member}

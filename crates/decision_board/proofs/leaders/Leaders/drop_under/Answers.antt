@@ -2,7 +2,7 @@ use Rattle.std.proofs.Common.{sym, ◌∙◌, ap}
 use Rattle.decision_board.proofs.Maps.{fewer, without_one, without_none}
 use Rattle.decision_board.specs.Leaders.{LeaderMap, without}
 use Rattle.std.specs.FinMap as map
-use Rattle.std.proofs.Common.{subst, ◌<◌, ◌≡◌}
+use Rattle.std.proofs.Common.{subst, ◌<◌}
 use Rattle.decision_board.proofs.leaders.Leaders.drop_under.Goals as goal
 
 pub loop-key-smaller : goal.loop-key-smaller

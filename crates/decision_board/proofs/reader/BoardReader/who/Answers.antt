@@ -1,4 +1,4 @@
-use Rattle.std.proofs.Common.{◌≡◌, ◌⊎◌, ◌<◌, ◌∙◌, ℕ, Option, Result, Some, IfOk, ap, sym, subst, inl, inr, arith, List}
+use Rattle.std.proofs.Common.{◌≡◌, ◌∙◌, Option, Result, Some, IfOk, ap, sym, subst, inl, inr, arith, List}
 use mathlib.Core.List.{IsPrefix}
 use Rattle.ring_records.specs.declared.candidate.Candidate.{Candidate}
 use Rattle.ring_records.specs.declared.notice.Notice.{Notice}
