@@ -62,8 +62,7 @@ module _ (header : Member) (new rest : List ℕ) (from : 4096 ≤ header.capacit
           blank = ap (λ (l : List ℕ). number_at 2 14 l) whole;
         };
         areas = record { both = omega arith; one = λ ne. absurd (ne refl) };
-        gate = same;
-        base = stage.base;
+        begins = inl (same, stage.base);
         older = λ c. absurd (none c);
         frames = stage.frames;
         within = omega (arith, from);

@@ -114,8 +114,7 @@ pub area_found : (header : Member) (image : List ℕ) (chosen : Chosen) (r : Rea
 area_found header image chosen r gate_at head used base frames within = record {
   head = head;
   areas = used.areas;
-  gate = used.area.counts.gate;
-  base = base;
+  begins = inl (used.area.counts.gate, base);
   older = λ counts. subst (λ (k : ℕ). epoch_at chosen.other image < k) (sym base.epoch) (used.area.older counts);
   frames = frames;
   within = within;

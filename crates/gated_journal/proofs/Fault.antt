@@ -1,27 +1,33 @@
 -- An image has one reading or one fault.
-use Rattle.std.proofs.Common.{◌≡◌, ◌⊎◌, inl, inr, ⊎_elim, ℕ, ◌+◌, ◌≤◌, ◌<◌, List, length, Ok, Err, sym, ◌∙◌, ap, subst, arith}
+use Rattle.std.proofs.Common.{◌≡◌, ◌⊎◌, inl, inr, ⊎_elim, get_or, ℕ, ◌+◌, ◌≤◌, ◌<◌, List, length, Ok, Err, sym, ◌∙◌, ap, subst, arith}
 use Rattle.ring_records.specs.declared.refusal.Refusal.{Refusal}
 use Rattle.ring_records.specs.declared.refusal.Refusal.TheVariants.{Damaged}
 use Rattle.ring_records.specs.Member.{Member}
 use Rattle.ring_records.specs.Snapshot.{Spells}
-use Rattle.gated_journal.specs.Areas.{AreAreas, epoch_at, snapshot_at, Counts, HasBase, ReadsAt, ReadsAs}
+use Rattle.gated_journal.specs.Areas.{AreAreas, epoch_at, snapshot_at, Counts, HasBase, IsPlain, ReadsAt, ReadsAs}
 use Rattle.gated_journal.specs.Choose.{IsChosen, IsUnchosen}
 use Rattle.gated_journal.specs.Damage.{IsBroken, IsHeadBroken, GoesPast, AreFramesBroken, IsAreaBroken, AreAreasUnread}
 use Rattle.gated_journal.specs.Frames.{ReadsTo}
-use Rattle.gated_journal.specs.Reading.{Reading}
+use Rattle.gated_journal.specs.Reading.{Reading, mark, old_mark}
 use Rattle.gated_journal.specs.Unread.{header_at, IsUnread}
 use Rattle.gated_journal.proofs.AreaAlone.{counts}
 use Rattle.gated_journal.proofs.AreaBeside.{where_are}
-use Rattle.gated_journal.proofs.AreaKept.{low}
+use Rattle.gated_journal.proofs.AreaKept.{within}
 use Rattle.gated_journal.proofs.Head.{header_again, same_ok}
 use Rattle.gated_journal.proofs.Unique.{unique, not_both, damaged_once}
 
 -- ---- which area is read
 
+-- under this mark nothing is read plainly
+in_area : (header : Member) (image : List ℕ) (r : Reading) (start other offset gate_at : ℕ) → ReadsAt header image r start other offset gate_at → (get_or image start 0 ≡ 1) × HasBase header.n start image r offset
+in_area header image r start other offset gate_at read =
+    ⊎_elim (λ (a : (get_or image start 0 ≡ 1) × HasBase header.n start image r offset). a) (λ (p : IsPlain start image r offset). let marks : mark ≡ old_mark = sym read.head.marked ∙ p.marked in let bytes : 50 ≡ 49 = ap (λ (l : List ℕ). get_or l 7 0) marks in absurd (omega (arith, bytes))) read.begins
+
 -- the area that an image reads by is chosen
 chosen : (header : Member) (image : List ℕ) (r : Reading) (start other offset gate_at : ℕ) → ReadsAt header image r start other offset gate_at → IsChosen start other image
 chosen header image r start other offset gate_at read =
-    record { counts = counts header image r start other offset gate_at read; older = λ there. subst (λ (k : ℕ). epoch_at other image < k) read.base.epoch (read.older there) }
+    let area = in_area header image r start other offset gate_at read in
+    record { counts = counts header.n image r start offset area; older = λ there. subst (λ (k : ℕ). epoch_at other image < k) area.1.epoch (read.older there) }
 
 -- none other is
 one_chosen : (capacity : ℕ) (image : List ℕ) (start other start2 other2 : ℕ) → AreAreas capacity start other → AreAreas capacity start2 other2 → IsChosen start other image → IsChosen start2 other2 image → start ≡ start2
@@ -94,14 +100,17 @@ areas_read header image r start other offset gate_at refusal read unread =
     here : IsChosen start other image
     here = chosen header image r start other offset gate_at read
 
+    base_read : HasBase header.n start image r offset
+    base_read = (in_area header image r start other offset gate_at read).1
+
     at_start : (k : ℕ) → k ≡ start → ((refusal ≡ Damaged k) × IsHeadBroken header.n k image) ⊎ AreFramesBroken header.n header.capacity k image refusal → ⊥
-    at_start k same (inl head) = head_whole header.n start image r offset read.base (subst (λ (p : ℕ). IsHeadBroken header.n p image) same head.1)
+    at_start k same (inl head) = head_whole header.n start image r offset base_read (subst (λ (p : ℕ). IsHeadBroken header.n p image) same head.1)
     at_start k same (inr frames) =
         let base : HasBase header.n start image frames.reading frames.offset = subst (λ (p : ℕ). HasBase header.n p image frames.reading frames.offset) same frames.base in
         let cause : AreBroken frames.reading.layout (start + 14 + header.capacity) start frames.offset image refusal = subst (λ (p : ℕ). AreBroken frames.reading.layout (p + 14 + header.capacity) p frames.offset image refusal) same frames.cause in
         frames_whole (start + 14 + header.capacity) start offset image r gate_at refusal read.frames read.within
-        (subst (λ (k : ℕ). AreBroken k (start + 14 + header.capacity) start offset image refusal) (of_layout header.n start image frames.reading r frames.offset offset base read.base)
-        (subst (λ (p : ℕ). AreBroken frames.reading.layout (start + 14 + header.capacity) start p image refusal) (begins header.n start image frames.reading r frames.offset offset base read.base) cause))
+        (subst (λ (k : ℕ). AreBroken k (start + 14 + header.capacity) start offset image refusal) (of_layout header.n start image frames.reading r frames.offset offset base base_read)
+        (subst (λ (p : ℕ). AreBroken frames.reading.layout (start + 14 + header.capacity) start p image refusal) (begins header.n start image frames.reading r frames.offset offset base base_read) cause))
 
     broken : IsAreaBroken header.n header.capacity image refusal → ⊥
     broken b = at_start b.start (one_chosen header.capacity image b.start b.other start other b.areas read.areas b.area here) b.cause
@@ -132,7 +141,7 @@ areas_once n capacity image refusal other one two = both one.cause two.cause
 pub not_read : (node n : ℕ) (image : List ℕ) (refusal : Refusal) (header : Member) (r : Reading) → IsUnread node n image refusal → ReadsAs header image r → header.node ≡ node → header.n ≡ n → ⊥
 not_read node n image refusal header r unread read node_is n_is =
     let at = read.at in
-    let p = low header.n read.start image r read.offset read.gate_at at.base at.frames in
+    let p = within header.n read.start image r read.offset read.gate_at at.begins at.frames in
     let long : 17 ≤ length image =
     ⊎_elim (λ (a : (read.start ≡ 16) × (read.other ≡ 31 + header.capacity)). omega (arith, a.0, p)) (λ (b : (read.start ≡ 31 + header.capacity) × (read.other ≡ 16)). omega (arith, b.0, p)) (where_are header.capacity read.start read.other at.areas) in
     let found : header_at node n image ≡ Ok header.capacity = (λ i. header_at (sym node_is i) (sym n_is i) image) ∙ header_again header image long at.head in

@@ -1,7 +1,7 @@
 //! The heads of a journal's two areas, and which of them is read.
 ghost use Rattle.std.specs.Prelude.{◌≡◌, ◌+◌, ◌≤◌, ◌<◌, ◌^◌, ◌⊎◌, ℕ, List, length, Decides, MatchOption, IfOk, IfErr, OnOk};
 ghost use Rattle.disk_model.specs.Disk.{MayLeave, IsPart, LeavesOnly, Reaches, IsInReach};
-ghost use Rattle.gated_journal.specs.Areas.{area_a, area_b, AreAreas, Counts};
+ghost use Rattle.gated_journal.specs.Areas.{area_a, area_b, leaves_closed, AreAreas, Counts};
 ghost use Rattle.gated_journal.specs.Choose.{IsHeadOf, IsChosen, IsUnchosen, IsUsed, start_of, other_of};
 ghost use Rattle.gated_journal.specs.Damage.{AreAreasUnread};
 ghost use Rattle.gated_journal.specs.Unread.{IsFault};
@@ -31,6 +31,14 @@ pub(crate) struct Chosen {
     pub(crate) epoch: u64,
     // where its frames begin
     pub(crate) offset: u64,
+}
+
+/// Whether the gate of the area in use, whose closed gate is at `gate_at`, is closed itself: so it is where frames are read
+/// plainly, and there are none.
+pub(crate) fn leaves_closed(area: &Chosen, gate_at: u64) -> bool
+    ensures { result ≡ leaves_closed area.now.layout area.now.start gate_at }
+{
+    area.layout == 1 && gate_at == area.start
 }
 
 // One of the two areas.
