@@ -1,5 +1,5 @@
 -- An image reads as one reading in one way only.
-use Rattle.std.proofs.Common.{◌≡◌, ◌≢◌, inl, inr, arith, ℕ, ◌+◌, List, [], ◌∷◌, ◌++◌, length, drop, get_or, ap}
+use Rattle.std.proofs.Common.{◌≡◌, ◌≢◌, inl, inr, arith, ℕ, ◌+◌, List, [], ◌∷◌, ◌++◌, length, take, drop, get_or, ap, ◌⊎◌}
 use Rattle.std.proofs.Math.Path.{Σ_path, to_path_p}
 use Rattle.std.proofs.Props.{props}
 use Rattle.std.specs.Coded.{Coded-set, le_prop, Unit-prop, ×_prop}
@@ -17,8 +17,9 @@ use Rattle.ring_records.specs.Summary.{empty}
 use Rattle.gated_journal.specs.Areas.{Counts, AreAreas, HasBase, IsPlain, Begins, ReadsAt, ReadsAs}
 use Rattle.gated_journal.specs.Frames.{frames, joined, AreBatches, ReadsTo}
 use Rattle.gated_journal.specs.Props.{key_prop, candidate_prop, IsBatch-prop}
-use Rattle.gated_journal.specs.Reading.{Reading, HasHeader}
+use Rattle.gated_journal.specs.Reading.{Reading, mark, old_mark, HasHeader}
 use Rattle.gated_journal.proofs.AreaAlone.{alone}
+use Rattle.gated_journal.proofs.Head.{two_marks}
 use Rattle.gated_journal.proofs.Unique.{parts-unique}
 
 Inputs-set : IsSet (List Input)
@@ -115,9 +116,16 @@ Spells-prop layout n bytes s p q i =
 
 -- ---- a journal
 
+-- the marks are two
+Marked-prop : (image : List ℕ) → IsProp ((take 8 image ≡ mark) ⊎ (take 8 image ≡ old_mark))
+Marked-prop image (inl a) (inl b) = λ i. inl (Bytes-set _ _ a b i)
+Marked-prop image (inl a) (inr b) = absurd (two_marks image a b)
+Marked-prop image (inr a) (inl b) = absurd (two_marks image b a)
+Marked-prop image (inr a) (inr b) = λ i. inr (Bytes-set _ _ a b i)
+
 HasHeader-prop : (header : Member) (image : List ℕ) → IsProp (HasHeader header image)
 HasHeader-prop header image p q i = record {
-  marked = Bytes-set _ _ p.marked q.marked i;
+  marked = Marked-prop image p.marked q.marked i;
   node = Numbers-set _ _ p.node q.node i;
   n = Numbers-set _ _ p.n q.n i;
   capacity = Numbers-set _ _ p.capacity q.capacity i;

@@ -21,7 +21,8 @@ use std::alloc::{AllocError, Global};
 fn take_list(inputs: &mut Vec<Input>, at: u64, bytes: &[u8]) -> (Stage, usize)
     requires room { length bytes.now ≤ 9 * (vec_capacity inputs.old - vec_len inputs.old) }
     requires small { at + length bytes.now < 2 ^ 64 }
-    ensures lists { (layout : ℕ) (taken : List ℕ) → Lists layout taken inputs.old.items → IsListed layout result.0 (taken ++ take result.1 bytes.now) inputs.new.items (drop result.1 bytes.now) }
+    ensures lists { (layout : ℕ) (taken : List ℕ) → Lists layout taken inputs.old.items
+        → IsListed layout result.0 (taken ++ take result.1 bytes.now) inputs.new.items (drop result.1 bytes.now) }
     ensures waits { IsWaiting result.0 (drop result.1 bytes.now) }
     ensures damaged { (p : ℕ) → result.0 ≡ Stage.Damaged p → p ≡ at + result.1 }
     ensures size { result.1 ≤ length bytes.now }

@@ -1,4 +1,4 @@
-use Rattle.std.proofs.Common.{◌≡◌, ◌+◌, ◌++◌, ℕ, List, length, take, drop, sym, ap, subst, arith, length-drop}
+use Rattle.std.proofs.Common.{◌+◌, ◌++◌, ℕ, List, length, take, drop, ap, subst, arith, length-drop}
 use Rattle.std.proofs.lemmas.List.{drop-drop, take_rest}
 use Rattle.gated_journal.specs.Found.{IsWaiting}
 use Rattle.gated_journal.specs.Listed.{Lists, IsListed}

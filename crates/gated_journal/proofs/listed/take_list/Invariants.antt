@@ -1,5 +1,5 @@
 use Rattle.std.proofs.Common.{◌≡◌, ◌+◌, ◌-◌, ◌*◌, ◌≤◌, ◌++◌, ℕ, List, length, take, drop, vec_len, vec_capacity}
-use Rattle.gated_journal.specs.Found.{IsBefore, IsWaiting}
+use Rattle.gated_journal.specs.Found.{IsWaiting}
 use Rattle.gated_journal.specs.Listed.{Lists, IsListed}
 use Rattle.gated_journal.specs.declared.found.Stage.TheVariants.{Frames, Damaged}
 use Rattle.gated_journal.proofs.listed.take_list.Given as goal
