@@ -148,8 +148,6 @@ def read(image: bytes, me: int, nodes: int) -> tuple[State, int]:
         raise Refused("device 1")
     if len(image) <= HEAD or image[:8] not in (MARK, OLD_MARK):
         raise Refused("unformatted")
-    if image[:8] == OLD_MARK:
-        raise Refused("oldlayout 1")
     if (image[8], image[9]) != (me, nodes):
         raise Refused("wrongnode")
     capacity = int.from_bytes(image[10:14], "big")
@@ -159,17 +157,22 @@ def read(image: bytes, me: int, nodes: int) -> tuple[State, int]:
         raise Refused("damaged 14")
     epochs = {start: int.from_bytes(image[start + 2:start + 10].ljust(8, b"\0"), "big") for start in (HEAD, 31 + capacity)
               if image[start:start + 2] == b"\1\2"}
-    if not epochs or len(epochs) == 2 and len(set(epochs.values())) == 1:
+    is_plain = not epochs and image[:8] == OLD_MARK
+    if is_plain:
+        epochs = {HEAD: 0}
+    elif not epochs or len(epochs) == 2 and len(set(epochs.values())) == 1:
         raise Refused("damaged 16")
     start = max(epochs, key=epochs.get)
     size = int.from_bytes(image[start + 10:start + 14].ljust(4, b"\0"), "big")
     try:
-        if epochs[start] >= EPOCHS or len(image) < start + 14 + size:
+        if epochs[start] >= EPOCHS or not is_plain and len(image) < start + 14 + size:
             raise Short
-        state = State(me, nodes, capacity, image[start + 14:start + 14 + size])
+        state = State(me, nodes, capacity, bytes(38) if is_plain else image[start + 14:start + 14 + size])
     except Short:
         raise Refused(f"damaged {start}") from None
-    inputs, gate = frames(image, start + 14 + size)
+    if is_plain:
+        state.used = 0
+    inputs, gate = frames(image, start if is_plain else start + 14 + size)
     if gate > start + 14 + capacity:
         raise Refused(f"damaged {start}")
     for place, asked in enumerate(inputs):

@@ -1,14 +1,14 @@
 -- What an image reads as by its area, while one range of it changes.
-use Rattle.std.proofs.Common.{◌≡◌, ◌⊎◌, inl, inr, ⊎_elim, ℕ, ◌+◌, ◌-◌, ◌<◌, ◌≤◌, List, length, get_or, Bool, sym, ◌∙◌, arith}
+use Rattle.std.proofs.Common.{◌≡◌, ◌⊎◌, inl, inr, ⊎_elim, ℕ, ◌+◌, ◌-◌, ◌<◌, ◌≤◌, List, length, get_or, Bool, sym, ◌∙◌, subst, arith}
 use Rattle.std.proofs.lemmas.Bool.{cases_eq}
 use Rattle.disk_model.specs.Disk.{Changes}
 use Rattle.ring_records.specs.declared.input.Input.{Input}
 use Rattle.ring_records.specs.Member.{Member}
 use Rattle.gated_journal.specs.Frames.{ReadsTo}
-use Rattle.gated_journal.specs.Areas.{AreAreas, epoch_at, Counts, ReadsAt, IsGate}
+use Rattle.gated_journal.specs.Areas.{AreAreas, epoch_at, Counts, HasBase, IsPlain, Begins, ReadsAt, IsGate}
 use Rattle.gated_journal.specs.Reading.{Reading}
-use Rattle.gated_journal.proofs.AreaKept.{frames_kept, base_kept, base_behind, older_kept, low}
-use Rattle.gated_journal.proofs.Kept.{SameBytes, kept, fewer, byte_same, header_kept}
+use Rattle.gated_journal.proofs.AreaKept.{frames_kept, base_kept, base_behind, older_kept, never_counts, within}
+use Rattle.gated_journal.proofs.Kept.{SameBytes, kept, fewer, byte_same, take_same, header_kept}
 
 -- A before B, or B before A
 abbrev pub InOrder : ℕ → ℕ → ℕ → Type 0
@@ -31,8 +31,34 @@ module _ (header : Member) (image new : List ℕ) (r : Reading) (start other off
   at : InOrder capacity start other
   at = where_are capacity start other read.areas
 
-  places : (start + 14 ≤ offset) × (offset ≤ gate_at) × (gate_at < length image)
-  places = low header.n start image r offset gate_at read.base read.frames
+  places : (start ≤ offset) × (offset ≤ gate_at) × (gate_at < length image)
+  places = within header.n start image r offset gate_at read.begins read.frames
+
+  -- the frames end behind the header
+  frames_from : 16 ≤ gate_at
+  frames_from = let p = places in ⊎_elim (λ (a : (start ≡ 16) × (other ≡ 31 + capacity)). omega (arith, a.0, p)) (λ (b : (start ≡ 31 + capacity) × (other ≡ 16)). omega (arith, b.0, p)) at
+
+  pub image_long : 16 ≤ length image
+  image_long = let p = places in let from = frames_from in omega (arith, p, from)
+
+  -- what is read begins as before, where the bytes before its frames and the header stay
+  begins_kept : (inputs : List Input) (end : ℕ) → SameBytes 0 16 image new → offset ≤ length new → SameBytes start (offset - start) image new → ReadsTo r.layout offset new inputs end
+      → Begins header.n start new (record r { inputs = inputs }) offset
+  begins_kept inputs end first in_new same frames =
+      ⊎_elim
+      (λ (a : (get_or image start 0 ≡ 1) × HasBase header.n start image r offset). inl (
+        byte_same start (offset - start) image new start (omega arith) (omega (arith, a.1.offset_is)) same ∙ a.0,
+        base_behind header.n start new r inputs offset (base_kept header.n start image new r offset a.1 in_new (fewer start (offset - start) (start + 1) (offset - (start + 1)) image new (omega arith) (omega (arith, a.1.offset_is)) same)),
+      ))
+      (λ (p : IsPlain start image r offset). inr (record {
+        start_is = p.start_is;
+        offset_is = p.offset_is;
+        marked = take_same 8 new image (omega (arith, in_new, p.offset_is)) (omega (arith, image_long)) (λ i lt. byte_same 0 16 image new i (omega arith) (omega (arith, lt)) first) ∙ p.marked;
+        none = never_counts 16 new inputs end (subst (λ (k : ℕ). ReadsTo r.layout k new inputs end) p.offset_is frames);
+        layout = p.layout;
+        epoch = p.epoch;
+        base = p.base;
+      })) read.begins
 
   -- a change of n bytes within the area that is read, from its closed gate on
   module _ (n : ℕ) (changes : Changes gate_at n image new) (fits : gate_at + n ≤ start + 15 + capacity) where
@@ -47,13 +73,14 @@ module _ (header : Member) (image new : List ℕ) (r : Reading) (start other off
     pub grown : (inputs : List Input) (end : ℕ) → ReadsTo r.layout offset new inputs end → end ≤ start + 14 + capacity → ReadsAt header new (record r { inputs = inputs }) start other offset end
     grown inputs end frames within =
         let p = places in
+        let from = frames_from in
+        let long = image_long in
+        let first : SameBytes 0 16 image new = kept gate_at n 0 16 image new changes (inl (from, long)) in
         let front : SameBytes start (gate_at - start) image new = kept gate_at n start (gate_at - start) image new changes (inl (omega (arith, p), omega (arith, p))) in
         record {
-          head = header_kept header gate_at n image new (⊎_elim (λ (a : (start ≡ 16) × (other ≡ 31 + capacity)). omega (arith, a.0, p)) (λ (b : (start ≡ 31 + capacity) × (other ≡ 16)). omega (arith, b.0, p)) at)
-              (⊎_elim (λ (a : (start ≡ 16) × (other ≡ 31 + capacity)). omega (arith, a.0, p)) (λ (b : (start ≡ 31 + capacity) × (other ≡ 16)). omega (arith, b.0, p)) at) changes read.head;
+          head = header_kept header gate_at n image new from long changes read.head;
           areas = read.areas;
-          gate = byte_same start (gate_at - start) image new start (omega arith) (omega (arith, p)) front ∙ read.gate;
-          base = base_behind header.n start new r inputs offset (base_kept header.n start image new r offset read.base (omega (arith, p, changes.no_shorter)) (fewer start (gate_at - start) (start + 1) (offset - (start + 1)) image new (omega arith) (omega (arith, p)) front));
+          begins = begins_kept inputs end first (omega (arith, p, changes.no_shorter)) (fewer start (gate_at - start) start (offset - start) image new (omega arith) (omega (arith, p)) front) frames;
           older = older_kept other image new r.epoch other_kept read.older;
           frames = frames;
           within = within;
@@ -78,12 +105,13 @@ module _ (header : Member) (image new : List ℕ) (r : Reading) (start other off
       let all : SameBytes start (gate_at + 1 - start) image new =
       kept off n start (gate_at + 1 - start) image new changes
       (⊎_elim (λ (a : (start ≡ 16) × (other ≡ 31 + capacity)). inl (omega (arith, a.0, a.1, read.within, above, p), omega (arith, p))) (λ (b : (start ≡ 31 + capacity) × (other ≡ 16)). inr (omega (arith, b.0, b.1, below))) at) in
+      let first : SameBytes 0 16 image new = kept off n 0 16 image new changes (inl (high, image_long)) in
+      let frames = frames_kept offset image new r.inputs gate_at read.frames (omega (arith, p, changes.no_shorter)) (fewer start (gate_at + 1 - start) offset (gate_at + 1 - offset) image new (omega (arith, p)) (omega (arith, p)) all) in
       record {
-        head = header_kept header off n image new high (⊎_elim (λ (a : (start ≡ 16) × (other ≡ 31 + capacity)). omega (arith, a.0, p)) (λ (b : (start ≡ 31 + capacity) × (other ≡ 16)). omega (arith, b.0, p)) at) changes read.head;
+        head = header_kept header off n image new high image_long changes read.head;
         areas = read.areas;
-        gate = byte_same start (gate_at + 1 - start) image new start (omega arith) (omega (arith, p)) all ∙ read.gate;
-        base = base_kept header.n start image new r offset read.base (omega (arith, p, changes.no_shorter)) (fewer start (gate_at + 1 - start) (start + 1) (offset - (start + 1)) image new (omega arith) (omega (arith, p)) all);
+        begins = begins_kept r.inputs gate_at first (omega (arith, p, changes.no_shorter)) (fewer start (gate_at + 1 - start) start (offset - start) image new (omega arith) (omega (arith, p)) all) frames;
         older = older;
-        frames = frames_kept offset image new r.inputs gate_at read.frames (omega (arith, p, changes.no_shorter)) (fewer start (gate_at + 1 - start) offset (gate_at + 1 - offset) image new (omega (arith, p)) (omega (arith, p)) all);
+        frames = frames;
         within = read.within;
       }

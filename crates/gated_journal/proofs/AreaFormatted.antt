@@ -53,7 +53,7 @@ module _ (header : Member) (new rest : List ℕ) (from : 4096 ≤ header.capacit
       let same : get_or new 16 0 ≡ 1 = ap (λ (l : List ℕ). get_or l 16 0) whole in
       record {
         head = record {
-          marked = ap (λ (l : List ℕ). take 8 l) whole;
+          marked = inl (ap (λ (l : List ℕ). take 8 l) whole);
           node = ap (λ (l : List ℕ). get_or l 8 0) whole;
           n = ap (λ (l : List ℕ). get_or l 9 0) whole;
           capacity = ap (λ (l : List ℕ). number_at 4 10 l) whole ∙ omega (arith, from_be_bytes-to_be_bytes_4 header.capacity (omega (arith, to)));
@@ -62,8 +62,7 @@ module _ (header : Member) (new rest : List ℕ) (from : 4096 ≤ header.capacit
           blank = ap (λ (l : List ℕ). number_at 2 14 l) whole;
         };
         areas = record { both = omega arith; one = λ ne. absurd (ne refl) };
-        gate = same;
-        base = stage.base;
+        begins = inl (same, stage.base);
         older = λ c. absurd (none c);
         frames = stage.frames;
         within = omega (arith, from);

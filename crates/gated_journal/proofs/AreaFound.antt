@@ -6,8 +6,8 @@ use Rattle.ring_records.specs.declared.refusal.Refusal.TheVariants.{Damaged, Out
 use Rattle.ring_records.specs.declared.summary.Summary.{Summary}
 use Rattle.ring_records.specs.Member.{Member}
 use Rattle.ring_records.specs.Snapshot.{Spells}
-use Rattle.gated_journal.specs.Areas.{IsLayout, layout_at, epoch_at, frames_of, snapshot_at, HasBase, ReadsAt}
-use Rattle.gated_journal.specs.Choose.{IsUsed}
+use Rattle.gated_journal.specs.Areas.{IsLayout, layout_at, epoch_at, frames_of, snapshot_at, AreAreas, Counts, HasBase, Begins, ReadsAt}
+use Rattle.gated_journal.specs.Choose.{IsUsed, IsInUseBy}
 use Rattle.gated_journal.specs.Damage.{AreAreasUnread}
 use Rattle.gated_journal.specs.Feeding.{IsAreaAt, IsContentless}
 use Rattle.gated_journal.specs.Frames.{ReadsTo}
@@ -41,7 +41,7 @@ module _ (n capacity : ℕ) (image : List ℕ) (chosen : Chosen) (used : IsUsed 
   -- its frames go too far
   pub goes_past : (base : Summary) (inputs : List Input) (gate_at : ℕ) → IsAreaAt chosen.layout n chosen.start image base inputs gate_at → chosen.start + 14 + capacity < gate_at → AreAreasUnread n capacity image (Damaged chosen.start)
   goes_past base inputs gate_at a past = record {
-    cause = inr (record {
+    cause = inr (inl (record {
       start = chosen.start;
       other = chosen.other;
       areas = used.areas;
@@ -52,7 +52,7 @@ module _ (n capacity : ℕ) (image : List ℕ) (chosen : Chosen) (used : IsUsed 
         base = base_found base [] (area_spells base inputs gate_at a);
         cause = inr (refl, record { inputs = inputs; gate_at = gate_at; frames = area_frames base inputs gate_at a; past = past });
       });
-    });
+    }));
   }
 
   -- ---- or they are damaged
@@ -64,18 +64,18 @@ module _ (n capacity : ℕ) (image : List ℕ) (chosen : Chosen) (used : IsUsed 
   no_area (inr (inr (inr (inl short)))) = absurd (omega (arith, short, frames_begin, used.there, length-drop chosen.start image))
   no_area (inr (inr (inr (inr (inl great))))) = absurd (omega (arith, great, epoch_behind chosen.start image, used.epoch, used.small))
   no_area (inr (inr (inr (inr (inr none))))) = record {
-    cause = inr (record {
+    cause = inr (inl (record {
       start = chosen.start;
       other = chosen.other;
       areas = used.areas;
       area = used.area;
       cause = inl (refl, inr (inr (λ s spells. none s (subst (λ (k : ℕ). Spells k n (snapshot_at 0 (drop chosen.start image)) s) (sym (layout_behind chosen.start image)) (subst (λ (l : List ℕ). Spells (layout_at chosen.start image) n l s) (sym (snapshot_behind chosen.start image)) spells)))));
-    });
+    }));
   }
 
   frames_broken : (at : ℕ) → AreFramesDamaged chosen.layout n (drop chosen.start image) at → AreAreasUnread n capacity image (Damaged (chosen.start + at))
   frames_broken at d = record {
-    cause = inr (record {
+    cause = inr (inl (record {
       start = chosen.start;
       other = chosen.other;
       areas = used.areas;
@@ -90,7 +90,7 @@ module _ (n capacity : ℕ) (image : List ℕ) (chosen : Chosen) (used : IsUsed 
           damaged = damaged_behind chosen.start image (frames_of 0 (drop chosen.start image)) chosen.offset at (chosen.start + at) frames_begin refl d.damaged;
         });
       });
-    });
+    }));
   }
 
   damaged : (at : ℕ) → IsAreaDamaged chosen.layout n (drop chosen.start image) at → AreAreasUnread n capacity image (Damaged (chosen.start + at))
@@ -108,15 +108,15 @@ module _ (n capacity : ℕ) (image : List ℕ) (chosen : Chosen) (used : IsUsed 
       (λ (d : (at : ℕ) × ((refusal ≡ Damaged (chosen.start + at)) × IsAreaDamaged chosen.layout n (drop chosen.start image) at)).
       inr (subst (λ (r : Refusal). AreAreasUnread n capacity image r) (sym d.1.0) (damaged d.0 d.1.1))) is.cause
 
--- the area is read, where the image has a header
-pub area_found : (header : Member) (image : List ℕ) (chosen : Chosen) (r : Reading) (gate_at : ℕ) → HasHeader header image → IsUsed header.capacity image chosen → HasBase header.n chosen.start image r chosen.offset
-    → ReadsTo r.layout chosen.offset image r.inputs gate_at → gate_at ≤ chosen.start + 14 + header.capacity → ReadsAt header image r chosen.start chosen.other chosen.offset gate_at
-area_found header image chosen r gate_at head used base frames within = record {
-  head = head;
-  areas = used.areas;
-  gate = used.area.counts.gate;
-  base = base;
-  older = λ counts. subst (λ (k : ℕ). epoch_at chosen.other image < k) (sym base.epoch) (used.area.older counts);
-  frames = frames;
-  within = within;
-}
+-- it is read, where the image has a header
+pub area_found : (header : Member) (image : List ℕ) (chosen : Chosen) (r : Reading) (gate_at : ℕ) → HasHeader header image → IsInUseBy header.capacity image chosen → r.epoch ≡ chosen.epoch
+    → Begins header.n chosen.start image r chosen.offset → ReadsTo r.layout chosen.offset image r.inputs gate_at → gate_at ≤ chosen.start + 14 + header.capacity → ReadsAt header image r chosen.start chosen.other chosen.offset gate_at
+area_found header image chosen r gate_at head used epoch begins frames within = record { head = head; areas = areas used; begins = begins; older = older used; frames = frames; within = within }
+  where
+    areas : IsInUseBy header.capacity image chosen → AreAreas header.capacity chosen.start chosen.other
+    areas (inl u) = u.areas
+    areas (inr p) = record { both = omega (arith, p.start, p.other); one = λ ne. absurd (ne p.start) }
+
+    older : IsInUseBy header.capacity image chosen → Counts chosen.other image → epoch_at chosen.other image < r.epoch
+    older (inl u) counts = subst (λ (k : ℕ). epoch_at chosen.other image < k) (sym (epoch ∙ u.epoch)) (u.area.older counts)
+    older (inr p) counts = absurd (p.plainly.second (subst (λ (k : ℕ). Counts k image) p.other counts))

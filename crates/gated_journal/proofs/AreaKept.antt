@@ -1,10 +1,12 @@
 -- What stays of an area, and of the frames in it, where an image changes in one range alone.
-use Rattle.std.proofs.Common.{◌≡◌, ℕ, ◌+◌, ◌-◌, ◌<◌, ◌≤◌, List, length, take, drop, get_or, sym, ◌∙◌, ap, subst, arith, length-take, length-drop}
+use Rattle.std.proofs.Common.{◌≡◌, ◌≢◌, ⊎_elim, [], ◌∷◌, ◌++◌, refl, ℕ, ◌+◌, ◌-◌, ◌<◌, ◌≤◌, List, length, take, drop, get_or, sym, ◌∙◌, ap, subst, arith, length-take, length-drop}
+use Rattle.std.proofs.lemmas.List.{get_or-drop}
 use Rattle.ring_records.specs.declared.input.Input.{Input}
-use Rattle.ring_records.specs.Snapshot.{Spells, snapshot_len}
+use Rattle.ring_records.specs.Snapshot.{IsSound, Spells, snapshot_len}
 use Rattle.ring_records.proofs.Snapshots.{length-snapshot}
-use Rattle.gated_journal.specs.Frames.{ReadsTo}
-use Rattle.gated_journal.specs.Areas.{IsLayout, epoch_at, size_at, snapshot_at, Counts, HasBase}
+use Rattle.ring_records.proofs.Sound.{sound-empty}
+use Rattle.gated_journal.specs.Frames.{frames, AreBatches, ReadsTo}
+use Rattle.gated_journal.specs.Areas.{IsLayout, epoch_at, size_at, snapshot_at, Counts, HasBase, IsPlain, Begins}
 use Rattle.gated_journal.specs.Reading.{Reading}
 use Rattle.gated_journal.proofs.Behind.{inside, still, gate_closed}
 use Rattle.gated_journal.proofs.Kept.{SameBytes, fewer, byte_same, number_same, part_same}
@@ -54,11 +56,43 @@ older_kept start image other epoch same older counts =
     let epoch_same = number_same 8 (start + 2) image other (fewer start 10 (start + 2) 8 image other (omega arith) (omega arith) same) in
     subst (λ (e : ℕ). e < epoch) (sym epoch_same) (older (counts_kept start image other same counts))
 
+-- ---- frames that are read plainly
+
+-- what stands where frames begin
+head_byte : {layout : ℕ} (offset : ℕ) (image : List ℕ) (inputs : List Input) (gate_at i : ℕ) (r : ReadsTo layout offset image inputs gate_at) → get_or image (offset + i) 0 ≡ get_or (frames r.batches ++ r.gate ∷ r.after) i 0
+head_byte offset image inputs gate_at i r = sym (get_or-drop offset image i 0) ∙ ap (λ (l : List ℕ). get_or l i 0) r.whole
+
+-- they never count as an area: the second byte of a frame is 0
+pub never_counts : {layout : ℕ} (offset : ℕ) (image : List ℕ) (inputs : List Input) (gate_at : ℕ) → ReadsTo layout offset image inputs gate_at → Counts offset image → ⊥
+never_counts {layout = layout} offset image inputs gate_at r counts =
+    let same : offset + 0 ≡ offset = omega arith in
+    never r.batches r.gate r.after r.sized r.closed (sym (head_byte offset image inputs gate_at 0 r) ∙ ap (λ (i : ℕ). get_or image i 0) same ∙ counts.gate)
+    (subst IsLayout (head_byte offset image inputs gate_at 1 r) counts.known)
+  where
+    never : (bs : List (List Input)) (g : ℕ) (a : List ℕ) → AreBatches layout bs → g ≢ 1 → get_or (frames bs ++ g ∷ a) 0 0 ≡ 1 → IsLayout (get_or (frames bs ++ g ∷ a) 1 0) → ⊥
+    never [] g a sized shut is known = shut is
+    never (b ∷ bs) g a sized shut is known = omega (arith, sized.0.few, known.0)
+
+-- where there are some, their first gate is open
+pub first_open : {layout : ℕ} (offset : ℕ) (image : List ℕ) (inputs : List Input) (gate_at : ℕ) → ReadsTo layout offset image inputs gate_at → gate_at ≢ offset → get_or image offset 0 ≡ 1
+first_open {layout = layout} offset image inputs gate_at r some =
+    let same : offset + 0 ≡ offset = omega arith in
+    ap (λ (i : ℕ). get_or image i 0) (sym same) ∙ (head_byte offset image inputs gate_at 0 r ∙ first r.batches (λ none. some (omega (arith, r.ends, ap (λ (bs : List (List Input)). length (frames bs)) none))))
+  where
+    first : (bs : List (List Input)) → (bs ≡ [] → ⊥) → get_or (frames bs ++ r.gate ∷ r.after) 0 0 ≡ 1
+    first [] none = absurd (none refl)
+    first (b ∷ bs) none = refl
+
 -- ---- where things lie
 
 -- the frames begin behind the head, and end behind where they begin
 pub low : (n start : ℕ) (image : List ℕ) (r : Reading) (offset gate_at : ℕ) → HasBase n start image r offset → ReadsTo r.layout offset image r.inputs gate_at → (start + 14 ≤ offset) × (offset ≤ gate_at) × (gate_at < length image)
 low n start image r offset gate_at base frames = (omega (arith, base.offset_is), omega (arith, frames.ends), inside offset image r.inputs gate_at frames)
+
+-- the same of whatever is read
+pub within : (n start : ℕ) (image : List ℕ) (r : Reading) (offset gate_at : ℕ) → Begins n start image r offset → ReadsTo r.layout offset image r.inputs gate_at → (start ≤ offset) × (offset ≤ gate_at) × (gate_at < length image)
+within n start image r offset gate_at begins frames =
+    (⊎_elim (λ (a : (get_or image start 0 ≡ 1) × HasBase n start image r offset). omega (arith, a.1.offset_is)) (λ (p : IsPlain start image r offset). omega (arith, p.start_is, p.offset_is)) begins, omega (arith, frames.ends), inside offset image r.inputs gate_at frames)
 
 -- they begin behind the snapshot
 pub behind_snapshot : (n start : ℕ) (image : List ℕ) (r : Reading) (offset : ℕ) → HasBase n start image r offset → offset ≡ start + 14 + snapshot_len r.layout r.base
@@ -66,3 +100,13 @@ behind_snapshot n start image r offset base =
     let size = size_at start image in
     let long : length (snapshot_at start image) ≡ size = omega (arith, length-take size (drop (start + 14) image), length-drop (start + 14) image, base.offset_is, base.there) in
     omega (arith, ap length base.snapshot.is, long, base.offset_is, length-snapshot r.layout r.base)
+
+-- or before they would
+pub behind_base : (n start : ℕ) (image : List ℕ) (r : Reading) (offset : ℕ) → Begins n start image r offset → offset ≤ start + 14 + snapshot_len r.layout r.base
+behind_base n start image r offset begins =
+    ⊎_elim (λ (a : (get_or image start 0 ≡ 1) × HasBase n start image r offset). omega (arith, behind_snapshot n start image r offset a.1)) (λ (p : IsPlain start image r offset). omega (arith, p.start_is, p.offset_is)) begins
+
+-- what is summarised is sound
+pub base_sound : (n start : ℕ) (image : List ℕ) (r : Reading) (offset : ℕ) → Begins n start image r offset → IsSound n r.base
+base_sound n start image r offset begins =
+    ⊎_elim (λ (a : (get_or image start 0 ≡ 1) × HasBase n start image r offset). a.1.snapshot.sound) (λ (p : IsPlain start image r offset). subst (IsSound n) (sym p.base) (sound-empty n)) begins

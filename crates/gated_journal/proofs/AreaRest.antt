@@ -44,6 +44,7 @@ read_here header disk p r used stays all =
             (subst (λ (k : ℕ). ReadsAt header disk.image r read.start k a.offset p.gate_at) o
             (subst (λ (k : ℕ). ReadsAt header disk.image r read.start read.other k p.gate_at) f
             (subst (λ (k : ℕ). ReadsAt header disk.image r read.start read.other read.offset k) g read.at)));
+        layout = ∥∥₁_elim used.reads (ℕ_set r.layout a.layout) (λ t. ap (λ (x : Reading). x.layout) (same t.0 t.1).reading ∙ t.1.layout);
         epoch = ∥∥₁_elim used.reads (ℕ_set r.epoch a.epoch) (λ t. ap (λ (x : Reading). x.epoch) (same t.0 t.1).reading ∙ t.1.epoch);
         count = ∥∥₁_elim used.reads (ℕ_set (count_in r) p.count) (λ t. ap count_in (same t.0 t.1).reading ∙ t.1.count);
         used = ∥∥₁_elim used.reads (ℕ_set (used_in r) p.used) (λ t. ap used_in (same t.0 t.1).reading ∙ t.1.used);
@@ -90,6 +91,7 @@ commit_stands header old new p next r batch n s is room done capacity area gate_
       here = record {
         capacity = capacity ∙ s.here.capacity;
         at = subst (λ (x : Chosen). ReadsAt header new.image (with_more r batch) x.start x.other x.offset next.gate_at) (sym area) (subst (λ (k : ℕ). ReadsAt header new.image (with_more r batch) a.start a.other a.offset k) (sym gate_at) read);
+        layout = s.here.layout ∙ ap (λ (x : Chosen). x.layout) (sym area);
         epoch = s.here.epoch ∙ ap (λ (x : Chosen). x.epoch) (sym area);
         count = count-more r batch ∙ (ap (λ (k : ℕ). k + length batch) s.here.count ∙ sym count);
         used = used-more r batch ∙ (ap (λ (k : ℕ). k + costs_of batch) s.here.used ∙ sym used);

@@ -1,27 +1,39 @@
 -- An image has one reading or one fault.
-use Rattle.std.proofs.Common.{◌≡◌, ◌⊎◌, inl, inr, ⊎_elim, ℕ, ◌+◌, ◌≤◌, ◌<◌, List, length, Ok, Err, sym, ◌∙◌, ap, subst, arith}
+use Rattle.std.proofs.Common.{◌≡◌, ◌⊎◌, inl, inr, ⊎_elim, get_or, ℕ, ◌+◌, ◌≤◌, ◌<◌, List, length, Ok, Err, sym, ◌∙◌, ap, subst, arith}
 use Rattle.ring_records.specs.declared.refusal.Refusal.{Refusal}
 use Rattle.ring_records.specs.declared.refusal.Refusal.TheVariants.{Damaged}
 use Rattle.ring_records.specs.Member.{Member}
 use Rattle.ring_records.specs.Snapshot.{Spells}
-use Rattle.gated_journal.specs.Areas.{AreAreas, epoch_at, snapshot_at, Counts, HasBase, ReadsAt, ReadsAs}
-use Rattle.gated_journal.specs.Choose.{IsChosen, IsUnchosen}
-use Rattle.gated_journal.specs.Damage.{IsBroken, IsHeadBroken, GoesPast, AreFramesBroken, IsAreaBroken, AreAreasUnread}
+use Rattle.gated_journal.specs.Areas.{AreAreas, epoch_at, snapshot_at, Counts, HasBase, IsPlain, Begins, ReadsAt, ReadsAs}
+use Rattle.gated_journal.specs.Choose.{IsChosen, IsUnchosen, IsPlainly}
+use Rattle.gated_journal.specs.Damage.{IsBroken, IsHeadBroken, GoesPast, AreFramesBroken, IsAreaBroken, IsPlainBroken, AreAreasUnread}
 use Rattle.gated_journal.specs.Frames.{ReadsTo}
 use Rattle.gated_journal.specs.Reading.{Reading}
 use Rattle.gated_journal.specs.Unread.{header_at, IsUnread}
 use Rattle.gated_journal.proofs.AreaAlone.{counts}
 use Rattle.gated_journal.proofs.AreaBeside.{where_are}
-use Rattle.gated_journal.proofs.AreaKept.{low}
+use Rattle.gated_journal.proofs.AreaKept.{within}
 use Rattle.gated_journal.proofs.Head.{header_again, same_ok}
 use Rattle.gated_journal.proofs.Unique.{unique, not_both, damaged_once}
 
 -- ---- which area is read
 
--- the area that an image reads by is chosen
-chosen : (header : Member) (image : List ℕ) (r : Reading) (start other offset gate_at : ℕ) → ReadsAt header image r start other offset gate_at → IsChosen start other image
-chosen header image r start other offset gate_at read =
-    record { counts = counts header image r start other offset gate_at read; older = λ there. subst (λ (k : ℕ). epoch_at other image < k) read.base.epoch (read.older there) }
+-- an area that an image reads by is chosen
+chosen : (header : Member) (image : List ℕ) (r : Reading) (start other offset gate_at : ℕ) → ReadsAt header image r start other offset gate_at → (get_or image start 0 ≡ 1) × HasBase header.n start image r offset → IsChosen start other image
+chosen header image r start other offset gate_at read area =
+    record { counts = counts header.n image r start offset area; older = λ there. subst (λ (k : ℕ). epoch_at other image < k) area.1.epoch (read.older there) }
+
+-- where one is chosen none is read plainly
+not_plainly : (capacity start other : ℕ) (image : List ℕ) → AreAreas capacity start other → Counts start image → IsPlainly capacity image → ⊥
+not_plainly capacity start other image areas counts plainly =
+    ⊎_elim (λ (a : (start ≡ 16) × (other ≡ 31 + capacity)). plainly.first (subst (λ (k : ℕ). Counts k image) a.0 counts))
+    (λ (b : (start ≡ 31 + capacity) × (other ≡ 16)). plainly.second (subst (λ (k : ℕ). Counts k image) b.0 counts)) (where_are capacity start other areas)
+
+-- and where it is read plainly none is
+plainly : (header : Member) (image : List ℕ) (r : Reading) (start other offset gate_at : ℕ) → ReadsAt header image r start other offset gate_at → IsPlain start image r offset → IsPlainly header.capacity image
+plainly header image r start other offset gate_at read p =
+    let there : other ≡ 31 + header.capacity = omega (arith, read.areas.both, p.start_is) in
+    record { marked = p.marked; first = p.none; second = λ counts. omega (arith, read.older (subst (λ (k : ℕ). Counts k image) (sym there) counts), p.epoch) }
 
 -- none other is
 one_chosen : (capacity : ℕ) (image : List ℕ) (start other start2 other2 : ℕ) → AreAreas capacity start other → AreAreas capacity start2 other2 → IsChosen start other image → IsChosen start2 other2 image → start ≡ start2
@@ -88,23 +100,30 @@ begins n start image r s offset offset2 one two = one.offset_is ∙ sym two.offs
 -- ---- the areas
 
 areas_read : (header : Member) (image : List ℕ) (r : Reading) (start other offset gate_at : ℕ) (refusal : Refusal) → ReadsAt header image r start other offset gate_at → AreAreasUnread header.n header.capacity image refusal → ⊥
-areas_read header image r start other offset gate_at refusal read unread =
-    ⊎_elim (λ (none : (refusal ≡ Damaged 16) × IsUnchosen header.capacity image). not_unchosen header.capacity image start other read.areas here none.1) broken unread.cause
+areas_read header image r start other offset gate_at refusal read unread = both read.begins unread.cause
   where
-    here : IsChosen start other image
-    here = chosen header image r start other offset gate_at read
-
-    at_start : (k : ℕ) → k ≡ start → ((refusal ≡ Damaged k) × IsHeadBroken header.n k image) ⊎ AreFramesBroken header.n header.capacity k image refusal → ⊥
-    at_start k same (inl head) = head_whole header.n start image r offset read.base (subst (λ (p : ℕ). IsHeadBroken header.n p image) same head.1)
-    at_start k same (inr frames) =
+    at_start : (area : (get_or image start 0 ≡ 1) × HasBase header.n start image r offset) (k : ℕ) → k ≡ start → ((refusal ≡ Damaged k) × IsHeadBroken header.n k image) ⊎ AreFramesBroken header.n header.capacity k image refusal → ⊥
+    at_start area k same (inl head) = head_whole header.n start image r offset area.1 (subst (λ (p : ℕ). IsHeadBroken header.n p image) same head.1)
+    at_start area k same (inr frames) =
         let base : HasBase header.n start image frames.reading frames.offset = subst (λ (p : ℕ). HasBase header.n p image frames.reading frames.offset) same frames.base in
         let cause : AreBroken frames.reading.layout (start + 14 + header.capacity) start frames.offset image refusal = subst (λ (p : ℕ). AreBroken frames.reading.layout (p + 14 + header.capacity) p frames.offset image refusal) same frames.cause in
         frames_whole (start + 14 + header.capacity) start offset image r gate_at refusal read.frames read.within
-        (subst (λ (k : ℕ). AreBroken k (start + 14 + header.capacity) start offset image refusal) (of_layout header.n start image frames.reading r frames.offset offset base read.base)
-        (subst (λ (p : ℕ). AreBroken frames.reading.layout (start + 14 + header.capacity) start p image refusal) (begins header.n start image frames.reading r frames.offset offset base read.base) cause))
+        (subst (λ (k : ℕ). AreBroken k (start + 14 + header.capacity) start offset image refusal) (of_layout header.n start image frames.reading r frames.offset offset base area.1)
+        (subst (λ (p : ℕ). AreBroken frames.reading.layout (start + 14 + header.capacity) start p image refusal) (begins header.n start image frames.reading r frames.offset offset base area.1) cause))
 
-    broken : IsAreaBroken header.n header.capacity image refusal → ⊥
-    broken b = at_start b.start (one_chosen header.capacity image b.start b.other start other b.areas read.areas b.area here) b.cause
+    both : Begins header.n start image r offset
+        → ((refusal ≡ Damaged 16) × IsUnchosen header.capacity image × (IsPlainly header.capacity image → ⊥)) ⊎ (IsAreaBroken header.n header.capacity image refusal ⊎ IsPlainBroken header.capacity image refusal) → ⊥
+    both (inl area) (inl none) = not_unchosen header.capacity image start other read.areas (chosen header image r start other offset gate_at read area) none.1
+    both (inl area) (inr (inl b)) =
+        at_start area b.start (one_chosen header.capacity image b.start b.other start other b.areas read.areas b.area (chosen header image r start other offset gate_at read area)) b.cause
+    both (inl area) (inr (inr b)) = not_plainly header.capacity start other image read.areas (counts header.n image r start offset area) b.plainly
+    both (inr p) (inl none) = none.2 (plainly header image r start other offset gate_at read p)
+    both (inr p) (inr (inl b)) = not_plainly header.capacity b.start b.other image b.areas b.area.counts (plainly header image r start other offset gate_at read p)
+    both (inr p) (inr (inr b)) =
+        frames_whole (start + 14 + header.capacity) start offset image r gate_at refusal read.frames read.within
+        (subst (λ (k : ℕ). AreBroken k (start + 14 + header.capacity) start offset image refusal) (sym p.layout)
+        (subst (λ (k : ℕ). AreBroken 1 (start + 14 + header.capacity) start k image refusal) (sym p.offset_is)
+        (subst (λ (k : ℕ). AreBroken 1 (k + 14 + header.capacity) k 16 image refusal) (sym p.start_is) b.cause)))
 
 areas_once : (n capacity : ℕ) (image : List ℕ) (refusal other : Refusal) → AreAreasUnread n capacity image refusal → AreAreasUnread n capacity image other → refusal ≡ other
 areas_once n capacity image refusal other one two = both one.cause two.cause
@@ -121,18 +140,24 @@ areas_once n capacity image refusal other one two = both one.cause two.cause
         (subst (λ (k : ℕ). AreBroken k (start + 14 + capacity) start a.offset image other) (of_layout n start image b.reading a.reading b.offset a.offset b.base a.base)
         (subst (λ (p : ℕ). AreBroken b.reading.layout (start + 14 + capacity) start p image other) (begins n start image b.reading a.reading b.offset a.offset b.base a.base) b.cause))
 
-    both : ((refusal ≡ Damaged 16) × IsUnchosen capacity image) ⊎ IsAreaBroken n capacity image refusal → ((other ≡ Damaged 16) × IsUnchosen capacity image) ⊎ IsAreaBroken n capacity image other → refusal ≡ other
+    both : ((refusal ≡ Damaged 16) × IsUnchosen capacity image × (IsPlainly capacity image → ⊥)) ⊎ (IsAreaBroken n capacity image refusal ⊎ IsPlainBroken capacity image refusal)
+        → ((other ≡ Damaged 16) × IsUnchosen capacity image × (IsPlainly capacity image → ⊥)) ⊎ (IsAreaBroken n capacity image other ⊎ IsPlainBroken capacity image other) → refusal ≡ other
     both (inl a) (inl b) = a.0 ∙ sym b.0
-    both (inl a) (inr b) = absurd (not_unchosen capacity image b.start b.other b.areas b.area a.1)
-    both (inr a) (inl b) = absurd (not_unchosen capacity image a.start a.other a.areas a.area b.1)
-    both (inr a) (inr b) = in_area a.start a.cause (subst (Cause other) (one_chosen capacity image b.start b.other a.start a.other b.areas a.areas b.area a.area) b.cause)
+    both (inl a) (inr (inl b)) = absurd (not_unchosen capacity image b.start b.other b.areas b.area a.1)
+    both (inl a) (inr (inr b)) = absurd (a.2 b.plainly)
+    both (inr (inl a)) (inl b) = absurd (not_unchosen capacity image a.start a.other a.areas a.area b.1)
+    both (inr (inl a)) (inr (inl b)) = in_area a.start a.cause (subst (Cause other) (one_chosen capacity image b.start b.other a.start a.other b.areas a.areas b.area a.area) b.cause)
+    both (inr (inl a)) (inr (inr b)) = absurd (not_plainly capacity a.start a.other image a.areas a.area.counts b.plainly)
+    both (inr (inr a)) (inl b) = absurd (b.2 a.plainly)
+    both (inr (inr a)) (inr (inl b)) = absurd (not_plainly capacity b.start b.other image b.areas b.area.counts a.plainly)
+    both (inr (inr a)) (inr (inr b)) = frames_once (30 + capacity) 16 16 image refusal other a.cause b.cause
 
 -- ---- the whole image
 
 pub not_read : (node n : ℕ) (image : List ℕ) (refusal : Refusal) (header : Member) (r : Reading) → IsUnread node n image refusal → ReadsAs header image r → header.node ≡ node → header.n ≡ n → ⊥
 not_read node n image refusal header r unread read node_is n_is =
     let at = read.at in
-    let p = low header.n read.start image r read.offset read.gate_at at.base at.frames in
+    let p = within header.n read.start image r read.offset read.gate_at at.begins at.frames in
     let long : 17 ≤ length image =
     ⊎_elim (λ (a : (read.start ≡ 16) × (read.other ≡ 31 + header.capacity)). omega (arith, a.0, p)) (λ (b : (read.start ≡ 31 + header.capacity) × (read.other ≡ 16)). omega (arith, b.0, p)) (where_are header.capacity read.start read.other at.areas) in
     let found : header_at node n image ≡ Ok header.capacity = (λ i. header_at (sym node_is i) (sym n_is i) image) ∙ header_again header image long at.head in

@@ -1,10 +1,10 @@
 -- What stays where an image changes in one range alone.
-use Rattle.std.proofs.Common.{◌≡◌, ◌⊎◌, inl, ⊎_elim, ℕ, zero, suc, ◌+◌, ◌*◌, ◌-◌, ◌<◌, ◌≤◌, List, ◌++◌, length, take, drop, get_or, refl, sym, ◌∙◌, ap, arith, length-take, length-drop, take-append-drop}
+use Rattle.std.proofs.Common.{◌≡◌, ◌⊎◌, inl, ⊎_elim, ℕ, zero, suc, ◌+◌, ◌*◌, ◌-◌, ◌<◌, ◌≤◌, List, ◌++◌, length, take, drop, get_or, refl, sym, ◌∙◌, ap, arith, length-take, length-drop, take-append-drop, inr}
 use Rattle.std.proofs.lemmas.List.{drop-drop, ext_get_or, get_or-take, get_or-drop}
 use Rattle.ring_records.specs.Member.{Member}
 use Rattle.disk_model.specs.Disk.{Changes, Puts}
 use Rattle.disk_model.proofs.Changed.{byte_below, byte_above}
-use Rattle.gated_journal.specs.Reading.{number_at, HasHeader}
+use Rattle.gated_journal.specs.Reading.{number_at, HasHeader, mark, old_mark}
 
 -- k bytes from start on are the same
 pub record SameBytes (start k : ℕ) (old new : List ℕ) : Type 0 where
@@ -66,8 +66,9 @@ pub header_kept : (header : Member) (off n : ℕ) (old new : List ℕ) → 16 �
 header_kept header off n old new behind long change head =
     let same : SameBytes 0 16 old new = kept off n 0 16 old new change (inl (omega (arith, behind), omega (arith, long))) in
     let in_new : 16 ≤ length new = omega (arith, long, change.no_shorter) in
+    let front : take 8 new ≡ take 8 old = part_same 0 8 old new (omega (arith, long)) (omega (arith, in_new)) (fewer 0 16 0 8 old new (omega arith) (omega arith) same) in
     record {
-      marked = part_same 0 8 old new (omega (arith, long)) (omega (arith, in_new)) (fewer 0 16 0 8 old new (omega arith) (omega arith) same) ∙ head.marked;
+      marked = ⊎_elim (λ (m : take 8 old ≡ mark). inl (front ∙ m)) (λ (m : take 8 old ≡ old_mark). inr (front ∙ m)) head.marked;
       node = byte_same 0 16 old new 8 (omega arith) (omega arith) same ∙ head.node;
       n = byte_same 0 16 old new 9 (omega arith) (omega arith) same ∙ head.n;
       capacity = number_same 4 10 old new (fewer 0 16 10 4 old new (omega arith) (omega arith) same) ∙ head.capacity;

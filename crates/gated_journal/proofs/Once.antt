@@ -1,5 +1,5 @@
 -- An image reads as one reading in one way only.
-use Rattle.std.proofs.Common.{◌≡◌, ◌≢◌, ℕ, ◌+◌, List, [], ◌∷◌, ◌++◌, length, drop, get_or, ap}
+use Rattle.std.proofs.Common.{◌≡◌, ◌≢◌, inl, inr, arith, ℕ, ◌+◌, List, [], ◌∷◌, ◌++◌, length, take, drop, get_or, ap, ◌⊎◌}
 use Rattle.std.proofs.Math.Path.{Σ_path, to_path_p}
 use Rattle.std.proofs.Props.{props}
 use Rattle.std.specs.Coded.{Coded-set, le_prop, Unit-prop, ×_prop}
@@ -14,11 +14,12 @@ use Rattle.ring_records.specs.Member.{Member}
 use Rattle.ring_records.specs.Message.{key_of}
 use Rattle.ring_records.specs.Snapshot.{IsCandidateOf, IsStateOf, IsMessageOf, IsSound, Spells}
 use Rattle.ring_records.specs.Summary.{empty}
-use Rattle.gated_journal.specs.Areas.{AreAreas, HasBase, ReadsAt, ReadsAs}
+use Rattle.gated_journal.specs.Areas.{Counts, AreAreas, HasBase, IsPlain, Begins, ReadsAt, ReadsAs}
 use Rattle.gated_journal.specs.Frames.{frames, joined, AreBatches, ReadsTo}
 use Rattle.gated_journal.specs.Props.{key_prop, candidate_prop, IsBatch-prop}
-use Rattle.gated_journal.specs.Reading.{Reading, HasHeader}
+use Rattle.gated_journal.specs.Reading.{Reading, mark, old_mark, HasHeader}
 use Rattle.gated_journal.proofs.AreaAlone.{alone}
+use Rattle.gated_journal.proofs.Head.{two_marks}
 use Rattle.gated_journal.proofs.Unique.{parts-unique}
 
 Inputs-set : IsSet (List Input)
@@ -115,9 +116,16 @@ Spells-prop layout n bytes s p q i =
 
 -- ---- a journal
 
+-- the marks are two
+Marked-prop : (image : List ℕ) → IsProp ((take 8 image ≡ mark) ⊎ (take 8 image ≡ old_mark))
+Marked-prop image (inl a) (inl b) = λ i. inl (Bytes-set _ _ a b i)
+Marked-prop image (inl a) (inr b) = absurd (two_marks image a b)
+Marked-prop image (inr a) (inl b) = absurd (two_marks image b a)
+Marked-prop image (inr a) (inr b) = λ i. inr (Bytes-set _ _ a b i)
+
 HasHeader-prop : (header : Member) (image : List ℕ) → IsProp (HasHeader header image)
 HasHeader-prop header image p q i = record {
-  marked = Bytes-set _ _ p.marked q.marked i;
+  marked = Marked-prop image p.marked q.marked i;
   node = Numbers-set _ _ p.node q.node i;
   n = Numbers-set _ _ p.n q.n i;
   capacity = Numbers-set _ _ p.capacity q.capacity i;
@@ -140,6 +148,26 @@ HasBase-prop n start image r offset p q i = record {
   snapshot = Spells-prop r.layout n _ r.base p.snapshot q.snapshot i;
 }
 
+IsPlain-prop : (start : ℕ) (image : List ℕ) (r : Reading) (offset : ℕ) → IsProp (IsPlain start image r offset)
+IsPlain-prop start image r offset p q =
+    let none_prop : IsProp (Counts 16 image → ⊥) = hlevel props in
+    λ i. record {
+      start_is = Numbers-set _ _ p.start_is q.start_is i;
+      offset_is = Numbers-set _ _ p.offset_is q.offset_is i;
+      marked = Bytes-set _ _ p.marked q.marked i;
+      none = none_prop p.none q.none i;
+      layout = Numbers-set _ _ p.layout q.layout i;
+      epoch = Numbers-set _ _ p.epoch q.epoch i;
+      base = Coded-set coded_summary _ _ p.base q.base i;
+    }
+
+-- by its layout it begins in one way
+Begins-prop : (n start : ℕ) (image : List ℕ) (r : Reading) (offset : ℕ) → IsProp (Begins n start image r offset)
+Begins-prop n start image r offset (inl a) (inl b) = λ i. inl (Numbers-set _ _ a.0 b.0 i, HasBase-prop n start image r offset a.1 b.1 i)
+Begins-prop n start image r offset (inl a) (inr q) = absurd (omega (arith, a.1.known.0, q.layout))
+Begins-prop n start image r offset (inr p) (inl b) = absurd (omega (arith, b.1.known.0, p.layout))
+Begins-prop n start image r offset (inr p) (inr q) = λ i. inr (IsPlain-prop start image r offset p q i)
+
 -- where an image is read: the area in use, the other one, the frames, and their closed gate
 abbrev Places : Type 0
 Places = ℕ × (ℕ × (ℕ × ℕ))
@@ -152,8 +180,7 @@ module _ (header : Member) (image : List ℕ) (r : Reading) where
   ReadsIn-prop places p q i = record {
     head = HasHeader-prop header image p.head q.head i;
     areas = AreAreas-prop header.capacity places.0 places.1.0 p.areas q.areas i;
-    gate = Numbers-set _ _ p.gate q.gate i;
-    base = HasBase-prop header.n places.0 image r places.1.1.0 p.base q.base i;
+    begins = Begins-prop header.n places.0 image r places.1.1.0 p.begins q.begins i;
     older = λ counts. le_prop (p.older counts) (q.older counts) i;
     frames = ReadsTo-prop r.layout places.1.1.0 image r.inputs places.1.1.1 p.frames q.frames i;
     within = le_prop p.within q.within i;

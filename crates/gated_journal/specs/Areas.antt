@@ -1,6 +1,6 @@
 -- The two areas of a journal, and what an image reads as by the one that is read. An area is a gate, a layout,
 -- an epoch, the length of a snapshot, the snapshot, and frames behind it.
-use Rattle.std.specs.Prelude.{◌≡◌, ◌≢◌, ◌⊎◌, ◌+◌, ◌<◌, ◌≤◌, ℕ, Bool, true, false, if◌then◌else◌, List, [], ◌∷◌, ◌++◌, length, take, drop, slice_index}
+use Rattle.std.specs.Prelude.{◌≡◌, ◌≢◌, ◌⊎◌, ◌+◌, ◌==◌, ◌&&◌, ◌<◌, ◌≤◌, ℕ, Bool, true, false, if◌then◌else◌, List, [], ◌∷◌, ◌++◌, length, take, drop, slice_index}
 use Rattle.std.specs.Int.{w32, w64, to_be_bytes}
 use Rattle.disk_model.specs.Disk.{Disk, MayLeave}
 use Rattle.ring_records.specs.declared.summary.Summary.{Summary}
@@ -9,7 +9,7 @@ use Rattle.ring_records.specs.Member.{Member}
 use Rattle.ring_records.specs.Snapshot.{Spells, snapshot_of, snapshot_len}
 use Rattle.ring_records.specs.Summary.{empty}
 use Rattle.gated_journal.specs.Frames.{ReadsTo}
-use Rattle.gated_journal.specs.Reading.{Reading, number_at, mark, HasHeader}
+use Rattle.gated_journal.specs.Reading.{Reading, number_at, mark, old_mark, HasHeader}
 
 -- ---- an area
 
@@ -67,6 +67,21 @@ pub record HasBase (n start : ℕ) (image : List ℕ) (r : Reading) (offset : �
   pub there : offset ≤ length image
   pub snapshot : Spells r.layout n (snapshot_at start image) r.base
 
+-- No area at the place of area A counts under the old mark, and frames begin there: layout 1, of which nothing is
+-- summarised.
+pub record IsPlain (start : ℕ) (image : List ℕ) (r : Reading) (offset : ℕ) : Type 0 where
+  pub start_is : start ≡ area_a
+  pub offset_is : offset ≡ area_a
+  pub marked : take 8 image ≡ old_mark
+  pub none : Counts area_a image → ⊥
+  pub layout : r.layout ≡ 1
+  pub epoch : r.epoch ≡ 0
+  pub base : r.base ≡ empty
+
+-- what is read at `start` begins as r does: as an area whose gate is open, or plainly
+abbrev pub Begins : ℕ → ℕ → List ℕ → Reading → ℕ → Type 0
+Begins n start image r offset = ((slice_index image start ≡ 1) × HasBase n start image r offset) ⊎ IsPlain start image r offset
+
 -- the bytes behind the gate of an area without frames, and its closed gate
 abbrev pub new_area : ℕ → ℕ → Summary → List ℕ
 new_area layout epoch s = layout ∷ to_be_bytes w64 epoch ++ to_be_bytes w32 (snapshot_len layout s) ++ snapshot_of layout s ++ 0 ∷ []
@@ -81,13 +96,12 @@ blank_area layout s = 0 ∷ 0 ∷ 0 ∷ 0 ∷ 0 ∷ 0 ∷ 0 ∷ 0 ∷ 0 ∷ to_b
 abbrev pub new_areas : Member → List ℕ
 new_areas header = mark ++ header.node ∷ header.n ∷ to_be_bytes w32 header.capacity ++ 0 ∷ 0 ∷ 1 ∷ new_area newest 1 empty
 
--- The image has this header and reads as r: of the area at `start`, whose gate is open, with frames from `offset` on and
--- the closed gate at `gate_at`. The other area does not count, or its epoch is less.
+-- The image has this header and reads as r: of what begins at `start`, with frames from `offset` on and the closed gate at
+-- `gate_at`. The other area does not count, or its epoch is less.
 pub record ReadsAt (header : Member) (image : List ℕ) (r : Reading) (start other offset gate_at : ℕ) : Type 0 where
   pub head : HasHeader header image
   pub areas : AreAreas header.capacity start other
-  pub gate : slice_index image start ≡ 1
-  pub base : HasBase header.n start image r offset
+  pub begins : Begins header.n start image r offset
   pub older : Counts other image → epoch_at other image < r.epoch
   pub frames : ReadsTo r.layout offset image r.inputs gate_at
   pub within : gate_at ≤ start + head_len + header.capacity
@@ -118,6 +132,11 @@ ReadsAtOneOf header old start other offset gate_at new next image = ReadsAt head
 pub record IsGate (is_closed : Bool) (other : ℕ) (image : List ℕ) : Type 0 where
   pub shut : is_closed ≡ true → (other < length image) × (slice_index image other ≢ 1)
   pub not_shut : is_closed ≡ false → other < length image → slice_index image other ≡ 1
+
+-- whether it is known so of an area that a checkpoint leaves: it is closed where frames were read plainly, and there were
+-- none
+abbrev pub leaves_closed : ℕ → ℕ → ℕ → Bool
+leaves_closed layout start gate_at = layout == 1 && gate_at == start
 
 -- where a checkpoint writes its first 0: to the gate, or behind one that is closed already
 abbrev pub first_write : Bool → ℕ → ℕ

@@ -1,8 +1,8 @@
 -- Which of the two areas is read, and what the parts of the reader find of it.
-use Rattle.std.specs.Prelude.{◌≡◌, ◌⊎◌, ◌^◌, ◌<◌, ◌≤◌, ℕ, List, length, slice_index}
+use Rattle.std.specs.Prelude.{◌≡◌, ◌⊎◌, ◌^◌, ◌<◌, ◌≤◌, ℕ, Bool, true, false, List, length, take, slice_index}
 use Rattle.ring_records.specs.Admission.{epochs}
 use Rattle.gated_journal.specs.Areas.{area_a, area_b, AreAreas, layout_at, epoch_at, size_at, frames_of, Counts, IsGate}
-use Rattle.gated_journal.specs.Reading.{Reading}
+use Rattle.gated_journal.specs.Reading.{Reading, mark, old_mark}
 use Rattle.gated_journal.specs.declared.area.Area.{Area}
 use Rattle.gated_journal.specs.declared.area.Area.TheVariants.{A, B}
 use Rattle.gated_journal.specs.declared.area.Chosen.{Chosen}
@@ -21,6 +21,12 @@ abbrev pub IsUnchosen : ℕ → List ℕ → Type 0
 IsUnchosen capacity image =
     ((Counts area_a image → ⊥) × (Counts (area_b capacity) image → ⊥))
     ⊎ (Counts area_a image × Counts (area_b capacity) image × (epoch_at area_a image ≡ epoch_at (area_b capacity) image))
+
+-- none counts, under the mark of a journal that began without areas: frames alone are read
+pub record IsPlainly (capacity : ℕ) (image : List ℕ) : Type 0 where
+  pub marked : take 8 image ≡ old_mark
+  pub first : Counts area_a image → ⊥
+  pub second : Counts (area_b capacity) image → ⊥
 
 -- the offset of an area, and that of the other one
 abbrev pub start_of : ℕ → Area → ℕ
@@ -51,6 +57,25 @@ pub record IsUsed (capacity : ℕ) (image : List ℕ) (chosen : Chosen) : Type 0
   pub there : chosen.offset ≤ length image
   pub near : chosen.offset < 2 ^ 40
   pub gate : IsGate chosen.is_closed chosen.other image
+
+-- or frames alone are read, and the gate of area B is known
+pub record IsUsedPlainly (capacity : ℕ) (image : List ℕ) (chosen : Chosen) : Type 0 where
+  pub plainly : IsPlainly capacity image
+  pub start : chosen.start ≡ area_a
+  pub other : chosen.other ≡ area_b capacity
+  pub layout : chosen.layout ≡ 1
+  pub epoch : chosen.epoch ≡ 0
+  pub offset : chosen.offset ≡ area_a
+  pub there : area_a ≤ length image
+  pub gate : IsGate chosen.is_closed chosen.other image
+
+-- the one or the other
+abbrev pub IsInUseBy : ℕ → List ℕ → Chosen → Type 0
+IsInUseBy capacity image chosen = IsUsed capacity image chosen ⊎ IsUsedPlainly capacity image chosen
+
+-- the mark is the old one, or it is not
+abbrev pub IsMarked : Bool → List ℕ → Type 0
+IsMarked is_old image = (is_old ≡ true → take 8 image ≡ old_mark) × (is_old ≡ false → take 8 image ≡ mark)
 
 -- what the area that was chosen is read as
 abbrev pub reading_of : Chosen → Contents → Reading

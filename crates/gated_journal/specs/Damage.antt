@@ -7,7 +7,7 @@ use Rattle.ring_records.specs.declared.summary.Summary.{Summary}
 use Rattle.ring_records.specs.Admission.{epochs}
 use Rattle.ring_records.specs.Snapshot.{Spells}
 use Rattle.gated_journal.specs.Areas.{area_a, head_len, AreAreas, layout_at, epoch_at, frames_of, snapshot_at, HasBase}
-use Rattle.gated_journal.specs.Choose.{IsChosen, IsUnchosen}
+use Rattle.gated_journal.specs.Choose.{IsChosen, IsUnchosen, IsPlainly}
 use Rattle.gated_journal.specs.Frames.{body, frames, joined, IsBatch, AreBatches, ReadsTo}
 use Rattle.gated_journal.specs.Reading.{Reading}
 
@@ -67,6 +67,11 @@ pub record IsAreaBroken (n capacity : ℕ) (image : List ℕ) (refusal : Refusal
   pub area : IsChosen start other image
   pub cause : ((refusal ≡ Damaged start) × IsHeadBroken n start image) ⊎ AreFramesBroken n capacity start image refusal
 
--- no area is read, or the one that is read is broken
+-- the frames that are read alone are broken, or take more than the capacity
+pub record IsPlainBroken (capacity : ℕ) (image : List ℕ) (refusal : Refusal) : Type 0 where
+  pub plainly : IsPlainly capacity image
+  pub cause : IsBroken 1 area_a image refusal ⊎ ((refusal ≡ Damaged area_a) × GoesPast 1 (area_a + head_len + capacity) area_a image)
+
+-- no area is read, nor frames alone, or what is read is broken
 pub record AreAreasUnread (n capacity : ℕ) (image : List ℕ) (refusal : Refusal) : Type 0 where
-  pub cause : ((refusal ≡ Damaged area_a) × IsUnchosen capacity image) ⊎ IsAreaBroken n capacity image refusal
+  pub cause : ((refusal ≡ Damaged area_a) × IsUnchosen capacity image × (IsPlainly capacity image → ⊥)) ⊎ (IsAreaBroken n capacity image refusal ⊎ IsPlainBroken capacity image refusal)

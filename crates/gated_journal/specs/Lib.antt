@@ -6,6 +6,7 @@ pub mod Feeding
 pub mod Found
 pub mod Frames
 pub mod Journal
+pub mod Listed
 pub mod NextFrame
 pub mod Pieces
 pub mod Place

@@ -12,6 +12,7 @@ use Rattle.gated_journal.specs.declared.work.Work.{Work}
 pub record IsReadHere (header : Member) (image : List ℕ) (place : Place) (r : Reading) : Type 0 where
   pub capacity : place.capacity ≡ header.capacity
   pub at : ReadsAt header image r place.area.start place.area.other place.area.offset place.gate_at
+  pub layout : r.layout ≡ place.area.layout
   pub epoch : r.epoch ≡ place.area.epoch
   pub count : count_in r ≡ place.count
   pub used : used_in r ≡ place.used

@@ -1,5 +1,5 @@
 -- What an image of a journal reads as, and the header that it begins with.
-use Rattle.std.specs.Prelude.{◌≡◌, ◌+◌, ◌*◌, ◌≤◌, ℕ, zero, suc, Bool, nat_le, ◌&&◌, List, [], ◌++◌, length, take, slice_index, codes}
+use Rattle.std.specs.Prelude.{◌≡◌, ◌⊎◌, ◌+◌, ◌*◌, ◌≤◌, ℕ, zero, suc, Bool, nat_le, ◌&&◌, List, [], ◌++◌, length, take, slice_index, codes}
 use Rattle.ring_records.specs.declared.input.Input.{Input}
 use Rattle.ring_records.specs.declared.limits.TheConstants.{GREATEST_CAPACITY, LEAST_CAPACITY}
 use Rattle.ring_records.specs.declared.summary.Summary.{Summary}
@@ -57,16 +57,16 @@ is_header header = nat_le 2 header.n && (nat_le header.n 16 && (nat_le header.no
 abbrev pub device_size : ℕ → ℕ
 device_size capacity = 46 + 2 * capacity
 
--- the mark of a journal with two areas, and that of one with none
+-- the mark of a journal with two areas, and that of one that began with none
 abbrev pub mark : List ℕ
 mark = codes "CRJRNL02"
 
 abbrev pub old_mark : List ℕ
 old_mark = codes "CRJRNL01"
 
--- the image begins with the mark and this header, whose capacity is in its range
+-- the image begins with a mark and this header, whose capacity is in its range
 pub record HasHeader (header : Member) (image : List ℕ) : Type 0 where
-  pub marked : take 8 image ≡ mark
+  pub marked : (take 8 image ≡ mark) ⊎ (take 8 image ≡ old_mark)
   pub node : slice_index image 8 ≡ header.node
   pub n : slice_index image 9 ≡ header.n
   pub capacity : number_at 4 10 image ≡ header.capacity

@@ -1,9 +1,9 @@
 -- Why an image does not read: the first fault, from the header on.
-use Rattle.std.specs.Prelude.{◌≡◌, ◌⊎◌, ◌+◌, ◌-◌, ◌==◌, ◌&&◌, not, min, ◌^◌, ◌≤◌, ℕ, nat_lt, nat_le, if◌then◌else◌, List, length, take, slice_index, Result, Ok, Err}
+use Rattle.std.specs.Prelude.{◌≡◌, ◌⊎◌, ◌+◌, ◌-◌, ◌==◌, ◌&&◌, ◌||◌, not, min, ◌^◌, ◌≤◌, ℕ, nat_lt, nat_le, if◌then◌else◌, List, length, take, slice_index, Result, Ok, Err}
 use Rattle.std.specs.Str.{bytes_eq}
 use Rattle.ring_records.specs.declared.limits.TheConstants.{GREATEST_CAPACITY, LEAST_CAPACITY}
 use Rattle.ring_records.specs.declared.refusal.Refusal.{Refusal}
-use Rattle.ring_records.specs.declared.refusal.Refusal.TheVariants.{NotFormatted, OldLayout, WrongNode, Damaged, OutOfMemory, Device}
+use Rattle.ring_records.specs.declared.refusal.Refusal.TheVariants.{NotFormatted, WrongNode, Damaged, OutOfMemory, Device}
 use Rattle.gated_journal.specs.Damage.{AreAreasUnread}
 use Rattle.gated_journal.specs.Reading.{number_at, mark, old_mark}
 
@@ -12,7 +12,7 @@ use Rattle.gated_journal.specs.Reading.{number_at, mark, old_mark}
 -- the capacity that the first 16 bytes name, for this node of a ring of n
 abbrev pub head_at : ℕ → ℕ → List ℕ → Result ℕ Refusal
 head_at node n head =
-    if not (bytes_eq (take 8 head) mark) then Err (if bytes_eq (take 8 head) old_mark then OldLayout 1 else NotFormatted)
+    if not (bytes_eq (take 8 head) mark || bytes_eq (take 8 head) old_mark) then Err NotFormatted
     else (if not (slice_index head 8 == node && slice_index head 9 == n) then Err WrongNode
     else (if not (nat_le LEAST_CAPACITY (number_at 4 10 head) && nat_le (number_at 4 10 head) GREATEST_CAPACITY) then Err (Damaged 10)
     else (if not (number_at 2 14 head == 0) then Err (Damaged 14)

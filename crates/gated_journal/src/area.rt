@@ -1,8 +1,8 @@
 //! The heads of a journal's two areas, and which of them is read.
 ghost use Rattle.std.specs.Prelude.{◌≡◌, ◌+◌, ◌≤◌, ◌<◌, ◌^◌, ◌⊎◌, ℕ, List, length, Decides, MatchOption, IfOk, IfErr, OnOk};
 ghost use Rattle.disk_model.specs.Disk.{MayLeave, IsPart, LeavesOnly, Reaches, IsInReach};
-ghost use Rattle.gated_journal.specs.Areas.{area_a, area_b, AreAreas, Counts};
-ghost use Rattle.gated_journal.specs.Choose.{IsHeadOf, IsChosen, IsUnchosen, IsUsed, start_of, other_of};
+ghost use Rattle.gated_journal.specs.Areas.{area_a, area_b, leaves_closed, AreAreas, Counts};
+ghost use Rattle.gated_journal.specs.Choose.{IsHeadOf, IsChosen, IsUnchosen, IsPlainly, IsUsed, IsUsedPlainly, IsInUseBy, IsMarked, start_of, other_of};
 ghost use Rattle.gated_journal.specs.Damage.{AreAreasUnread};
 ghost use Rattle.gated_journal.specs.Unread.{IsFault};
 
@@ -31,6 +31,14 @@ pub(crate) struct Chosen {
     pub(crate) epoch: u64,
     // where its frames begin
     pub(crate) offset: u64,
+}
+
+/// Whether the gate of the area in use, whose closed gate is at `gate_at`, is closed itself: so it is where frames are read
+/// plainly, and there are none.
+pub(crate) fn leaves_closed(area: &Chosen, gate_at: u64) -> bool
+    ensures { result ≡ leaves_closed area.now.layout area.now.start gate_at }
+{
+    area.layout == 1 && gate_at == area.start
 }
 
 // One of the two areas.
@@ -105,13 +113,47 @@ fn take_area(head: &Head, start: u64, over: &Head, other: u64, size: u64) -> Res
     })
 }
 
-// The area that is read of an image of this size with these heads.
-fn pick(a: &Head, b: &Head, capacity: u32, size: u64) -> Result<Chosen, Refusal>
-    ensures used { IfOk result (λ chosen. (image : List ℕ) → length image ≡ size → IsHeadOf a.now area_a image → IsHeadOf b.now (area_b capacity) image
-        → IsUsed capacity image chosen) }
-    ensures broken { IfErr result (λ refusal. (n : ℕ) (image : List ℕ) → length image ≡ size → IsHeadOf a.now area_a image → IsHeadOf b.now (area_b capacity) image
+// Frames alone, with the gate of area B.
+fn take_plainly(over: &Head, capacity: u32, size: u64) -> Chosen
+    ensures { (image : List ℕ) → length image ≡ size → area_a ≤ size → IsPlainly capacity image → IsHeadOf over.now (area_b capacity) image → IsUsedPlainly capacity image result }
+{
+    let other = area_b(capacity);
+    let is_closed = other < size && over.gate != 1;
+    Chosen {
+        start: AREA_A,
+        other,
+        is_closed,
+        layout: 1,
+        epoch: 0,
+        offset: AREA_A,
+    }
+}
+
+// Whether frames alone are read.
+fn is_plainly(a: &Head, b: &Head, is_old: bool) -> bool
+    ensures { (capacity : ℕ) (image : List ℕ) → IsMarked is_old image → IsHeadOf a.now area_a image → IsHeadOf b.now (area_b capacity) image
+        → Decides result (IsPlainly capacity image) }
+{
+    if !is_old {
+        return false;
+    }
+    if a.counts() {
+        return false;
+    }
+    !b.counts()
+}
+
+// What is read of an image of this size with these heads.
+fn pick(a: &Head, b: &Head, capacity: u32, is_old: bool, size: u64) -> Result<Chosen, Refusal>
+    requires long { area_a ≤ size }
+    ensures used { IfOk result (λ chosen. (image : List ℕ) → length image ≡ size → IsMarked is_old image → IsHeadOf a.now area_a image → IsHeadOf b.now (area_b capacity) image
+        → IsInUseBy capacity image chosen) }
+    ensures broken { IfErr result (λ refusal. (n : ℕ) (image : List ℕ) → length image ≡ size → IsMarked is_old image → IsHeadOf a.now area_a image → IsHeadOf b.now (area_b capacity) image
         → AreAreasUnread n capacity image refusal) }
 {
+    if is_plainly(a, b, is_old) {
+        return Ok(take_plainly(b, capacity, size));
+    }
     match choose(a, b) {
         None => Err(Refusal::Damaged(AREA_A)),
         Some(Area::A) => take_area(a, AREA_A, b, area_b(capacity), size),
@@ -176,10 +218,16 @@ fn read_heads<D: Device>(device: &mut D, capacity: u32) -> Result<(Head, Head), 
     }
 }
 
-/// Reads the heads of both areas: the one that is read. Refused as 15; as 16 with the offset of area A where none is,
-/// and with that of the area where its head is broken.
-pub(crate) fn choose_area<D: Device>(device: &mut D, capacity: u32) -> Result<Chosen, Refusal>
-    ensures used { IfOk result (λ chosen. IsUsed capacity (D.disk device.old).image chosen) }
+/// Reads the heads of both areas: the one that is read, or frames alone. Refused as 15; as 16 with the offset of area A
+/// where none is, and with that of the area where its head is broken.
+pub(crate) fn choose_area<D: Device>(
+    device: &mut D,
+    capacity: u32,
+    is_old: bool,
+) -> Result<Chosen, Refusal>
+    requires long { area_a ≤ length (D.disk device.old).image }
+    requires marked { IsMarked is_old (D.disk device.old).image }
+    ensures used { IfOk result (λ chosen. IsInUseBy capacity (D.disk device.old).image chosen) }
     ensures disk { D.disk device.new ≡ D.disk device.old }
     ensures any_moment { LeavesOnly D.clock D.left_since device.old device.new (MayLeave (D.disk device.old)) }
     ensures refusal { IfErr result (λ refusal. IsFault (D.count device.old) (D.count device.new) refusal ⊎ ((n : ℕ) → AreAreasUnread n capacity (D.disk device.old).image refusal)) }
@@ -191,6 +239,6 @@ pub(crate) fn choose_area<D: Device>(device: &mut D, capacity: u32) -> Result<Ch
 {
     match read_heads(device, capacity) {
         Err(refusal) => Err(refusal),
-        Ok((a, b)) => pick(&a, &b, capacity, device.size()),
+        Ok((a, b)) => pick(&a, &b, capacity, is_old, device.size()),
     }
 }

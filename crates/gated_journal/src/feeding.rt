@@ -13,7 +13,7 @@ use ring_records::Refusal;
 use std::alloc::Global;
 
 // How many bytes are read at once, at most.
-const PIECE: usize = 4096;
+pub(crate) const PIECE: usize = 4096;
 
 // Reads the bytes from `at` on, as many as the buffer takes, and feeds them.
 fn feed_from<D: Device>(

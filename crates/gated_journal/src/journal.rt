@@ -93,8 +93,8 @@ impl<D: Device> Journal<D> {
     }
 
     /// The journal that a device holds, which it makes stable first, and what its area in use holds. What was committed
-    /// is there, and of a batch that a stop came upon all or nothing. Refused as 15; as 17 where there is no header; as 18
-    /// where it is that of a journal without areas; as 19 where it names another node or ring size; as 16 with the offset
+    /// is there, and of a batch that a stop came upon all or nothing. A journal that began without areas is read too.
+    /// Refused as 15; as 17 where there is no header; as 19 where it names another node or ring size; as 16 with the offset
     /// of what is damaged; and as 8.
     pub fn reopen(
         alloc: Global,

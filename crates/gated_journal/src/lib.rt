@@ -15,6 +15,7 @@ mod joined;
 mod journal;
 pub mod laws;
 mod layout;
+mod listed;
 mod next_frame;
 mod open;
 mod opening;

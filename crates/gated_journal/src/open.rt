@@ -1,10 +1,12 @@
 //! What a device holds, read from its start.
-ghost use Rattle.std.specs.Prelude.{◌≡◌, ◌≤◌, ◌⊎◌, ℕ, List, Ok, Err, length, IfOk, IfErr, OnOk, OnErr};
+ghost use Rattle.std.specs.Prelude.{◌≡◌, ◌≤◌, ◌⊎◌, ℕ, List, Ok, Err, length, take, IfOk, IfErr, OnOk, OnErr};
 ghost use Rattle.disk_model.specs.Disk.{MayLeave, IsSynced, LeavesOnly, Reaches, IsInReach, synced};
 ghost use Rattle.ring_records.specs.declared.refusal.Refusal.TheVariants.{OutOfMemory};
 ghost use Rattle.ring_records.specs.Member.{member};
 ghost use Rattle.gated_journal.specs.Areas.{ReadsAt, IsGate};
-ghost use Rattle.gated_journal.specs.Choose.{reading_of};
+ghost use Rattle.gated_journal.specs.Choose.{reading_of, IsMarked};
+ghost use Rattle.std.specs.Str.{bytes_eq};
+ghost use Rattle.gated_journal.specs.Reading.{old_mark};
 ghost use Rattle.gated_journal.specs.Frames.{ReadsTo};
 ghost use Rattle.gated_journal.specs.Unread.{head_at, header_at, IsFault, IsUnread, IsUnopened};
 
@@ -42,14 +44,18 @@ fn settle<D: Device>(device: &mut D) -> Result<(), Refusal>
     }
 }
 
+// Whether the mark is that of a journal that began without areas.
+fn is_old(head: &[u8; 16]) -> bool
+    ensures { result ≡ bytes_eq (take 8 head.now) old_mark }
+{
+    head.starts_with(b"CRJRNL01")
+}
+
 // The capacity that a header names.
 fn capacity_of(head: &[u8; 16], node: NodeNo, n: u8) -> Result<u32, Refusal>
     ensures { result ≡ head_at node n head.now }
 {
-    if !head.starts_with(b"CRJRNL02") {
-        if head.starts_with(b"CRJRNL01") {
-            return Err(Refusal::OldLayout(1));
-        }
+    if !(head.starts_with(b"CRJRNL02") || is_old(head)) {
         return Err(Refusal::NotFormatted);
     }
     if !(head[8] == node.number() && head[9] == n) {
@@ -65,9 +71,23 @@ fn capacity_of(head: &[u8; 16], node: NodeNo, n: u8) -> Result<u32, Refusal>
     Ok(capacity)
 }
 
-// Makes the device stable, and reads its header: the capacity.
-fn read_header<D: Device>(device: &mut D, node: NodeNo, n: u8) -> Result<u32, Refusal>
-    ensures header { IfOk result (λ capacity. header_at node n (D.disk device.old).image ≡ Ok capacity) }
+// The same, and whether the mark is that of a journal that began without areas.
+fn header_of(head: &[u8; 16], node: NodeNo, n: u8) -> Result<(u32, bool), Refusal>
+    ensures header { IfOk result (λ found. head_at node n head.now ≡ Ok found.0) }
+    ensures marked { IfOk result (λ found. IsMarked found.1 head.now) }
+    ensures refusal { IfErr result (λ refusal. head_at node n head.now ≡ Err refusal) }
+{
+    match capacity_of(head, node, n) {
+        Ok(capacity) => Ok((capacity, is_old(head))),
+        Err(refusal) => Err(refusal),
+    }
+}
+
+// Makes the device stable, and reads its header: the capacity, and whether its mark is that of a journal that began without
+// areas.
+fn read_header<D: Device>(device: &mut D, node: NodeNo, n: u8) -> Result<(u32, bool), Refusal>
+    ensures header { IfOk result (λ found. header_at node n (D.disk device.old).image ≡ Ok found.0) }
+    ensures marked { IfOk result (λ found. IsMarked found.1 (D.disk device.old).image) }
     ensures synced { OnOk result (IsSynced (D.disk device.new)) }
     ensures disk { OnOk result (D.disk device.new ≡ synced (D.disk device.old)) }
     ensures kept { (D.disk device.new ≡ D.disk device.old) ⊎ (D.disk device.new ≡ synced (D.disk device.old)) }
@@ -92,7 +112,7 @@ fn read_header<D: Device>(device: &mut D, node: NodeNo, n: u8) -> Result<u32, Re
     if let Err(refusal) = read_part(device, 0, &mut head) {
         return Err(refusal);
     }
-    capacity_of(&head, node, n)
+    header_of(&head, node, n)
 }
 
 /// Makes the device stable, and reads what it holds: the journal of this node of a ring of `n`.
@@ -119,7 +139,7 @@ pub(crate) fn open<D: Device>(
 {
     match read_header(device, node, n) {
         Err(refusal) => Err(refusal),
-        Ok(capacity) => match read_areas(alloc, device, n, capacity) {
+        Ok((capacity, is_old)) => match read_areas(alloc, device, n, capacity, is_old) {
             Err(refusal) => Err(refusal),
             Ok((area, contents)) => Ok(Opened {
                 capacity,

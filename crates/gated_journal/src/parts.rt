@@ -7,6 +7,7 @@ ghost use Rattle.ring_records.specs.Admission.{epochs};
 ghost use Rattle.gated_journal.specs.Areas.{IsLayout};
 ghost use Rattle.gated_journal.specs.Choose.{IsHeadOf};
 ghost use Rattle.gated_journal.specs.Pieces.{IsAreaRead, IsAreaDamaged};
+ghost use Rattle.gated_journal.specs.Listed.{Lists, IsListed};
 ghost use Rattle.gated_journal.specs.Found.{InSnapshot, InFrames, IsFound, IsWaiting, IsBefore, IsOpen, IsRoom, Holds, HasRoom, AreAlike, IsReader, answer_of};
 
 use crate::area::{Head, head_in};
@@ -117,7 +118,7 @@ fn keep_behind(stage: Stage, bytes: &mut Vec<u8>, taken: usize)
     }
 }
 
-fn drop_front(bytes: &mut Vec<u8>, count: usize)
+pub(crate) fn drop_front(bytes: &mut Vec<u8>, count: usize)
     requires { count ≤ length bytes.old.items }
     ensures { bytes.new.items ≡ drop count bytes.old.items }
 {
@@ -286,13 +287,17 @@ fn take_snapshot(snapshot: &mut SummaryReader, left: u32, bytes: &[u8]) -> (Stag
 }
 
 // A frame with its gate.
-fn take_framed(inputs: &mut Vec<Input>, at: u64, bytes: &[u8]) -> (Stage, usize)
+pub(crate) fn take_framed(inputs: &mut Vec<Input>, at: u64, bytes: &[u8]) -> (Stage, usize)
     requires room { length bytes.now ≤ 9 * (vec_capacity inputs.old - vec_len inputs.old) }
     ensures holds { (layout n : ℕ) (snapshot taken : List ℕ) → at ≡ length taken → InFrames layout n snapshot taken inputs.old.items
         → IsFound layout n result.0 snapshot inputs.new.items (taken ++ take result.1 bytes.now) (drop result.1 bytes.now) }
     ensures waits { result.1 ≡ 0 → IsWaiting result.0 bytes.now }
     ensures room { 1 ≤ result.1 → length bytes.now - result.1 ≤ 9 * (vec_capacity inputs.new - vec_len inputs.new) }
     ensures before { IsBefore result.0 → ⊥ }
+    ensures lists { (layout : ℕ) (taken : List ℕ) → Lists layout taken inputs.old.items
+        → IsListed layout result.0 (taken ++ take result.1 bytes.now) inputs.new.items (drop result.1 bytes.now) }
+    ensures damaged { (p : ℕ) → result.0 ≡ Stage.Damaged p → p ≡ at }
+    ensures more { 1 ≤ result.1 → result.0 ≡ Stage.Frames }
     ensures size { result.1 ≤ length bytes.now }
 {
     if bytes.is_empty() {

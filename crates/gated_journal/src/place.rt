@@ -7,7 +7,7 @@ ghost use Rattle.ring_records.specs.Member.{Member};
 ghost use Rattle.gated_journal.specs.Areas.{head_len, AreAreas, ReadsAsOneOf};
 ghost use Rattle.gated_journal.specs.Reading.{Reading, device_size};
 
-use crate::area::Chosen;
+use crate::area::{Chosen, leaves_closed};
 use crate::checkpoint::number;
 use crate::commit::append;
 use crate::flown::Flown;
@@ -87,7 +87,7 @@ impl Place {
                     area: Chosen {
                         start: self.area.other,
                         other: self.area.start,
-                        is_closed: false,
+                        is_closed: leaves_closed(&self.area, self.gate_at),
                         layout: LAYOUT,
                         epoch: self.area.epoch + 1,
                         offset,

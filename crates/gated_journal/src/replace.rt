@@ -1,11 +1,11 @@
 //! The six device calls of a checkpoint.
-ghost use Rattle.std.specs.Prelude.{◌≡◌, ◌+◌, ◌≤◌, ◌<◌, ◌^◌, ℕ, List, false, length, OnOk};
+ghost use Rattle.std.specs.Prelude.{◌≡◌, ◌+◌, ◌≤◌, ◌<◌, ◌^◌, ℕ, List, length, OnOk};
 ghost use Rattle.disk_model.specs.Disk.{IsSynced, LeavesOnly, HasCause, IsInReach};
 ghost use Rattle.ring_records.specs.declared.summary.Summary.{Summary};
 ghost use Rattle.ring_records.specs.Admission.{epochs, newest};
 ghost use Rattle.ring_records.specs.Member.{Member};
 ghost use Rattle.ring_records.specs.Snapshot.{Spells, snapshot_of, snapshot_len};
-ghost use Rattle.gated_journal.specs.Areas.{ReadsAt, ReadsAtOneOf, IsGate, IsStaged, MayReplace, new_area, head_len};
+ghost use Rattle.gated_journal.specs.Areas.{ReadsAt, ReadsAtOneOf, IsGate, leaves_closed, IsStaged, MayReplace, new_area, head_len};
 ghost use Rattle.gated_journal.specs.Reading.{Reading, fresh_area};
 
 use disk_model::{Device, DeviceFault, write_through};
@@ -49,7 +49,7 @@ pub(crate) fn open_area<D: Device>(device: &mut D, other: u64) -> Result<(), Dev
         → LeavesOnly D.clock D.left_since device.old device.new (ReadsAtOneOf header old start other offset gate_at r next) }
     ensures done { OnOk result ((header : Member) (old r : Reading) (start offset gate_at next : ℕ) → ReadsAt header (D.disk device.old).image old start other offset gate_at
         → IsStaged header.n other (D.disk device.old).image r next → next ≤ other + head_len + header.capacity → old.epoch < r.epoch
-        → ReadsAt header (D.disk device.new).image r other start next next × IsGate false start (D.disk device.new).image) }
+        → ReadsAt header (D.disk device.new).image r other start next next × IsGate (leaves_closed old.layout start gate_at) start (D.disk device.new).image) }
     ensures synced { OnOk result (IsSynced (D.disk device.new)) }
     ensures cause { HasCause (D.count device.old) (D.count device.new) result }
     ensures reach { IsInReach (other + 1) (D.reach device.old) (D.reach device.new) result }
@@ -73,7 +73,7 @@ pub(crate) fn replace_area<D: Device>(
     ensures done { OnOk result ((header : Member) (old : Reading) (start offset gate_at epoch : ℕ) (s : Summary)
         → MayReplace header (D.disk device.old).image old start other offset gate_at is_closed epoch s → bytes.now ≡ new_area newest epoch s
         → ReadsAt header (D.disk device.new).image (fresh_area newest epoch s) other start (other + head_len + snapshot_len newest s) (other + head_len + snapshot_len newest s)
-        × IsGate false start (D.disk device.new).image) }
+        × IsGate (leaves_closed old.layout start gate_at) start (D.disk device.new).image) }
     ensures synced { OnOk result (IsSynced (D.disk device.new)) }
     ensures cause { HasCause (D.count device.old) (D.count device.new) result }
     ensures reach { IsInReach (other + 1 + length bytes.now) (D.reach device.old) (D.reach device.new) result }

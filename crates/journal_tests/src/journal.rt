@@ -18,6 +18,7 @@ mod cuts;
 mod hostile;
 mod images;
 mod pieces;
+mod plain;
 mod rows;
 mod stops;
 
@@ -311,7 +312,6 @@ fn is_reopened<D: Device + Drop, R: Abort + AllocGlobal>(
 pub enum Verdict {
     Reads(u64, u64),
     NotFormatted,
-    OldLayout(u8),
     WrongNode,
     Damaged(u64),
 }
@@ -321,7 +321,6 @@ impl Verdict {
         match self {
             Verdict::Reads(inputs, epoch) => Ok((inputs, epoch)),
             Verdict::NotFormatted => Err(Refusal::NotFormatted),
-            Verdict::OldLayout(layout) => Err(Refusal::OldLayout(layout)),
             Verdict::WrongNode => Err(Refusal::WrongNode),
             Verdict::Damaged(at) => Err(Refusal::Damaged(at)),
         }

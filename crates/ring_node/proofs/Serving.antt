@@ -243,12 +243,16 @@ head_fault node n image count fault = grind (arith, nat_tests)
 areas_fault : (n capacity : ℕ) (image : List ℕ) (why : Refusal) (count : ℕ) → AreAreasUnread n capacity image why → why ≡ Device count → ⊥
 areas_fault n capacity image why count unread fault = elim unread.cause [
   | inl none ↦ let is = sym fault ∙ none.0 in absurd cc
-  | inr broken ↦ elim broken.cause [
+  | inr (inl broken) ↦ elim broken.cause [
     | inl head ↦ let is = sym fault ∙ head.0 in absurd cc
     | inr frames ↦ elim frames.cause [
       | inl at ↦ let is = sym fault ∙ at.is in absurd cc
       | inr past ↦ let is = sym fault ∙ past.0 in absurd cc
     ]
+  ]
+  | inr (inr plain) ↦ elim plain.cause [
+    | inl at ↦ let is = sym fault ∙ at.is in absurd cc
+    | inr past ↦ let is = sym fault ∙ past.0 in absurd cc
   ]
 ]
 

@@ -14,8 +14,10 @@ const OPEN_GATE: &[u8] =
 /// Its beginning, in which no area counts.
 const NO_AREA: &[u8] = b"CRJRNL02\x01\x02\x00\x01\x00\x00\x00\x00\x01";
 
-/// A journal of an earlier version, of node 1 of two: a header, and a closed gate.
-const OLD_LAYOUT: &[u8] = b"CRJRNL01\x01\x02\x00\x01\x00\x00\x00\x00\x00";
+/// Journals of an earlier version, of two nodes: a header, and a closed gate.
+const OLD_FIRST: &[u8] = b"CRJRNL01\x01\x02\x00\x01\x00\x00\x00\x00\x00";
+
+const OLD_SECOND: &[u8] = b"CRJRNL01\x02\x02\x00\x01\x00\x00\x00\x00\x00";
 
 const KILLED: &[u8] = b"nodes = 2\ndir = \"killed\"\nport = 7151\n";
 
@@ -96,13 +98,18 @@ fn journals_that_are_refused(rt: HostRuntime) {
 
 const EARLIER: &[u8] = b"nodes = 2\ndir = \"earlier\"\nport = 7255\n";
 
-static OLD_LAYOUTS: [Step; 6] = [
+static OLD_LAYOUTS: [Step; 8] = [
     Changes(&[Anew("earlier")]),
     Serves(EARLIER, 7255, b"stand red 5 10\n", b"stood"),
-    Changes(&[Writes("earlier/node-1.crj", OLD_LAYOUT)]),
-    Ends(SERVE, EARLIER, 1, b"ringd: node 1: oldlayout 1\n"),
-    // it is left as it is
-    Changes(&[Holds("earlier/node-1.crj", OLD_LAYOUT)]),
+    Changes(&[Writes("earlier/node-1.crj", OLD_FIRST)]),
+    Ends(SERVE, EARLIER, 1, b"ringd: nodes 1 and 2 do not fit\n"),
+    // it is left as it is; and where both are, they are read, and go on
+    Changes(&[
+        Holds("earlier/node-1.crj", OLD_FIRST),
+        Writes("earlier/node-2.crj", OLD_SECOND),
+    ]),
+    Serves(EARLIER, 7255, b"stand red 5 10\n", b"stood"),
+    Serves(EARLIER, 7255, b"stand red 5 10\n", b"no 3 already 10"),
     Changes(&[Clears("earlier")]),
 ];
 

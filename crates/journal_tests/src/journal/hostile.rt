@@ -1,5 +1,5 @@
 // Images of a new journal that no program writes: what is told of each, whole and in pieces.
-use super::Verdict::{Damaged, NotFormatted, OldLayout, Reads};
+use super::Verdict::{Damaged, NotFormatted, Reads, WrongNode};
 use super::images::{Row, is_read};
 use super::pieces::one_area;
 use super::*;
@@ -20,11 +20,12 @@ static CHANGED: [Row; 8] = [
     (&[(68, 1)], Damaged(68)),
 ];
 
-/// This image is read so by each node.
-fn each_node_reads<R: Abort + AllocGlobal>(rt: &R, image: &[u8], wanted: Verdict) {
+/// This image is read so by node 1, and so by any other.
+fn each_node_reads<R: Abort + AllocGlobal>(rt: &R, image: &[u8], first: Verdict, other: Verdict) {
     for number in 1..=16 {
         let node = NodeNo::new(number).expect(rt, "a node");
         let found = found_by(rt.alloc(), device(rt, &[(0, image)]), node);
+        let wanted = if number == 1 { first } else { other };
         assert_eq!(rt; found, wanted.answer(), "{number}");
     }
 }
@@ -40,6 +41,6 @@ fn hostile_images(rt: HostRuntime) {
     assert_eq!(rt; found(rt.alloc(), of_one_epoch), Damaged(16).answer());
     let mut old = FRESH;
     old[7] = b'1';
-    each_node_reads(&rt, &old[..17], OldLayout(1));
-    each_node_reads(&rt, &old[..16], NotFormatted);
+    each_node_reads(&rt, &old[..17], Damaged(16), WrongNode);
+    each_node_reads(&rt, &old[..16], NotFormatted, NotFormatted);
 }

@@ -1,5 +1,5 @@
 // Each fault of an image, with its offset, and which of two comes first; and which of two areas is read.
-use super::Verdict::{Damaged, NotFormatted, OldLayout, Reads, WrongNode};
+use super::Verdict::{Damaged, NotFormatted, Reads, WrongNode};
 use super::*;
 
 /// Bytes that are changed, and what is read then.
@@ -7,9 +7,9 @@ pub type Row = (&'static [(u64, u8)], Verdict);
 
 /// Changes of row `one_commit`.
 pub static ONE_AREA: [Row; 43] = [
-    // The mark, the node, the ring's size.
+    // The mark, which may be that of a journal that began without areas, the node, the ring's size.
     (&[(0, b'c')], NotFormatted),
-    (&[(7, b'1')], OldLayout(1)),
+    (&[(7, b'1')], Reads(1, 1)),
     (&[(7, b'3')], NotFormatted),
     (&[(8, 2)], WrongNode),
     (&[(9, 4)], WrongNode),
@@ -55,7 +55,7 @@ pub static ONE_AREA: [Row; 43] = [
     (&[(88, 1)], Damaged(88)),
     // Two faults: the first one.
     (&[(0, 0), (8, 2)], NotFormatted),
-    (&[(7, b'1'), (8, 2)], OldLayout(1)),
+    (&[(7, b'1'), (8, 2)], WrongNode),
     (&[(8, 2), (12, 0)], WrongNode),
     (&[(12, 0), (14, 1)], Damaged(10)),
     (&[(14, 1), (16, 0)], Damaged(14)),

@@ -83,8 +83,8 @@ fn another_node_or_ring(rt: HostRuntime) {
 
 /// The offset of a byte of a new node's device, another byte, and why the node is not recovered with that.
 const CHANGES: [(u64, u8, Refusal); 6] = [
-    // The mark of a journal without areas, and a capacity that is none.
-    (7, 0x31, Refusal::OldLayout(1)),
+    // A mark that is none, and a capacity that is none.
+    (7, 0x33, Refusal::NotFormatted),
     (10, 1, Refusal::Damaged(10)),
     // The gate, the layout and the snapshot of the one area, and an open gate with no frame behind it.
     (16, 0, Refusal::Damaged(16)),

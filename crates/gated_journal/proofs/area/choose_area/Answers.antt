@@ -8,10 +8,10 @@ sized : (g : _) (c : goal.After-pick g) → length (g.D.Device.disk c.args.devic
 sized g c = ap (λ (d : Disk). length d.image) (sym c.read_heads.ensures.disk) ∙ sym c.size.ensures
 
 pub returns-in-Ok-clause-used : goal.returns-in-Ok-clause-used
-returns-in-Ok-clause-used g c = on_value c.pick.result _ _ (λ chosen used. used (g.D.Device.disk c.args.device.now).image (sized g c) c.in-Ok.ensures.a c.in-Ok.ensures.b) c.pick.ensures.used
+returns-in-Ok-clause-used g c = on_value c.pick.result _ _ (λ chosen used. used (g.D.Device.disk c.args.device.now).image (sized g c) c.requires.marked c.in-Ok.ensures.a c.in-Ok.ensures.b) c.pick.ensures.used
 
 pub returns-in-Ok-clause-refusal : goal.returns-in-Ok-clause-refusal
-returns-in-Ok-clause-refusal g c = on_err c.pick.result _ _ (λ refusal broken. inr (λ n. broken n (g.D.Device.disk c.args.device.now).image (sized g c) c.in-Ok.ensures.a c.in-Ok.ensures.b)) c.pick.ensures.broken
+returns-in-Ok-clause-refusal g c = on_err c.pick.result _ _ (λ refusal broken. inr (λ n. broken n (g.D.Device.disk c.args.device.now).image (sized g c) c.requires.marked c.in-Ok.ensures.a c.in-Ok.ensures.b)) c.pick.ensures.broken
 
 pub returns-in-Ok-clause-works : goal.returns-in-Ok-clause-works
-returns-in-Ok-clause-works g c = λ reach. on_err c.pick.result _ _ (λ refusal broken n. broken n (g.D.Device.disk c.args.device.now).image (sized g c) c.in-Ok.ensures.a c.in-Ok.ensures.b) c.pick.ensures.broken
+returns-in-Ok-clause-works g c = λ reach. on_err c.pick.result _ _ (λ refusal broken n. broken n (g.D.Device.disk c.args.device.now).image (sized g c) c.requires.marked c.in-Ok.ensures.a c.in-Ok.ensures.b) c.pick.ensures.broken

@@ -1,12 +1,12 @@
 use Rattle.std.proofs.Common.{inl, inr, ⊎_elim, ℕ, length, subst, sym}
 use Rattle.disk_model.specs.Disk.{Disk, Reach, Reaches}
-use Rattle.gated_journal.specs.Choose.{IsUsed}
+use Rattle.gated_journal.specs.Choose.{IsInUseBy}
 use Rattle.gated_journal.specs.Damage.{AreAreasUnread}
 use Rattle.gated_journal.specs.Unread.{IsFault}
 use Rattle.gated_journal.proofs.contents.read_areas.Goals as goal
 
 pub read_area-requires : goal.read_area-requires
-read_area-requires g c = record { used = subst (λ (d : Disk). IsUsed c.args.capacity d.image c.in-Ok.area) (sym c.choose_area.ensures.disk) c.in-Ok.ensures.used }
+read_area-requires g c = record { used = subst (λ (d : Disk). IsInUseBy c.args.capacity d.image c.in-Ok.area) (sym c.choose_area.ensures.disk) c.in-Ok.ensures.used }
 
 pub returns-in-Err-clause-refusal : goal.returns-in-Err-clause-refusal
 returns-in-Err-clause-refusal g c = ⊎_elim (λ fault. inl fault) (λ unread. inr (inr (unread c.args.n))) c.in-Err.ensures.refusal

@@ -1,4 +1,4 @@
-use Rattle.std.proofs.Common.{◌≡◌, inl, inr, ⊎_elim, ℕ, List, Ok, length, sym, subst}
+use Rattle.std.proofs.Common.{◌≡◌, inl, inr, ⊎_elim, refl, ℕ, List, Ok, length, sym, subst}
 use Rattle.disk_model.specs.Disk.{Reach, Reaches}
 use Rattle.ring_records.specs.declared.refusal.Refusal.{Refusal}
 use Rattle.ring_records.specs.Member.{member}
@@ -21,7 +21,7 @@ returns-in-Ok-read_areas-clause-reads g c =
     let f = c.in-Ok-read_areas in
     let r = reading_of f.area f.contents in
     subst (λ (l : List ℕ). ReadsAt header l r f.area.start f.area.other f.area.offset f.contents.gate_at) c.read_header.ensures.image
-    (area_found header image f.area r f.contents.gate_at here f.ensures.used f.ensures.base f.ensures.frames f.ensures.within)
+    (area_found header image f.area r f.contents.gate_at here f.ensures.used refl f.ensures.begins f.ensures.frames f.ensures.within)
 
 -- what is wrong with the areas is so of the device as it was
 broken : (node n capacity : ℕ) (image now : List ℕ) (told : Refusal) → header_at node n image ≡ Ok capacity → now ≡ image → AreAreasUnread n capacity now told → IsUnread node n image told

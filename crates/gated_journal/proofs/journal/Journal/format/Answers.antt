@@ -31,6 +31,7 @@ invariant_of-result g c =
         here = record {
           capacity = refl;
           at = subst (λ (k : ℕ). ReadsAt header disk.image (fresh_area newest 1 empty) 16 k 68 68) second c.in-Ok.ensures.reads;
+          layout = refl;
           epoch = refl;
           count = omega arith;
           used = omega (arith, length-empty newest (omega arith));

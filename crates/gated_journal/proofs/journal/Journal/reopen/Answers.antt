@@ -5,7 +5,7 @@ use Rattle.ring_records.specs.Snapshot.{snapshot_len}
 use Rattle.gated_journal.specs.Areas.{ReadsAt, IsGate}
 use Rattle.gated_journal.specs.Choose.{reading_of}
 use Rattle.gated_journal.proofs.AreaBeside.{start_low}
-use Rattle.gated_journal.proofs.AreaKept.{behind_snapshot}
+use Rattle.gated_journal.proofs.AreaKept.{behind_base, base_sound}
 use Rattle.gated_journal.proofs.AreaRest.{all_read, in_use}
 use Rattle.gated_journal.proofs.Costs.{costs}
 use Rattle.gated_journal.proofs.journal.Journal.reopen.Goals as goal
@@ -31,11 +31,12 @@ invariant_of-place g c =
     let count : length f.contents.inputs.items ≡ c.len.result = search rules in
     let sum : costs_of f.contents.inputs.items ≡ c.costs_of.result = sym (c.costs_of.ensures ∙ ap costs_of c.deref.ensures.value) in
     let bytes : snapshot_len f.area.layout f.contents.base ≡ c.summary_len.result = sym c.summary_len.ensures.value in
-    let behind = behind_snapshot c.args.n f.area.start _ (reading_of f.area f.contents) f.area.offset read.base in
+    let behind = behind_base c.args.n f.area.start _ (reading_of f.area f.contents) f.area.offset read.begins in
+    let sound = base_sound c.args.n f.area.start _ (reading_of f.area f.contents) f.area.offset read.begins in
     record {
       areas = read.areas;
       within = omega (arith, o.within, behind, sum, bytes);
-      counted = omega (arith, o.counted, sum, count, read.base.snapshot.sound.inputs);
+      counted = omega (arith, o.counted, sum, count, sound.inputs);
       least = read.head.from;
       small = read.head.to;
     }
@@ -54,6 +55,7 @@ invariant_of-journal g c =
         here = record {
           capacity = refl;
           at = subst (λ (l : List ℕ). ReadsAt header l r a.start a.other a.offset f.contents.gate_at) same c.in-Ok.ensures.reads;
+          layout = refl;
           epoch = refl;
           count = omega (arith, c.len.ensures);
           used = omega (arith, c.summary_len.ensures.value, c.costs_of.ensures, ap costs_of c.deref.ensures.value);
@@ -76,4 +78,6 @@ returns-in-Ok-clause-durable g c =
     all_read header disk r a.start a.other a.offset f.contents.gate_at c.in-Ok.ensures.synced (subst (λ (l : List ℕ). ReadsAt header l r a.start a.other a.offset f.contents.gate_at) (sym c.open.ensures.image) c.in-Ok.ensures.reads)
 
 pub returns-in-Ok-clause-sound : goal.returns-in-Ok-clause-sound
-returns-in-Ok-clause-sound g c = c.in-Ok.ensures.reads.base.snapshot.sound
+returns-in-Ok-clause-sound g c =
+    let f = c.in-Ok.field-0 in
+    base_sound c.args.n f.area.start _ (reading_of f.area f.contents) f.area.offset c.in-Ok.ensures.reads.begins

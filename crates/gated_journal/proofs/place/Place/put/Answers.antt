@@ -1,9 +1,9 @@
-use Rattle.std.proofs.Common.{◌≡◌, ◌≤◌, ◌+◌, ◌-◌, ℕ, List, length, Result, Ok, Err, OnOk, refl, sym, ◌∙◌, subst, ap, arith}
+use Rattle.std.proofs.Common.{◌≡◌, ◌≤◌, ◌+◌, ◌-◌, ℕ, Bool, List, length, Result, Ok, Err, OnOk, refl, sym, ◌∙◌, subst, ap, arith}
 use Rattle.disk_model.proofs.Moments.{weaken}
 use Rattle.ring_records.specs.Admission.{costs_of, newest}
 use Rattle.ring_records.specs.Member.{Member}
 use Rattle.ring_records.specs.Snapshot.{snapshot_len}
-use Rattle.gated_journal.specs.Areas.{ReadsAt, ReadsAsOneOf, IsGate, MayReplace}
+use Rattle.gated_journal.specs.Areas.{ReadsAt, ReadsAsOneOf, IsGate, MayReplace, leaves_closed}
 use Rattle.gated_journal.specs.Frames.{IsFrame}
 use Rattle.gated_journal.specs.Place.{reading_behind, IsReadHere, IsTakenAt, Stands}
 use Rattle.gated_journal.specs.Reading.{Reading, fresh_area, with_more}
@@ -137,10 +137,14 @@ returns-in-Checkpoint-clause-done g c = both c.replace_area-written.result _ _ _
     (c.deref-in-Checkpoint.ensures.value ∙ c.number.ensures k.base k.framed) in
     let used = sym c.summary_len-used.ensures.value in
     subst (Stands header (g.D.Device.disk c.replace_area-written.new.device) _) (ap (λ w. reading_behind p w r) (sym c.in-Checkpoint.is)) (record {
-      rest = record { synced = synced; gate = left.1 };
+      rest = record {
+        synced = synced;
+        gate = subst (λ (b : Bool). IsGate b p.area.start (g.D.Device.disk c.replace_area-written.new.device).image) (ap (λ (k : ℕ). leaves_closed k p.area.start p.gate_at) s.here.layout ∙ sym c.leaves_closed.ensures) left.1;
+      };
       here = record {
         capacity = s.here.capacity;
         at = subst (λ (n : ℕ). ReadsAt header (g.D.Device.disk c.replace_area-written.new.device).image (fresh_area newest (p.area.epoch + 1) k.base) p.area.other p.area.start (p.area.other + 14 + n) (p.area.other + 14 + n)) used left.0;
+        layout = refl;
         epoch = refl;
         count = omega arith;
         used = omega (arith, used);
