@@ -138,7 +138,7 @@ def main() -> int:
         with open(settings, "w", encoding="ascii") as file:
             file.write(f'nodes = {NODES}\ndir = "{folder}/ring"\nport = {port}\n')
         os.mkdir(os.path.join(folder, "ring"))
-        ring = [os.path.abspath(said.ringd), "--settings", settings, "--status", str(port + NODES)]
+        ring = [os.path.abspath(said.ringd), "--settings", settings, "--always", "--status", str(port + NODES)]
         with subprocess.Popen(ring, stdin=subprocess.DEVNULL, stdout=subprocess.PIPE, env=refuser.environment(Refusal("fdatasync"))) as process:
             try:
                 while b"serving" not in (line := process.stdout.readline()):

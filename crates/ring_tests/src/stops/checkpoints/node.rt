@@ -58,12 +58,12 @@ pub fn recovered<R: Abort + AllocGlobal>(rt: &R, node: Stored, tear: Tear) -> St
 }
 
 /// Makes a batch of what waits durable: how many inputs.
-fn flushed(rt: &impl Abort, node: &mut Stored) -> u32 {
+fn flushed(rt: &impl Abort, node: &mut Stored) -> u64 {
     node.flush().expect(rt, "a device that works").count
 }
 
 /// Makes a summary of all that the node accepted durable: how many inputs that made durable.
-pub fn emptied(rt: &impl Abort, node: &mut Stored) -> u32 {
+pub fn emptied(rt: &impl Abort, node: &mut Stored) -> u64 {
     node.checkpoint().expect(rt, "a device that works").count
 }
 
