@@ -108,7 +108,8 @@ impl Metric {
     {
         match self {
             Metric::Failed => "Whether the node failed.",
-            Metric::Hangs => "Whether its device has taken ten seconds for a batch or a checkpoint.",
+            Metric::Hangs =>
+                "Whether its device has taken ten seconds for a batch or a checkpoint.",
             Metric::Full => "Whether the node has no room for a Stand or a message.",
             Metric::AtLimit => "Whether the node has taken all Stands that it may.",
             Metric::Inputs => "Inputs that the node accepted.",
