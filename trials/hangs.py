@@ -22,12 +22,13 @@ import tempfile
 import time
 from typing import NamedTuple
 
-from refusing import NAMES, NODES, ORDERS, Refusal, Refuser, exchange
+from refusing import NAMES, NODES, ORDERS, Refusal, Refuser, answer, exchange
 from short import Failed, free_ports
 
 HANG = 10
 EARLY, LATE = 0.5, 2.0
 NODE = 2
+WELL, HANGS = (200, "well\n", 0), (503, f"node {NODE} hangs\n", 1)
 
 
 class Seen(NamedTuple):
@@ -69,17 +70,15 @@ def look(port: int, begun: float) -> Seen:
 
 def judge(seen: Seen, pause: float) -> None:
     """Refuses what must not be told at that moment. Around a change both are taken."""
-    is_well = (seen.status, seen.health, seen.hangs) == (200, "well\n", 0)
-    hangs = (seen.status, seen.health, seen.hangs) == (503, f"node {NODE} hangs\n", 1)
+    told = (seen.status, seen.health, seen.hangs)
     if seen.second < HANG - EARLY or seen.second > pause + LATE:
-        right = is_well
+        right = told == WELL
     elif HANG + LATE < seen.second < pause - EARLY:
-        right = hangs
+        right = told == HANGS
     else:
-        right = is_well or hangs or seen.health in ("well\n", f"node {NODE} hangs\n")
-    if seen.second < pause - EARLY and abs(seen.writing - seen.second) > LATE:
-        right = False
-    if not right:
+        # /health and /metrics are of two moments
+        right = told[:2] in (WELL[:2], HANGS[:2])
+    if not right or seen.second < pause - EARLY and abs(seen.writing - seen.second) > LATE:
         raise Failed(f"after {seen.second:.1f} s: {seen}")
 
 
@@ -108,17 +107,10 @@ def watch(refuser: Refuser, port: int, status: int, pause: float) -> None:
             judge(seen, pause)
             longest = max(longest, seen.writing)
             time.sleep(max(0.0, 0.5 - (time.monotonic() - begun - passed)))
-        answer = b""
-        while not answer.endswith(b"\n"):
-            part = session.recv(64)
-            if not part:
-                raise Failed("the Stand is not answered")
-            answer += part
-        if answer != b"stood\n":
-            raise Failed(f"the Stand is answered with {answer!r}")
-        leader = exchange(session, "who red 5")
-        if leader != f"leader {NODE} 10":
-            raise Failed(f"behind it {leader!r} is told")
+        if (told := answer(session)) != "stood":
+            raise Failed(f"the Stand is answered with {told!r}")
+        if (told := exchange(session, "who red 5")) != f"leader {NODE} 10":
+            raise Failed(f"behind it {told!r} is told")
     print(f"a sync of {pause:.0f} s: told from the tenth second on, the device busy for {longest} s at most; then well, and `stood`")
 
 
@@ -147,7 +139,7 @@ def main() -> int:
                 watch(refuser, port, port + NODES, said.pause)
             finally:
                 process.kill()
-    except Failed as fault:
+    except (Failed, OSError) as fault:
         print(f"hangs.py: {fault}", file=sys.stderr)
         return 1
     finally:

@@ -14,7 +14,7 @@ from short import free_ports
 
 HERE = os.path.dirname(os.path.abspath(__file__))
 NAMES = ("memory", "pwrite", "fdatasync", "fsync", "ftruncate", "rename", "openat", "pread")
-# The file of orders: counts, the name, the way, for good, the call that is refused, how many were.
+# The file of orders: counts, the name, the way, for good, the pause, the call that is refused, how many were.
 ORDERS = struct.Struct("=8Q4I2Q")
 NODES, CAPACITY, SECONDS = 3, 4_096, 10
 # How long a ring that lacks memory is waited for, in seconds: it may wait for good.
@@ -191,16 +191,21 @@ class Ring:
         return stood + asked + [Question("who", *key) for key in self.known.leaders]
 
 
-def exchange(connection: socket.socket, line: str) -> str:
-    """The answer to a line."""
-    connection.sendall(line.encode() + b"\n")
-    answer = b""
-    while not answer.endswith(b"\n"):
+def answer(connection: socket.socket) -> str:
+    """The next line of the connection."""
+    told = b""
+    while not told.endswith(b"\n"):
         part = connection.recv(256)
         if not part:
             raise ConnectionError("the session ended")
-        answer += part
-    return answer[:-1].decode("ascii", "replace")
+        told += part
+    return told[:-1].decode("ascii", "replace")
+
+
+def exchange(connection: socket.socket, line: str) -> str:
+    """The answer to a line."""
+    connection.sendall(line.encode() + b"\n")
+    return answer(connection)
 
 
 # Two elections, in which all nodes name the leader.
