@@ -14,11 +14,9 @@ use Rattle.gated_journal.proofs.Behind.{frames-push, joined-push, sized-push}
 use Rattle.gated_journal.proofs.Pieces.{none_behind}
 use Rattle.gated_journal.proofs.Shorts.{no_framed}
 
-pub lists_none : (layout : ℕ) → Lists layout [] []
-lists_none layout = record { batches = []; taken_is = refl; sized = tt; same = refl }
-
 -- one frame more
-pub lists_more : {layout : ℕ} (taken bytes tail : List ℕ) (old new : List Input) (size : ℕ) → Lists layout taken old → bytes ≡ 1 ∷ tail → TakesFrame layout old new tail size → Lists layout (taken ++ take (1 + size) bytes) new
+pub lists_more : {layout : ℕ} (taken bytes tail : List ℕ) (old new : List Input) (size : ℕ) → Lists layout taken old → bytes ≡ 1 ∷ tail → TakesFrame layout old new tail size
+    → Lists layout (taken ++ take (1 + size) bytes) new
 lists_more taken bytes tail old new size l is t =
     let batch = t.batch in
     let text : List ℕ = 1 ∷ body batch in
@@ -56,7 +54,8 @@ joined_at start at size image from =
     ap (λ (l : List ℕ). take (at - start) (drop start image) ++ take size l) (sym behind) ∙ take_plus (at - start) size (at + size - start) (drop start image) (omega (arith, from))
 
 -- what was taken behind what was taken before
-pub listed_at : (layout start at size : ℕ) (image now : List ℕ) (stage : Stage) (old new : List Input) (rest : List ℕ) → now ≡ image → start ≤ at → Lists layout (take (at - start) (drop start image)) old
+pub listed_at : (layout start at size : ℕ) (image now : List ℕ) (stage : Stage) (old new : List Input) (rest : List ℕ) → now ≡ image → start ≤ at
+    → Lists layout (take (at - start) (drop start image)) old
     → ((other : ℕ) (taken : List ℕ) → Lists other taken old → IsListed other stage (taken ++ take size (drop at now)) new rest) → IsListed layout stage (take (at + size - start) (drop start image)) new rest
 listed_at layout start at size image now stage old new rest same from lists step =
     subst (λ (l : List ℕ). IsListed layout stage l new rest) (ap (λ (l : List ℕ). take (at - start) (drop start image) ++ take size (drop at l)) same ∙ joined_at start at size image from)
