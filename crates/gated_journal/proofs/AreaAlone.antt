@@ -23,7 +23,8 @@ pub record SameReading (r s : Reading) (start start2 other other2 offset offset2
   pub gate_is : gate_at ≡ gate_at2
 
 -- of two different areas only one is read
-never_both : (header : Member) (image : List ℕ) (r s : Reading) (start start2 other other2 offset offset2 gate_at gate_at2 : ℕ) → other ≡ start2 → other2 ≡ start → ReadsAt header image r start other offset gate_at
+never_both : (header : Member) (image : List ℕ) (r s : Reading) (start start2 other other2 offset offset2 gate_at gate_at2 : ℕ) → other ≡ start2 → other2 ≡ start
+    → ReadsAt header image r start other offset gate_at
     → ReadsAt header image s start2 other2 offset2 gate_at2 → ⊥
 never_both header image r s start start2 other other2 offset offset2 gate_at gate_at2 first second one two = both one.begins two.begins
   where

@@ -70,7 +70,8 @@ module _ (header : Member) (image new : List ℕ) (r : Reading) (start other off
         (⊎_elim (λ (a : (start ≡ 16) × (other ≡ 31 + capacity)). inr (omega (arith, a.0, a.1, fits))) (λ (b : (start ≡ 31 + capacity) × (other ≡ 16)). inl (omega (arith, b.0, b.1, p), omega (arith, b.0, b.1, p))) at)
 
     -- a commit: other frames, which begin at the same offset
-    pub grown : (inputs : List Input) (end : ℕ) → ReadsTo r.layout offset new inputs end → end ≤ start + 14 + capacity → ReadsAt header new (record r { inputs = inputs }) start other offset end
+    pub grown : (inputs : List Input) (end : ℕ) → ReadsTo r.layout offset new inputs end → end ≤ start + 14 + capacity
+        → ReadsAt header new (record r { inputs = inputs }) start other offset end
     grown inputs end frames within =
         let p = places in
         let from = frames_from in
@@ -98,7 +99,8 @@ module _ (header : Member) (image new : List ℕ) (r : Reading) (start other off
         }
 
   -- a change of n bytes within the other area: what is read stays, where that does not come to count
-  pub beside : (off n : ℕ) → Changes off n image new → other ≤ off → off + n ≤ other + 15 + capacity → (Counts other new → epoch_at other new < r.epoch) → ReadsAt header new r start other offset gate_at
+  pub beside : (off n : ℕ) → Changes off n image new → other ≤ off → off + n ≤ other + 15 + capacity → (Counts other new → epoch_at other new < r.epoch)
+      → ReadsAt header new r start other offset gate_at
   beside off n changes above below older =
       let p = places in
       let high : 16 ≤ off = ⊎_elim (λ (a : (start ≡ 16) × (other ≡ 31 + capacity)). omega (arith, a.1, above)) (λ (b : (start ≡ 31 + capacity) × (other ≡ 16)). omega (arith, b.1, above)) at in

@@ -24,7 +24,8 @@ module _ (n capacity : ℕ) (image : List ℕ) (chosen : Chosen) (used : IsUsed 
       record { layout = used.layout; known = subst IsLayout (sym used.layout) used.area.counts.known; epoch = used.epoch; small = used.small; offset_is = used.offset; there = used.there; snapshot = spells }
 
   -- its bytes are those of an area, with this summary and these inputs
-  area_spells : (base : Summary) (inputs : List Input) (gate_at : ℕ) → IsAreaAt chosen.layout n chosen.start image base inputs gate_at → Spells chosen.layout n (snapshot_at chosen.start image) base
+  area_spells : (base : Summary) (inputs : List Input) (gate_at : ℕ) → IsAreaAt chosen.layout n chosen.start image base inputs gate_at
+      → Spells chosen.layout n (snapshot_at chosen.start image) base
   area_spells base inputs gate_at a = subst (λ (l : List ℕ). Spells chosen.layout n l base) (snapshot_behind chosen.start image) a.read.base.snapshot
 
   pub area_base : (base : Summary) (inputs : List Input) (gate_at : ℕ) → IsAreaAt chosen.layout n chosen.start image base inputs gate_at
@@ -34,12 +35,14 @@ module _ (n capacity : ℕ) (image : List ℕ) (chosen : Chosen) (used : IsUsed 
   frames_begin : chosen.start + frames_of 0 (drop chosen.start image) ≡ chosen.offset
   frames_begin = omega (arith, used.offset, size_behind chosen.start image)
 
-  pub area_frames : (base : Summary) (inputs : List Input) (gate_at : ℕ) → IsAreaAt chosen.layout n chosen.start image base inputs gate_at → ReadsTo chosen.layout chosen.offset image inputs gate_at
+  pub area_frames : (base : Summary) (inputs : List Input) (gate_at : ℕ) → IsAreaAt chosen.layout n chosen.start image base inputs gate_at
+      → ReadsTo chosen.layout chosen.offset image inputs gate_at
   area_frames base inputs gate_at a =
       reads_behind chosen.start image (frames_of 0 (drop chosen.start image)) chosen.offset a.at gate_at inputs frames_begin (sym a.gate_is) a.read.frames
 
   -- its frames go too far
-  pub goes_past : (base : Summary) (inputs : List Input) (gate_at : ℕ) → IsAreaAt chosen.layout n chosen.start image base inputs gate_at → chosen.start + 14 + capacity < gate_at → AreAreasUnread n capacity image (Damaged chosen.start)
+  pub goes_past : (base : Summary) (inputs : List Input) (gate_at : ℕ) → IsAreaAt chosen.layout n chosen.start image base inputs gate_at → chosen.start + 14 + capacity < gate_at
+      → AreAreasUnread n capacity image (Damaged chosen.start)
   goes_past base inputs gate_at a past = record {
     cause = inr (inl (record {
       start = chosen.start;

@@ -11,7 +11,8 @@ use Rattle.gated_journal.specs.Reading.{number_at}
 use Rattle.gated_journal.specs.declared.area.Head.{Head}
 
 -- zeros, of which the first bytes were read
-pub read_front : (start there : ℕ) (buf image : List ℕ) → IsPart start buf image → length buf ≡ there → there ≤ 14 → (there ≡ 14) ⊎ (length image ≤ start + there) → IsPart start (buf ++ drop there (replicate {A = ℕ} 14 0)) image
+pub read_front : (start there : ℕ) (buf image : List ℕ) → IsPart start buf image → length buf ≡ there → there ≤ 14 → (there ≡ 14) ⊎ (length image ≤ start + there)
+    → IsPart start (buf ++ drop there (replicate {A = ℕ} 14 0)) image
 read_front start there buf image part long few ends i lt =
     let rest = drop there (replicate {A = ℕ} 14 0) in
     ⊎_elim (λ (below : i < there). get_or_append_left buf rest 0 i (omega (arith, below, long)) ∙ part i (omega (arith, below, long)))

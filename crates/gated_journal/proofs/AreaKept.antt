@@ -12,14 +12,16 @@ use Rattle.gated_journal.proofs.Behind.{inside, still, gate_closed}
 use Rattle.gated_journal.proofs.Kept.{SameBytes, fewer, byte_same, number_same, part_same}
 
 -- frames up to their closed gate
-pub frames_kept : {layout : ℕ} (offset : ℕ) (image other : List ℕ) (inputs : List Input) (gate_at : ℕ) → ReadsTo layout offset image inputs gate_at → gate_at < length other → SameBytes offset (gate_at + 1 - offset) image other → ReadsTo layout offset other inputs gate_at
+pub frames_kept : {layout : ℕ} (offset : ℕ) (image other : List ℕ) (inputs : List Input) (gate_at : ℕ) → ReadsTo layout offset image inputs gate_at → gate_at < length other
+    → SameBytes offset (gate_at + 1 - offset) image other → ReadsTo layout offset other inputs gate_at
 frames_kept offset image other inputs gate_at r in_other same =
     let gate : get_or other gate_at 0 ≡ get_or image gate_at 0 = byte_same offset (gate_at + 1 - offset) image other gate_at (omega (arith, r.ends)) (omega (arith, r.ends)) same in
     still offset image other inputs gate_at r (fewer offset (gate_at + 1 - offset) offset (gate_at - offset) image other (omega arith) (omega (arith, r.ends)) same) in_other
     (λ is_open. gate_closed offset image inputs gate_at r (sym gate ∙ is_open))
 
 -- the head of an area and its snapshot
-pub base_kept : (n start : ℕ) (image other : List ℕ) (r : Reading) (offset : ℕ) → HasBase n start image r offset → offset ≤ length other → SameBytes (start + 1) (offset - (start + 1)) image other → HasBase n start other r offset
+pub base_kept : (n start : ℕ) (image other : List ℕ) (r : Reading) (offset : ℕ) → HasBase n start image r offset → offset ≤ length other
+    → SameBytes (start + 1) (offset - (start + 1)) image other → HasBase n start other r offset
 base_kept n start image other r offset has in_other same =
     let size = size_at start image in
     let behind = offset - (start + 1) in
@@ -40,7 +42,8 @@ base_kept n start image other r offset has in_other same =
     }
 
 -- it says nothing of the inputs
-pub base_behind : (n start : ℕ) (image : List ℕ) (r : Reading) (inputs : List Input) (offset : ℕ) → HasBase n start image r offset → HasBase n start image (record r { inputs = inputs }) offset
+pub base_behind : (n start : ℕ) (image : List ℕ) (r : Reading) (inputs : List Input) (offset : ℕ) → HasBase n start image r offset
+    → HasBase n start image (record r { inputs = inputs }) offset
 base_behind n start image r inputs offset has =
     record { layout = has.layout; known = has.known; epoch = has.epoch; small = has.small; offset_is = has.offset_is; there = has.there; snapshot = has.snapshot }
 
@@ -51,7 +54,8 @@ counts_kept start image other same counts = record {
   known = subst IsLayout (byte_same start 10 image other (start + 1) (omega arith) (omega arith) same) counts.known;
 }
 
-pub older_kept : (start : ℕ) (image other : List ℕ) (epoch : ℕ) → SameBytes start 10 image other → (Counts start image → epoch_at start image < epoch) → Counts start other → epoch_at start other < epoch
+pub older_kept : (start : ℕ) (image other : List ℕ) (epoch : ℕ) → SameBytes start 10 image other → (Counts start image → epoch_at start image < epoch) → Counts start other
+    → epoch_at start other < epoch
 older_kept start image other epoch same older counts =
     let epoch_same = number_same 8 (start + 2) image other (fewer start 10 (start + 2) 8 image other (omega arith) (omega arith) same) in
     subst (λ (e : ℕ). e < epoch) (sym epoch_same) (older (counts_kept start image other same counts))
@@ -59,7 +63,8 @@ older_kept start image other epoch same older counts =
 -- ---- frames that are read plainly
 
 -- what stands where frames begin
-head_byte : {layout : ℕ} (offset : ℕ) (image : List ℕ) (inputs : List Input) (gate_at i : ℕ) (r : ReadsTo layout offset image inputs gate_at) → get_or image (offset + i) 0 ≡ get_or (frames r.batches ++ r.gate ∷ r.after) i 0
+head_byte : {layout : ℕ} (offset : ℕ) (image : List ℕ) (inputs : List Input) (gate_at i : ℕ) (r : ReadsTo layout offset image inputs gate_at)
+    → get_or image (offset + i) 0 ≡ get_or (frames r.batches ++ r.gate ∷ r.after) i 0
 head_byte offset image inputs gate_at i r = sym (get_or-drop offset image i 0) ∙ ap (λ (l : List ℕ). get_or l i 0) r.whole
 
 -- they never count as an area: the second byte of a frame is 0
@@ -74,7 +79,8 @@ never_counts {layout = layout} offset image inputs gate_at r counts =
     never (b ∷ bs) g a sized shut is known = omega (arith, sized.0.few, known.0)
 
 -- where there are some, their first gate is open
-pub first_open : {layout : ℕ} (offset : ℕ) (image : List ℕ) (inputs : List Input) (gate_at : ℕ) → ReadsTo layout offset image inputs gate_at → gate_at ≢ offset → get_or image offset 0 ≡ 1
+pub first_open : {layout : ℕ} (offset : ℕ) (image : List ℕ) (inputs : List Input) (gate_at : ℕ) → ReadsTo layout offset image inputs gate_at → gate_at ≢ offset
+    → get_or image offset 0 ≡ 1
 first_open {layout = layout} offset image inputs gate_at r some =
     let same : offset + 0 ≡ offset = omega arith in
     ap (λ (i : ℕ). get_or image i 0) (sym same) ∙ (head_byte offset image inputs gate_at 0 r ∙ first r.batches (λ none. some (omega (arith, r.ends, ap (λ (bs : List (List Input)). length (frames bs)) none))))
@@ -86,11 +92,13 @@ first_open {layout = layout} offset image inputs gate_at r some =
 -- ---- where things lie
 
 -- the frames begin behind the head, and end behind where they begin
-pub low : (n start : ℕ) (image : List ℕ) (r : Reading) (offset gate_at : ℕ) → HasBase n start image r offset → ReadsTo r.layout offset image r.inputs gate_at → (start + 14 ≤ offset) × (offset ≤ gate_at) × (gate_at < length image)
+pub low : (n start : ℕ) (image : List ℕ) (r : Reading) (offset gate_at : ℕ) → HasBase n start image r offset → ReadsTo r.layout offset image r.inputs gate_at
+    → (start + 14 ≤ offset) × (offset ≤ gate_at) × (gate_at < length image)
 low n start image r offset gate_at base frames = (omega (arith, base.offset_is), omega (arith, frames.ends), inside offset image r.inputs gate_at frames)
 
 -- the same of whatever is read
-pub within : (n start : ℕ) (image : List ℕ) (r : Reading) (offset gate_at : ℕ) → Begins n start image r offset → ReadsTo r.layout offset image r.inputs gate_at → (start ≤ offset) × (offset ≤ gate_at) × (gate_at < length image)
+pub within : (n start : ℕ) (image : List ℕ) (r : Reading) (offset gate_at : ℕ) → Begins n start image r offset → ReadsTo r.layout offset image r.inputs gate_at
+    → (start ≤ offset) × (offset ≤ gate_at) × (gate_at < length image)
 within n start image r offset gate_at begins frames =
     (⊎_elim (λ (a : (get_or image start 0 ≡ 1) × HasBase n start image r offset). omega (arith, a.1.offset_is)) (λ (p : IsPlain start image r offset). omega (arith, p.start_is, p.offset_is)) begins, omega (arith, frames.ends), inside offset image r.inputs gate_at frames)
 

@@ -100,7 +100,8 @@ module _ (layout : ℕ) (bytes : List ℕ) (head : head_of.Head) (long : 14 ≤ 
 -- ---- the snapshot
 
 -- a part more of it
-pub snapshot_more : (layout : ℕ) (old new taken bytes : List ℕ) (left size : ℕ) → InSnapshot layout old taken left → new ≡ old ++ take size bytes → size ≤ left → size ≤ length bytes
+pub snapshot_more : (layout : ℕ) (old new taken bytes : List ℕ) (left size : ℕ) → InSnapshot layout old taken left → new ≡ old ++ take size bytes → size ≤ left
+    → size ≤ length bytes
     → InSnapshot layout new (taken ++ take size bytes) (left - size)
 snapshot_more layout old new taken bytes left size s is fits there = record {
   head = s.head;
@@ -131,7 +132,8 @@ snapshot_unread layout n snapshot taken behind s none more =
     (unspelled layout n snapshot taken (behind ++ more) 0 s (λ base spells. none base (subst (λ (l : List ℕ). Spells layout n l base) (append-nil snapshot) spells)))
 
 -- no part of it stands at the front of the bytes
-pub snapshot_broken : (layout n : ℕ) (snapshot taken bytes : List ℕ) (left there : ℕ) → InSnapshot layout snapshot taken left → 0 < left → there ≡ min (length bytes) left → (there < left → 38 ≤ there)
+pub snapshot_broken : (layout n : ℕ) (snapshot taken bytes : List ℕ) (left there : ℕ) → InSnapshot layout snapshot taken left → 0 < left → there ≡ min (length bytes) left
+    → (there < left → 38 ≤ there)
     → NoMore layout n snapshot (take there bytes) → (more : List ℕ) → IsAreaDamaged layout n ((taken ++ bytes) ++ more) 0
 snapshot_broken layout n snapshot taken bytes left there s some is enough none more =
     subst (λ (l : List ℕ). IsAreaDamaged layout n l 0) (sym (append_assoc taken bytes more)) (unspelled layout n snapshot taken (bytes ++ more) left s (⊎_elim short long (cases_lt (length bytes) left)))
@@ -154,7 +156,8 @@ snapshot_broken layout n snapshot taken bytes left there s some is enough none m
 -- ---- the frames
 
 -- one frame more
-pub frames_more : (layout n : ℕ) (snapshot taken bytes : List ℕ) (old new : List Input) (size : ℕ) (tail : List ℕ) → InFrames layout n snapshot taken old → bytes ≡ 1 ∷ tail → TakesFrame layout old new tail size
+pub frames_more : (layout n : ℕ) (snapshot taken bytes : List ℕ) (old new : List Input) (size : ℕ) (tail : List ℕ) → InFrames layout n snapshot taken old → bytes ≡ 1 ∷ tail
+    → TakesFrame layout old new tail size
     → InFrames layout n snapshot (taken ++ take (1 + size) bytes) new
 frames_more layout n snapshot taken bytes old new size tail f is t =
     let batch = t.batch in

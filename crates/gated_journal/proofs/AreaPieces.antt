@@ -28,7 +28,8 @@ module _ (layout n start : ℕ) (image : List ℕ) where
   whole : (at : ℕ) → start ≤ at → take (at - start) (drop start image) ++ drop at image ≡ drop start image
   whole at from = ap (λ (l : List ℕ). take (at - start) (drop start image) ++ l) (sym (behind at from)) ∙ take-append-drop (at - start) (drop start image)
 
-  pub fed_more : (at size : ℕ) (p q : Pieces) (before now : Result Fed Refusal) → start ≤ at → p ≡ fed_to layout n start image at before → q ≡ with_piece p (take size (drop at image)) now
+  pub fed_more : (at size : ℕ) (p q : Pieces) (before now : Result Fed Refusal) → start ≤ at → p ≡ fed_to layout n start image at before
+      → q ≡ with_piece p (take size (drop at image)) now
       → q ≡ fed_to layout n start image (at + size) now
   fed_more at size p q before now from is next =
       let piece : List ℕ = take size (drop at image) in
@@ -37,7 +38,8 @@ module _ (layout n start : ℕ) (image : List ℕ) where
       next ∙ (ap (λ (r : Pieces). with_piece r piece now) is ∙ more)
 
   -- the same of one that tells
-  pub fed_next : (at there : ℕ) (piece : List ℕ) (p q : Pieces) (before : Result Fed Refusal) (told wanted : Fed) → start ≤ at → p ≡ fed_to layout n start image at before → piece ≡ take there (drop at image) → told ≡ wanted
+  pub fed_next : (at there : ℕ) (piece : List ℕ) (p q : Pieces) (before : Result Fed Refusal) (told wanted : Fed) → start ≤ at → p ≡ fed_to layout n start image at before
+      → piece ≡ take there (drop at image) → told ≡ wanted
       → q ≡ with_piece p piece (Ok told) → q ≡ fed_to layout n start image (at + there) (Ok wanted)
   fed_next at there piece p q before told wanted from is part same next =
       fed_more at there p q before (Ok wanted) from is (next ∙ (λ i. with_piece p (part i) (Ok (same i))))
@@ -49,7 +51,8 @@ module _ (layout n start : ℕ) (image : List ℕ) where
 
   -- ---- what is told of them
 
-  pub piece_damaged : (at there : ℕ) (piece : List ℕ) (p : Pieces) (answer : Result Fed Refusal) (refusal : Refusal) → start ≤ at → p ≡ fed_to layout n start image at answer → piece ≡ take there (drop at image)
+  pub piece_damaged : (at there : ℕ) (piece : List ℕ) (p : Pieces) (answer : Result Fed Refusal) (refusal : Refusal) → start ≤ at → p ≡ fed_to layout n start image at answer
+      → piece ≡ take there (drop at image)
       → (refusal ≡ OutOfMemory) ⊎ IsPieceDamaged p piece refusal → IsContentless layout n start image refusal
   piece_damaged at there piece p answer refusal from is part told =
       ⊎_elim (λ memory. record { cause = inl memory })
@@ -65,7 +68,8 @@ module _ (layout n start : ℕ) (image : List ℕ) where
         let r = subst (λ (p : Pieces). (at : ℕ) × ((gate_at ≡ p.offset + at) × ((more : List ℕ) → IsAreaRead p.layout p.n (p.bytes ++ more) s inputs at))) f.is was in
         record { at = r.0; gate_is = r.1.0; read = subst (λ (l : List ℕ). IsAreaRead layout n l s inputs r.0) (whole f.end f.from) (r.1.1 (drop f.end image)) }
 
-    pub area_damaged : (refusal : Refusal) → (reader.answer ≡ Ok Done → ⊥) → (at : ℕ) × ((refusal ≡ Damaged (reader.offset + at)) × IsAreaDamaged reader.layout reader.n reader.bytes at)
+    pub area_damaged : (refusal : Refusal) → (reader.answer ≡ Ok Done → ⊥)
+        → (at : ℕ) × ((refusal ≡ Damaged (reader.offset + at)) × IsAreaDamaged reader.layout reader.n reader.bytes at)
         → IsContentless layout n start image refusal
     area_damaged refusal not_done was =
         let d = subst (λ (p : Pieces). (at : ℕ) × ((refusal ≡ Damaged (p.offset + at)) × IsAreaDamaged p.layout p.n p.bytes at)) f.is was in
@@ -75,6 +79,7 @@ module _ (layout n start : ℕ) (image : List ℕ) where
 
 -- ---- one piece
 
-pub fed_now : (told : Result Fed Refusal) (p q : Pieces) (piece found : List ℕ) → piece ≡ found → (told ≡ Err OutOfMemory) ⊎ (q ≡ with_piece p piece told) → IfOk told (λ fed. q ≡ with_piece p found (Ok fed))
+pub fed_now : (told : Result Fed Refusal) (p q : Pieces) (piece found : List ℕ) → piece ≡ found → (told ≡ Err OutOfMemory) ⊎ (q ≡ with_piece p piece told)
+    → IfOk told (λ fed. q ≡ with_piece p found (Ok fed))
 fed_now (Ok fed) p q piece found same is = ⊎_elim (λ (none : Ok fed ≡ Err OutOfMemory). absurd cc) (λ next. next ∙ ap (λ (l : List ℕ). with_piece p l (Ok fed)) same) is
 fed_now (Err refusal) p q piece found same is = tt

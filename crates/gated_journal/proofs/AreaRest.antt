@@ -52,7 +52,8 @@ read_here header disk p r used stays all =
     }
 
 -- where each reading of the old place is followed by one of the new
-pub goes_on : (header : Member) (old new : Disk) (p next : Place) (f : Reading → Reading) → IsInUse header old p → IsSynced new → ((r : Reading) → Stands header old p r → Stands header new next (f r)) → IsInUse header new next
+pub goes_on : (header : Member) (old new : Disk) (p next : Place) (f : Reading → Reading) → IsInUse header old p → IsSynced new
+    → ((r : Reading) → Stands header old p r → Stands header new next (f r)) → IsInUse header new next
 goes_on header old new p next f used is step =
     let stands = λ (t : (r : Reading) × IsReadHere header old.image p r). step t.0 (record { rest = used.rest; here = t.1 }) in
     record {
@@ -69,7 +70,8 @@ pub used-more : (r : Reading) (batch : List Input) → used_in (with_more r batc
 used-more r batch = omega (arith, costs-joined r.inputs batch)
 
 -- each moment of it
-pub commit_moment : (header : Member) (old image : List ℕ) (r : Reading) (batch : List Input) (start other offset gate_at n : ℕ) → ReadsAt header old r start other offset gate_at → gate_at + n ≤ start + 14 + header.capacity
+pub commit_moment : (header : Member) (old image : List ℕ) (r : Reading) (batch : List Input) (start other offset gate_at n : ℕ) → ReadsAt header old r start other offset gate_at
+    → gate_at + n ≤ start + 14 + header.capacity
     → Appends r.layout offset r.inputs batch gate_at n old image → ReadsAsOneOf header r (with_more r batch) image
 commit_moment header old image r batch start other offset gate_at n read room moment =
     let grows = grown header old image r start other offset gate_at read (1 + n) moment.changes (omega (arith, room)) in
@@ -77,7 +79,8 @@ commit_moment header old image r batch start other offset gate_at n read room mo
     (λ (after : ReadsTo r.layout offset image (r.inputs ++ batch) (gate_at + n)). inr (record { start = start; other = other; offset = offset; gate_at = gate_at + n; at = grows (r.inputs ++ batch) (gate_at + n) after room })) moment.frames
 
 -- and what it leaves
-pub commit_stands : (header : Member) (old new : Disk) (p next : Place) (r : Reading) (batch : List Input) (n : ℕ) → Stands header old p r → IsSynced new → p.gate_at + n ≤ p.area.start + 14 + header.capacity
+pub commit_stands : (header : Member) (old new : Disk) (p next : Place) (r : Reading) (batch : List Input) (n : ℕ) → Stands header old p r → IsSynced new
+    → p.gate_at + n ≤ p.area.start + 14 + header.capacity
     → ReadsTo r.layout p.area.offset new.image (r.inputs ++ batch) (p.gate_at + n) × Changes p.gate_at (1 + n) old.image new.image
     → next.capacity ≡ p.capacity → next.area ≡ p.area → next.gate_at ≡ p.gate_at + n → next.count ≡ p.count + length batch → next.used ≡ p.used + costs_of batch → Stands header new next (with_more r batch)
 commit_stands header old new p next r batch n s is room done capacity area gate_at count used =
@@ -100,7 +103,8 @@ commit_stands header old new p next r batch n s is room done capacity area gate_
 
 -- ---- a checkpoint
 
-pub checkpoint_moment : (header : Member) (image : List ℕ) (old new : Reading) (start other offset gate_at next : ℕ) → ReadsAtOneOf header old start other offset gate_at new next image → ReadsAsOneOf header old new image
+pub checkpoint_moment : (header : Member) (image : List ℕ) (old new : Reading) (start other offset gate_at next : ℕ) → ReadsAtOneOf header old start other offset gate_at new next image
+    → ReadsAsOneOf header old new image
 checkpoint_moment header image old new start other offset gate_at next moment =
     ⊎_elim (λ (before : ReadsAt header image old start other offset gate_at). inl (record { start = start; other = other; offset = offset; gate_at = gate_at; at = before }))
     (λ (after : ReadsAt header image new other start next next). inr (record { start = other; other = start; offset = next; gate_at = next; at = after })) moment

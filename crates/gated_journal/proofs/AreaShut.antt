@@ -14,7 +14,8 @@ use Rattle.gated_journal.proofs.Kept.{SameBytes, kept, header_kept}
 use Rattle.gated_journal.proofs.Results.{not_both}
 
 -- while the other area is closed it does not come to count in an epoch of its own
-pub closing : (is_closed : Bool) (header : Member) (image new : List ℕ) (r : Reading) (start other offset gate_at : ℕ) → ReadsAt header image r start other offset gate_at → IsGate is_closed other image
+pub closing : (is_closed : Bool) (header : Member) (image new : List ℕ) (r : Reading) (start other offset gate_at : ℕ) → ReadsAt header image r start other offset gate_at
+    → IsGate is_closed other image
     → Changes (first_write is_closed other) 1 image new → ReadsAt header new r start other offset gate_at
 closing true header image new r start other offset gate_at read gate changes =
     let shut = gate.shut refl in

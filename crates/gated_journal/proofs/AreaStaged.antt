@@ -66,7 +66,8 @@ module _ (other epoch : ℕ) (s : Summary) (after image : List ℕ) (here : drop
       }
 
 -- the bytes were written behind the gate
-pub staged_by : (n other epoch : ℕ) (s : Summary) (old new : List ℕ) → epoch < 2 ^ 40 → snapshot_len newest s < 2 ^ 32 → Spells newest n (snapshot_of newest s) s → Puts (other + 1) (new_area newest epoch s) old new
+pub staged_by : (n other epoch : ℕ) (s : Summary) (old new : List ℕ) → epoch < 2 ^ 40 → snapshot_len newest s < 2 ^ 32 → Spells newest n (snapshot_of newest s) s
+    → Puts (other + 1) (new_area newest epoch s) old new
     → IsStaged n other new (fresh_area newest epoch s) (other + 14 + snapshot_len newest s)
 staged_by n other epoch s old new small short spells put =
     staged other epoch s (drop (other + 1 + length (new_area newest epoch s)) new) new (put_behind (other + 1) (new_area newest epoch s) old new (omega arith) put) small short n spells
@@ -76,7 +77,8 @@ pub length-new_area : (layout epoch : ℕ) (s : Summary) → length (new_area la
 length-new_area layout epoch s = omega (arith, length-append (snapshot_of layout s) (0 ∷ []), length-snapshot layout s)
 
 -- the layout and the epoch are written in front of a blank area
-pub numbered : (s : Summary) (epoch : ℕ) (bytes whole part behind : List ℕ) (n : ℕ) → bytes ≡ blank_area newest s → n ≡ length bytes → whole ≡ set bytes 0 2 → part ≡ to_be_bytes w64 epoch
+pub numbered : (s : Summary) (epoch : ℕ) (bytes whole part behind : List ℕ) (n : ℕ) → bytes ≡ blank_area newest s → n ≡ length bytes → whole ≡ set bytes 0 2
+    → part ≡ to_be_bytes w64 epoch
     → take n ((take 1 whole ++ (part ++ drop 8 (drop 1 whole))) ++ behind) ≡ new_area newest epoch s
 numbered s epoch bytes whole part behind n bytes_are n_is whole_is part_is =
     let whole_now : whole ≡ set (blank_area newest s) 0 2 = whole_is ∙ ap (λ (l : List ℕ). set l 0 2) bytes_are in

@@ -34,7 +34,8 @@ pub inside : {layout : ℕ} (offset : ℕ) (image : List ℕ) (inputs : List Inp
 inside offset image inputs gate_at r = omega (arith, ap length r.whole, length-drop offset image, length-append (frames r.batches) (r.gate ∷ r.after), r.ends)
 
 -- the frames are there again, and at their end some byte
-pub before_gate : {layout : ℕ} (offset : ℕ) (image other : List ℕ) (inputs : List Input) (gate_at : ℕ) (r : ReadsTo layout offset image inputs gate_at) → SameBytes offset (gate_at - offset) image other → gate_at < length other
+pub before_gate : {layout : ℕ} (offset : ℕ) (image other : List ℕ) (inputs : List Input) (gate_at : ℕ) (r : ReadsTo layout offset image inputs gate_at)
+    → SameBytes offset (gate_at - offset) image other → gate_at < length other
     → drop offset other ≡ frames r.batches ++ drop gate_at other
 before_gate offset image other inputs gate_at r same in_other =
     let n = gate_at - offset in
@@ -46,7 +47,8 @@ before_gate offset image other inputs gate_at r same in_other =
     ∙ ap (λ (l : List ℕ). frames r.batches ++ l) (drop-drop n offset other ∙ ap (λ (k : ℕ). drop k other) at)
 
 -- with a closed gate there they read as before
-pub still : {layout : ℕ} (offset : ℕ) (image other : List ℕ) (inputs : List Input) (gate_at : ℕ) → ReadsTo layout offset image inputs gate_at → SameBytes offset (gate_at - offset) image other → gate_at < length other → get_or other gate_at 0 ≢ 1 → ReadsTo layout offset other inputs gate_at
+pub still : {layout : ℕ} (offset : ℕ) (image other : List ℕ) (inputs : List Input) (gate_at : ℕ) → ReadsTo layout offset image inputs gate_at
+    → SameBytes offset (gate_at - offset) image other → gate_at < length other → get_or other gate_at 0 ≢ 1 → ReadsTo layout offset other inputs gate_at
 still offset image other inputs gate_at r same in_other shut = record {
   batches = r.batches;
   gate = get_or other gate_at 0;
@@ -59,7 +61,8 @@ still offset image other inputs gate_at r same in_other shut = record {
 }
 
 -- with a frame there they have its batch
-pub added : {layout : ℕ} (offset : ℕ) (image other : List ℕ) (inputs batch : List Input) (gate_at : ℕ) (after : List ℕ) → ReadsTo layout offset image inputs gate_at → SameBytes offset (gate_at - offset) image other
+pub added : {layout : ℕ} (offset : ℕ) (image other : List ℕ) (inputs batch : List Input) (gate_at : ℕ) (after : List ℕ) → ReadsTo layout offset image inputs gate_at
+    → SameBytes offset (gate_at - offset) image other
     → drop gate_at other ≡ 1 ∷ (body batch ++ 0 ∷ after) → IsBatch layout batch → ReadsTo layout offset other (inputs ++ batch) (gate_at + 1 + length (body batch))
 added offset image other inputs batch gate_at after r same framed is =
     let in_other : gate_at < length other = omega (arith, ap length framed, length-drop gate_at other) in
@@ -88,7 +91,8 @@ gate_closed offset image inputs gate_at r is_open =
 -- ---- the moments of a commit
 
 -- while the frame is written
-pub first_moment : {layout : ℕ} (offset : ℕ) (image now : List ℕ) (inputs batch : List Input) (gate_at n : ℕ) → ReadsTo layout offset image inputs gate_at → Changes (gate_at + 1) n image now → Appends layout offset inputs batch gate_at n image now
+pub first_moment : {layout : ℕ} (offset : ℕ) (image now : List ℕ) (inputs batch : List Input) (gate_at n : ℕ) → ReadsTo layout offset image inputs gate_at
+    → Changes (gate_at + 1) n image now → Appends layout offset inputs batch gate_at n image now
 first_moment offset image now inputs batch gate_at n r change =
     let in_image = inside offset image inputs gate_at r in
     let in_now : gate_at < length now = omega (arith, in_image, change.no_shorter) in
@@ -101,14 +105,16 @@ first_moment offset image now inputs batch gate_at n r change =
     }
 
 -- the frame stands behind the gate once the first write has succeeded
-pub staged : {layout : ℕ} (image mid bytes : List ℕ) (batch : List Input) (gate_at : ℕ) → IsFrame layout batch bytes → Puts (gate_at + 1) bytes image mid → drop (gate_at + 1) mid ≡ body batch ++ 0 ∷ drop (gate_at + 1 + length bytes) mid
+pub staged : {layout : ℕ} (image mid bytes : List ℕ) (batch : List Input) (gate_at : ℕ) → IsFrame layout batch bytes → Puts (gate_at + 1) bytes image mid
+    → drop (gate_at + 1) mid ≡ body batch ++ 0 ∷ drop (gate_at + 1 + length bytes) mid
 staged image mid bytes batch gate_at frame put =
     let some : 0 < length bytes = omega (arith, ap length frame.bytes_are, length-append (body batch) (0 ∷ [])) in
     put_behind (gate_at + 1) bytes image mid some put ∙ ap (λ (l : List ℕ). l ++ drop (gate_at + 1 + length bytes) mid) frame.bytes_are
     ∙ append_assoc (body batch) (0 ∷ []) (drop (gate_at + 1 + length bytes) mid)
 
 -- whatever stands at the gate while it is written, the batch is there or it is not
-pub second_moment : {layout : ℕ} (offset : ℕ) (image mid now bytes : List ℕ) (inputs batch : List Input) (gate_at : ℕ) → ReadsTo layout offset image inputs gate_at → IsFrame layout batch bytes → Puts (gate_at + 1) bytes image mid → Changes gate_at 1 mid now
+pub second_moment : {layout : ℕ} (offset : ℕ) (image mid now bytes : List ℕ) (inputs batch : List Input) (gate_at : ℕ) → ReadsTo layout offset image inputs gate_at
+    → IsFrame layout batch bytes → Puts (gate_at + 1) bytes image mid → Changes gate_at 1 mid now
     → Appends layout offset inputs batch gate_at (length bytes) image now
 second_moment {layout = layout} offset image mid now bytes inputs batch gate_at r frame put change =
     let n = length bytes in
@@ -133,7 +139,8 @@ second_moment {layout = layout} offset image mid now bytes inputs batch gate_at 
     }
 
 -- once the gate is written the batch is there
-pub opened : {layout : ℕ} (offset : ℕ) (image mid now bytes : List ℕ) (inputs batch : List Input) (gate_at : ℕ) → ReadsTo layout offset image inputs gate_at → IsFrame layout batch bytes → Puts (gate_at + 1) bytes image mid → Puts gate_at (1 ∷ []) mid now
+pub opened : {layout : ℕ} (offset : ℕ) (image mid now bytes : List ℕ) (inputs batch : List Input) (gate_at : ℕ) → ReadsTo layout offset image inputs gate_at → IsFrame layout batch bytes
+    → Puts (gate_at + 1) bytes image mid → Puts gate_at (1 ∷ []) mid now
     → ReadsTo layout offset now (inputs ++ batch) (gate_at + length bytes) × Changes gate_at (1 + length bytes) image now
 opened offset image mid now bytes inputs batch gate_at r frame put gate =
     let moment = second_moment offset image mid now bytes inputs batch gate_at r frame put (puts_changes gate_at (1 ∷ []) mid now gate) in

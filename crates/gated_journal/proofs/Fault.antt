@@ -19,7 +19,8 @@ use Rattle.gated_journal.proofs.Unique.{unique, not_both, damaged_once}
 -- ---- which area is read
 
 -- an area that an image reads by is chosen
-chosen : (header : Member) (image : List ℕ) (r : Reading) (start other offset gate_at : ℕ) → ReadsAt header image r start other offset gate_at → (get_or image start 0 ≡ 1) × HasBase header.n start image r offset → IsChosen start other image
+chosen : (header : Member) (image : List ℕ) (r : Reading) (start other offset gate_at : ℕ) → ReadsAt header image r start other offset gate_at
+    → (get_or image start 0 ≡ 1) × HasBase header.n start image r offset → IsChosen start other image
 chosen header image r start other offset gate_at read area =
     record { counts = counts header.n image r start offset area; older = λ there. subst (λ (k : ℕ). epoch_at other image < k) area.1.epoch (read.older there) }
 
@@ -30,13 +31,15 @@ not_plainly capacity start other image areas counts plainly =
     (λ (b : (start ≡ 31 + capacity) × (other ≡ 16)). plainly.second (subst (λ (k : ℕ). Counts k image) b.0 counts)) (where_are capacity start other areas)
 
 -- and where it is read plainly none is
-plainly : (header : Member) (image : List ℕ) (r : Reading) (start other offset gate_at : ℕ) → ReadsAt header image r start other offset gate_at → IsPlain start image r offset → IsPlainly header.capacity image
+plainly : (header : Member) (image : List ℕ) (r : Reading) (start other offset gate_at : ℕ) → ReadsAt header image r start other offset gate_at → IsPlain start image r offset
+    → IsPlainly header.capacity image
 plainly header image r start other offset gate_at read p =
     let there : other ≡ 31 + header.capacity = omega (arith, read.areas.both, p.start_is) in
     record { marked = p.marked; first = p.none; second = λ counts. omega (arith, read.older (subst (λ (k : ℕ). Counts k image) (sym there) counts), p.epoch) }
 
 -- none other is
-one_chosen : (capacity : ℕ) (image : List ℕ) (start other start2 other2 : ℕ) → AreAreas capacity start other → AreAreas capacity start2 other2 → IsChosen start other image → IsChosen start2 other2 image → start ≡ start2
+one_chosen : (capacity : ℕ) (image : List ℕ) (start other start2 other2 : ℕ) → AreAreas capacity start other → AreAreas capacity start2 other2 → IsChosen start other image
+    → IsChosen start2 other2 image → start ≡ start2
 one_chosen capacity image start other start2 other2 one two here there =
     ⊎_elim
     (λ (a : (start ≡ 16) × (other ≡ 31 + capacity)). ⊎_elim (λ (c : (start2 ≡ 16) × (other2 ≡ 31 + capacity)). a.0 ∙ sym c.0)
@@ -78,13 +81,15 @@ abbrev AreBroken : ℕ → ℕ → ℕ → ℕ → List ℕ → Refusal → Type
 AreBroken layout bound start offset image refusal = IsBroken layout offset image refusal ⊎ ((refusal ≡ Damaged start) × GoesPast layout bound offset image)
 
 -- frames that end within the bound are not
-frames_whole : (bound start offset : ℕ) (image : List ℕ) (r : Reading) (gate_at : ℕ) (refusal : Refusal) → ReadsTo r.layout offset image r.inputs gate_at → gate_at ≤ bound → AreBroken r.layout bound start offset image refusal → ⊥
+frames_whole : (bound start offset : ℕ) (image : List ℕ) (r : Reading) (gate_at : ℕ) (refusal : Refusal) → ReadsTo r.layout offset image r.inputs gate_at → gate_at ≤ bound
+    → AreBroken r.layout bound start offset image refusal → ⊥
 frames_whole bound start offset image r gate_at refusal read within (inl broken) = not_both offset image r.inputs gate_at broken.gate_at read broken.damaged
 frames_whole bound start offset image r gate_at refusal read within (inr past) =
     let same = (unique offset image r.inputs past.1.inputs gate_at past.1.gate_at read past.1.frames).1 in omega (arith, same, within, past.1.past)
 
 -- and others are so in one way
-frames_once : {layout : ℕ} (bound start offset : ℕ) (image : List ℕ) (refusal other : Refusal) → AreBroken layout bound start offset image refusal → AreBroken layout bound start offset image other → refusal ≡ other
+frames_once : {layout : ℕ} (bound start offset : ℕ) (image : List ℕ) (refusal other : Refusal) → AreBroken layout bound start offset image refusal
+    → AreBroken layout bound start offset image other → refusal ≡ other
 frames_once bound start offset image refusal other (inl a) (inl b) = a.is ∙ ap Damaged (damaged_once offset image a.gate_at b.gate_at a.damaged b.damaged) ∙ sym b.is
 frames_once bound start offset image refusal other (inl a) (inr b) = absurd (not_both offset image b.1.inputs b.1.gate_at a.gate_at b.1.frames a.damaged)
 frames_once bound start offset image refusal other (inr a) (inl b) = absurd (not_both offset image a.1.inputs a.1.gate_at b.gate_at a.1.frames b.damaged)
@@ -99,10 +104,12 @@ begins n start image r s offset offset2 one two = one.offset_is ∙ sym two.offs
 
 -- ---- the areas
 
-areas_read : (header : Member) (image : List ℕ) (r : Reading) (start other offset gate_at : ℕ) (refusal : Refusal) → ReadsAt header image r start other offset gate_at → AreAreasUnread header.n header.capacity image refusal → ⊥
+areas_read : (header : Member) (image : List ℕ) (r : Reading) (start other offset gate_at : ℕ) (refusal : Refusal) → ReadsAt header image r start other offset gate_at
+    → AreAreasUnread header.n header.capacity image refusal → ⊥
 areas_read header image r start other offset gate_at refusal read unread = both read.begins unread.cause
   where
-    at_start : (area : (get_or image start 0 ≡ 1) × HasBase header.n start image r offset) (k : ℕ) → k ≡ start → ((refusal ≡ Damaged k) × IsHeadBroken header.n k image) ⊎ AreFramesBroken header.n header.capacity k image refusal → ⊥
+    at_start : (area : (get_or image start 0 ≡ 1) × HasBase header.n start image r offset) (k : ℕ) → k ≡ start
+        → ((refusal ≡ Damaged k) × IsHeadBroken header.n k image) ⊎ AreFramesBroken header.n header.capacity k image refusal → ⊥
     at_start area k same (inl head) = head_whole header.n start image r offset area.1 (subst (λ (p : ℕ). IsHeadBroken header.n p image) same head.1)
     at_start area k same (inr frames) =
         let base : HasBase header.n start image frames.reading frames.offset = subst (λ (p : ℕ). HasBase header.n p image frames.reading frames.offset) same frames.base in
@@ -154,7 +161,8 @@ areas_once n capacity image refusal other one two = both one.cause two.cause
 
 -- ---- the whole image
 
-pub not_read : (node n : ℕ) (image : List ℕ) (refusal : Refusal) (header : Member) (r : Reading) → IsUnread node n image refusal → ReadsAs header image r → header.node ≡ node → header.n ≡ n → ⊥
+pub not_read : (node n : ℕ) (image : List ℕ) (refusal : Refusal) (header : Member) (r : Reading) → IsUnread node n image refusal → ReadsAs header image r → header.node ≡ node
+    → header.n ≡ n → ⊥
 not_read node n image refusal header r unread read node_is n_is =
     let at = read.at in
     let p = within header.n read.start image r read.offset read.gate_at at.begins at.frames in
@@ -163,7 +171,8 @@ not_read node n image refusal header r unread read node_is n_is =
     let found : header_at node n image ≡ Ok header.capacity = (λ i. header_at (sym node_is i) (sym n_is i) image) ∙ header_again header image long at.head in
     apart unread.cause found
   where
-    apart : (header_at node n image ≡ Err refusal) ⊎ ((capacity : ℕ) × (header_at node n image ≡ Ok capacity) × AreAreasUnread n capacity image refusal) → header_at node n image ≡ Ok header.capacity → ⊥
+    apart : (header_at node n image ≡ Err refusal) ⊎ ((capacity : ℕ) × (header_at node n image ≡ Ok capacity) × AreAreasUnread n capacity image refusal)
+        → header_at node n image ≡ Ok header.capacity → ⊥
     apart (inl fault) found = let same = sym fault ∙ found in cc
     apart (inr broken) found =
         let capacity_is : broken.0 ≡ header.capacity = same_ok broken.0 header.capacity (sym broken.1 ∙ found) in

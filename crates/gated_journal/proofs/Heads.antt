@@ -64,7 +64,8 @@ four t are (suc (suc zero)) = are 4
 four t are (suc (suc (suc zero))) = are 5
 four t are (suc (suc (suc (suc i)))) = omega arith
 
-pub head : (tail : List ℕ) → AreBytes tail → 6 ≤ length tail → 1 ≤ count_at tail → count_at tail ≤ 64 → size_at tail ≤ length tail - 6 → HasHead tail (count_at tail) (take (size_at tail) (drop 6 tail))
+pub head : (tail : List ℕ) → AreBytes tail → 6 ≤ length tail → 1 ≤ count_at tail → count_at tail ≤ 64 → size_at tail ≤ length tail - 6
+    → HasHead tail (count_at tail) (take (size_at tail) (drop 6 tail))
 head tail are long some few fits =
     let size = size_at tail in
     let found : List ℕ = take size (drop 6 tail) in

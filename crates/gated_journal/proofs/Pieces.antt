@@ -204,7 +204,8 @@ none_behind {layout = layout} tail more enough none batch rest is e =
     let front = prefix tail more (body batch) rest (enough layout batch more rest is e) e in
     none batch front.0 is front.1
 
-pub damaged_frame : (layout n : ℕ) (snapshot taken tail : List ℕ) (inputs : List Input) → InFrames layout n snapshot taken inputs → IsEnough tail → NoFrame layout tail → (behind more : List ℕ) → behind ≡ 1 ∷ tail
+pub damaged_frame : (layout n : ℕ) (snapshot taken tail : List ℕ) (inputs : List Input) → InFrames layout n snapshot taken inputs → IsEnough tail → NoFrame layout tail
+    → (behind more : List ℕ) → behind ≡ 1 ∷ tail
     → IsAreaDamaged layout n ((taken ++ behind) ++ more) (length taken)
 damaged_frame layout n snapshot taken tail inputs f enough none behind more is =
     subst (λ (l : List ℕ). IsAreaDamaged layout n l (length taken)) (sym (append_assoc taken behind more))

@@ -9,7 +9,8 @@ use Rattle.gated_journal.specs.declared.found.Stage.TheVariants.{Head, Snapshot,
 
 -- ---- while something stands next the bytes behind may be any
 
-pub open_found : (layout n : ℕ) (stage : Stage) (snapshot : List ℕ) (inputs : List Input) (taken behind other : List ℕ) → IsOpen stage → IsFound layout n stage snapshot inputs taken behind → IsFound layout n stage snapshot inputs taken other
+pub open_found : (layout n : ℕ) (stage : Stage) (snapshot : List ℕ) (inputs : List Input) (taken behind other : List ℕ) → IsOpen stage → IsFound layout n stage snapshot inputs taken behind
+    → IsFound layout n stage snapshot inputs taken other
 open_found layout n Head snapshot inputs taken behind other going f = f
 open_found layout n (Snapshot left) snapshot inputs taken behind other going f = f
 open_found layout n Frames snapshot inputs taken behind other going f = f
@@ -17,7 +18,8 @@ open_found layout n Done snapshot inputs taken behind other going f = absurd goi
 open_found layout n (Damaged at) snapshot inputs taken behind other going f = absurd going
 
 -- once nothing does, more of them change nothing
-pub closed_found : (layout n : ℕ) (stage : Stage) (snapshot : List ℕ) (inputs : List Input) (taken behind more : List ℕ) → (IsOpen stage → ⊥) → IsFound layout n stage snapshot inputs taken behind
+pub closed_found : (layout n : ℕ) (stage : Stage) (snapshot : List ℕ) (inputs : List Input) (taken behind more : List ℕ) → (IsOpen stage → ⊥)
+    → IsFound layout n stage snapshot inputs taken behind
     → IsFound layout n stage snapshot inputs taken (behind ++ more)
 closed_found layout n Head snapshot inputs taken behind more closed f = absurd (closed tt)
 closed_found layout n (Snapshot left) snapshot inputs taken behind more closed f = absurd (closed tt)
@@ -60,7 +62,8 @@ alike_holds layout found other taken behind a holds =
     (subst (λ (s : Stage). IsFound layout other.snapshot.n s found.snapshot.taken found.inputs.items taken behind) (sym a.stage)
     (subst (λ (k : ℕ). IsFound layout k found.stage found.snapshot.taken found.inputs.items taken behind) (sym a.n) holds)))
 
-pub reader_alike : (layout : ℕ) (found other : Found) (rest kept bytes : List ℕ) → AreAlike found other → kept ≡ rest → IsReader layout found rest bytes → IsReader layout other kept bytes
+pub reader_alike : (layout : ℕ) (found other : Found) (rest kept bytes : List ℕ) → AreAlike found other → kept ≡ rest → IsReader layout found rest bytes
+    → IsReader layout other kept bytes
 reader_alike layout found other rest kept bytes a same r = record {
   taken = r.taken;
   behind = r.behind;
@@ -74,7 +77,8 @@ reader_alike layout found other rest kept bytes a same r = record {
 }
 
 -- the bytes of the rest and of the piece were taken up to here
-pub reader_more : (layout size : ℕ) (found now : Found) (rest bytes piece left : List ℕ) → IsOpen found.stage → (r : IsReader layout found rest bytes) → now.snapshot.layout ≡ found.snapshot.layout → size ≤ length (rest ++ piece) → now.at ≡ found.at + size
+pub reader_more : (layout size : ℕ) (found now : Found) (rest bytes piece left : List ℕ) → IsOpen found.stage → (r : IsReader layout found rest bytes)
+    → now.snapshot.layout ≡ found.snapshot.layout → size ≤ length (rest ++ piece) → now.at ≡ found.at + size
     → Holds layout now (r.taken ++ take size (rest ++ piece)) (drop size (rest ++ piece)) → IsWaiting now.stage (drop size (rest ++ piece)) → (IsOpen now.stage → left ≡ drop size (rest ++ piece)) → ((IsOpen now.stage → ⊥) → left ≡ [])
     → IsReader layout now left (bytes ++ piece)
 reader_more layout size found now rest bytes piece left going r layout_is fits at holds waits kept none =

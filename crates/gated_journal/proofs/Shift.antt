@@ -36,7 +36,8 @@ module _ (start : ℕ) (image : List ℕ) where
       let tail = tail_at 14 (start + 14) refl in
       λ i. take (size i) (tail i)
 
-  pub reads_behind : {layout : ℕ} (offset from gate_at end : ℕ) (inputs : List Input) → start + offset ≡ from → start + gate_at ≡ end → ReadsTo layout offset (drop start image) inputs gate_at → ReadsTo layout from image inputs end
+  pub reads_behind : {layout : ℕ} (offset from gate_at end : ℕ) (inputs : List Input) → start + offset ≡ from → start + gate_at ≡ end
+      → ReadsTo layout offset (drop start image) inputs gate_at → ReadsTo layout from image inputs end
   reads_behind offset from gate_at end inputs begins stops r = record {
     batches = r.batches;
     gate = r.gate;
@@ -48,7 +49,8 @@ module _ (start : ℕ) (image : List ℕ) where
     ends = omega (arith, r.ends, begins, stops);
   }
 
-  pub damaged_behind : {layout : ℕ} (offset from gate_at end : ℕ) → start + offset ≡ from → start + gate_at ≡ end → IsDamagedAt layout offset (drop start image) gate_at → IsDamagedAt layout from image end
+  pub damaged_behind : {layout : ℕ} (offset from gate_at end : ℕ) → start + offset ≡ from → start + gate_at ≡ end → IsDamagedAt layout offset (drop start image) gate_at
+      → IsDamagedAt layout from image end
   damaged_behind {layout = layout} offset from gate_at end begins stops d =
       let tails = tail_at gate_at end stops in
       record {

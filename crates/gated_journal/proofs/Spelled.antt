@@ -43,7 +43,8 @@ pub record Sums (inputs : List Input) (sum count : ℕ) : Type 0 where
 pub sums-none : Sums [] 0 0
 sums-none = record { same = refl; parts = refl; few = omega arith }
 
-pub sums-item : (inputs : List Input) (i : ℕ) (x : Input) (sum more : ℕ) → IsItem inputs i x → Sums (take i inputs) sum i → more ≡ cost x → more ≤ 42 → Sums (take (i + 1) inputs) (sum + more) (i + 1)
+pub sums-item : (inputs : List Input) (i : ℕ) (x : Input) (sum more : ℕ) → IsItem inputs i x → Sums (take i inputs) sum i → more ≡ cost x → more ≤ 42
+    → Sums (take (i + 1) inputs) (sum + more) (i + 1)
 sums-item inputs i x sum more here sums is small =
     let pushed : take (i + 1) inputs ≡ take i inputs ++ x ∷ [] = take-item inputs i x here in
     subst (λ (l : List Input). Sums l (sum + more) (i + 1)) (sym pushed) (record {
@@ -61,7 +62,8 @@ pub record Spells (inputs : List Input) (head bytes : List ℕ) : Type 0 where
   pub bytes_are : bytes ≡ head ++ records inputs
   pub have : HaveRecords newest inputs
 
-pub spells-item : (inputs : List Input) (i : ℕ) (x : Input) (head bytes more : List ℕ) → IsItem inputs i x → Spells (take i inputs) head bytes → more ≡ bytes ++ record_of x → HasRecord x → Spells (take (i + 1) inputs) head more
+pub spells-item : (inputs : List Input) (i : ℕ) (x : Input) (head bytes more : List ℕ) → IsItem inputs i x → Spells (take i inputs) head bytes → more ≡ bytes ++ record_of x → HasRecord x
+    → Spells (take (i + 1) inputs) head more
 spells-item inputs i x head bytes more here spells is has =
     let pushed : take (i + 1) inputs ≡ take i inputs ++ x ∷ [] = take-item inputs i x here in
     subst (λ (l : List Input). Spells l head more) (sym pushed) (record {

@@ -11,7 +11,8 @@ use Rattle.gated_journal.specs.NextFrame.{HasHead, TakesRecords, TakesFrame}
 use Rattle.gated_journal.proofs.Spelled.{records-push, have-push, suits}
 
 -- one record more
-pub taken_more : {layout : ℕ} (old mid : List Input) (count size : ℕ) (bytes rest : List ℕ) (x : Input) → TakesRecords layout old mid count bytes rest → BeginsWith rest x size → TakesRecords layout old (mid ++ x ∷ []) (count + 1) bytes (drop size rest)
+pub taken_more : {layout : ℕ} (old mid : List Input) (count size : ℕ) (bytes rest : List ℕ) (x : Input) → TakesRecords layout old mid count bytes rest → BeginsWith rest x size
+    → TakesRecords layout old (mid ++ x ∷ []) (count + 1) bytes (drop size rest)
 taken_more {layout = layout} old mid count size bytes rest x taken begins =
     let rest_is : rest ≡ record_of x ++ drop size rest = sym (take-append-drop size rest) ∙ ap (λ (l : List ℕ). l ++ drop size rest) begins.front in
     record {
@@ -30,7 +31,8 @@ record Left (layout : ℕ) (got batch : List Input) (rest : List ℕ) : Type 0 w
   have : HaveRecords layout more
   rest_is : rest ≡ records more
 
-left : (layout : ℕ) (got batch : List Input) (rest : List ℕ) → HaveRecords layout got → HaveRecords layout batch → length got ≤ length batch → records got ++ rest ≡ records batch → Left layout got batch rest
+left : (layout : ℕ) (got batch : List Input) (rest : List ℕ) → HaveRecords layout got → HaveRecords layout batch → length got ≤ length batch → records got ++ rest ≡ records batch
+    → Left layout got batch rest
 left layout [] batch rest had have le e = record { more = batch; many = omega arith; have = have; rest_is = e }
 left layout (x ∷ got) [] rest had have le e = absurd (omega (arith, le))
 left layout (x ∷ got) (y ∷ batch) rest had have le e =
@@ -41,7 +43,8 @@ left layout (x ∷ got) (y ∷ batch) rest had have le e =
     record { more = behind.more; many = omega (arith, behind.many); have = behind.have; rest_is = behind.rest_is }
 
 -- where no record follows there were no more
-pub no_record : {layout : ℕ} (old new batch : List Input) (got : ℕ) (bytes rest : List ℕ) (fault : RecordFault) → TakesRecords layout old new got bytes rest → record_read rest ≡ Err fault → got < length batch → HaveRecords layout batch → bytes ≡ records batch → ⊥
+pub no_record : {layout : ℕ} (old new batch : List Input) (got : ℕ) (bytes rest : List ℕ) (fault : RecordFault) → TakesRecords layout old new got bytes rest → record_read rest ≡ Err fault
+    → got < length batch → HaveRecords layout batch → bytes ≡ records batch → ⊥
 no_record {layout = layout} old new batch got bytes rest fault taken broken fewer have whole =
     let behind = left layout taken.batch batch rest taken.have have (omega (arith, taken.many, fewer)) (sym taken.spelled ∙ whole) in
     starts behind.more behind.have (omega (arith, behind.many, taken.many, fewer)) behind.rest_is
@@ -53,7 +56,8 @@ no_record {layout = layout} old new batch got bytes rest fault taken broken fewe
         cc
 
 -- where something follows there were not just so many
-pub no_rest : {layout : ℕ} (old new batch : List Input) (got : ℕ) (bytes rest : List ℕ) → TakesRecords layout old new got bytes rest → eqb (length rest) 0 ≡ false → length batch ≡ got → HaveRecords layout batch → bytes ≡ records batch → ⊥
+pub no_rest : {layout : ℕ} (old new batch : List Input) (got : ℕ) (bytes rest : List ℕ) → TakesRecords layout old new got bytes rest → eqb (length rest) 0 ≡ false → length batch ≡ got
+    → HaveRecords layout batch → bytes ≡ records batch → ⊥
 no_rest {layout = layout} old new batch got bytes rest taken some many have whole =
     let behind = left layout taken.batch batch rest taken.have have (omega (arith, taken.many, many)) (sym taken.spelled ∙ whole) in
     ends behind.more (omega (arith, behind.many, taken.many, many)) behind.rest_is
@@ -63,7 +67,8 @@ no_rest {layout = layout} old new batch got bytes rest taken some many have whol
     ends (y ∷ more) none is = omega (arith, none)
 
 -- the records of a frame, behind its head
-pub whole_frame : {layout : ℕ} (old new : List Input) (count : ℕ) (tail found : List ℕ) → HasHead tail count found → TakesRecords layout old new count found [] → TakesFrame layout old new tail (6 + length found)
+pub whole_frame : {layout : ℕ} (old new : List Input) (count : ℕ) (tail found : List ℕ) → HasHead tail count found → TakesRecords layout old new count found []
+    → TakesFrame layout old new tail (6 + length found)
 whole_frame old new count tail found h t =
     let same : found ≡ records t.batch = t.spelled ∙ append-nil (records t.batch) in
     let rest : List ℕ = drop (6 + length found) tail in

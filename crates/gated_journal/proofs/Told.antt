@@ -54,7 +54,8 @@ each_err (Err e) P each = each e refl
 
 -- ---- while something stands next
 
-front_of : (layout n : ℕ) (stage : Stage) (snapshot : List ℕ) (inputs : List Input) (taken behind : List ℕ) → IsOpen stage → IsFound layout n stage snapshot inputs taken behind → IsWaiting stage behind
+front_of : (layout n : ℕ) (stage : Stage) (snapshot : List ℕ) (inputs : List Input) (taken behind : List ℕ) → IsOpen stage → IsFound layout n stage snapshot inputs taken behind
+    → IsWaiting stage behind
     → IsAreaFront layout n (taken ++ behind) (length behind)
 front_of layout n Head snapshot inputs taken behind going f waits = inl (omega (arith, waits, ap length f.0, length-append taken behind), omega (arith, ap length f.0, length-append taken behind))
 front_of layout n (Snapshot left) snapshot inputs taken behind going f waits = inr (inl (snapshot_front layout n snapshot taken behind left f.0 waits.0 waits.1))

@@ -9,7 +9,8 @@ use Rattle.gated_journal.specs.Frames.{records, body, frames, joined, HaveRecord
 use Rattle.gated_journal.specs.Reading.{HasHeader}
 use Rattle.gated_journal.specs.Damage.{NoFrame, IsDamagedAt}
 
-records-unique : (layout : ℕ) (b c : List Input) (r s : List ℕ) → HaveRecords layout b → HaveRecords layout c → length b ≡ length c → records b ++ r ≡ records c ++ s → (b ≡ c) × (r ≡ s)
+records-unique : (layout : ℕ) (b c : List Input) (r s : List ℕ) → HaveRecords layout b → HaveRecords layout c → length b ≡ length c → records b ++ r ≡ records c ++ s
+    → (b ≡ c) × (r ≡ s)
 records-unique layout [] [] r s hb hc long e = (refl, e)
 records-unique layout [] (y ∷ c) r s hb hc long e = absurd (omega arith)
 records-unique layout (x ∷ b) [] r s hb hc long e = absurd (omega arith)
@@ -35,7 +36,8 @@ body-unique {layout = layout} b c r s hb hc e =
 abbrev Stuck : ℕ → List ℕ → Type 0
 Stuck layout bytes = (batch : List Input) (rest : List ℕ) → IsBatch layout batch → bytes ≡ 1 ∷ (body batch ++ rest) → ⊥
 
-frames-unique : (layout : ℕ) (bs cs : List (List Input)) (r s : List ℕ) → AreBatches layout bs → AreBatches layout cs → Stuck layout r → Stuck layout s → frames bs ++ r ≡ frames cs ++ s → (bs ≡ cs) × (r ≡ s)
+frames-unique : (layout : ℕ) (bs cs : List (List Input)) (r s : List ℕ) → AreBatches layout bs → AreBatches layout cs → Stuck layout r → Stuck layout s
+    → frames bs ++ r ≡ frames cs ++ s → (bs ≡ cs) × (r ≡ s)
 frames-unique layout [] [] r s hb hc one two e = (refl, e)
 frames-unique layout [] (c ∷ cs) r s hb hc one two e = absurd (one c (frames cs ++ s) hc.0 (e ∙ ap (λ (l : List ℕ). 1 ∷ l) (append_assoc (body c) (frames cs) s)))
 frames-unique layout (b ∷ bs) [] r s hb hc one two e = absurd (two b (frames bs ++ r) hb.0 (sym e ∙ ap (λ (l : List ℕ). 1 ∷ l) (append_assoc (body b) (frames bs) r)))
@@ -54,12 +56,14 @@ damaged-stuck bytes (inl none) batch rest is e = let same = sym none ∙ e in cc
 damaged-stuck bytes (inr some) batch rest is e = some.1.1 batch rest is (let same = sym some.1.0 ∙ e in cc)
 
 -- nor in two ways
-pub parts-unique : {layout : ℕ} (offset : ℕ) (image : List ℕ) (inputs more : List Input) (gate_at end : ℕ) → (one : ReadsTo layout offset image inputs gate_at) → (two : ReadsTo layout offset image more end)
+pub parts-unique : {layout : ℕ} (offset : ℕ) (image : List ℕ) (inputs more : List Input) (gate_at end : ℕ) → (one : ReadsTo layout offset image inputs gate_at)
+    → (two : ReadsTo layout offset image more end)
     → (one.batches ≡ two.batches) × (one.gate ∷ one.after ≡ two.gate ∷ two.after)
 parts-unique {layout = layout} offset image inputs more gate_at end one two =
     frames-unique layout one.batches two.batches (one.gate ∷ one.after) (two.gate ∷ two.after) one.sized two.sized (closed-stuck one.gate one.after one.closed) (closed-stuck two.gate two.after two.closed) (sym one.whole ∙ two.whole)
 
-pub unique : {layout : ℕ} (offset : ℕ) (image : List ℕ) (inputs more : List Input) (gate_at end : ℕ) → ReadsTo layout offset image inputs gate_at → ReadsTo layout offset image more end → (inputs ≡ more) × (gate_at ≡ end)
+pub unique : {layout : ℕ} (offset : ℕ) (image : List ℕ) (inputs more : List Input) (gate_at end : ℕ) → ReadsTo layout offset image inputs gate_at → ReadsTo layout offset image more end
+    → (inputs ≡ more) × (gate_at ≡ end)
 unique offset image inputs more gate_at end one two =
     let same = (parts-unique offset image inputs more gate_at end one two).0 in (
       one.same ∙ ap joined same ∙ sym two.same,

@@ -75,7 +75,8 @@ fn read_plainly<D: Device>(
     ensures later { D.count device.old ≤ D.count device.new }
     ensures same { OnOk result (D.count device.new ≡ D.count device.old) }
     ensures first { IfErr result (λ refusal. IsFault (D.count device.old) (D.count device.new) refusal ⊎ (D.count device.new ≡ D.count device.old)) }
-    ensures works { Reaches (D.reach device.old) (length (D.disk device.old).image) → IfErr result (λ refusal. (refusal ≡ OutOfMemory) ⊎ IsPlainBroken capacity (D.disk device.old).image refusal) }
+    ensures works { Reaches (D.reach device.old) (length (D.disk device.old).image)
+        → IfErr result (λ refusal. (refusal ≡ OutOfMemory) ⊎ IsPlainBroken capacity (D.disk device.old).image refusal) }
     ensures reach { D.reach device.new ≡ D.reach device.old }
 {
     let bound = AREA_A + 14 + u64::from(capacity);
@@ -113,7 +114,8 @@ fn read_in_area<D: Device>(
     ensures later { D.count device.old ≤ D.count device.new }
     ensures same { OnOk result (D.count device.new ≡ D.count device.old) }
     ensures first { IfErr result (λ refusal. IsFault (D.count device.old) (D.count device.new) refusal ⊎ (D.count device.new ≡ D.count device.old)) }
-    ensures works { Reaches (D.reach device.old) (length (D.disk device.old).image) → IfErr result (λ refusal. (refusal ≡ OutOfMemory) ⊎ AreAreasUnread n capacity (D.disk device.old).image refusal) }
+    ensures works { Reaches (D.reach device.old) (length (D.disk device.old).image)
+        → IfErr result (λ refusal. (refusal ≡ OutOfMemory) ⊎ AreAreasUnread n capacity (D.disk device.old).image refusal) }
     ensures reach { D.reach device.new ≡ D.reach device.old }
 {
     let bound = chosen.start + 14 + u64::from(capacity);
@@ -147,7 +149,8 @@ fn read_area<D: Device>(
     ensures later { D.count device.old ≤ D.count device.new }
     ensures same { OnOk result (D.count device.new ≡ D.count device.old) }
     ensures first { IfErr result (λ refusal. IsFault (D.count device.old) (D.count device.new) refusal ⊎ (D.count device.new ≡ D.count device.old)) }
-    ensures works { Reaches (D.reach device.old) (length (D.disk device.old).image) → IfErr result (λ refusal. (refusal ≡ OutOfMemory) ⊎ AreAreasUnread n capacity (D.disk device.old).image refusal) }
+    ensures works { Reaches (D.reach device.old) (length (D.disk device.old).image)
+        → IfErr result (λ refusal. (refusal ≡ OutOfMemory) ⊎ AreAreasUnread n capacity (D.disk device.old).image refusal) }
     ensures reach { D.reach device.new ≡ D.reach device.old }
 {
     if chosen.layout < OLDEST_AREA {
@@ -176,7 +179,8 @@ pub(crate) fn read_areas<D: Device>(
     ensures later { D.count device.old ≤ D.count device.new }
     ensures same { OnOk result (D.count device.new ≡ D.count device.old) }
     ensures first { IfErr result (λ refusal. IsFault (D.count device.old) (D.count device.new) refusal ⊎ (D.count device.new ≡ D.count device.old)) }
-    ensures works { Reaches (D.reach device.old) (length (D.disk device.old).image) → IfErr result (λ refusal. (refusal ≡ OutOfMemory) ⊎ AreAreasUnread n capacity (D.disk device.old).image refusal) }
+    ensures works { Reaches (D.reach device.old) (length (D.disk device.old).image)
+        → IfErr result (λ refusal. (refusal ≡ OutOfMemory) ⊎ AreAreasUnread n capacity (D.disk device.old).image refusal) }
     ensures reach { D.reach device.new ≡ D.reach device.old }
 {
     match choose_area(device, capacity, is_old) {

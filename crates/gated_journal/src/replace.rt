@@ -44,7 +44,8 @@ pub(crate) fn write_area<D: Device>(
 /// Opens the area at `other`, which is the one that is read then.
 pub(crate) fn open_area<D: Device>(device: &mut D, other: u64) -> Result<(), DeviceFault>
     // A stop at any moment of the call leaves what was read before, or the new area.
-    ensures any_moment { (header : Member) (old r : Reading) (start offset gate_at next : ℕ) → IsSynced (D.disk device.old) → ReadsAt header (D.disk device.old).image old start other offset gate_at
+    ensures any_moment { (header : Member) (old r : Reading) (start offset gate_at next : ℕ) → IsSynced (D.disk device.old)
+        → ReadsAt header (D.disk device.old).image old start other offset gate_at
         → IsStaged header.n other (D.disk device.old).image r next → next ≤ other + head_len + header.capacity → old.epoch < r.epoch
         → LeavesOnly D.clock D.left_since device.old device.new (ReadsAtOneOf header old start other offset gate_at r next) }
     ensures done { OnOk result ((header : Member) (old r : Reading) (start offset gate_at next : ℕ) → ReadsAt header (D.disk device.old).image old start other offset gate_at

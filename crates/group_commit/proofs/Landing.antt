@@ -55,14 +55,16 @@ part-length start end inputs within =
     length-take-le (end - start) (drop start inputs) (omega (arith, left))
 
 -- so they are the first of those that wait
-pub flies : (me start end : ℕ) (outbox : Outbox) (opening : Summary) (inputs : List Input) → start ≤ end → end ≤ length inputs → HoldsFor me outbox opening (take start inputs) (drop start inputs) (end - start)
+pub flies : (me start end : ℕ) (outbox : Outbox) (opening : Summary) (inputs : List Input) → start ≤ end → end ≤ length inputs
+    → HoldsFor me outbox opening (take start inputs) (drop start inputs) (end - start)
     → Holds me outbox (after me opening (take start inputs)) (notices_since me opening (take start inputs)) (part start end inputs ++ drop end inputs) (length (part start end inputs))
 flies me start end outbox opening inputs within all holds =
     subst (λ (p : List Input × ℕ). Holds me outbox (after me opening (take start inputs)) (notices_since me opening (take start inputs)) p.0 p.1)
     (λ i. (part-rest start end inputs within i, sym (part-length start end inputs all) i)) holds
 
 -- and nothing is against them
-pub free : (me n start end : ℕ) (opening : Summary) (inputs : List Input) → start ≤ end → AreFree me n opening inputs → AreFree me n (after me opening (take start inputs)) (part start end inputs)
+pub free : (me n start end : ℕ) (opening : Summary) (inputs : List Input) → start ≤ end → AreFree me n opening inputs
+    → AreFree me n (after me opening (take start inputs)) (part start end inputs)
 free me n start end opening inputs within each =
     free-part me n opening (take start inputs) (part start end inputs) (drop end inputs)
     (subst (AreFree me n opening) (sym (take-append-drop start inputs) ∙ ap (λ l. take start inputs ++ l) (part-rest start end inputs within)) each)
@@ -81,7 +83,8 @@ brought-part me s l rest waiting is =
     ∙ take_all (length l) (brought_after me s l) (omega (arith, count)))
 
 -- the desk once they are durable
-pub lands : (me start end : ℕ) (new : Outbox) (opening : Summary) (inputs : List Input) (all : List Notice) (waiting : List Effects) → start ≤ end → waiting ≡ brought_after me (after me opening (take start inputs)) (drop start inputs)
+pub lands : (me start end : ℕ) (new : Outbox) (opening : Summary) (inputs : List Input) (all : List Notice) (waiting : List Effects) → start ≤ end
+    → waiting ≡ brought_after me (after me opening (take start inputs)) (drop start inputs)
     → all ≡ told_in (take (length (part start end inputs)) waiting)
     → Holds me new (after me (after me opening (take start inputs)) (part start end inputs)) (notices_since me opening (take start inputs) ++ all) (drop end inputs) 0
     → HoldsFor me new opening (take end inputs) (drop end inputs) (end - end)
@@ -100,14 +103,16 @@ lands me start end new opening inputs all waiting within waits are holds =
     subst (λ (p : (Summary × List Notice) × ℕ). Holds me new p.0.0 p.0.1 (drop end inputs) p.1) (λ i. ((known i, more i), none i)) holds
 
 -- all of them are durable
-pub whole_holds : (me count : ℕ) (outbox : Outbox) (opening : Summary) (inputs : List Input) → count ≡ length inputs → Holds me outbox (after me opening inputs) (notices_since me opening inputs) [] 0 → HoldsFor me outbox opening (take count inputs) (drop count inputs) (count - count)
+pub whole_holds : (me count : ℕ) (outbox : Outbox) (opening : Summary) (inputs : List Input) → count ≡ length inputs
+    → Holds me outbox (after me opening inputs) (notices_since me opening inputs) [] 0 → HoldsFor me outbox opening (take count inputs) (drop count inputs) (count - count)
 whole_holds me count outbox opening inputs all holds =
     let none : 0 ≡ count - count = omega arith in
     subst (λ (p : (List Input × List Input) × ℕ). HoldsFor me outbox opening p.0.0 p.0.1 p.1)
     (λ i. ((sym (take_all count inputs (omega (arith, all))) i, sym (drop_all count inputs (omega (arith, all))) i), none i)) holds
 
 -- more inputs wait behind them
-pub waits_more : (me k : ℕ) (outbox : Outbox) (opening : Summary) (inputs more : List Input) (durable : ℕ) → durable ≤ length inputs → Holds me outbox (after me opening (take durable inputs)) (notices_since me opening (take durable inputs)) (drop durable inputs ++ more) k
+pub waits_more : (me k : ℕ) (outbox : Outbox) (opening : Summary) (inputs more : List Input) (durable : ℕ) → durable ≤ length inputs
+    → Holds me outbox (after me opening (take durable inputs)) (notices_since me opening (take durable inputs)) (drop durable inputs ++ more) k
     → HoldsFor me outbox opening (take durable (inputs ++ more)) (drop durable (inputs ++ more)) k
 waits_more me k outbox opening inputs more durable within holds =
     subst (λ (p : List Input × List Input). HoldsFor me outbox opening p.0 p.1 k) (λ i. (sym (take-append-le durable inputs more within) i, sym (drop-append-le durable inputs more within) i)) holds
@@ -132,7 +137,8 @@ packets-known me n s t h l knows knows_now within allowed = λ i.
     found-known (λ (e : Effects). e.carry) (carry me) me n (λ g x. refl) s h l knows within allowed i
     ++ ((λ j. credit_since ((knows j).taken) ((knows_now j).taken)) ∙ credits-known h l) i
 
-pub notices-known : (me n : ℕ) (s : Summary) (h l : List Input) → s ≡ summary me h → credit h ≤ length (sent me h) → EachAfter (IsAllowed me n) h l → told_in (brought_after me s l) ≡ notices me h l
+pub notices-known : (me n : ℕ) (s : Summary) (h l : List Input) → s ≡ summary me h → credit h ≤ length (sent me h) → EachAfter (IsAllowed me n) h l
+    → told_in (brought_after me s l) ≡ notices me h l
 unfolding notices
 notices-known me n s h l knows within allowed = found-known (λ (e : Effects). e.notice) (told me) me n (λ g x. refl) s h l knows within allowed
 
@@ -143,7 +149,8 @@ allowed-part : (m : Member) (h l : List Input) → EachAfter (IsAllowed m.node m
 allowed-part m h l each = EachAfter-behind (IsAllowed m.node m.n) [] h l each
 
 -- what is handed out
-pub landed_packets : (m : Member) (opening : Summary) (past inputs : List Input) (start end : ℕ) (waiting : List Effects) (l : List Input) (before now : ℕ) (all : List Packet) → IsPast m opening past → AreFree m.node m.n opening inputs → start ≤ end
+pub landed_packets : (m : Member) (opening : Summary) (past inputs : List Input) (start end : ℕ) (waiting : List Effects) (l : List Input) (before now : ℕ) (all : List Packet)
+    → IsPast m opening past → AreFree m.node m.n opening inputs → start ≤ end
     → waiting ≡ brought_after m.node (after m.node opening (take start inputs)) (drop start inputs) → l ≡ part start end inputs → before ≡ (after m.node opening (take start inputs)).taken → now ≡ (after m.node opening (take end inputs)).taken
     → all ≡ carried (take (length l) waiting) ++ credit_since before now → all ≡ packets m.node (past ++ take start inputs) (part start end inputs)
 landed_packets m opening past inputs start end waiting l before now all past_is each within waits flown taken_before taken_now is =
@@ -157,7 +164,8 @@ landed_packets m opening past inputs start end waiting l before now all past_is 
     ∙ packets-known m.node m.n s (after m.node opening (take end inputs)) (past ++ take start inputs) (part start end inputs) f.knows (g.knows ∙ ap (summary m.node) (sym joined)) f.credit
     (allowed-part m (past ++ take start inputs) (part start end inputs) (subst (EachAfter (IsAllowed m.node m.n) []) (sym joined) g.allowed)))
 
-pub landed_notices : (m : Member) (opening : Summary) (past inputs : List Input) (start end : ℕ) (waiting : List Effects) (l : List Input) (all : List Notice) → IsPast m opening past → AreFree m.node m.n opening inputs → start ≤ end
+pub landed_notices : (m : Member) (opening : Summary) (past inputs : List Input) (start end : ℕ) (waiting : List Effects) (l : List Input) (all : List Notice) → IsPast m opening past
+    → AreFree m.node m.n opening inputs → start ≤ end
     → waiting ≡ brought_after m.node (after m.node opening (take start inputs)) (drop start inputs) → l ≡ part start end inputs
     → all ≡ told_in (take (length l) waiting) → all ≡ notices m.node (past ++ take start inputs) (part start end inputs)
 landed_notices m opening past inputs start end waiting l all past_is each within waits flown is =

@@ -54,11 +54,13 @@ led-of : (me : ℕ) (h : List Input) (k : Key) (c : Candidate) (s : KeyState) �
 led-of me h k c s is leads = ap led is ∙ ap (λ (o : Option Candidate). led (record { key = k; stood = (state_of me h k).stood; leader = o })) leads
 
 -- what is listed leads
-tells : (me : ℕ) (h : List Input) (es : List (Key × KeyState)) → AllByRecursion (λ (e : Key × KeyState). e.1 ≡ state_of me h e.0) es → (d : Decision) → Contains (filter_map led (map (λ e. e.1) es)) d → leader me h d.key ≡ Some d.leader
+tells : (me : ℕ) (h : List Input) (es : List (Key × KeyState)) → AllByRecursion (λ (e : Key × KeyState). e.1 ≡ state_of me h e.0) es → (d : Decision)
+    → Contains (filter_map led (map (λ e. e.1) es)) d → leader me h d.key ≡ Some d.leader
 tells me h [] each d has = Contains-nil d has
 tells me h (e ∷ es) each d has = go (tells me h es each.1 d) (leader me h e.0) refl
   where
-    go : (Contains (filter_map led (map (λ (e : Key × KeyState). e.1) es)) d → leader me h d.key ≡ Some d.leader) → (o : Option Candidate) → leader me h e.0 ≡ o → leader me h d.key ≡ Some d.leader
+    go : (Contains (filter_map led (map (λ (e : Key × KeyState). e.1) es)) d → leader me h d.key ≡ Some d.leader) → (o : Option Candidate) → leader me h e.0 ≡ o
+        → leader me h d.key ≡ Some d.leader
     go rest None none = rest
         (subst (λ o. Contains (cons_option o (filter_map led (map (λ (e : Key × KeyState). e.1) es))) d) (ap led each.0 ∙ ap (λ (o : Option Candidate). led (record { key = e.0; stood = (state_of me h e.0).stood; leader = o })) none) has)
     go rest (Some c) some = elim (Contains-cons_cases (record { key = e.0; leader = c }) (filter_map led (map (λ (e : Key × KeyState). e.1) es)) d
@@ -72,11 +74,13 @@ kept None ds d has = has
 kept (Some x) ds d has = Contains-later x ds d has
 
 -- who leads is listed
-listed : (me : ℕ) (h : List Input) (key : Key) (c : Candidate) (es : List (Key × KeyState)) → find key_cmp key es ≡ Some (state_of me h key) → leader me h key ≡ Some c → Contains (filter_map led (map (λ e. e.1) es)) (record { key = key; leader = c })
+listed : (me : ℕ) (h : List Input) (key : Key) (c : Candidate) (es : List (Key × KeyState)) → find key_cmp key es ≡ Some (state_of me h key) → leader me h key ≡ Some c
+    → Contains (filter_map led (map (λ e. e.1) es)) (record { key = key; leader = c })
 listed me h key c [] found leads = none≢some (state_of me h key) found
 listed me h key c (e ∷ es) found leads = go (is_eq (key_cmp key e.0)) found (listed me h key c es)
   where
-    go : (b : Bool) → cond b (Some e.1) (find key_cmp key es) ≡ Some (state_of me h key) → (find key_cmp key es ≡ Some (state_of me h key) → leader me h key ≡ Some c → Contains (filter_map led (map (λ (e : Key × KeyState). e.1) es)) (record { key = key; leader = c }))
+    go : (b : Bool) → cond b (Some e.1) (find key_cmp key es) ≡ Some (state_of me h key)
+        → (find key_cmp key es ≡ Some (state_of me h key) → leader me h key ≡ Some c → Contains (filter_map led (map (λ (e : Key × KeyState). e.1) es)) (record { key = key; leader = c }))
         → Contains (cons_option (led e.1) (filter_map led (map (λ (e : Key × KeyState). e.1) es))) (record { key = key; leader = c })
     go true here rest =
         subst (λ o. Contains (cons_option o (filter_map led (map (λ (e : Key × KeyState). e.1) es))) (record { key = key; leader = c })) (sym (led-of me h key c e.1 (same_Some e.1 (state_of me h key) here) leads))
@@ -89,7 +93,8 @@ above : (k : Key) (ss : List KeyState) → AllByRecursion (λ (t : KeyState). ke
 above k [] each = tt
 above k (s ∷ ss) each = go s.leader (above k ss each.1)
   where
-    go : (o : Option Candidate) → AllByRecursion (λ (d : Decision). key_cmp k d.key ≡ Less) (filter_map led ss) → AllByRecursion (λ (d : Decision). key_cmp k d.key ≡ Less) (cons_option (led (record s { leader = o })) (filter_map led ss))
+    go : (o : Option Candidate) → AllByRecursion (λ (d : Decision). key_cmp k d.key ≡ Less) (filter_map led ss)
+        → AllByRecursion (λ (d : Decision). key_cmp k d.key ≡ Less) (cons_option (led (record s { leader = o })) (filter_map led ss))
     go None rest = rest
     go (Some c) rest = (each.0, rest)
 

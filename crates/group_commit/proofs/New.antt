@@ -49,7 +49,8 @@ seen_none desk = λ i. record desk.view { state = shifted_none desk.view.state i
 -- ---- what is opened again
 
 -- an opening whose inputs go on lawfully from its past is not refused for one of them
-pub no_unlawful : (m : Member) (opening : Summary) (base : Base) (past l : List Input) (why : Refusal) → base.inputs ≡ 0 → IsPast m opening past → IsLawful m.node m.n m.capacity (moved (length past) base) (past ++ l)
+pub no_unlawful : (m : Member) (opening : Summary) (base : Base) (past l : List Input) (why : Refusal) → base.inputs ≡ 0 → IsPast m opening past
+    → IsLawful m.node m.n m.capacity (moved (length past) base) (past ++ l)
     → IsUnlawful (opened_core m opening base) l why → ⊥
 unfolding IsLawful
 no_unlawful m opening base past l why none is lawful un =

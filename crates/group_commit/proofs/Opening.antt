@@ -56,7 +56,8 @@ pub core-item : (first core new : CoreView) (inputs : List Input) (i : ℕ) (x :
 core-item first core new inputs i x is here steps = core-push first core new (take i inputs) x is steps ∙ ap (core_after first) (sym (take-item inputs i x here))
 
 -- it stays lawful
-pub lawful-item : (first core : CoreView) (inputs : List Input) (i : ℕ) (x : Input) → core ≡ core_after first (take i inputs) → IsItem inputs i x → IsKnownLawful first (take i inputs) → Refuses core x None → IsKnownLawful first (take (i + 1) inputs)
+pub lawful-item : (first core : CoreView) (inputs : List Input) (i : ℕ) (x : Input) → core ≡ core_after first (take i inputs) → IsItem inputs i x → IsKnownLawful first (take i inputs)
+    → Refuses core x None → IsKnownLawful first (take (i + 1) inputs)
 lawful-item first core inputs i x is here lawful free =
     subst (IsKnownLawful first) (sym (take-item inputs i x here)) (EachAfter-push (IsOpenTo first) [] (take i inputs) x lawful (subst (λ (c : CoreView). Refuses c x None) is free))
 
@@ -67,7 +68,8 @@ unfolding EachAfter
 EachAfter-behind P before [] ys each = rw append-nil each
 EachAfter-behind P before (x ∷ xs) ys each = rw append_assoc at (EachAfter-behind P (before ++ x ∷ []) xs ys each.1)
 
-pub EachAfter-from : {A : Type 0} (P Q : List A → A → Type 0) (start : List A) → ((before : List A) (x : A) → P (start ++ before) x → Q before x) → (before xs : List A) → EachAfter P (start ++ before) xs → EachAfter Q before xs
+pub EachAfter-from : {A : Type 0} (P Q : List A → A → Type 0) (start : List A) → ((before : List A) (x : A) → P (start ++ before) x → Q before x) → (before xs : List A)
+    → EachAfter P (start ++ before) xs → EachAfter Q before xs
 unfolding EachAfter
 EachAfter-from P Q start so before [] each = tt
 EachAfter-from P Q start so before (x ∷ xs) each = (so before x each.0, EachAfter-from P Q start so (before ++ x ∷ []) xs (rw append_assoc at each.1))

@@ -66,7 +66,8 @@ refused-is core base h x o of (first, objects, e) =
 leads : (core : CoreView) (base : Base) (h : List Input) (key : Key) → IsOf core base h → leader_of (known_of core.known key) ≡ leader core.me h key
 leads core base h key of = ap (λ (k : Summary). leader_of (known_of k key)) of.knows ∙ leader-known core.me h key
 
-leads_last : (core : CoreView) (base : Base) (h : List Input) (group : List ℕ) (led : Option (ℕ × Candidate)) → IsOf core base h → IsLatest (leads_in core.known group) led → led ≡ latest core.me h group
+leads_last : (core : CoreView) (base : Base) (h : List Input) (group : List ℕ) (led : Option (ℕ × Candidate)) → IsOf core base h → IsLatest (leads_in core.known group) led
+    → led ≡ latest core.me h group
 leads_last core base h group led of is =
     one_latest (λ term. leader core.me h (record { group = group; term = term })) led (latest core.me h group)
     (latest_same (leads_in core.known group) (λ term. leader core.me h (record { group = group; term = term })) (λ term. sym (leads core base h (record { group = group; term = term }) of)) led is)
@@ -118,7 +119,8 @@ pub record Follows (m : Member) (opening : Summary) (past l : List Input) : Type
   pub allowed : EachAfter (IsAllowed m.node m.n) [] (past ++ l)
   pub credit : credit (past ++ l) ≤ length (sent m.node (past ++ l))
 
-follows-push : (m : Member) (opening : Summary) (past l : List Input) (x : Input) → Objects m.n (after m.node opening l) x None → Follows m opening past l → Follows m opening past (l ++ x ∷ [])
+follows-push : (m : Member) (opening : Summary) (past l : List Input) (x : Input) → Objects m.n (after m.node opening l) x None → Follows m opening past l
+    → Follows m opening past (l ++ x ∷ [])
 follows-push m opening past l x free follows =
     let h = past ++ l in
     let none = objects-known m.node m.n h x None (subst (λ (s : Summary). Objects m.n s x None) follows.knows free) in
@@ -161,7 +163,8 @@ room-moved base past l =
     λ i. record { layout = base.layout; epoch = base.epoch; taken = used-moved base past l i; waits = waits i }
 
 -- nothing is asked of what is summarised but that it was allowed
-allowed_within : (m : Member) (base : Base) (before l : List Input) → length before + length l ≤ base.inputs → EachAfter (IsAllowed m.node m.n) before l → EachAfter (IsAdmitted m.node m.n m.capacity base) before l
+allowed_within : (m : Member) (base : Base) (before l : List Input) → length before + length l ≤ base.inputs → EachAfter (IsAllowed m.node m.n) before l
+    → EachAfter (IsAdmitted m.node m.n m.capacity base) before l
 unfolding EachAfter Fits
 allowed_within m base before [] within allowed = tt
 allowed_within m base before (x ∷ l) within allowed =
@@ -181,7 +184,8 @@ fits-moved m opening base past l x f fits = λ within.
 IsBehind : Member → Summary → Base → List Input → List Input → Type 0
 IsBehind m opening base past l = Follows m opening past l × IsLawful m.node m.n m.capacity (moved (length past) base) (past ++ l)
 
-behind-push : (m : Member) (opening : Summary) (base : Base) (past l : List Input) (x : Input) → IsOpenSince m opening base l x → IsBehind m opening base past l → IsBehind m opening base past (l ++ x ∷ [])
+behind-push : (m : Member) (opening : Summary) (base : Base) (past l : List Input) (x : Input) → IsOpenSince m opening base l x → IsBehind m opening base past l
+    → IsBehind m opening base past (l ++ x ∷ [])
 unfolding IsLawful IsBehind
 behind-push m opening base past l x free (f, lawful) =
     let h = past ++ l in
@@ -192,7 +196,8 @@ behind-push m opening base past l x free (f, lawful) =
           (EachAfter-push (IsAdmitted m.node m.n m.capacity c) [] h x lawful (record { allowed = objection-allowed m.node m.n h x (sym none); fits = fits-moved m opening base past l x (follows-push m opening past l x free.free f) free.fits })),
     )
 
-pub lawful_past : (m : Member) (opening : Summary) (base : Base) (past l : List Input) → IsPast m opening past → IsLawfulSince m opening base l → IsLawful m.node m.n m.capacity (moved (length past) base) (past ++ l)
+pub lawful_past : (m : Member) (opening : Summary) (base : Base) (past l : List Input) → IsPast m opening past → IsLawfulSince m opening base l
+    → IsLawful m.node m.n m.capacity (moved (length past) base) (past ++ l)
 unfolding IsLawful IsBehind
 lawful_past m opening base past l is lawful =
     let c = moved (length past) base in
@@ -207,7 +212,8 @@ free_since m opening base l lawful =
     EachAfter-from (IsOpenSince m opening base) (λ before x. Objects m.n (after m.node opening before) x None) [] (λ before x free. free.free) [] l lawful
 
 -- an area of the inputs since is one of the whole history
-pub based_past : (m : Member) (opening : Summary) (base : Base) (past l : List Input) → IsPast m opening past → AreFree m.node m.n opening l → IsAreaOf m.node opening base l → IsBaseOf m.node (moved (length past) base) (past ++ l)
+pub based_past : (m : Member) (opening : Summary) (base : Base) (past l : List Input) → IsPast m opening past → AreFree m.node m.n opening l → IsAreaOf m.node opening base l
+    → IsBaseOf m.node (moved (length past) base) (past ++ l)
 based_past m opening base past l is free area =
     let front = take base.inputs l in
     let within = area.within in
@@ -227,7 +233,8 @@ based_past m opening base past l is free area =
 -- ---- its core
 
 -- it knows what the whole history says, with room counted from the area that is in use then
-pub core_past : (m : Member) (opening : Summary) (past : List Input) (s : NodeState) → IsPast m opening past → IsKnownState m opening s → IsOf (core_in m opening s) (moved (length past) (launched_base s)) (past ++ s.inputs)
+pub core_past : (m : Member) (opening : Summary) (past : List Input) (s : NodeState) → IsPast m opening past → IsKnownState m opening s
+    → IsOf (core_in m opening s) (moved (length past) (launched_base s)) (past ++ s.inputs)
 core_past m opening past s is known =
     let sum = length-append past s.inputs in
     let within = known.next.within in
@@ -237,11 +244,13 @@ core_past m opening past s is known =
       within = omega (arith, within, sum);
     }
 
-pub core_knows : (m : Member) (opening : Summary) (past : List Input) (s : NodeState) (core : CoreView) → IsPast m opening past → IsKnownState m opening s → core ≡ core_in m opening s → core.known ≡ summary m.node (past ++ s.inputs)
+pub core_knows : (m : Member) (opening : Summary) (past : List Input) (s : NodeState) (core : CoreView) → IsPast m opening past → IsKnownState m opening s → core ≡ core_in m opening s
+    → core.known ≡ summary m.node (past ++ s.inputs)
 core_knows m opening past s core is known knows = (λ i. (knows i).known) ∙ (core_past m opening past s is known).knows
 
 -- what is known by its durable inputs
-pub durable_knows : (m : Member) (opening : Summary) (past : List Input) (s : NodeState) → IsPast m opening past → IsKnownState m opening s → after m.node opening (durable_in s) ≡ summary m.node (durable_in (shifted past s))
+pub durable_knows : (m : Member) (opening : Summary) (past : List Input) (s : NodeState) → IsPast m opening past → IsKnownState m opening s
+    → after m.node opening (durable_in s) ≡ summary m.node (durable_in (shifted past s))
 durable_knows m opening past s is known =
     (follows-take m opening past s.inputs s.durable is (free_since m opening (launched_base s) s.inputs known.all)).knows ∙ ap (summary m.node) (sym (durable-shifted past s))
 
@@ -268,7 +277,8 @@ brought-known me h x =
     let core : CoreView = record { me = me; size = 0; capacity = 0; known = summary me h; room = room_of fresh h } in
     λ i. record { carry = carries core h x (record { knows = refl; room = refl }) i; notice = tells core h x (record { knows = refl; room = refl }) i }
 
-pub found-known : {B : Type 0} (part : Effects → Option B) (f : List Input → Input → Option B) (me n : ℕ) → ((h : List Input) (x : Input) → part (record { carry = carry me h x; notice = told me h x }) ≡ f h x)
+pub found-known : {B : Type 0} (part : Effects → Option B) (f : List Input → Input → Option B) (me n : ℕ)
+    → ((h : List Input) (x : Input) → part (record { carry = carry me h x; notice = told me h x }) ≡ f h x)
     → (s : Summary) (h l : List Input) → s ≡ summary me h → credit h ≤ length (sent me h) → EachAfter (IsAllowed me n) h l → filter_map part (brought_after me s l) ≡ found_after f h l
 unfolding brought_after found_after EachAfter
 found-known part f me n is s h [] knows within allowed = refl

@@ -64,7 +64,8 @@ pub record Queued (me : ℕ) (link : LinkView) (s : Summary) (x : Input) : Type 
   pub window : link.window ≡ s.window ++ cons_option (sends me s x) []
   pub sent : sent_count link ≡ s.sent + length (cons_option (sends me s x) [])
 
-pub queued : (me : ℕ) (old : Released) (link : LinkView) (s : Summary) (list : List Notice) (x : Input) (effects : Effects) → Keeps old s list → effects ≡ brought me s x → link.credited ≡ old.link.link.credited
+pub queued : (me : ℕ) (old : Released) (link : LinkView) (s : Summary) (list : List Notice) (x : Input) (effects : Effects) → Keeps old s list → effects ≡ brought me s x
+    → link.credited ≡ old.link.link.credited
     → ((count : ℕ) (on : Option Msg) → effects.carry ≡ option_map (Carry count) on → link.window ≡ old.link.link.window ++ cons_option on []) → Queued me link s x
 queued me old link s list x effects keeps brings credited window =
     let more = window s.sent (sends me s x) (λ i. (brings i).carry) in
@@ -77,7 +78,8 @@ queued me old link s list x effects keeps brings credited window =
     }
 
 -- a credit that is allowed may be taken then
-pub may_credit : (me n : ℕ) (link : LinkView) (s : Summary) (x : Input) (upto : ℕ) → Queued me link s x → Objects n s x None → x ≡ Acked upto → (link.credited < upto) × (upto ≤ sent_count link)
+pub may_credit : (me n : ℕ) (link : LinkView) (s : Summary) (x : Input) (upto : ℕ) → Queued me link s x → Objects n s x None → x ≡ Acked upto
+    → (link.credited < upto) × (upto ≤ sent_count link)
 may_credit me n link s x upto q free is =
     let within = credited n s x upto free is in
     let from = q.credited in
@@ -88,7 +90,8 @@ one_most : {A : Type 0} (o : Option A) → length (cons_option o []) ≤ 1
 one_most None = omega arith
 one_most (Some x) = omega arith
 
-pub next_stand : (me : ℕ) (old new : Released) (s : Summary) (list more : List Notice) (x : Input) (key : Key) (bid : ℕ) → Keeps old s list → x ≡ Stand key bid → Queued me new.link.link s x
+pub next_stand : (me : ℕ) (old new : Released) (s : Summary) (list more : List Notice) (x : Input) (key : Key) (bid : ℕ) → Keeps old s list → x ≡ Stand key bid
+    → Queued me new.link.link s x
     → new.taken ≡ old.taken → new.notices.items ≡ old.notices.items ++ more → Keeps new (stepped me s x) (list ++ more)
 next_stand me old new s list more x key bid keeps is q taken told = subst (λ (y : Input). Queued me new.link.link s y → Keeps new (stepped me s y) (list ++ more)) (sym is) (λ q. record {
   credited = q.credited;
@@ -100,7 +103,8 @@ next_stand me old new s list more x key bid keeps is q taken told = subst (λ (y
   taken_few = (let few = keeps.taken_few in omega arith);
 }) q
 
-pub next_take : (me : ℕ) (old new : Released) (s : Summary) (list more : List Notice) (x : Input) (msg_no : ℕ) (msg : Msg) → Keeps old s list → x ≡ Take msg_no msg → Queued me new.link.link s x
+pub next_take : (me : ℕ) (old new : Released) (s : Summary) (list more : List Notice) (x : Input) (msg_no : ℕ) (msg : Msg) → Keeps old s list → x ≡ Take msg_no msg
+    → Queued me new.link.link s x
     → new.taken ≡ old.taken + 1 → new.notices.items ≡ old.notices.items ++ more → Keeps new (stepped me s x) (list ++ more)
 next_take me old new s list more x msg_no msg keeps is q taken told = subst (λ (y : Input). Queued me new.link.link s y → Keeps new (stepped me s y) (list ++ more)) (sym is) (λ q. record {
   credited = q.credited;
@@ -112,7 +116,8 @@ next_take me old new s list more x msg_no msg keeps is q taken told = subst (λ 
   taken_few = (let few = keeps.taken_few in omega arith);
 }) q
 
-pub next_acked : (me n : ℕ) (old new : Released) (link : LinkView) (s : Summary) (list more : List Notice) (x : Input) (upto : ℕ) → Keeps old s list → x ≡ Acked upto → Objects n s x None → Queued me link s x
+pub next_acked : (me n : ℕ) (old new : Released) (link : LinkView) (s : Summary) (list more : List Notice) (x : Input) (upto : ℕ) → Keeps old s list → x ≡ Acked upto → Objects n s x None
+    → Queued me link s x
     → new.link.link.credited ≡ upto → new.link.link.window ≡ drop (upto - link.credited) link.window
     → new.taken ≡ old.taken → new.notices.items ≡ old.notices.items ++ more → Keeps new (stepped me s x) (list ++ more)
 next_acked me n old new link s list more x upto keeps is free q upto_is window taken told = subst (λ (y : Input). Objects n s y None → Queued me link s y → Keeps new (stepped me s y) (list ++ more)) (sym is) (λ free q.
@@ -141,7 +146,8 @@ numbered-push msg_no (m ∷ msgs) msg =
     ap (λ l. Carry msg_no m ∷ l) (numbered-push (msg_no + 1) msgs msg)
     ∙ (let sum : msg_no + 1 + length msgs ≡ msg_no + length (m ∷ msgs) = omega arith in ap (λ n. Carry msg_no m ∷ (numbered (msg_no + 1) msgs ++ Carry n msg ∷ [])) sum)
 
-pub numbered-item : (first : ℕ) (msgs : List Msg) (index : ℕ) (msg : Msg) (before after : List Packet) → IsItem msgs index msg → before ≡ numbered first (take index msgs) → after ≡ before ++ Carry (first + index) msg ∷ []
+pub numbered-item : (first : ℕ) (msgs : List Msg) (index : ℕ) (msg : Msg) (before after : List Packet) → IsItem msgs index msg → before ≡ numbered first (take index msgs)
+    → after ≡ before ++ Carry (first + index) msg ∷ []
     → after ≡ numbered first (take (index + 1) msgs)
 numbered-item first msgs index msg before after here is more =
     let within = here.within in

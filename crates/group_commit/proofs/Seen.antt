@@ -108,14 +108,16 @@ allowed_in m base before [] each = tt
 allowed_in m base before (x ∷ l) each = (each.0.allowed, allowed_in m base (before ++ x ∷ []) l each.1)
 
 -- what is known of inputs that are lawful behind their past is what the whole history says
-known_allowed : (m : Member) (opening : Summary) (base : Base) (past l : List Input) → IsPast m opening past → IsLawful m.node m.n m.capacity base (past ++ l) → after m.node opening l ≡ summary m.node (past ++ l)
+known_allowed : (m : Member) (opening : Summary) (base : Base) (past l : List Input) → IsPast m opening past → IsLawful m.node m.n m.capacity base (past ++ l)
+    → after m.node opening l ≡ summary m.node (past ++ l)
 unfolding IsLawful
 known_allowed m opening base past l is lawful =
     ap (λ (s : Summary). after m.node s l) is.summed
     ∙ after-known m.node m.n past l is.allowed (EachAfter-behind (IsAllowed m.node m.n) [] past l (allowed_in m base [] (past ++ l) lawful))
 
 -- all its inputs fly, as a checkpoint
-pub launched_all_seen : (past : List Input) (d : DeskKept) → IsPast d.view.member d.opening past → after d.view.member.node d.opening d.view.state.inputs ≡ summary d.view.member.node (past ++ d.view.state.inputs)
+pub launched_all_seen : (past : List Input) (d : DeskKept) → IsPast d.view.member d.opening past
+    → after d.view.member.node d.opening d.view.state.inputs ≡ summary d.view.member.node (past ++ d.view.state.inputs)
     → seen past (record d { view = launched_all d }) ≡ record (seen past d) { state = states.launched_all d.view.member.node (seen past d).state }
 launched_all_seen past d is knows =
     let s = d.view.state in

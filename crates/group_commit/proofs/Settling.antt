@@ -76,7 +76,8 @@ holds_next me old new s t list more holds same_waiting same_landing keeps room =
 -- ---- what waits
 
 -- one more input waits
-pub waits_next : (me flying : ℕ) (old new : Outbox) (s : Summary) (list : List Notice) (l : List Input) (x : Input) (effects : Effects) → Holds me old s list l flying → effects ≡ brought me (after me s l) x
+pub waits_next : (me flying : ℕ) (old new : Outbox) (s : Summary) (list : List Notice) (l : List Input) (x : Input) (effects : Effects) → Holds me old s list l flying
+    → effects ≡ brought me (after me s l) x
     → new.released ≡ old.released → new.landing ≡ old.landing → new.waiting.items ≡ old.waiting.items ++ effects ∷ [] → Holds me new s list (l ++ x ∷ []) flying
 waits_next me flying old new s list l x effects holds brings same_released same_landing more = record {
   released = subst (λ (r : Released). Keeps r s list) (sym same_released) holds.released;
@@ -88,7 +89,8 @@ waits_next me flying old new s list l x effects holds brings same_released same_
 }
 
 -- the memory for what flies is there, or nothing flies
-pub holds_loaded : (me flying count : ℕ) (old new : Outbox) (s : Summary) (list : List Notice) (l : List Input) → Holds me old s list l flying → new.waiting ≡ old.waiting → Keeps new.released s list → HasRoom new.released count
+pub holds_loaded : (me flying count : ℕ) (old new : Outbox) (s : Summary) (list : List Notice) (l : List Input) → Holds me old s list l flying → new.waiting ≡ old.waiting
+    → Keeps new.released s list → HasRoom new.released count
     → IsBlank new.landing → (0 < count → IsReady new.landing count) → (0 < count → new.landing.count ≡ count) → Holds me new s list l count
 holds_loaded me flying count old new s list l holds same keeps room blank ready counts =
     record { released = keeps; waiting = (λ i. (same i).items) ∙ holds.waiting; room = room; blank = blank; ready = ready; count = counts }
@@ -180,7 +182,8 @@ settles_none me old new landed s list l count some holds same released waits bla
 pub settles_end : (outbox : Outbox) (landed : Landed) (waited : List Effects) (count i : ℕ) → i ≡ count → Settles outbox landed waited count i → Settles outbox landed waited count count
 settles_end outbox landed waited count i all settles = subst (Settles outbox landed waited count) all settles
 
-pub settles_next : (old new : Outbox) (landed now : Landed) (waited : List Effects) (count i : ℕ) (effects : Effects) → Settles old landed waited count i → i < count → old.waiting.items ≡ effects ∷ new.waiting.items
+pub settles_next : (old new : Outbox) (landed now : Landed) (waited : List Effects) (count i : ℕ) (effects : Effects) → Settles old landed waited count i → i < count
+    → old.waiting.items ≡ effects ∷ new.waiting.items
     → IsBlank new.landing → ((k : ℕ) → HasRoom old.released (k + 1) → HasRoom new.released k) → ((k : ℕ) → IsReady landed (k + 1) → IsReady now k)
     → now.packets.items ≡ landed.packets.items ++ cons_option effects.carry [] → now.notices.items ≡ landed.notices.items ++ cons_option effects.notice [] → now.again.items ≡ landed.again.items ++ cons_option effects.notice [] → now.count ≡ landed.count → Settles new now waited count (i + 1)
 settles_next old new landed now waited count i effects settles less split blank room ready packets notices again counts =
@@ -198,7 +201,8 @@ settles_next old new landed now waited count i effects settles less split blank 
     }
 
 -- what the node may release, once so many have landed
-pub keeps_next : (me : ℕ) (new : Released) (s : Summary) (list : List Notice) (l : List Input) (waited rest : List Effects) (i : ℕ) (x : Input) (effects : Effects) → IsItem l i x → drop i waited ≡ effects ∷ rest
+pub keeps_next : (me : ℕ) (new : Released) (s : Summary) (list : List Notice) (l : List Input) (waited rest : List Effects) (i : ℕ) (x : Input) (effects : Effects) → IsItem l i x
+    → drop i waited ≡ effects ∷ rest
     → Keeps new (stepped me (after me s (take i l)) x) ((list ++ told_in (take i waited)) ++ cons_option effects.notice []) → Keeps new (after me s (take (i + 1) l)) (list ++ told_in (take (i + 1) waited))
 keeps_next me new s list l waited rest i x effects here split keeps =
     let known = ap (after me s) (take-item l i x here) ∙ after-push me s (take i l) x in
@@ -206,7 +210,8 @@ keeps_next me new s list l waited rest i x effects here split keeps =
     subst (λ (p : Summary × List Notice). Keeps new p.0 p.1) (λ k. (sym known k, (append_assoc list (told_in (take i waited)) (cons_option effects.notice []) ∙ ap (λ ds. list ++ ds) (sym more)) k)) keeps
 
 -- nothing flies behind what landed
-pub holds_landed : (me : ℕ) (old new : Outbox) (landed : Landed) (s : Summary) (list all : List Notice) (l rest : List Input) → Holds me old s list (l ++ rest) (length l) → Settles new landed old.waiting.items (length l) (length l)
+pub holds_landed : (me : ℕ) (old new : Outbox) (landed : Landed) (s : Summary) (list all : List Notice) (l rest : List Input) → Holds me old s list (l ++ rest) (length l)
+    → Settles new landed old.waiting.items (length l) (length l)
     → Keeps new.released (after me s (take (length l) l)) (list ++ told_in (take (length l) old.waiting.items)) → all ≡ told_in (take (length l) old.waiting.items) → Holds me new (after me s l) (list ++ all) rest 0
 holds_landed me old new landed s list all l rest holds settles keeps are =
     let whole = take_all (length l) l (omega arith) in

@@ -60,12 +60,14 @@ open_now m opening s x free = record {
 lawful-first : (m : Member) (opening : Summary) (b : Base) (k : ℕ) (l : List Input) → IsLawfulSince m opening b l → IsLawfulSince m opening b (take k l)
 lawful-first m opening b k l lawful = EachAfter-take (IsOpenSince m opening b) k l lawful
 
-lawful-more : (m : Member) (opening : Summary) (b : Base) (l : List Input) (more : Option Input) → ((x : Input) → more ≡ Some x → IsOpenSince m opening b l x) → IsLawfulSince m opening b l → IsLawfulSince m opening b (l ++ cons_option more [])
+lawful-more : (m : Member) (opening : Summary) (b : Base) (l : List Input) (more : Option Input) → ((x : Input) → more ≡ Some x → IsOpenSince m opening b l x) → IsLawfulSince m opening b l
+    → IsLawfulSince m opening b (l ++ cons_option more [])
 lawful-more m opening b l None free lawful = rw append-nil lawful
 lawful-more m opening b l (Some x) free lawful = EachAfter-push (IsOpenSince m opening b) [] l x lawful (free x refl)
 
 -- a base asks no room of what it stands for
-rebased : (m : Member) (opening : Summary) (b c : Base) (before l : List Input) → length before + length l ≤ c.inputs → EachAfter (IsOpenSince m opening b) before l → EachAfter (IsOpenSince m opening c) before l
+rebased : (m : Member) (opening : Summary) (b c : Base) (before l : List Input) → length before + length l ≤ c.inputs → EachAfter (IsOpenSince m opening b) before l
+    → EachAfter (IsOpenSince m opening c) before l
 unfolding EachAfter
 rebased m opening b c before [] all each = tt
 rebased m opening b c before (x ∷ l) all each = (
@@ -104,7 +106,8 @@ lawful_opened m opening base l none lawful =
 -- ---- the state
 
 -- it was opened, and so many of these inputs are durable, and so many durable or flying
-pub known_opened : (m : Member) (opening : Summary) (base : Base) (l : List Input) (durable flying : ℕ) → base.inputs ≡ 0 → base.bytes ≡ area_bytes base.layout opening → durable ≤ flying → flying ≤ length l
+pub known_opened : (m : Member) (opening : Summary) (base : Base) (l : List Input) (durable flying : ℕ) → base.inputs ≡ 0 → base.bytes ≡ area_bytes base.layout opening → durable ≤ flying
+    → flying ≤ length l
     → IsKnownLawful (opened_core m opening base) l → IsKnownState m opening (state_with base l durable flying None)
 known_opened m opening base l durable flying none bytes low high lawful =
     let area : IsAreaOf m.node opening base l = record { within = omega (arith, none); bytes = bytes ∙ ap (λ k. area_bytes base.layout (after m.node opening (take k l))) (sym none) } in
@@ -125,7 +128,8 @@ pub core_opened : (m : Member) (opening : Summary) (base : Base) (l : List Input
 core_opened m opening base l durable flying core none is = is ∙ (λ i. record { me = m.node; size = m.n; capacity = m.capacity; known = after m.node opening l; room = room-since base l none i })
 
 -- it accepted the input, if there is one
-pub known_more : (m : Member) (opening : Summary) (s : NodeState) (core : CoreView) (more : Option Input) → core ≡ core_in m opening s → ((x : Input) → more ≡ Some x → Refuses core x None) → IsKnownState m opening s
+pub known_more : (m : Member) (opening : Summary) (s : NodeState) (core : CoreView) (more : Option Input) → core ≡ core_in m opening s → ((x : Input) → more ≡ Some x → Refuses core x None)
+    → IsKnownState m opening s
     → IsKnownState m opening (record s { inputs = s.inputs ++ cons_option more [] })
 known_more m opening s core more knows free known =
     let counts = known.counts in
@@ -152,7 +156,8 @@ room-joined base l more within =
     let waits = ap (list_any is_retire) (drop-append-le base.inputs l more within) ∙ list_any-append is_retire (drop base.inputs l) more in
     λ i. record { layout = base.layout; epoch = base.epoch; taken = used-joined base l more within i; waits = waits i }
 
-pub core_more : (m : Member) (opening : Summary) (s : NodeState) (core new : CoreView) (more : List Input) → IsKnownState m opening s → core ≡ core_in m opening s → new ≡ core_after core more
+pub core_more : (m : Member) (opening : Summary) (s : NodeState) (core new : CoreView) (more : List Input) → IsKnownState m opening s → core ≡ core_in m opening s
+    → new ≡ core_after core more
     → new ≡ core_in m opening (record s { inputs = s.inputs ++ more })
 core_more m opening s core new more known is grows =
     grows ∙ (ap (λ (c : CoreView). core_after c more) is
@@ -165,7 +170,8 @@ core_more m opening s core new more known is grows =
     })
 
 -- what it knew by its first inputs, so many of them
-pub knows_front : (m : Member) (opening : Summary) (s : NodeState) (core : CoreView) (k : ℕ) → core ≡ core_in m opening s → core.known ≡ after m.node (after m.node opening (take k s.inputs)) (drop k s.inputs)
+pub knows_front : (m : Member) (opening : Summary) (s : NodeState) (core : CoreView) (k : ℕ) → core ≡ core_in m opening s
+    → core.known ≡ after m.node (after m.node opening (take k s.inputs)) (drop k s.inputs)
 knows_front m opening s core k is =
     (λ i. (is i).known)
     ∙ (ap (after m.node opening) (sym (take-append-drop k s.inputs))
@@ -187,12 +193,14 @@ known_launched m opening base l durable flying k None none low high known =
     }
 
 -- its core stays
-pub core_launched : (m : Member) (opening : Summary) (base : Base) (l : List Input) (durable flying k : ℕ) (pending : Option ℕ) → pending ≡ None → core_in m opening (state_with base l durable flying pending) ≡ core_in m opening (state_with base l durable k pending)
+pub core_launched : (m : Member) (opening : Summary) (base : Base) (l : List Input) (durable flying k : ℕ) (pending : Option ℕ) → pending ≡ None
+    → core_in m opening (state_with base l durable flying pending) ≡ core_in m opening (state_with base l durable k pending)
 core_launched m opening base l durable flying k (Some bytes) none = none≢some bytes (sym none)
 core_launched m opening base l durable flying k None none = refl
 
 -- a checkpoint flies
-pub known_all : (m : Member) (opening : Summary) (base : Base) (l : List Input) (durable flying count bytes : ℕ) (pending : Option ℕ) → pending ≡ None → count ≡ length l → bytes ≡ snapshot_len newest (after m.node opening l)
+pub known_all : (m : Member) (opening : Summary) (base : Base) (l : List Input) (durable flying count bytes : ℕ) (pending : Option ℕ) → pending ≡ None → count ≡ length l
+    → bytes ≡ snapshot_len newest (after m.node opening l)
     → base.epoch + 1 < epochs → bytes ≤ m.capacity → IsKnownState m opening (state_with base l durable flying pending) → IsKnownState m opening (state_with base l durable count (Some bytes))
 known_all m opening base l durable flying count bytes (Some other) none all spells few fits known = none≢some other (sym none)
 known_all m opening base l durable flying count bytes None none all spells few fits known =
@@ -215,7 +223,8 @@ known_all m opening base l durable flying count bytes None none all spells few f
     }
 
 -- the core, with room counted from its summary
-pub core_all : (m : Member) (opening : Summary) (base : Base) (l : List Input) (durable flying count bytes : ℕ) (pending : Option ℕ) (core new : CoreView) → count ≡ length l → bytes ≡ snapshot_len newest (after m.node opening l)
+pub core_all : (m : Member) (opening : Summary) (base : Base) (l : List Input) (durable flying count bytes : ℕ) (pending : Option ℕ) (core new : CoreView) → count ≡ length l
+    → bytes ≡ snapshot_len newest (after m.node opening l)
     → core ≡ core_in m opening (state_with base l durable flying pending) → new ≡ record core { room = record { layout = newest; epoch = base.epoch + 1; taken = snapshot_len newest core.known; waits = false } } → new ≡ core_in m opening (state_with base l durable count (Some bytes))
 unfolding used
 core_all m opening base l durable flying count bytes pending core new all spells is steps =
@@ -253,17 +262,20 @@ all_fit m opening base l lawful some =
         let room = (free.fits within).plain (none_renews base g x) in
         omega (arith, room, used-more base g x within)
 
-pub first_fit : (m : Member) (opening : Summary) (base : Base) (k : ℕ) (l : List Input) → IsLawfulSince m opening base l → base.inputs < k → k ≤ length l → used base (take k l) ≤ m.capacity
+pub first_fit : (m : Member) (opening : Summary) (base : Base) (k : ℕ) (l : List Input) → IsLawfulSince m opening base l → base.inputs < k → k ≤ length l
+    → used base (take k l) ≤ m.capacity
 first_fit m opening base k l lawful some within =
     let count = length-take-le k l within in
     all_fit m opening base (take k l) (lawful-first m opening base k l lawful) (omega (arith, some, count))
 
 -- so does what is durable once all that flies is, where an input flies or a checkpoint does
-pub flown_fit : (m : Member) (opening : Summary) (s : NodeState) → IsKnownState m opening s → (s.checkpoint ≡ None → s.durable < s.flying) → used (launched_base s) (flown_in s) ≤ m.capacity
+pub flown_fit : (m : Member) (opening : Summary) (s : NodeState) → IsKnownState m opening s → (s.checkpoint ≡ None → s.durable < s.flying)
+    → used (launched_base s) (flown_in s) ≤ m.capacity
 unfolding used
 flown_fit m opening s known some = go s.checkpoint known.counts.checkpointed known.fits some
   where
-    go : (o : Option Base) → ((b : Base) → o ≡ Some b → b.inputs ≡ s.flying) → ((b : Base) → o ≡ Some b → b.bytes ≤ m.capacity) → (o ≡ None → s.durable < s.flying) → used (unwrap_or o s.base) (flown_in s) ≤ m.capacity
+    go : (o : Option Base) → ((b : Base) → o ≡ Some b → b.inputs ≡ s.flying) → ((b : Base) → o ≡ Some b → b.bytes ≤ m.capacity) → (o ≡ None → s.durable < s.flying)
+        → used (unwrap_or o s.base) (flown_in s) ≤ m.capacity
     go None same fits flies =
         let count = length-take-le s.flying s.inputs known.counts.flying in
         let based = known.counts.based in

@@ -54,7 +54,8 @@ weighed me n s h x good given o knows objects says =
     (says ∙ (refused-or o good ∙ ap (λ p. unless p good) full), ap (λ p. if_free p x) (refusal-full me n h x) ∙ gains-none (objection me n h x) x)
 
 -- what such a node replies to a request, which it never accepts
-replies-full : (core : FreeView) (h : List Input) (q : Request) (given : Reply) → core.known ≡ summary core.me h → RepliesFull core q given → (given ≡ reply core.me core.size 0 fresh h q) × (gained core.me core.size 0 fresh h q ≡ [])
+replies-full : (core : FreeView) (h : List Input) (q : Request) (given : Reply) → core.known ≡ summary core.me h → RepliesFull core q given
+    → (given ≡ reply core.me core.size 0 fresh h q) × (gained core.me core.size 0 fresh h q ≡ [])
 unfolding reply gained input_of
 replies-full core h (ask.Stand key bid) given knows (o, objects, says) = weighed core.me core.size core.known h (Stand key bid) say.Stood given o knows objects says
 replies-full core h (ask.Take msg_no msg) given knows (o, objects, says) = weighed core.me core.size core.known h (Take msg_no msg) say.Taken given o knows objects says
@@ -102,7 +103,8 @@ slice_get-behind (x ∷ xs) ys k =
 accepts_one : (q : Request) (reply : Reply) (x y : Input) → Accepts q reply x → Accepts q reply y → x ≡ y
 accepts_one q reply x y a b = same_Some x y (sym a.asked ∙ b.asked)
 
-pub vouched-accepted : (m : Member) (first : ℕ) (past : List Input) (s : NodeState) (a : Answered) (x : Input) → first ≡ length past → first ≤ a.answer.number → a.answer.number - first ≤ s.durable → Accepts a.question a.answer.reply x
+pub vouched-accepted : (m : Member) (first : ℕ) (past : List Input) (s : NodeState) (a : Answered) (x : Input) → first ≡ length past → first ≤ a.answer.number
+    → a.answer.number - first ≤ s.durable → Accepts a.question a.answer.reply x
     → IsInput s.inputs (a.answer.number - first) x → IsVouched m first (shifted past s) a
 vouched-accepted m first past s a x is from durable accepts there =
     let count = there.number in
@@ -119,7 +121,8 @@ vouched-accepted m first past s a x is from durable accepts there =
       );
     }
 
-pub accepted-vouched : (m : Member) (first : ℕ) (past : List Input) (s : NodeState) (a : Answered) (x : Input) → first ≡ length past → Accepts a.question a.answer.reply x → IsVouched m first (shifted past s) a
+pub accepted-vouched : (m : Member) (first : ℕ) (past : List Input) (s : NodeState) (a : Answered) (x : Input) → first ≡ length past → Accepts a.question a.answer.reply x
+    → IsVouched m first (shifted past s) a
     → IsInput s.inputs (a.answer.number - first) x
 accepted-vouched m first past s a x is accepts vouched = elim vouched.gives [
   | inl accepted ↦ (
@@ -142,7 +145,8 @@ take-past first number past l is from =
     ap (λ k. take k (past ++ l)) sum ∙ (take-add (length past) (number - first) (past ++ l) ∙ (λ i. take-front past l i ++ take (number - first) (drop-front past l i)))
 
 -- the answer of the core of so many inputs
-pub answer-past : (m : Member) (first : ℕ) (past l : List Input) (core : FreeView) (q : Request) (given : Reply) (number : ℕ) → first ≡ length past → first ≤ number → number - first ≤ length l → core.me ≡ m.node → core.size ≡ m.n
+pub answer-past : (m : Member) (first : ℕ) (past l : List Input) (core : FreeView) (q : Request) (given : Reply) (number : ℕ) → first ≡ length past → first ≤ number
+    → number - first ≤ length l → core.me ≡ m.node → core.size ≡ m.n
     → core.known ≡ summary m.node (past ++ take (number - first) l) → RepliesFull core q given
     → ◌≡◌ {A = Answer} (record { reply = given; number = number }) (answer m.node m.n 0 fresh (take number (past ++ l)) q)
 answer-past m first past l core q given number is from within me size knows replies =

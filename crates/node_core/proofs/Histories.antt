@@ -127,7 +127,8 @@ goes_on core new h x is within r s = subst (λ (c : CoreView). CoreStandsFor c (
 pub leads : (core : CoreView) (h : List Input) (key : Key) → CoreStandsFor core h → leader_of (known_of core.known key) ≡ leader core.me h key
 leads core h key s = ap (λ (k : Summary). leader_of (known_of k key)) s.knows ∙ leader-known core.me h key
 
-pub leads_last : (core : CoreView) (h : List Input) (group : List ℕ) (led : Option (ℕ × Candidate)) → CoreStandsFor core h → IsLatest (leads_in core.known group) led → led ≡ latest core.me h group
+pub leads_last : (core : CoreView) (h : List Input) (group : List ℕ) (led : Option (ℕ × Candidate)) → CoreStandsFor core h → IsLatest (leads_in core.known group) led
+    → led ≡ latest core.me h group
 leads_last core h group led s is =
     one_latest (λ term. leader core.me h (record { group = group; term = term })) led (latest core.me h group)
     (latest_same (leads_in core.known group) (λ term. leader core.me h (record { group = group; term = term })) (λ term. sym (leads core h (record { group = group; term = term }) s)) led is)

@@ -46,7 +46,8 @@ sent-more window None = ap (sum_by msg_len) (append-nil window) ∙ plus_none (s
 sent-more window (Some msg) = sum_by-append msg_len window (msg ∷ []) ∙ ap (λ n. sum_by msg_len window + n) (sum_by-cons msg_len msg [] ∙ sym (plus_none (msg_len msg)))
 
 -- one key is put, and this is sent
-named_measured : (s u : Summary) (key : Key) (v : KeyState) (on : Option Msg) → u.keys ≡ map.insert s.keys key v → u.window ≡ s.window ++ cons_option on [] → snapshot_len newest u + (len_of (known_of s key) + 0) ≡ snapshot_len newest s + (len_of (known_of u key) + len_on on)
+named_measured : (s u : Summary) (key : Key) (v : KeyState) (on : Option Msg) → u.keys ≡ map.insert s.keys key v → u.window ≡ s.window ++ cons_option on []
+    → snapshot_len newest u + (len_of (known_of s key) + 0) ≡ snapshot_len newest s + (len_of (known_of u key) + len_on on)
 named_measured s u key v on put more =
     let a = length-parts newest s (omega arith) in
     let b = length-parts newest u (omega arith) in
@@ -166,7 +167,8 @@ at_grown me n s (Acked upto) free are_named = refl
 
 -- The length, and what is taken off and added, told of the core as it is seen: so many keys are named before the input, and
 -- so many with it.
-pub measured_next : (me n : ℕ) (s u : Summary) (x : Input) (bytes before after removed more on : ℕ) (effects : Effects) → Objects n s x None → AreNamed s → u ≡ stepped me s x → bytes ≡ snapshot_len newest s
+pub measured_next : (me n : ℕ) (s u : Summary) (x : Input) (bytes before after removed more on : ℕ) (effects : Effects) → Objects n s x None → AreNamed s → u ≡ stepped me s x
+    → bytes ≡ snapshot_len newest s
     → before ≡ map.len s.keys → after ≡ map.len u.keys → effects ≡ brought me s x → removed ≡ freed s x → more ≡ grown before after x effects → on ≡ len_on (sends me s x)
     → snapshot_len newest u + removed ≡ bytes + (more + on)
 measured_next me n s u x bytes before after removed more on effects free are_named e is was are brings less grew sent =

@@ -14,7 +14,8 @@ use Rattle.node_core.specs.Core.{CoreView, FreeView, Refuses, taking}
 pub refuses_first : (core : CoreView) (x : Input) (first : Option Refusal) (r : Refusal) → Objects core.size core.known x first → first ≡ Some r → Refuses core x (Some r)
 refuses_first core x first r objects e = (first, objects, sym (ap (λ o. or_else o (no_room core.capacity core.room x (snapshot_len newest (stepped core.me core.known x)))) e))
 
-pub refuses_last : (core : CoreView) (x : Input) (first : Option Refusal) (more : ℕ) (short : Bool) → must_renew core.room x ≡ false → Objects core.size core.known x first → first ≡ None → more ≡ cost x → short ≡ nat_lt core.capacity (core.room.taken + more) → Refuses core x (where_so short refused.Full)
+pub refuses_last : (core : CoreView) (x : Input) (first : Option Refusal) (more : ℕ) (short : Bool) → must_renew core.room x ≡ false → Objects core.size core.known x first → first ≡ None
+    → more ≡ cost x → short ≡ nat_lt core.capacity (core.room.taken + more) → Refuses core x (where_so short refused.Full)
 refuses_last core x first more short plain objects e k f = (
   first,
   objects,

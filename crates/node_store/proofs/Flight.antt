@@ -134,7 +134,9 @@ none_behind past s whole =
 
 -- ---- a node of which nothing flies
 
-is_flying : (desk : DeskKept) (n : Numbered) → n ≡ numbered_with desk.view.member.node (desk.opening.inputs + desk.view.state.durable) (flying_in desk.view.state) (option_map (λ b. b.bytes) desk.view.state.checkpoint) → IsFlying desk n
+is_flying : (desk : DeskKept) (n : Numbered)
+    → n ≡ numbered_with desk.view.member.node (desk.opening.inputs + desk.view.state.durable) (flying_in desk.view.state) (option_map (λ b. b.bytes) desk.view.state.checkpoint)
+    → IsFlying desk n
 is_flying desk n is = record { node = ap (λ (m : Numbered). m.node) is; first = ap (λ (m : Numbered). m.first) is; inputs = ap (λ (m : Numbered). m.inputs) is; snapshot = ap (λ (m : Numbered). m.snapshot) is }
 
 module _ {D : Type 0} {g : Ghosts D} (desk : DeskKept) (journal : Journal D g) (stands : Stands desk journal) where
@@ -256,7 +258,8 @@ module _ {D : Type 0} {g : Ghosts D} (desk : DeskKept) (journal : Journal D g) (
         let front : take (length s.inputs) (take (length s.inputs) s.inputs) ≡ s.inputs = ap (take (length s.inputs)) all_of ∙ all_of in
         λ i. record { layout = newest; epoch = s.base.epoch + 1; base = after m.node desk.opening (front i); inputs = none_of i }
 
-    pub checkpoint_flies : (made : Checkpoint) → base_by made ≡ known_all desk → (IsNodeOf m.n m.node → IsSound m.n (base_by made)) → snapshot_len newest (base_by made) ≤ m.capacity → s.base.epoch + 1 < epochs
+    pub checkpoint_flies : (made : Checkpoint) → base_by made ≡ known_all desk → (IsNodeOf m.n m.node → IsSound m.n (base_by made)) → snapshot_len newest (base_by made) ≤ m.capacity
+        → s.base.epoch + 1 < epochs
         → numbered_by made ≡ numbered_with m.node first (flying_in flies_all.view.state) (Some (snapshot_len newest (known_all desk))) → Flies flies_all journal (work.Checkpoint made)
     checkpoint_flies made base sound fits more is =
         let ready = stands.ready works in

@@ -55,7 +55,8 @@ durable_state Batch v = refl
 durable_state Checkpoint v = refl
 
 -- the desk shows it of its whole history
-pub flies_seen : (flight : Flight) (past : List Input) (d : DeskKept) → IsPast d.view.member d.opening past → IsLawfulState d.view.member (seen past d).state → seen past (record d { view = launched_by flight d }) ≡ flies flight (seen past d)
+pub flies_seen : (flight : Flight) (past : List Input) (d : DeskKept) → IsPast d.view.member d.opening past → IsLawfulState d.view.member (seen past d).state
+    → seen past (record d { view = launched_by flight d }) ≡ flies flight (seen past d)
 flies_seen Batch past d is lawful = launched_seen past d
 flies_seen Checkpoint past d is lawful = lawful_launched_all past d is lawful
 
@@ -71,11 +72,13 @@ unmoved k None e = refl
 unmoved k (Some b) e = none≢some _ (sym e)
 
 -- the snapshot of what it knows is that of its whole history
-snapshot_is : (past : List Input) (d : DeskKept) → IsPast d.view.member d.opening past → IsLawfulState d.view.member (seen past d).state → snapshot_len newest (known_all d) ≡ snapshot_len newest (summary d.view.member.node (past ++ d.view.state.inputs))
+snapshot_is : (past : List Input) (d : DeskKept) → IsPast d.view.member d.opening past → IsLawfulState d.view.member (seen past d).state
+    → snapshot_len newest (known_all d) ≡ snapshot_len newest (summary d.view.member.node (past ++ d.view.state.inputs))
 snapshot_is past d is lawful = ap (λ (v : DeskView). (launched_base v.state).bytes) (lawful_launched_all past d is lawful)
 
 -- what is objected to a checkpoint is what its whole history says
-pub objection_is : (past : List Input) (d : DeskKept) (reach : Reach) (queue : List HeldView) → IsPast d.view.member d.opening past → IsServed (seen past d) reach queue → checkpoint_objection d ≡ checkpoint_refusal d.view.member (seen past d).state
+pub objection_is : (past : List Input) (d : DeskKept) (reach : Reach) (queue : List HeldView) → IsPast d.view.member d.opening past → IsServed (seen past d) reach queue
+    → checkpoint_objection d ≡ checkpoint_refusal d.view.member (seen past d).state
 objection_is past d reach queue is here =
     let same = here.idle in
     let idle : is_idle d.view.state ≡ true = is_idle_state d.view.state (omega (arith, same)) (unmoved (length past) d.view.state.checkpoint here.none) in
@@ -93,7 +96,8 @@ pub no_memory : (m : Member) (s : NodeState) → IfSome (checkpoint_refusal m s)
 no_memory m s = limit_or_full (nat_lt m.capacity (snapshot_len newest (summary m.node s.inputs))) (nat_le epochs (s.base.epoch + 1))
 
 -- a node at work launches what it may begin
-pub may_fly : (flight : Flight) (past : List Input) (d : DeskKept) (reach : Reach) (queue : List HeldView) → IsPast d.view.member d.opening past → IsServed (seen past d) reach queue → MayBegin flight d.view.member (state_of (view_with (seen past d) queue)) → MayFly flight d
+pub may_fly : (flight : Flight) (past : List Input) (d : DeskKept) (reach : Reach) (queue : List HeldView) → IsPast d.view.member d.opening past → IsServed (seen past d) reach queue
+    → MayBegin flight d.view.member (state_of (view_with (seen past d) queue)) → MayFly flight d
 may_fly Batch past d reach queue is here may = here.works
 may_fly Checkpoint past d reach queue is here may = objection_is past d reach queue is here ∙ may
 
@@ -118,7 +122,8 @@ short_alone free (inr (none, inl fault)) unbegun =
     ⊎_elim (λ failed. absurd cc) (λ others. ⊎_elim (λ limit. absurd cc) (λ more. ⊎_elim (λ full. absurd cc) (λ short. short) more) others) unbegun
 
 -- and else the device failed
-pub fault_alone : {objection : Option Refusal} {before now : ℕ} {why : Refusal} → objection ≡ None → (objection ≡ Some why) ⊎ ((objection ≡ None) × (IsFault before now why ⊎ (why ≡ refused.OutOfMemory))) → (why ≡ refused.OutOfMemory → ⊥) → IsFault before now why
+pub fault_alone : {objection : Option Refusal} {before now : ℕ} {why : Refusal} → objection ≡ None
+    → (objection ≡ Some why) ⊎ ((objection ≡ None) × (IsFault before now why ⊎ (why ≡ refused.OutOfMemory))) → (why ≡ refused.OutOfMemory → ⊥) → IsFault before now why
 fault_alone free (inl objects) not_short = none≢some _ (sym free ∙ objects)
 fault_alone free (inr (none, inr short)) not_short = absurd (not_short short)
 fault_alone free (inr (none, inl fault)) not_short = fault

@@ -44,7 +44,8 @@ same_view desk desk' queue queue' d q = λ i. view_with (d i) (q i)
 -- ---- a node that is opened
 
 -- an idle device is reliable as far as the one behind it goes
-pub idle_reaches : (device : FuseDevice MemDevice) (inner : MemDevice) (size : ℕ) → is_idle_device device ≡ true → inner_of device ≡ inner → size ≤ limit_of inner → Reaches (reach_of device) size
+pub idle_reaches : (device : FuseDevice MemDevice) (inner : MemDevice) (size : ℕ) → is_idle_device device ≡ true → inner_of device ≡ inner → size ≤ limit_of inner
+    → Reaches (reach_of device) size
 idle_reaches device inner size idle behind within = let same = ap limit_of behind in record { reliable = idle; within = omega arith }
 
 -- what it holds is no longer
@@ -53,7 +54,8 @@ image_within device idle =
     let long = length-take (inner_of device).held.size (inner_of device).held.bytes.items in
     idle_reaches device (inner_of device) _ idle refl (omega arith)
 
-pub starts : (m : Member) (run : ℕ) (base : Base) (inputs : List Input) (reach : Reach) → IsLawfulState m (opened base inputs) → Reaches reach (device_size m.capacity) → IsServed (opened_view m run (opened base inputs)) reach []
+pub starts : (m : Member) (run : ℕ) (base : Base) (inputs : List Input) (reach : Reach) → IsLawfulState m (opened base inputs) → Reaches reach (device_size m.capacity)
+    → IsServed (opened_view m run (opened base inputs)) reach []
 starts m run base inputs reach lawful reaches = record {
   takes = refl;
   works = refl;
@@ -98,7 +100,8 @@ pub count_past : (past : List Input) (desk : DeskKept) (k : ℕ) → IsPast desk
 count_past past desk k is = ap (λ (s : Summary). s.inputs + k) is.summed
 
 -- the desk shows all of it
-pub shown_by : (past : List Input) (desk : DeskKept) → IsPast desk.view.member desk.opening past → IsShownBy desk.view.member (past ++ desk.view.state.inputs) (length past + desk.view.state.durable) desk
+pub shown_by : (past : List Input) (desk : DeskKept) → IsPast desk.view.member desk.opening past
+    → IsShownBy desk.view.member (past ++ desk.view.state.inputs) (length past + desk.view.state.durable) desk
 shown_by past desk is = record { past = past; member = refl; is = is; all = refl; count = refl }
 
 -- ---- the oldest ticket
@@ -203,10 +206,12 @@ module _ (desk : DeskView) (reach : Reach) (queue : List HeldView) (here : IsSer
     low : MatchFirst (λ (x : HeldView). x.ticket.number ≤ desk.state.durable) queue → h.ticket.number ≤ desk.state.durable
     low due = subst (MatchFirst (λ (x : HeldView). x.ticket.number ≤ desk.state.durable)) is due
 
-    pub early : MatchFirst (λ (x : HeldView). x.ticket.number ≤ desk.state.durable) queue → (oldest desk 0 (length desk.state.inputs) queue here.held h rest is).kept.answer.number ≤ desk.state.durable
+    pub early : MatchFirst (λ (x : HeldView). x.ticket.number ≤ desk.state.durable) queue
+        → (oldest desk 0 (length desk.state.inputs) queue here.held h rest is).kept.answer.number ≤ desk.state.durable
     early due = omega (arith, low due, number_is desk 0 (length desk.state.inputs) queue here.held h rest is)
 
-    pub ends_due : (answered : Answered) → IsHere desk h.ticket answered → MatchFirst (λ (x : HeldView). x.ticket.number ≤ desk.state.durable) queue → is_due desk.state.durable (record { serial = h.serial; kept = answered }) ≡ true
+    pub ends_due : (answered : Answered) → IsHere desk h.ticket answered → MatchFirst (λ (x : HeldView). x.ticket.number ≤ desk.state.durable) queue
+        → is_due desk.state.durable (record { serial = h.serial; kept = answered }) ≡ true
     ends_due answered there due =
         let le = low due in
         let number = first_number desk 0 (length desk.state.inputs) queue here.held h rest is answered there in
@@ -220,7 +225,8 @@ pub here_whole : (past : List Input) (desk : DeskKept) (ticket : TicketView) (ke
 here_whole past desk ticket kept here = record { node = here.node; run = here.run; own = here.own; question = here.question }
 
 -- a ticket that is open and due is not refused
-pub not_sealed : (desk : DeskKept) (ticket : TicketView) (kept : Answered) (why : Refusal) → IsHere desk.view ticket kept → kept.answer.number ≤ desk.opening.inputs + desk.view.state.durable → IsSealed desk ticket why → ⊥
+pub not_sealed : (desk : DeskKept) (ticket : TicketView) (kept : Answered) (why : Refusal) → IsHere desk.view ticket kept → kept.answer.number ≤ desk.opening.inputs + desk.view.state.durable
+    → IsSealed desk ticket why → ⊥
 not_sealed desk ticket kept why here low sealed = elim sealed.cause [
   | inl foreign ↦ foreign.1 kept here
   | inr early ↦ let same : early.0 ≡ kept = (let e = early.1.own in let f = here.own in cc) in
@@ -257,7 +263,8 @@ areas_fault n capacity image why count unread fault = elim unread.cause [
 ]
 
 -- a node that takes requests takes one of its ring while it gave few tickets
-pub unobjected : (desk : DeskView) (question : Request) → desk.closed ≡ false → desk.failed ≡ false → is_outside desk.member.n question ≡ false → desk.issued < 2 ^ 60 → objection desk question ≡ None
+pub unobjected : (desk : DeskView) (question : Request) → desk.closed ≡ false → desk.failed ≡ false → is_outside desk.member.n question ≡ false → desk.issued < 2 ^ 60
+    → objection desk question ≡ None
 unobjected desk question takes works inside few = grind (arith, nat_tests)
 
 pub no_objection : {objection : Option Refusal} {why : Refusal} → (objection ≡ Some why) ⊎ ((objection ≡ None) × (why ≡ OutOfMemory)) → objection ≡ None → why ≡ OutOfMemory
@@ -265,7 +272,8 @@ no_objection (inl objects) none = let is = sym objects ∙ none in absurd cc
 no_objection (inr short) none = short.1
 
 -- the device holds what reads, and does not fail
-pub no_cause : (node n before now : ℕ) (image : List ℕ) (why : Refusal) → (why ≡ OutOfMemory) ⊎ IsFault before now why → (why ≡ OutOfMemory) ⊎ (IsUnread node n image why ⊎ IsNotLawful node n image why) → why ≡ OutOfMemory
+pub no_cause : (node n before now : ℕ) (image : List ℕ) (why : Refusal) → (why ≡ OutOfMemory) ⊎ IsFault before now why
+    → (why ≡ OutOfMemory) ⊎ (IsUnread node n image why ⊎ IsNotLawful node n image why) → why ≡ OutOfMemory
 no_cause node n before now image why (inl short) found = short
 no_cause node n before now image why (inr fault) (inl short) = short
 no_cause node n before now image why (inr fault) (inr (inr unlawful)) = let is = sym fault.is ∙ unlawful.unlawful.is in absurd cc

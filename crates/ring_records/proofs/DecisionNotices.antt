@@ -85,7 +85,8 @@ named [] key c e = none≢some c e
 named (x ∷ ds) key c e = named_first x ds key c (named ds key c) (is_key x.key key) refl e
 
 -- a list that names no leader for the key has no decision for it
-unnamed_first : {C : Type 0} (x : Decision) (ds : List Decision) (key : Key) (d : Decision) → d.key ≡ key → Contains (x ∷ ds) d → (first (filter_map (named_by key) (decided_all ds)) ≡ None → Contains ds d → C)
+unnamed_first : {C : Type 0} (x : Decision) (ds : List Decision) (key : Key) (d : Decision) → d.key ≡ key → Contains (x ∷ ds) d
+    → (first (filter_map (named_by key) (decided_all ds)) ≡ None → Contains ds d → C)
     → (b : Bool) → is_key x.key key ≡ b → first (cons_option (cond b (Some x.leader) None) (filter_map (named_by key) (decided_all ds))) ≡ None → C
 unfolding first
 unnamed_first x ds key d same has rest true t e = none≢some x.leader (sym e)

@@ -91,7 +91,8 @@ unfolding first_named first
 named-under key c = from_end (λ ns. first_named ns key ≡ Some c → key.term ≤ top_term ns key.group) (λ e. none≢some c e)
     (λ ns x so_far e. go ns x so_far (first_named ns key) refl (sym (first_named-push ns x key) ∙ e))
   where
-    go : (ns : List Notice) (x : Notice) → (first_named ns key ≡ Some c → key.term ≤ top_term ns key.group) → (o : Option Candidate) → first_named ns key ≡ o → or_else o (named_by key x) ≡ Some c → key.term ≤ top_term (ns ++ x ∷ []) key.group
+    go : (ns : List Notice) (x : Notice) → (first_named ns key ≡ Some c → key.term ≤ top_term ns key.group) → (o : Option Candidate) → first_named ns key ≡ o
+        → or_else o (named_by key x) ≡ Some c → key.term ≤ top_term (ns ++ x ∷ []) key.group
     go ns x so_far (Some d) was e = let t = top-push ns x key.group in let s = so_far (was ∙ e) in omega (arith, t, s)
     go ns x so_far None was e = let t = top-push ns x key.group ∙ ap (λ o. max (top_term ns key.group) (unwrap_or o 0)) (named-term x key c e) in omega (arith, t)
 
@@ -179,7 +180,8 @@ latest-top ns group (Some p) l =
     ]
 
 -- A floor that is told counts where it is above the group's floor and at most the term of its latest leader.
-pub retired-told : (ns : List Notice) (group : List ℕ) (f : ℕ) (o : Option (ℕ × Candidate)) → IsLatest (leads_in ns group) o → floor_in (ns ++ Retired group f ∷ []) group ≡ cond (ltb (floor_in ns group) f && leb f (term_of o)) f (floor_in ns group)
+pub retired-told : (ns : List Notice) (group : List ℕ) (f : ℕ) (o : Option (ℕ × Candidate)) → IsLatest (leads_in ns group) o
+    → floor_in (ns ++ Retired group f ∷ []) group ≡ cond (ltb (floor_in ns group) f && leb f (term_of o)) f (floor_in ns group)
 unfolding floor_by
 retired-told ns group f o l =
     floor_in-push ns (Retired group f) group
@@ -354,7 +356,8 @@ none-leads key = at (ltb key.term (floor_in [] key.group))
 -- ---- as the list goes on
 
 -- what one more notice keeps, more notices keep
-kept : (F : List Notice → List Notice → Type 0) → ((xs : List Notice) → F xs xs) → ((xs ys : List Notice) (y : Notice) → F xs ys → F xs (ys ++ y ∷ [])) → (xs more : List Notice) → F xs (xs ++ more)
+kept : (F : List Notice → List Notice → Type 0) → ((xs : List Notice) → F xs xs) → ((xs ys : List Notice) (y : Notice) → F xs ys → F xs (ys ++ y ∷ [])) → (xs more : List Notice)
+    → F xs (xs ++ more)
 kept F same step xs = from_end (λ more. F xs (xs ++ more)) (rw append-nil (same xs)) (λ more x so_far. subst (F xs) (append_assoc xs more (x ∷ [])) (step xs (xs ++ more) x so_far))
 
 pub named-stays : (key : Key) (c : Candidate) (xs more : List Notice) → first_named xs key ≡ Some c → first_named (xs ++ more) key ≡ Some c
@@ -372,7 +375,8 @@ leader_in-stays ns more key c e = elim (cases_lt key.term (floor_in (ns ++ more)
 ]
 
 -- the latest leader never goes down
-pub latest_in-never_down : (ns more : List Notice) (group : List ℕ) (a b : Option (ℕ × Candidate)) → IsLatest (leads_in ns group) a → IsLatest (leads_in (ns ++ more) group) b → IsNotBelow a b
+pub latest_in-never_down : (ns more : List Notice) (group : List ℕ) (a b : Option (ℕ × Candidate)) → IsLatest (leads_in ns group) a → IsLatest (leads_in (ns ++ more) group) b
+    → IsNotBelow a b
 latest_in-never_down ns more group None b l m = tt
 latest_in-never_down ns more group (Some p) b l m = go b m
   where
@@ -405,5 +409,6 @@ latest_in-never_down ns more group (Some p) b l m = go b m
 pub leader_in-kept : (xs ys : List Notice) → IsPrefix xs ys → (key : Key) (c : Candidate) → leader_in xs key ≡ Some c → (leader_in ys key ≡ Some c) ⊎ (key.term < floor_in ys key.group)
 leader_in-kept xs ys p key c e = subst (λ (l : List Notice). (leader_in l key ≡ Some c) ⊎ (key.term < floor_in l key.group)) p.1 (leader_in-stays xs p.0 key c e)
 
-pub latest_in-kept : (xs ys : List Notice) → IsPrefix xs ys → (group : List ℕ) (a b : Option (ℕ × Candidate)) → IsLatest (leads_in xs group) a → IsLatest (leads_in ys group) b → IsNotBelow a b
+pub latest_in-kept : (xs ys : List Notice) → IsPrefix xs ys → (group : List ℕ) (a b : Option (ℕ × Candidate)) → IsLatest (leads_in xs group) a → IsLatest (leads_in ys group) b
+    → IsNotBelow a b
 latest_in-kept xs ys p group a b m n = latest_in-never_down xs p.0 group a b m (subst (λ (l : List Notice). IsLatest (leads_in l group) b) (sym p.1) n)

@@ -85,7 +85,8 @@ module _ {A : Type 0} (f : List ℕ → Result (A × List ℕ) RecordFault) (g :
       }
 
   -- where more are to come and none stands at the front of the bytes
-  stuck : (xs ys : List A) (bytes more end : List ℕ) → Left xs ys (bytes ++ more) end → length xs < length ys → ((x : A) → P x → length (g x) ≤ 38) → (38 ≤ length bytes) ⊎ (more ≡ [])
+  stuck : (xs ys : List A) (bytes more end : List ℕ) → Left xs ys (bytes ++ more) end → length xs < length ys → ((x : A) → P x → length (g x) ≤ 38)
+      → (38 ≤ length bytes) ⊎ (more ≡ [])
       → ((x : A) (rest : List ℕ) → P x → bytes ≡ g x ++ rest → ⊥) → ⊥
   stuck xs ys bytes more end l fewer short long none = go l.more l.many l.each l.rest_is
     where
@@ -177,7 +178,8 @@ module _ (layout n : ℕ) (k : Counts) (states : List KeyState) (msgs : List Msg
       let window : length s.window ≡ k.sent - k.credit = spells.sound.window ∙ ap (λ (c : Counts). c.sent - c.credit) (sym behind.0) in
       (behind.0, behind.1, (ended_at (msg_at n) msg_bytes (IsMessageOf n) (msg-again n) msgs s.window rest (end_of layout) behind.2 (omega (arith, window, all))).1)
 
-  pub no_state : (bytes more : List ℕ) (s : Summary) → length states < k.keys → NoState n bytes → (38 ≤ length bytes) ⊎ (more ≡ []) → Spells layout n (parts_bytes k states msgs ++ (bytes ++ more)) s → ⊥
+  pub no_state : (bytes more : List ℕ) (s : Summary) → length states < k.keys → NoState n bytes → (38 ≤ length bytes) ⊎ (more ≡ [])
+      → Spells layout n (parts_bytes k states msgs ++ (bytes ++ more)) s → ⊥
   no_state bytes more s fewer none long spells =
       let before = states_left (bytes ++ more) s spells in
       let many : length (fin.values s.keys) ≡ k.keys = len-values s.keys ∙ sym (ap (λ (c : Counts). c.keys) before.0) in
@@ -192,13 +194,15 @@ module _ (layout n : ℕ) (k : Counts) (states : List KeyState) (msgs : List Msg
       stuck (msg_at n) msg_bytes (IsMessageOf n) (msg-again n) msgs s.window bytes more (end_of layout) behind.2 (omega (arith, window, fewer)) (msg-low n) long none
 
   -- in layout 2 nothing stands behind the messages
-  pub nothing_left : (bytes more : List ℕ) (s : Summary) → length states ≡ k.keys → length msgs ≡ k.sent - k.credit → layout ≤ 2 → 1 ≤ length bytes → Spells layout n (parts_bytes k states msgs ++ (bytes ++ more)) s → ⊥
+  pub nothing_left : (bytes more : List ℕ) (s : Summary) → length states ≡ k.keys → length msgs ≡ k.sent - k.credit → layout ≤ 2 → 1 ≤ length bytes
+      → Spells layout n (parts_bytes k states msgs ++ (bytes ++ more)) s → ⊥
   nothing_left bytes more s whole all old some spells =
       let end = end_left (bytes ++ more) s spells whole all in
       omega (arith, ap length (end.2 ∙ floors-none layout s old), length-append bytes more, some)
 
   -- and from layout 3 on the number of floors, and nothing behind it
-  pub nothing_behind : (bytes more : List ℕ) (s : Summary) → length states ≡ k.keys → length msgs ≡ k.sent - k.credit → 1 ≤ length bytes → Spells layout n ((parts_bytes k states msgs ++ to_be_bytes w32 0) ++ (bytes ++ more)) s
+  pub nothing_behind : (bytes more : List ℕ) (s : Summary) → length states ≡ k.keys → length msgs ≡ k.sent - k.credit → 1 ≤ length bytes
+      → Spells layout n ((parts_bytes k states msgs ++ to_be_bytes w32 0) ++ (bytes ++ more)) s
       → ⊥
   nothing_behind bytes more s whole all some spells =
       let regrouped = append_assoc (parts_bytes k states msgs) (to_be_bytes w32 0) (bytes ++ more) in
@@ -243,7 +247,8 @@ module _ (layout n : ℕ) (k : Counts) (states : List KeyState) (msgs : List Msg
       (record { is = refl; few = read.counts.stands; few_keys = read.counts.keys; credit = read.counts.credit; keys = keys; window = window; states = read.states_of; messages = read.messages_of })
       fits
 
-pub no_counts_newer : (layout n : ℕ) (bytes more : List ℕ) (s : Summary) → 2 ≤ layout → NoCounts layout bytes → (38 ≤ length bytes) ⊎ (more ≡ []) → Spells layout n (bytes ++ more) s → ⊥
+pub no_counts_newer : (layout n : ℕ) (bytes more : List ℕ) (s : Summary) → 2 ≤ layout → NoCounts layout bytes → (38 ≤ length bytes) ⊎ (more ≡ [])
+    → Spells layout n (bytes ++ more) s → ⊥
 unfolding counts_bytes number_bytes
 no_counts_newer layout n bytes more s newer none long spells =
     let sound = spells.sound in
@@ -260,7 +265,8 @@ no_counts_newer layout n bytes more s newer none long spells =
     none (counts_of s) found.0 newer (record { inputs = omega arith; taken = omega arith; credit_range = omega arith; sent = omega arith; stands = sound.few; keys = spells.few_keys; credit = sound.credit }) found.1
 
 -- a snapshot does not begin with bytes that no counts stand at the front of
-pub no_counts : (layout n : ℕ) (bytes more : List ℕ) (s : Summary) → NoCounts layout bytes → (38 ≤ length bytes) ⊎ (more ≡ []) → 1 ≤ length bytes → Spells layout n (bytes ++ more) s → ⊥
+pub no_counts : (layout n : ℕ) (bytes more : List ℕ) (s : Summary) → NoCounts layout bytes → (38 ≤ length bytes) ⊎ (more ≡ []) → 1 ≤ length bytes
+    → Spells layout n (bytes ++ more) s → ⊥
 no_counts layout n bytes more s none long some spells =
     elim (cases_lt layout 2) [
       | inl old ↦ not-plain layout n (bytes ++ more) s (omega (arith, old)) spells (omega (arith, length-append bytes more, some))

@@ -101,7 +101,8 @@ no_end_at bytes fault e rest is = let found = sym e ∙ (ap no_floor_at is ∙ n
 
 -- ---- a part more
 
-pub state_part : (layout n : ℕ) (k : Counts) (states now : List KeyState) (msgs : List Msg) (ended : Bool) (bytes : List ℕ) (o : Option ℕ) → AreRead layout n k states msgs ended → length states < k.keys
+pub state_part : (layout n : ℕ) (k : Counts) (states now : List KeyState) (msgs : List Msg) (ended : Bool) (bytes : List ℕ) (o : Option ℕ) → AreRead layout n k states msgs ended
+    → length states < k.keys
     → MatchOption o (NoState n bytes) (λ size. TakesState n states now bytes size)
     → MatchOption o (NoPart layout n k states msgs ended bytes) (λ size. TakesPart layout n k states now msgs msgs ended ended bytes size)
 state_part layout n k states now msgs true bytes o read fewer found = absurd (omega (arith, fewer, (read.end refl).1))
@@ -125,7 +126,8 @@ state_part layout n k states now msgs false bytes (Some size) read fewer t =
       long = t.long;
     }
 
-pub message_part : (layout n : ℕ) (k : Counts) (states : List KeyState) (msgs now : List Msg) (ended : Bool) (bytes : List ℕ) (o : Option ℕ) → AreRead layout n k states msgs ended → (length states < k.keys → ⊥)
+pub message_part : (layout n : ℕ) (k : Counts) (states : List KeyState) (msgs now : List Msg) (ended : Bool) (bytes : List ℕ) (o : Option ℕ) → AreRead layout n k states msgs ended
+    → (length states < k.keys → ⊥)
     → length msgs < k.sent - k.credit → MatchOption o (NoMessage n bytes) (λ size. TakesMessage n msgs now bytes size)
     → MatchOption o (NoPart layout n k states msgs ended bytes) (λ size. TakesPart layout n k states states msgs now ended ended bytes size)
 message_part layout n k states msgs now true bytes o read all fewer found = absurd (omega (arith, fewer, (read.end refl).2))
@@ -149,7 +151,8 @@ message_part layout n k states msgs now false bytes (Some size) read all fewer t
       long = t.long;
     }
 
-pub end_part : (layout n : ℕ) (k : Counts) (states : List KeyState) (msgs : List Msg) (ended now : Bool) (bytes : List ℕ) (o : Option ℕ) → AreRead layout n k states msgs ended → (length states < k.keys → ⊥)
+pub end_part : (layout n : ℕ) (k : Counts) (states : List KeyState) (msgs : List Msg) (ended now : Bool) (bytes : List ℕ) (o : Option ℕ) → AreRead layout n k states msgs ended
+    → (length states < k.keys → ⊥)
     → (length msgs < k.sent - k.credit → ⊥) → (2 < layout) × (ended ≡ false) → MatchOption o (NoEnd bytes) (λ size. TakesEnd now bytes size)
     → MatchOption o (NoPart layout n k states msgs ended bytes) (λ size. TakesPart layout n k states states msgs msgs ended now bytes size)
 end_part layout n k states msgs true now bytes o read all window still found = let e = still.1 in absurd cc
@@ -172,7 +175,8 @@ end_part layout n k states msgs false now bytes (Some size) read all window stil
       long = omega (arith, t.0, t.1);
     }
 
-pub last_part : (layout n : ℕ) (k : Counts) (states : List KeyState) (msgs : List Msg) (ended : Bool) (bytes : List ℕ) → AreRead layout n k states msgs ended → (length states < k.keys → ⊥) → (length msgs < k.sent - k.credit → ⊥)
+pub last_part : (layout n : ℕ) (k : Counts) (states : List KeyState) (msgs : List Msg) (ended : Bool) (bytes : List ℕ) → AreRead layout n k states msgs ended → (length states < k.keys → ⊥)
+    → (length msgs < k.sent - k.credit → ⊥)
     → (2 < layout → ended ≡ true) → NoPart layout n k states msgs ended bytes
 last_part layout n k states msgs true bytes read all window whole more s long some spells =
     nothing_behind layout n k states msgs true read bytes more s (whole_states layout n k states msgs true read all) (whole_window layout n k states msgs true read window) some spells
@@ -186,7 +190,8 @@ last_part layout n k states msgs false bytes read all window whole more s long s
 -- ---- the whole
 
 -- the end was taken where the layout has one
-is_ended : (layout n : ℕ) (k : Counts) (states : List KeyState) (msgs : List Msg) (ended : Bool) → AreRead layout n k states msgs ended → (2 < layout → ended ≡ true) → ended ≡ ltb 2 layout
+is_ended : (layout n : ℕ) (k : Counts) (states : List KeyState) (msgs : List Msg) (ended : Bool) → AreRead layout n k states msgs ended → (2 < layout → ended ≡ true)
+    → ended ≡ ltb 2 layout
 is_ended layout n k states msgs true read whole = sym (lt-ltb 2 layout (read.end refl).0)
 is_ended layout n k states msgs false read whole = sym (not_new (cases_lt 2 layout))
   where
@@ -194,12 +199,14 @@ is_ended layout n k states msgs false read whole = sym (not_new (cases_lt 2 layo
     not_new (inl new) = let is = whole new in absurd cc
     not_new (inr le) = le-ltb 2 layout le
 
-end_is : (layout : ℕ) (k : Counts) (states : List KeyState) (msgs : List Msg) (ended : Bool) → ended ≡ ltb 2 layout → taken_of (Some k) states msgs ended ≡ parts_bytes k states msgs ++ end_of layout
+end_is : (layout : ℕ) (k : Counts) (states : List KeyState) (msgs : List Msg) (ended : Bool) → ended ≡ ltb 2 layout
+    → taken_of (Some k) states msgs ended ≡ parts_bytes k states msgs ++ end_of layout
 end_is layout k states msgs true is = ap (λ (l : List ℕ). parts_bytes k states msgs ++ l) (sym (floors-zero layout empty (ltb-true 2 layout (sym is))))
 end_is layout k states msgs false is =
     sym (append-nil (parts_bytes k states msgs)) ∙ ap (λ (l : List ℕ). parts_bytes k states msgs ++ l) (sym (floors-none layout empty (ltb-false 2 layout (sym is))))
 
-pub sound_part : (b : Bool) (layout n : ℕ) (k : Counts) (states : List KeyState) (msgs : List Msg) (ended : Bool) → AreRead layout n k states msgs ended → (length states < k.keys → ⊥) → (length msgs < k.sent - k.credit → ⊥)
+pub sound_part : (b : Bool) (layout n : ℕ) (k : Counts) (states : List KeyState) (msgs : List Msg) (ended : Bool) → AreRead layout n k states msgs ended → (length states < k.keys → ⊥)
+    → (length msgs < k.sent - k.credit → ⊥)
     → (2 < layout → ended ≡ true) → Decides b (AreFitting k states) → IsSoundPart b layout n k states msgs ended
 sound_part true layout n k states msgs ended read all window whole d =
     (whole_states layout n k states msgs ended read all, whole_window layout n k states msgs ended read window, is_ended layout n k states msgs ended read whole, d.0 refl)
@@ -213,32 +220,38 @@ pub few_states : (layout n : ℕ) (k : Counts) (states : List KeyState) (msgs : 
 few_states layout n k states msgs true read fewer s spells = omega (arith, fewer, (read.end refl).1)
 few_states layout n k states msgs false read fewer s spells = states_missing layout n k states msgs false read fewer s spells
 
-pub few_messages : (layout n : ℕ) (k : Counts) (states : List KeyState) (msgs : List Msg) (ended : Bool) → AreRead layout n k states msgs ended → (length states < k.keys → ⊥) → length msgs < k.sent - k.credit
+pub few_messages : (layout n : ℕ) (k : Counts) (states : List KeyState) (msgs : List Msg) (ended : Bool) → AreRead layout n k states msgs ended → (length states < k.keys → ⊥)
+    → length msgs < k.sent - k.credit
     → (s : Summary) → Spells layout n (taken_of (Some k) states msgs ended) s → ⊥
 few_messages layout n k states msgs true read all fewer s spells = omega (arith, fewer, (read.end refl).2)
 few_messages layout n k states msgs false read all fewer s spells = messages_missing layout n k states msgs false read (whole_states layout n k states msgs false read all) fewer s spells
 
-pub no_number : (layout n : ℕ) (k : Counts) (states : List KeyState) (msgs : List Msg) (ended : Bool) → AreRead layout n k states msgs ended → (length states < k.keys → ⊥) → (length msgs < k.sent - k.credit → ⊥)
+pub no_number : (layout n : ℕ) (k : Counts) (states : List KeyState) (msgs : List Msg) (ended : Bool) → AreRead layout n k states msgs ended → (length states < k.keys → ⊥)
+    → (length msgs < k.sent - k.credit → ⊥)
     → (2 < layout) × (ended ≡ false) → (s : Summary) → Spells layout n (taken_of (Some k) states msgs ended) s → ⊥
 no_number layout n k states msgs true read all window still s spells = let e = still.1 in cc
 no_number layout n k states msgs false read all window still s spells =
     end_missing layout n k states msgs false read (whole_states layout n k states msgs false read all) (whole_window layout n k states msgs false read window) still.0 s spells
 
-pub nothing_read : (layout n : ℕ) (counts : Option Counts) (states : List KeyState) (msgs : List Msg) (ended : Bool) → 2 ≤ layout → counts ≡ None → (s : Summary) → Spells layout n (taken_of counts states msgs ended) s → ⊥
+pub nothing_read : (layout n : ℕ) (counts : Option Counts) (states : List KeyState) (msgs : List Msg) (ended : Bool) → 2 ≤ layout → counts ≡ None → (s : Summary)
+    → Spells layout n (taken_of counts states msgs ended) s → ⊥
 nothing_read layout n counts states msgs ended newer is s spells =
     no_counts_newer layout n [] [] s newer (λ k rest old are e. omega (arith, ap length e, length-append (number_bytes k) rest, length-numbers k)) (inr refl)
     (subst (λ (o : Option Counts). Spells layout n (taken_of o states msgs ended) s) is spells)
 
 -- in layout 1 nothing is read, and that is a snapshot
-pub plain_read : (layout n : ℕ) (counts : Option Counts) (states : List KeyState) (msgs : List Msg) (ended : Bool) → layout ≤ 1 → counts ≡ None → Spells layout n (taken_of counts states msgs ended) empty
+pub plain_read : (layout n : ℕ) (counts : Option Counts) (states : List KeyState) (msgs : List Msg) (ended : Bool) → layout ≤ 1 → counts ≡ None
+    → Spells layout n (taken_of counts states msgs ended) empty
 plain_read layout n counts states msgs ended old is = subst (λ (o : Option Counts). Spells layout n (taken_of o states msgs ended) empty) (sym is) (plain-spelled layout n [] old refl)
 
-pub reading_none : (layout n : ℕ) (counts : Option Counts) (states : List KeyState) (msgs : List Msg) (ended : Bool) → counts ≡ None → IsReading layout n counts states msgs ended → (states ≡ []) × (msgs ≡ [])
+pub reading_none : (layout n : ℕ) (counts : Option Counts) (states : List KeyState) (msgs : List Msg) (ended : Bool) → counts ≡ None → IsReading layout n counts states msgs ended
+    → (states ≡ []) × (msgs ≡ [])
 reading_none layout n counts states msgs ended is reading =
     let none : IsReading layout n None states msgs ended = subst (λ (o : Option Counts). IsReading layout n o states msgs ended) is reading in
     (none.0, none.1)
 
-pub judged_part : (b : Bool) (layout n : ℕ) (counts : Option Counts) (k : Counts) (states xs : List KeyState) (msgs ys : List Msg) (ended : Bool) → counts ≡ Some k → xs ≡ states → ys ≡ msgs
+pub judged_part : (b : Bool) (layout n : ℕ) (counts : Option Counts) (k : Counts) (states xs : List KeyState) (msgs ys : List Msg) (ended : Bool) → counts ≡ Some k → xs ≡ states
+    → ys ≡ msgs
     → IsReading layout n counts states msgs ended → ((m : ℕ) → AreRead layout m k xs ys ended → IsSoundPart b layout m k xs ys ended) → AreRead layout n k states msgs ended × IsSoundPart b layout n k states msgs ended
 judged_part b layout n counts k states xs msgs ys ended is same alike reading judged =
     let read : AreRead layout n k states msgs ended = subst (λ (o : Option Counts). IsReading layout n o states msgs ended) is reading in (
@@ -247,7 +260,8 @@ judged_part b layout n counts k states xs msgs ys ended is same alike reading ju
           (judged n (subst (λ (l : List KeyState). AreRead layout n k l ys ended) (sym same) (subst (λ (l : List Msg). AreRead layout n k states l ended) (sym alike) read)))),
     )
 
-pub sound_yes : (b : Bool) (layout n : ℕ) (k : Counts) (states : List KeyState) (msgs : List Msg) (ended : Bool) → AreRead layout n k states msgs ended → IsSoundPart b layout n k states msgs ended → b ≡ true
+pub sound_yes : (b : Bool) (layout n : ℕ) (k : Counts) (states : List KeyState) (msgs : List Msg) (ended : Bool) → AreRead layout n k states msgs ended
+    → IsSoundPart b layout n k states msgs ended → b ≡ true
     → AreFitting k states × Spells layout n (taken_of (Some k) states msgs ended) (made_of k states msgs)
 sound_yes true layout n k states msgs ended read sound e = (
   sound.3,

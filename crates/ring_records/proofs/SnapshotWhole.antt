@@ -209,7 +209,8 @@ parts-spelled layout n bytes k states msgs newer parts fits =
       plain = λ old. absurd (omega (arith, old, newer));
     }
 
-pub read-spelled : (layout n : ℕ) (bytes : List ℕ) (k : Counts) (states : List KeyState) (msgs : List Msg) → 2 ≤ layout → AreBytes bytes → parts_at layout n bytes ≡ Ok (k, states, msgs) → AreFitting k states
+pub read-spelled : (layout n : ℕ) (bytes : List ℕ) (k : Counts) (states : List KeyState) (msgs : List Msg) → 2 ≤ layout → AreBytes bytes → parts_at layout n bytes ≡ Ok (k, states, msgs)
+    → AreFitting k states
     → Spells layout n bytes (made_of k states msgs)
 read-spelled layout n bytes k states msgs newer are e fits = parts-spelled layout n bytes k states msgs newer (parts-found layout n bytes (k, states, msgs) are e) fits
 
@@ -223,7 +224,8 @@ module _ (n : ℕ) (s : Summary) (sound : IsSound n s) where
   entries-of : AllByRecursion (λ (e : Key × KeyState). IsStateOf n e.0 e.1) (fin.entries s.keys)
   entries-of = each-entry (IsStateOf n) (fin.entries s.keys) (fin.entries_sorted s.keys) (λ k t found. sound.states k t (fin.get-entries s.keys k ∙ found))
 
-  owns : (es : List (Key × KeyState)) → AllByRecursion (λ (e : Key × KeyState). IsStateOf n e.0 e.1) es → AllByRecursion IsOwn es × AllByRecursion (λ (e : Key × KeyState). IsOwnState n e.1) es
+  owns : (es : List (Key × KeyState)) → AllByRecursion (λ (e : Key × KeyState). IsStateOf n e.0 e.1) es
+      → AllByRecursion IsOwn es × AllByRecursion (λ (e : Key × KeyState). IsOwnState n e.1) es
   owns [] each = (tt, tt)
   owns (e ∷ es) each =
       let rest = owns es each.1 in
@@ -275,7 +277,8 @@ none-spelled layout n bytes fault newer e s spells = apart _ _ (sym (spelled-rea
     apart : (x : Parts) (d : RecordFault) → ◌≡◌ {A = Result Parts RecordFault} (Ok x) (Err d) → ⊥
     apart x d f = cc f
 
-pub unfit-spelled : (layout n : ℕ) (bytes : List ℕ) (k : Counts) (states : List KeyState) (msgs : List Msg) → 2 ≤ layout → parts_at layout n bytes ≡ Ok (k, states, msgs) → (AreFitting k states → ⊥)
+pub unfit-spelled : (layout n : ℕ) (bytes : List ℕ) (k : Counts) (states : List KeyState) (msgs : List Msg) → 2 ≤ layout → parts_at layout n bytes ≡ Ok (k, states, msgs)
+    → (AreFitting k states → ⊥)
     → (s : Summary) → Spells layout n bytes s → ⊥
 unfit-spelled layout n bytes k states msgs newer e unfit s spells =
     let same : ◌≡◌ {A = Parts} (counts_of s, fin.values s.keys, s.window) (k, states, msgs) = same_ok _ _ (sym (spelled-read layout n bytes s newer spells) ∙ e) in

@@ -71,8 +71,10 @@ pub fn stands_counted()
 /// The latest leader of a group leads in its term, and no greater term of the group has a leader. So where there is
 /// no latest, no term of the group has one.
 pub fn latest_leads()
-    ensures leads { (me : ℕ) (h : List Input) (group : List ℕ) (term : ℕ) (c : Candidate) → latest me h group ≡ Some (term, c) → leader me h (record { group = group; term = term }) ≡ Some c }
-    ensures greatest { (me : ℕ) (h : List Input) (key : Key) (c : Candidate) → leader me h key ≡ Some c → ((led : ℕ × Candidate) × (latest me h key.group ≡ Some led) × (key.term ≤ led.0)) }
+    ensures leads { (me : ℕ) (h : List Input) (group : List ℕ) (term : ℕ) (c : Candidate) → latest me h group ≡ Some (term, c)
+        → leader me h (record { group = group; term = term }) ≡ Some c }
+    ensures greatest { (me : ℕ) (h : List Input) (key : Key) (c : Candidate) → leader me h key ≡ Some c
+        → ((led : ℕ × Candidate) × (latest me h key.group ≡ Some led) × (key.term ≤ led.0)) }
     ensures none { (me : ℕ) (h : List Input) (group : List ℕ) (term : ℕ) → latest me h group ≡ None → leader me h (record { group = group; term = term }) ≡ None }
 {}
 
@@ -88,11 +90,13 @@ pub fn leaders_listed()
 /// the list goes on, a leader changes only where its key is retired, and the latest leader of a group never goes down. The
 /// decisions of a history, in order of key, name the leaders that it knows. What inputs tell is what they decide.
 pub fn notices()
-    ensures decided { (ns : List Notice) (d : Decision) (key : Key) → leader_in (ns ++ Notice.Decided d ∷ []) key ≡ (if nat_lt key.term (floor_in ns key.group) then None else or_else (leader_in ns key) (named_by key (Notice.Decided d))) }
+    ensures decided { (ns : List Notice) (d : Decision) (key : Key)
+        → leader_in (ns ++ Notice.Decided d ∷ []) key ≡ (if nat_lt key.term (floor_in ns key.group) then None else or_else (leader_in ns key) (named_by key (Notice.Decided d))) }
     ensures retired { (ns : List Notice) (group : List ℕ) (f : ℕ) (o : Option (ℕ × Candidate)) → IsLatest (leads_in ns group) o
         → floor_in (ns ++ Notice.Retired group f ∷ []) group ≡ (if nat_lt (floor_in ns group) f && nat_le f (term_of o) then f else floor_in ns group) }
     ensures stays { (ns more : List Notice) (key : Key) (c : Candidate) → leader_in ns key ≡ Some c → (leader_in (ns ++ more) key ≡ Some c) ⊎ (key.term < floor_in (ns ++ more) key.group) }
-    ensures never_down { (ns more : List Notice) (group : List ℕ) (a b : Option (ℕ × Candidate)) → IsLatest (leads_in ns group) a → IsLatest (leads_in (ns ++ more) group) b → IsNotBelow a b }
+    ensures never_down { (ns more : List Notice) (group : List ℕ) (a b : Option (ℕ × Candidate)) → IsLatest (leads_in ns group) a → IsLatest (leads_in (ns ++ more) group) b
+        → IsNotBelow a b }
     ensures leaders { (me : ℕ) (h : List Input) (list : List Decision) (key : Key) → AreLeaders me h list → leader_in (decided_all list) key ≡ leader me h key }
     ensures told { (me : ℕ) (h l : List Input) → release.notices me h l ≡ decided_all (decisions me h l) }
 {}
@@ -154,8 +158,10 @@ pub fn summary_suffices()
     ensures leads { (me : ℕ) (g h : List Input) → summary me g ≡ summary me h → (key : Key) → leader me g key ≡ leader me h key }
     ensures latest { (me : ℕ) (g h : List Input) → summary me g ≡ summary me h → (group : List ℕ) → latest me g group ≡ latest me h group }
     ensures window { (me : ℕ) (g h : List Input) → summary me g ≡ summary me h → window me g ≡ window me h }
-    ensures batch { (me n : ℕ) (g h l : List Input) → summary me g ≡ summary me h → EachAfter (IsAllowed me n) g l → (packets me g l ≡ packets me h l) × (decisions me g l ≡ decisions me h l) }
-    ensures stays { (me n : ℕ) (g h l : List Input) → summary me g ≡ summary me h → EachAfter (IsAllowed me n) g l → (summary me (g ++ l) ≡ summary me (h ++ l)) × EachAfter (IsAllowed me n) h l }
+    ensures batch { (me n : ℕ) (g h l : List Input) → summary me g ≡ summary me h → EachAfter (IsAllowed me n) g l
+        → (packets me g l ≡ packets me h l) × (decisions me g l ≡ decisions me h l) }
+    ensures stays { (me n : ℕ) (g h l : List Input) → summary me g ≡ summary me h → EachAfter (IsAllowed me n) g l
+        → (summary me (g ++ l) ≡ summary me (h ++ l)) × EachAfter (IsAllowed me n) h l }
 {}
 
 /// A node that knows no more than a summary of its inputs sends, refuses and goes on as their history says. This holds of

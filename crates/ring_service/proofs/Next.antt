@@ -64,7 +64,8 @@ unfolding used
 alone known inputs bytes = let none : costs_of (drop (length (known.inputs ++ inputs)) (known.inputs ++ inputs)) ≡ 0 = ap costs_of (drop_all (length (known.inputs ++ inputs)) (known.inputs ++ inputs) (omega arith)) in omega (arith, none)
 
 -- and its journal has that
-pub has : (member : Member) (opening : Summary) (known : Durable) (len room epoch : ℕ) (w : Work) → known.base.inputs ≤ length known.inputs → HasKnown member opening known len room epoch → IsNext member opening known w
+pub has : (member : Member) (opening : Summary) (known : Durable) (len room epoch : ℕ) (w : Work) → known.base.inputs ≤ length known.inputs → HasKnown member opening known len room epoch
+    → IsNext member opening known w
     → HasKnown member opening (known_behind (summary_by w) (flown_by w).inputs known) (len + length (flown_by w).inputs)
     (room_after (flown_by w).snapshot member.capacity (costs_of (flown_by w).inputs) room) (epoch_after (flown_by w).snapshot epoch)
 has member opening known len room epoch (works.Batch batch) based before next =

@@ -17,12 +17,14 @@ use Rattle.ring_service.specs.Restarts.{AreLater}
 pub decision_stays : (me : ℕ) (h more : List Input) (list longer : List Decision) (d : Decision) → AreLater me h more list longer → Contains list d → Contains longer d
 decision_stays me h more list longer d are has = are.later.all d.key d.leader (leader-kept me h more d.key d.leader (are.before.each d has))
 
-pub named_stays : (me : ℕ) (h more : List Input) (list longer : List Decision) (key : Key) (c : Candidate) → AreLater me h more list longer → leader_in (decided_all list) key ≡ Some c → leader_in (decided_all longer) key ≡ Some c
+pub named_stays : (me : ℕ) (h more : List Input) (list longer : List Decision) (key : Key) (c : Candidate) → AreLater me h more list longer → leader_in (decided_all list) key ≡ Some c
+    → leader_in (decided_all longer) key ≡ Some c
 named_stays me h more list longer key c are e =
     leaders_content me (h ++ more) longer are.later key ∙ leader-kept me h more key c (sym (leaders_content me h list are.before key) ∙ e)
 
 -- the latest leader of a group does not go down where each leader stays
-latest_stays : (was now : ℕ → Option Candidate) → ((term : ℕ) (c : Candidate) → was term ≡ Some c → now term ≡ Some c) → (a b : Option (ℕ × Candidate)) → IsLatest was a → IsLatest now b → IsNotBelow a b
+latest_stays : (was now : ℕ → Option Candidate) → ((term : ℕ) (c : Candidate) → was term ≡ Some c → now term ≡ Some c) → (a b : Option (ℕ × Candidate)) → IsLatest was a
+    → IsLatest now b → IsNotBelow a b
 latest_stays was now kept None b m n = tt
 latest_stays was now kept (Some x) None m n = none≢some x.1 (sym (n x.0) ∙ kept x.0 x.1 m.0)
 latest_stays was now kept (Some x) (Some y) m n = elim (cases_lt x.0 y.0) [

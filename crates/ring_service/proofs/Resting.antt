@@ -35,7 +35,8 @@ use Rattle.ring_service.proofs.Stops.{none_flies}
 
 -- ---- what is left begins with what is known to be durable
 
-begins_fly : (past : List Input) (known : Durable) (base : Option Summary) (inputs : List Input) (keep : Bool) → IsPrefix (past ++ known.inputs) (left_by keep (shifted past (with_flying known inputs base))).inputs
+begins_fly : (past : List Input) (known : Durable) (base : Option Summary) (inputs : List Input) (keep : Bool)
+    → IsPrefix (past ++ known.inputs) (left_by keep (shifted past (with_flying known inputs base))).inputs
 begins_fly past known base inputs false =
     let s : NodeState = with_flying known inputs base in
     let is : durable_in (shifted past s) ≡ past ++ known.inputs = durable-shifted past s ∙ ap (λ (l : List Input). past ++ l) (take-front known.inputs inputs) in
@@ -92,7 +93,8 @@ module _ {V : Type 0} (disk : V → Disk) (clock : V → ℕ) (left_since : V �
   brings device known round one past is = subst (λ (l : List Input). IsBroughtBehind m past known.inputs l round.landed) one.inputs (one.is.brought past is)
 
   -- over the rounds behind it
-  pub rests_behind : ((device : V) (image : List ℕ) → left_since device (clock device) image → MayLeave (disk device) image) → (device : V) (known : Durable) (before later : List (Round V)) (round : Round V)
+  pub rests_behind : ((device : V) (image : List ℕ) → left_since device (clock device) image → MayLeave (disk device) image)
+      → (device : V) (known : Durable) (before later : List (Round V)) (round : Round V)
       → IsHeld m opening (disk device) known → AreRounds disk clock left_since m opening device known (before ++ round ∷ later)
       → LeavesOnly clock left_since round.device (device_behind device (before ++ round ∷ later)) (RestsOn m opening (known_since known before) round)
   rests_behind only device known before later round held each =

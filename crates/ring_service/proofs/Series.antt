@@ -180,7 +180,8 @@ module _ {V : Type 0} (disk : V → Disk) (clock : V → ℕ) (left_since : V �
   Each device known [] = Unit {0}
   Each device known (round ∷ rounds) = IsRoundOf disk clock left_since m opening device known round × Each round.device (known_behind round.base round.inputs known) rounds
 
-  pub one_by_one : (device : V) (known : Durable) (before later : List (Round V)) → EachAfter (IsOne device known) before later → Each (device_behind device before) (known_since known before) later
+  pub one_by_one : (device : V) (known : Durable) (before later : List (Round V)) → EachAfter (IsOne device known) before later
+      → Each (device_behind device before) (known_since known before) later
   unfolding EachAfter
   one_by_one device known before [] each = tt
   one_by_one device known before (round ∷ later) each = (
@@ -281,7 +282,8 @@ module _ {V : Type 0} (disk : V → Disk) (clock : V → ℕ) (left_since : V �
         (λ image left. record { count = suc left.count; within = omega (arith, left.within); left = left.left })
         (each_moment rounds round.device behind (steps device known round held each.0) each.1))
 
-    pub any_moment : (device : V) (known : Durable) (before later : List (Round V)) → IsHeld m opening (disk device) known → AreRounds disk clock left_since m opening device known (before ++ later)
+    pub any_moment : (device : V) (known : Durable) (before later : List (Round V)) → IsHeld m opening (disk device) known
+        → AreRounds disk clock left_since m opening device known (before ++ later)
         → LeavesOnly clock left_since (device_behind device before) (device_behind device (before ++ later)) (IsLeftBehind m opening (known_since known before) later)
     any_moment device known before later held each =
         let P : List (Round V) → Round V → Type 0 = IsOne device known in

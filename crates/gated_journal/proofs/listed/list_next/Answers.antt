@@ -7,7 +7,8 @@ use Rattle.gated_journal.proofs.FramesAlone.{drop_taken}
 use Rattle.gated_journal.proofs.listed.list_next.Goals as goal
 
 -- what was kept with what was read is the image's
-joined : (g : _) (c : goal.In-Ok g) → c.args.rest.now.items ++ c.read_part.new.buf ≡ take (length c.args.rest.now.items + length c.args.piece.now) (drop c.args.at (g.D.Device.disk c.args.device.now).image)
+joined : (g : _) (c : goal.In-Ok g)
+    → c.args.rest.now.items ++ c.read_part.new.buf ≡ take (length c.args.rest.now.items + length c.args.piece.now) (drop c.args.at (g.D.Device.disk c.args.device.now).image)
 joined g c =
     let image = (g.D.Device.disk c.args.device.now).image in
     let at = c.args.at in

@@ -24,7 +24,8 @@ returns-in-Ok-read_areas-clause-reads g c =
     (area_found header image f.area r f.contents.gate_at here f.ensures.used refl f.ensures.begins f.ensures.frames f.ensures.within)
 
 -- what is wrong with the areas is so of the device as it was
-broken : (node n capacity : ℕ) (image now : List ℕ) (told : Refusal) → header_at node n image ≡ Ok capacity → now ≡ image → AreAreasUnread n capacity now told → IsUnread node n image told
+broken : (node n capacity : ℕ) (image now : List ℕ) (told : Refusal) → header_at node n image ≡ Ok capacity → now ≡ image → AreAreasUnread n capacity now told
+    → IsUnread node n image told
 broken node n capacity image now told header same unread = record { cause = inr (capacity, header, subst (λ (l : List ℕ). AreAreasUnread n capacity l told) same unread) }
 
 pub returns-in-Err-read_areas-clause-refusal : goal.returns-in-Err-read_areas-clause-refusal

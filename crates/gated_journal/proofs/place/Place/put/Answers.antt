@@ -107,7 +107,8 @@ returns-in-Batch-clause-reach g c =
 -- ---- a checkpoint
 
 -- the other area may be replaced
-may_replace : (header : Member) (image : List ℕ) (p : Place) (r : Reading) (k : Checkpoint) → IsTakenAt header p (works.Checkpoint k) → IsReadHere header image p r → IsGate p.area.is_closed p.area.other image
+may_replace : (header : Member) (image : List ℕ) (p : Place) (r : Reading) (k : Checkpoint) → IsTakenAt header p (works.Checkpoint k) → IsReadHere header image p r
+    → IsGate p.area.is_closed p.area.other image
     → MayReplace header image r p.area.start p.area.other p.area.offset p.gate_at p.area.is_closed (p.area.epoch + 1) k.base
 may_replace header image p r k taken here gate = record {
   reads = here.at;

@@ -40,11 +40,13 @@ land-landed-requires c =
     }
 
 -- the inputs that flew
-flew : (c : After-land-landed) → take (c.self.inside.flying - c.self.inside.durable) (drop c.self.inside.durable c.deref-3.result.now) ≡ part c.self.inside.durable c.self.inside.flying c.self.inside.inputs.items
+flew : (c : After-land-landed)
+    → take (c.self.inside.flying - c.self.inside.durable) (drop c.self.inside.durable c.deref-3.result.now) ≡ part c.self.inside.durable c.self.inside.flying c.self.inside.inputs.items
 flew c = ap (part c.self.inside.durable c.self.inside.flying) c.deref-3.ensures.value
 
 -- the outbox once they are durable
-settled : (c : After-land-landed) → HoldsFor c.self.inside.node c.land-landed.new.self c.self.inside.base (take c.self.inside.flying c.self.inside.inputs.items) (drop c.self.inside.flying c.self.inside.inputs.items) (c.self.inside.flying - c.self.inside.flying)
+settled : (c : After-land-landed)
+    → HoldsFor c.self.inside.node c.land-landed.new.self c.self.inside.base (take c.self.inside.flying c.self.inside.inputs.items) (drop c.self.inside.flying c.self.inside.inputs.items) (c.self.inside.flying - c.self.inside.flying)
 settled c =
     let d = c.self.inside in
     let i = c.self.invariant in

@@ -9,7 +9,8 @@ use Rattle.group_commit.proofs.outbox.Outbox.load.Goals as goal
 use Rattle.group_commit.proofs.outbox.Outbox.load.Goals.{After-reserve}
 
 -- with more room it holds what it held
-roomier : (c : After-reserve) (me : ℕ) (s : Summary) (list : List Notice) (l : List Input) → Holds me c.args.self.now s list l 0 → Holds me (record c.args.self.now { released = c.reserve.new.self }) s list l 0
+roomier : (c : After-reserve) (me : ℕ) (s : Summary) (list : List Notice) (l : List Input) → Holds me c.args.self.now s list l 0
+    → Holds me (record c.args.self.now { released = c.reserve.new.self }) s list l 0
 roomier c me s list l holds = holds_loaded me 0 0 c.args.self.now (record c.args.self.now { released = c.reserve.new.self }) s list l holds refl (c.reserve.ensures.keeps s list holds.released) (search rules) holds.blank idle idle
 
 pub returns-in_err-reserve-clause-err : goal.returns-in_err-reserve-clause-err
