@@ -6,7 +6,7 @@ ghost use Rattle.std.specs.Prelude.{◌≡◌, ℕ, ◌<◌, ◌≤◌, ◌*◌,
 ghost use Rattle.std.specs.Option.{option_and_then};
 ghost use Rattle.ring_records.specs.Admission.{objection, shortage, refusal};
 ghost use Rattle.ring_records.specs.Emission.{is_below, passed_on, emit, sent, carry};
-ghost use Rattle.ring_records.specs.History.{names, is_named, touched, bid_for, is_stand, message_of, upto_of, first_stand, stood, taken, credit, stands};
+ghost use Rattle.ring_records.specs.History.{names, is_named, touched, bid_for, message_of, upto_of, first_stand, stood, taken, credit};
 ghost use Rattle.ring_records.specs.Order.{is_key};
 ghost use Rattle.ring_records.specs.Leader.{is_bid, makes_leader, first_leader, leader, decided, told, greater_term, term_led, latest};
 
@@ -16,10 +16,12 @@ use ring_records::{
 };
 use std::alloc::{AllocError, Global};
 
+mod floors;
 mod objections;
 mod releases;
 mod replies;
 
+pub use floors::{floor, is_retired, retired, stands};
 use objections::{objection, shortage};
 pub use releases::{notices, packets, window};
 pub use replies::answer;
@@ -32,20 +34,24 @@ pub fn is_named(history: &[Input], key: &Key) -> bool
     history.iter().any(|input| names(key, input))
 }
 
-/// Whether the key is touched.
+/// Whether the key is touched: retired, or named.
 #[tactic(auto, unfolding(ring_records::specs::History::touched))]
 pub fn touched(history: &[Input], key: &Key) -> bool
     ensures { result ≡ touched history.now key.now }
 {
-    is_named(history, key)
+    is_retired(history, key) || is_named(history, key)
 }
 
-/// The bid of the Stand for the key, if there is one.
+/// The bid of the Stand for the key, if there is one and the key is not retired.
 #[tactic(auto, unfolding(ring_records::specs::History::stood))]
 pub fn stood(history: &[Input], key: &Key) -> Option<Bid>
     ensures { result ≡ stood history.now key.now }
 {
-    first_stand(history, key)
+    if is_retired(history, key) {
+        None
+    } else {
+        first_stand(history, key)
+    }
 }
 
 /// The bid of the first Stand for the key.
@@ -59,14 +65,6 @@ pub fn first_stand(history: &[Input], key: &Key) -> Option<Bid>
         }
     }
     None
-}
-
-/// How many Stands there are.
-#[tactic(auto, unfolding(ring_records::specs::History::stands))]
-pub fn stands(history: &[Input]) -> u64
-    ensures { result ≡ stands history.now }
-{
-    history.iter().filter(|input| is_stand(input)).count() as u64
 }
 
 /// The upto of the last Acked, 0 if there is none.
@@ -93,12 +91,16 @@ pub fn taken(alloc: Global, history: &[Input]) -> Result<Vec<Msg>, AllocError>
     Ok(messages)
 }
 
-/// The leader for the key, if node `me` knows one by its history.
+/// The leader for the key, if node `me` knows one by its history and the key is not retired.
 #[tactic(auto, unfolding(ring_records::specs::Leader::leader))]
 pub fn leader(me: NodeNo, history: &[Input], key: &Key) -> Option<Candidate>
     ensures { result ≡ leader me history.now key.now }
 {
-    first_leader(me, history, key)
+    if is_retired(history, key) {
+        None
+    } else {
+        first_leader(me, history, key)
+    }
 }
 
 /// The candidate of the first input that shows one to lead for the key.
@@ -140,8 +142,10 @@ pub fn emit(me: NodeNo, history: &[Input], input: &Input) -> Option<Msg>
                 node: me,
             },
         }),
+        Input::Take { msg, .. } if is_retired(history, &msg.key()) => None,
         Input::Take { msg, .. } => pass_on(me, history, msg),
         Input::Acked { .. } => None,
+        Input::Retire { .. } => None,
     }
 }
 
@@ -180,16 +184,26 @@ pub fn decided(me: NodeNo, history: &[Input], input: &Input) -> Option<Decision>
         Input::Stand { .. } => None,
         Input::Take { msg, .. } => decided_by(me, history, msg),
         Input::Acked { .. } => None,
+        Input::Retire { .. } => None,
     }
 }
 
-/// What the input after the history tells a board: what it decides.
+/// What the input after the history tells a board: the leader that a message decides, or a floor.
+#[tactic(auto, unfolding(ring_records::specs::Leader::told))]
 pub fn told(me: NodeNo, history: &[Input], input: &Input) -> Option<Notice>
     ensures { result ≡ told me history.now input.now }
 {
-    match decided(me, history, input) {
-        Some(decision) => Some(Notice::Decided(decision)),
-        None => None,
+    match input {
+        Input::Stand { .. } => None,
+        Input::Take { msg, .. } => match decided_by(me, history, msg) {
+            Some(decision) => Some(Notice::Decided(decision)),
+            None => None,
+        },
+        Input::Acked { .. } => None,
+        Input::Retire { group, floor } => Some(Notice::Retired {
+            group: *group,
+            floor: *floor,
+        }),
     }
 }
 
@@ -220,6 +234,7 @@ fn names(key: &Key, input: &Input) -> bool
         Input::Stand { key: named, .. } => is_key(named, key),
         Input::Take { msg, .. } => is_key(&msg.key(), key),
         Input::Acked { .. } => false,
+        Input::Retire { .. } => false,
     }
 }
 
@@ -228,13 +243,6 @@ fn is_key(a: &Key, b: &Key) -> bool
     ensures { result ≡ is_key a.now b.now }
 {
     a == b
-}
-
-#[tactic(auto, unfolding(ring_records::specs::History::is_stand))]
-fn is_stand(input: &Input) -> bool
-    ensures { result ≡ is_stand input.now }
-{
-    matches!(input, Input::Stand { .. })
 }
 
 #[tactic(auto, unfolding(ring_records::specs::History::bid_for))]
@@ -393,6 +401,9 @@ fn decided_by(me: NodeNo, history: &[Input], msg: &Msg) -> Option<Decision>
     ensures { (msg_no : ℕ) → result ≡ decided me history.now (Input.Take msg_no msg.now) }
 {
     let key = msg.key();
+    if is_retired(history, &key) {
+        return None;
+    }
     if leader(me, history, &key).is_some() {
         return None;
     }

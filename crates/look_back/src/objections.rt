@@ -2,10 +2,10 @@
 ghost use Rattle.std.specs.Prelude.{◌≡◌, ◌<◌, ◌≤◌, ◌*◌, ◌^◌, ℕ, length};
 ghost use Rattle.std.specs.List.{sum_by};
 ghost use Rattle.ring_records.specs.declared.limits.TheConstants.{INPUT_BYTES};
-ghost use Rattle.ring_records.specs.Admission.{cost, too_many, objection, shortage, used};
+ghost use Rattle.ring_records.specs.Admission.{cost, too_many, objection, lacks, not_yet, shortage, used};
 
-use crate::{credit, latest, sent_count, stands, stood, takes, touched};
-use ring_records::{Base, Input, Key, Msg, NodeNo, Refusal, STANDS};
+use crate::{credit, floor, latest, retired, sent_count, stands, stood, takes, touched};
+use ring_records::{Base, GroupName, Input, Key, Msg, NodeNo, Refusal, STANDS, Term};
 
 #[tactic(auto, unfolding(ring_records::specs::Admission::objection))]
 pub(super) fn objection(me: NodeNo, n: u8, history: &[Input], input: &Input) -> Option<Refusal>
@@ -15,6 +15,7 @@ pub(super) fn objection(me: NodeNo, n: u8, history: &[Input], input: &Input) -> 
         Input::Stand { key, .. } => objection_to_stand(me, history, key),
         Input::Take { no, msg } => objection_to_take(n, history, *no, msg),
         Input::Acked { upto } => objection_to_ack(me, history, *upto),
+        Input::Retire { group, floor } => objection_to_retire(me, history, group, *floor),
     }
 }
 
@@ -22,6 +23,10 @@ pub(super) fn objection(me: NodeNo, n: u8, history: &[Input], input: &Input) -> 
 fn objection_to_stand(me: NodeNo, history: &[Input], key: &Key) -> Option<Refusal>
     ensures { result ≡ objection me 0 history.now (Input.Stand key.now 0) }
 {
+    let cause = retired(history, key);
+    if cause.is_some() {
+        return cause;
+    }
     if let Some(bid) = stood(history, key) {
         return Some(Refusal::Already(bid));
     }
@@ -71,6 +76,27 @@ fn objection_to_ack(me: NodeNo, history: &[Input], upto: u64) -> Option<Refusal>
     too_many(history)
 }
 
+#[tactic(auto, unfolding(ring_records::specs::Admission::objection))]
+fn objection_to_retire(
+    me: NodeNo,
+    history: &[Input],
+    group: &GroupName,
+    new: Term,
+) -> Option<Refusal>
+    ensures { result ≡ objection me 0 history.now (Input.Retire group.now new) }
+{
+    let number = new.number();
+    if let Some(floor) = floor(history, group) {
+        if number <= floor.number() {
+            return Some(Refusal::Retired(floor));
+        }
+    }
+    match latest(me, history, group) {
+        Some((term, _)) if number <= term.number() => too_many(history),
+        _ => Some(Refusal::Undecided),
+    }
+}
+
 #[tactic(auto, unfolding(ring_records::specs::Admission::too_many))]
 fn too_many(history: &[Input]) -> Option<Refusal>
     ensures { result ≡ too_many history.now }
@@ -94,10 +120,25 @@ pub(super) fn shortage(
     if (history.len() as u64) < base.inputs {
         return None;
     }
-    if (capacity as u64) < used(base, history) + input.cost() as u64 {
+    if lacks(capacity, base, history, input) {
         return Some(Refusal::Full);
     }
     None
+}
+
+fn lacks(capacity: u32, base: &Base, history: &[Input], input: &Input) -> bool
+    requires few { length history.now < 2 ^ 56 }
+    requires within { base.now.inputs ≤ length history.now }
+    ensures { result ≡ lacks capacity (used base.now history.now) input.now }
+{
+    not_yet(input) || u64::from(capacity) < used(base, history) + u64::from(input.cost())
+}
+
+#[tactic(auto, unfolding(ring_records::specs::Admission::not_yet))]
+fn not_yet(input: &Input) -> bool
+    ensures { result ≡ not_yet input.now }
+{
+    matches!(input, Input::Retire { .. })
 }
 
 #[tactic(auto, unfolding(ring_records::specs::Admission::used))]

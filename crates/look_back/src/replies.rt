@@ -3,7 +3,7 @@ ghost use Rattle.std.specs.Prelude.{◌≡◌, ◌++◌, length};
 ghost use Rattle.ring_records.specs.Admission.{refusal};
 ghost use Rattle.ring_records.specs.Answer.{if_free, unless, reply, answer};
 
-use crate::{latest, leader, refusal};
+use crate::{latest, leader, refusal, retired};
 use ring_records::{Base, Input, NodeNo, Reply, Request};
 
 /// What node `me` of a ring of `n` answers to the request after the history, where the area of its journal stands for
@@ -35,7 +35,14 @@ pub fn answer(
             let input = Input::Acked { upto };
             judged(me, n, capacity, base, history, &input, Reply::Acked)
         }
-        Request::Who(key) => (Reply::Leader(leader(me, history, &key)), number),
+        Request::Retire(group, floor) => {
+            let input = Input::Retire { group, floor };
+            judged(me, n, capacity, base, history, &input, Reply::Retired)
+        }
+        Request::Who(key) => match retired(history, &key) {
+            Some(cause) => (Reply::Refused(cause), number),
+            None => (Reply::Leader(leader(me, history, &key)), number),
+        },
         Request::Latest(group) => (Reply::Latest(latest(me, history, &group)), number),
     }
 }

@@ -6,7 +6,7 @@ use std::alloc::Global;
 use std::process::Abort;
 use test_rows::Cause;
 use test_rows::Note::{Elected, Token};
-use test_rows::Op::{self, Acked, Stand, Take};
+use test_rows::Op::{self, Acked, Retire, Stand, Take};
 
 /// What is asked, the capacity, what was accepted before, an input, and why it is refused, if it is.
 type Row = (&'static str, u32, &'static [Op], Op, Option<Cause>);
@@ -142,10 +142,41 @@ static CREDITS: [Row; 4] = [
     ),
 ];
 
+/// It stood and won, and gave up the terms below 8.
+const RETIRED: [Op; 4] = [
+    Stand("red", 9, 5),
+    Take(0, Token("red", 9, 5, 1)),
+    Take(1, Elected("red", 9, 5, 1)),
+    Retire("red", 8),
+];
+
+const UNDECIDED: Option<Cause> = Some(Cause::Undecided);
+
+const BELOW: Option<Cause> = Some(Cause::Retired(8));
+
+/// A Retire that nothing else is objected to has no room yet.
+static FLOORS: [Row; 9] = [
+    ("nobody leads", AMPLE, &[], Retire("red", 1), UNDECIDED),
+    ("another leads", AMPLE, &LEADS, Retire("blue", 1), UNDECIDED),
+    ("above latest", AMPLE, &LEADS, Retire("red", 10), UNDECIDED),
+    ("latest", AMPLE, &LEADS, Retire("red", 9), Some(Cause::Full)),
+    ("the floor again", AMPLE, &RETIRED, Retire("red", 8), BELOW),
+    (
+        "above the floor",
+        AMPLE,
+        &RETIRED,
+        Retire("red", 9),
+        Some(Cause::Full),
+    ),
+    ("a Stand below", AMPLE, &RETIRED, Stand("red", 7, 5), BELOW),
+    ("a Stand at it", AMPLE, &RETIRED, Stand("red", 8, 5), STALE),
+    ("another group", AMPLE, &RETIRED, Stand("blue", 7, 5), None),
+];
+
 /// The capacity is judged last.
 static COSTS: [Row; 3] = [
-    ("one byte too many", 94, &CREDITED, OTHER, Some(Cause::Full)),
-    ("it just fits", 95, &CREDITED, OTHER, None),
+    ("one byte too many", 98, &CREDITED, OTHER, Some(Cause::Full)),
+    ("it just fits", 99, &CREDITED, OTHER, None),
     ("full comes last", 0, &[STOOD], STOOD, ALREADY),
 ];
 
@@ -183,6 +214,7 @@ fn refuses_by_the_first_cause(rt: HostRuntime) {
     judge(&rt, rt.alloc(), &STANDS);
     judge(&rt, rt.alloc(), &TAKES);
     judge(&rt, rt.alloc(), &CREDITS);
+    judge(&rt, rt.alloc(), &FLOORS);
     judge(&rt, rt.alloc(), &COSTS);
     a_base_takes_its_bytes(&rt, rt.alloc());
 }
@@ -206,7 +238,9 @@ fn limits_stands_and_bytes(rt: HostRuntime) {
     let mut history = Vec::new(rt.alloc());
     for term in 1..1026 {
         let input = input(&rt, Stand("red", term, 10));
-        limits(&rt, 65536, &history, &input, term > 1024, Refusal::Limit);
+        if term % 128 == 1 || term > 1022 {
+            limits(&rt, 65536, &history, &input, term > 1024, Refusal::Limit);
+        }
         if term == 202 || term == 203 {
             limits(&rt, 4096, &history, &input, term > 202, Refusal::Full);
         }

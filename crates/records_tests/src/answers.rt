@@ -85,8 +85,8 @@ static FITS: Row = ("it fits", OTHER, Say::Stood, 2);
 #[test]
 fn answers_after_a_stand(rt: HostRuntime) {
     tells_all(&rt, rt.alloc(), &STOOD, &AFTER_A_STAND);
-    tells(&rt, rt.alloc(), 78, &STOOD, &FULL);
-    tells(&rt, rt.alloc(), 79, &STOOD, &FITS);
+    tells(&rt, rt.alloc(), 82, &STOOD, &FULL);
+    tells(&rt, rt.alloc(), 83, &STOOD, &FITS);
 }
 
 static LED: [Op; 2] = [Stand("red", 9, 5), Take(0, Token("red", 9, 5, 1))];

@@ -8,6 +8,8 @@ mod answers;
 #[cfg(test)]
 mod elections;
 #[cfg(test)]
+mod growths;
+#[cfg(test)]
 mod records;
 #[cfg(test)]
 mod releases;

@@ -34,8 +34,10 @@ fn with(rt: &impl Abort, alloc: Global, bytes: &[u8], at: u8, put: &[u8]) -> Vec
 
 /// The bytes are the summary's snapshot in this layout.
 fn is_written(rt: &impl Abort, alloc: Global, summary: &Summary, layout: u8, bytes: &[u8]) {
-    assert_eq!(rt; summary_len(summary, layout), bytes.len() as u64);
     assert!(rt; summary.keys.len() <= u32::MAX as usize, "few keys");
+    assert!(rt; summary.floors.len() <= u32::MAX as usize, "few floors");
+    assert_eq!(rt; summary_len(summary, layout), bytes.len() as u64);
+    assert!(rt; layout > 2 || summary.floors.is_empty(), "no floor");
     let written = write_summary(alloc, summary, layout).expect(rt, "ample memory");
     assert_eq!(rt; written.as_slice(), bytes);
 }
@@ -51,21 +53,37 @@ fn goes_there_and_back(rt: &impl Abort, alloc: Global, bytes: &[u8]) {
     has_snapshot(rt, alloc, &summary, bytes);
 }
 
-#[test]
-fn snapshot_bytes(rt: HostRuntime) {
-    let alloc = rt.alloc();
-    let summary = read_summary(alloc, &STOOD, 3, 2).expect(&rt, "a snapshot");
+/// The summary is that of the node that stood.
+fn is_of_the_stand(rt: &impl Abort, alloc: Global, summary: &Summary) {
     let counts = [summary.inputs, summary.taken, summary.credit, summary.sent];
     assert_eq!(rt; counts, [1, 0, 0, 1]);
     assert_eq!(rt; summary.stands, 1);
     let state = KeyState {
-        key: key(&rt, "red", 5),
-        stood: Some(bid(&rt, 10)),
+        key: key(rt, "red", 5),
+        stood: Some(bid(rt, 10)),
         leader: None,
     };
     assert_eq!(rt; summary.keys.as_slice(), [state].as_slice());
-    let window = messages(&rt, alloc, &[Token("red", 5, 10, 1)]);
+    let window = messages(rt, alloc, &[Token("red", 5, 10, 1)]);
     assert_eq!(rt; summary.window.as_slice(), window.as_slice());
+    assert!(rt; summary.floors.is_empty());
+}
+
+#[test]
+fn snapshot_bytes(rt: HostRuntime) {
+    let alloc = rt.alloc();
+    let mut bytes = [0; 69];
+    bytes[..65].copy_from_slice(&STOOD);
+    let summary = read_summary(alloc, &bytes, 3, 3).expect(&rt, "a snapshot");
+    is_of_the_stand(&rt, alloc, &summary);
+    is_written(&rt, alloc, &summary, 3, &bytes);
+}
+
+#[test]
+fn snapshot_bytes_of_layout_2(rt: HostRuntime) {
+    let alloc = rt.alloc();
+    let summary = read_summary(alloc, &STOOD, 3, 2).expect(&rt, "a snapshot");
+    is_of_the_stand(&rt, alloc, &summary);
     has_snapshot(&rt, alloc, &summary, &STOOD);
 }
 
@@ -194,7 +212,7 @@ impl Begins {
 }
 
 /// The snapshots of layouts 1, 2 and 3, and bytes that are none there: what they begin with, and what stands behind it.
-static LAYOUTS: [(u8, Begins, &[u8], bool); 18] = [
+static LAYOUTS: [(u8, Begins, &[u8], bool); 19] = [
     (1, Begins::Nothing, &[], true),
     (1, Begins::Nothing, &[0], false),
     (1, Begins::NoInputs, &[], false),
@@ -203,16 +221,68 @@ static LAYOUTS: [(u8, Begins, &[u8], bool); 18] = [
     (2, Begins::NoInputs, &[], true),
     (2, Begins::Stood, &[], true),
     (2, Begins::Stood, &[0, 0, 0, 0], false), // bytes left over
+    (2, Begins::Stood, &[0, 0, 0, 1, 1, 0x61, 0, 0, 0, 9], false), // a floor
     (3, Begins::Nothing, &[0, 0, 0, 0], false),
     (3, Begins::NoInputs, &[0, 0, 0, 0], true),
     (3, Begins::Stood, &[0, 0, 0, 0], true),
     (3, Begins::Stood, &[], false), // the number of floors is not there
     (3, Begins::Stood, &[0], false),
     (3, Begins::Stood, &[0, 0, 0], false),
-    (3, Begins::Stood, &[0, 0, 0, 1], false), // a floor
+    (3, Begins::Stood, &[0, 0, 0, 1], false), // a floor that is not there
     (3, Begins::Stood, &[1, 0, 0, 0], false),
     (3, Begins::NoInputs, &[0, 0, 1, 0], false),
     (3, Begins::Stood, &[0, 0, 0, 0, 0], false), // a byte left over
+];
+
+/// What stands behind the node that stood for red 5, in layout 3: floors that it may have, and bytes that are none.
+static FLOORS: [(&[u8], bool); 22] = [
+    (&[0, 0, 0, 1, 1, 0x61, 0, 0, 0, 9], true), // a 9
+    (&[0, 0, 0, 1, 3, 0x72, 0x65, 0x64, 0, 0, 0, 5], true), // red 5
+    (&[0, 0, 0, 1, 3, 0x72, 0x65, 0x64, 0, 0, 0, 6], false), // red 6, and the key is below it
+    (&[0, 0, 0, 1, 3, 0x72, 0x65, 0x65, 0, 0, 0, 6], true), // ree 6
+    (&[0, 0, 0, 1, 2, 0x72, 0x65, 0, 0, 0, 6], true), // re 6
+    (&[0, 0, 0, 1, 1, 0x61, 0, 0, 0, 1], true), // a 1
+    (&[0, 0, 0, 1, 1, 0x61, 0, 0, 0, 0], false), // a 0
+    (&[0, 0, 0, 1, 1, 0x61, 0x3B, 0x9A, 0xC9, 0xFF], true), // a 999,999,999
+    (&[0, 0, 0, 1, 1, 0x61, 0x3B, 0x9A, 0xCA, 0], false), // a 1,000,000,000
+    (&[0, 0, 0, 1, 0, 0, 0, 0, 9], false), // no name
+    (&[0, 0, 0, 1, 1, 0x41, 0, 0, 0, 9], false), // a capital
+    (&[0, 0, 0, 1, 1, 0x61, 0, 0, 0], false), // a byte too few
+    (&[0, 0, 0, 1, 1, 0x61, 0, 0, 0, 9, 0], false), // a byte left over
+    (&[0, 0, 0, 2, 1, 0x61, 0, 0, 0, 9], false), // a floor too few
+    (&[0, 0, 0, 0, 1, 0x61, 0, 0, 0, 9], false), // a floor that is not counted
+    (
+        &[0, 0, 0, 2, 1, 0x61, 0, 0, 0, 9, 1, 0x62, 0, 0, 0, 2],
+        true,
+    ), // a 9, b 2
+    (
+        &[0, 0, 0, 2, 1, 0x61, 0, 0, 0, 2, 1, 0x61, 0, 0, 0, 9],
+        false,
+    ), // a 2, a 9
+    (
+        &[0, 0, 0, 2, 1, 0x62, 0, 0, 0, 2, 1, 0x61, 0, 0, 0, 9],
+        false,
+    ), // b 2, a 9
+    (
+        &[0, 0, 0, 2, 2, 0x61, 0x61, 0, 0, 0, 2, 1, 0x62, 0, 0, 0, 9],
+        true,
+    ), // aa 2, b 9
+    (
+        &[0, 0, 0, 2, 1, 0x62, 0, 0, 0, 2, 2, 0x61, 0x61, 0, 0, 0, 9],
+        false,
+    ), // b 2, aa 9
+    (
+        &[
+            0, 0, 0, 2, 1, 0x61, 0, 0, 0, 2, 3, 0x72, 0x65, 0x64, 0, 0, 0, 5,
+        ],
+        true,
+    ), // a 2, red 5
+    (
+        &[
+            0, 0, 0, 2, 1, 0x61, 0, 0, 0, 2, 3, 0x72, 0x65, 0x64, 0, 0, 0, 9,
+        ],
+        false,
+    ), // a 2, red 9
 ];
 
 /// The bytes are read as the snapshot that they are, whole and part after part, and written again; or they are refused.
@@ -252,4 +322,40 @@ fn snapshots_by_layout(rt: HostRuntime) {
         let (layout, begins, end, is_snapshot) = *row;
         is_judged(&rt, alloc, layout, begins, end, is_snapshot);
     }
+}
+
+#[test]
+fn floors_of_snapshots(rt: HostRuntime) {
+    let alloc = rt.alloc();
+    for row in &FLOORS {
+        let (end, is_snapshot) = *row;
+        is_judged(&rt, alloc, 3, Begins::Stood, end, is_snapshot);
+    }
+}
+
+#[test]
+fn floors_are_told(rt: HostRuntime) {
+    let alloc = rt.alloc();
+    let mut bytes = Vec::from_slice(alloc, &STOOD).expect(&rt, "ample memory");
+    let end = [
+        0, 0, 0, 2, 1, 0x61, 0, 0, 0, 9, 3, 0x72, 0x65, 0x64, 0, 0, 0, 5,
+    ];
+    bytes.extend_from_slice(&end).expect(&rt, "ample memory");
+    let summary = read_summary(alloc, &bytes, 3, 3).expect(&rt, "a snapshot");
+    let floors = [key(&rt, "a", 9), key(&rt, "red", 5)];
+    assert_eq!(rt; summary.floors.as_slice(), floors.as_slice());
+    let again = read_in_parts(&rt, alloc, &bytes, 3).expect(&rt, "a snapshot");
+    assert_eq!(rt; again.floors.as_slice(), floors.as_slice());
+}
+
+#[test]
+fn each_byte_of_floors_counts(rt: HostRuntime) {
+    let alloc = rt.alloc();
+    let end = [
+        0, 0, 0, 2, 1, 0x61, 0, 0, 0, 9, 3, 0x72, 0x65, 0x64, 0, 0, 0, 5,
+    ];
+    for n in 0..end.len() {
+        is_judged(&rt, alloc, 3, Begins::Stood, &end[..n], false);
+    }
+    is_judged(&rt, alloc, 3, Begins::Stood, &end, true);
 }

@@ -1,6 +1,6 @@
 // Texts as they are printed.
 use crate::rows::bid;
-use ring_records::{Refusal, Term};
+use ring_records::{NodeNo, Refusal, Term};
 use std::alloc::Global;
 use std::process::Abort;
 use test_rows::{Cause, Say};
@@ -12,10 +12,11 @@ fn replies(rt: &impl Abort, alloc: Global, say: Say, want: &str) {
     assert_eq!(rt; text.as_str(), want);
 }
 
-static REPLIES: [(Say, &str); 8] = [
+static REPLIES: [(Say, &str); 9] = [
     (Say::Stood, "stood"),
     (Say::Taken, "taken"),
     (Say::Acked, "acked"),
+    (Say::Retired, "retired"),
     (Say::Nobody, "none"),
     (Say::Leader(30, 2), "leader 2 30"),
     (Say::NoTerm, "none"),
@@ -41,6 +42,7 @@ fn refuses(rt: &impl Abort, alloc: Global, refusal: Refusal, number: u8, want: &
 fn prints_refusals(rt: HostRuntime) {
     let bid = bid(&rt, 0);
     let term = Term::new(999_999_999).expect(&rt, "a term");
+    let node = NodeNo::new(2).expect(&rt, "a node");
     let rows = [
         (Refusal::BadName, 1, "no 1 name"),
         (Refusal::BadNumber, 2, "no 2 number"),
@@ -72,6 +74,8 @@ fn prints_refusals(rt: HostRuntime) {
         (Refusal::Retired(term), 23, "no 23 retired 999999999"),
         (Refusal::Unlawful(12), 24, "no 24 unlawful 12"),
         (Refusal::BadLine, 25, "no 25 line"),
+        (Refusal::Undecided, 26, "no 26 undecided"),
+        (Refusal::Dropped(node), 27, "no 27 dropped 2"),
     ];
     for (refusal, number, want) in rows {
         refuses(&rt, rt.alloc(), refusal, number, want);

@@ -1,45 +1,22 @@
--- Notices of decisions: what inputs tell, and what a list that has no others says.
+-- What a list says that has notices of decisions alone.
 use Rattle.std.proofs.Common.{ℕ, ◌≡◌, max, Bool, true, false, cond, List, [], ◌∷◌, ◌++◌, Option, Some, None, refl, sym, ap, subst, ◌∙◌, inl, inr, arith}
 use Rattle.std.specs.List.{filter_map, fold, cons_option, Contains}
-use Rattle.std.specs.Option.{option_map}
 use Rattle.std.proofs.lemmas.Option.{same_Some}
 use Rattle.ring_records.specs.declared.candidate.Candidate.{Candidate}
 use Rattle.ring_records.specs.declared.decision.Decision.{Decision}
 use Rattle.ring_records.specs.declared.input.Input.{Input}
-use Rattle.ring_records.specs.declared.input.Input.TheVariants.{Stand, Take, Acked}
 use Rattle.ring_records.specs.declared.key.Key.{Key}
 use Rattle.ring_records.specs.declared.notice.Notice.{Notice}
 use Rattle.ring_records.specs.declared.notice.Notice.TheVariants.{Decided}
-use Rattle.ring_records.specs.Leader.{leader, decided, told}
+use Rattle.ring_records.specs.Leader.{leader}
 use Rattle.ring_records.specs.Lists.{first, found_after}
 use Rattle.ring_records.specs.Notices.{decided_all, named_by, first_named, floor_by, floor_in, leader_in}
 use Rattle.ring_records.specs.Order.{is_key}
-use Rattle.ring_records.specs.Release.{decisions, notices, AreLeaders}
-use Rattle.ring_records.proofs.Counts.{none-decided}
+use Rattle.ring_records.specs.Release.{AreLeaders}
 use Rattle.ring_records.proofs.Keys.{is_key-true, is_key-same}
 use Rattle.ring_records.proofs.Leader.{Contains-here, Contains-later, Contains-nil, Contains-cons_cases}
 use Rattle.ring_records.proofs.Lists.{none≢some}
 use Rattle.ring_records.proofs.Notices.{live-leader}
-
--- ---- what inputs tell
-
-pub told-decided : (me : ℕ) (h : List Input) (x : Input) → told me h x ≡ option_map Decided (decided me h x)
-unfolding told decided
-told-decided me h (Stand key bid) = sym (ap (option_map Decided) (none-decided me h key bid))
-told-decided me h (Take msg_no msg) = refl
-told-decided me h (Acked upto) = refl
-
-all_cons : (o : Option Decision) (ds : List Decision) → cons_option (option_map Decided o) (decided_all ds) ≡ decided_all (cons_option o ds)
-all_cons None ds = refl
-all_cons (Some d) ds = refl
-
--- what inputs tell is what they decide
-pub notices-decided : (me : ℕ) (h l : List Input) → notices me h l ≡ decided_all (decisions me h l)
-unfolding notices decisions found_after
-notices-decided me h [] = refl
-notices-decided me h (x ∷ l) =
-    (λ i. cons_option (told-decided me h x i) (notices-decided me (h ++ x ∷ []) l i))
-    ∙ all_cons (decided me h x) (decisions me (h ++ x ∷ []) l)
 
 -- ---- a decision among those that are told
 

@@ -1,5 +1,5 @@
 -- What is added up over the states of keys, once one key is put.
-use Rattle.std.proofs.Common.{ℕ, ◌≡◌, ◌+◌, Bool, true, false, cond, ◌&&◌, List, [], ◌∷◌, map as list_map, Option, Some, None, Ordering, Less, Equal, Greater, refl, sym, ap, ◌∙◌, subst, arith}
+use Rattle.std.proofs.Common.{ℕ, ◌≡◌, ◌+◌, cond, List, [], ◌∷◌, map as list_map, Option, Some, None, Ordering, Less, Equal, Greater, refl, sym, ap, ◌∙◌, subst, arith}
 use Rattle.std.specs.FinMap as fin
 use Rattle.std.specs.FinMap.{find, put, is_sorted}
 use Rattle.std.specs.FinMap.Entries.{below_all, by_order, is_sorted-put}
@@ -11,26 +11,7 @@ use Rattle.ring_records.specs.declared.key.Key.{Key}
 use Rattle.ring_records.specs.declared.key_state.KeyState.{KeyState}
 use Rattle.ring_records.specs.KeyOrder.{key_cmp}
 use Rattle.ring_records.proofs.Compare.{keys_total}
-
-pub first_of : (a b : Bool) → T (a && b) → T a
-first_of true b p = tt
-first_of false b p = p
-
-pub second_of : (a b : Bool) → T (a && b) → T b
-second_of true b p = p
-second_of false b p = absurd p
-
-not_less : (o : Ordering) → T (is_lt o) → is_eq o ≡ false
-not_less Less p = refl
-not_less Equal p = absurd p
-not_less Greater p = absurd p
-
--- a key that is less than all others is not among them
-pub unfound : (k : Key) (es : List (Key × KeyState)) → T (below_all key_cmp k es) → find key_cmp k es ≡ None
-unfound k [] h = refl
-unfound k (e ∷ es) h =
-    ap (λ b. cond b (Some e.1) (find key_cmp k es)) (not_less (key_cmp k e.0) (first_of (is_lt (key_cmp k e.0)) (below_all key_cmp k es) h))
-    ∙ unfound k es (second_of (is_lt (key_cmp k e.0)) (below_all key_cmp k es) h)
+use Rattle.ring_records.proofs.Entries.{first_of, second_of, unfound}
 
 regroup : (a b c d : ℕ) → a + b ≡ c + d → (e : ℕ) → (e + a) + b ≡ (e + c) + d
 regroup a b c d h e = omega arith
@@ -66,7 +47,7 @@ module _ (f : KeyState → ℕ) where
       go Less p rest sorted =
           let s : T (is_sorted key_cmp ((k, v) ∷ e ∷ es)) = subst (λ o. T (is_sorted key_cmp (by_order o ((k, v) ∷ e ∷ es) ((e.0, v) ∷ es) (e ∷ put key_cmp k v es)))) p sorted in
           let below = second_of (is_lt (key_cmp k e.0)) (below_all key_cmp k es) (first_of (below_all key_cmp k (e ∷ es)) (is_sorted key_cmp (e ∷ es)) s) in
-          (λ i. total-cons (k, v) (e ∷ es) i + part_of f (unfound k es below i)) ∙ more (f v) (total (e ∷ es))
+          (λ i. total-cons (k, v) (e ∷ es) i + part_of f (unfound key_cmp k es below i)) ∙ more (f v) (total (e ∷ es))
       go Equal p rest sorted = (λ i. total-cons (e.0, v) es i + f e.1) ∙ (swapped (f v) (total es) (f e.1) ∙ ap (λ n. n + f v) (sym (total-cons e es)))
       go Greater p rest sorted = (λ i. total-cons e (put key_cmp k v es) i + part_of f (find key_cmp k es)) ∙ (regroup _ _ _ _ rest (f e.1) ∙ ap (λ n. n + f v) (sym (total-cons e es)))
 

@@ -6,7 +6,7 @@ use Rattle.std.proofs.lemmas.Bool.{cases_eq, eq-eqb, ne_eqb}
 use Rattle.std.proofs.lemmas.List.Elements.{Contains-push_cases, Contains-append_left, Contains-push}
 use Rattle.ring_records.specs.declared.msg.Msg.{Msg}
 use Rattle.ring_records.specs.declared.input.Input.{Input}
-use Rattle.ring_records.specs.declared.input.Input.TheVariants.{Stand, Take, Acked}
+use Rattle.ring_records.specs.declared.input.Input.TheVariants.{Stand, Take, Acked, Retire}
 use Rattle.ring_records.specs.Admission.{IsAllowed}
 use Rattle.ring_records.specs.Emission.{emit, sent}
 use Rattle.ring_records.specs.History.{message_of, taken}
@@ -42,18 +42,19 @@ unfolding IsCarried message_of
 carried-sent n run i (Stand key b) m c e = none≢some m e
 carried-sent n run i (Take msg_no t) m c e = subst (λ (u : Msg). Contains (sent (before n i) (part run (before n i))) u) (let p : t ≡ m = cc in p) (Contains-slice_get _ msg_no t c)
 carried-sent n run i (Acked upto) m c e = none≢some m e
+carried-sent n run i (Retire group new) m c e = none≢some m e
 
 module _ (n : ℕ) (run : List (ℕ × Input)) (j : ℕ) (x : Input) where
-  part-same : part (run ++ (j, x) ∷ []) j ≡ part run j ++ x ∷ []
+  pub part-same : part (run ++ (j, x) ∷ []) j ≡ part run j ++ x ∷ []
   unfolding item_at
   part-same = part-push run (j, x) j ∙ ap (λ b. part run j ++ cons_option (cond b (Some x) None) []) (eq-eqb j j refl)
 
-  part-other : (i : ℕ) → (j ≡ i → ⊥) → part (run ++ (j, x) ∷ []) i ≡ part run i
+  pub part-other : (i : ℕ) → (j ≡ i → ⊥) → part (run ++ (j, x) ∷ []) i ≡ part run i
   unfolding item_at
   part-other i ne = part-push run (j, x) i ∙ (ap (λ b. part run i ++ cons_option (cond b (Some x) None) []) (ne_eqb j i ne) ∙ append-nil (part run i))
 
   -- a fact of each node and its part, which the step at j keeps
-  by_node : (F : ℕ → List Input → Type 0) → F j (part run j ++ x ∷ []) → ((i : ℕ) → F i (part run i)) → (i : ℕ) → F i (part (run ++ (j, x) ∷ []) i)
+  pub by_node : (F : ℕ → List Input → Type 0) → F j (part run j ++ x ∷ []) → ((i : ℕ) → F i (part run i)) → (i : ℕ) → F i (part (run ++ (j, x) ∷ []) i)
   by_node F new old i = elim (cases_eq j i) [
     | inl e ↦ subst (λ k. F k (part (run ++ (j, x) ∷ []) k)) e (subst (F j) (sym part-same) new)
     | inr ne ↦ subst (F i) (sym (part-other i ne)) (old i)

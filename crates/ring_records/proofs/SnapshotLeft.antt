@@ -1,25 +1,28 @@
 -- A snapshot that is taken part after part: what may follow the parts that were taken.
-use Rattle.std.proofs.Common.{ℕ, ◌≡◌, ◌+◌, ◌-◌, ◌^◌, ◌<◌, ◌≤◌, ◌⊎◌, inl, inr, ⊎_elim, Option, Some, None, is_some, if◌then◌else◌, Bool, true, false, leb, cond, List, [], ◌∷◌, ◌++◌, length, Ok, refl, sym, ap, subst, ◌∙◌, append_assoc, append-nil, arith, length-append}
+use Rattle.std.proofs.Common.{ℕ, ◌≡◌, ◌+◌, ◌-◌, ◌^◌, ◌<◌, ◌≤◌, ◌⊎◌, inl, inr, ⊎_elim, Option, Some, None, is_some, if◌then◌else◌, List, [], ◌∷◌, ◌++◌, length, Ok, refl, sym, ap, subst, ◌∙◌, append_assoc, append-nil, arith, length-append}
 use Rattle.std.proofs.lemmas.Bool.{cases_lt}
 use Rattle.std.specs.FinMap as fin
 use Rattle.std.specs.Int.{w32, to_be_bytes}
 use Rattle.std.specs.List.{flat_map, AllByRecursion}
 use Rattle.std.specs.Prelude.{Result}
+use Rattle.ring_records.specs.declared.key.Key.{Key}
 use Rattle.ring_records.specs.declared.key_state.KeyState.{KeyState}
 use Rattle.ring_records.specs.declared.msg.Msg.{Msg}
 use Rattle.ring_records.specs.declared.record.RecordFault.{RecordFault}
 use Rattle.ring_records.specs.declared.snapshot_read.Counts.{Counts}
 use Rattle.ring_records.specs.declared.summary.Summary.{Summary}
 use Rattle.ring_records.specs.Message.{key_of}
-use Rattle.ring_records.specs.Admission.{floors_len}
+use Rattle.ring_records.specs.Floors.{floor_keys}
 use Rattle.ring_records.specs.Snapshot.{counts_bytes, state_bytes, msg_bytes, IsMessageOf, Spells}
-use Rattle.ring_records.specs.SnapshotPart.{number_bytes, parts_bytes, AreCounts, IsOwnStateOf, AreRead, NoCounts, NoState, NoMessage, NoEnd}
+use Rattle.ring_records.specs.SnapshotPart.{number_bytes, parts_bytes, floors_taken, Parts, AreCounts, IsOwnStateOf, AreRead, NoCounts, NoState, NoMessage, NoEnd, NoFloor}
+use Rattle.ring_records.specs.Record.{number_at, key_at, key_bytes, IsKeyInRange}
 use Rattle.ring_records.specs.SnapshotRead.{state_at, msg_at, counts_at, AreFitting}
-use Rattle.ring_records.proofs.Fields.{same_ok}
-use Rattle.ring_records.proofs.Records.{name-short}
+use Rattle.ring_records.proofs.Fields.{same_ok, wide_32, number-again, key-again}
+use Rattle.ring_records.proofs.FloorsInOrder.{len-floors}
+use Rattle.ring_records.proofs.Records.{name-short, length-key_bytes}
 use Rattle.ring_records.proofs.SnapshotItems.{state-again, msg-again}
-use Rattle.ring_records.proofs.Snapshots.{length-state, length-msg, snapshot-parts, floors-none, floors-zero, length-floors}
-use Rattle.ring_records.proofs.SnapshotWhole.{numbers, counts_of, end_of, not-plain, counts-again, each-Contained, sound-fits, states-each, made_of, parts-spelled}
+use Rattle.ring_records.proofs.Snapshots.{length-state, length-msg, snapshot-parts, end_of, floors-end, end-none, end-some}
+use Rattle.ring_records.proofs.SnapshotWhole.{numbers, counts_of, not-plain, counts-again, each-Contained, sound-fits, states-each, floors-each}
 use Rattle.ring_records.proofs.StatesInOrder.{len-values}
 
 pub length-numbers : (k : Counts) → length (number_bytes k) ≡ 38
@@ -49,13 +52,6 @@ flat-push g (y ∷ xs) x = ap (λ (l : List ℕ). g y ++ l) (flat-push g xs x) �
 pub all-push : {A : Type 0} (P : A → Type 0) (xs : List A) (x : A) → AllByRecursion P xs → P x → AllByRecursion P (xs ++ x ∷ [])
 all-push P [] x each is = (is, tt)
 all-push P (y ∷ xs) x each is = (each.0, all-push P xs x each.1 is)
-
-few-floors : (layout : ℕ) → floors_len layout ≤ 4
-few-floors layout = go (leb layout 2)
-  where
-    go : (b : Bool) → cond b 0 4 ≤ 4
-    go true = omega arith
-    go false = omega arith
 
 -- ---- items that were taken are the first of those that a snapshot has
 
@@ -114,14 +110,31 @@ state-low n s own = omega (arith, length-state s, name-short s.key own.named, at
 msg-low : (n : ℕ) (msg : Msg) → IsMessageOf n msg → length (msg_bytes msg) ≤ 38
 msg-low n msg of = omega (arith, length-msg msg, name-short (key_of msg) of.named)
 
+key-low : (key : Key) → IsKeyInRange key → length (key_bytes key) ≤ 38
+key-low key range = omega (arith, length-key_bytes key, name-short key range)
+
 -- ---- a snapshot that begins with these counts
+
+-- what it has behind the messages
+abbrev tail_of : ℕ → Summary → List ℕ
+tail_of layout s = end_of layout (floor_keys s.floors)
+
+spelled_parts : (layout n : ℕ) (bytes : List ℕ) (s : Summary) → 2 ≤ layout → Spells layout n bytes s
+    → bytes ≡ numbers (counts_of s) ++ (flat_map state_bytes (fin.values s.keys) ++ (flat_map msg_bytes s.window ++ tail_of layout s))
+unfolding counts_bytes
+spelled_parts layout n bytes s newer spells =
+    let states : List ℕ = flat_map state_bytes (fin.values s.keys) in
+    let msgs : List ℕ = flat_map msg_bytes s.window in
+    let end : List ℕ = tail_of layout s in
+    spells.is ∙ (snapshot-parts layout s newer ∙ (ap (λ (l : List ℕ). ((numbers (counts_of s) ++ states) ++ msgs) ++ l) (floors-end layout s)
+    ∙ (append_assoc (numbers (counts_of s) ++ states) msgs end ∙ append_assoc (numbers (counts_of s)) states (msgs ++ end))))
 
 record Splits (layout : ℕ) (k : Counts) (rest : List ℕ) (s : Summary) : Type 0 where
   same : k ≡ counts_of s
-  rest_is : rest ≡ flat_map state_bytes (fin.values s.keys) ++ (flat_map msg_bytes s.window ++ end_of layout)
+  rest_is : rest ≡ flat_map state_bytes (fin.values s.keys) ++ (flat_map msg_bytes s.window ++ tail_of layout s)
 
 split : (layout n : ℕ) (k : Counts) (rest : List ℕ) (s : Summary) → 2 ≤ layout → AreCounts k → Spells layout n (number_bytes k ++ rest) s → Splits layout k rest s
-unfolding counts_bytes number_bytes
+unfolding number_bytes
 split layout n k rest s newer are spells =
     let sound = spells.sound in
     let states : List ℕ = flat_map state_bytes (fin.values s.keys) in
@@ -130,9 +143,8 @@ split layout n k rest s newer are spells =
     let acts : s.taken + s.stands ≤ s.inputs = sound.acts in
     let sent : s.sent ≤ s.inputs = sound.sent in
     let credit : s.credit ≤ s.sent = sound.credit in
-    let end : List ℕ = end_of layout in
-    let whole : number_bytes k ++ rest ≡ numbers (counts_of s) ++ (states ++ (msgs ++ end)) =
-    spells.is ∙ (snapshot-parts layout s newer ∙ (append_assoc (numbers (counts_of s) ++ states) msgs end ∙ append_assoc (numbers (counts_of s)) states (msgs ++ end))) in
+    let end : List ℕ = tail_of layout s in
+    let whole : number_bytes k ++ rest ≡ numbers (counts_of s) ++ (states ++ (msgs ++ end)) = spelled_parts layout n (number_bytes k ++ rest) s newer spells in
     let both : ◌≡◌ {A = Counts × List ℕ} (k, rest) (counts_of s, states ++ (msgs ++ end)) =
     same_ok (k, rest) (counts_of s, states ++ (msgs ++ end))
     (sym (counts-again k rest are.inputs are.taken are.credit_range are.sent are.stands are.keys)
@@ -141,10 +153,14 @@ split layout n k rest s newer are spells =
 
 -- ---- what stands behind the parts that were taken
 
-module _ (layout n : ℕ) (k : Counts) (states : List KeyState) (msgs : List Msg) (ended : Bool) (read : AreRead layout n k states msgs ended) where
+-- these parts
+abbrev pub as_parts : List KeyState → List Msg → Option ℕ → List Key → Parts
+as_parts states msgs count floors = record { states = states; messages = msgs; count = count; floors = floors }
+
+module _ (layout n : ℕ) (k : Counts) (states : List KeyState) (msgs : List Msg) (count : Option ℕ) (floors : List Key) (read : AreRead layout n k (as_parts states msgs count floors)) where
   -- the states of a snapshot that begins with the parts, and what is behind those that were taken
   states_left : (rest : List ℕ) (s : Summary) → Spells layout n (parts_bytes k states msgs ++ rest) s
-      → (k ≡ counts_of s) × Left (state_at n) state_bytes (IsOwnStateOf n) (state-again n) states (fin.values s.keys) (flat_map msg_bytes msgs ++ rest) (flat_map msg_bytes s.window ++ end_of layout)
+      → (k ≡ counts_of s) × Left (state_at n) state_bytes (IsOwnStateOf n) (state-again n) states (fin.values s.keys) (flat_map msg_bytes msgs ++ rest) (flat_map msg_bytes s.window ++ tail_of layout s)
   states_left rest s spells =
       let a : List ℕ = flat_map state_bytes states in
       let b : List ℕ = flat_map msg_bytes msgs in
@@ -153,68 +169,98 @@ module _ (layout n : ℕ) (k : Counts) (states : List KeyState) (msgs : List Msg
       let parts = split layout n k (a ++ (b ++ rest)) s read.newer read.counts (subst (λ (l : List ℕ). Spells layout n l s) regrouped spells) in
       let many : length (fin.values s.keys) ≡ k.keys = len-values s.keys ∙ sym (ap (λ (c : Counts). c.keys) parts.same) in (
         parts.same,
-        left (state_at n) state_bytes (IsOwnStateOf n) (state-again n) states (fin.values s.keys) (b ++ rest) (flat_map msg_bytes s.window ++ end_of layout) read.states_of (states-each n s spells.sound) (omega (arith, many, read.keys))
+        left (state_at n) state_bytes (IsOwnStateOf n) (state-again n) states (fin.values s.keys) (b ++ rest) (flat_map msg_bytes s.window ++ tail_of layout s) read.states_of (states-each n s spells.sound) (omega (arith, many, read.keys))
             parts.rest_is,
       )
 
   -- where all states were taken, the same of the messages
   messages_left : (rest : List ℕ) (s : Summary) → Spells layout n (parts_bytes k states msgs ++ rest) s → length states ≡ k.keys
-      → (k ≡ counts_of s) × (fin.values s.keys ≡ states) × Left (msg_at n) msg_bytes (IsMessageOf n) (msg-again n) msgs s.window rest (end_of layout)
+      → (k ≡ counts_of s) × (fin.values s.keys ≡ states) × Left (msg_at n) msg_bytes (IsMessageOf n) (msg-again n) msgs s.window rest (tail_of layout s)
   messages_left rest s spells whole =
       let before = states_left rest s spells in
       let many : length (fin.values s.keys) ≡ k.keys = len-values s.keys ∙ sym (ap (λ (c : Counts). c.keys) before.0) in
-      let end = ended_at (state_at n) state_bytes (IsOwnStateOf n) (state-again n) states (fin.values s.keys) (flat_map msg_bytes msgs ++ rest) (flat_map msg_bytes s.window ++ end_of layout) before.1 (omega (arith, many, whole)) in
+      let end = ended_at (state_at n) state_bytes (IsOwnStateOf n) (state-again n) states (fin.values s.keys) (flat_map msg_bytes msgs ++ rest) (flat_map msg_bytes s.window ++ tail_of layout s) before.1 (omega (arith, many, whole)) in
       let window : length s.window ≡ k.sent - k.credit = spells.sound.window ∙ ap (λ (c : Counts). c.sent - c.credit) (sym before.0) in (
         before.0,
         end.0,
-        left (msg_at n) msg_bytes (IsMessageOf n) (msg-again n) msgs s.window rest (end_of layout) read.messages_of (each-Contained (IsMessageOf n) s.window spells.sound.messages) (omega (arith, window, read.window)) end.1,
+        left (msg_at n) msg_bytes (IsMessageOf n) (msg-again n) msgs s.window rest (tail_of layout s) read.messages_of (each-Contained (IsMessageOf n) s.window spells.sound.messages) (omega (arith, window, read.window)) end.1,
       )
 
   -- where all messages were taken too nothing is left but the end
   end_left : (rest : List ℕ) (s : Summary) → Spells layout n (parts_bytes k states msgs ++ rest) s → length states ≡ k.keys → length msgs ≡ k.sent - k.credit
-      → (k ≡ counts_of s) × (fin.values s.keys ≡ states) × (rest ≡ end_of layout)
+      → (k ≡ counts_of s) × (fin.values s.keys ≡ states) × (rest ≡ tail_of layout s)
   end_left rest s spells whole all =
       let behind = messages_left rest s spells whole in
       let window : length s.window ≡ k.sent - k.credit = spells.sound.window ∙ ap (λ (c : Counts). c.sent - c.credit) (sym behind.0) in
-      (behind.0, behind.1, (ended_at (msg_at n) msg_bytes (IsMessageOf n) (msg-again n) msgs s.window rest (end_of layout) behind.2 (omega (arith, window, all))).1)
+      (behind.0, behind.1, (ended_at (msg_at n) msg_bytes (IsMessageOf n) (msg-again n) msgs s.window rest (tail_of layout s) behind.2 (omega (arith, window, all))).1)
 
   pub no_state : (bytes more : List ℕ) (s : Summary) → length states < k.keys → NoState n bytes → (38 ≤ length bytes) ⊎ (more ≡ [])
       → Spells layout n (parts_bytes k states msgs ++ (bytes ++ more)) s → ⊥
   no_state bytes more s fewer none long spells =
       let before = states_left (bytes ++ more) s spells in
       let many : length (fin.values s.keys) ≡ k.keys = len-values s.keys ∙ sym (ap (λ (c : Counts). c.keys) before.0) in
-      let there = subst (λ (m : List Msg). Left (state_at n) state_bytes (IsOwnStateOf n) (state-again n) states (fin.values s.keys) (flat_map msg_bytes m ++ (bytes ++ more)) (flat_map msg_bytes s.window ++ end_of layout)) (read.first fewer) before.1 in
-      stuck (state_at n) state_bytes (IsOwnStateOf n) (state-again n) states (fin.values s.keys) bytes more (flat_map msg_bytes s.window ++ end_of layout) there (omega (arith, many, fewer)) (state-low n) long none
+      let there = subst (λ (m : List Msg). Left (state_at n) state_bytes (IsOwnStateOf n) (state-again n) states (fin.values s.keys) (flat_map msg_bytes m ++ (bytes ++ more)) (flat_map msg_bytes s.window ++ tail_of layout s)) (read.first fewer) before.1 in
+      stuck (state_at n) state_bytes (IsOwnStateOf n) (state-again n) states (fin.values s.keys) bytes more (flat_map msg_bytes s.window ++ tail_of layout s) there (omega (arith, many, fewer)) (state-low n) long none
 
   pub no_message : (bytes more : List ℕ) (s : Summary) → length states ≡ k.keys → length msgs < k.sent - k.credit → NoMessage n bytes → (38 ≤ length bytes) ⊎ (more ≡ [])
       → Spells layout n (parts_bytes k states msgs ++ (bytes ++ more)) s → ⊥
   no_message bytes more s whole fewer none long spells =
       let behind = messages_left (bytes ++ more) s spells whole in
       let window : length s.window ≡ k.sent - k.credit = spells.sound.window ∙ ap (λ (c : Counts). c.sent - c.credit) (sym behind.0) in
-      stuck (msg_at n) msg_bytes (IsMessageOf n) (msg-again n) msgs s.window bytes more (end_of layout) behind.2 (omega (arith, window, fewer)) (msg-low n) long none
+      stuck (msg_at n) msg_bytes (IsMessageOf n) (msg-again n) msgs s.window bytes more (tail_of layout s) behind.2 (omega (arith, window, fewer)) (msg-low n) long none
 
-  -- in layout 2 nothing stands behind the messages
+  -- up to layout 2 nothing stands behind the messages
   pub nothing_left : (bytes more : List ℕ) (s : Summary) → length states ≡ k.keys → length msgs ≡ k.sent - k.credit → layout ≤ 2 → 1 ≤ length bytes
       → Spells layout n (parts_bytes k states msgs ++ (bytes ++ more)) s → ⊥
   nothing_left bytes more s whole all old some spells =
       let end = end_left (bytes ++ more) s spells whole all in
-      omega (arith, ap length (end.2 ∙ floors-none layout s old), length-append bytes more, some)
+      omega (arith, ap length (end.2 ∙ end-none layout (floor_keys s.floors) old), length-append bytes more, some)
 
-  -- and from layout 3 on the number of floors, and nothing behind it
-  pub nothing_behind : (bytes more : List ℕ) (s : Summary) → length states ≡ k.keys → length msgs ≡ k.sent - k.credit → 1 ≤ length bytes
-      → Spells layout n ((parts_bytes k states msgs ++ to_be_bytes w32 0) ++ (bytes ++ more)) s
-      → ⊥
-  nothing_behind bytes more s whole all some spells =
-      let regrouped = append_assoc (parts_bytes k states msgs) (to_be_bytes w32 0) (bytes ++ more) in
-      let end = end_left (to_be_bytes w32 0 ++ (bytes ++ more)) s (subst (λ (l : List ℕ). Spells layout n l s) regrouped spells) whole all in
-      omega (arith, ap length end.2, length-append (to_be_bytes w32 0) (bytes ++ more), length-append bytes more, some, length-floors layout s, few-floors layout)
-
+  -- and from layout 3 on the number of floors
   pub no_end : (bytes more : List ℕ) (s : Summary) → length states ≡ k.keys → length msgs ≡ k.sent - k.credit → 2 < layout → NoEnd bytes → (38 ≤ length bytes) ⊎ (more ≡ [])
       → Spells layout n (parts_bytes k states msgs ++ (bytes ++ more)) s → ⊥
   no_end bytes more s whole all new none long spells =
+      let keys : List Key = floor_keys s.floors in
       let end = end_left (bytes ++ more) s spells whole all in
-      let found = goes_on bytes more (to_be_bytes w32 0) [] (omega arith) long (end.2 ∙ (floors-zero layout s new ∙ sym (append-nil (to_be_bytes w32 0)))) in
-      none found.0 found.1
+      let found = goes_on bytes more (to_be_bytes w32 (length keys)) (flat_map key_bytes keys) (omega arith) long (end.2 ∙ end-some layout keys new) in
+      none (length keys) found.0 (omega (arith, len-floors s.floors, spells.few_floors)) found.1
+
+  -- which is the one that was taken, and the floors that were taken are the first
+  floors_left : (number : ℕ) (rest : List ℕ) (s : Summary) → length states ≡ k.keys → length msgs ≡ k.sent - k.credit → 2 < layout → number < 2 ^ 32 → length floors ≤ number
+      → Spells layout n ((parts_bytes k states msgs ++ floors_taken (Some number) floors) ++ rest) s
+      → (number ≡ length (floor_keys s.floors)) × Left key_at key_bytes IsKeyInRange key-again floors (floor_keys s.floors) rest []
+  floors_left number rest s whole all new below few spells =
+      let keys : List Key = floor_keys s.floors in
+      let had : List ℕ = flat_map key_bytes floors in
+      let regrouped = append_assoc (parts_bytes k states msgs) (to_be_bytes w32 number ++ had) rest in
+      let end = end_left ((to_be_bytes w32 number ++ had) ++ rest) s (subst (λ (l : List ℕ). Spells layout n l s) regrouped spells) whole all in
+      let told : to_be_bytes w32 number ++ (had ++ rest) ≡ to_be_bytes w32 (length keys) ++ flat_map key_bytes keys =
+      sym (append_assoc (to_be_bytes w32 number) had rest) ∙ (end.2 ∙ end-some layout keys new) in
+      let same : ◌≡◌ {A = ℕ × List ℕ} (number, had ++ rest) (length keys, flat_map key_bytes keys) =
+      same_ok (number, had ++ rest) (length keys, flat_map key_bytes keys)
+      (sym (number-again w32 (2 ^ 32) wide_32 number (had ++ rest) below)
+      ∙ (ap (number_at w32) told ∙ number-again w32 (2 ^ 32) wide_32 (length keys) (flat_map key_bytes keys) (omega (arith, len-floors s.floors, spells.few_floors)))) in
+      let many : number ≡ length keys = ap (λ (p : ℕ × List ℕ). p.0) same in (
+        many,
+        left key_at key_bytes IsKeyInRange key-again floors keys rest [] read.floors_of (floors-each n s spells.sound) (omega (arith, many, few))
+            (ap (λ (p : ℕ × List ℕ). p.1) same ∙ sym (append-nil (flat_map key_bytes keys))),
+      )
+
+  pub no_floor : (number : ℕ) (bytes more : List ℕ) (s : Summary) → length states ≡ k.keys → length msgs ≡ k.sent - k.credit → 2 < layout → number < 2 ^ 32 → length floors < number
+      → NoFloor bytes → (38 ≤ length bytes) ⊎ (more ≡ [])
+      → Spells layout n ((parts_bytes k states msgs ++ floors_taken (Some number) floors) ++ (bytes ++ more)) s
+      → ⊥
+  no_floor number bytes more s whole all new below fewer none long spells =
+      let behind = floors_left number (bytes ++ more) s whole all new below (omega (arith, fewer)) spells in
+      stuck key_at key_bytes IsKeyInRange key-again floors (floor_keys s.floors) bytes more [] behind.1 (omega (arith, behind.0, fewer)) key-low long none
+
+  -- where all floors were taken too they are those of the snapshot, and nothing is left
+  pub floors_whole : (number : ℕ) (rest : List ℕ) (s : Summary) → length states ≡ k.keys → length msgs ≡ k.sent - k.credit → 2 < layout → number < 2 ^ 32 → length floors ≡ number
+      → Spells layout n ((parts_bytes k states msgs ++ floors_taken (Some number) floors) ++ rest) s
+      → (floor_keys s.floors ≡ floors) × (rest ≡ [])
+  floors_whole number rest s whole all new below many spells =
+      let behind = floors_left number rest s whole all new below (omega (arith, many)) spells in
+      ended_at key_at key_bytes IsKeyInRange key-again floors (floor_keys s.floors) rest [] behind.1 (omega (arith, behind.0, many))
 
   pub whole_states : (length states < k.keys → ⊥) → length states ≡ k.keys
   whole_states all = ⊎_elim (λ (less : length states < k.keys). absurd (all less)) (λ (more : k.keys ≤ length states). omega (arith, more, read.keys)) (cases_lt (length states) k.keys)
@@ -234,22 +280,24 @@ module _ (layout n : ℕ) (k : Counts) (states : List KeyState) (msgs : List Msg
   messages_missing whole fewer s spells = no_message [] [] s whole fewer (λ msg rest own e. omega (arith, ap length e, length-append (msg_bytes msg) rest, length-msg msg)) (inr refl) (alone s spells)
 
   pub end_missing : length states ≡ k.keys → length msgs ≡ k.sent - k.credit → 2 < layout → (s : Summary) → Spells layout n (parts_bytes k states msgs) s → ⊥
-  end_missing whole all new s spells = no_end [] [] s whole all new (λ rest e. omega (arith, ap length e, length-append (to_be_bytes w32 0) rest)) (inr refl) (alone s spells)
+  end_missing whole all new s spells = no_end [] [] s whole all new (λ number rest below e. omega (arith, ap length e, length-append (to_be_bytes w32 number) rest)) (inr refl) (alone s spells)
 
-  pub unfit : (rest : List ℕ) → length states ≡ k.keys → (AreFitting k states → ⊥) → (s : Summary) → Spells layout n (parts_bytes k states msgs ++ rest) s → ⊥
-  unfit rest whole unfitting s spells =
+  pub floor_missing : (number : ℕ) → length states ≡ k.keys → length msgs ≡ k.sent - k.credit → 2 < layout → number < 2 ^ 32 → length floors < number → (s : Summary)
+      → Spells layout n (parts_bytes k states msgs ++ floors_taken (Some number) floors) s → ⊥
+  floor_missing number whole all new below fewer s spells =
+      no_floor number [] [] s whole all new below fewer (λ floor rest range e. omega (arith, ap length e, length-append (key_bytes floor) rest, length-key_bytes floor)) (inr refl)
+      (subst (λ (l : List ℕ). Spells layout n l s) (sym (append-nil (parts_bytes k states msgs ++ floors_taken (Some number) floors))) spells)
+
+  pub unfit : (rest : List ℕ) → length states ≡ k.keys → (AreFitting k states floors → ⊥) → (s : Summary) → floor_keys s.floors ≡ floors
+      → Spells layout n (parts_bytes k states msgs ++ rest) s → ⊥
+  unfit rest whole unfitting s same spells =
       let behind = messages_left rest s spells whole in
-      unfitting (subst (λ (c : Counts). AreFitting c states) (sym behind.0) (subst (λ (l : List KeyState). AreFitting (counts_of s) l) behind.1 (sound-fits n s spells.sound)))
-
-  pub whole_parts : length states ≡ k.keys → length msgs ≡ k.sent - k.credit → AreFitting k states → Spells layout n (parts_bytes k states msgs ++ end_of layout) (made_of k states msgs)
-  unfolding number_bytes
-  whole_parts keys window fits = parts-spelled layout n (parts_bytes k states msgs ++ end_of layout) k states msgs read.newer
-      (record { is = refl; few = read.counts.stands; few_keys = read.counts.keys; credit = read.counts.credit; keys = keys; window = window; states = read.states_of; messages = read.messages_of })
-      fits
+      unfitting (subst (λ (c : Counts). AreFitting c states floors) (sym behind.0)
+      (subst (λ (l : List KeyState). AreFitting (counts_of s) l floors) behind.1 (subst (AreFitting (counts_of s) (fin.values s.keys)) same (sound-fits n s spells.sound))))
 
 pub no_counts_newer : (layout n : ℕ) (bytes more : List ℕ) (s : Summary) → 2 ≤ layout → NoCounts layout bytes → (38 ≤ length bytes) ⊎ (more ≡ [])
     → Spells layout n (bytes ++ more) s → ⊥
-unfolding counts_bytes number_bytes
+unfolding number_bytes
 no_counts_newer layout n bytes more s newer none long spells =
     let sound = spells.sound in
     let states : List ℕ = flat_map state_bytes (fin.values s.keys) in
@@ -258,9 +306,8 @@ no_counts_newer layout n bytes more s newer none long spells =
     let acts : s.taken + s.stands ≤ s.inputs = sound.acts in
     let sent : s.sent ≤ s.inputs = sound.sent in
     let credit : s.credit ≤ s.sent = sound.credit in
-    let end : List ℕ = end_of layout in
-    let whole : bytes ++ more ≡ numbers (counts_of s) ++ (states ++ (msgs ++ end)) =
-    spells.is ∙ (snapshot-parts layout s newer ∙ (append_assoc (numbers (counts_of s) ++ states) msgs end ∙ append_assoc (numbers (counts_of s)) states (msgs ++ end))) in
+    let end : List ℕ = tail_of layout s in
+    let whole : bytes ++ more ≡ numbers (counts_of s) ++ (states ++ (msgs ++ end)) = spelled_parts layout n (bytes ++ more) s newer spells in
     let found = goes_on bytes more (numbers (counts_of s)) (states ++ (msgs ++ end)) (omega (arith, length-numbers (counts_of s))) long whole in
     none (counts_of s) found.0 newer (record { inputs = omega arith; taken = omega arith; credit_range = omega arith; sent = omega arith; stands = sound.few; keys = spells.few_keys; credit = sound.credit }) found.1
 

@@ -1,10 +1,11 @@
 -- Snapshots: what is read of one is spelled there, and what is spelled is read again, so bytes spell one summary at most.
-use Rattle.std.proofs.Common.{ℕ, suc, ◌≡◌, ◌+◌, ◌-◌, ◌^◌, ◌<◌, ◌≤◌, Bool, true, false, cond, eqb, leb, ltb, List, [], ◌∷◌, ◌++◌, map as list_map, length, Ok, Err, refl, sym, ap, subst, ◌∙◌, append_assoc, append-nil, arith, zero, inl, inr, ◌⊎◌}
+use Rattle.std.proofs.Common.{ℕ, suc, ◌≡◌, ◌+◌, ◌-◌, ◌^◌, ◌<◌, ◌≤◌, Bool, true, false, cond, ltb, List, [], ◌∷◌, ◌++◌, map as list_map, length, Some, Ok, Err, refl, sym, ap, subst, ◌∙◌, append_assoc, append-nil, arith, zero, inl, inr, ◌⊎◌}
 use Rattle.std.specs.FinMap as fin
 use Rattle.std.specs.Int.{w16, w32, w64, to_be_bytes}
 use Rattle.std.specs.List.{count_by, flat_map, AllByRecursion, Contains}
+use Rattle.std.specs.List.Sorted.{IsStrictlySortedBy}
 use Rattle.std.specs.Prelude.{Result}
-use Rattle.std.proofs.lemmas.Bool.{cases_lt, eqb-true, ltb-false, le-ltb}
+use Rattle.std.proofs.lemmas.Bool.{cases_lt, ltb-true, ltb-false, le-ltb}
 use Rattle.std.proofs.lemmas.Nat.{be_bytes_2, from_be_bytes-to_be_bytes_2}
 use Rattle.ring_records.specs.declared.key.Key.{Key}
 use Rattle.ring_records.specs.declared.key_state.KeyState.{KeyState}
@@ -15,18 +16,21 @@ use Rattle.ring_records.specs.declared.refusal.Refusal.{Refusal}
 use Rattle.ring_records.specs.declared.refusal.Refusal.TheVariants as refused
 use Rattle.ring_records.specs.declared.snapshot_read.Counts.{Counts}
 use Rattle.ring_records.specs.declared.summary.Summary.{Summary}
-use Rattle.ring_records.specs.KeyOrder.{key_cmp}
+use Rattle.ring_records.specs.Floors.{floored, floor_keys, IsLive}
+use Rattle.ring_records.specs.KeyOrder.{key_cmp, group_cmp}
 use Rattle.ring_records.specs.KeyStates.{under_key, keyed}
-use Rattle.ring_records.specs.Record.{AreBytes, number_at}
+use Rattle.ring_records.specs.Record.{AreBytes, number_at, key_at, key_bytes, IsKeyInRange}
 use Rattle.ring_records.specs.Snapshot.{state_bytes, msg_bytes, counts_bytes, floors_bytes, snapshot_of, has_stood, IsStateOf, IsMessageOf, IsSound, Spells}
 use Rattle.ring_records.specs.Summary.{empty}
-use Rattle.ring_records.specs.SnapshotRead.{state_at, msg_at, items_at, counts_at, window_size, at_end, no_floor_at, floors_at, parts_at, AreFitting, IsBroken}
-use Rattle.ring_records.proofs.Compare.{get-key}
-use Rattle.ring_records.proofs.Fields.{bind_ok, must_ok, must_not_ok, same_ok, Takes, Takes-then, IsWide, wide_32, wide_64, number-found, number-again}
-use Rattle.ring_records.proofs.Snapshots.{snapshot-plain, snapshot-parts}
+use Rattle.ring_records.specs.SnapshotRead.{state_at, msg_at, items_at, counts_at, window_size, at_end, some_floors_at, floors_at, parts_at, AreFitting, IsBroken}
+use Rattle.ring_records.proofs.Compare.{get-key, keys_total, keys_exact}
+use Rattle.ring_records.proofs.Entries.{each-entry}
+use Rattle.ring_records.proofs.Fields.{bind_ok, must_not_ok, same_ok, Takes, Takes-then, IsWide, wide_32, wide_64, number-found, number-again, key-found, key-again}
+use Rattle.ring_records.proofs.FloorsInOrder.{keys-floored, len-floors, floors-sorted, floored-keys, each-floor, floor-found}
+use Rattle.ring_records.proofs.Snapshots.{snapshot-plain, snapshot-parts, end_of, floors-end}
 use Rattle.ring_records.proofs.Sound.{sound-empty}
 use Rattle.ring_records.proofs.SnapshotItems.{IsOwnState, state-found, state-again, msg-found, msg-again, items-found, items-again}
-use Rattle.ring_records.proofs.StatesInOrder.{values-keyed, len-values, IsOwn, sorted-own, entries-own, each-entry, each-found, each-value}
+use Rattle.ring_records.proofs.StatesInOrder.{values-keyed, len-values, IsOwn, sorted-own, entries-own, each-found, each-value}
 
 -- ---- the counts
 
@@ -90,15 +94,11 @@ counts-again k rest inputs taken credit sent stands keys =
 -- ---- what is read is spelled
 
 abbrev pub Parts : Type 0
-Parts = Counts × List KeyState × List Msg
-
--- what stands behind the messages
-abbrev pub end_of : ℕ → List ℕ
-end_of layout = floors_bytes layout empty
+Parts = Counts × List KeyState × List Msg × List Key
 
 -- the bytes are these parts, one behind the other
 pub record AreParts (layout n : ℕ) (bytes : List ℕ) (p : Parts) : Type 0 where
-  pub is : bytes ≡ (numbers p.0 ++ (flat_map state_bytes p.1 ++ flat_map msg_bytes p.2)) ++ end_of layout
+  pub is : bytes ≡ (numbers p.0 ++ (flat_map state_bytes p.1 ++ flat_map msg_bytes p.2)) ++ end_of layout p.3
   pub few : p.0.stands < 2 ^ 16
   pub few_keys : p.0.keys < 2 ^ 32
   pub credit : p.0.credit ≤ p.0.sent
@@ -106,6 +106,9 @@ pub record AreParts (layout n : ℕ) (bytes : List ℕ) (p : Parts) : Type 0 whe
   pub window : length p.2 ≡ p.0.sent - p.0.credit
   pub states : AllByRecursion (IsOwnState n) p.1
   pub messages : AllByRecursion (IsMessageOf n) p.2
+  pub floors : AllByRecursion IsKeyInRange p.3
+  pub few_floors : length p.3 < 2 ^ 32
+  pub none : layout ≤ 2 → p.3 ≡ []
 
 end-found : (x y : Parts) (rest : List ℕ) → at_end x rest ≡ Ok y → (x ≡ y) × (rest ≡ [])
 end-found x y [] e = (same_ok x y e, refl)
@@ -116,36 +119,59 @@ joined bytes a b c d r1 r2 r3 r4 p q r s t =
     p ∙ ap (λ (l : List ℕ). a ++ l) (q ∙ ap (λ (l : List ℕ). b ++ l) (r ∙ ap (λ (l : List ℕ). c ++ l) (s ∙ (ap (λ (l : List ℕ). d ++ l) t ∙ append-nil d))))
     ∙ sym (append_assoc a (b ++ c) d ∙ ap (λ (l : List ℕ). a ++ l) (append_assoc b c d))
 
-no_floor-found : (bytes rest : List ℕ) → AreBytes bytes → no_floor_at bytes ≡ Ok rest → Takes bytes (to_be_bytes w32 0) rest
-unfolding no_floor_at
-no_floor-found bytes rest are e =
-    let a = bind_ok (number_at w32 bytes) _ rest e in
-    let zero = must_ok (eqb a.0.0 0) Number a.0.1 rest a.2 in
-    let found = number-found w32 (2 ^ 32) wide_32 bytes a.0 are a.1 in
-    subst (λ (r : List ℕ). Takes bytes (to_be_bytes w32 0) r) zero.1 (subst (λ (count : ℕ). Takes bytes (to_be_bytes w32 count) a.0.1) (eqb-true a.0.0 0 zero.0) found.0)
+-- these floors stand at the front of the bytes
+record AreFloors (layout : ℕ) (bytes : List ℕ) (x : List Key × List ℕ) : Type 0 where
+  taken : Takes bytes (end_of layout x.0) x.1
+  each : AllByRecursion IsKeyInRange x.0
+  few : length x.0 < 2 ^ 32
+  none : layout ≤ 2 → x.0 ≡ []
 
-pub no_floor-taken : (bytes rest : List ℕ) → AreBytes bytes → no_floor_at bytes ≡ Ok rest → bytes ≡ to_be_bytes w32 0 ++ rest
-no_floor-taken bytes rest are e = (no_floor-found bytes rest are e).parts
+abbrev IsTold : List ℕ → List Key × List ℕ → Type 0
+IsTold bytes x = Takes bytes (to_be_bytes w32 (length x.0) ++ flat_map key_bytes x.0) x.1 × AllByRecursion IsKeyInRange x.0 × (length x.0 < 2 ^ 32)
 
-pub no_floor-again : (rest : List ℕ) → no_floor_at (to_be_bytes w32 0 ++ rest) ≡ Ok rest
-unfolding no_floor_at
-no_floor-again rest = rw (number-again w32 (2 ^ 32) wide_32 0 rest (omega arith)) refl
+some_floors-found : (bytes : List ℕ) (x : List Key × List ℕ) → AreBytes bytes → some_floors_at bytes ≡ Ok x → IsTold bytes x
+unfolding some_floors_at
+some_floors-found bytes x are e =
+    let a = bind_ok (number_at w32 bytes) _ x e in
+    let count = number-found w32 (2 ^ 32) wide_32 bytes a.0 are a.1 in
+    let keys = items-found key_at key_bytes IsKeyInRange key-found a.0.0 a.0.1 x count.0.left a.2 in
+    let first : Takes bytes (to_be_bytes w32 (length x.0)) a.0.1 = subst (λ (n : ℕ). Takes bytes (to_be_bytes w32 n) a.0.1) (sym keys.len) count.0 in
+    (Takes-then bytes (to_be_bytes w32 (length x.0)) a.0.1 (flat_map key_bytes x.0) x.1 first keys.taken, keys.each, omega (arith, keys.len, count.1))
 
-floors-found : (layout : ℕ) (bytes rest : List ℕ) → AreBytes bytes → floors_at layout bytes ≡ Ok rest → bytes ≡ end_of layout ++ rest
+some_floors-again : (floors : List Key) → AllByRecursion IsKeyInRange floors → length floors < 2 ^ 32 → some_floors_at (to_be_bytes w32 (length floors) ++ flat_map key_bytes floors) ≡ Ok (floors, [])
+unfolding some_floors_at
+some_floors-again floors each few =
+    rw (number-again w32 (2 ^ 32) wide_32 (length floors) (flat_map key_bytes floors) few)
+    (ap (items_at key_at (length floors)) (sym (append-nil (flat_map key_bytes floors))) ∙ items-again key_at key_bytes IsKeyInRange key-again floors [] each)
+
+floors-found : (layout : ℕ) (bytes : List ℕ) (x : List Key × List ℕ) → AreBytes bytes → floors_at layout bytes ≡ Ok x → AreFloors layout bytes x
 unfolding floors_at
-floors-found layout bytes rest are e = go (leb layout 2) e
+floors-found layout bytes x are e = go (ltb 2 layout) refl e
   where
-    go : (b : Bool) → cond b (Ok bytes) (no_floor_at bytes) ≡ Ok rest → bytes ≡ cond b [] (to_be_bytes w32 0) ++ rest
-    go true e = same_ok bytes rest e
-    go false e = no_floor-taken bytes rest are e
+    go : (b : Bool) → ltb 2 layout ≡ b → cond b (some_floors_at bytes) (Ok ([], bytes)) ≡ Ok x → AreFloors layout bytes x
+    go true is f =
+        let found = some_floors-found bytes x are f in
+        record {
+          taken = subst (λ (b : Bool). Takes bytes (cond b (to_be_bytes w32 (length x.0) ++ flat_map key_bytes x.0) []) x.1) (sym is) found.0;
+          each = found.1;
+          few = found.2;
+          none = λ old. absurd (omega (arith, old, ltb-true 2 layout is));
+        }
+    go false is f = subst (AreFloors layout bytes) {x = ([], bytes)} (same_ok ([], bytes) x f) (record {
+      taken = subst (λ (b : Bool). Takes bytes (cond b (to_be_bytes w32 0 ++ []) []) bytes) (sym is) (record { parts = refl; left = are });
+      each = tt;
+      few = omega arith;
+      none = λ old. refl;
+    })
 
-floors-again : (layout : ℕ) → floors_at layout (end_of layout) ≡ Ok []
+floors-again : (layout : ℕ) (floors : List Key) → AllByRecursion IsKeyInRange floors → length floors < 2 ^ 32 → (layout ≤ 2 → floors ≡ []) → floors_at layout (end_of layout floors) ≡ Ok (floors, [])
 unfolding floors_at
-floors-again layout = go (leb layout 2)
+floors-again layout floors each few none = go (ltb 2 layout) refl
   where
-    go : (b : Bool) → ◌≡◌ {A = Result (List ℕ) RecordFault} (cond b (Ok (cond b [] (to_be_bytes w32 0))) (no_floor_at (cond b [] (to_be_bytes w32 0)))) (Ok [])
-    go true = refl
-    go false = no_floor-again []
+    go : (b : Bool) → ltb 2 layout ≡ b
+        → ◌≡◌ {A = Result (List Key × List ℕ) RecordFault} (cond b (some_floors_at (cond b (to_be_bytes w32 (length floors) ++ flat_map key_bytes floors) [])) (Ok ([], cond b (to_be_bytes w32 (length floors) ++ flat_map key_bytes floors) []))) (Ok (floors, []))
+    go true is = some_floors-again floors each few
+    go false is = λ i. Ok (sym (none (ltb-false 2 layout is)) i, [])
 
 parts-found : (layout n : ℕ) (bytes : List ℕ) (p : Parts) → AreBytes bytes → parts_at layout n bytes ≡ Ok p → AreParts layout n bytes p
 unfolding parts_at
@@ -160,10 +186,10 @@ parts-found layout n bytes p are e =
     let states = items-found (state_at n) state_bytes (IsOwnState n) (state-found n) k.keys a.0.1 c.0 counts.0.left c.1 in
     let msgs = items-found (msg_at n) msg_bytes (IsMessageOf n) (msg-found n) b.0 c.0.1 d.0 states.taken.left d.1 in
     let f = bind_ok (floors_at layout d.0.1) _ p d.2 in
-    let last = end-found (k, c.0.0, d.0.0) p f.0 f.2 in
-    subst (AreParts layout n bytes) {x = (k, c.0.0, d.0.0)} last.0 (record {
-      is = joined bytes (numbers k) (flat_map state_bytes c.0.0) (flat_map msg_bytes d.0.0) (end_of layout) a.0.1 c.0.1 d.0.1 f.0 counts.0.parts states.taken.parts msgs.taken.parts (floors-found layout d.0.1 f.0 msgs.taken.left f.1)
-          last.1;
+    let last = end-found (k, c.0.0, d.0.0, f.0.0) p f.0.1 f.2 in
+    let floors = floors-found layout d.0.1 f.0 msgs.taken.left f.1 in
+    subst (AreParts layout n bytes) {x = (k, c.0.0, d.0.0, f.0.0)} last.0 (record {
+      is = joined bytes (numbers k) (flat_map state_bytes c.0.0) (flat_map msg_bytes d.0.0) (end_of layout f.0.0) a.0.1 c.0.1 d.0.1 f.0.1 counts.0.parts states.taken.parts msgs.taken.parts floors.taken.parts last.1;
       few = counts.1;
       few_keys = counts.2;
       credit = ltb-false k.sent k.credit size.0;
@@ -171,29 +197,36 @@ parts-found layout n bytes p are e =
       window = msgs.len ∙ sym (same_ok (k.sent - k.credit) b.0 size.1);
       states = states.each;
       messages = msgs.each;
+      floors = floors.each;
+      few_floors = floors.few;
+      none = floors.none;
     })
 
 -- the summary of the parts
-abbrev pub made_of : Counts → List KeyState → List Msg → Summary
-made_of k states msgs = record { inputs = k.inputs; taken = k.taken; credit = k.credit; sent = k.sent; stands = k.stands; keys = keyed states; window = msgs }
+abbrev pub made_of : Counts → List KeyState → List Msg → List Key → Summary
+made_of k states msgs floors = record { inputs = k.inputs; taken = k.taken; credit = k.credit; sent = k.sent; stands = k.stands; keys = keyed states; window = msgs; floors = floored floors }
 
 Contains-each : {A : Type 0} (P : A → Type 0) (xs : List A) → AllByRecursion P xs → (x : A) → Contains xs x → P x
 Contains-each P [] each x there = let below = there.1 in absurd (omega arith)
 Contains-each P (y ∷ xs) each x (zero, below, e) = subst P e each.0
 Contains-each P (y ∷ xs) each x (suc k, below, e) = Contains-each P xs each.1 x (k, omega arith, e)
 
-pub parts-spelled : (layout n : ℕ) (bytes : List ℕ) (k : Counts) (states : List KeyState) (msgs : List Msg) → 2 ≤ layout → AreParts layout n bytes (k, states, msgs) → AreFitting k states
-    → Spells layout n bytes (made_of k states msgs)
+pub parts-spelled : (layout n : ℕ) (bytes : List ℕ) (k : Counts) (states : List KeyState) (msgs : List Msg) (floors : List Key) → 2 ≤ layout → AreParts layout n bytes (k, states, msgs, floors)
+    → AreFitting k states floors
+    → Spells layout n bytes (made_of k states msgs floors)
 unfolding counts_bytes
-parts-spelled layout n bytes k states msgs newer parts fits =
+parts-spelled layout n bytes k states msgs floors newer parts fits =
     let values : fin.values (keyed states) ≡ states = values-keyed states fits.rising in
     let count : fin.len (keyed states) ≡ k.keys = sym (len-values (keyed states)) ∙ (ap length values ∙ parts.keys) in
+    let keys : floor_keys (floored floors) ≡ floors = keys-floored floors fits.floors_rise in
+    let few : fin.len (floored floors) ≡ length floors = sym (len-floors (floored floors)) ∙ ap length keys in
     let front : List ℕ = to_be_bytes w64 k.inputs ++ to_be_bytes w64 k.taken ++ to_be_bytes w64 k.credit ++ to_be_bytes w64 k.sent ++ to_be_bytes w16 k.stands in
+    let end : end_of layout floors ≡ floors_bytes layout (made_of k states msgs floors) = sym (floors-end layout (made_of k states msgs floors) ∙ ap (end_of layout) keys) in
     record {
       is = parts.is
-          ∙ (ap (λ (l : List ℕ). l ++ end_of layout) (sym (append_assoc (numbers k) (flat_map state_bytes states) (flat_map msg_bytes msgs)))
-          ∙ ((λ i. ((front ++ to_be_bytes w32 (sym count i)) ++ flat_map state_bytes (sym values i) ++ flat_map msg_bytes msgs) ++ end_of layout)
-          ∙ sym (snapshot-parts layout (made_of k states msgs) newer)));
+          ∙ (ap (λ (l : List ℕ). l ++ end_of layout floors) (sym (append_assoc (numbers k) (flat_map state_bytes states) (flat_map msg_bytes msgs)))
+          ∙ ((λ i. ((front ++ to_be_bytes w32 (sym count i)) ++ flat_map state_bytes (sym values i) ++ flat_map msg_bytes msgs) ++ end i)
+          ∙ sym (snapshot-parts layout (made_of k states msgs floors) newer)));
       sound = record {
         inputs = fits.inputs;
         acts = fits.acts;
@@ -204,15 +237,19 @@ parts-spelled layout n bytes k states msgs newer parts fits =
         stands = fits.stands ∙ ap (count_by has_stood) (sym values);
         states = λ key state e. each-found (IsStateOf n) states parts.states key state (sym (get-key (list_map under_key states) key) ∙ e);
         messages = Contains-each (IsMessageOf n) msgs parts.messages;
+        floors = floor-found IsKeyInRange floors parts.floors;
+        live = λ key state e. each-found (λ k s. IsLive (floored floors) k) states fits.live key state (sym (get-key (list_map under_key states) key) ∙ e);
       };
       few_keys = subst (λ (c : ℕ). c < 2 ^ 32) (sym count) parts.few_keys;
+      few_floors = subst (λ (c : ℕ). c < 2 ^ 32) (sym few) parts.few_floors;
+      none = λ old. ap floored (parts.none old);
       plain = λ old. absurd (omega (arith, old, newer));
     }
 
-pub read-spelled : (layout n : ℕ) (bytes : List ℕ) (k : Counts) (states : List KeyState) (msgs : List Msg) → 2 ≤ layout → AreBytes bytes → parts_at layout n bytes ≡ Ok (k, states, msgs)
-    → AreFitting k states
-    → Spells layout n bytes (made_of k states msgs)
-read-spelled layout n bytes k states msgs newer are e fits = parts-spelled layout n bytes k states msgs newer (parts-found layout n bytes (k, states, msgs) are e) fits
+pub read-spelled : (layout n : ℕ) (bytes : List ℕ) (k : Counts) (states : List KeyState) (msgs : List Msg) (floors : List Key) → 2 ≤ layout → AreBytes bytes
+    → parts_at layout n bytes ≡ Ok (k, states, msgs, floors) → AreFitting k states floors
+    → Spells layout n bytes (made_of k states msgs floors)
+read-spelled layout n bytes k states msgs floors newer are e fits = parts-spelled layout n bytes k states msgs floors newer (parts-found layout n bytes (k, states, msgs, floors) are e) fits
 
 -- ---- what is spelled is read
 
@@ -220,9 +257,13 @@ pub each-Contained : {A : Type 0} (P : A → Type 0) (xs : List A) → ((x : A) 
 each-Contained P [] holds = tt
 each-Contained P (x ∷ xs) holds = (holds x (0, omega arith, refl), each-Contained P xs (λ y there. holds y (suc there.0, (let below = there.1 in omega arith), there.2)))
 
+pub keys-empty : floor_keys fin.empty ≡ []
+unfolding IsStrictlySortedBy
+keys-empty = keys-floored [] tt
+
 module _ (n : ℕ) (s : Summary) (sound : IsSound n s) where
   entries-of : AllByRecursion (λ (e : Key × KeyState). IsStateOf n e.0 e.1) (fin.entries s.keys)
-  entries-of = each-entry (IsStateOf n) (fin.entries s.keys) (fin.entries_sorted s.keys) (λ k t found. sound.states k t (fin.get-entries s.keys k ∙ found))
+  entries-of = each-entry key_cmp keys_total keys_exact (IsStateOf n) (fin.entries s.keys) (fin.entries_sorted s.keys) (λ k t found. sound.states k t (fin.get-entries s.keys k ∙ found))
 
   owns : (es : List (Key × KeyState)) → AllByRecursion (λ (e : Key × KeyState). IsStateOf n e.0 e.1) es
       → AllByRecursion IsOwn es × AllByRecursion (λ (e : Key × KeyState). IsOwnState n e.1) es
@@ -237,18 +278,30 @@ module _ (n : ℕ) (s : Summary) (sound : IsSound n s) where
   pub states-each : AllByRecursion (IsOwnState n) (fin.values s.keys)
   states-each = each-value (IsOwnState n) (fin.entries s.keys) (owns (fin.entries s.keys) entries-of).1
 
-  pub sound-fits : AreFitting (counts_of s) (fin.values s.keys)
+  live-entry : (key : Key) (state : KeyState) → fin.get s.keys key ≡ Some state → IsLive (floored (floor_keys s.floors)) state.key
+  live-entry key state e =
+      subst (λ (m : fin.FinMap group_cmp ℕ). IsLive m state.key) (sym (floored-keys s.floors)) (subst (λ (k : Key). IsLive s.floors k) (sym (sound.states key state e).own) (sound.live key state e))
+
+  pub floors-each : AllByRecursion IsKeyInRange (floor_keys s.floors)
+  floors-each = each-floor IsKeyInRange s.floors sound.floors
+
+  pub sound-fits : AreFitting (counts_of s) (fin.values s.keys) (floor_keys s.floors)
   sound-fits = record {
     inputs = sound.inputs;
     acts = sound.acts;
     sent = sound.sent;
     stands = sound.stands;
     rising = sorted-own (fin.entries s.keys) own-entries (fin.entries_sorted s.keys);
+    floors_rise = floors-sorted s.floors;
+    live = each-value (λ state. IsLive (floored (floor_keys s.floors)) state.key) (fin.entries s.keys)
+        (each-entry key_cmp keys_total keys_exact (λ key state. IsLive (floored (floor_keys s.floors)) state.key) (fin.entries s.keys) (fin.entries_sorted s.keys)
+        (λ k t found. live-entry k t (fin.get-entries s.keys k ∙ found)));
   }
 
-  pub parts-again : (layout : ℕ) → 2 ≤ layout → fin.len s.keys < 2 ^ 32 → parts_at layout n (snapshot_of layout s) ≡ Ok (counts_of s, fin.values s.keys, s.window)
+  pub parts-again : (layout : ℕ) → 2 ≤ layout → fin.len s.keys < 2 ^ 32 → fin.len s.floors < 2 ^ 32 → (layout ≤ 2 → s.floors ≡ fin.empty)
+      → parts_at layout n (snapshot_of layout s) ≡ Ok (counts_of s, fin.values s.keys, s.window, floor_keys s.floors)
   unfolding parts_at counts_bytes
-  parts-again layout newer few =
+  parts-again layout newer few few_floors none =
       let k : Counts = counts_of s in
       let states : List ℕ = flat_map state_bytes (fin.values s.keys) in
       let msgs : List ℕ = flat_map msg_bytes s.window in
@@ -256,7 +309,7 @@ module _ (n : ℕ) (s : Summary) (sound : IsSound n s) where
       let acts : s.taken + s.stands ≤ s.inputs = sound.acts in
       let sent : s.sent ≤ s.inputs = sound.sent in
       let credit : s.credit ≤ s.sent = sound.credit in
-      let end : List ℕ = end_of layout in
+      let end : List ℕ = end_of layout (floor_keys s.floors) in
       let regrouped : (numbers k ++ states ++ msgs) ++ end ≡ numbers k ++ (states ++ (msgs ++ end)) =
       append_assoc (numbers k ++ states) msgs end ∙ append_assoc (numbers k) states (msgs ++ end) in
       let counts = counts-again k (states ++ (msgs ++ end)) (omega arith) (omega arith) (omega arith) (omega arith) sound.few few in
@@ -265,11 +318,12 @@ module _ (n : ℕ) (s : Summary) (sound : IsSound n s) where
       ap (λ c. items_at (state_at n) c (states ++ (msgs ++ end))) (sym (len-values s.keys)) ∙ items-again (state_at n) state_bytes (IsOwnState n) (state-again n) (fin.values s.keys) (msgs ++ end) states-each in
       let window : items_at (msg_at n) (s.sent - s.credit) (msgs ++ end) ≡ Ok (s.window, end) =
       ap (λ c. items_at (msg_at n) c (msgs ++ end)) (sym sound.window) ∙ items-again (msg_at n) msg_bytes (IsMessageOf n) (msg-again n) s.window end (each-Contained (IsMessageOf n) s.window sound.messages) in
-      let floors : floors_at layout end ≡ Ok [] = floors-again layout in
-      ap (parts_at layout n) (snapshot-parts layout s newer ∙ regrouped) ∙ rw (counts, size, keys, window, floors) refl
+      let floors : floors_at layout end ≡ Ok (floor_keys s.floors, []) =
+      floors-again layout (floor_keys s.floors) floors-each (omega (arith, len-floors s.floors, few_floors)) (λ old. ap floor_keys (none old) ∙ keys-empty) in
+      ap (parts_at layout n) (snapshot-parts layout s newer ∙ (ap (λ (l : List ℕ). (numbers k ++ states ++ msgs) ++ l) (floors-end layout s) ∙ regrouped)) ∙ rw (counts, size, keys, window, floors) refl
 
-pub spelled-read : (layout n : ℕ) (bytes : List ℕ) (s : Summary) → 2 ≤ layout → Spells layout n bytes s → parts_at layout n bytes ≡ Ok (counts_of s, fin.values s.keys, s.window)
-spelled-read layout n bytes s newer spells = ap (parts_at layout n) spells.is ∙ parts-again n s spells.sound layout newer spells.few_keys
+pub spelled-read : (layout n : ℕ) (bytes : List ℕ) (s : Summary) → 2 ≤ layout → Spells layout n bytes s → parts_at layout n bytes ≡ Ok (counts_of s, fin.values s.keys, s.window, floor_keys s.floors)
+spelled-read layout n bytes s newer spells = ap (parts_at layout n) spells.is ∙ parts-again n s spells.sound layout newer spells.few_keys spells.few_floors spells.none
 
 pub none-spelled : (layout n : ℕ) (bytes : List ℕ) (fault : RecordFault) → 2 ≤ layout → parts_at layout n bytes ≡ Err fault → (s : Summary) → Spells layout n bytes s → ⊥
 none-spelled layout n bytes fault newer e s spells = apart _ _ (sym (spelled-read layout n bytes s newer spells) ∙ e)
@@ -277,22 +331,34 @@ none-spelled layout n bytes fault newer e s spells = apart _ _ (sym (spelled-rea
     apart : (x : Parts) (d : RecordFault) → ◌≡◌ {A = Result Parts RecordFault} (Ok x) (Err d) → ⊥
     apart x d f = cc f
 
-pub unfit-spelled : (layout n : ℕ) (bytes : List ℕ) (k : Counts) (states : List KeyState) (msgs : List Msg) → 2 ≤ layout → parts_at layout n bytes ≡ Ok (k, states, msgs)
-    → (AreFitting k states → ⊥)
+pub unfit-spelled : (layout n : ℕ) (bytes : List ℕ) (k : Counts) (states : List KeyState) (msgs : List Msg) (floors : List Key) → 2 ≤ layout
+    → parts_at layout n bytes ≡ Ok (k, states, msgs, floors) → (AreFitting k states floors → ⊥)
     → (s : Summary) → Spells layout n bytes s → ⊥
-unfit-spelled layout n bytes k states msgs newer e unfit s spells =
-    let same : ◌≡◌ {A = Parts} (counts_of s, fin.values s.keys, s.window) (k, states, msgs) = same_ok _ _ (sym (spelled-read layout n bytes s newer spells) ∙ e) in
-    unfit (subst (λ (p : Parts). AreFitting p.0 p.1) same (sound-fits n s spells.sound))
+unfit-spelled layout n bytes k states msgs floors newer e unfit s spells =
+    let same : ◌≡◌ {A = Parts} (counts_of s, fin.values s.keys, s.window, floor_keys s.floors) (k, states, msgs, floors) = same_ok _ _ (sym (spelled-read layout n bytes s newer spells) ∙ e) in
+    unfit (subst (λ (p : Parts). AreFitting p.0 p.1 p.3) same (sound-fits n s spells.sound))
 
 one-read : (layout n : ℕ) (bytes : List ℕ) (s t : Summary) → 2 ≤ layout → Spells layout n bytes s → Spells layout n bytes t → s ≡ t
-one-read layout n bytes s t newer a b = λ i. record { inputs = (same i).0.inputs; taken = (same i).0.taken; credit = (same i).0.credit; sent = (same i).0.sent; stands = (same i).0.stands; keys = keys i; window = (same i).2 }
+one-read layout n bytes s t newer a b = λ i. record {
+  inputs = (same i).0.inputs;
+  taken = (same i).0.taken;
+  credit = (same i).0.credit;
+  sent = (same i).0.sent;
+  stands = (same i).0.stands;
+  keys = keys i;
+  window = (same i).2;
+  floors = floors i;
+}
   where
-    same : ◌≡◌ {A = Parts} (counts_of s, fin.values s.keys, s.window) (counts_of t, fin.values t.keys, t.window)
+    same : ◌≡◌ {A = Parts} (counts_of s, fin.values s.keys, s.window, floor_keys s.floors) (counts_of t, fin.values t.keys, t.window, floor_keys t.floors)
     same = same_ok _ _ (sym (spelled-read layout n bytes s newer a) ∙ spelled-read layout n bytes t newer b)
 
     keys : s.keys ≡ t.keys
     keys = fin.same_entries_map s.keys t.keys
         (sym (entries-own (fin.entries s.keys) (own-entries n s a.sound)) ∙ (ap (λ (p : Parts). list_map under_key p.1) same ∙ entries-own (fin.entries t.keys) (own-entries n t b.sound)))
+
+    floors : s.floors ≡ t.floors
+    floors = sym (floored-keys s.floors) ∙ (ap (λ (p : Parts). floored p.3) same ∙ floored-keys t.floors)
 
 -- bytes spell one summary at most
 pub one-spelled : (layout n : ℕ) (bytes : List ℕ) (s t : Summary) → Spells layout n bytes s → Spells layout n bytes t → s ≡ t
@@ -306,10 +372,13 @@ broken-spelled layout n bytes e (Err fault) newer is broken = elim broken [ inl 
 -- in layout 1 no bytes spell the summary of no inputs
 pub plain-spelled : (layout n : ℕ) (bytes : List ℕ) → layout ≤ 1 → length bytes ≡ 0 → Spells layout n bytes empty
 plain-spelled layout n (b ∷ bytes) old none = absurd cc
-plain-spelled layout n [] old none = record { is = sym (snapshot-plain layout empty old); sound = sound-empty n; few_keys = few; plain = λ e. refl }
+plain-spelled layout n [] old none = record { is = sym (snapshot-plain layout empty old); sound = sound-empty n; few_keys = few; few_floors = few_floors; none = λ e. refl; plain = λ e. refl }
   where
     few : fin.len empty.keys < 2 ^ 32
     few = omega (arith, fin.len-empty key_cmp KeyState)
+
+    few_floors : fin.len empty.floors < 2 ^ 32
+    few_floors = omega (arith, fin.len-empty group_cmp ℕ)
 
 pub not-plain : (layout n : ℕ) (bytes : List ℕ) (s : Summary) → layout ≤ 1 → Spells layout n bytes s → 1 ≤ length bytes → ⊥
 not-plain layout n bytes s old spells some = omega (arith, ap (λ (l : List ℕ). length l) (spells.is ∙ snapshot-plain layout s old), some)

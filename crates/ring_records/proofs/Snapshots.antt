@@ -1,22 +1,25 @@
 -- How long a snapshot is.
-use Rattle.std.proofs.Common.{ℕ, ◌≡◌, ◌+◌, ◌<◌, ◌≤◌, Bool, true, false, leb, cond, ⊎_elim, ◌++◌, List, [], ◌∷◌, length, Option, Some, None, refl, sym, ap, ◌∙◌, arith}
+use Rattle.std.proofs.Common.{ℕ, ◌≡◌, ◌+◌, ◌<◌, ◌≤◌, Bool, true, false, ltb, cond, ⊎_elim, ◌++◌, List, [], ◌∷◌, length, Option, Some, None, refl, sym, ap, ◌∙◌, arith}
 use Rattle.std.specs.FinMap as fin
 use Rattle.std.specs.List.{flat_map, sum_by}
 use Rattle.std.specs.List.Sorted.{IsStrictlySortedBy}
 use Rattle.std.specs.Prelude.{is_some}
 use Rattle.std.specs.Int.{w32, to_be_bytes}
-use Rattle.std.proofs.lemmas.Bool.{cases_lt, le-leb, lt-leb}
+use Rattle.std.proofs.lemmas.Bool.{cases_lt, le-leb, lt-leb, le-ltb, lt-ltb}
 use Rattle.std.proofs.lemmas.List.{length-append}
 use Rattle.std.proofs.lemmas.List.Sums.{sum_by-cons}
 use Rattle.ring_records.specs.declared.candidate.Candidate.{Candidate}
+use Rattle.ring_records.specs.declared.key.Key.{Key}
 use Rattle.ring_records.specs.declared.key_state.KeyState.{KeyState}
 use Rattle.ring_records.specs.declared.msg.Msg.{Msg}
 use Rattle.ring_records.specs.declared.summary.Summary.{Summary}
 use Rattle.ring_records.specs.Message.{key_of, candidate_of}
 use Rattle.ring_records.specs.Record.{key_bytes, candidate_bytes}
-use Rattle.ring_records.specs.Admission.{snapshot_len, floors_len, state_len, msg_len}
+use Rattle.ring_records.specs.Admission.{snapshot_len, floors_len, state_len, msg_len, floor_len, has_floors}
 use Rattle.ring_records.specs.Snapshot.{bid_bytes, leader_bytes, state_bytes, msg_bytes, counts_bytes, keys_bytes, window_bytes, floors_bytes, snapshot_of}
+use Rattle.ring_records.specs.Floors.{floor_keys}
 use Rattle.ring_records.specs.Summary.{empty}
+use Rattle.ring_records.proofs.FloorsInOrder.{keys-floored, len-floors}
 use Rattle.ring_records.proofs.StatesInOrder.{values-keyed}
 use Rattle.ring_records.proofs.Records.{length-key_bytes, length-candidate_bytes}
 
@@ -61,24 +64,30 @@ snapshot-parts layout s newer = ap (λ (b : Bool). cond b [] (parts_of s ++ floo
 
 pub length-plain : (layout : ℕ) (s : Summary) → layout ≤ 1 → snapshot_len layout s ≡ 0
 unfolding snapshot_len
-length-plain layout s plain = ap (λ (b : Bool). cond b 0 (38 + (sum_by state_len (fin.values s.keys) + sum_by msg_len s.window) + floors_len layout)) (le-leb layout 1 plain)
+length-plain layout s plain = ap (λ (b : Bool). cond b 0 (38 + (sum_by state_len (fin.values s.keys) + sum_by msg_len s.window) + floors_len layout s)) (le-leb layout 1 plain)
 
-pub length-parts : (layout : ℕ) (s : Summary) → 2 ≤ layout → snapshot_len layout s ≡ 38 + (sum_by state_len (fin.values s.keys) + sum_by msg_len s.window) + floors_len layout
+pub length-parts : (layout : ℕ) (s : Summary) → 2 ≤ layout → snapshot_len layout s ≡ 38 + (sum_by state_len (fin.values s.keys) + sum_by msg_len s.window) + floors_len layout s
 unfolding snapshot_len
-length-parts layout s newer = ap (λ (b : Bool). cond b 0 (38 + (sum_by state_len (fin.values s.keys) + sum_by msg_len s.window) + floors_len layout)) (lt-leb layout 1 newer)
+length-parts layout s newer = ap (λ (b : Bool). cond b 0 (38 + (sum_by state_len (fin.values s.keys) + sum_by msg_len s.window) + floors_len layout s)) (lt-leb layout 1 newer)
 
--- behind the window stands nothing in layout 2, and then the number 0
-pub floors-none : (layout : ℕ) (s : Summary) → layout ≤ 2 → floors_bytes layout s ≡ []
-floors-none layout s old = ap (λ (b : Bool). cond b [] (to_be_bytes w32 0)) (le-leb layout 2 old)
+-- what stands behind the window, where these are the floors: nothing up to layout 2
+abbrev pub end_of : ℕ → List Key → List ℕ
+end_of layout floors = cond (has_floors layout) (to_be_bytes w32 (length floors) ++ flat_map key_bytes floors) []
 
-pub floors-zero : (layout : ℕ) (s : Summary) → 2 < layout → floors_bytes layout s ≡ to_be_bytes w32 0
-floors-zero layout s new = ap (λ (b : Bool). cond b [] (to_be_bytes w32 0)) (lt-leb layout 2 new)
+pub floors-end : (layout : ℕ) (s : Summary) → floors_bytes layout s ≡ end_of layout (floor_keys s.floors)
+floors-end layout s = ap (λ (n : ℕ). cond (has_floors layout) (to_be_bytes w32 n ++ flat_map key_bytes (floor_keys s.floors)) []) (sym (len-floors s.floors))
 
-pub length-floors : (layout : ℕ) (s : Summary) → length (floors_bytes layout s) ≡ floors_len layout
-length-floors layout s = go (leb layout 2)
+pub end-none : (layout : ℕ) (floors : List Key) → layout ≤ 2 → end_of layout floors ≡ []
+end-none layout floors old = ap (λ (b : Bool). cond b (to_be_bytes w32 (length floors) ++ flat_map key_bytes floors) []) (le-ltb 2 layout old)
+
+pub end-some : (layout : ℕ) (floors : List Key) → 2 < layout → end_of layout floors ≡ to_be_bytes w32 (length floors) ++ flat_map key_bytes floors
+end-some layout floors new = ap (λ (b : Bool). cond b (to_be_bytes w32 (length floors) ++ flat_map key_bytes floors) []) (lt-ltb 2 layout new)
+
+pub length-floors : (layout : ℕ) (s : Summary) → length (floors_bytes layout s) ≡ floors_len layout s
+length-floors layout s = go (ltb 2 layout)
   where
-    go : (b : Bool) → length (cond b [] (to_be_bytes w32 0)) ≡ cond b 0 4
-    go true = refl
+    go : (b : Bool) → length (cond b (to_be_bytes w32 (fin.len s.floors) ++ flat_map key_bytes (floor_keys s.floors)) []) ≡ cond b (4 + sum_by floor_len (floor_keys s.floors)) 0
+    go true = length-append (to_be_bytes w32 (fin.len s.floors)) (flat_map key_bytes (floor_keys s.floors)) ∙ ap (λ (n : ℕ). 4 + n) (length-flat key_bytes floor_len length-key_bytes (floor_keys s.floors))
     go false = refl
 
 pub length-snapshot : (layout : ℕ) (s : Summary) → length (snapshot_of layout s) ≡ snapshot_len layout s
@@ -92,6 +101,10 @@ length-snapshot layout s = ⊎_elim
     ap (λ (l : List ℕ). length l) (snapshot-parts layout s newer) ∙ omega (arith, length-append {A = ℕ}, counts, states, msgs, floors, sum)))
     (cases_lt layout 2)
 
-pub length-empty : (layout : ℕ) → 2 ≤ layout → snapshot_len layout empty ≡ 38 + floors_len layout
+floors-empty : (layout : ℕ) → floors_len layout empty ≡ cond (has_floors layout) 4 0
 unfolding IsStrictlySortedBy
-length-empty layout newer = length-parts layout empty newer ∙ ap (λ (ss : List KeyState). 38 + (sum_by state_len ss + 0) + floors_len layout) (values-keyed [] tt)
+floors-empty layout = ap (λ (fs : List Key). cond (has_floors layout) (4 + sum_by floor_len fs) 0) (keys-floored [] tt)
+
+pub length-empty : (layout : ℕ) → 2 ≤ layout → snapshot_len layout empty ≡ 38 + cond (has_floors layout) 4 0
+unfolding IsStrictlySortedBy
+length-empty layout newer = length-parts layout empty newer ∙ (λ i. 38 + (sum_by state_len (values-keyed [] tt i) + 0) + floors-empty layout i)

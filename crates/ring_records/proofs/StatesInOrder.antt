@@ -1,7 +1,7 @@
 -- The states that a map has are those of the list that makes it, where that is in order.
-use Rattle.std.proofs.Common.{cond, Some, Equal, Greater, ℕ, ◌+◌, ◌-◌, ◌<◌, ◌≤◌, arith, get_or, suc, length, ◌≡◌, Bool, true, false, ◌&&◌, List, [], ◌∷◌, map as list_map, Less, Ordering, refl, sym, ap, subst, ◌∙◌}
+use Rattle.std.proofs.Common.{cond, Some, ℕ, ◌+◌, ◌-◌, ◌<◌, ◌≤◌, arith, get_or, suc, length, ◌≡◌, Bool, true, false, List, [], ◌∷◌, map as list_map, Less, refl, sym, ap, subst, ◌∙◌}
 use Rattle.std.specs.FinMap as map
-use Rattle.std.specs.FinMap.{find, is_sorted}
+use Rattle.std.specs.FinMap.{is_sorted}
 use Rattle.std.specs.List.{AllByRecursion}
 use Rattle.std.specs.List.Sorted.{IsStrictlySortedBy}
 use Rattle.std.specs.Ordering.{is_lt}
@@ -15,25 +15,16 @@ use Rattle.ring_records.specs.declared.key_state.KeyState.{KeyState}
 use Rattle.ring_records.specs.KeyOrder.{key_cmp}
 use Rattle.ring_records.specs.KeyStates.{by_state, under_key, keyed}
 use Rattle.std.specs.Map.{lookup}
-use Rattle.std.specs.Ordering.{is_eq}
-use Rattle.std.proofs.lemmas.Cmp.{tied_itself}
 use Rattle.std.proofs.lemmas.Option.{same_Some}
 use Rattle.ring_records.specs.Order.{is_key}
 use Rattle.ring_records.proofs.Compare.{keys_total, keys_exact}
 use Rattle.ring_records.proofs.Keys.{is_key-true}
-use Rattle.ring_records.proofs.KeysPut.{first_of, second_of, unfound}
+use Rattle.ring_records.proofs.Entries.{both, first_of, second_of, is_less, less_is}
 use Rattle.ring_records.proofs.Lists.{none≢some}
-
-both : (a b : Bool) → T a → T b → T (a && b)
-both true b p q = q
-both false b p q = absurd p
 
 below : (s : KeyState) (ss : List KeyState) → AllByRecursion (λ t. by_state s t ≡ Less) ss → T (map.Entries.below_all key_cmp s.key (list_map under_key ss))
 below s [] a = tt
-below s (t ∷ ss) a = both (is_lt (key_cmp s.key t.key)) _ (subst_lt (by_state s t) a.0) (below s ss a.1)
-  where
-    subst_lt : (o : Ordering) → o ≡ Less → T (is_lt o)
-    subst_lt o e = subst (λ p. T (is_lt p)) (sym e) tt
+below s (t ∷ ss) a = both (is_lt (key_cmp s.key t.key)) _ (is_less (by_state s t) a.0) (below s ss a.1)
 
 in_order : (ss : List KeyState) → IsStrictlySortedBy by_state ss → T (is_sorted key_cmp (list_map under_key ss))
 unfolding IsStrictlySortedBy
@@ -84,12 +75,7 @@ IsOwn e = e.1.key ≡ e.0
 
 below-own : (k : Key) (es : List (Key × KeyState)) → AllByRecursion IsOwn es → T (map.Entries.below_all key_cmp k es) → AllByRecursion (λ t. key_cmp k t.key ≡ Less) (list_map (λ e. e.1) es)
 below-own k [] own h = tt
-below-own k (e ∷ es) own h = (ap (key_cmp k) own.0 ∙ is_less_then (key_cmp k e.0) (first_of (is_lt (key_cmp k e.0)) _ h), below-own k es own.1 (second_of (is_lt (key_cmp k e.0)) _ h))
-  where
-    is_less_then : (o : Ordering) → T (is_lt o) → o ≡ Less
-    is_less_then Less p = refl
-    is_less_then Equal p = absurd p
-    is_less_then Greater p = absurd p
+below-own k (e ∷ es) own h = (ap (key_cmp k) own.0 ∙ less_is (key_cmp k e.0) (first_of (is_lt (key_cmp k e.0)) _ h), below-own k es own.1 (second_of (is_lt (key_cmp k e.0)) _ h))
 
 pub sorted-own : (es : List (Key × KeyState)) → AllByRecursion IsOwn es → T (is_sorted key_cmp es) → IsStrictlySortedBy by_state (list_map (λ e. e.1) es)
 unfolding IsStrictlySortedBy
@@ -102,20 +88,6 @@ sorted-own (e ∷ es) own h = (
 pub entries-own : (es : List (Key × KeyState)) → AllByRecursion IsOwn es → list_map under_key (list_map (λ e. e.1) es) ≡ es
 entries-own [] own = refl
 entries-own (e ∷ es) own = λ i. (own.0 i, e.1) ∷ entries-own es own.1 i
-
--- what holds of each state that is found holds of each entry
-pub each-entry : (P : Key → KeyState → Type 0) (es : List (Key × KeyState)) → T (is_sorted key_cmp es) → ((k : Key) (s : KeyState) → find key_cmp k es ≡ Some s → P k s)
-    → AllByRecursion (λ e. P e.0 e.1) es
-each-entry P [] h holds = tt
-each-entry P (e ∷ es) h holds = (
-  holds e.0 e.1 (ap (λ o. cond (is_eq o) (Some e.1) (find key_cmp e.0 es)) (tied_itself keys_total e.0)),
-  each-entry P es (second_of (map.Entries.below_all key_cmp e.0 es) _ h) (λ k s found. holds k s (later k s found (key_cmp k e.0) refl)),
-)
-  where
-    later : (k : Key) (s : KeyState) → find key_cmp k es ≡ Some s → (o : Ordering) → key_cmp k e.0 ≡ o → cond (is_eq o) (Some e.1) (find key_cmp k es) ≡ Some s
-    later k s found Less p = found
-    later k s found Equal p = absurd (none≢some s (sym (unfound e.0 es (first_of (map.Entries.below_all key_cmp e.0 es) _ h)) ∙ (ap (λ (j : Key). find key_cmp j es) (sym (keys_exact k e.0 p)) ∙ found)))
-    later k s found Greater p = found
 
 -- what holds of each state of a list holds of what is found in the map of the list
 pub each-found : (P : Key → KeyState → Type 0) (ss : List KeyState) → AllByRecursion (λ s. P s.key s) ss → (k : Key) (s : KeyState) → lookup (is_key k) (list_map under_key ss) ≡ Some s → P k s

@@ -8,7 +8,7 @@ use Rattle.ring_records.specs.declared.key_state.KeyState.{KeyState}
 use Rattle.ring_records.specs.declared.msg.Msg.{Msg}
 use Rattle.ring_records.specs.declared.msg.Msg.TheVariants.{Token, Elected}
 use Rattle.ring_records.specs.declared.summary.Summary.{Summary}
-use Rattle.ring_records.specs.KeyOrder.{key_cmp, coded_key}
+use Rattle.ring_records.specs.KeyOrder.{key_cmp, group_cmp, coded_key, coded_group}
 use Rattle.ring_records.specs.KeyStates.{coded_candidate, coded_state}
 
 abbrev split : Msg → Bool × (Key × Candidate)
@@ -27,8 +27,8 @@ abbrev pub coded_msg : Coded Msg
 coded_msg = code_by (Bool × (Key × Candidate)) (coded× coded_bool (coded× coded_key coded_candidate)) split join join-split
 
 abbrev pub coded_summary : Coded Summary
-coded_summary = code_by (((ℕ × ℕ) × (ℕ × ℕ)) × (ℕ × (map.FinMap key_cmp KeyState × List Msg)))
-    (coded× (coded× (coded× coded_ℕ coded_ℕ) (coded× coded_ℕ coded_ℕ)) (coded× coded_ℕ (coded× (map.code coded_key coded_state) (coded_list coded_msg))))
-    (λ s. (((s.inputs, s.taken), (s.credit, s.sent)), (s.stands, (s.keys, s.window))))
-    (λ p. record { inputs = p.0.0.0; taken = p.0.0.1; credit = p.0.1.0; sent = p.0.1.1; stands = p.1.0; keys = p.1.1.0; window = p.1.1.1 })
+coded_summary = code_by (((ℕ × ℕ) × (ℕ × ℕ)) × (ℕ × (map.FinMap key_cmp KeyState × (List Msg × map.FinMap group_cmp ℕ))))
+    (coded× (coded× (coded× coded_ℕ coded_ℕ) (coded× coded_ℕ coded_ℕ)) (coded× coded_ℕ (coded× (map.code coded_key coded_state) (coded× (coded_list coded_msg) (map.code coded_group coded_ℕ)))))
+    (λ s. (((s.inputs, s.taken), (s.credit, s.sent)), (s.stands, (s.keys, (s.window, s.floors)))))
+    (λ p. record { inputs = p.0.0.0; taken = p.0.0.1; credit = p.0.1.0; sent = p.0.1.1; stands = p.1.0; keys = p.1.1.0; window = p.1.1.1.0; floors = p.1.1.1.1 })
     (λ _. refl)

@@ -2,7 +2,7 @@
 use Rattle.std.specs.Prelude.{ℕ, ◌≡◌, ◌==◌, ◌≤◌, if◌then◌else◌, List, [], length, Option, Some, None, slice_get}
 use Rattle.std.specs.List.{filter_map}
 use Rattle.ring_records.specs.declared.input.Input.{Input}
-use Rattle.ring_records.specs.declared.input.Input.TheVariants.{Stand, Take, Acked}
+use Rattle.ring_records.specs.declared.input.Input.TheVariants.{Stand, Take, Acked, Retire}
 use Rattle.ring_records.specs.Admission.{IsAllowed}
 use Rattle.ring_records.specs.Emission.{sent}
 use Rattle.ring_records.specs.History.{taken}
@@ -21,6 +21,7 @@ unfoldable pub IsCarried : ℕ → List (ℕ × Input) → ℕ → Input → Typ
 IsCarried n run i (Stand key bid) = Unit {0}
 IsCarried n run i (Take msg_no msg) = slice_get (sent (before n i) (part run (before n i))) msg_no ≡ Some msg
 IsCarried n run i (Acked upto) = upto ≤ length (taken (part run (after n i)))
+IsCarried n run i (Retire group floor) = Unit {0}
 
 -- the step, an input at a node, may come after the run
 pub record MayFollow (n : ℕ) (run : List (ℕ × Input)) (step : ℕ × Input) : Type 0 where

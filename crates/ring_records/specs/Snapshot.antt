@@ -9,6 +9,8 @@ use Rattle.ring_records.specs.declared.key_state.KeyState.{KeyState}
 use Rattle.ring_records.specs.declared.msg.Msg.{Msg}
 use Rattle.ring_records.specs.declared.summary.Summary.{Summary}
 pub use Rattle.ring_records.specs.Admission.{snapshot_len}
+use Rattle.ring_records.specs.Admission.{has_floors}
+use Rattle.ring_records.specs.Floors.{floor_keys, IsLive}
 use Rattle.ring_records.specs.Message.{key_of, candidate_of}
 use Rattle.ring_records.specs.Record.{key_bytes, candidate_bytes, take_kind, IsKeyInRange, IsCandidateInRange}
 use Rattle.ring_records.specs.Summary.{empty}
@@ -49,9 +51,9 @@ keys_bytes s = flat_map state_bytes (fin.values s.keys)
 abbrev pub window_bytes : Summary → List ℕ
 window_bytes s = flat_map msg_bytes s.window
 
--- how many groups have a floor, from layout 3 on: none yet
+-- from layout 3 on how many groups have a floor, and these, in order of group
 abbrev pub floors_bytes : ℕ → Summary → List ℕ
-floors_bytes layout s = if nat_le layout 2 then [] else to_be_bytes w32 0
+floors_bytes layout s = if has_floors layout then to_be_bytes w32 (fin.len s.floors) ++ flat_map key_bytes (floor_keys s.floors) else []
 
 -- the snapshot: none in layout 1, which has no area
 unfoldable pub snapshot_of : ℕ → Summary → List ℕ
@@ -79,7 +81,7 @@ pub record IsMessageOf (n : ℕ) (msg : Msg) : Type 0 where
 abbrev pub has_stood : KeyState → Bool
 has_stood s = is_some s.stood
 
--- The counts fit each other and what is known of the keys, and all that is named is of a ring of n.
+-- The counts fit each other and what is known of the keys, all that is named is of a ring of n, and no key is below a floor.
 pub record IsSound (n : ℕ) (s : Summary) : Type 0 where
   pub inputs : s.inputs ≤ 2 ^ 56
   pub acts : s.taken + s.stands ≤ s.inputs
@@ -90,10 +92,14 @@ pub record IsSound (n : ℕ) (s : Summary) : Type 0 where
   pub stands : s.stands ≡ count_by has_stood (fin.values s.keys)
   pub states : (key : Key) (state : KeyState) → fin.get s.keys key ≡ Some state → IsStateOf n key state
   pub messages : (msg : Msg) → Contains s.window msg → IsMessageOf n msg
+  pub floors : (group : List ℕ) (floor : ℕ) → fin.get s.floors group ≡ Some floor → IsKeyInRange (record { group = group; term = floor })
+  pub live : (key : Key) (state : KeyState) → fin.get s.keys key ≡ Some state → IsLive s.floors key
 
 -- the bytes are the snapshot of s in this layout, which a node of a ring of n may have
 pub record Spells (layout n : ℕ) (bytes : List ℕ) (s : Summary) : Type 0 where
   pub is : bytes ≡ snapshot_of layout s
   pub sound : IsSound n s
   pub few_keys : fin.len s.keys < 2 ^ 32
+  pub few_floors : fin.len s.floors < 2 ^ 32
+  pub none : layout ≤ 2 → s.floors ≡ fin.empty
   pub plain : layout ≤ 1 → s ≡ empty

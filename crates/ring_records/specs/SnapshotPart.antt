@@ -1,11 +1,15 @@
 -- A snapshot that is taken part after part: what was taken, and what stands at the front of the bytes behind it.
-use Rattle.std.specs.Prelude.{ℕ, true, false, ◌≡◌, ◌-◌, ◌*◌, ◌^◌, ◌<◌, ◌≤◌, ◌⊎◌, min, nat_lt, Bool, List, [], ◌∷◌, ◌++◌, length, take, Option, Some, None}
+use Rattle.std.specs.Prelude.{ℕ, true, false, ◌≡◌, ◌-◌, ◌*◌, ◌^◌, ◌<◌, ◌≤◌, ◌⊎◌, min, nat_lt, Bool, List, [], ◌∷◌, ◌++◌, length, take, Option, Some, None, vec_len, vec_capacity}
 use Rattle.std.specs.Int.{w16, w32, w64, to_be_bytes}
 use Rattle.std.specs.List.{flat_map, AllByRecursion}
+use Rattle.ring_records.specs.declared.key.Key.{Key}
 use Rattle.ring_records.specs.declared.key_state.KeyState.{KeyState}
 use Rattle.ring_records.specs.declared.msg.Msg.{Msg}
 use Rattle.ring_records.specs.declared.snapshot_read.Counts.{Counts}
 use Rattle.ring_records.specs.declared.summary.Summary.{Summary}
+use Rattle.ring_records.specs.declared.summary_reader.Taken.{Taken}
+use Rattle.ring_records.specs.Admission.{has_floors}
+use Rattle.ring_records.specs.Record.{key_bytes, IsKeyInRange}
 use Rattle.ring_records.specs.Snapshot.{state_bytes, msg_bytes, IsStateOf, IsMessageOf, Spells}
 use Rattle.ring_records.specs.SnapshotRead.{AreFitting}
 
@@ -16,9 +20,9 @@ pub record SnapshotPart : Type 0 where
   pub taken : List ℕ
   pub room : ℕ
 
--- For so many bytes there is room: a state takes 6 of them at least, and a message 11.
-abbrev pub room_for : ℕ → ℕ → ℕ → ℕ → ℕ
-room_for states states_cap messages messages_cap = min (6 * (states_cap - states)) (11 * (messages_cap - messages))
+-- For so many bytes there is room: a state takes 6 of them at least, a message 11, and a floor 5.
+abbrev pub room_for : ℕ → ℕ → ℕ → ℕ → ℕ → ℕ → ℕ
+room_for states states_cap messages messages_cap floors floors_cap = min (6 * (states_cap - states)) (min (11 * (messages_cap - messages)) (5 * (floors_cap - floors)))
 
 -- The bytes are 38 or more, or all that there are, and a snapshot that begins with those taken does not go on with them.
 -- None is asked whether it ends there.
@@ -33,11 +37,27 @@ number_bytes k = to_be_bytes w64 k.inputs ++ to_be_bytes w64 k.taken ++ to_be_by
 abbrev pub parts_bytes : Counts → List KeyState → List Msg → List ℕ
 parts_bytes k states messages = number_bytes k ++ (flat_map state_bytes states ++ flat_map msg_bytes messages)
 
--- behind the messages the number of floors, once it was taken: 0
-abbrev pub taken_of : Option Counts → List KeyState → List Msg → Bool → List ℕ
-taken_of None states messages ended = []
-taken_of (Some k) states messages false = parts_bytes k states messages
-taken_of (Some k) states messages true = parts_bytes k states messages ++ to_be_bytes w32 0
+-- behind the messages the number of floors, once it was taken, and these
+abbrev pub floors_taken : Option ℕ → List Key → List ℕ
+floors_taken None floors = []
+floors_taken (Some count) floors = to_be_bytes w32 count ++ flat_map key_bytes floors
+
+-- the parts that were taken: states, messages, the number of floors, and floors
+pub record Parts : Type 0 where
+  pub states : List KeyState
+  pub messages : List Msg
+  pub count : Option ℕ
+  pub floors : List Key
+
+abbrev pub shown : Taken → Parts
+shown t = record { states = t.states.items; messages = t.messages.items; count = t.count; floors = t.floors.items }
+
+abbrev pub room_of : Taken → ℕ
+room_of t = room_for (vec_len t.states) (vec_capacity t.states) (vec_len t.messages) (vec_capacity t.messages) (vec_len t.floors) (vec_capacity t.floors)
+
+abbrev pub taken_of : Option Counts → Parts → List ℕ
+taken_of None p = []
+taken_of (Some k) p = parts_bytes k p.states p.messages ++ floors_taken p.count p.floors
 
 -- counts as bytes may have them
 pub record AreCounts (k : Counts) : Type 0 where
@@ -52,20 +72,30 @@ pub record AreCounts (k : Counts) : Type 0 where
 abbrev pub IsOwnStateOf : ℕ → KeyState → Type 0
 IsOwnStateOf n s = IsStateOf n s.key s
 
+-- all states and messages are there
+abbrev pub IsWindowRead : Counts → Parts → Type 0
+IsWindowRead k p = (length p.states ≡ k.keys) × (length p.messages ≡ k.sent - k.credit)
+
+-- no floors before their number, and not more than it says
+abbrev pub HasFloors : ℕ → Counts → Parts → Option ℕ → Type 0
+HasFloors layout k p None = p.floors ≡ []
+HasFloors layout k p (Some count) = (2 < layout) × (count < 2 ^ 32) × (length p.floors ≤ count) × IsWindowRead k p
+
 -- not more than the counts say, messages behind all states alone, and the number of floors behind all of them
-pub record AreRead (layout n : ℕ) (k : Counts) (states : List KeyState) (messages : List Msg) (ended : Bool) : Type 0 where
+pub record AreRead (layout n : ℕ) (k : Counts) (p : Parts) : Type 0 where
   pub newer : 2 ≤ layout
   pub counts : AreCounts k
-  pub states_of : AllByRecursion (IsOwnStateOf n) states
-  pub messages_of : AllByRecursion (IsMessageOf n) messages
-  pub keys : length states ≤ k.keys
-  pub first : length states < k.keys → messages ≡ []
-  pub window : length messages ≤ k.sent - k.credit
-  pub end : ended ≡ true → (2 < layout) × (length states ≡ k.keys) × (length messages ≡ k.sent - k.credit)
+  pub states_of : AllByRecursion (IsOwnStateOf n) p.states
+  pub messages_of : AllByRecursion (IsMessageOf n) p.messages
+  pub floors_of : AllByRecursion IsKeyInRange p.floors
+  pub keys : length p.states ≤ k.keys
+  pub first : length p.states < k.keys → p.messages ≡ []
+  pub window : length p.messages ≤ k.sent - k.credit
+  pub end : HasFloors layout k p p.count
 
-abbrev pub IsReading : ℕ → ℕ → Option Counts → List KeyState → List Msg → Bool → Type 0
-IsReading layout n None states messages ended = (states ≡ []) × (messages ≡ []) × (ended ≡ false)
-IsReading layout n (Some k) states messages ended = AreRead layout n k states messages ended
+abbrev pub IsReading : ℕ → ℕ → Option Counts → Parts → Type 0
+IsReading layout n None p = p ≡ record { states = []; messages = []; count = None; floors = [] }
+IsReading layout n (Some k) p = AreRead layout n k p
 
 -- ---- what stands at the front of the bytes
 
@@ -100,25 +130,46 @@ pub record TakesMessage (n : ℕ) (old new : List Msg) (bytes : List ℕ) (size 
 abbrev pub NoMessage : ℕ → List ℕ → Type 0
 NoMessage n bytes = (msg : Msg) (rest : List ℕ) → IsMessageOf n msg → bytes ≡ msg_bytes msg ++ rest → ⊥
 
--- the number of floors, 0, which is known to be taken then
-abbrev pub TakesEnd : Bool → List ℕ → ℕ → Type 0
-TakesEnd ended_now bytes size = (size ≡ 4) × (4 ≤ length bytes) × (take 4 bytes ≡ to_be_bytes w32 0) × (ended_now ≡ true)
+-- the number of floors, which is known then
+pub record TakesEnd (now : Option ℕ) (bytes : List ℕ) (size : ℕ) : Type 0 where
+  pub count : ℕ
+  pub known : now ≡ Some count
+  pub below : count < 2 ^ 32
+  pub is : size ≡ 4
+  pub long : 4 ≤ length bytes
+  pub spelled : take 4 bytes ≡ to_be_bytes w32 count
 
 abbrev pub NoEnd : List ℕ → Type 0
-NoEnd bytes = (rest : List ℕ) → bytes ≡ to_be_bytes w32 0 ++ rest → ⊥
+NoEnd bytes = (count : ℕ) (rest : List ℕ) → count < 2 ^ 32 → bytes ≡ to_be_bytes w32 count ++ rest → ⊥
+
+pub record TakesFloor (old new : List Key) (bytes : List ℕ) (size : ℕ) : Type 0 where
+  pub floor : Key
+  pub added : new ≡ old ++ floor ∷ []
+  pub own : IsKeyInRange floor
+  pub long : size ≤ length bytes
+  pub some : 5 ≤ size
+  pub spelled : take size bytes ≡ key_bytes floor
+
+abbrev pub NoFloor : List ℕ → Type 0
+NoFloor bytes = (floor : Key) (rest : List ℕ) → IsKeyInRange floor → bytes ≡ key_bytes floor ++ rest → ⊥
 
 -- one part more was read, which these bytes begin with
-pub record TakesPart (layout n : ℕ) (k : Counts) (states states_now : List KeyState) (messages messages_now : List Msg) (ended ended_now : Bool) (bytes : List ℕ) (size : ℕ) : Type 0 where
-  pub read : AreRead layout n k states_now messages_now ended_now
-  pub taken : taken_of (Some k) states_now messages_now ended_now ≡ taken_of (Some k) states messages ended ++ take size bytes
+pub record TakesPart (layout n : ℕ) (k : Counts) (old now : Parts) (bytes : List ℕ) (size : ℕ) : Type 0 where
+  pub read : AreRead layout n k now
+  pub taken : taken_of (Some k) now ≡ taken_of (Some k) old ++ take size bytes
   pub some : 1 ≤ size
   pub long : size ≤ length bytes
 
 -- a snapshot that begins with these parts does not go on with the bytes
-abbrev pub NoPart : ℕ → ℕ → Counts → List KeyState → List Msg → Bool → List ℕ → Type 0
-NoPart layout n k states messages ended bytes = NoMore layout n (taken_of (Some k) states messages ended) bytes
+abbrev pub NoPart : ℕ → ℕ → Counts → Parts → List ℕ → Type 0
+NoPart layout n k p bytes = NoMore layout n (taken_of (Some k) p) bytes
+
+-- the number of floors is to follow, or a floor
+abbrev pub is_floor_left : ℕ → Option ℕ → List Key → Bool
+is_floor_left layout None floors = has_floors layout
+is_floor_left layout (Some count) floors = nat_lt (length floors) count
 
 -- these parts are a snapshot, or that of none
-abbrev pub IsSoundPart : Bool → ℕ → ℕ → Counts → List KeyState → List Msg → Bool → Type 0
-IsSoundPart true layout n k states messages ended = (length states ≡ k.keys) × (length messages ≡ k.sent - k.credit) × (ended ≡ nat_lt 2 layout) × AreFitting k states
-IsSoundPart false layout n k states messages ended = (s : Summary) → Spells layout n (taken_of (Some k) states messages ended) s → ⊥
+abbrev pub IsSoundPart : Bool → ℕ → ℕ → Counts → Parts → Type 0
+IsSoundPart true layout n k p = IsWindowRead k p × (is_floor_left layout p.count p.floors ≡ false) × AreFitting k p.states p.floors
+IsSoundPart false layout n k p = (s : Summary) → Spells layout n (taken_of (Some k) p) s → ⊥

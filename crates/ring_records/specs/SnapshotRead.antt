@@ -1,7 +1,8 @@
 -- What reading finds in the bytes of a snapshot, from left to right.
-use Rattle.std.specs.Prelude.{ℕ, zero, suc, ◌≡◌, ◌+◌, ◌-◌, ◌==◌, ◌^◌, ◌≤◌, ◌⊎◌, nat_lt, nat_le, if◌then◌else◌, List, [], ◌∷◌, ◌++◌, Some, None, Result, Ok, Err}
+use Rattle.std.specs.Prelude.{ℕ, zero, suc, ◌≡◌, ◌+◌, ◌-◌, ◌==◌, ◌^◌, ◌≤◌, ◌⊎◌, nat_lt, if◌then◌else◌, List, [], ◌∷◌, ◌++◌, Some, None, Result, Ok, Err}
 use Rattle.std.specs.Int.{w16, w32, w64}
-use Rattle.std.specs.List.{count_by}
+use Rattle.std.specs.FinMap as fin
+use Rattle.std.specs.List.{count_by, AllByRecursion}
 use Rattle.std.specs.List.Sorted.{IsStrictlySortedBy}
 use Rattle.ring_records.specs.declared.candidate.Candidate.{Candidate}
 use Rattle.ring_records.specs.declared.key.Key.{Key}
@@ -13,6 +14,9 @@ use Rattle.ring_records.specs.declared.record.RecordFault.TheVariants.{Kind, Num
 use Rattle.ring_records.specs.declared.refusal.Refusal.{Refusal}
 use Rattle.ring_records.specs.declared.refusal.Refusal.TheVariants as refused
 use Rattle.ring_records.specs.declared.snapshot_read.Counts.{Counts}
+use Rattle.ring_records.specs.Admission.{has_floors}
+use Rattle.ring_records.specs.Floors.{by_group, floored, IsLive}
+use Rattle.ring_records.specs.KeyOrder.{group_cmp}
 use Rattle.ring_records.specs.KeyStates.{by_state}
 use Rattle.ring_records.specs.Record.{◌>>=◌, byte_at, number_at, key_at, bid_at, candidate_at}
 use Rattle.ring_records.specs.Snapshot.{has_stood}
@@ -101,33 +105,39 @@ abbrev pub at_end : {A : Type 0} → A → List ℕ → Result A RecordFault
 at_end x [] = Ok x
 at_end x (b ∷ rest) = Err Number
 
--- behind the number of floors, which is 0
-unfoldable pub no_floor_at : List ℕ → Result (List ℕ) RecordFault
-no_floor_at bytes = do
+-- floors behind their number
+unfoldable pub some_floors_at : List ℕ → Result (List Key × List ℕ) RecordFault
+some_floors_at bytes = do
   count ← number_at w32 bytes
-  if count.0 == 0 then Ok count.1 else Err Number
+  items_at key_at count.0 count.1
 
--- behind the floors, which stand there from layout 3 on
-unfoldable pub floors_at : ℕ → List ℕ → Result (List ℕ) RecordFault
-floors_at layout bytes = if nat_le layout 2 then Ok bytes else no_floor_at bytes
+-- the floors, which stand there from layout 3 on
+unfoldable pub floors_at : ℕ → List ℕ → Result (List Key × List ℕ) RecordFault
+floors_at layout bytes = if has_floors layout then some_floors_at bytes else Ok ([], bytes)
 
 -- the parts of a snapshot of a layout that has some
-unfoldable pub parts_at : ℕ → ℕ → List ℕ → Result (Counts × List KeyState × List Msg) RecordFault
+unfoldable pub parts_at : ℕ → ℕ → List ℕ → Result (Counts × List KeyState × List Msg × List Key) RecordFault
 parts_at layout n bytes = do
   counts ← counts_at bytes
   size ← window_size counts.0
   states ← items_at (state_at n) counts.0.keys counts.1
   msgs ← items_at (msg_at n) size states.1
-  rest ← floors_at layout msgs.1
-  at_end (counts.0, states.0, msgs.0) rest
+  floors ← floors_at layout msgs.1
+  at_end (counts.0, states.0, msgs.0, floors.0) floors.1
 
--- the counts fit each other and the states, which are in order of key
-pub record AreFitting (k : Counts) (states : List KeyState) : Type 0 where
+-- the key of the state is not below its floor
+abbrev pub IsLiveState : fin.FinMap group_cmp ℕ → KeyState → Type 0
+IsLiveState floors s = IsLive floors s.key
+
+-- the counts fit each other and the states, which are in order of key, and not below the floors, in order of group
+pub record AreFitting (k : Counts) (states : List KeyState) (floors : List Key) : Type 0 where
   pub inputs : k.inputs ≤ 2 ^ 56
   pub acts : k.taken + k.stands ≤ k.inputs
   pub sent : k.sent ≤ k.inputs
   pub stands : k.stands ≡ count_by has_stood states
   pub rising : IsStrictlySortedBy by_state states
+  pub floors_rise : IsStrictlySortedBy by_group floors
+  pub live : AllByRecursion (IsLiveState (floored floors)) states
 
 -- refused as 16 where nothing is found, and else for want of memory alone
 abbrev pub IsBroken : {A : Type 0} → Refusal → Result A RecordFault → Type 0

@@ -19,7 +19,7 @@ pub struct Base {
 }
 
 impl Base {
-    /// That of a new node: the snapshot of its first area, of 38 bytes, stands for no input.
+    /// That of a new node: the snapshot of its first area, of 42 bytes, stands for no input.
     pub const fn fresh() -> Base
         ensures { result ≡ admission.fresh }
     {
@@ -27,7 +27,7 @@ impl Base {
             layout: LAYOUT,
             epoch: 1,
             inputs: 0,
-            bytes: 38,
+            bytes: 42,
         }
     }
 }

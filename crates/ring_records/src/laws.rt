@@ -1,5 +1,5 @@
 //! Laws of the definitions: public functions with an empty body, whose contracts say what follows from `specs/` alone.
-ghost use Rattle.std.specs.Prelude.{◌≡◌, ◌↔◌, ◌⊎◌, ◌<◌, ◌≤◌, ◌+◌, ◌||◌, ◌&&◌, nat_lt, nat_le, ℕ, Bool, Option, true, false, if◌then◌else◌, List, [], ◌∷◌, ◌++◌, Some, None, slice_get, unwrap_or, length, Ok};
+ghost use Rattle.std.specs.Prelude.{◌≡◌, ◌↔◌, ◌⊎◌, ◌<◌, ◌≤◌, ◌+◌, ◌||◌, ◌&&◌, nat_lt, nat_le, ℕ, Bool, Option, true, false, if◌then◌else◌, List, [], ◌∷◌, ◌++◌, Some, None, slice_get, unwrap_or, length, Ok, codes};
 ghost use Rattle.std.specs.FinMap as map;
 ghost use Rattle.std.specs.List.{cons_option, count_by, Contains};
 ghost use Rattle.ring_records.specs.declared.base.Base.{Base};
@@ -9,14 +9,15 @@ ghost use Rattle.ring_records.specs.declared.input.Input.{Input};
 ghost use Rattle.ring_records.specs.declared.key.Key.{Key};
 ghost use Rattle.ring_records.specs.declared.msg.Msg.{Msg};
 ghost use Rattle.ring_records.specs.declared.summary.Summary.{Summary};
-ghost use Rattle.ring_records.specs.Admission.{fresh, used, cost, snapshot_len, floors_len, IsAllowed, IsAdmitted, IsBaseOf, IsLawful, objection, refusal};
+ghost use Rattle.ring_records.specs.Admission.{fresh, used, cost, snapshot_len, has_floors, IsAllowed, IsAdmitted, IsBaseOf, IsLawful, objection, refusal};
 ghost use Rattle.ring_records.specs.declared.notice.Notice.{Notice};
 ghost use Rattle.ring_records.specs.declared.packet.Packet.{Packet};
 ghost use Rattle.ring_records.specs.declared.refusal.Refusal.{Refusal};
+ghost use Rattle.ring_records.specs.declared.reply.Reply.{Reply};
 ghost use Rattle.ring_records.specs.declared.request.Request.{Request};
-ghost use Rattle.ring_records.specs.Answer.{Answer, Answers, PacketRests};
+ghost use Rattle.ring_records.specs.Answer.{Answer, Answers, PacketRests, reply};
 ghost use Rattle.ring_records.specs.Emission.{emit, sent, carry};
-ghost use Rattle.ring_records.specs.History.{names, is_named, touched, bid_for, first_stand, stood, message_of, taken, upto_of, credit, is_stand, stands};
+ghost use Rattle.ring_records.specs.History.{floor_for, floor, names, is_named, touched, bid_for, first_stand, stood, message_of, taken, upto_of, credit, is_live_stand, stands};
 ghost use Rattle.ring_records.specs.Leader.{makes_leader, first_leader, leader, latest, IsLatest, term_of, decided};
 ghost use Rattle.ring_records.specs.Known.{sends, stepped, after, Objects};
 ghost use Rattle.ring_records.specs.Lists.{or_else, EachAfter};
@@ -24,21 +25,23 @@ ghost use Rattle.ring_records.specs.Member.{Member};
 ghost use Rattle.ring_records.specs.Notices.{decided_all, named_by, floor_in, leader_in, leads_in, IsNotBelow};
 ghost use Rattle.ring_records.specs.Record.{AreBytes, HasRecord, BeginsWith, record_of, record_read};
 ghost use Rattle.ring_records.specs.Release as release;
-ghost use Rattle.ring_records.specs.Release.{packets, decisions, window, AreLeaders};
+ghost use Rattle.ring_records.specs.Release.{packets, decisions, live_decisions, window, AreLeaders};
 ghost use Rattle.ring_records.specs.Ring.{IsLegal, part};
 ghost use Rattle.ring_records.specs.Snapshot.{snapshot_of, IsSound, Spells, has_stood};
 ghost use Rattle.ring_records.specs.States.{NodeState, IsLawfulState, is_idle, opened, asked, launched, launched_all, landed, left_by};
 ghost use Rattle.ring_records.specs.Summary.{key_states, summary, empty};
+ghost use Rattle.ring_records.specs.WorkedRetire.{red, alone, retired_relay};
 ghost use Rattle.ring_records.specs.WorkedRun.{red_5, winner, first_election};
 
 /// What one more input at the end changes: each look-back of the longer history is that of the shorter one, joined
-/// with what the new input says.
+/// with what the new input says. What is touched, stood for and led stands on these and on the floors.
 pub fn one_more_input()
+    ensures floor { (h : List Input) (x : Input) (group : List ℕ) → floor (h ++ x ∷ []) group ≡ unwrap_or (floor_for group x) (floor h group) }
     ensures is_named { (h : List Input) (x : Input) (key : Key) → is_named (h ++ x ∷ []) key ≡ (is_named h key || names key x) }
     ensures first_stand { (h : List Input) (x : Input) (key : Key) → first_stand (h ++ x ∷ []) key ≡ or_else (first_stand h key) (bid_for key x) }
     ensures taken { (h : List Input) (x : Input) → taken (h ++ x ∷ []) ≡ taken h ++ cons_option (message_of x) [] }
     ensures credit { (h : List Input) (x : Input) → credit (h ++ x ∷ []) ≡ unwrap_or (upto_of x) (credit h) }
-    ensures stands { (h : List Input) (x : Input) → stands (h ++ x ∷ []) ≡ stands h + (if is_stand x then 1 else 0) }
+    ensures stands { (h : List Input) (x : Input) → ((group : List ℕ) → floor_for group x ≡ None) → stands (h ++ x ∷ []) ≡ stands h + (if is_live_stand h x then 1 else 0) }
     ensures first_leader { (me : ℕ) (h : List Input) (x : Input) (key : Key) → first_leader me (h ++ x ∷ []) key ≡ or_else (first_leader me h key) (makes_leader me key h x) }
     ensures sent { (me : ℕ) (h : List Input) (x : Input) → sent me (h ++ x ∷ []) ≡ sent me h ++ cons_option (emit me h x) [] }
     ensures used { (base : Base) (h : List Input) (x : Input) → base.inputs ≤ length h → used base (h ++ x ∷ []) ≡ used base h + cost x }
@@ -53,16 +56,24 @@ pub fn firsts_stay()
     ensures taken { (h rest : List Input) → taken (h ++ rest) ≡ taken h ++ taken rest }
 {}
 
-/// An input that does not name a key changes nothing there. What a node sends for an input is the same before and
-/// after one that names no key of it.
-pub fn keys_apart()
-    ensures touched { (h : List Input) (x : Input) (key : Key) → names key x ≡ false → touched (h ++ x ∷ []) key ≡ touched h key }
-    ensures stood { (h : List Input) (x : Input) (key : Key) → names key x ≡ false → stood (h ++ x ∷ []) key ≡ stood h key }
-    ensures leader { (me : ℕ) (h : List Input) (x : Input) (key : Key) → names key x ≡ false → leader me (h ++ x ∷ []) key ≡ leader me h key }
-    ensures emission { (me : ℕ) (h : List Input) (x y : Input) → ((key : Key) → names key y ≡ true → names key x ≡ false) → emit me (h ++ x ∷ []) y ≡ emit me h y }
+/// Where each input is allowed after those before it: no floor falls, so a retired key stays retired; a floor is at most
+/// the latest term of its group, so the latest leader is never retired and never goes down.
+pub fn floors_rise()
+    ensures rises { (me n : ℕ) (h : List Input) (x : Input) (group : List ℕ) → IsAllowed me n h x → floor h group ≤ floor (h ++ x ∷ []) group }
+    ensures at_most { (me n : ℕ) (h : List Input) (group : List ℕ) → EachAfter (IsAllowed me n) [] h → floor h group ≤ term_of (latest me h group) }
+    ensures never_down { (me n : ℕ) (h : List Input) (x : Input) (group : List ℕ) → IsAllowed me n h x → IsNotBelow (latest me h group) (latest me (h ++ x ∷ []) group) }
 {}
 
-/// Where each input is allowed after those before it, the Stands of a history are as many as its keys with a bid. The
+/// An input that neither names a key nor gives its group a floor changes nothing there. What a node sends for an input
+/// is the same before and after one that does neither for any key of it.
+pub fn keys_apart()
+    ensures touched { (h : List Input) (x : Input) (key : Key) → names key x ≡ false → floor_for key.group x ≡ None → touched (h ++ x ∷ []) key ≡ touched h key }
+    ensures stood { (h : List Input) (x : Input) (key : Key) → names key x ≡ false → floor_for key.group x ≡ None → stood (h ++ x ∷ []) key ≡ stood h key }
+    ensures leader { (me : ℕ) (h : List Input) (x : Input) (key : Key) → names key x ≡ false → floor_for key.group x ≡ None → leader me (h ++ x ∷ []) key ≡ leader me h key }
+    ensures emission { (me : ℕ) (h : List Input) (x y : Input) → ((key : Key) → names key y ≡ true → (names key x ≡ false) × (floor_for key.group x ≡ None)) → emit me (h ++ x ∷ []) y ≡ emit me h y }
+{}
+
+/// Where each input is allowed after those before it, the Stands that count are as many as the keys with a bid. The
 /// count that a summary carries, and the check of a snapshot's count, rest on this.
 pub fn stands_counted()
     ensures { (me n : ℕ) (h : List Input) → EachAfter (IsAllowed me n) [] h → stands h ≡ count_by has_stood (map.values (key_states me h)) }
@@ -78,17 +89,17 @@ pub fn latest_leads()
     ensures none { (me : ℕ) (h : List Input) (group : List ℕ) (term : ℕ) → latest me h group ≡ None → leader me h (record { group = group; term = term }) ≡ None }
 {}
 
-/// The decisions of a history tell its leaders, each of them and nothing else. In order of key there is one list of
-/// them.
+/// The decisions of a history for keys that are not retired tell its leaders, each of them and nothing else, where each
+/// input was allowed. In order of key there is one list of them.
 pub fn leaders_listed()
-    ensures decided { (me : ℕ) (h : List Input) (d : Decision) → (Contains (decisions me [] h) d ↔ (leader me h d.key ≡ Some d.leader)) }
+    ensures decided { (me n : ℕ) (h : List Input) (d : Decision) → EachAfter (IsAllowed me n) [] h → (Contains (live_decisions me h) d ↔ (leader me h d.key ≡ Some d.leader)) }
     ensures one { (me : ℕ) (h : List Input) (list other : List Decision) → AreLeaders me h list → AreLeaders me h other → list ≡ other }
 {}
 
 /// The content of a list of notices. A decision names the leader of its key, unless the key is retired or has one. A floor
 /// that is told counts exactly where it is above the floor of its group and at most the term of its latest leader. However
 /// the list goes on, a leader changes only where its key is retired, and the latest leader of a group never goes down. The
-/// decisions of a history, in order of key, name the leaders that it knows. What inputs tell is what they decide.
+/// leaders of a history, in order of key, are those that it knows.
 pub fn notices()
     ensures decided { (ns : List Notice) (d : Decision) (key : Key)
         → leader_in (ns ++ Notice.Decided d ∷ []) key ≡ (if nat_lt key.term (floor_in ns key.group) then None else or_else (leader_in ns key) (named_by key (Notice.Decided d))) }
@@ -98,7 +109,12 @@ pub fn notices()
     ensures never_down { (ns more : List Notice) (group : List ℕ) (a b : Option (ℕ × Candidate)) → IsLatest (leads_in ns group) a → IsLatest (leads_in (ns ++ more) group) b
         → IsNotBelow a b }
     ensures leaders { (me : ℕ) (h : List Input) (list : List Decision) (key : Key) → AreLeaders me h list → leader_in (decided_all list) key ≡ leader me h key }
-    ensures told { (me : ℕ) (h l : List Input) → release.notices me h l ≡ decided_all (decisions me h l) }
+{}
+
+/// The notices of a history in which each input was allowed say what it says: its leaders and its floors.
+pub fn notices_told()
+    ensures leaders { (me n : ℕ) (h : List Input) (key : Key) → EachAfter (IsAllowed me n) [] h → leader_in (release.notices me [] h) key ≡ leader me h key }
+    ensures floors { (me n : ℕ) (h : List Input) (group : List ℕ) → EachAfter (IsAllowed me n) [] h → floor_in (release.notices me [] h) group ≡ floor h group }
 {}
 
 /// An input is admitted exactly where no cause to refuse it is found, and the history alone allows it exactly where
@@ -139,6 +155,18 @@ pub fn worked_run()
     ensures node_3 { leader 3 (part first_election 3) red_5 ≡ Some winner }
 {}
 
+/// There is a legal run with a Retire: the token of a key that its node retired goes no further, and the node refuses to
+/// stand there and to lift the floor above what is decided.
+pub fn worked_retire()
+    ensures legal { IsLegal 2 retired_relay }
+    ensures sent { sent 1 (part retired_relay 1) ≡ Msg.Token (red 9) alone ∷ Msg.Elected (red 9) alone ∷ [] }
+    ensures stand { refusal 1 2 65536 fresh (part retired_relay 1) (Input.Stand (red 8) 5) ≡ Some (Refusal.Retired 9) }
+    ensures same { refusal 1 2 65536 fresh (part retired_relay 1) (Input.Retire (codes "red") 9) ≡ Some (Refusal.Retired 9) }
+    ensures above { refusal 1 2 65536 fresh (part retired_relay 1) (Input.Retire (codes "red") 10) ≡ Some Refusal.Undecided }
+    ensures who { reply 1 2 65536 fresh (part retired_relay 1) (Request.Who (red 4)) ≡ Reply.Refused (Refusal.Retired 9) }
+    ensures leads { reply 1 2 65536 fresh (part retired_relay 1) (Request.Who (red 9)) ≡ Reply.Leader (Some alone) }
+{}
+
 /// Records: what is spelled is read again, whatever follows it, and what is read stands there spelled. So no record
 /// begins with another one. An input costs its record's bytes and 7.
 pub fn records()
@@ -158,9 +186,9 @@ pub fn summary_suffices()
     ensures leads { (me : ℕ) (g h : List Input) → summary me g ≡ summary me h → (key : Key) → leader me g key ≡ leader me h key }
     ensures latest { (me : ℕ) (g h : List Input) → summary me g ≡ summary me h → (group : List ℕ) → latest me g group ≡ latest me h group }
     ensures window { (me : ℕ) (g h : List Input) → summary me g ≡ summary me h → window me g ≡ window me h }
-    ensures batch { (me n : ℕ) (g h l : List Input) → summary me g ≡ summary me h → EachAfter (IsAllowed me n) g l
+    ensures batch { (me n : ℕ) (g h l : List Input) → summary me g ≡ summary me h → EachAfter (IsAllowed me n) [] g → EachAfter (IsAllowed me n) [] h → EachAfter (IsAllowed me n) g l
         → (packets me g l ≡ packets me h l) × (decisions me g l ≡ decisions me h l) }
-    ensures stays { (me n : ℕ) (g h l : List Input) → summary me g ≡ summary me h → EachAfter (IsAllowed me n) g l
+    ensures stays { (me n : ℕ) (g h l : List Input) → summary me g ≡ summary me h → EachAfter (IsAllowed me n) [] g → EachAfter (IsAllowed me n) [] h → EachAfter (IsAllowed me n) g l
         → (summary me (g ++ l) ≡ summary me (h ++ l)) × EachAfter (IsAllowed me n) h l }
 {}
 
@@ -187,5 +215,5 @@ pub fn summary_sound()
 pub fn snapshots()
     ensures one { (layout n : ℕ) (bytes : List ℕ) (s t : Summary) → Spells layout n bytes s → Spells layout n bytes t → s ≡ t }
     ensures len { (layout : ℕ) (s : Summary) → length (snapshot_of layout s) ≡ snapshot_len layout s }
-    ensures none { (layout : ℕ) → 2 ≤ layout → snapshot_len layout empty ≡ 38 + floors_len layout }
+    ensures none { (layout : ℕ) → 2 ≤ layout → snapshot_len layout empty ≡ 38 + (if has_floors layout then 4 else 0) }
 {}

@@ -13,7 +13,7 @@ pub const LEAST_CAPACITY: u32 = 4_096;
 pub const GREATEST_CAPACITY: u32 = 1_048_576;
 
 /// The layout of the areas that a journal writes.
-pub const LAYOUT: u8 = 2;
+pub const LAYOUT: u8 = 3;
 
 /// The least layout of an area that a journal reads.
 pub const OLDEST_AREA: u8 = 2;
@@ -28,4 +28,4 @@ pub const STANDS: u32 = 1_024;
 pub const DOORS: u32 = 32;
 
 /// The greatest number of a refusal.
-pub const REFUSALS: u8 = 25;
+pub const REFUSALS: u8 = 27;

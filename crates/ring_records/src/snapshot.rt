@@ -1,8 +1,9 @@
 // The bytes of a summary in a journal, by layout.
 ghost use Rattle.std.specs.Prelude.{◌≡◌, ◌++◌, ◌+◌, ◌*◌, ◌<◌, ◌≤◌, ◌^◌, length, IfOk, OnOk};
 ghost use Rattle.std.specs.FinMap as map;
+ghost use Rattle.std.specs.Int.{w32, to_be_bytes};
 ghost use Rattle.std.specs.List.{flat_map, sum_by};
-ghost use Rattle.ring_records.specs.Admission.{state_len, msg_len, floors_len, snapshot_len};
+ghost use Rattle.ring_records.specs.Admission.{state_len, msg_len, floor_len, floors_len, has_floors, snapshot_len};
 ghost use Rattle.ring_records.specs.Record.{key_bytes, candidate_bytes};
 ghost use Rattle.ring_records.specs.declared.summary.Summary.{Summary};
 ghost use Rattle.ring_records.specs.Snapshot.{flags, counts_bytes, state_bytes, msg_bytes, floors_bytes, snapshot_of};
@@ -12,6 +13,7 @@ use std::alloc::{AllocError, Global};
 
 /// The length of its snapshot in this layout, in bytes, below 2^63 + 2^62.
 pub fn summary_len(summary: &Summary, layout: u8) -> u64
+    requires floors { map.len summary.now.floors < 2 ^ 32 }
     ensures value { result ≡ snapshot_len layout summary.now }
     ensures range { result < 2 ^ 63 + 2 ^ 62 }
 {
@@ -19,15 +21,45 @@ pub fn summary_len(summary: &Summary, layout: u8) -> u64
         return 0;
     }
     let states = states_len(summary.keys.as_slice());
-    38 + (states + messages_len(summary.window.as_slice())) + floors_len(layout)
+    38 + (states + messages_len(summary.window.as_slice())) + floors_len(summary, layout)
+}
+
+// Whether a snapshot of this layout tells floors.
+pub(crate) fn has_floors(layout: u8) -> bool
+    ensures { result ≡ has_floors layout }
+{
+    layout > 2
 }
 
 // The bytes behind the messages.
-fn floors_len(layout: u8) -> u64
-    ensures value { result ≡ floors_len layout }
-    ensures bound { result ≤ 4 }
+fn floors_len(summary: &Summary, layout: u8) -> u64
+    ensures value { result ≡ floors_len layout summary.now }
+    ensures bound { result ≤ 4 + 21 * map.len summary.now.floors }
 {
-    if layout > 2 { 4 } else { 0 }
+    if has_floors(layout) {
+        4 + keys_len(summary.floors.as_slice())
+    } else {
+        0
+    }
+}
+
+fn keys_len(floors: &[Key]) -> u64
+    ensures value { result ≡ sum_by floor_len floors.now }
+    ensures bound { result ≤ 21 * length floors.now }
+{
+    let mut len = 0;
+    for floor in floors {
+        len += floor_len(floor) as u64;
+    }
+    len
+}
+
+/// The bytes that a floor takes in a snapshot, 6 to 21.
+pub fn floor_len(floor: &Key) -> u32
+    ensures value { result ≡ floor_len floor.now }
+    ensures range { result ≤ 21 }
+{
+    5 + floor.group.as_bytes().len() as u32
 }
 
 fn states_len(states: &[KeyState]) -> u64
@@ -72,10 +104,12 @@ pub fn msg_len(msg: &Msg) -> u32
     11 + msg.key().group.as_bytes().len() as u32
 }
 
-/// The snapshot of the summary in this layout: the bytes by which it stands in a journal, none in layout 1. The error is
-/// that of the allocator.
+/// The snapshot of the summary in this layout: the bytes by which it stands in a journal, none in layout 1. Floors are told
+/// from layout 3 on. The error is that of the allocator.
 pub fn write_summary(alloc: Global, summary: &Summary, layout: u8) -> Result<Vec<u8>, AllocError>
     requires keys { map.len summary.now.keys < 2 ^ 32 }
+    requires floors { map.len summary.now.floors < 2 ^ 32 }
+    requires none { layout ≤ 2 → summary.now.floors ≡ map.empty }
     ensures value { IfOk result (λ bytes. bytes.items ≡ snapshot_of layout summary.now) }
     ensures len { IfOk result (λ bytes. length bytes.items ≡ snapshot_len layout summary.now) }
 {
@@ -86,16 +120,33 @@ pub fn write_summary(alloc: Global, summary: &Summary, layout: u8) -> Result<Vec
     put_counts(&mut out, summary, summary.keys.len() as u32)?;
     put_states(&mut out, summary.keys.as_slice())?;
     put_messages(&mut out, summary.window.as_slice())?;
-    put_floors(&mut out, layout)?;
+    put_floors(&mut out, summary, layout)?;
     Ok(out)
 }
 
-// The number of floors, where the layout has it.
-fn put_floors(out: &mut Vec<u8>, layout: u8) -> Result<(), AllocError>
-    ensures { OnOk result ((s : Summary) → out.new.items ≡ out.old.items ++ floors_bytes layout s) }
+// The floors behind their number, where the layout has some.
+fn put_floors(out: &mut Vec<u8>, summary: &Summary, layout: u8) -> Result<(), AllocError>
+    requires floors { map.len summary.now.floors < 2 ^ 32 }
+    ensures { OnOk result (out.new.items ≡ out.old.items ++ floors_bytes layout summary.now) }
 {
-    if layout > 2 {
-        out.extend_from_slice(&[0; 4])?;
+    if !has_floors(layout) {
+        return Ok(());
+    }
+    put_number(out, summary.floors.len() as u32)?;
+    put_keys(out, summary.floors.as_slice())
+}
+
+fn put_number(out: &mut Vec<u8>, number: u32) -> Result<(), AllocError>
+    ensures { OnOk result (out.new.items ≡ out.old.items ++ to_be_bytes w32 number) }
+{
+    out.extend_from_slice(&number.to_be_bytes())
+}
+
+fn put_keys(out: &mut Vec<u8>, floors: &[Key]) -> Result<(), AllocError>
+    ensures { OnOk result (out.new.items ≡ out.old.items ++ flat_map key_bytes floors.now) }
+{
+    for floor in floors {
+        put_key(out, floor)?;
     }
     Ok(())
 }

@@ -7,17 +7,18 @@ ghost use Rattle.std.specs.declared.cmp.Ordering.TheVariants.{Less};
 ghost use Rattle.ring_records.specs.declared.summary.Summary.{Summary};
 ghost use Rattle.ring_records.specs.declared.refusal.Refusal.TheVariants.{Damaged, OutOfMemory};
 ghost use Rattle.ring_records.specs.KeyStates.{by_state};
-ghost use Rattle.ring_records.specs.Record.{Finds, number_at};
+ghost use Rattle.ring_records.specs.Record.{Finds, number_at, key_at};
 ghost use Rattle.ring_records.specs.Snapshot.{Spells, has_stood};
 ghost use Rattle.ring_records.specs.SnapshotRead.{candidate_in, state_behind, state_at, named_at, token_of, elected_of, msg_behind, msg_at, items_at};
-ghost use Rattle.ring_records.specs.SnapshotRead.{counts_at, no_floor_at, floors_at, parts_at, AreFitting, IsBroken};
+ghost use Rattle.ring_records.specs.SnapshotRead.{counts_at, some_floors_at, floors_at, parts_at, IsBroken};
 
 use crate::record::{RecordFault, bid_of, byte_of, candidate_of, key_of, u32_of, u64_of};
+use crate::snapshot::has_floors;
+use crate::snapshot_fits::are_fitting;
 use crate::{
-    Bid, Candidate, Key, KeyState, KeyStates, Messages, Msg, OLDEST_AREA, Refusal, Summary,
+    Bid, Candidate, Floors, Key, KeyState, KeyStates, Messages, Msg, OLDEST_AREA, Refusal, Summary,
 };
 use std::alloc::{AllocError, Global};
-use std::cmp::Ordering;
 
 // What a snapshot begins with: the counts of its summary, and how many keys there are.
 #[derive(Clone, Copy)]
@@ -50,11 +51,11 @@ fn read_parts(alloc: Global, bytes: &[u8], n: u8, layout: u8) -> Result<Summary,
     ensures found { IfOk result (λ s. Spells layout n bytes.now s) }
     ensures broken { IfErr result (λ e. (e ≡ OutOfMemory) ⊎ ((e ≡ Damaged 0) × ((s : Summary) → ¬ (Spells layout n bytes.now s)))) }
 {
-    let (counts, states, messages) = match parts_of(alloc, bytes, n, layout) {
+    let (counts, states, messages, floors) = match parts_of(alloc, bytes, n, layout) {
         Ok(parts) => parts,
         Err(refusal) => return Err(refusal),
     };
-    if !are_fitting(&counts, &states) {
+    if !are_fitting(&counts, &states, &floors) {
         return Err(Refusal::Damaged(0));
     }
     Ok(Summary {
@@ -65,6 +66,7 @@ fn read_parts(alloc: Global, bytes: &[u8], n: u8, layout: u8) -> Result<Summary,
         stands: counts.stands,
         keys: KeyStates::from_sorted(states),
         window: Messages::from_vec(messages),
+        floors: Floors::from_sorted(floors),
     })
 }
 
@@ -74,8 +76,8 @@ fn parts_of(
     bytes: &[u8],
     n: u8,
     layout: u8,
-) -> Result<(Counts, Vec<KeyState>, Vec<Msg>), Refusal>
-    ensures found { IfOk result (λ x. parts_at layout n bytes.now ≡ Ok (x.0, x.1.items, x.2.items)) }
+) -> Result<(Counts, Vec<KeyState>, Vec<Msg>, Vec<Key>), Refusal>
+    ensures found { IfOk result (λ x. parts_at layout n bytes.now ≡ Ok (x.0, x.1.items, x.2.items, x.3.items)) }
     ensures broken { IfErr result (λ e. IsBroken e (parts_at layout n bytes.now)) }
 {
     let (counts, rest) = match counts_of(bytes) {
@@ -93,37 +95,14 @@ fn parts_of(
         Ok(x) => x,
         Err(refusal) => return Err(refusal),
     };
-    let rest = match behind_floors(layout, rest) {
-        Ok(rest) => rest,
-        Err(_) => return Err(Refusal::Damaged(0)),
+    let (floors, rest) = match floors_of(alloc, layout, rest) {
+        Ok(x) => x,
+        Err(refusal) => return Err(refusal),
     };
     match rest {
-        [] => Ok((counts, states, messages)),
+        [] => Ok((counts, states, messages, floors)),
         [..] => Err(Refusal::Damaged(0)),
     }
-}
-
-// The bytes behind the floors, of which there are none.
-#[tactic(auto, unfolding(crate::specs::SnapshotRead::floors_at))]
-fn behind_floors(layout: u8, bytes: &[u8]) -> Result<&[u8], RecordFault>
-    ensures { Finds (λ x. x.now) result (floors_at layout bytes.now) }
-{
-    if layout < 3 {
-        return Ok(bytes);
-    }
-    no_floor_of(bytes)
-}
-
-// The bytes behind the number of floors, which is 0.
-#[tactic(auto, unfolding(crate::specs::SnapshotRead::no_floor_at))]
-pub(crate) fn no_floor_of(bytes: &[u8]) -> Result<&[u8], RecordFault>
-    ensures { Finds (λ x. x.now) result (no_floor_at bytes.now) }
-{
-    let (count, rest) = u32_of(bytes)?;
-    if count != 0 {
-        return Err(RecordFault::Number);
-    }
-    Ok(rest)
 }
 
 #[tactic(auto, unfolding(crate::specs::SnapshotRead::counts_at))]
@@ -355,49 +334,49 @@ fn named_of(n: u8, bytes: &[u8]) -> Result<(Key, Candidate, &[u8]), RecordFault>
     }
 }
 
-// ---- what must fit
+// ---- floors
 
-pub(crate) fn are_fitting(counts: &Counts, states: &[KeyState]) -> bool
-    ensures { Decides result (AreFitting counts.now states.now) }
+// The floors, where the layout has some, and the bytes after them.
+#[tactic(auto, unfolding(crate::specs::SnapshotRead::floors_at))]
+fn floors_of(alloc: Global, layout: u8, bytes: &[u8]) -> Result<(Vec<Key>, &[u8]), Refusal>
+    ensures found { IfOk result (λ x. floors_at layout bytes.now ≡ Ok (x.0.items, x.1.now)) }
+    ensures broken { IfErr result (λ e. IsBroken e (floors_at layout bytes.now)) }
 {
-    let stands = u64::from(counts.stands);
-    counts.inputs <= 1 << 56
-        && counts.taken <= counts.inputs
-        && stands <= counts.inputs - counts.taken
-        && counts.sent <= counts.inputs
-        && stands == stood_count(states)
-        && are_rising(states)
+    if has_floors(layout) {
+        return some_floors_of(alloc, bytes);
+    }
+    Ok((Vec::new(alloc), bytes))
 }
 
-fn stood_count(states: &[KeyState]) -> u64
-    ensures value { result ≡ count_by has_stood states.now }
+#[tactic(auto, unfolding(crate::specs::SnapshotRead::some_floors_at))]
+fn some_floors_of(alloc: Global, bytes: &[u8]) -> Result<(Vec<Key>, &[u8]), Refusal>
+    ensures found { IfOk result (λ x. some_floors_at bytes.now ≡ Ok (x.0.items, x.1.now)) }
+    ensures broken { IfErr result (λ e. IsBroken e (some_floors_at bytes.now)) }
 {
-    let mut count = 0;
-    for state in states {
-        if state.stood.is_some() {
-            count += 1;
+    let (count, rest) = match u32_of(bytes) {
+        Ok(x) => x,
+        Err(_) => return Err(Refusal::Damaged(0)),
+    };
+    keys_of(alloc, count, rest)
+}
+
+// So many keys, and the bytes after them.
+fn keys_of(alloc: Global, count: u32, bytes: &[u8]) -> Result<(Vec<Key>, &[u8]), Refusal>
+    ensures found { IfOk result (λ x. items_at key_at count bytes.now ≡ Ok (x.0.items, x.1.now)) }
+    ensures broken { IfErr result (λ e. IsBroken e (items_at key_at count bytes.now)) }
+{
+    let mut keys = Vec::new(alloc);
+    let mut rest = bytes;
+    for i in 0..count {
+        let (key, after) = match key_of(rest) {
+            Ok(x) => x,
+            Err(_) => return Err(Refusal::Damaged(0)),
+        };
+        match keys.extend_from_slice(&[key]) {
+            Ok(()) => {}
+            Err(_) => return Err(Refusal::OutOfMemory),
         }
+        rest = after;
     }
-    count
-}
-
-fn are_rising(states: &[KeyState]) -> bool
-    ensures { Decides result (IsStrictlySortedBy by_state states.now) }
-{
-    for i in 1..states.len() {
-        if !is_before(&states[i - 1], &states[i]) {
-            return false;
-        }
-    }
-    true
-}
-
-fn is_before(state: &KeyState, other: &KeyState) -> bool
-    ensures { Decides result (by_state state.now other.now ≡ Less) }
-{
-    match state.key.cmp(&other.key) {
-        Ordering::Less => true,
-        Ordering::Equal => false,
-        Ordering::Greater => false,
-    }
+    Ok((keys, rest))
 }

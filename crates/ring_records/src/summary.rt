@@ -1,7 +1,7 @@
 // What stands in a journal in place of old inputs.
 ghost use Rattle.std.specs.Prelude.{◌≡◌, IfOk};
 
-use crate::{KeyStates, Msg};
+use crate::{Floors, KeyStates, Msg};
 use std::alloc::{AllocError, Global};
 use std::marker::Model;
 
@@ -62,6 +62,8 @@ pub struct Summary {
     pub keys: KeyStates,
     /// The messages that were sent and not credited, oldest first.
     pub window: Messages,
+    /// The floors of groups; no key is below one.
+    pub floors: Floors,
 }
 
 impl Summary {
@@ -79,6 +81,7 @@ impl Summary {
             stands: 0,
             keys: KeyStates::from_sorted(Vec::new(alloc)),
             window: Messages::from_vec(Vec::new(alloc)),
+            floors: Floors::from_sorted(Vec::new(alloc)),
         }
     }
 }

@@ -1,14 +1,28 @@
 // Reading the bytes of a summary part after part.
-ghost use Rattle.std.specs.Prelude.{◌≡◌, ◌+◌, ◌-◌, ◌*◌, ◌++◌, ◌∷◌, ◌⊎◌, ◌<◌, ◌≤◌, ◌^◌, ℕ, List, [], None, true, false, length, take, drop, vec_len, vec_capacity, MatchOption, IfOk, IfErr, OnOk};
+ghost use Rattle.std.specs.Prelude.{◌≡◌, ◌+◌, ◌-◌, ◌*◌, ◌++◌, ◌∷◌, ◌⊎◌, ◌<◌, ◌≤◌, ◌^◌, ℕ, List, [], Some, None, true, false, length, take, drop, vec_len, vec_capacity, MatchOption, IfOk, IfErr, OnOk};
 ghost use Rattle.ring_records.specs.declared.refusal.Refusal.TheVariants.{Damaged};
+ghost use Rattle.ring_records.specs.declared.snapshot_read.Counts as counts;
 ghost use Rattle.ring_records.specs.declared.summary.Summary.{Summary};
 ghost use Rattle.ring_records.specs.Snapshot.{Spells};
-ghost use Rattle.ring_records.specs.SnapshotPart.{room_for, AreRead, TakesCounts, NoCounts, TakesState, NoState, TakesMessage, NoMessage, TakesEnd, NoEnd, TakesPart, NoPart, IsSoundPart};
+ghost use Rattle.ring_records.specs.SnapshotPart.{room_of, shown, is_floor_left, AreRead, IsWindowRead, TakesCounts, NoCounts, TakesState, NoState, TakesMessage, NoMessage, TakesEnd, NoEnd, TakesFloor, NoFloor, TakesPart, NoPart, IsSoundPart};
 
-use crate::snapshot_read::{Counts, are_fitting, counts_of, msg_of, no_floor_of, state_of};
-use crate::{KeyState, KeyStates, Messages, Msg, OLDEST_AREA, Refusal, Summary};
+use crate::record::{key_of, u32_of};
+use crate::snapshot::has_floors;
+use crate::snapshot_fits::are_fitting;
+use crate::snapshot_read::{Counts, counts_of, msg_of, state_of};
+use crate::{Floors, Key, KeyState, KeyStates, Messages, Msg, OLDEST_AREA, Refusal, Summary};
 use std::alloc::{AllocError, Global};
 use std::marker::Model;
+
+// What was taken behind the counts.
+#[derive(Drop)]
+pub(crate) struct Taken {
+    pub(crate) states: Vec<KeyState>,
+    pub(crate) messages: Vec<Msg>,
+    // How many floors there are to be, once that was taken.
+    pub(crate) count: Option<u32>,
+    pub(crate) floors: Vec<Key>,
+}
 
 /// Reads a snapshot whose bytes come one after the other. It keeps what they say, and none of them.
 #[derive(Drop)]
@@ -16,26 +30,17 @@ pub struct SummaryReader {
     n: u8,
     layout: u8,
     counts: Option<Counts>,
-    states: Vec<KeyState>,
-    messages: Vec<Msg>,
-    /// Whether the number of floors was taken.
-    ended: bool,
+    parts: Taken,
 }
 
 impl Model for SummaryReader {
-    ghost use Rattle.std.specs.Prelude.{length, vec_len, vec_capacity};
-    ghost use Rattle.ring_records.specs.SnapshotPart.{SnapshotPart, taken_of, room_for, IsReading};
+    ghost use Rattle.ring_records.specs.SnapshotPart.{SnapshotPart, taken_of, room_of, shown, IsReading};
 
     ghost Value = { SnapshotPart };
 
-    ghost view = { λ r. record {
-      n = r.n;
-      layout = r.layout;
-      taken = taken_of r.counts r.states.items r.messages.items r.ended;
-      room = room_for (vec_len r.states) (vec_capacity r.states) (vec_len r.messages) (vec_capacity r.messages);
-    } };
+    ghost view = { λ r. record { n = r.n; layout = r.layout; taken = taken_of r.counts (shown r.parts); room = room_of r.parts } };
 
-    ghost invariant = { λ r. IsReading r.layout r.n r.counts r.states.items r.messages.items r.ended };
+    ghost invariant = { λ r. IsReading r.layout r.n r.counts (shown r.parts) };
 }
 
 impl SummaryReader {
@@ -51,9 +56,12 @@ impl SummaryReader {
             n,
             layout,
             counts: None,
-            states: Vec::new(alloc),
-            messages: Vec::new(alloc),
-            ended: false,
+            parts: Taken {
+                states: Vec::new(alloc),
+                messages: Vec::new(alloc),
+                count: None,
+                floors: Vec::new(alloc),
+            },
         }
     }
 
@@ -65,8 +73,9 @@ impl SummaryReader {
         ensures taken { self.new.taken ≡ self.old.taken }
         ensures room { OnOk result (bytes ≤ self.new.room) }
     {
-        self.states.reserve(bytes / 6 + 1)?;
-        self.messages.reserve(bytes / 11 + 1)
+        self.parts.states.reserve(bytes / 6 + 1)?;
+        self.parts.messages.reserve(bytes / 11 + 1)?;
+        self.parts.floors.reserve(bytes / 5 + 1)
     }
 
     /// Takes the next part of the snapshot from the front of these bytes: how many they are, 1 to 38. None where no part
@@ -87,15 +96,7 @@ impl SummaryReader {
                 }
                 None => None,
             },
-            Some(counts) => take_part(
-                self.n,
-                self.layout,
-                &counts,
-                &mut self.states,
-                &mut self.messages,
-                &mut self.ended,
-                bytes,
-            ),
+            Some(counts) => take_part(self.n, self.layout, &counts, &mut self.parts, bytes),
         }
     }
 
@@ -106,13 +107,7 @@ impl SummaryReader {
     {
         match &self.counts {
             None => self.layout < OLDEST_AREA,
-            Some(counts) => is_whole(
-                self.layout,
-                counts,
-                &self.states,
-                &self.messages,
-                self.ended,
-            ),
+            Some(counts) => is_whole(self.layout, counts, &self.parts),
         }
     }
 
@@ -132,18 +127,13 @@ impl SummaryReader {
                     credit: 0,
                     sent: 0,
                     stands: 0,
-                    keys: KeyStates::from_sorted(self.states),
-                    window: Messages::from_vec(self.messages),
+                    keys: KeyStates::from_sorted(self.parts.states),
+                    window: Messages::from_vec(self.parts.messages),
+                    floors: Floors::from_sorted(self.parts.floors),
                 })
             }
             Some(counts) => {
-                if !is_whole(
-                    self.layout,
-                    &counts,
-                    &self.states,
-                    &self.messages,
-                    self.ended,
-                ) {
+                if !is_whole(self.layout, &counts, &self.parts) {
                     return Err(Refusal::Damaged(0));
                 }
                 Ok(Summary {
@@ -152,8 +142,9 @@ impl SummaryReader {
                     credit: counts.credit,
                     sent: counts.sent,
                     stands: counts.stands,
-                    keys: KeyStates::from_sorted(self.states),
-                    window: Messages::from_vec(self.messages),
+                    keys: KeyStates::from_sorted(self.parts.states),
+                    window: Messages::from_vec(self.parts.messages),
+                    floors: Floors::from_sorted(self.parts.floors),
                 })
             }
         }
@@ -178,54 +169,77 @@ fn take_counts(layout: u8, bytes: &[u8]) -> Option<Counts>
     }
 }
 
-// Takes the next state or message behind these, or the number of floors.
-fn take_part(
-    n: u8,
-    layout: u8,
-    counts: &Counts,
-    states: &mut Vec<KeyState>,
-    messages: &mut Vec<Msg>,
-    ended: &mut bool,
-    bytes: &[u8],
-) -> Option<usize>
-    requires read { AreRead layout n counts.now states.old.items messages.old.items ended.old }
-    requires room { length bytes.now ≤ room_for (vec_len states.old) (vec_capacity states.old) (vec_len messages.old) (vec_capacity messages.old) }
-    ensures part { MatchOption result (NoPart layout n counts.now states.old.items messages.old.items ended.old bytes.now)
-        (λ size. TakesPart layout n counts.now states.old.items states.new.items messages.old.items messages.new.items ended.old ended.new bytes.now size) }
-    ensures states { result ≡ None → states.new ≡ states.old }
-    ensures messages { result ≡ None → messages.new ≡ messages.old }
-    ensures ended { result ≡ None → ended.new ≡ ended.old }
-    ensures room { MatchOption result (Unit {0}) (λ size. room_for (vec_len states.old) (vec_capacity states.old) (vec_len messages.old) (vec_capacity messages.old)
-        ≤ room_for (vec_len states.new) (vec_capacity states.new) (vec_len messages.new) (vec_capacity messages.new) + size) }
+// Takes the next state, message or floor behind these, or the number of floors.
+fn take_part(n: u8, layout: u8, counts: &Counts, parts: &mut Taken, bytes: &[u8]) -> Option<usize>
+    requires read { AreRead layout n counts.now (shown parts.old) }
+    requires room { length bytes.now ≤ room_of parts.old }
+    ensures part { MatchOption result (NoPart layout n counts.now (shown parts.old) bytes.now) (λ size. TakesPart layout n counts.now (shown parts.old) (shown parts.new) bytes.now size) }
+    ensures none { result ≡ None → parts.new ≡ parts.old }
+    ensures room { MatchOption result (Unit {0}) (λ size. room_of parts.old ≤ room_of parts.new + size) }
 {
-    if (states.len() as u64) < u64::from(counts.keys) {
-        take_state(n, states, bytes)
-    } else if (messages.len() as u64) < counts.sent - counts.credit {
-        take_message(n, messages, bytes)
-    } else if is_end_left(layout, *ended) {
-        take_end(ended, bytes)
+    if (parts.states.len() as u64) < u64::from(counts.keys) {
+        take_state(n, &mut parts.states, bytes)
+    } else if (parts.messages.len() as u64) < counts.sent - counts.credit {
+        take_message(n, &mut parts.messages, bytes)
     } else {
-        None
+        take_behind(layout, parts, bytes)
     }
 }
 
-// Whether the number of floors is to follow.
-fn is_end_left(layout: u8, ended: bool) -> bool
-    ensures yes { result ≡ true → (2 < layout) × (ended ≡ false) }
-    ensures no { result ≡ false → 2 < layout → ended ≡ true }
+// Takes the number of floors, or the next floor.
+fn take_behind(layout: u8, parts: &mut Taken, bytes: &[u8]) -> Option<usize>
+    requires room { length bytes.now ≤ room_of parts.old }
+    ensures part { (n : ℕ) (k : counts.Counts) → AreRead layout n k (shown parts.old) → IsWindowRead k (shown parts.old)
+        → MatchOption result (NoPart layout n k (shown parts.old) bytes.now) (λ size. TakesPart layout n k (shown parts.old) (shown parts.new) bytes.now size) }
+    ensures none { result ≡ None → parts.new ≡ parts.old }
+    ensures room { MatchOption result (Unit {0}) (λ size. room_of parts.old ≤ room_of parts.new + size) }
 {
-    layout > 2 && !ended
+    match parts.count {
+        None => {
+            if has_floors(layout) {
+                take_end(&mut parts.count, bytes)
+            } else {
+                None
+            }
+        }
+        Some(count) => {
+            if (parts.floors.len() as u64) < u64::from(count) {
+                take_floor(&mut parts.floors, bytes)
+            } else {
+                None
+            }
+        }
+    }
 }
 
-// Takes the number of floors, which is 0.
-fn take_end(ended: &mut bool, bytes: &[u8]) -> Option<usize>
-    ensures end { MatchOption result (NoEnd bytes.now) (λ size. TakesEnd ended.new bytes.now size) }
-    ensures none { result ≡ None → ended.new ≡ ended.old }
+// Takes the number of floors.
+fn take_end(count: &mut Option<u32>, bytes: &[u8]) -> Option<usize>
+    ensures end { MatchOption result (NoEnd bytes.now) (λ size. TakesEnd count.new bytes.now size) }
+    ensures none { result ≡ None → count.new ≡ count.old }
 {
-    match no_floor_of(bytes) {
-        Ok(_) => {
-            *ended = true;
+    match u32_of(bytes) {
+        Ok((number, _)) => {
+            *count = Some(number);
             Some(4)
+        }
+        Err(_) => None,
+    }
+}
+
+fn take_floor(floors: &mut Vec<Key>, bytes: &[u8]) -> Option<usize>
+    requires room { length bytes.now ≤ 5 * (vec_capacity floors.old - vec_len floors.old) }
+    ensures floor { MatchOption result (NoFloor bytes.now) (λ size. TakesFloor floors.old.items floors.new.items bytes.now size) }
+    ensures none { result ≡ None → floors.new ≡ floors.old }
+    ensures len { MatchOption result (Unit {0}) (λ size. vec_len floors.new ≡ vec_len floors.old + 1) }
+    ensures capacity { vec_capacity floors.new ≡ vec_capacity floors.old }
+{
+    match key_of(bytes) {
+        Ok((floor, rest)) => {
+            floors.push_reserved(Key {
+                group: floor.group,
+                term: floor.term,
+            });
+            Some(bytes.len() - rest.len())
         }
         Err(_) => None,
     }
@@ -268,18 +282,28 @@ fn take_message(n: u8, messages: &mut Vec<Msg>, bytes: &[u8]) -> Option<usize>
 }
 
 // Whether nothing is missing, and the counts fit what was read.
-fn is_whole(layout: u8, counts: &Counts, states: &[KeyState], messages: &[Msg], ended: bool) -> bool
+fn is_whole(layout: u8, counts: &Counts, parts: &Taken) -> bool
     requires credit { counts.now.credit ≤ counts.now.sent }
-    ensures { (n : ℕ) → AreRead layout n counts.now states.now messages.now ended → IsSoundPart result layout n counts.now states.now messages.now ended }
+    ensures { (n : ℕ) → AreRead layout n counts.now (shown parts.now) → IsSoundPart result layout n counts.now (shown parts.now) }
 {
-    if (states.len() as u64) < u64::from(counts.keys) {
+    if (parts.states.len() as u64) < u64::from(counts.keys) {
         return false;
     }
-    if (messages.len() as u64) < counts.sent - counts.credit {
+    if (parts.messages.len() as u64) < counts.sent - counts.credit {
         return false;
     }
-    if is_end_left(layout, ended) {
+    if is_floor_left(layout, parts) {
         return false;
     }
-    are_fitting(counts, states)
+    are_fitting(counts, &parts.states, &parts.floors)
+}
+
+// Whether the number of floors is to follow, or a floor.
+fn is_floor_left(layout: u8, parts: &Taken) -> bool
+    ensures { result ≡ is_floor_left layout parts.now.count parts.now.floors.items }
+{
+    match parts.count {
+        None => has_floors(layout),
+        Some(count) => (parts.floors.len() as u64) < u64::from(count),
+    }
 }

@@ -1,6 +1,6 @@
 // A request in plain numbers.
 use crate::{Note, key};
-use ring_records::{Bid, GroupName, Refusal, Request};
+use ring_records::{Bid, GroupName, Key, Refusal, Request};
 
 /// A request in plain numbers.
 #[derive(Clone, Copy)]
@@ -11,6 +11,8 @@ pub enum Ask {
     Take(u64, Note),
     /// How many messages the successor has taken.
     Acked(u64),
+    /// The group and the floor.
+    Retire(&'static str, u32),
     /// The group and the term.
     Who(&'static str, u32),
     /// The group.
@@ -31,6 +33,10 @@ impl Ask {
                 Ok(Request::Take(no, msg))
             }
             Ask::Acked(upto) => Ok(Request::Acked(upto)),
+            Ask::Retire(group, floor) => {
+                let Key { group, term } = key(group, floor)?;
+                Ok(Request::Retire(group, term))
+            }
             Ask::Who(group, term) => {
                 let key = key(group, term)?;
                 Ok(Request::Who(key))

@@ -18,6 +18,9 @@ pub enum Cause {
     Gap(u64),
     /// How many messages were sent.
     AckAhead(u64),
+    /// The floor of the group.
+    Retired(u32),
+    Undecided,
 }
 
 impl Cause {
@@ -33,6 +36,8 @@ impl Cause {
             Cause::Old(expected) => Refusal::Old(expected),
             Cause::Gap(expected) => Refusal::Gap(expected),
             Cause::AckAhead(sent) => Refusal::AckAhead(sent),
+            Cause::Retired(floor) => Refusal::Retired(Term::new(floor)?),
+            Cause::Undecided => Refusal::Undecided,
         };
         Ok(refusal)
     }

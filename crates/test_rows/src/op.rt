@@ -1,6 +1,6 @@
 // An input in plain numbers.
 use crate::{Note, key};
-use ring_records::{Bid, Input, Refusal};
+use ring_records::{Bid, Input, Key, Refusal};
 
 /// An input in plain numbers.
 #[derive(Clone, Copy)]
@@ -11,6 +11,8 @@ pub enum Op {
     Take(u64, Note),
     /// How many messages the successor has taken.
     Acked(u64),
+    /// The group and the floor.
+    Retire(&'static str, u32),
 }
 
 impl Op {
@@ -27,6 +29,10 @@ impl Op {
                 Ok(Input::Take { no, msg })
             }
             Op::Acked(upto) => Ok(Input::Acked { upto }),
+            Op::Retire(group, floor) => {
+                let Key { group, term } = key(group, floor)?;
+                Ok(Input::Retire { group, floor: term })
+            }
         }
     }
 }

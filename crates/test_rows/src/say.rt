@@ -8,6 +8,7 @@ pub enum Say {
     Stood,
     Taken,
     Acked,
+    Retired,
     /// No leader is known for the key.
     Nobody,
     /// The bid and the node of the leader.
@@ -26,6 +27,7 @@ impl Say {
             Say::Stood => Ok(Reply::Stood),
             Say::Taken => Ok(Reply::Taken),
             Say::Acked => Ok(Reply::Acked),
+            Say::Retired => Ok(Reply::Retired),
             Say::Nobody => Ok(Reply::Leader(None)),
             Say::Leader(bid, node) => {
                 let leader = candidate(bid, node)?;

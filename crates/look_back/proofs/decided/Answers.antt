@@ -9,3 +9,7 @@ returns-in-Stand c = sym (ap (decided c.args.me c.args.history.now) c.in-Stand.i
 pub returns-in-Acked : goal.returns-in-Acked
 unfolding decided
 returns-in-Acked c = sym (ap (decided c.args.me c.args.history.now) c.in-Acked.is)
+
+pub returns-in-Retire : goal.returns-in-Retire
+unfolding decided
+returns-in-Retire c = sym (ap (decided c.args.me c.args.history.now) c.in-Retire.is)

@@ -1,4 +1,4 @@
-use Rattle.std.proofs.Common.{rules, sym, arith}
+use Rattle.std.proofs.Common.{rules, sym, ◌∙◌}
 use Rattle.ring_records.proofs.Admission.{none_renews}
 use Rattle.ring_records.proofs.LookBack.{shortage-full, shortage-within, shortage-none}
 use Rattle.look_back.proofs.objections.shortage.Goals as goal
@@ -6,9 +6,9 @@ use Rattle.look_back.proofs.objections.shortage.Goals as goal
 pub returns-then-history-base : goal.returns-then-history-base
 returns-then-history-base c = λ me. sym (shortage-within me _ _ _ _ (search rules))
 
-pub returns-then-capacity-used : goal.returns-then-capacity-used
-returns-then-capacity-used c = λ me.
-    sym (shortage-full me _ _ _ _ (none_renews c.args.base.now c.args.history.now c.args.input.now) (search rules) (let u = c.used.ensures.value in let k = c.cost.ensures.value in let l = c.if-capacity-used.true in omega arith))
+pub returns-then-lacks : goal.returns-then-lacks
+returns-then-lacks c = λ me.
+    sym (shortage-full me _ _ _ _ (none_renews c.args.base.now c.args.history.now c.args.input.now) (search rules) (sym c.lacks.ensures ∙ c.if-lacks.true))
 
 pub returns : goal.returns
-returns c = λ me. sym (shortage-none me _ _ _ _ (none_renews c.args.base.now c.args.history.now c.args.input.now) (let u = c.used.ensures.value in let k = c.cost.ensures.value in let l = c.if-capacity-used.false in omega arith))
+returns c = λ me. sym (shortage-none me _ _ _ _ (none_renews c.args.base.now c.args.history.now c.args.input.now) (sym c.lacks.ensures ∙ c.if-lacks.false))

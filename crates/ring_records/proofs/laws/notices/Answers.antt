@@ -1,4 +1,4 @@
-use Rattle.ring_records.proofs.DecisionNotices.{leaders_content, notices-decided}
+use Rattle.ring_records.proofs.DecisionNotices.{leaders_content}
 use Rattle.ring_records.proofs.Notices.{decided-leads, retired-told, leader_in-stays, latest_in-never_down}
 use Rattle.ring_records.proofs.laws.notices.Goals as goal
 
@@ -16,6 +16,3 @@ returns-clause-never_down c = latest_in-never_down
 
 pub returns-clause-leaders : goal.returns-clause-leaders
 returns-clause-leaders c me h list key are = leaders_content me h list are key
-
-pub returns-clause-told : goal.returns-clause-told
-returns-clause-told c = notices-decided

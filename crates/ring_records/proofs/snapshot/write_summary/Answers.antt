@@ -15,7 +15,7 @@ returns-clause-value c =
     let counts = c.in_ok-put_counts.ensures ∙ (λ i. c.new-out.ensures.items i ++ counts_bytes c.args.summary.now (c.len.ensures i)) in
     let states = c.in_ok-put_states.ensures ∙ (λ i. counts i ++ flat_map state_bytes (sym c.as_slice.ensures.values i)) in
     let msgs = c.in_ok-put_messages.ensures ∙ (λ i. states i ++ flat_map msg_bytes (c.as_slice-2.ensures i)) in
-    c.in_ok-put_floors.ensures c.args.summary.now ∙ ap (λ (l : List ℕ). l ++ floors_bytes c.args.layout c.args.summary.now) msgs
+    c.in_ok-put_floors.ensures ∙ ap (λ (l : List ℕ). l ++ floors_bytes c.args.layout c.args.summary.now) msgs
     ∙ sym (snapshot-parts c.args.layout c.args.summary.now (omega (arith, c.if-layout-lt-OLDEST_AREA.false)))
 
 pub returns-clause-len : goal.returns-clause-len

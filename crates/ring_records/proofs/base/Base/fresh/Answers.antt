@@ -4,4 +4,4 @@ use Rattle.ring_records.proofs.Snapshots.{length-empty}
 use Rattle.ring_records.proofs.base.Base.fresh.Goals as goal
 
 pub returns : goal.returns
-returns c = ap (λ (k : ℕ). record { layout = 2; epoch = 1; inputs = 0; bytes = k }) (sym (length-empty newest (omega arith)))
+returns c = ap (λ (k : ℕ). record { layout = 3; epoch = 1; inputs = 0; bytes = k }) (sym (length-empty newest (omega arith)))

@@ -1,6 +1,6 @@
 use Rattle.std.proofs.Common.{true, sym, ◌∙◌}
 use Rattle.ring_records.proofs.StatesInOrder.{rise-all, rising-at}
-use Rattle.ring_records.proofs.snapshot_read.are_rising.Goals as goal
+use Rattle.ring_records.proofs.snapshot_fits.are_rising.Goals as goal
 
 pub returns-then-not-is_before : goal.returns-then-not-is_before
 returns-then-not-is_before c =
