@@ -1,17 +1,18 @@
 // What one node knows of one key.
-ghost use Rattle.std.specs.Prelude.{◌≡◌, ℕ, List, ◌++◌, ◌∷◌, [], Some, None};
+ghost use Rattle.std.specs.Prelude.{◌≡◌, ℕ, false, List, ◌++◌, ◌∷◌, [], Some, None};
 ghost use Rattle.ring_records.specs.declared.candidate.Candidate.{Candidate};
 ghost use Rattle.ring_records.specs.declared.input.Input.{Input};
 ghost use Rattle.ring_records.specs.declared.input.Input.TheVariants.{Stand, Take};
 ghost use Rattle.ring_records.specs.declared.key.Key.{Key};
 ghost use Rattle.ring_records.specs.declared.msg.Msg.TheVariants.{Token, Elected};
 ghost use Rattle.ring_records.specs.Emission.{emit};
+ghost use Rattle.ring_records.specs.History.{is_retired};
 ghost use Rattle.ring_records.specs.Known.{passed, shown};
 ghost use Rattle.ring_records.specs.Lists.{or_else};
 
 use ring_records::{Bid, Candidate, Key, Msg, NodeNo};
 
-/// What one node knows of one key.
+/// What one node knows of one key, as long as the key is not retired.
 #[derive(Clone, Copy, Debug, PartialEq, Eq)]
 pub struct Ballot {
     /// Its own bid, if it stood.
@@ -59,7 +60,7 @@ impl Ballot {
     pub fn hear_token(&mut self, me: NodeNo, key: Key, candidate: Candidate) -> Option<Msg>
         ensures value { result ≡ passed me self.old.stood self.old.leader (Token key candidate) }
         ensures shown { self.new.leader ≡ or_else self.old.leader (shown me self.old.stood (Token key candidate)) }
-        ensures sends { (h : List Input) (msg_no : ℕ) → StandsFor self.old me h key → emit me h (Take msg_no (Token key candidate)) ≡ result }
+        ensures sends { (h : List Input) (msg_no : ℕ) → StandsFor self.old me h key → is_retired h key ≡ false → emit me h (Take msg_no (Token key candidate)) ≡ result }
         ensures next { (h : List Input) (msg_no : ℕ) → StandsFor self.old me h key → StandsFor self.new me (h ++ Take msg_no (Token key candidate) ∷ []) key }
         ensures stood { self.new.stood ≡ self.old.stood }
         ensures leader { (c : Candidate) → self.old.leader ≡ Some c → self.new.leader ≡ Some c }
@@ -84,7 +85,7 @@ impl Ballot {
     pub fn hear_elected(&mut self, me: NodeNo, key: Key, candidate: Candidate) -> Option<Msg>
         ensures value { result ≡ passed me self.old.stood self.old.leader (Elected key candidate) }
         ensures shown { self.new.leader ≡ or_else self.old.leader (shown me self.old.stood (Elected key candidate)) }
-        ensures sends { (h : List Input) (msg_no : ℕ) → StandsFor self.old me h key → emit me h (Take msg_no (Elected key candidate)) ≡ result }
+        ensures sends { (h : List Input) (msg_no : ℕ) → StandsFor self.old me h key → is_retired h key ≡ false → emit me h (Take msg_no (Elected key candidate)) ≡ result }
         ensures next { (h : List Input) (msg_no : ℕ) → StandsFor self.old me h key → StandsFor self.new me (h ++ Take msg_no (Elected key candidate) ∷ []) key }
         ensures stood { self.new.stood ≡ self.old.stood }
         ensures leader { (c : Candidate) → self.old.leader ≡ Some c → self.new.leader ≡ Some c }

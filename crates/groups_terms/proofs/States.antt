@@ -11,24 +11,19 @@ use Rattle.std.specs.Prelude.{is_some}
 use Rattle.std.proofs.lemmas.List.{drop_more}
 use Rattle.std.proofs.lemmas.Option.{same_Some}
 use Rattle.std.proofs.lemmas.Map.Keys.{sorted_head}
-use Rattle.ring_records.specs.declared.input.Input.{Input}
 use Rattle.ring_records.specs.declared.key.Key.{Key}
 use Rattle.ring_records.specs.declared.key_state.KeyState.{KeyState}
-use Rattle.ring_records.specs.History.{touched, stood, stands}
 use Rattle.ring_records.specs.KeyOrder.{key_cmp}
 use Rattle.ring_records.specs.KeyStates.{by_state, under_key, keyed}
 use Rattle.ring_records.specs.Known.{stood_of, leader_of}
-use Rattle.ring_records.specs.Leader.{leader, noted}
+use Rattle.ring_records.specs.Leader.{noted}
 use Rattle.ring_records.specs.Order.{is_key}
-use Rattle.ring_records.specs.Summary.{state_of, key_states}
 use Rattle.ring_records.proofs.Compare.{keys_total, keys_exact, get-put}
-use Rattle.ring_records.proofs.History.{stood-first, leader-first}
 use Rattle.ring_records.proofs.Keys.{is_key-true}
 use Rattle.ring_records.proofs.Lists.{none≢some}
-use Rattle.ring_records.proofs.Summaries.{get-states, untouched-stood, untouched-leader}
 use Rattle.cr_automaton.specs.declared.ballot.Ballot.{Ballot}
 use Rattle.groups_terms.specs.Latest.{Leaders, latest_of}
-use Rattle.groups_terms.specs.Table.{TableView, known, ballot_at, AreLatest, TableStandsFor, state_at, states_in, ballot_of, entry_of, ballots_of}
+use Rattle.groups_terms.specs.Table.{TableView, known, ballot_at, AreLatest, state_at, states_in, ballot_of, entry_of, ballots_of}
 use Rattle.groups_terms.proofs.Tables.{hear_kept}
 
 -- ---- the states of a table
@@ -55,19 +50,6 @@ find-states (e ∷ es) key =
     go Less f = refl
     go Equal f = ap (λ (k : Key). Some (state_at (k, e.1))) (sym (keys_exact key e.0 f))
     go Greater f = refl
-
-pub states-told : (t : TableView) (es : List (Key × Ballot)) (h : List Input) → map.from_entries es ≡ t.ballots → TableStandsFor t h → keyed (list_map state_at es) ≡ key_states t.me h
-states-told t es h are s = map.same_map keys_total keys_exact _ _ (λ key.
-    map.get-from_entries keys_total (list_map under_key (list_map state_at es)) key
-    ∙ (find-states es key
-    ∙ (ap (option_map (λ b. state_at (key, b))) (sym (map.get-from_entries keys_total es key) ∙ ap (λ m. map.get m key) are)
-    ∙ (at key (map.get t.ballots key) (touched h key) (s.touched key) ((s.ballots key).bid ∙ sym (stood-first h key)) ((s.ballots key).known ∙ sym (leader-first t.me h key))
-    ∙ sym (get-states t.me h key)))))
-  where
-    at : (key : Key) (o : Option Ballot) (b : Bool) → b ≡ is_some o → (known o).stood ≡ stood h key → (known o).leader ≡ leader t.me h key
-        → option_map (λ b. state_at (key, b)) o ≡ cond b (Some (state_of t.me h key)) None
-    at key None b e f g = sym (ap (λ c. cond c (Some (state_of t.me h key)) None) e)
-    at key (Some ballot) b e f g = (λ i. Some (record { key = key; stood = f i; leader = g i })) ∙ sym (ap (λ c. cond c (Some (state_of t.me h key)) None) e)
 
 -- what a table says of a key
 pub get-states_in : (t : TableView) (key : Key) → map.get (states_in t) key ≡ option_map (λ b. state_at (key, b)) (map.get t.ballots key)
@@ -188,31 +170,6 @@ states-put_back t items are = map.same_map keys_total keys_exact _ _ (λ key.
     at : (key : Key) (o : Option KeyState) → ((s : KeyState) → o ≡ Some s → s.key ≡ key) → option_map (λ b. state_at (key, b)) (option_map ballot_of o) ≡ o
     at key None kept = refl
     at key (Some s) kept = λ i. Some (record { key = sym (kept s refl) i; stood = s.stood; leader = s.leader })
-
-pub restored : (t : TableView) (items : List KeyState) (h : List Input) → t.ballots ≡ ballots_of items → keyed items ≡ key_states t.me h → t.stands ≡ stands h → TableStandsFor t h
-restored t items h are told count = record {
-  ballots = λ key. record {
-    bid = ap (λ o. (known o).stood) (is key) ∙ (bid_at key (touched h key) refl ∙ stood-first h key);
-    known = ap (λ o. (known o).leader) (is key) ∙ (leader_at key (touched h key) refl ∙ leader-first t.me h key);
-  };
-  touched = λ key. sym (ap is_some (is key) ∙ some_at key (touched h key));
-  stands = count;
-}
-  where
-    is : (key : Key) → map.get t.ballots key ≡ option_map ballot_of (cond (touched h key) (Some (state_of t.me h key)) None)
-    is key = ap (λ m. map.get m key) are ∙ (get-ballots items key ∙ ap (option_map ballot_of) (ap (λ m. map.get m key) told ∙ get-states t.me h key))
-
-    bid_at : (key : Key) (b : Bool) → touched h key ≡ b → (known (option_map ballot_of (cond b (Some (state_of t.me h key)) None))).stood ≡ stood h key
-    bid_at key true e = refl
-    bid_at key false e = sym (untouched-stood h key e)
-
-    leader_at : (key : Key) (b : Bool) → touched h key ≡ b → (known (option_map ballot_of (cond b (Some (state_of t.me h key)) None))).leader ≡ leader t.me h key
-    leader_at key true e = refl
-    leader_at key false e = sym (untouched-leader t.me h key e)
-
-    some_at : (key : Key) (b : Bool) → is_some (option_map ballot_of (cond b (Some (state_of t.me h key)) None)) ≡ b
-    some_at key true = refl
-    some_at key false = refl
 
 -- a loop over the entries, at its end
 pub all_told : (items : List KeyState) (left es : List (Key × Ballot)) → items ++ list_map state_at left ≡ list_map state_at es → left ≡ [] → items ≡ list_map state_at es

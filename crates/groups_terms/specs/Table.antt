@@ -1,27 +1,26 @@
--- What a table is seen as, and what it stands for.
-use Rattle.std.specs.Prelude.{ℕ, ◌≡◌, List, map as list_map, Option, None, unwrap_or, refl}
+-- What a table is seen as.
+use Rattle.std.specs.Prelude.{ℕ, List, map as list_map, Option, None, unwrap_or, refl}
 use Rattle.std.specs.Coded.{Coded, code_by, coded×, coded_ℕ, coded_option}
 use Rattle.std.specs.FinMap as map
 use Rattle.ring_records.specs.declared.candidate.Candidate.{Candidate}
-use Rattle.ring_records.specs.declared.input.Input.{Input}
 use Rattle.ring_records.specs.declared.key.Key.{Key}
 use Rattle.ring_records.specs.declared.key_state.KeyState.{KeyState}
 use Rattle.ring_records.specs.declared.msg.Msg.{Msg}
-use Rattle.ring_records.specs.History.{touched, stands}
-use Rattle.ring_records.specs.KeyOrder.{key_cmp, coded_key}
+use Rattle.ring_records.specs.KeyOrder.{key_cmp, group_cmp, coded_key, coded_group}
 use Rattle.ring_records.specs.KeyStates.{keyed}
-use Rattle.ring_records.specs.Known.{shown}
+use Rattle.ring_records.specs.Known.{passed, shown}
 use Rattle.ring_records.specs.Leader.{IsLatest}
 use Rattle.ring_records.specs.Lists.{or_else}
+use Rattle.ring_records.specs.Message.{key_of}
 use Rattle.cr_automaton.specs.declared.ballot.Ballot.{Ballot}
-use Rattle.cr_automaton.specs.Ballot.{StandsFor}
 use Rattle.groups_terms.specs.Latest.{Leaders, latest_of}
 
--- its node, its ballots by key, and how many Stands it made
+-- its node, its ballots by key, how many Stands it made, and the floors of groups
 pub record TableView : Type 0 where
   pub me : ℕ
   pub ballots : map.FinMap key_cmp Ballot
   pub stands : ℕ
+  pub floors : map.FinMap group_cmp ℕ
 
 abbrev pub coded_candidate : Coded Candidate
 coded_candidate = code_by (ℕ × ℕ) (coded× coded_ℕ coded_ℕ) (λ c. (c.bid, c.node)) (λ p. record { bid = p.0; node = p.1 }) (λ _. refl)
@@ -30,8 +29,8 @@ abbrev pub coded_ballot : Coded Ballot
 coded_ballot = code_by (Option ℕ × Option Candidate) (coded× (coded_option coded_ℕ) (coded_option coded_candidate)) (λ b. (b.stood, b.leader)) (λ p. record { stood = p.0; leader = p.1 }) (λ _. refl)
 
 abbrev pub coded_table : Coded TableView
-coded_table = code_by (ℕ × (map.FinMap key_cmp Ballot × ℕ)) (coded× coded_ℕ (coded× (map.code coded_key coded_ballot) coded_ℕ))
-    (λ t. (t.me, (t.ballots, t.stands))) (λ p. record { me = p.0; ballots = (p.1).0; stands = (p.1).1 }) (λ _. refl)
+coded_table = code_by (ℕ × (map.FinMap key_cmp Ballot × (ℕ × map.FinMap group_cmp ℕ))) (coded× coded_ℕ (coded× (map.code coded_key coded_ballot) (coded× coded_ℕ (map.code coded_group coded_ℕ))))
+    (λ t. (t.me, (t.ballots, (t.stands, t.floors)))) (λ p. record { me = p.0; ballots = p.1.0; stands = p.1.1.0; floors = p.1.1.1 }) (λ _. refl)
 
 -- a ballot that is not kept is that of a key that no input named
 abbrev pub known : Option Ballot → Ballot
@@ -48,11 +47,17 @@ leads ballots group term = (known (map.get ballots (record { group = group; term
 abbrev pub AreLatest : map.FinMap key_cmp Ballot → Leaders → Type 0
 AreLatest ballots latest = (group : List ℕ) → IsLatest (leads ballots group) (latest_of latest group)
 
--- ---- by value
-
 -- the ballot once its node, me, took the message
 abbrev pub heard : ℕ → Ballot → Msg → Ballot
 heard me ballot msg = record { stood = ballot.stood; leader = or_else ballot.leader (shown me ballot.stood msg) }
+
+-- what its node sends on for the message, where the key is not below a floor
+abbrev pub passes_on : TableView → Msg → Option Msg
+passes_on table msg = passed table.me (ballot_at table (key_of msg)).stood (ballot_at table (key_of msg)).leader msg
+
+-- and the ballots then
+abbrev pub heard_by : TableView → Msg → map.FinMap key_cmp Ballot
+heard_by table msg = map.insert table.ballots (key_of msg) (heard table.me (ballot_at table (key_of msg)) msg)
 
 -- what a kept ballot says of its key
 abbrev pub state_at : Key × Ballot → KeyState
@@ -72,11 +77,3 @@ entry_of s = (s.key, ballot_of s)
 -- the ballots that these states make
 abbrev pub ballots_of : List KeyState → map.FinMap key_cmp Ballot
 ballots_of states = map.from_entries (list_map entry_of states)
-
--- ---- by a history
-
--- it has what the history h of its node says of each key, and how many Stands there are
-pub record TableStandsFor (table : TableView) (h : List Input) : Type 0 where
-  pub ballots : (key : Key) → StandsFor (ballot_at table key) table.me h key
-  pub touched : (key : Key) → touched h key ≡ map.contains_key table.ballots key
-  pub stands : table.stands ≡ stands h

@@ -1,7 +1,6 @@
-use Rattle.std.proofs.Common.{◌≡◌, ◌-◌, drop, sym, ap, ◌∙◌, arith}
-use Rattle.ring_records.specs.Summary.{key_states}
+use Rattle.std.proofs.Common.{◌≡◌, ◌-◌, drop, ap, ◌∙◌, arith}
 use Rattle.groups_terms.specs.Table.{ballots_of}
-use Rattle.groups_terms.proofs.States.{absent, one_more_put, restored, states-put_back}
+use Rattle.groups_terms.proofs.States.{absent, one_more_put, states-put_back}
 use Rattle.groups_terms.proofs.table.Table.restore.Goals as goal
 
 pub put_state-requires : goal.put_state-requires
@@ -19,16 +18,10 @@ loop-left-preserved c =
       bound = omega arith;
       me_is = c.put_state.ensures.me ∙ c.loop-left.invariant.me_is;
       count_is = c.put_state.ensures.stands ∙ c.loop-left.invariant.count_is;
+      floors_are = c.put_state.ensures.floors ∙ c.loop-left.invariant.floors_are;
       put = one_more_put c.as_slice-items.result.now (c.loop-left.left - 1) c.loop-left.left c.index-items-left.result c.loop-left.table.ballots _
           (omega arith) (omega arith) c.index-items-left.is c.loop-left.invariant.put c.in_ok-put_state.ensures.ballots;
     }
-
-pub returns-clause-stands : goal.returns-clause-stands
-returns-clause-stands c = λ h told count.
-    let stop = c.loop-left-test.false in
-    let none : c.loop-left.left ≡ 0 = omega arith in
-    restored c.loop-left.table c.as_slice-items.result.now h (c.loop-left.invariant.put ∙ ap (λ n. ballots_of (drop n c.as_slice-items.result.now)) none)
-    (c.as_slice-items.ensures.value ∙ (told ∙ ap (λ me. key_states me h) (sym c.loop-left.invariant.me_is))) (c.loop-left.invariant.count_is ∙ count)
 
 pub returns-clause-value : goal.returns-clause-value
 returns-clause-value c =

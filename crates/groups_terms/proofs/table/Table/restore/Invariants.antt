@@ -10,5 +10,6 @@ invariant-loop-left l = record {
   bound : l.left ≤ length l.items;
   me_is : l.table.me ≡ l.fn.me;
   count_is : l.table.stands ≡ l.count;
+  floors_are : l.table.floors ≡ l.floors;
   put : l.table.ballots ≡ ballots_of (drop l.left l.items);
 }

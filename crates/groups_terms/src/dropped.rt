@@ -1,0 +1,58 @@
+// The ballots of a group below a floor.
+ghost use Rattle.std.specs.Prelude.{◌≡◌, ◌-◌, ◌<◌, ℕ, None, IsSome, MatchOption, not};
+ghost use Rattle.std.specs.FinMap as map;
+ghost use Rattle.ring_records.specs.Known.{drops};
+ghost use Rattle.groups_terms.specs.Dropped.{HaveTerms, kept_in, stood_at, stood_among};
+
+use cr_automaton::Ballot;
+use ring_records::{GroupName, Key, Term};
+use std::collections::BTreeMap;
+
+// A key of the group below the floor, if one has a ballot.
+fn under(ballots: &BTreeMap<Key, Ballot>, group: &GroupName, floor: Term) -> Option<Key>
+    requires terms { HaveTerms (kept_in ballots.now) }
+    ensures { MatchOption result ((term : ℕ) → term < floor → map.get (kept_in ballots.now) (record { group = group.now; term = term }) ≡ None)
+        (λ key. (key.group ≡ group.now) × (key.term < floor) × IsSome (map.get (kept_in ballots.now) key)) }
+{
+    // The number that is read is known to be 1 at least, where the range begins.
+    let _number = floor.number();
+    let first = Key {
+        group: *group,
+        term: Term::first(),
+    };
+    let end = Key {
+        group: *group,
+        term: floor,
+    };
+    let (key, _ballot) = ballots.range(first..end).next()?;
+    Some(*key)
+}
+
+// Takes the key out, and a Stand for it out of their count.
+fn remove(ballots: &mut BTreeMap<Key, Ballot>, stands: &mut u32, key: &Key)
+    ensures ballots { kept_in ballots.new ≡ map.remove (kept_in ballots.old) key.now }
+    ensures stands { stands.new ≡ stands.old - stood_at (kept_in ballots.old) key.now }
+{
+    if let Some(ballot) = ballots.remove(key) {
+        if ballot.stood.is_some() {
+            *stands = stands.saturating_sub(1);
+        }
+    }
+}
+
+/// Takes the group's ballots below the floor out, one by one, and their Stands out of the count: the others are not looked
+/// at, and no memory is asked for.
+pub fn drop_under(
+    ballots: &mut BTreeMap<Key, Ballot>,
+    stands: &mut u32,
+    group: &GroupName,
+    floor: Term,
+)
+    requires terms { HaveTerms (kept_in ballots.old) }
+    ensures ballots { kept_in ballots.new ≡ map.retain_keys (kept_in ballots.old) (λ key. not (drops group.now floor key)) }
+    ensures stands { stands.new ≡ stands.old - stood_among (kept_in ballots.old) (drops group.now floor) }
+{
+    while let Some(key) = under(ballots, group, floor) {
+        remove(ballots, stands, &key);
+    }
+}
