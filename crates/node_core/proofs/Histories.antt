@@ -1,5 +1,5 @@
 -- What a core does whose history is told: its clauses over histories, from what it knows.
-use Rattle.std.proofs.Common.{ℕ, ◌≡◌, ◌+◌, ◌≤◌, Bool, true, false, cond, ◌&&◌, ◌||◌, eqb, not, List, [], ◌∷◌, ◌++◌, length, drop, Option, Some, None, refl, sym, ap, subst, ◌∙◌, arith}
+use Rattle.std.proofs.Common.{ℕ, ◌≡◌, ◌≤◌, Bool, true, false, cond, ◌&&◌, ◌||◌, eqb, not, List, [], ◌∷◌, ◌++◌, length, drop, Ok, Err, Option, Some, None, refl, sym, ap, subst, ◌∙◌, arith}
 use Rattle.std.specs.Prelude.{is_none}
 use Rattle.std.specs.List.{list_any}
 use Rattle.std.specs.Option.{option_map}
@@ -8,7 +8,7 @@ use Rattle.std.proofs.lemmas.List.Folds.{list_any-append}
 use Rattle.ring_records.specs.declared.base.Base.{Base}
 use Rattle.ring_records.specs.declared.candidate.Candidate.{Candidate}
 use Rattle.ring_records.specs.declared.input.Input.{Input}
-use Rattle.ring_records.specs.declared.input.Input.TheVariants.{Stand, Take, Acked}
+use Rattle.ring_records.specs.declared.input.Input.TheVariants.{Stand, Take, Acked, Retire}
 use Rattle.ring_records.specs.declared.key.Key.{Key}
 use Rattle.ring_records.specs.declared.msg.Msg.{Msg}
 use Rattle.ring_records.specs.declared.msg.Msg.TheVariants.{Token, Elected}
@@ -16,23 +16,28 @@ use Rattle.ring_records.specs.declared.notice.Notice.TheVariants.{Decided}
 use Rattle.ring_records.specs.declared.packet.Packet.TheVariants.{Carry}
 use Rattle.ring_records.specs.declared.refusal.Refusal.{Refusal}
 use Rattle.ring_records.specs.declared.refusal.Refusal.TheVariants as refused
+use Rattle.ring_records.specs.declared.room.Room.{Room}
 use Rattle.ring_records.specs.declared.summary.Summary.{Summary}
 use Rattle.ring_records.specs.Admission.{fresh, is_retire, no_room, room_of, snapshot_len, objection, refusal, IsAllowed, newest}
 use Rattle.ring_records.specs.Emission.{is_below, passed_on, emit, sent, carry}
-use Rattle.ring_records.specs.History.{first_stand, stood}
-use Rattle.ring_records.specs.Known.{Objects, stepped, known_of, leader_of, leads_in}
-use Rattle.ring_records.specs.Leader.{IsLatest, is_bid, makes_leader, leader, latest, newly, decided, told}
+use Rattle.ring_records.specs.History.{floor_for, is_retired, first_stand, stood}
+use Rattle.ring_records.specs.Known.{Objects, sends, stepped, known_of, leader_of, leads_in}
+use Rattle.ring_records.specs.Leader.{IsLatest, is_bid, makes_leader, first_leader, leader, latest, newly, decided, told}
 use Rattle.ring_records.specs.Lists.{or_else}
 use Rattle.ring_records.specs.Member.{refusal_by}
+use Rattle.ring_records.specs.Message.{key_of}
 use Rattle.ring_records.specs.Order.{is_key}
-use Rattle.ring_records.proofs.Admission.{or_else-none, objection-allowed, plain_room, shortage-each}
+use Rattle.ring_records.specs.Summary.{summary}
+use Rattle.ring_records.proofs.Admission.{none_waits, or_else-none, objection-allowed, plain_room, shortage-each}
 use Rattle.ring_records.proofs.Counts.{used-more, shown-decided}
-use Rattle.ring_records.proofs.History.{or-false}
+use Rattle.ring_records.proofs.History.{if_live-none, if_live-same, leader-push, or-false}
 use Rattle.ring_records.proofs.Keys.{is_key-same}
-use Rattle.ring_records.proofs.Known.{leader-known, sends-known, objects-known, objects-of, stepped-known}
+use Rattle.ring_records.proofs.Known.{leader-known, sends-known, objects-known, objects-of, plain-known, live-known}
+use Rattle.ring_records.proofs.Summaries.{floor-known}
 use Rattle.ring_records.proofs.Latest.{latest_is, latest_same, one_latest}
-use Rattle.node_core.specs.Brought.{told_by, brought}
+use Rattle.node_core.specs.Brought.{told_by, brought, who_after, who_by}
 use Rattle.node_core.specs.Core.{CoreView, CoreStandsFor, Refuses, member_of, taking}
+use Rattle.node_core.proofs.Refusals.{has_come}
 
 -- ---- what is refused
 
@@ -84,29 +89,54 @@ elected_told true true (Some d) key c e = refl
 elected_told false true None key c e = refl
 elected_told false true (Some d) key c e = refl
 
-take_tells : (me : ℕ) (h : List Input) (msg_no : ℕ) (msg : Msg) (on : Option Msg) → emit me h (Take msg_no msg) ≡ on → told_by on ≡ told me h (Take msg_no msg)
-unfolding told emit passed_on makes_leader stood
-take_tells me h msg_no (Token key c) on e =
-    ap told_by (sym e)
+-- of a key that is not retired
+live_tells : (me : ℕ) (h : List Input) (msg_no : ℕ) (msg : Msg) → is_retired h (key_of msg) ≡ false → told_by (passed_on me h msg) ≡ told me h (Take msg_no msg)
+unfolding told passed_on makes_leader stood
+live_tells me h msg_no (Token key c) live =
+    ap (λ o. told_by (cond (eqb c.node me) (cond (is_bid o c.bid && is_none (leader me h key)) (Some (Elected key c)) None) (cond (is_below o me c) (Some (Token key c)) None))) (if_live-same h key (first_stand h key) live)
     ∙ (token_told (eqb c.node me) (is_bid (first_stand h key) c.bid) (is_below (first_stand h key) me c) (is_key key key) (leader me h key) key c (is_key-same key)
-    ∙ ap (option_map Decided) (shown-decided me h msg_no (Token key c) key (leader me h key) (makes_leader me key h (Take 0 (Token key c))) refl refl refl))
-take_tells me h msg_no (Elected key c) on e =
-    ap told_by (sym e)
-    ∙ (elected_told (eqb c.node me) (is_key key key) (leader me h key) key c (is_key-same key)
-    ∙ ap (option_map Decided) (shown-decided me h msg_no (Elected key c) key (leader me h key) (makes_leader me key h (Take 0 (Elected key c))) refl refl refl))
+    ∙ ap (option_map Decided) (shown-decided me h msg_no (Token key c) key (leader me h key) (makes_leader me key h (Take 0 (Token key c))) refl live refl refl))
+live_tells me h msg_no (Elected key c) live =
+    elected_told (eqb c.node me) (is_key key key) (leader me h key) key c (is_key-same key)
+    ∙ ap (option_map Decided) (shown-decided me h msg_no (Elected key c) key (leader me h key) (makes_leader me key h (Take 0 (Elected key c))) refl live refl refl)
 
-told-sent : (me : ℕ) (h : List Input) (x : Input) → told_by (emit me h x) ≡ told me h x
-unfolding emit told
-told-sent me h (Stand key bid) = refl
-told-sent me h (Take msg_no msg) = take_tells me h msg_no msg (emit me h (Take msg_no msg)) refl
-told-sent me h (Acked upto) = refl
+-- of a retired key nothing is decided
+retired_decides : (me : ℕ) (h : List Input) (msg_no : ℕ) (msg : Msg) → is_retired h (key_of msg) ≡ true → decided me h (Take msg_no msg) ≡ None
+unfolding decided leader floor_for
+retired_decides me h msg_no msg gone =
+    let key = key_of msg in
+    λ i. newly key (if_live-none h key (first_leader me h key) gone i)
+    ((leader-push me h (Take msg_no msg) key refl ∙ if_live-none h key (or_else (first_leader me h key) (makes_leader me key h (Take msg_no msg))) gone) i)
+
+take_tells : (me : ℕ) (h : List Input) (msg_no : ℕ) (msg : Msg) → told_by (emit me h (Take msg_no msg)) ≡ told me h (Take msg_no msg)
+unfolding told emit
+take_tells me h msg_no msg = go (is_retired h (key_of msg)) refl
+  where
+    go : (b : Bool) → is_retired h (key_of msg) ≡ b → told_by (emit me h (Take msg_no msg)) ≡ told me h (Take msg_no msg)
+    go false live = ap told_by (if_live-same h (key_of msg) (passed_on me h msg) live) ∙ live_tells me h msg_no msg live
+    go true gone = ap told_by (if_live-none h (key_of msg) (passed_on me h msg) gone) ∙ sym (ap (option_map Decided) (retired_decides me h msg_no msg gone))
+
+pub brought-carry : (me : ℕ) (s : Summary) (x : Input) → (brought me s x).carry ≡ option_map (Carry s.sent) (sends me s x)
+brought-carry me s (Stand key bid) = refl
+brought-carry me s (Take msg_no msg) = refl
+brought-carry me s (Acked upto) = refl
+brought-carry me s (Retire group new) = refl
 
 pub carries : (core : CoreView) (h : List Input) (x : Input) → CoreStandsFor core h → (brought core.me core.known x).carry ≡ carry core.me h x
 unfolding carry
-carries core h x s = ap (λ (k : Summary). (brought core.me k x).carry) s.knows ∙ ap (option_map (Carry (length (sent core.me h)))) (sends-known core.me h x)
+carries core h x s =
+    ap (λ (k : Summary). (brought core.me k x).carry) s.knows
+    ∙ (brought-carry core.me (summary core.me h) x ∙ ap (option_map (Carry (length (sent core.me h)))) (sends-known core.me h x))
+
+brought-told : (me : ℕ) (h : List Input) (x : Input) → (brought me (summary me h) x).notice ≡ told me h x
+unfolding told
+brought-told me h (Stand key bid) = refl
+brought-told me h (Take msg_no msg) = ap told_by (sends-known me h (Take msg_no msg)) ∙ take_tells me h msg_no msg
+brought-told me h (Acked upto) = refl
+brought-told me h (Retire group new) = refl
 
 pub tells : (core : CoreView) (h : List Input) (x : Input) → CoreStandsFor core h → (brought core.me core.known x).notice ≡ told core.me h x
-tells core h x s = ap (λ (k : Summary). (brought core.me k x).notice) s.knows ∙ (ap told_by (sends-known core.me h x) ∙ told-sent core.me h x)
+tells core h x s = ap (λ (k : Summary). (brought core.me k x).notice) s.knows ∙ brought-told core.me h x
 
 -- ---- the next history
 
@@ -118,7 +148,7 @@ room-push base h x within =
 pub goes_on : (core new : CoreView) (h : List Input) (x : Input) → new ≡ record core { known = stepped core.me core.known x; room = taking x core.room } → core.known.credit ≤ core.known.sent → Refuses core x None → CoreStandsFor core h → CoreStandsFor new (h ++ x ∷ [])
 goes_on core new h x is within r s = subst (λ (c : CoreView). CoreStandsFor c (h ++ x ∷ [])) (sym is) (record {
   knows = ap (λ (k : Summary). stepped core.me k x) s.knows
-      ∙ stepped-known core.me core.size h x (allowed core h x s r) (subst (λ (k : Summary). k.credit ≤ k.sent) s.knows within);
+      ∙ plain-known core.me core.size h x (has_come core x (ap (λ (r : Room). r.waits) s.room ∙ none_waits (drop fresh.inputs h)) r) (allowed core h x s r) (subst (λ (k : Summary). k.credit ≤ k.sent) s.knows within);
   room = ap (taking x) s.room ∙ sym (room-push fresh h x (omega arith));
 })
 
@@ -126,6 +156,13 @@ goes_on core new h x is within r s = subst (λ (c : CoreView). CoreStandsFor c (
 
 pub leads : (core : CoreView) (h : List Input) (key : Key) → CoreStandsFor core h → leader_of (known_of core.known key) ≡ leader core.me h key
 leads core h key s = ap (λ (k : Summary). leader_of (known_of k key)) s.knows ∙ leader-known core.me h key
+
+pub who_known : (me : ℕ) (h : List Input) (key : Key) → who_by (summary me h) key ≡ who_after me h key
+who_known me h key = λ i. cond (live-known me h key i) (Err (refused.Retired (floor-known h key.group i))) (Ok (leader-known me h key i))
+
+pub leads_by : (core : CoreView) (h : List Input) (key : Key) → CoreStandsFor core h → who_by core.known key ≡ who_after core.me h key
+leads_by core h key s =
+    ap (λ (k : Summary). who_by k key) s.knows ∙ who_known core.me h key
 
 pub leads_last : (core : CoreView) (h : List Input) (group : List ℕ) (led : Option (ℕ × Candidate)) → CoreStandsFor core h → IsLatest (leads_in core.known group) led
     → led ≡ latest core.me h group

@@ -1,18 +1,23 @@
 -- By what a core keeps what it knows.
-use Rattle.std.specs.Prelude.{ℕ, ◌≡◌, ◌+◌, ◌-◌, ◌*◌, ◌^◌, ◌<◌, ◌≤◌, false, [], ◌++◌, drop, Option, None}
+use Rattle.std.specs.Prelude.{ℕ, ◌≡◌, ◌+◌, ◌-◌, ◌*◌, ◌^◌, ◌<◌, ◌≤◌, if◌then◌else◌, false, [], ◌++◌, drop, Option, None}
+use Rattle.std.specs.FinMap as map
 use Rattle.std.specs.List.{cons_option}
+use Rattle.ring_records.specs.declared.candidate.Candidate.{Candidate}
 use Rattle.ring_records.specs.declared.input.Input.{Input}
-use Rattle.ring_records.specs.declared.input.Input.TheVariants.{Stand, Take, Acked}
+use Rattle.ring_records.specs.declared.input.Input.TheVariants.{Stand, Take, Acked, Retire}
 use Rattle.ring_records.specs.declared.limits.TheConstants.{STANDS}
 use Rattle.ring_records.specs.declared.msg.Msg.{Msg}
 use Rattle.ring_records.specs.declared.room.Room.{Room}
 use Rattle.ring_records.specs.declared.summary.Summary.{Summary}
 use Rattle.ring_records.specs.Admission.{snapshot_len, newest}
-use Rattle.ring_records.specs.Known.{passed}
+use Rattle.ring_records.specs.Floors.{is_below_floor}
+use Rattle.ring_records.specs.KeyOrder.{key_cmp}
+use Rattle.ring_records.specs.Leader.{IsLatest, term_of}
 use Rattle.ring_records.specs.Message.{key_of}
 use Rattle.ring_records.specs.Snapshot.{IsSound}
+use Rattle.cr_automaton.specs.declared.ballot.Ballot.{Ballot}
 use Rattle.neighbour_link.specs.Outlink.{LinkView, sent_count}
-use Rattle.groups_terms.specs.Table.{TableView, ballot_at, states_in}
+use Rattle.groups_terms.specs.Table.{TableView, ballot_at, heard_by, leads, passes_on, states_in}
 use Rattle.node_core.specs.Core.{IsNodeOf}
 
 -- what is known by a count of inputs, these ballots, the link to the successor and the number that is expected
@@ -25,6 +30,7 @@ known_with inputs table link expected = record {
   stands = table.stands;
   keys = states_in table;
   window = link.window;
+  floors = table.floors;
 }
 
 -- No more was sent, and no more was taken, than there were inputs; the Stands have a number of two bytes; and at a node
@@ -52,12 +58,17 @@ sent_on on link = record { credited = link.credited; window = link.window ++ con
 abbrev pub credited_to : ℕ → LinkView → LinkView
 credited_to upto link = record { credited = upto; window = drop (upto - link.credited) link.window }
 
--- what the node of a table sends on when it hears the message
+-- what the node of a table sends on when it hears the message: below a floor nothing
 abbrev pub hears : TableView → Msg → Option Msg
-hears table msg = passed table.me (ballot_at table (key_of msg)).stood (ballot_at table (key_of msg)).leader msg
+hears table msg = if is_below_floor table.floors (key_of msg) then None else passes_on table msg
+
+-- its ballots then
+abbrev pub hearing : TableView → Msg → map.FinMap key_cmp Ballot
+hearing table msg = if is_below_floor table.floors (key_of msg) then table.ballots else heard_by table msg
 
 -- the node may accept the input, as far as its ballots and its link to the successor go
 abbrev pub IsFree : TableView → LinkView → Input → Type 0
 IsFree table link (Stand key bid) = ((ballot_at table key).stood ≡ None) × (table.stands < STANDS)
 IsFree table link (Take msg_no msg) = Unit {0}
 IsFree table link (Acked upto) = (link.credited < upto) × (upto ≤ sent_count link)
+IsFree table link (Retire group new) = (led : Option (ℕ × Candidate)) → IsLatest (leads table.ballots group) led → new ≤ term_of led

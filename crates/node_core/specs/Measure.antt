@@ -2,7 +2,7 @@
 use Rattle.std.specs.Prelude.{ℕ, ◌≡◌, ◌+◌, ◌-◌, nat_lt, if◌then◌else◌, length, take, Option, Some, None, is_some}
 use Rattle.std.specs.List.{sum_by}
 use Rattle.ring_records.specs.declared.input.Input.{Input}
-use Rattle.ring_records.specs.declared.input.Input.TheVariants.{Stand, Take, Acked}
+use Rattle.ring_records.specs.declared.input.Input.TheVariants.{Stand, Take, Acked, Retire}
 use Rattle.ring_records.specs.declared.key.Key.{Key}
 use Rattle.ring_records.specs.declared.key_state.KeyState.{KeyState}
 use Rattle.ring_records.specs.declared.msg.Msg.{Msg}
@@ -17,11 +17,12 @@ abbrev pub len_of : Option KeyState → ℕ
 len_of None = 0
 len_of (Some s) = state_len s
 
--- the bytes of the state of the key that the input names
+-- the bytes of the state of the key that the input names; what a Retire drops is measured by nothing yet
 abbrev pub len_at : Summary → Input → ℕ
 len_at s (Stand key bid) = len_of (known_of s key)
 len_at s (Take msg_no msg) = len_of (known_of s (key_of msg))
 len_at s (Acked upto) = 0
+len_at s (Retire group new) = 0
 
 -- what is known of a key is told under its own name
 abbrev pub AreNamed : Summary → Type 0
@@ -37,12 +38,14 @@ abbrev pub grown : ℕ → ℕ → Input → Effects → ℕ
 grown before after (Stand key bid) effects = bare_len key + 4
 grown before after (Take msg_no msg) effects = (if nat_lt before after then bare_len (key_of msg) else 0) + (if is_some effects.notice then 5 else 0)
 grown before after (Acked upto) effects = 0
+grown before after (Retire group new) effects = 0
 
 -- the bytes of the messages that the input takes out of the window
 abbrev pub freed : Summary → Input → ℕ
 freed s (Stand key bid) = 0
 freed s (Take msg_no msg) = 0
 freed s (Acked upto) = sum_by msg_len (take (upto - s.credit) s.window)
+freed s (Retire group new) = 0
 
 -- the bytes of a message that is sent
 abbrev pub len_on : Option Msg → ℕ

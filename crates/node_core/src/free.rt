@@ -1,17 +1,17 @@
 // A node by what it knows, whatever its journal has room for.
 ghost use Rattle.std.specs.Prelude.{◌≡◌, ◌≤◌, ℕ, ◌+◌, length, IfOk, OnOk, OnErr};
-ghost use Rattle.ring_records.specs.Known.{Objects, stepped, known_of, leader_of, leads_in};
+ghost use Rattle.ring_records.specs.Known.{Objects, stepped, known_of, leads_in};
 ghost use Rattle.ring_records.specs.Leader.{IsLatest};
 ghost use Rattle.ring_records.specs.Snapshot.{IsSound};
 ghost use Rattle.ring_records.specs.Summary.{empty};
-ghost use Rattle.node_core.specs.Brought.{brought};
+ghost use Rattle.node_core.specs.Brought.{brought, who_by};
 ghost use Rattle.std.specs.FinMap as map;
 ghost use Rattle.node_core.specs.Core.{IsNodeOf};
 ghost use Rattle.node_core.specs.Measure.{AreNamed};
 
 use crate::accept::accept;
 use crate::effects::Effects;
-use crate::judge::{against_acked, against_stand, against_take};
+use crate::judge::{against_acked, against_retire, against_stand, against_take};
 use crate::ranges::look_at;
 use groups_terms::Table;
 use neighbour_link::{Inlink, Outlink};
@@ -74,7 +74,7 @@ impl FreeCore {
     {
         Ok(FreeCore {
             size: n,
-            table: Table::restore(alloc, node, &from.keys, from.stands as u32)?,
+            table: Table::restore(alloc, node, &from.keys, from.stands as u32, &from.floors)?,
             outlink: Outlink::restore(alloc, from.sent, from.window.as_slice())?,
             inlink: Inlink::restore(from.taken),
             inputs: from.inputs,
@@ -94,6 +94,7 @@ impl FreeCore {
             stands: self.table.stands() as u16,
             keys: self.table.key_states(alloc)?,
             window: Messages::from_slice(alloc, self.outlink.window())?,
+            floors: self.table.floors(alloc)?,
         })
     }
 
@@ -105,6 +106,7 @@ impl FreeCore {
             Input::Stand { key, .. } => self.stand_objection(key),
             Input::Take { no, msg } => against_take(self.size, &self.inlink, self.inputs, *no, msg),
             Input::Acked { upto } => against_acked(&self.outlink, self.inputs, *upto),
+            Input::Retire { group, floor } => self.retire_objection(group, *floor),
         }
     }
 
@@ -159,11 +161,16 @@ impl FreeCore {
         self.table.keys()
     }
 
-    /// The leader for the key, if one is known.
-    pub fn who(&self, key: &Key) -> Option<Candidate>
-        ensures { result ≡ leader_of (known_of self.now.known key.now) }
+    /// The leader for the key, if one is known. Refused as 23 with the floor of its group where the key is below it.
+    pub fn who(&self, key: &Key) -> Result<Option<Candidate>, Refusal>
+        ensures { result ≡ who_by self.now.known key.now }
     {
-        self.table.who(key)
+        if let Some(floor) = self.table.floor(&key.group) {
+            if key.term < floor {
+                return Err(Refusal::Retired(floor));
+            }
+        }
+        Ok(self.table.who(key))
     }
 
     /// The greatest term of the group with a known leader, and that leader.
@@ -221,10 +228,24 @@ impl FreeCore {
         ensures { (n bid : ℕ) → Objects n self.now.known (Input.Stand key.now bid) result }
     {
         against_stand(
+            self.table.floor(&key.group),
             key.term,
             self.table.ballot(key),
             self.table.latest(&key.group),
             self.table.stands(),
+            self.inputs,
+        )
+    }
+
+    fn retire_objection(&self, group: &GroupName, floor: Term) -> Option<Refusal>
+        ensures { (n : ℕ) → Objects n self.now.known (Input.Retire group.now floor) result }
+    {
+        // The number that is read is known to be 1 at least, which is no floor of a group without one.
+        let _number = floor.number();
+        against_retire(
+            self.table.floor(group),
+            floor,
+            self.table.latest(group),
             self.inputs,
         )
     }

@@ -18,7 +18,7 @@ pub fn grown(before: usize, after: usize, input: &Input, effects: &Effects) -> u
     match input {
         Input::Stand { key, .. } => bare_len(key) + 4,
         Input::Take { msg, .. } => named(before, after, &msg.key()) + led(effects),
-        Input::Acked { .. } => 0,
+        Input::Acked { .. } | Input::Retire { .. } => 0,
     }
 }
 

@@ -1,16 +1,17 @@
 // A node by what it knows, with the capacity of its journal.
 ghost use Rattle.std.specs.Prelude.{◌≡◌, ◌+◌, ◌<◌, ◌≤◌, ◌^◌, ℕ, List, [], ◌∷◌, ◌++◌, length, drop, Bool, false, nat_lt, None, IfOk, OnOk, OnErr};
+ghost use Rattle.std.specs.FinMap as map;
 ghost use Rattle.std.specs.Result.{result_err};
 ghost use Rattle.ring_records.specs.declared.input.Input.{Input};
-ghost use Rattle.ring_records.specs.Admission.{newest, snapshot_len};
+ghost use Rattle.ring_records.specs.Admission.{lacks, newest, snapshot_len};
 ghost use Rattle.ring_records.specs.Emission.{sent, carry};
 ghost use Rattle.ring_records.specs.History.{taken, credit, stands};
-ghost use Rattle.ring_records.specs.Known.{stepped, known_of, leader_of, leads_in};
-ghost use Rattle.ring_records.specs.Leader.{IsLatest, leader, latest, told};
+ghost use Rattle.ring_records.specs.Known.{stepped, leads_in};
+ghost use Rattle.ring_records.specs.Leader.{IsLatest, latest, told};
 ghost use Rattle.ring_records.specs.Member.{used_by, refusal_by};
 ghost use Rattle.ring_records.specs.Snapshot.{IsSound};
 ghost use Rattle.ring_records.specs.Summary as summed;
-ghost use Rattle.node_core.specs.Brought.{brought};
+ghost use Rattle.node_core.specs.Brought.{brought, who_after, who_by};
 ghost use Rattle.node_core.specs.Core.{CoreStandsFor, IsNodeOf, Refuses, member_of, taking};
 
 use crate::effects::Effects;
@@ -49,12 +50,12 @@ impl Model for NodeCore {
 
 impl NodeCore {
     /// Node `node` of a ring of `n` nodes, with a capacity in bytes, that has accepted nothing. The snapshot of that takes
-    /// 38 of them.
+    /// 42 of them.
     pub fn new(alloc: Global, node: NodeNo, n: u8, capacity: u32) -> NodeCore
         ensures me { result.me ≡ node }
         ensures ring { result.size ≡ n }
         ensures capacity { result.capacity ≡ capacity }
-        ensures value { (result.known ≡ summed.empty) × (result.room ≡ record { layout = newest; epoch = 1; taken = 38; waits = false }) }
+        ensures value { (result.known ≡ summed.empty) × (result.room ≡ record { layout = newest; epoch = 1; taken = 42; waits = false }) }
         ensures empty { CoreStandsFor result [] }
     {
         NodeCore {
@@ -63,10 +64,10 @@ impl NodeCore {
             room: Room {
                 layout: LAYOUT,
                 epoch: 1,
-                taken: 38,
+                taken: 42,
                 waits: false,
             },
-            snapshot: 38,
+            snapshot: 42,
         }
     }
 
@@ -83,6 +84,7 @@ impl NodeCore {
         requires sound { IsSound n from.now }
         requires taken { room.taken < 2 ^ 63 + 2 ^ 62 }
         requires plain { room.waits ≡ false }
+        requires floors { map.len from.now.floors < 2 ^ 32 }
         ensures { IfOk result (λ core. core ≡ record { me = node; size = n; capacity = capacity; known = from.now; room = room }) }
     {
         let core = FreeCore::restore(alloc, node, n, from)?;
@@ -125,8 +127,9 @@ impl NodeCore {
     /// Whether the input may be accepted now. Refused by the first cause that there is: a Stand as 3 where the node
     /// stood for the key, 4 where it only relayed, 5 where a greater term of the group has a leader, 6 at 1,024
     /// Stands; a Take as 2 where its candidate's node is above n, 13 where its number is not the next; an Acked as 13
-    /// where it is not above the credit, 14 where it is above the count sent; each as 6 at 2^56 inputs, and as 7 where
-    /// its cost does not fit the capacity.
+    /// where it is not above the credit, 14 where it is above the count sent; a Retire as 23 where its floor is not above
+    /// the group's, 26 where it is above the group's latest term with a leader; each as 6 at 2^56 inputs, and as 7 where
+    /// its cost does not fit the capacity, or where it is a Retire, which has no room yet.
     pub fn admit(&self, input: &Input) -> Result<(), Refusal>
         ensures value { Refuses self.now input.now (result_err result) }
         ensures known { (h : List Input) → CoreStandsFor self.now h → result_err result ≡ refusal_by (member_of self.now) h input.now }
@@ -134,7 +137,7 @@ impl NodeCore {
         if let Some(refusal) = self.core.objection(input) {
             return Err(refusal);
         }
-        if self.is_short(input.cost()) {
+        if self.lacks(input) {
             return Err(Refusal::Full);
         }
         Ok(())
@@ -175,6 +178,16 @@ impl NodeCore {
         })
     }
 
+    // Whether the input does not fit the capacity, or is one that has no room yet.
+    fn lacks(&self, input: &Input) -> bool
+        ensures { result ≡ lacks self.now.capacity self.now.room.taken input.now }
+    {
+        match input {
+            Input::Retire { .. } => true,
+            _ => self.is_short(input.cost()),
+        }
+    }
+
     // Whether so many bytes more do not fit the capacity.
     fn is_short(&self, cost: u32) -> bool
         ensures { result ≡ nat_lt self.now.capacity (self.now.room.taken + cost) }
@@ -185,10 +198,10 @@ impl NodeCore {
 }
 
 impl NodeCore {
-    /// The leader for the key, if one is known.
-    pub fn who(&self, key: &Key) -> Option<Candidate>
-        ensures value { result ≡ leader_of (known_of self.now.known key.now) }
-        ensures known { (h : List Input) → CoreStandsFor self.now h → result ≡ leader self.now.me h key.now }
+    /// The leader for the key, if one is known. Refused as 23 with the floor of its group where the key is below it.
+    pub fn who(&self, key: &Key) -> Result<Option<Candidate>, Refusal>
+        ensures value { result ≡ who_by self.now.known key.now }
+        ensures known { (h : List Input) → CoreStandsFor self.now h → result ≡ who_after self.now.me h key.now }
     {
         self.core.who(key)
     }

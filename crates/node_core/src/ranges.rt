@@ -21,6 +21,10 @@ pub fn look_at(input: &Input)
         Input::Acked { upto } => {
             let _upto = *upto;
         }
+        Input::Retire { group, floor } => look_at_key(&Key {
+            group: *group,
+            term: *floor,
+        }),
     }
 }
 

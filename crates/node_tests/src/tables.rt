@@ -98,7 +98,10 @@ fn a_table_is_restored_from_what_it_knows(rt: HostRuntime) {
     }
     let states = table.key_states(alloc).expect(&rt, "ample memory");
     assert_eq!(rt; states.len(), 3);
-    let other = Table::restore(alloc, node(&rt, 2), &states, 1).expect(&rt, "ample memory");
+    let floors = table.floors(alloc).expect(&rt, "ample memory");
+    assert!(rt; floors.is_empty());
+    let other = Table::restore(alloc, node(&rt, 2), &states, 1, &floors);
+    let other = other.expect(&rt, "ample memory");
     assert_eq!(rt; other.stands(), 1);
     for (group, term) in [("red", 5), ("red", 9), ("blu", 1), ("blu", 2)] {
         let key = key(&rt, group, term);

@@ -21,6 +21,7 @@ fn restored(rt: &impl Abort, alloc: Global, capacity: u32, bytes: &[u8]) -> Node
         taken: bytes.len() as u64,
         waits: false,
     };
+    assert!(rt; from.floors.len() <= u32::MAX as usize, "few floors");
     let core = NodeCore::restore(alloc, node(rt, 2), 3, capacity, room, &from);
     core.expect(rt, "ample memory")
 }
@@ -118,18 +119,18 @@ fn a_restored_node_goes_on_as_the_first_one(rt: HostRuntime) {
 // 38 bytes of counts. A key takes 5 and its name, 1 for its flags, 4 for a bid and 5 for a leader, a message 11 and its
 // name.
 static LENGTHS: [(Op, u64); 6] = [
-    (Stand("red", 5, 30), 65),
-    (Take(0, Token("blue", 1, 7, 1)), 90),
-    (Acked(1), 76),
-    (Take(1, Token("red", 5, 30, 2)), 95),
-    (Take(2, Token("red", 5, 30, 2)), 95),
-    (Acked(3), 66),
+    (Stand("red", 5, 30), 69),
+    (Take(0, Token("blue", 1, 7, 1)), 94),
+    (Acked(1), 80),
+    (Take(1, Token("red", 5, 30, 2)), 99),
+    (Take(2, Token("red", 5, 30, 2)), 99),
+    (Acked(3), 70),
 ];
 
 #[test]
 fn a_snapshot_has_the_bytes_of_its_keys_and_its_window(rt: HostRuntime) {
     let mut rig = Rig::new(&rt, rt.alloc(), 3, 65_536);
-    assert_eq!(rt; rig.core.summary_len(), 38);
+    assert_eq!(rt; rig.core.summary_len(), 42);
     for row in &LENGTHS {
         let (op, len) = *row;
         rig.accept_all(&rt, &[op]);
@@ -137,10 +138,10 @@ fn a_snapshot_has_the_bytes_of_its_keys_and_its_window(rt: HostRuntime) {
     }
 }
 
-/// Restored with this capacity from its snapshot of 65 bytes, the node judges a credit so.
+/// Restored with this capacity from its snapshot of 69 bytes, the node judges a credit so.
 fn takes(rt: &impl Abort, alloc: Global, capacity: u32, bytes: &[u8], refused: Option<Refusal>) {
     let core = restored(rt, alloc, capacity, bytes);
-    assert_eq!(rt; core.used(), 65);
+    assert_eq!(rt; core.used(), 69);
     assert_eq!(rt; core.admit(&input(rt, Acked(1))).err(), refused);
 }
 
@@ -148,7 +149,7 @@ fn takes(rt: &impl Abort, alloc: Global, capacity: u32, bytes: &[u8], refused: O
 fn a_snapshot_takes_its_bytes_of_the_capacity(rt: HostRuntime) {
     let rig = Rig::after(&rt, rt.alloc(), 3, 65_536, &[Stand("red", 5, 30)]);
     let bytes = snapshot(&rt, rt.alloc(), &rig.core);
-    takes(&rt, rt.alloc(), 64, &bytes, Some(Refusal::Full));
-    takes(&rt, rt.alloc(), 80, &bytes, Some(Refusal::Full));
-    takes(&rt, rt.alloc(), 81, &bytes, None);
+    takes(&rt, rt.alloc(), 68, &bytes, Some(Refusal::Full));
+    takes(&rt, rt.alloc(), 84, &bytes, Some(Refusal::Full));
+    takes(&rt, rt.alloc(), 85, &bytes, None);
 }

@@ -6,8 +6,8 @@ use Rattle.node_core.specs.declared.effects.Effects.{Effects}
 use Rattle.node_core.specs.Brought.{brought}
 use Rattle.node_core.specs.Core.{CoreView, FreeView}
 use Rattle.node_core.proofs.Histories.{carries, tells, goes_on}
-use Rattle.node_core.proofs.Measures.{acked_within, few_inputs, measured_next, one_more, within_next}
-use Rattle.node_core.proofs.Refusals.{objects_none, stepped_core}
+use Rattle.node_core.proofs.Measures.{acked_within, brought-sent, few_inputs, measured_next, one_more, within_next}
+use Rattle.node_core.proofs.Refusals.{has_come, objects_none, stepped_core}
 use Rattle.node_core.proofs.node.NodeCore.apply.Goals as goal
 
 pub freed-removed-requires : goal.freed-removed-requires
@@ -31,9 +31,11 @@ pub overflow_sub-self : goal.overflow_sub-self
 overflow_sub-self c =
     let free = subst (λ (v : CoreView). Objects v.size v.known c.args.input None) (sym c.self.view_is) (objects_none c.args.self.now c.args.input c.requires) in
     let next = ap (λ (v : FreeView). v.known) c.in_ok-effects.ensures.steps in
+    let yet = has_come c.args.self.now c.args.input (ap (λ (v : CoreView). v.room.waits) (sym c.self.view_is) ∙ c.self.invariant.plain) c.requires in
+    let brings = c.in_ok-effects.ensures.brings ∙ brought-sent c.self.inside.core.me c.self.inside.core.known c.args.input yet in
     let law = measured_next c.self.inside.core.me c.self.inside.core.size c.self.inside.core.known c.apply.new.self.known c.args.input c.self.inside.snapshot c.keys-keys.result c.keys.result
-    c.freed-removed.result c.grown.result c.len_on.result c.in_ok-effects.effects free c.keys-keys.ensures.named next c.self.invariant.exact c.keys-keys.ensures.count c.keys.ensures.count
-    c.in_ok-effects.ensures.brings c.freed-removed.ensures.value c.grown.ensures.value (c.len_on.ensures.value _ (sends c.self.inside.core.me c.self.inside.core.known c.args.input) c.in_ok-effects.ensures.brings) in
+    c.freed-removed.result c.grown.result c.len_on.result c.in_ok-effects.effects yet free c.keys-keys.ensures.named next c.self.invariant.exact c.keys-keys.ensures.count c.keys.ensures.count
+    c.in_ok-effects.ensures.brings c.freed-removed.ensures.value c.grown.ensures.value (c.len_on.ensures.value _ (sends c.self.inside.core.me c.self.inside.core.known c.args.input) brings) in
     omega arith
 
 pub overflow_add-self-2 : goal.overflow_add-self-2
@@ -48,9 +50,11 @@ pub invariant_of-self-2 : goal.invariant_of-self-2
 invariant_of-self-2 c =
     let free = subst (λ (v : CoreView). Objects v.size v.known c.args.input None) (sym c.self.view_is) (objects_none c.args.self.now c.args.input c.requires) in
     let next = ap (λ (v : FreeView). v.known) c.in_ok-effects.ensures.steps in
+    let yet = has_come c.args.self.now c.args.input (ap (λ (v : CoreView). v.room.waits) (sym c.self.view_is) ∙ c.self.invariant.plain) c.requires in
+    let brings = c.in_ok-effects.ensures.brings ∙ brought-sent c.self.inside.core.me c.self.inside.core.known c.args.input yet in
     let law = measured_next c.self.inside.core.me c.self.inside.core.size c.self.inside.core.known c.apply.new.self.known c.args.input c.self.inside.snapshot c.keys-keys.result c.keys.result
-    c.freed-removed.result c.grown.result c.len_on.result c.in_ok-effects.effects free c.keys-keys.ensures.named next c.self.invariant.exact c.keys-keys.ensures.count c.keys.ensures.count
-    c.in_ok-effects.ensures.brings c.freed-removed.ensures.value c.grown.ensures.value (c.len_on.ensures.value _ (sends c.self.inside.core.me c.self.inside.core.known c.args.input) c.in_ok-effects.ensures.brings) in
+    c.freed-removed.result c.grown.result c.len_on.result c.in_ok-effects.effects yet free c.keys-keys.ensures.named next c.self.invariant.exact c.keys-keys.ensures.count c.keys.ensures.count
+    c.in_ok-effects.ensures.brings c.freed-removed.ensures.value c.grown.ensures.value (c.len_on.ensures.value _ (sends c.self.inside.core.me c.self.inside.core.known c.args.input) brings) in
     let more : c.apply.new.self.known.inputs ≡ c.self.inside.core.known.inputs + 1 = ap (λ (s : Summary). s.inputs) next ∙ one_more c.self.inside.core.me c.self.inside.core.known c.args.input in
     let short = c.self.invariant.short in
     let a = c.grown.ensures.range in
