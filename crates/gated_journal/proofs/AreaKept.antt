@@ -1,7 +1,10 @@
 -- What stays of an area, and of the frames in it, where an image changes in one range alone.
-use Rattle.std.proofs.Common.{◌≡◌, ◌≢◌, ⊎_elim, [], ◌∷◌, ◌++◌, refl, ℕ, ◌+◌, ◌-◌, ◌<◌, ◌≤◌, List, length, take, drop, get_or, sym, ◌∙◌, ap, subst, arith, length-take, length-drop}
+use Rattle.std.proofs.Common.{◌≡◌, ◌≢◌, ⊎_elim, [], ◌∷◌, ◌++◌, refl, ℕ, ◌+◌, ◌-◌, ◌<◌, ◌≤◌, ◌^◌, List, length, take, drop, get_or, sym, ◌∙◌, ap, subst, arith, length-take, length-drop}
 use Rattle.std.proofs.lemmas.List.{get_or-drop}
+use Rattle.std.specs.FinMap as fin
 use Rattle.ring_records.specs.declared.input.Input.{Input}
+use Rattle.ring_records.specs.declared.summary.Summary.{Summary}
+use Rattle.ring_records.specs.KeyOrder.{group_cmp}
 use Rattle.ring_records.specs.Snapshot.{IsSound, Spells, snapshot_len}
 use Rattle.ring_records.proofs.Snapshots.{length-snapshot}
 use Rattle.ring_records.proofs.Sound.{sound-empty}
@@ -115,6 +118,11 @@ behind_base n start image r offset begins =
     ⊎_elim (λ (a : (get_or image start 0 ≡ 1) × HasBase n start image r offset). omega (arith, behind_snapshot n start image r offset a.1)) (λ (p : IsPlain start image r offset). omega (arith, p.start_is, p.offset_is)) begins
 
 -- what is summarised is sound
+pub base_few : (n start : ℕ) (image : List ℕ) (r : Reading) (offset : ℕ) → Begins n start image r offset → fin.len r.base.floors < 2 ^ 32
+base_few n start image r offset begins =
+    ⊎_elim (λ (a : (get_or image start 0 ≡ 1) × HasBase n start image r offset). a.1.snapshot.few_floors)
+    (λ (p : IsPlain start image r offset). omega (arith, ap (λ (s : Summary). fin.len s.floors) p.base, fin.len-empty group_cmp ℕ)) begins
+
 pub base_sound : (n start : ℕ) (image : List ℕ) (r : Reading) (offset : ℕ) → Begins n start image r offset → IsSound n r.base
 base_sound n start image r offset begins =
     ⊎_elim (λ (a : (get_or image start 0 ≡ 1) × HasBase n start image r offset). a.1.snapshot.sound) (λ (p : IsPlain start image r offset). subst (IsSound n) (sym p.base) (sound-empty n)) begins

@@ -77,11 +77,11 @@ pub length-new_area : (layout epoch : ℕ) (s : Summary) → length (new_area la
 length-new_area layout epoch s = omega (arith, length-append (snapshot_of layout s) (0 ∷ []), length-snapshot layout s)
 
 -- the layout and the epoch are written in front of a blank area
-pub numbered : (s : Summary) (epoch : ℕ) (bytes whole part behind : List ℕ) (n : ℕ) → bytes ≡ blank_area newest s → n ≡ length bytes → whole ≡ set bytes 0 2
+pub numbered : (s : Summary) (epoch : ℕ) (bytes whole part behind : List ℕ) (n : ℕ) → bytes ≡ blank_area newest s → n ≡ length bytes → whole ≡ set bytes 0 newest
     → part ≡ to_be_bytes w64 epoch
     → take n ((take 1 whole ++ (part ++ drop 8 (drop 1 whole))) ++ behind) ≡ new_area newest epoch s
 numbered s epoch bytes whole part behind n bytes_are n_is whole_is part_is =
-    let whole_now : whole ≡ set (blank_area newest s) 0 2 = whole_is ∙ ap (λ (l : List ℕ). set l 0 2) bytes_are in
+    let whole_now : whole ≡ set (blank_area newest s) 0 newest = whole_is ∙ ap (λ (l : List ℕ). set l 0 newest) bytes_are in
     let all : take 1 whole ++ (part ++ drop 8 (drop 1 whole)) ≡ new_area newest epoch s = λ i. take 1 (whole_now i) ++ (part_is i ++ drop 8 (drop 1 (whole_now i))) in
     let long : n ≡ length (new_area newest epoch s) = omega (arith, n_is, ap length bytes_are, length-append (snapshot_of newest s) (0 ∷ [])) in
     ap (λ (l : List ℕ). take n (l ++ behind)) all ∙ take_at (new_area newest epoch s) behind n (sym long)

@@ -7,7 +7,7 @@ use Rattle.ring_records.specs.Member.{Member}
 use Rattle.ring_records.specs.Record.{record_of}
 use Rattle.ring_records.proofs.Counts.{costs-joined}
 use Rattle.ring_records.proofs.Records.{cost-record, record-long}
-use Rattle.gated_journal.specs.Frames.{records, body, frames, joined, AreBatches, IsFrame, ReadsTo}
+use Rattle.gated_journal.specs.Frames.{records, body, frames, joined, HaveRecords, AreBatches, IsFrame, ReadsTo}
 use Rattle.gated_journal.specs.Reading.{is_header}
 
 -- ---- sums of costs
@@ -27,13 +27,13 @@ frames-within layout (b ∷ batches) sized =
     omega (arith, frames-within layout batches sized.1, costs-joined b (joined batches), costs-parts b, length-append (body b) (frames batches), length-body b, some)
 
 -- records are longer than what a frame adds to them, so the sum of the costs is less than twice the bytes
-records-long : (inputs : List Input) → 7 * length inputs ≤ length (records inputs)
-records-long [] = omega arith
-records-long (x ∷ inputs) = omega (arith, record-long x, records-long inputs, length-append (record_of x) (records inputs))
+records-long : (layout : ℕ) (inputs : List Input) → HaveRecords layout inputs → 7 * length inputs ≤ length (records inputs)
+records-long layout [] have = omega arith
+records-long layout (x ∷ inputs) have = omega (arith, record-long x have.0.0, records-long layout inputs have.1, length-append (record_of x) (records inputs))
 
-costs-bound : (batches : List (List Input)) → costs_of (joined batches) ≤ 2 * length (frames batches)
-costs-bound [] = omega arith
-costs-bound (b ∷ batches) = omega (arith, costs-bound batches, costs-joined b (joined batches), costs-parts b, records-long b, length-append (body b) (frames batches), length-body b)
+costs-bound : (layout : ℕ) (batches : List (List Input)) → AreBatches layout batches → costs_of (joined batches) ≤ 2 * length (frames batches)
+costs-bound layout [] sized = omega arith
+costs-bound layout (b ∷ batches) sized = omega (arith, costs-bound layout batches sized.1, costs-joined b (joined batches), costs-parts b, records-long layout b sized.0.have, length-append (body b) (frames batches), length-body b)
 
 -- ---- that a batch fits
 
@@ -66,7 +66,7 @@ costs {layout = layout} offset image inputs gate_at r =
     record {
       within = omega (arith, r.ends, same, frames-within layout r.batches r.sized);
       counted = omega (arith, costs-parts inputs);
-      bound = omega (arith, r.ends, same, costs-bound r.batches);
+      bound = omega (arith, r.ends, same, costs-bound layout r.batches r.sized);
     }
 
 -- the capacity of a header that may be written

@@ -15,6 +15,7 @@ pub mod Fault
 pub mod Head
 pub mod Heads
 pub mod Kept
+pub mod FewFloors
 pub mod FramesAlone
 pub mod Once
 pub mod Pieces

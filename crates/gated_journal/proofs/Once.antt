@@ -1,8 +1,9 @@
 -- An image reads as one reading in one way only.
-use Rattle.std.proofs.Common.{◌≡◌, ◌≢◌, inl, inr, arith, ℕ, ◌+◌, List, [], ◌∷◌, ◌++◌, length, take, drop, get_or, ap, ◌⊎◌}
+use Rattle.std.proofs.Common.{◌≡◌, ◌≢◌, inl, inr, arith, ℕ, ◌+◌, Bool, List, [], ◌∷◌, ◌++◌, length, take, drop, get_or, ap, ◌⊎◌}
 use Rattle.std.proofs.Math.Path.{Σ_path, to_path_p}
 use Rattle.std.proofs.Props.{props}
-use Rattle.std.specs.Coded.{Coded-set, le_prop, Unit-prop, ×_prop}
+use Rattle.std.specs.FinMap as fin
+use Rattle.std.specs.Coded.{Coded-set, coded_ℕ, le_prop, Unit-prop, ×_prop}
 use Rattle.ring_records.specs.declared.input.Input.{Input}
 use Rattle.ring_records.specs.declared.candidate.Candidate.{Candidate}
 use Rattle.ring_records.specs.declared.key.Key.{Key}
@@ -10,6 +11,7 @@ use Rattle.ring_records.specs.declared.key_state.KeyState.{KeyState}
 use Rattle.ring_records.specs.declared.msg.Msg.{Msg}
 use Rattle.ring_records.specs.declared.summary.Summary.{Summary}
 use Rattle.ring_records.specs.Codes.{coded_summary}
+use Rattle.ring_records.specs.KeyOrder.{coded_group}
 use Rattle.ring_records.specs.Member.{Member}
 use Rattle.ring_records.specs.Message.{key_of}
 use Rattle.ring_records.specs.Snapshot.{IsCandidateOf, IsStateOf, IsMessageOf, IsSound, Spells}
@@ -83,6 +85,9 @@ Bytes-set = hlevel props
 Key-set : IsSet Key
 Key-set = hlevel props
 
+Tests-set : IsSet Bool
+Tests-set = hlevel props
+
 IsCandidateOf-prop : (n : ℕ) (c : Candidate) → IsProp (IsCandidateOf n c)
 IsCandidateOf-prop n c p q i = record { in_range = candidate_prop c p.in_range q.in_range i; in_ring = le_prop p.in_ring q.in_ring i }
 
@@ -108,11 +113,20 @@ IsSound-prop n s p q i = record {
   stands = Numbers-set _ _ p.stands q.stands i;
   states = λ key state is. IsStateOf-prop n key state (p.states key state is) (q.states key state is) i;
   messages = λ msg there. IsMessageOf-prop n msg (p.messages msg there) (q.messages msg there) i;
+  floors = λ group floor is. key_prop (record { group = group; term = floor }) (p.floors group floor is) (q.floors group floor is) i;
+  live = λ key state is. Tests-set _ _ (p.live key state is) (q.live key state is) i;
 }
 
 Spells-prop : (layout n : ℕ) (bytes : List ℕ) (s : Summary) → IsProp (Spells layout n bytes s)
 Spells-prop layout n bytes s p q i =
-    record { is = Bytes-set _ _ p.is q.is i; sound = IsSound-prop n s p.sound q.sound i; few_keys = le_prop p.few_keys q.few_keys i; plain = λ old. Coded-set coded_summary s empty (p.plain old) (q.plain old) i }
+    record {
+      is = Bytes-set _ _ p.is q.is i;
+      sound = IsSound-prop n s p.sound q.sound i;
+      few_keys = le_prop p.few_keys q.few_keys i;
+      few_floors = le_prop p.few_floors q.few_floors i;
+      none = λ old. Coded-set (fin.code coded_group coded_ℕ) s.floors fin.empty (p.none old) (q.none old) i;
+      plain = λ old. Coded-set coded_summary s empty (p.plain old) (q.plain old) i;
+    }
 
 -- ---- a journal
 

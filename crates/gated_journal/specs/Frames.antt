@@ -3,7 +3,7 @@ use Rattle.std.specs.Prelude.{◌≡◌, ◌≢◌, ◌⊎◌, ◌+◌, ◌≤�
 use Rattle.std.specs.Int.{w16, w32, to_be_bytes}
 use Rattle.disk_model.specs.Disk.{Changes}
 use Rattle.ring_records.specs.declared.input.Input.{Input}
-use Rattle.ring_records.specs.declared.input.Input.TheVariants.{Stand, Take, Acked}
+use Rattle.ring_records.specs.declared.input.Input.TheVariants.{Stand, Take, Acked, Retire}
 use Rattle.ring_records.specs.declared.limits.TheConstants.{BATCH_INPUTS}
 use Rattle.ring_records.specs.Record.{HasRecord, record_of}
 
@@ -23,11 +23,12 @@ abbrev pub frames : List (List Input) → List ℕ
 frames [] = []
 frames (batch ∷ batches) = 1 ∷ (body batch ++ frames batches)
 
--- the frames of an area of this layout may hold the input: each one that there is
+-- The frames of an area of this layout may hold the input. No area may hold a Retire yet: those of layout 3 will.
 abbrev pub Suits : ℕ → Input → Type 0
 Suits layout (Stand key bid) = Unit {0}
 Suits layout (Take msg_no msg) = Unit {0}
 Suits layout (Acked upto) = Unit {0}
+Suits layout (Retire group new) = ⊥
 
 abbrev pub HaveRecords : ℕ → List Input → Type 0
 HaveRecords layout [] = Unit {0}

@@ -3,7 +3,7 @@ use Rattle.std.specs.Prelude.{ℕ, List, [], ◌∷◌}
 use Rattle.std.specs.Coded.{Coded-set, coded_bool, coded_list, coded_ℕ, le_prop, Unit-prop, ×_prop}
 use Rattle.ring_records.specs.declared.candidate.Candidate.{Candidate}
 use Rattle.ring_records.specs.declared.input.Input.{Input}
-use Rattle.ring_records.specs.declared.input.Input.TheVariants.{Stand, Take, Acked}
+use Rattle.ring_records.specs.declared.input.Input.TheVariants.{Stand, Take, Acked, Retire}
 use Rattle.ring_records.specs.declared.key.Key.{Key}
 use Rattle.ring_records.specs.Message.{key_of, candidate_of}
 use Rattle.ring_records.specs.Record.{IsKeyInRange, IsCandidateInRange, HasRecord}
@@ -20,11 +20,13 @@ unfolding HasRecord
 HasRecord-prop (Stand key bid) p q i = (key_prop key p.0 q.0 i, le_prop p.1 q.1 i)
 HasRecord-prop (Take msg_no msg) p q i = (le_prop p.0 q.0 i, key_prop (key_of msg) p.1 q.1 i, candidate_prop (candidate_of msg) p.2 q.2 i)
 HasRecord-prop (Acked upto) p q i = le_prop p q i
+HasRecord-prop (Retire group new) p q i = key_prop (record { group = group; term = new }) p q i
 
 pub Suits-prop : (layout : ℕ) (x : Input) → IsProp (Suits layout x)
 Suits-prop layout (Stand key bid) = Unit-prop
 Suits-prop layout (Take msg_no msg) = Unit-prop
 Suits-prop layout (Acked upto) = Unit-prop
+Suits-prop layout (Retire group new) = λ p. absurd p
 
 pub HaveRecords-prop : (layout : ℕ) (inputs : List Input) → IsProp (HaveRecords layout inputs)
 HaveRecords-prop layout [] = Unit-prop

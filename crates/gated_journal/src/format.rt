@@ -12,15 +12,15 @@ use disk_model::{Device, DeviceFault};
 use ring_records::NodeNo;
 
 // A header, and area A with the snapshot of a node without inputs.
-fn new_areas(node: NodeNo, n: u8, capacity: u32) -> [u8; 69]
+fn new_areas(node: NodeNo, n: u8, capacity: u32) -> [u8; 73]
     ensures { result ≡ new_areas (member node n capacity) }
 {
     let c = capacity.to_be_bytes();
     let node = node.number();
     [
         b'C', b'R', b'J', b'R', b'N', b'L', b'0', b'2', node, n, c[0], c[1], c[2], c[3], 0, 0, 1,
-        2, 0, 0, 0, 0, 0, 0, 0, 1, 0, 0, 0, 38, 0, 0, 0, 0, 0, 0, 0, 0, 0, 0, 0, 0, 0, 0, 0, 0, 0,
-        0, 0, 0, 0, 0, 0, 0, 0, 0, 0, 0, 0, 0, 0, 0, 0, 0, 0, 0, 0, 0, 0,
+        3, 0, 0, 0, 0, 0, 0, 0, 1, 0, 0, 0, 42, 0, 0, 0, 0, 0, 0, 0, 0, 0, 0, 0, 0, 0, 0, 0, 0, 0,
+        0, 0, 0, 0, 0, 0, 0, 0, 0, 0, 0, 0, 0, 0, 0, 0, 0, 0, 0, 0, 0, 0, 0, 0, 0, 0,
     ]
 }
 
@@ -33,7 +33,7 @@ pub(crate) fn lay_out<D: Device>(
     capacity: u32,
 ) -> Result<bool, DeviceFault>
     requires range { is_header (member node n capacity) ≡ true }
-    ensures reads { OnOk result (ReadsAt (member node n capacity) (D.disk device.new).image (fresh_area newest 1 empty) area_a (area_b capacity) 68 68) }
+    ensures reads { OnOk result (ReadsAt (member node n capacity) (D.disk device.new).image (fresh_area newest 1 empty) area_a (area_b capacity) 72 72) }
     ensures gate { IfOk result (λ is_closed. IsGate is_closed (area_b capacity) (D.disk device.new).image) }
     ensures synced { OnOk result (IsSynced (D.disk device.new)) }
     ensures cause { HasCause (D.count device.old) (D.count device.new) result }

@@ -45,7 +45,7 @@ impl<D: Device> Journal<D> {
         ensures header { IfOk result (λ journal. member_of journal ≡ member node n capacity) }
         ensures ready { IfOk result (λ journal. is_spoiled journal ≡ false) }
         ensures len { IfOk result (λ journal. len_of journal ≡ 0) }
-        ensures room { IfOk result (λ journal. room_of journal ≡ capacity - 38) }
+        ensures room { IfOk result (λ journal. room_of journal ≡ capacity - 42) }
         ensures epoch { IfOk result (λ journal. epoch_of journal ≡ 1) }
         ensures range { OnOk result (is_header (member node n capacity) ≡ true) }
         ensures same { IfOk result (λ journal. D.count (device_of journal) ≡ D.count device) }
@@ -68,14 +68,14 @@ impl<D: Device> Journal<D> {
                     is_closed,
                     layout: LAYOUT,
                     epoch: 1,
-                    offset: 68,
+                    offset: 72,
                 };
                 let place = Place {
                     capacity,
                     area,
-                    gate_at: 68,
+                    gate_at: 72,
                     count: 0,
-                    used: 38,
+                    used: 42,
                 };
                 Ok(Journal {
                     device,

@@ -1,7 +1,8 @@
 //! The frame at the front of bytes that may go on, behind its gate. Its inputs are taken without a growth.
 ghost use Rattle.std.specs.Prelude.{◌≡◌, ◌+◌, ◌-◌, ◌*◌, ◌≤◌, ℕ, true, false, List, [], length, vec_len, vec_capacity, MatchOption};
 ghost use Rattle.ring_records.specs.declared.input.Input.{Input};
-ghost use Rattle.gated_journal.specs.Frames.{records, HaveRecords};
+ghost use Rattle.ring_records.specs.Record.{BeginsWith};
+ghost use Rattle.gated_journal.specs.Frames.{records, Suits, HaveRecords};
 ghost use Rattle.gated_journal.specs.NextFrame.{HasHead, TakesRecords, TakesFrame};
 ghost use Rattle.gated_journal.specs.Damage.{NoFrame};
 ghost use Rattle.gated_journal.specs.Pieces.{IsFrameFront, IsEnough};
@@ -42,6 +43,20 @@ fn head_of(tail: &[u8]) -> Option<(usize, &[u8])>
     Some((count, &tail[6..6 + size]))
 }
 
+// The record at the front, of an input that an area may hold, and how long it is.
+fn read_suited(bytes: &[u8]) -> Option<(Input, usize)>
+    ensures { MatchOption result ((layout : ℕ) (x : Input) (n : ℕ) → BeginsWith bytes.now x n → Suits layout x → ⊥)
+        (λ found. BeginsWith bytes.now found.0 found.1 × ((layout : ℕ) → Suits layout found.0)) }
+{
+    let Ok((input, size)) = read_record(bytes) else {
+        return None;
+    };
+    match input {
+        Input::Retire { .. } => None,
+        Input::Stand { .. } | Input::Take { .. } | Input::Acked { .. } => Some((input, size)),
+    }
+}
+
 // Takes so many records from the bytes, and tells whether they were there and nothing else.
 fn take_records(inputs: &mut Vec<Input>, bytes: &[u8], count: usize) -> bool
     requires room { length bytes.now ≤ 9 * (vec_capacity inputs.old - vec_len inputs.old) }
@@ -51,7 +66,7 @@ fn take_records(inputs: &mut Vec<Input>, bytes: &[u8], count: usize) -> bool
 {
     let mut rest = bytes;
     for _ in 0..count {
-        let Ok((input, size)) = read_record(rest) else {
+        let Some((input, size)) = read_suited(rest) else {
             return false;
         };
         inputs.push_reserved(input);

@@ -4,4 +4,6 @@
 #[cfg(test)]
 mod devices;
 #[cfg(test)]
+mod growths;
+#[cfg(test)]
 mod journal;

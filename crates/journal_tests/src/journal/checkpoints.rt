@@ -1,17 +1,17 @@
 // Checkpoints: the bytes that they write, the room that they leave, and what is read of them.
 use super::*;
 
-/// Area A in epoch 3, with the snapshot of the Stand and an Acked of 1: 51 bytes.
-const THIRD: [u8; 66] = [
-    1, 2, 0, 0, 0, 0, 0, 0, 0, 3, 0, 0, 0, 51, 0, 0, 0, 0, 0, 0, 0, 2, 0, 0, 0, 0, 0, 0, 0, 0, 0,
+/// Area A in epoch 3, with the snapshot of the Stand and an Acked of 1: 55 bytes.
+const THIRD: [u8; 70] = [
+    1, 3, 0, 0, 0, 0, 0, 0, 0, 3, 0, 0, 0, 55, 0, 0, 0, 0, 0, 0, 0, 2, 0, 0, 0, 0, 0, 0, 0, 0, 0,
     0, 0, 0, 0, 0, 0, 1, 0, 0, 0, 0, 0, 0, 0, 1, 0, 1, 0, 0, 0, 1, 3, 0x72, 0x65, 0x64, 0, 0, 0, 5,
-    1, 0, 0, 0, 10, 0,
+    1, 0, 0, 0, 10, 0, 0, 0, 0, 0,
 ];
 
 static WRITES_B: [Step; 3] = [
     Step::Commits(&[STOOD]),
     Step::Checkpoints(&[], &SECOND),
-    Step::Tells(1, 4031, 2),
+    Step::Tells(1, 4027, 2),
 ];
 
 #[test]
@@ -19,25 +19,25 @@ fn a_checkpoint_writes_the_other_area(rt: HostRuntime) {
     let mut journal = fresh(&rt);
     plays(&rt, &mut journal, &WRITES_B);
     let parts: [(u64, &[u8]); 2] = [(0, &COMMITTED), (AREA_B, &SECOND)];
-    let device = stable(&rt, journal, 4207, &parts);
-    is_reopened(&rt, device, (1, 4031, 2), 1, &[]);
+    let device = stable(&rt, journal, 4211, &parts);
+    is_reopened(&rt, device, (1, 4027, 2), 1, &[]);
 }
 
 /// The first checkpoint makes an input durable too; a batch goes behind it, and the second one takes area A.
 static IN_TURNS: [Step; 6] = [
     Step::Checkpoints(&[STOOD], &SECOND),
-    Step::Tells(1, 4031, 2),
+    Step::Tells(1, 4027, 2),
     Step::Commits(&[ACKED]),
-    Step::Tells(2, 4015, 2),
+    Step::Tells(2, 4011, 2),
     Step::Checkpoints(&[], &THIRD),
-    Step::Tells(2, 4045, 3),
+    Step::Tells(2, 4041, 3),
 ];
 
 #[test]
 fn checkpoints_take_turns(rt: HostRuntime) {
     let mut journal = fresh(&rt);
     plays(&rt, &mut journal, &IN_TURNS);
-    let parts: [(u64, &[u8]); 2] = [(16, &THIRD), (AREA_B, &SECOND[..79])];
-    let device = stable(&rt, journal, 4223, &parts);
-    is_reopened(&rt, device, (2, 4045, 3), 2, &[]);
+    let parts: [(u64, &[u8]); 2] = [(16, &THIRD), (AREA_B, &SECOND[..83])];
+    let device = stable(&rt, journal, 4227, &parts);
+    is_reopened(&rt, device, (2, 4041, 3), 2, &[]);
 }

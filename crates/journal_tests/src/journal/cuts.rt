@@ -6,15 +6,15 @@ fn read_of<R: Abort + AllocGlobal>(rt: &R, puts: &[(u64, &[u8])]) -> Result<(u64
     found(rt.alloc(), device(rt, puts))
 }
 
-/// How many inputs are read of so many bytes of area A, or the fault. The first frame stands from 68 on and takes 20
-/// bytes, the second from 88 on and takes 16, and the closed gate is at 104.
+/// How many inputs are read of so many bytes of area A, or the fault. The first frame stands from 72 on and takes 20
+/// bytes, the second from 92 on and takes 16, and the closed gate is at 108.
 fn in_area_a(len: usize) -> Result<u64, Refusal> {
     match len {
         0..=16 => Err(Refusal::NotFormatted),
-        17..=67 => Err(Refusal::Damaged(16)),
-        68..=87 => Err(Refusal::Damaged(68)),
-        88..=103 => Err(Refusal::Damaged(88)),
-        104 => Err(Refusal::Damaged(104)),
+        17..=71 => Err(Refusal::Damaged(16)),
+        72..=91 => Err(Refusal::Damaged(72)),
+        92..=107 => Err(Refusal::Damaged(92)),
+        108 => Err(Refusal::Damaged(108)),
         _ => Ok(2),
     }
 }
@@ -26,10 +26,10 @@ fn two_frames_cut_at_every_length(rt: HostRuntime) {
     let mut journal = fresh(&rt);
     plays(&rt, &mut journal, &TWO_FRAMES);
     let mut device = journal.into_device();
-    assert_eq!(rt; device.size(), 105);
-    let mut image = [0; 105];
+    assert_eq!(rt; device.size(), 109);
+    let mut image = [0; 109];
     assert!(rt; device.read_at(0, &mut image).is_ok());
-    for len in 0..106 {
+    for len in 0..110 {
         let read = read_of(&rt, &[(0, &image[..len])]);
         assert_eq!(rt; read.map(|read| read.0), in_area_a(len), "{len}");
     }
@@ -40,15 +40,15 @@ fn two_frames_cut_at_every_length(rt: HostRuntime) {
 fn in_area_b(len: usize) -> Result<u64, Refusal> {
     match len {
         0..=9 => Ok(1),
-        10..=78 => Err(Refusal::Damaged(AREA_B)),
-        79 => Err(Refusal::Damaged(AREA_B + 79)),
+        10..=82 => Err(Refusal::Damaged(AREA_B)),
+        83 => Err(Refusal::Damaged(AREA_B + 83)),
         _ => Ok(2),
     }
 }
 
 #[test]
 fn a_second_area_cut_at_every_length(rt: HostRuntime) {
-    for len in 0..81 {
+    for len in 0..85 {
         let read = read_of(&rt, &[(0, &COMMITTED), (AREA_B, &SECOND[..len])]);
         assert_eq!(rt; read.map(|read| read.1), in_area_b(len), "{len}");
     }

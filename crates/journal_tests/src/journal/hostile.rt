@@ -14,10 +14,10 @@ static CHANGED: [Row; 8] = [
     (&[(12, 0x0F), (13, 0xFF)], Damaged(10)),
     (&[(15, 1)], Damaged(14)),
     // A snapshot that is one byte too short, and one too long.
-    (&[(29, 37)], Damaged(16)),
-    (&[(29, 39)], Damaged(16)),
+    (&[(29, 41)], Damaged(16)),
+    (&[(29, 43)], Damaged(16)),
     // An open gate with nothing behind it.
-    (&[(68, 1)], Damaged(68)),
+    (&[(72, 1)], Damaged(72)),
 ];
 
 /// This image is read so by node 1, and so by any other.

@@ -6,7 +6,7 @@ use super::*;
 pub type Row = (&'static [(u64, u8)], Verdict);
 
 /// Changes of row `one_commit`.
-pub static ONE_AREA: [Row; 43] = [
+pub static ONE_AREA: [Row; 46] = [
     // The mark, which may be that of a journal that began without areas, the node, the ring's size.
     (&[(0, b'c')], NotFormatted),
     (&[(7, b'1')], Reads(1, 1)),
@@ -22,44 +22,48 @@ pub static ONE_AREA: [Row; 43] = [
     (&[(16, 0)], Damaged(16)),
     (&[(16, 2)], Damaged(16)),
     (&[(17, 1)], Damaged(16)),
-    (&[(17, 3)], Damaged(16)),
+    (&[(17, 2)], Damaged(16)),
+    (&[(17, 4)], Damaged(16)),
     // Epochs of 0, 2^39, 2^40 and 2^56.
     (&[(25, 0)], Reads(1, 0)),
     (&[(21, 0x80), (25, 0)], Reads(1, 1 << 39)),
     (&[(20, 1)], Damaged(16)),
     (&[(18, 1)], Damaged(16)),
     // A size one too small, one too large, all there is, one more, and far too large.
-    (&[(29, 37)], Damaged(16)),
-    (&[(29, 39)], Damaged(16)),
-    (&[(29, 59)], Damaged(16)),
-    (&[(29, 60)], Damaged(16)),
+    (&[(29, 41)], Damaged(16)),
+    (&[(29, 43)], Damaged(16)),
+    (&[(29, 63)], Damaged(16)),
+    (&[(29, 64)], Damaged(16)),
     (&[(26, 255)], Damaged(16)),
-    // A snapshot of one input, of a Take among none, of a key that is not there.
+    // A snapshot of one input, of a Take among none, of a key that is not there, of a floor.
     (&[(37, 1)], Reads(2, 1)),
     (&[(45, 1)], Damaged(16)),
     (&[(67, 1)], Damaged(16)),
+    (&[(71, 1)], Damaged(16)),
     // A first gate that is closed by another byte; counts of 0, 2, 65 and 257.
-    (&[(68, 7)], Reads(0, 1)),
-    (&[(70, 0)], Damaged(68)),
-    (&[(70, 2)], Damaged(68)),
-    (&[(70, 65)], Damaged(68)),
-    (&[(69, 1)], Damaged(68)),
+    (&[(72, 7)], Reads(0, 1)),
+    (&[(74, 0)], Damaged(72)),
+    (&[(74, 2)], Damaged(72)),
+    (&[(74, 65)], Damaged(72)),
+    (&[(73, 1)], Damaged(72)),
     // A length one too small, one too large, and far too large.
-    (&[(74, 12)], Damaged(68)),
-    (&[(74, 14)], Damaged(68)),
-    (&[(71, 1)], Damaged(68)),
+    (&[(78, 12)], Damaged(72)),
+    (&[(78, 14)], Damaged(72)),
+    (&[(75, 1)], Damaged(72)),
     // A record's kind, name and term; and a next gate with nothing behind it.
-    (&[(75, 5)], Damaged(68)),
-    (&[(77, b'R')], Damaged(68)),
-    (&[(83, 0)], Damaged(68)),
-    (&[(88, 1)], Damaged(88)),
+    (&[(79, 5)], Damaged(72)),
+    (&[(81, b'R')], Damaged(72)),
+    (&[(87, 0)], Damaged(72)),
+    (&[(92, 1)], Damaged(92)),
     // Two faults: the first one.
     (&[(0, 0), (8, 2)], NotFormatted),
     (&[(7, b'1'), (8, 2)], WrongNode),
     (&[(8, 2), (12, 0)], WrongNode),
     (&[(12, 0), (14, 1)], Damaged(10)),
     (&[(14, 1), (16, 0)], Damaged(14)),
-    (&[(20, 1), (70, 0)], Damaged(16)),
+    (&[(20, 1), (74, 0)], Damaged(16)),
+    // A Retire, which no area holds yet.
+    (&[(78, 9), (79, 5)], Damaged(72)),
 ];
 
 /// Changes of the same with area B behind it, which is read.
@@ -72,19 +76,19 @@ pub static TWO_AREAS: [Row; 17] = [
     (&[(4127, 0)], Reads(1, 1)),
     (&[(4127, 7)], Reads(1, 1)),
     (&[(4128, 1)], Reads(1, 1)),
-    (&[(4128, 3)], Reads(1, 1)),
+    (&[(4128, 4)], Reads(1, 1)),
     (&[(16, 0)], Reads(1, 2)),
-    (&[(17, 3), (4136, 0)], Reads(1, 0)),
+    (&[(17, 4), (4136, 0)], Reads(1, 0)),
     (&[(16, 0), (4127, 0)], Damaged(16)),
     // The one that is read is broken: its epoch, its size, its snapshot, its first gate.
     (&[(4131, 1)], Damaged(4127)),
     (&[(20, 1)], Damaged(16)),
-    (&[(4140, 64)], Damaged(4127)),
-    (&[(4140, 66)], Damaged(4127)),
+    (&[(4140, 68)], Damaged(4127)),
+    (&[(4140, 70)], Damaged(4127)),
     (&[(4205, 4)], Damaged(4127)),
-    (&[(4206, 1)], Damaged(4206)),
+    (&[(4210, 1)], Damaged(4210)),
     // The one that is not read is broken.
-    (&[(26, 255), (70, 0)], Reads(1, 2)),
+    (&[(26, 255), (74, 0)], Reads(1, 2)),
 ];
 
 /// With these changes the device is read so.
@@ -114,14 +118,14 @@ fn each_image_has_its_answer(rt: HostRuntime) {
 
 #[test]
 fn frames_end_within_the_capacity(rt: HostRuntime) {
-    // Two frames of 64 of the longest inputs: the closed gate is at 68 + 2 * 2,247, which is 30 behind 4,532.
+    // Two frames of 64 of the longest inputs: the closed gate is at 72 + 2 * 2,247, which is 30 behind 4,536.
     let mut ends = with_longest(&rt, 6000, 2);
-    assert_eq!(rt; ends.size(), 4563);
-    let mut image = [0; 4563];
+    assert_eq!(rt; ends.size(), 4567);
+    let mut image = [0; 4567];
     assert!(rt; ends.read_at(0, &mut image).is_ok());
     for (capacity, read) in [
-        ([0x11, 0xB4], Reads(128, 1)),
-        ([0x11, 0xB3], Damaged(16)),
+        ([0x11, 0xB8], Reads(128, 1)),
+        ([0x11, 0xB7], Damaged(16)),
         ([0x10, 0], Damaged(16)),
     ] {
         let device = device(&rt, &[(0, &image), (12, &capacity)]);
@@ -134,6 +138,6 @@ fn a_device_that_fails_is_told(rt: HostRuntime) {
     // The calls are a sync and reads of the header, of both heads and of the area.
     for after in 0..5 {
         let device = device(&rt, &[(0, &COMMITTED), (AREA_B, &SECOND)]);
-        fault_is_told(&rt, device, after, (1, 4031, 2));
+        fault_is_told(&rt, device, after, (1, 4027, 2));
     }
 }

@@ -36,7 +36,7 @@ fn fed(
     requires room { offset + length area.now < 2 ^ 64 }
     requires some { 0 < length lengths.now }
 {
-    let mut reader = AreaReader::new(rt.alloc(), offset, 2, 3);
+    let mut reader = AreaReader::new(rt.alloc(), offset, LAYOUT, 3);
     let mut rest = area;
     let mut asked = 0;
     for i in 0..area.len() {
@@ -59,44 +59,48 @@ fn read(reader: AreaReader) -> Answer
 
 #[test]
 fn one_commit_in_pieces(rt: HostRuntime) {
-    for size in [1, 2, 73] {
+    for size in [1, 2, 77] {
         let (area, _) = fed(&rt, 16, &COMMITTED[16..], &[size]);
-        assert_eq!(rt; area, Ok((1, 88)), "{size}");
+        assert_eq!(rt; area, Ok((1, 92)), "{size}");
     }
 }
 
 /// Changes of area A of row `one_commit` with sevens behind it, behind how many of its bytes more is asked for, and what is
 /// told behind the next one.
-static TOLD: [(&[(u64, u8)], usize, Verdict); 17] = [
-    (&[], 72, Reads(1, 1)),
+static TOLD: [(&[(u64, u8)], usize, Verdict); 20] = [
+    (&[], 76, Reads(1, 1)),
     // A closed gate, another layout, an epoch that is too great: once the 14 bytes of the head are there.
     (&[(16, 0)], 13, Verdict::Damaged(16)),
-    (&[(17, 3)], 13, Verdict::Damaged(16)),
+    (&[(17, 2)], 13, Verdict::Damaged(16)),
     (&[(20, 1)], 13, Verdict::Damaged(16)),
-    // A snapshot of 0 and of 37 bytes, and one of 4 GB, once 38 bytes behind the counts are no part of it.
+    // A snapshot of 0, of 37 and of 41 bytes, and one of 4 GB, once 38 bytes behind the number of floors are no part of it.
     (&[(29, 0)], 13, Verdict::Damaged(16)),
     (&[(29, 37)], 50, Verdict::Damaged(16)),
-    (&[(26, 255)], 89, Verdict::Damaged(16)),
-    // More credited than sent, and a Take among no inputs, once the counts are there.
+    (&[(29, 41)], 54, Verdict::Damaged(16)),
+    (&[(26, 255)], 93, Verdict::Damaged(16)),
+    // More credited than sent, once the counts are there, and a Take among no inputs and a floor, once all is there.
     (&[(53, 1)], 51, Verdict::Damaged(16)),
-    (&[(45, 1)], 51, Verdict::Damaged(16)),
+    (&[(45, 1)], 55, Verdict::Damaged(16)),
+    (&[(71, 1)], 55, Verdict::Damaged(16)),
     // Frames of 0, 65 and 257 inputs, and an input of 36 bytes and of 4 GB, once both numbers are there.
-    (&[(70, 0)], 58, Verdict::Damaged(68)),
-    (&[(70, 65)], 58, Verdict::Damaged(68)),
-    (&[(69, 1)], 58, Verdict::Damaged(68)),
-    (&[(74, 36)], 58, Verdict::Damaged(68)),
-    (&[(71, 255)], 58, Verdict::Damaged(68)),
+    (&[(74, 0)], 62, Verdict::Damaged(72)),
+    (&[(74, 65)], 62, Verdict::Damaged(72)),
+    (&[(73, 1)], 62, Verdict::Damaged(72)),
+    (&[(78, 36)], 62, Verdict::Damaged(72)),
+    (&[(75, 255)], 62, Verdict::Damaged(72)),
     // One of 35 bytes and of 12, and another kind, once the records are there.
-    (&[(74, 35)], 93, Verdict::Damaged(68)),
-    (&[(74, 12)], 70, Verdict::Damaged(68)),
-    (&[(75, 5)], 71, Verdict::Damaged(68)),
+    (&[(78, 35)], 97, Verdict::Damaged(72)),
+    (&[(78, 12)], 74, Verdict::Damaged(72)),
+    (&[(79, 5)], 75, Verdict::Damaged(72)),
+    // A Retire, which no area holds yet.
+    (&[(78, 9), (79, 5)], 71, Verdict::Damaged(72)),
 ];
 
 #[test]
 fn a_fault_is_told_once_it_is_there(rt: HostRuntime) {
     for (changes, asked, verdict) in &TOLD {
         let mut image = [7; 200];
-        image[..89].copy_from_slice(&COMMITTED);
+        image[..93].copy_from_slice(&COMMITTED);
         change(&mut image, changes);
         let (area, behind) = fed(&rt, 16, &image[16..], &[1]);
         assert_eq!(rt; count(area), count(verdict.answer()));
@@ -108,25 +112,27 @@ fn a_fault_is_told_once_it_is_there(rt: HostRuntime) {
 fn kept_of(rt: &(impl Abort + AllocGlobal), area: &[u8], first: usize) -> usize
     requires { 16 + length area.now < 2 ^ 64 }
 {
-    let mut reader = AreaReader::new(rt.alloc(), 16, 2, 3);
+    let mut reader = AreaReader::new(rt.alloc(), 16, LAYOUT, 3);
     goes_on(rt, &mut reader, &area[..first.min(area.len())]);
     reader.kept_len()
 }
 
 #[test]
 fn the_bytes_that_are_kept(rt: HostRuntime) {
-    // A head of 14 bytes, a snapshot of 38, a gate with a frame of 64 of the longest inputs, and a gate.
+    // A head of 14 bytes, a snapshot of 42, a gate with a frame of 64 of the longest inputs, and a gate.
     let mut device = with_longest(&rt, 6000, 1);
-    let mut image = [0; 2316];
+    let mut image = [0; 2320];
     assert!(rt; device.read_at(0, &mut image).is_ok());
     for (first, kept) in [
         (13, 13),
         (14, 0),
         (51, 37),
         (52, 0),
-        (2298, 2246),
-        (2299, 0),
-        (2300, 0),
+        (55, 3),
+        (56, 0),
+        (2302, 2246),
+        (2303, 0),
+        (2304, 0),
     ] {
         assert_eq!(rt; kept_of(&rt, &image[16..], first), kept);
     }
@@ -175,8 +181,8 @@ pub fn one_area(rt: &(impl Abort + AllocGlobal), image: &mut [u8], row: &Row)
 
 /// What is told of a device with two areas is told of one of them, or none is chosen.
 fn two_areas(rt: &(impl Abort + AllocGlobal), row: &Row) {
-    let mut image = [0; 4207];
-    image[..89].copy_from_slice(&COMMITTED);
+    let mut image = [0; 4211];
+    image[..93].copy_from_slice(&COMMITTED);
     image[4127..].copy_from_slice(&SECOND);
     change(&mut image, row.0);
     let a = count(in_pieces(rt, 16, &image[16..]));
@@ -237,11 +243,11 @@ impl Random {
 }
 
 /// Area B with two frames behind its snapshot: of a Stand, and of an Acked of 1.
-fn two_frames() -> [u8; 116] {
-    let mut area = [0; 116];
-    area[..79].copy_from_slice(&SECOND[..79]);
-    area[79..99].copy_from_slice(&COMMITTED[68..88]);
-    area[99..115].copy_from_slice(&[1, 0, 1, 0, 0, 0, 9, 4, 0, 0, 0, 0, 0, 0, 0, 1]);
+fn two_frames() -> [u8; 120] {
+    let mut area = [0; 120];
+    area[..83].copy_from_slice(&SECOND[..83]);
+    area[83..103].copy_from_slice(&COMMITTED[72..92]);
+    area[103..119].copy_from_slice(&[1, 0, 1, 0, 0, 0, 9, 4, 0, 0, 0, 0, 0, 0, 0, 1]);
     area
 }
 
@@ -249,7 +255,7 @@ fn two_frames() -> [u8; 116] {
 fn random_cuts_of_random_images(rt: HostRuntime) {
     assert_eq!(rt;
         in_pieces(&rt, AREA_B, &two_frames()),
-        Ok((3, AREA_B + 115))
+        Ok((3, AREA_B + 119))
     );
     let mut random = Random {
         seed: 2_463_534_242,
@@ -257,8 +263,8 @@ fn random_cuts_of_random_images(rt: HostRuntime) {
     for _ in 0..500 {
         let mut image = two_frames();
         random.change(&mut image);
-        let area = &image[..116 - random.below(60)];
-        let (whole, _) = fed(&rt, AREA_B, area, &[116]);
+        let area = &image[..120 - random.below(60)];
+        let (whole, _) = fed(&rt, AREA_B, area, &[120]);
         for _ in 0..5 {
             let lengths = random.lengths();
             let (cut, _) = fed(&rt, AREA_B, area, &lengths);
@@ -272,7 +278,7 @@ fn a_device_that_fails_at_a_piece_is_told(rt: HostRuntime) {
     // Four frames take three reads. The calls are a sync, reads of the header and of one head, and the three.
     for after in 0..6 {
         let device = with_longest(&rt, 11_000, 4);
-        assert_eq!(rt; device.size(), 9057);
-        fault_is_told(&rt, device, after, (256, 210, 1));
+        assert_eq!(rt; device.size(), 9061);
+        fault_is_told(&rt, device, after, (256, 206, 1));
     }
 }

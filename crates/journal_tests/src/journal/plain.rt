@@ -4,12 +4,12 @@ use super::images::{Row, is_read};
 use super::*;
 
 /// Such a journal of node 1 of 3, capacity 4,096: the header, and one frame, the Stand.
-static PLAIN: [u8; 37] = [
+pub static PLAIN: [u8; 37] = [
     0x43, 0x52, 0x4A, 0x52, 0x4E, 0x4C, 0x30, 0x31, 1, 3, 0, 0, 0x10, 0, 0, 0, 1, 0, 1, 0, 0, 0,
     0x0D, 1, 3, 0x72, 0x65, 0x64, 0, 0, 0, 5, 0, 0, 0, 0x0A, 0,
 ];
 
-static CHANGED: [Row; 13] = [
+static CHANGED: [Row; 14] = [
     (&[], Reads(1, 0)),
     // The mark, the node, a blank byte.
     (&[(7, b'2')], Damaged(16)),
@@ -26,6 +26,8 @@ static CHANGED: [Row; 13] = [
     (&[(23, 5)], Damaged(16)),
     // A next gate with nothing behind it.
     (&[(36, 1)], Damaged(36)),
+    // A Retire, which no area holds yet.
+    (&[(22, 9), (23, 5)], Damaged(16)),
 ];
 
 /// Beside area B, which counts, or does not.
@@ -56,7 +58,7 @@ fn frames_alone_end_within_the_capacity(rt: HostRuntime) {
     // Two frames of 64 of the longest inputs: the closed gate is at 16 + 2 * 2,247, which is 30 behind 4,480.
     let mut ends = with_longest(&rt, 6000, 2);
     let mut frames = [0; 4495];
-    assert!(rt; ends.read_at(68, &mut frames).is_ok());
+    assert!(rt; ends.read_at(72, &mut frames).is_ok());
     for (capacity, read) in [
         ([0x11, 0x80], Reads(128, 0)),
         ([0x11, 0x7F], Damaged(16)),
@@ -76,14 +78,14 @@ fn a_device_without_areas_that_fails_is_told(rt: HostRuntime) {
 }
 
 /// Area B in epoch 1, with the snapshot of the Stand and an Acked of 1.
-const FIRST: [u8; 66] = [
-    1, 2, 0, 0, 0, 0, 0, 0, 0, 1, 0, 0, 0, 51, 0, 0, 0, 0, 0, 0, 0, 2, 0, 0, 0, 0, 0, 0, 0, 0, 0,
+const FIRST: [u8; 70] = [
+    1, 3, 0, 0, 0, 0, 0, 0, 0, 1, 0, 0, 0, 55, 0, 0, 0, 0, 0, 0, 0, 2, 0, 0, 0, 0, 0, 0, 0, 0, 0,
     0, 0, 0, 0, 0, 0, 1, 0, 0, 0, 0, 0, 0, 0, 1, 0, 1, 0, 0, 0, 1, 3, 0x72, 0x65, 0x64, 0, 0, 0, 5,
-    1, 0, 0, 0, 10, 0,
+    1, 0, 0, 0, 10, 0, 0, 0, 0, 0,
 ];
 
 /// A further frame, the Acked, behind the first gate that was closed.
-const FURTHER: [u8; 17] = [1, 0, 1, 0, 0, 0, 9, 4, 0, 0, 0, 0, 0, 0, 0, 1, 0];
+pub const FURTHER: [u8; 17] = [1, 0, 1, 0, 0, 0, 9, 4, 0, 0, 0, 0, 0, 0, 0, 1, 0];
 
 static GOES_ON: [Step; 3] = [
     Step::Tells(1, 4076, 0),
@@ -91,7 +93,7 @@ static GOES_ON: [Step; 3] = [
     Step::Tells(2, 4060, 0),
 ];
 
-static MAKES_AN_AREA: [Step; 2] = [Step::Checkpoints(&[], &FIRST), Step::Tells(2, 4045, 1)];
+static MAKES_AN_AREA: [Step; 2] = [Step::Checkpoints(&[], &FIRST), Step::Tells(2, 4041, 1)];
 
 #[test]
 fn the_first_checkpoint_makes_an_area(rt: HostRuntime) {
@@ -107,6 +109,6 @@ fn the_first_checkpoint_makes_an_area(rt: HostRuntime) {
     let (mut journal, _) = reopened(&rt, FuseDevice::idle(device));
     plays(&rt, &mut journal, &MAKES_AN_AREA);
     let parts: [(u64, &[u8]); 3] = [(0, &PLAIN[..36]), (36, &FURTHER), (AREA_B, &FIRST)];
-    let device = stable(&rt, journal, 4193, &parts);
-    is_reopened(&rt, device, (2, 4045, 1), 2, &[]);
+    let device = stable(&rt, journal, 4197, &parts);
+    is_reopened(&rt, device, (2, 4041, 1), 2, &[]);
 }

@@ -5,26 +5,26 @@ use crate::devices::file;
 #[test]
 fn fresh_journal(rt: HostRuntime) {
     let journal = fresh(&rt);
-    tells(&rt, &journal, (0, 4058, 1));
-    let device = stable(&rt, journal, 69, &[(0, &FRESH)]);
-    is_reopened(&rt, device, (0, 4058, 1), 0, &[]);
+    tells(&rt, &journal, (0, 4054, 1));
+    let device = stable(&rt, journal, 73, &[(0, &FRESH)]);
+    is_reopened(&rt, device, (0, 4054, 1), 0, &[]);
     opens_with(&rt, &Opening::fresh(rt.alloc()), 1, 0, &[]);
 }
 
-static ONE_COMMIT: [Step; 2] = [Step::Commits(&[STOOD]), Step::Tells(1, 4038, 1)];
+static ONE_COMMIT: [Step; 2] = [Step::Commits(&[STOOD]), Step::Tells(1, 4034, 1)];
 
 #[test]
 fn one_commit(rt: HostRuntime) {
     let mut journal = fresh(&rt);
     plays(&rt, &mut journal, &ONE_COMMIT);
-    let device = stable(&rt, journal, 89, &[(0, &COMMITTED)]);
-    is_reopened(&rt, device, (1, 4038, 1), 0, &[STOOD]);
+    let device = stable(&rt, journal, 93, &[(0, &COMMITTED)]);
+    is_reopened(&rt, device, (1, 4034, 1), 0, &[STOOD]);
 }
 
 #[test]
 fn closed_gate(rt: HostRuntime) {
     for (gate, count) in [(7, 0), (1, 1)] {
-        let device = device(&rt, &[(0, &COMMITTED), (68, &[gate])]);
+        let device = device(&rt, &[(0, &COMMITTED), (72, &[gate])]);
         assert_eq!(rt; found(rt.alloc(), device), Ok((count, 1)), "{gate}");
     }
 }
@@ -32,8 +32,8 @@ fn closed_gate(rt: HostRuntime) {
 #[test]
 fn broken_images(rt: HostRuntime) {
     for (len, refusal) in [
-        (82, Refusal::Damaged(68)),
-        (88, Refusal::Damaged(88)),
+        (86, Refusal::Damaged(72)),
+        (92, Refusal::Damaged(92)),
         (60, Refusal::Damaged(16)),
         (16, Refusal::NotFormatted),
     ] {
@@ -66,6 +66,6 @@ fn file_device(rt: HostRuntime) {
     holds(&rt, &mut journal.into_device(), &[(0, &COMMITTED)]);
     file::holds(&rt, path, &COMMITTED);
     let device = file::open(&rt, path, &[]);
-    is_reopened(&rt, device, (1, 4038, 1), 0, &[STOOD]);
+    is_reopened(&rt, device, (1, 4034, 1), 0, &[STOOD]);
     file::remove(&rt, path);
 }

@@ -5,7 +5,7 @@ ghost use Rattle.gated_journal.specs.Journal.{member_of};
 
 use super::*;
 
-const TEARS: [Tear; 5] = [
+pub const TEARS: [Tear; 5] = [
     Tear::Old,
     Tear::New,
     Tear::Fill(0),
@@ -14,18 +14,18 @@ const TEARS: [Tear; 5] = [
 ];
 
 /// Whether a tear leaves a gate of 1 where that was written over a closed one.
-fn opens(tear: Tear) -> bool {
+pub fn opens(tear: Tear) -> bool {
     tear == Tear::New || tear == Tear::Fill(1)
 }
 
 const COMMITS: Step = Step::Commits(&[STOOD]);
 
-const COMMIT_FAILS: Step = Step::CommitFails(&[ACKED]);
+pub const COMMIT_FAILS: Step = Step::CommitFails(&[ACKED]);
 
-const CHECKPOINT_FAILS: Step = Step::CheckpointFails(&[], &SECOND);
+pub const CHECKPOINT_FAILS: Step = Step::CheckpointFails(&[], &SECOND);
 
 /// The device that is left where this is stopped, at its call behind so many that passed.
-fn stopped<R: Abort + AllocGlobal>(
+pub fn stopped<R: Abort + AllocGlobal>(
     rt: &R,
     journal: Journal<FuseDevice<MemDevice>>,
     step: Step,
@@ -77,7 +77,7 @@ fn checkpoint_stopped<R: Abort + AllocGlobal>(
 fn a_checkpoint_that_is_stopped_leaves_all_or_nothing(rt: HostRuntime) {
     // Two calls close the area that is not in use, two write it behind its gate, and two open it. The device ends with
     // the area in use, or has a closed area B already, with zeros behind its gate.
-    for last in [&[0_u8; 0][..], &[0; 81]] {
+    for last in [&[0_u8; 0][..], &[0; 85]] {
         for tear in TEARS {
             for passed in 0..6 {
                 let epoch = if passed >= 4 && opens(tear) { 2 } else { 1 };
@@ -94,7 +94,7 @@ fn leaves<R: Abort + AllocGlobal>(rt: &R, passed: u64, tear: Tear, wanted: &[u8]
     let image = device(rt, &[(0, &COMMITTED)]);
     let mut left = checkpoint_stopped(rt, image, passed, tear);
     let end = if wanted.is_empty() {
-        89
+        93
     } else {
         AREA_B + wanted.len() as u64
     };

@@ -7,7 +7,7 @@ use Rattle.gated_journal.specs.Reading.{mark}
 
 -- with the bytes of the capacity taken one by one
 abbrev spelled : ℕ → ℕ → List ℕ → List ℕ
-spelled node n b = mark ++ node ∷ n ∷ get_or b 0 0 ∷ get_or b 1 0 ∷ get_or b 2 0 ∷ get_or b 3 0 ∷ 0 ∷ 0 ∷ 1 ∷ 2 ∷ to_be_bytes w64 1 ++ to_be_bytes w32 38 ++ replicate {A = ℕ} 39 0
+spelled node n b = mark ++ node ∷ n ∷ get_or b 0 0 ∷ get_or b 1 0 ∷ get_or b 2 0 ∷ get_or b 3 0 ∷ 0 ∷ 0 ∷ 1 ∷ 3 ∷ to_be_bytes w64 1 ++ to_be_bytes w32 42 ++ replicate {A = ℕ} 43 0
 
 pub returns : goal.returns
 returns c =

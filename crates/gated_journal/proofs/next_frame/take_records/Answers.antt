@@ -2,29 +2,29 @@ use Rattle.std.proofs.Common.{◌+◌, ℕ, List, drop, sym, ◌∙◌, subst, a
 use Rattle.std.proofs.lemmas.Bool.{eqb-true}
 use Rattle.std.proofs.lemmas.List.{nil_from_length, take_rest}
 use Rattle.ring_records.specs.declared.input.Input.{Input}
-use Rattle.ring_records.proofs.Records.{record-long}
 use Rattle.gated_journal.specs.NextFrame.{TakesRecords}
+use Rattle.gated_journal.proofs.Spelled.{suited-long}
 use Rattle.gated_journal.proofs.Taken.{taken_more, no_record, no_rest}
 use Rattle.gated_journal.proofs.next_frame.take_records.Goals as goal
 
 pub returns-in_default-clause-broken : goal.returns-in_default-clause-broken
 returns-in_default-clause-broken c = λ e layout batch many have whole.
-    no_record c.args.inputs.now.items c.loop.inputs.items batch c.loop.counter c.args.bytes.now c.loop.rest.now c.in_default.field-0 (c.loop.invariant.0 layout) (sym c.read_record.ensures.value ∙ c.in_default.is)
+    no_record c.args.inputs.now.items c.loop.inputs.items batch c.loop.counter c.args.bytes.now c.loop.rest.now (c.loop.invariant.0 layout) (c.in_default.ensures layout)
     (omega (arith, many, c.loop-test.true)) have whole
 
 pub push_reserved-requires : goal.push_reserved-requires
 push_reserved-requires c =
-    let found = c.in-Ok.ensures.found in
-    omega (arith, c.requires.room, c.loop.invariant.1, found.len, found.whole, record-long c.in-Ok.input)
+    let found = c.in-Some.ensures.0 in
+    omega (arith, c.requires.room, c.loop.invariant.1, found.len, found.whole, suited-long 0 c.in-Some.input (c.in-Some.ensures.1 0))
 
 pub loop-preserved : goal.loop-preserved
 loop-preserved c =
     let rest = c.loop.rest.now in
-    let found = c.in-Ok.ensures.found in
-    let more = λ (layout : ℕ). taken_more c.args.inputs.now.items c.loop.inputs.items c.loop.counter c.in-Ok.size c.args.bytes.now rest c.in-Ok.input (c.loop.invariant.0 layout) found in (
-      λ layout. subst (λ (l : List ℕ). TakesRecords layout c.args.inputs.now.items c.push_reserved.new.self.items (c.loop.counter + 1) c.args.bytes.now l) (sym (take_rest rest c.in-Ok.size))
-          (subst (λ (l : List Input). TakesRecords layout c.args.inputs.now.items l (c.loop.counter + 1) c.args.bytes.now (drop c.in-Ok.size rest)) (sym c.push_reserved.ensures.items) (more layout)),
-      omega (arith, c.loop.invariant.1, found.len, found.whole, record-long c.in-Ok.input, c.push_reserved.ensures.len, c.push_reserved.ensures.capacity, length-drop c.in-Ok.size rest),
+    let found = c.in-Some.ensures.0 in
+    let more = λ (layout : ℕ). taken_more c.args.inputs.now.items c.loop.inputs.items c.loop.counter c.in-Some.size c.args.bytes.now rest c.in-Some.input (c.loop.invariant.0 layout) found (c.in-Some.ensures.1 layout) in (
+      λ layout. subst (λ (l : List ℕ). TakesRecords layout c.args.inputs.now.items c.push_reserved.new.self.items (c.loop.counter + 1) c.args.bytes.now l) (sym (take_rest rest c.in-Some.size))
+          (subst (λ (l : List Input). TakesRecords layout c.args.inputs.now.items l (c.loop.counter + 1) c.args.bytes.now (drop c.in-Some.size rest)) (sym c.push_reserved.ensures.items) (more layout)),
+      omega (arith, c.loop.invariant.1, found.len, found.whole, suited-long 0 c.in-Some.input (c.in-Some.ensures.1 0), c.push_reserved.ensures.len, c.push_reserved.ensures.capacity, length-drop c.in-Some.size rest),
     )
 
 pub returns-clause-taken : goal.returns-clause-taken

@@ -30,7 +30,7 @@ invariant_of-result g c =
         rest = record { synced = c.in-Ok.ensures.synced; gate = subst (λ (k : ℕ). IsGate c.in-Ok.is_closed k disk.image) second c.in-Ok.ensures.gate };
         here = record {
           capacity = refl;
-          at = subst (λ (k : ℕ). ReadsAt header disk.image (fresh_area newest 1 empty) 16 k 68 68) second c.in-Ok.ensures.reads;
+          at = subst (λ (k : ℕ). ReadsAt header disk.image (fresh_area newest 1 empty) 16 k 72 72) second c.in-Ok.ensures.reads;
           layout = refl;
           epoch = refl;
           count = omega arith;
@@ -42,4 +42,4 @@ invariant_of-result g c =
 pub returns-in-Ok-clause-empty : goal.returns-in-Ok-clause-empty
 returns-in-Ok-clause-empty g c =
     let header = member c.args.node c.args.n c.args.capacity in
-    all_read header (g.D.Device.disk c.lay_out.new.device) (fresh_area newest 1 empty) 16 (31 + c.args.capacity) 68 68 c.in-Ok.ensures.synced c.in-Ok.ensures.reads
+    all_read header (g.D.Device.disk c.lay_out.new.device) (fresh_area newest 1 empty) 16 (31 + c.args.capacity) 72 72 c.in-Ok.ensures.synced c.in-Ok.ensures.reads

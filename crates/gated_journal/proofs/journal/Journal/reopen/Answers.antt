@@ -5,7 +5,7 @@ use Rattle.ring_records.specs.Snapshot.{snapshot_len}
 use Rattle.gated_journal.specs.Areas.{ReadsAt, IsGate}
 use Rattle.gated_journal.specs.Choose.{reading_of}
 use Rattle.gated_journal.proofs.AreaBeside.{start_low}
-use Rattle.gated_journal.proofs.AreaKept.{behind_base, base_sound}
+use Rattle.gated_journal.proofs.AreaKept.{base_few, behind_base, base_sound}
 use Rattle.gated_journal.proofs.AreaRest.{all_read, in_use}
 use Rattle.gated_journal.proofs.Costs.{costs}
 use Rattle.gated_journal.proofs.journal.Journal.reopen.Goals as goal
@@ -81,3 +81,8 @@ pub returns-in-Ok-clause-sound : goal.returns-in-Ok-clause-sound
 returns-in-Ok-clause-sound g c =
     let f = c.in-Ok.field-0 in
     base_sound c.args.n f.area.start _ (reading_of f.area f.contents) f.area.offset c.in-Ok.ensures.reads.begins
+
+pub summary_len-requires : goal.summary_len-requires
+summary_len-requires g c =
+    let f = c.in-Ok.field-0 in
+    record { floors = base_few c.args.n f.area.start _ (reading_of f.area f.contents) f.area.offset c.in-Ok.ensures.reads.begins }

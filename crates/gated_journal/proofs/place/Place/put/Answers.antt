@@ -12,6 +12,7 @@ use Rattle.gated_journal.specs.declared.checkpoint.Checkpoint.{Checkpoint}
 use Rattle.gated_journal.specs.declared.place.Place.{Place}
 use Rattle.gated_journal.specs.declared.work.Work.{Work}
 use Rattle.gated_journal.specs.declared.work.Work.TheVariants as works
+use Rattle.gated_journal.proofs.FewFloors.{few_floors}
 use Rattle.gated_journal.proofs.AreaBeside.{start_low, swapped}
 use Rattle.gated_journal.proofs.AreaRest.{checkpoint_moment, commit_moment, commit_stands}
 use Rattle.gated_journal.proofs.AreaStaged.{length-new_area}
@@ -106,6 +107,9 @@ returns-in-Batch-clause-reach g c =
 
 -- ---- a checkpoint
 
+pub summary_len-used-requires : goal.summary_len-used-requires
+summary_len-used-requires g c = record { floors = few_floors c.in-Checkpoint.made.base c.in-Checkpoint.made.short }
+
 -- the other area may be replaced
 may_replace : (header : Member) (image : List ℕ) (p : Place) (r : Reading) (k : Checkpoint) → IsTakenAt header p (works.Checkpoint k) → IsReadHere header image p r
     → IsGate p.area.is_closed p.area.other image
@@ -115,7 +119,7 @@ may_replace header image p r k taken here gate = record {
   gate = gate;
   newer = omega (arith, here.epoch);
   small = taken.4;
-  spells = record { is = refl; sound = taken.3; few_keys = k.few_keys; plain = λ old. absurd (omega (arith, old)) };
+  spells = record { is = refl; sound = taken.3; few_keys = k.few_keys; few_floors = few_floors k.base k.short; none = λ old. absurd (omega (arith, old)); plain = λ old. absurd (omega (arith, old)) };
   fits = subst (λ (n : ℕ). snapshot_len newest k.base ≤ n) here.capacity taken.2;
 }
 
