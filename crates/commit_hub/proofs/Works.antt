@@ -5,7 +5,7 @@ use Rattle.std.specs.Prelude.{unwrap_or, MatchOption, OnErr}
 use Rattle.std.proofs.lemmas.Option.{same_Some}
 use Rattle.ring_records.specs.declared.base.Base.{Base}
 use Rattle.ring_records.specs.declared.input.Input.{Input}
-use Rattle.ring_records.specs.declared.input.Input.TheVariants.{Stand, Take, Acked}
+use Rattle.ring_records.specs.declared.input.Input.TheVariants.{Stand, Take, Acked, Retire}
 use Rattle.ring_records.specs.declared.summary.Summary.{Summary}
 use Rattle.ring_records.specs.Known.{stepped, after}
 use Rattle.ring_records.specs.Member.{Member}
@@ -31,6 +31,7 @@ one_more : (me : ℕ) (s : Summary) (x : Input) → (stepped me s x).inputs ≡ 
 one_more me s (Stand key bid) = refl
 one_more me s (Take msg_no msg) = refl
 one_more me s (Acked upto) = refl
+one_more me s (Retire group new) = refl
 
 -- each input since is counted
 pub after-inputs : (me : ℕ) (s : Summary) (l : List Input) → (after me s l).inputs ≡ s.inputs + length l

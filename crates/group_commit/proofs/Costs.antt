@@ -6,20 +6,21 @@ use Rattle.std.proofs.lemmas.List.{take-append-drop, take_all, drop-append-le}
 use Rattle.std.proofs.lemmas.List.Sums.{sum_by-append}
 use Rattle.ring_records.specs.declared.base.Base.{Base}
 use Rattle.ring_records.specs.declared.input.Input.{Input}
-use Rattle.ring_records.specs.declared.input.Input.TheVariants.{Stand, Take, Acked}
+use Rattle.ring_records.specs.declared.input.Input.TheVariants.{Stand, Take, Acked, Retire}
 use Rattle.ring_records.specs.Admission.{cost, costs_of, used}
 use Rattle.ring_records.specs.States as states
 use Rattle.ring_records.specs.States.{NodeState, IsNodeState, launched_base, durable_in, flown_in, flying_in}
 use Rattle.ring_records.proofs.Lists.{none≢some}
 
--- each input takes 16 bytes at least
-pub cost_least : (x : Input) → 16 ≤ cost x
+-- each input takes 13 bytes at least
+pub cost_least : (x : Input) → 13 ≤ cost x
 unfolding cost
 cost_least (Stand key bid) = omega arith
 cost_least (Take msg_no msg) = omega arith
 cost_least (Acked upto) = omega arith
+cost_least (Retire group new) = omega arith
 
-pub costs_least : (l : List Input) → 16 * length l ≤ costs_of l
+pub costs_least : (l : List Input) → 13 * length l ≤ costs_of l
 costs_least [] = omega arith
 costs_least (x ∷ l) =
     let few = costs_least l in

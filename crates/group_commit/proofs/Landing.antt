@@ -130,14 +130,14 @@ credits-known h l =
     ap (credit_since (length (taken h))) count ∙ (credit_by (length (taken h)) (taken l) ∙ ap (credit_where (taken l)) (sym count))
 
 -- these are the packets and the notices of inputs that are allowed after h
-pub packets-known : (me n : ℕ) (s t : Summary) (h l : List Input) → s ≡ summary me h → t ≡ summary me (h ++ l) → credit h ≤ length (sent me h) → EachAfter (IsAllowed me n) h l
+pub packets-known : (me n : ℕ) (s t : Summary) (h l : List Input) → s ≡ summary me h → t ≡ summary me (h ++ l) → EachAfter (IsAllowed me n) [] h → EachAfter (IsAllowed me n) h l
     → carried (brought_after me s l) ++ credit_since s.taken t.taken ≡ packets me h l
 unfolding packets carries
 packets-known me n s t h l knows knows_now within allowed = λ i.
     found-known (λ (e : Effects). e.carry) (carry me) me n (λ g x. refl) s h l knows within allowed i
     ++ ((λ j. credit_since ((knows j).taken) ((knows_now j).taken)) ∙ credits-known h l) i
 
-pub notices-known : (me n : ℕ) (s : Summary) (h l : List Input) → s ≡ summary me h → credit h ≤ length (sent me h) → EachAfter (IsAllowed me n) h l
+pub notices-known : (me n : ℕ) (s : Summary) (h l : List Input) → s ≡ summary me h → EachAfter (IsAllowed me n) [] h → EachAfter (IsAllowed me n) h l
     → told_in (brought_after me s l) ≡ notices me h l
 unfolding notices
 notices-known me n s h l knows within allowed = found-known (λ (e : Effects). e.notice) (told me) me n (λ g x. refl) s h l knows within allowed
@@ -161,7 +161,7 @@ landed_packets m opening past inputs start end waiting l before now all past_is 
     let brings = ap (λ k. take (length k) waiting) flown ∙ brought-part m.node s (part start end inputs) (drop end inputs) waiting (waits ∙ ap (brought_after m.node s) (part-rest start end inputs within)) in
     is
     ∙ ((λ i. carried (brings i) ++ credit_since (taken_before i) (taken_now i))
-    ∙ packets-known m.node m.n s (after m.node opening (take end inputs)) (past ++ take start inputs) (part start end inputs) f.knows (g.knows ∙ ap (summary m.node) (sym joined)) f.credit
+    ∙ packets-known m.node m.n s (after m.node opening (take end inputs)) (past ++ take start inputs) (part start end inputs) f.knows (g.knows ∙ ap (summary m.node) (sym joined)) f.allowed
     (allowed-part m (past ++ take start inputs) (part start end inputs) (subst (EachAfter (IsAllowed m.node m.n) []) (sym joined) g.allowed)))
 
 pub landed_notices : (m : Member) (opening : Summary) (past inputs : List Input) (start end : ℕ) (waiting : List Effects) (l : List Input) (all : List Notice) → IsPast m opening past
@@ -176,7 +176,7 @@ landed_notices m opening past inputs start end waiting l all past_is each within
     let brings = ap (λ k. take (length k) waiting) flown ∙ brought-part m.node s (part start end inputs) (drop end inputs) waiting (waits ∙ ap (brought_after m.node s) (part-rest start end inputs within)) in
     is
     ∙ (ap told_in brings
-    ∙ notices-known m.node m.n s (past ++ take start inputs) (part start end inputs) f.knows f.credit
+    ∙ notices-known m.node m.n s (past ++ take start inputs) (part start end inputs) f.knows f.allowed
     (allowed-part m (past ++ take start inputs) (part start end inputs) (subst (EachAfter (IsAllowed m.node m.n) []) (sym joined) g.allowed)))
 
 -- the notices of what was known at first, and of the first inputs since
@@ -186,5 +186,5 @@ unfolding notices
 told-since m opening past inputs k is each =
     let f = follows-take m opening past inputs k is each in
     ap (λ ns. decided_all (leaders_in opening) ++ ns)
-    (found-known (λ (e : Effects). e.notice) (told m.node) m.node m.n (λ g x. refl) opening past (take k inputs) is.summed (credit-sent m.node m.n past is.allowed)
+    (found-known (λ (e : Effects). e.notice) (told m.node) m.node m.n (λ g x. refl) opening past (take k inputs) is.summed is.allowed
     (allowed-part m past (take k inputs) f.allowed))

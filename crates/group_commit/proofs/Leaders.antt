@@ -13,21 +13,26 @@ use Rattle.ring_records.specs.declared.decision.Decision.{Decision}
 use Rattle.ring_records.specs.declared.input.Input.{Input}
 use Rattle.ring_records.specs.declared.key.Key.{Key}
 use Rattle.ring_records.specs.declared.key_state.KeyState.{KeyState}
+use Rattle.ring_records.specs.declared.input.Input.TheVariants.{Stand, Take, Acked, Retire}
+use Rattle.ring_records.specs.declared.notice.Notice.{Notice}
 use Rattle.ring_records.specs.declared.notice.Notice.TheVariants.{Decided}
 use Rattle.ring_records.specs.declared.summary.Summary.{Summary}
-use Rattle.ring_records.specs.History.{touched}
+use Rattle.ring_records.specs.History.{floor_for}
 use Rattle.ring_records.specs.KeyOrder.{key_cmp}
 use Rattle.ring_records.specs.KeyStates.{by_state}
-use Rattle.ring_records.specs.Leader.{leader}
+use Rattle.ring_records.specs.Leader.{leader, decided, told}
+use Rattle.ring_records.specs.Lists.{found_after}
 use Rattle.ring_records.specs.Notices.{decided_all}
 use Rattle.ring_records.specs.Release.{decisions, notices, by_key, AreLeaders}
 use Rattle.ring_records.specs.Summary.{state_of, key_states, summary}
-use Rattle.ring_records.proofs.Decisions.{AreDecided, more, in_order}
-use Rattle.ring_records.proofs.DecisionNotices.{notices-decided}
+use Rattle.ring_records.proofs.Counts.{none-decided}
+use Rattle.ring_records.proofs.Decisions.{AreLive, live-more, in_order}
 use Rattle.ring_records.proofs.Leader.{Contains-here, Contains-later, Contains-nil, Contains-cons_cases}
 use Rattle.ring_records.proofs.Lists.{none≢some}
-use Rattle.ring_records.proofs.StatesInOrder.{IsOwn, sorted-own, each-entry}
-use Rattle.ring_records.proofs.Summaries.{get-states, untouched-leader}
+use Rattle.ring_records.proofs.Compare.{keys_total, keys_exact}
+use Rattle.ring_records.proofs.Entries.{each-entry}
+use Rattle.ring_records.proofs.StatesInOrder.{IsOwn, sorted-own}
+use Rattle.ring_records.proofs.Summaries.{get-states, is_known, unknown-leader}
 use Rattle.group_commit.specs.Outbox.{led, leaders_in, decision_in}
 
 -- ---- the states of a history
@@ -41,8 +46,8 @@ found_as me h k s false e = none≢some s e
 
 -- each is that of its key
 each_state : (me : ℕ) (h : List Input) → AllByRecursion (λ (e : Key × KeyState). e.1 ≡ state_of me h e.0) (states me h)
-each_state me h = each-entry (λ k s. s ≡ state_of me h k) (states me h) (fin.entries_sorted (key_states me h))
-    (λ k s found. found_as me h k s (touched h k) (sym (get-states me h k) ∙ (fin.get-entries (key_states me h) k ∙ found)))
+each_state me h = each-entry key_cmp keys_total keys_exact (λ k s. s ≡ state_of me h k) (states me h) (fin.entries_sorted (key_states me h))
+    (λ k s found. found_as me h k s (is_known h k) (sym (get-states me h k) ∙ (fin.get-entries (key_states me h) k ∙ found)))
 
 owns : (me : ℕ) (h : List Input) (es : List (Key × KeyState)) → AllByRecursion (λ (e : Key × KeyState). e.1 ≡ state_of me h e.0) es → AllByRecursion IsOwn es
 owns me h [] each = tt
@@ -107,16 +112,16 @@ rising (s ∷ ss) sorted = go s.leader (rising ss sorted.1)
     go None rest = rest
     go (Some c) rest = (above s.key ss sorted.0, rest)
 
-leaders-decided : (me : ℕ) (h : List Input) → AreDecided me h (leaders_in (summary me h))
+leaders-decided : (me : ℕ) (h : List Input) → AreLive me h (leaders_in (summary me h))
 leaders-decided me h = record {
   apart = IsDistinct-from_sorted by_key (leaders_in (summary me h)) (rising (fin.values (key_states me h)) (sorted-own (states me h) (owns me h (states me h) (each_state me h)) (fin.entries_sorted (key_states me h))));
   each = λ d has. tells me h (states me h) (each_state me h) d has;
-  all = λ key c leads. listed me h key c (states me h) (sym (fin.get-entries (key_states me h) key) ∙ (get-states me h key ∙ was key c leads (touched h key) refl)) leads;
+  all = λ key c leads. listed me h key c (states me h) (sym (fin.get-entries (key_states me h) key) ∙ (get-states me h key ∙ was key c leads (is_known h key) refl)) leads;
 }
   where
-    was : (key : Key) (c : Candidate) → leader me h key ≡ Some c → (b : Bool) → touched h key ≡ b → cond b (Some (state_of me h key)) None ≡ Some (state_of me h key)
+    was : (key : Key) (c : Candidate) → leader me h key ≡ Some c → (b : Bool) → is_known h key ≡ b → cond b (Some (state_of me h key)) None ≡ Some (state_of me h key)
     was key c leads true touch = refl
-    was key c leads false touch = none≢some c (sym (untouched-leader me h key touch) ∙ leads)
+    was key c leads false touch = none≢some c (sym (unknown-leader me h key touch) ∙ leads)
 
 -- ---- their notices
 
@@ -128,21 +133,33 @@ pub all-push : (ds : List Decision) (o : Option Decision) → decided_all (ds ++
 all-push ds None = all-append ds []
 all-push ds (Some d) = all-append ds (d ∷ [])
 
-all_among : (ds : List Decision) → filter_map decision_in (decided_all ds) ≡ ds
-all_among [] = refl
-all_among (d ∷ ds) = ap (λ rest. d ∷ rest) (all_among ds)
-
 -- ---- what a desk sorts
 
--- the decisions among what it tells
-pub decisions-among : (me : ℕ) (h l : List Input) (ds : List Decision) → filter_map decision_in (decided_all ds ++ notices me h l) ≡ ds ++ decisions me h l
-decisions-among me h l ds =
-    ap (filter_map decision_in) (ap (λ ns. decided_all ds ++ ns) (notices-decided me h l) ∙ sym (all-append ds (decisions me h l)))
-    ∙ all_among (ds ++ decisions me h l)
+-- the decisions among what inputs tell
+one_among : (me : ℕ) (h : List Input) (x : Input) (rest : List Notice) → filter_map decision_in (cons_option (told me h x) rest) ≡ cons_option (decided me h x) (filter_map decision_in rest)
+unfolding told decided
+one_among me h (Stand key bid) rest = sym (ap (λ o. cons_option o (filter_map decision_in rest)) (none-decided me h key bid))
+one_among me h (Take msg_no msg) rest = at (decided me h (Take msg_no msg))
+  where
+    at : (o : Option Decision) → filter_map decision_in (cons_option (option_map Decided o) rest) ≡ cons_option o (filter_map decision_in rest)
+    at None = refl
+    at (Some d) = refl
+one_among me h (Acked upto) rest = refl
+one_among me h (Retire group floor) rest = refl
 
-pub leaders-known : (me : ℕ) (s : Summary) (h l : List Input) (list sorted : List Decision) → s ≡ summary me h → list ≡ leaders_in s ++ decisions me h l → IsPermutation list sorted
+told_among : (me : ℕ) (h l : List Input) → filter_map decision_in (found_after (told me) h l) ≡ found_after (decided me) h l
+unfolding found_after
+told_among me h [] = refl
+told_among me h (x ∷ l) = one_among me h x (found_after (told me) (h ++ x ∷ []) l) ∙ ap (cons_option (decided me h x)) (told_among me (h ++ x ∷ []) l)
+
+pub decisions-among : (me : ℕ) (h l : List Input) (ds : List Decision) → filter_map decision_in (decided_all ds ++ notices me h l) ≡ ds ++ decisions me h l
+unfolding notices decisions
+decisions-among me h l [] = told_among me h l
+decisions-among me h l (d ∷ ds) = ap (λ rest. d ∷ rest) (decisions-among me h l ds)
+
+pub leaders-known : (me : ℕ) (s : Summary) (h l : List Input) (list sorted : List Decision) → s ≡ summary me h → ((x : Input) (group : List ℕ) → Contains l x → floor_for group x ≡ None) → list ≡ leaders_in s ++ decisions me h l → IsPermutation list sorted
     → IsSortedByKey (λ (d : Decision). d.key) key_cmp sorted → AreLeaders me (h ++ l) sorted
 unfolding decisions
-leaders-known me s h l list sorted knows is moved ascends =
+leaders-known me s h l list sorted knows none is moved ascends =
     in_order me (h ++ l) list sorted
-    (subst (AreDecided me (h ++ l)) (sym (is ∙ ap (λ (t : Summary). leaders_in t ++ decisions me h l) knows)) (more me h l (leaders_in (summary me h)) (leaders-decided me h))) moved ascends
+    (subst (AreLive me (h ++ l)) (sym (is ∙ ap (λ (t : Summary). leaders_in t ++ decisions me h l) knows)) (live-more me h l (leaders_in (summary me h)) none (leaders-decided me h))) moved ascends

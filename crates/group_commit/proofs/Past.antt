@@ -1,5 +1,5 @@
 -- A core that knows what a history says refuses, answers and goes on as the history says.
-use Rattle.std.proofs.Common.{◌≡◌, ℕ, ◌+◌, ◌-◌, ◌≤◌, cond, List, [], ◌∷◌, ◌++◌, append_assoc, append-nil, length, take, drop, Option, Some, None, refl, sym, ap, ◌∙◌, subst, arith}
+use Rattle.std.proofs.Common.{◌≡◌, ℕ, ◌+◌, ◌-◌, ◌≤◌, Bool, true, false, cond, Result, Ok, Err, List, [], ◌∷◌, ◌++◌, append_assoc, append-nil, length, take, drop, Option, Some, None, refl, sym, ap, ◌∙◌, subst, arith}
 use Rattle.std.specs.List.{cons_option, filter_map, list_any}
 use Rattle.std.specs.Option.{option_map}
 use Rattle.std.specs.Prelude.{unwrap_or}
@@ -9,35 +9,38 @@ use Rattle.std.proofs.lemmas.List.{length-append, length-take-le, take-append-le
 use Rattle.ring_records.specs.declared.base.Base.{Base}
 use Rattle.ring_records.specs.declared.candidate.Candidate.{Candidate}
 use Rattle.ring_records.specs.declared.input.Input.{Input}
-use Rattle.ring_records.specs.declared.input.Input.TheVariants.{Stand, Take, Acked}
+use Rattle.ring_records.specs.declared.input.Input.TheVariants.{Stand, Take, Acked, Retire}
 use Rattle.ring_records.specs.declared.key.Key.{Key}
 use Rattle.ring_records.specs.declared.refusal.Refusal.{Refusal}
+use Rattle.ring_records.specs.declared.refusal.Refusal.TheVariants as refused
 use Rattle.ring_records.specs.declared.reply.Reply.{Reply}
 use Rattle.ring_records.specs.declared.reply.Reply.TheVariants as say
 use Rattle.ring_records.specs.declared.request.Request.{Request}
 use Rattle.ring_records.specs.declared.request.Request.TheVariants as ask
 use Rattle.ring_records.specs.declared.room.Room.{Room}
 use Rattle.ring_records.specs.declared.summary.Summary.{Summary}
-use Rattle.ring_records.specs.Admission.{area_bytes, base_of, costs_of, fresh, is_retire, no_room, room_of, snapshot_len, used, shortage, objection, refusal, HasRoom, Fits, IsAllowed, IsAdmitted, IsBaseOf, IsLawful, newest}
+use Rattle.ring_records.specs.Admission.{area_bytes, base_of, costs_of, fresh, is_retire, no_room, room_of, snapshot_len, used, shortage, objection, refusal, where_so, retired, HasRoom, Fits, IsAllowed, IsAdmitted, IsBaseOf, IsLawful, newest}
 use Rattle.ring_records.specs.Answer.{input_of, if_free, unless, gained, reply, answered}
 use Rattle.ring_records.specs.Emission.{sent, carry}
-use Rattle.ring_records.specs.History.{credit}
+use Rattle.ring_records.specs.History.{floor, is_retired, credit}
 use Rattle.ring_records.specs.Known.{Objects, known_of, leader_of, leads_in, stepped, after}
-use Rattle.ring_records.specs.Leader.{IsLatest, leader, latest, told}
+use Rattle.ring_records.specs.Leader.{IsLatest, first_leader, leader, latest, told}
 use Rattle.ring_records.specs.Lists.{or_else, found_after, EachAfter}
 use Rattle.ring_records.specs.Member.{Member}
 use Rattle.ring_records.specs.States.{NodeState, launched_base, durable_in, flying_in, answered_by, gained_by}
 use Rattle.ring_records.specs.Summary.{summary}
 use Rattle.ring_records.proofs.Admission.{none_renews, objection-allowed, plain_room}
 use Rattle.ring_records.proofs.Growth.{EachAfter-take}
-use Rattle.ring_records.proofs.Known.{leader-known, objects-known, stepped-known, credit-next, credit-sent}
+use Rattle.ring_records.proofs.History.{if_live-none}
+use Rattle.ring_records.proofs.Known.{leader-known, objects-known, credit-next, credit-sent}
+use Rattle.ring_records.proofs.RetireStep.{stepped-known}
 use Rattle.ring_records.proofs.Latest.{latest_is, latest_same, one_latest}
 use Rattle.ring_records.proofs.Lists.{along, EachAfter-push}
-use Rattle.node_core.specs.Brought.{brought}
+use Rattle.node_core.specs.Brought.{brought, who_after, who_by}
 use Rattle.node_core.specs.Core.{CoreView, Refuses}
 use Rattle.node_core.specs.declared.effects.Effects.{Effects}
-use Rattle.node_core.proofs.Histories.{carries, tells}
-use Rattle.group_commit.specs.Opening.{IsOf, Replies}
+use Rattle.node_core.proofs.Histories.{carries, tells, who_known}
+use Rattle.group_commit.specs.Opening.{IsOf, Replies, who_reply}
 use Rattle.group_commit.specs.Past.{IsPast, moved, shifted}
 use Rattle.group_commit.specs.Since.{IsOpenSince, IsLawfulSince, IsAreaOf, IsKnownState, core_in}
 use Rattle.group_commit.specs.Ticket.{answered_with}
@@ -73,6 +76,31 @@ leads_last core base h group led of is =
     (latest_same (leads_in core.known group) (λ term. leader core.me h (record { group = group; term = term })) (λ term. sym (leads core base h (record { group = group; term = term }) of)) led is)
     (latest_is core.me h group)
 
+-- who leads, or why that is not told
+pub who_said : (me : ℕ) (h : List Input) (key : Key) → who_reply (who_by (summary me h) key) ≡ unless (retired h key) (say.Leader (leader me h key))
+unfolding retired
+who_said me h key = ap who_reply (who_known me h key) ∙ at (is_retired h key)
+  where
+    at : (b : Bool) → who_reply (cond b (Err (refused.Retired (floor h key.group))) (Ok (leader me h key))) ≡ unless (where_so b (refused.Retired (floor h key.group))) (say.Leader (leader me h key))
+    at true = refl
+    at false = refl
+
+-- who leads, where that is told; nobody where the key is retired
+pub led_ok : (me : ℕ) (h : List Input) (key : Key) (led : Option Candidate) → who_after me h key ≡ Ok led → led ≡ leader me h key
+led_ok me h key led e = go (is_retired h key) e
+  where
+    go : (b : Bool) → cond b (Err (refused.Retired (floor h key.group))) (Ok (leader me h key)) ≡ Ok led → led ≡ leader me h key
+    go true e = absurd cc
+    go false e = sym (let p : leader me h key ≡ led = cc in p)
+
+pub led_err : (me : ℕ) (h : List Input) (key : Key) (why : Refusal) → who_after me h key ≡ Err why → None ≡ leader me h key
+unfolding leader
+led_err me h key why e = go (is_retired h key) refl e
+  where
+    go : (b : Bool) → is_retired h key ≡ b → cond b (Err (refused.Retired (floor h key.group))) (Ok (leader me h key)) ≡ Err why → None ≡ leader me h key
+    go true gone e = sym (if_live-none h key (first_leader me h key) gone)
+    go false live e = absurd cc
+
 -- the reply, and what the history gains
 pub answers : (core : CoreView) (base : Base) (h : List Input) (q : Request) (given : Reply) (more : Option Input) → IsOf core base h → Replies core q given more
     → (given ≡ reply core.me core.size core.capacity base h q) × (cons_option more [] ≡ gained core.me core.size core.capacity base h q)
@@ -86,7 +114,11 @@ answers core base h (ask.Take msg_no msg) given more of (o, refuses, says, gains
 answers core base h (ask.Acked upto) given more of (o, refuses, says, gains) =
     let same = refused-is core base h (Acked upto) o of refuses in
     (says ∙ ap (λ p. unless p say.Acked) same, gains ∙ ap (λ p. if_free p (Acked upto)) same)
-answers core base h (ask.Who key) given more of (says, none) = (says ∙ ap say.Leader (leads core base h key of), ap (λ o. cons_option o []) none)
+answers core base h (ask.Retire group new) given more of (o, refuses, says, gains) =
+    let same = refused-is core base h (Retire group new) o of refuses in
+    (says ∙ ap (λ p. unless p say.Retired) same, gains ∙ ap (λ p. if_free p (Retire group new)) same)
+answers core base h (ask.Who key) given more of (says, none) =
+    (says ∙ (ap (λ (k : Summary). who_reply (who_by k key)) of.knows ∙ who_said core.me h key), ap (λ o. cons_option o []) none)
 answers core base h (ask.Latest group) given more of (led, is, says, none) = (says ∙ ap say.Latest (leads_last core base h group led of is), ap (λ o. cons_option o []) none)
 
 -- ---- parts of the whole history
@@ -127,7 +159,7 @@ follows-push m opening past l x free follows =
     let allowed = objection-allowed m.node m.n h x (sym none) in
     let more = append_assoc past l (x ∷ []) in
     record {
-      knows = after-push m.node opening l x ∙ (ap (λ (s : Summary). stepped m.node s x) follows.knows ∙ (stepped-known m.node m.n h x allowed follows.credit ∙ ap (summary m.node) more));
+      knows = after-push m.node opening l x ∙ (ap (λ (s : Summary). stepped m.node s x) follows.knows ∙ (stepped-known m.node m.n h x follows.allowed allowed ∙ ap (summary m.node) more));
       allowed = subst (EachAfter (IsAllowed m.node m.n) []) more (EachAfter-push (IsAllowed m.node m.n) [] h x follows.allowed allowed);
       credit = subst (λ (g : List Input). credit g ≤ length (sent m.node g)) more (credit-next m.node m.n h x allowed follows.credit);
     }
@@ -279,10 +311,10 @@ brought-known me h x =
 
 pub found-known : {B : Type 0} (part : Effects → Option B) (f : List Input → Input → Option B) (me n : ℕ)
     → ((h : List Input) (x : Input) → part (record { carry = carry me h x; notice = told me h x }) ≡ f h x)
-    → (s : Summary) (h l : List Input) → s ≡ summary me h → credit h ≤ length (sent me h) → EachAfter (IsAllowed me n) h l → filter_map part (brought_after me s l) ≡ found_after f h l
+    → (s : Summary) (h l : List Input) → s ≡ summary me h → EachAfter (IsAllowed me n) [] h → EachAfter (IsAllowed me n) h l → filter_map part (brought_after me s l) ≡ found_after f h l
 unfolding brought_after found_after EachAfter
 found-known part f me n is s h [] knows within allowed = refl
 found-known part f me n is s h (x ∷ l) knows within allowed =
-    let steps = ap (λ (t : Summary). stepped me t x) knows ∙ stepped-known me n h x allowed.0 within in
+    let steps = ap (λ (t : Summary). stepped me t x) knows ∙ stepped-known me n h x within allowed.0 in
     (λ i. cons_option ((ap (λ (t : Summary). part (brought me t x)) knows ∙ (ap part (brought-known me h x) ∙ is h x)) i)
-    (found-known part f me n is (stepped me s x) (h ++ x ∷ []) l steps (credit-next me n h x allowed.0 within) allowed.1 i))
+    (found-known part f me n is (stepped me s x) (h ++ x ∷ []) l steps (EachAfter-push (IsAllowed me n) [] h x within allowed.0) allowed.1 i))

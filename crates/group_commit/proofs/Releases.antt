@@ -6,7 +6,7 @@ use Rattle.std.specs.Prelude.{nat_le, is_some}
 use Rattle.std.proofs.lemmas.Bool.{ltb-false, leb-false}
 use Rattle.ring_records.specs.declared.notice.Notice.{Notice}
 use Rattle.ring_records.specs.declared.input.Input.{Input}
-use Rattle.ring_records.specs.declared.input.Input.TheVariants.{Stand, Take, Acked}
+use Rattle.ring_records.specs.declared.input.Input.TheVariants.{Stand, Take, Acked, Retire}
 use Rattle.ring_records.specs.declared.key.Key.{Key}
 use Rattle.ring_records.specs.declared.msg.Msg.{Msg}
 use Rattle.ring_records.specs.declared.packet.Packet.{Packet}
@@ -14,13 +14,14 @@ use Rattle.ring_records.specs.declared.packet.Packet.TheVariants.{Carry}
 use Rattle.ring_records.specs.declared.refusal.Refusal.TheVariants as refused
 use Rattle.ring_records.specs.declared.summary.Summary.{Summary}
 use Rattle.ring_records.specs.Admission.{where_so, already, stale}
-use Rattle.ring_records.specs.Known.{Objects, stood_of, known_of, sends, stepped}
+use Rattle.ring_records.specs.Known.{Objects, retired_in, stood_of, known_of, sends, stepped}
 use Rattle.ring_records.specs.Lists.{or_else}
 use Rattle.ring_records.specs.Release.{numbered}
 use Rattle.ring_records.proofs.Admission.{or_else-none, where_so-none}
 use Rattle.ring_records.proofs.LookBack.{IsItem, take-item}
 use Rattle.neighbour_link.specs.Outlink.{LinkView, sent_count}
 use Rattle.node_core.specs.Brought.{brought}
+use Rattle.node_core.proofs.Histories.{brought-carry}
 use Rattle.node_core.specs.declared.effects.Effects.{Effects}
 use Rattle.group_commit.specs.declared.released.Released.{Released}
 use Rattle.group_commit.specs.Outbox.{Keeps}
@@ -30,7 +31,8 @@ use Rattle.group_commit.specs.Outbox.{Keeps}
 -- there is one number more for an input
 pub few : (n : ℕ) (s : Summary) (x : Input) → Objects n s x None → s.inputs < 2 ^ 56
 few n s (Stand key bid) (led, is, e) =
-    let a = or_else-none (or_else (already (stood_of (known_of s key))) (where_so (is_some (known_of s key)) refused.Late)) _ (sym e) in
+    let live = or_else-none (retired_in s key) _ (sym e) in
+    let a = or_else-none (or_else (already (stood_of (known_of s key))) (where_so (is_some (known_of s key)) refused.Late)) _ live.1 in
     let b = or_else-none (stale key.term led) _ a.1 in
     let c = or_else-none (where_so (nat_le 1024 s.stands) refused.Limit) _ b.1 in
     leb-false (2 ^ 56) s.inputs (where_so-none _ refused.Limit c.1)
@@ -39,6 +41,10 @@ few n s (Take msg_no msg) e =
     let b = or_else-none _ _ a.1 in
     leb-false (2 ^ 56) s.inputs (where_so-none _ _ b.1)
 few n s (Acked upto) e =
+    let a = or_else-none _ _ (sym e) in
+    let b = or_else-none _ _ a.1 in
+    leb-false (2 ^ 56) s.inputs (where_so-none _ _ b.1)
+few n s (Retire group new) (led, is, e) =
     let a = or_else-none _ _ (sym e) in
     let b = or_else-none _ _ a.1 in
     leb-false (2 ^ 56) s.inputs (where_so-none _ _ b.1)
@@ -68,7 +74,7 @@ pub queued : (me : ℕ) (old : Released) (link : LinkView) (s : Summary) (list :
     → link.credited ≡ old.link.link.credited
     → ((count : ℕ) (on : Option Msg) → effects.carry ≡ option_map (Carry count) on → link.window ≡ old.link.link.window ++ cons_option on []) → Queued me link s x
 queued me old link s list x effects keeps brings credited window =
-    let more = window s.sent (sends me s x) (λ i. (brings i).carry) in
+    let more = window s.sent (sends me s x) (ap (λ (e : Effects). e.carry) brings ∙ brought-carry me s x) in
     let count = ap length more ∙ length-append old.link.link.window (cons_option (sends me s x) []) in
     let before = keeps.sent in
     record {
@@ -155,3 +161,16 @@ numbered-item first msgs index msg before after here is more =
     more ∙ ap (λ l. l ++ Carry (first + index) msg ∷ []) is
     ∙ ap (λ n. numbered first (take index msgs) ++ Carry (first + n) msg ∷ []) count
     ∙ sym (numbered-push first (take index msgs) msg) ∙ ap (numbered first) (sym (take-item msgs index msg here))
+
+pub next_retire : (me : ℕ) (old new : Released) (s : Summary) (list more : List Notice) (x : Input) (group : List ℕ) (floor : ℕ) → Keeps old s list → x ≡ Retire group floor
+    → Queued me new.link.link s x
+    → new.taken ≡ old.taken → new.notices.items ≡ old.notices.items ++ more → Keeps new (stepped me s x) (list ++ more)
+next_retire me old new s list more x group floor keeps is q taken told = subst (λ (y : Input). Queued me new.link.link s y → Keeps new (stepped me s y) (list ++ more)) (sym is) (λ q. record {
+  credited = q.credited;
+  window = q.window ∙ append-nil s.window;
+  sent = (let sent = q.sent in omega arith);
+  taken = taken ∙ keeps.taken;
+  notices = told ∙ ap (λ l. l ++ more) keeps.notices;
+  sent_few = (let few = keeps.sent_few in omega arith);
+  taken_few = (let few = keeps.taken_few in omega arith);
+}) q

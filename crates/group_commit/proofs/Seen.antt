@@ -18,7 +18,8 @@ use Rattle.ring_records.specs.Snapshot.{snapshot_len}
 use Rattle.ring_records.specs.States.{NodeState, IsLawfulState, launched_base, durable_in, flown_in, gained_by}
 use Rattle.ring_records.specs.Summary.{summary}
 use Rattle.ring_records.proofs.Growth.{EachAfter-take}
-use Rattle.ring_records.proofs.Known.{after-known}
+use Rattle.ring_records.proofs.RetireStep.{after-known}
+use Rattle.ring_records.proofs.Known.{}
 use Rattle.ring_records.proofs.Lists.{none≢some}
 use Rattle.group_commit.specs.Desk.{DeskKept, first_base, seen, submitted, launched, launched_all, landed, IsSubmitted}
 use Rattle.group_commit.specs.Kept.{state_with}

@@ -1,11 +1,11 @@
 -- What a history gives to a request, where no room is left.
-use Rattle.std.proofs.Common.{◌≡◌, ℕ, suc, ◌+◌, ◌-◌, ◌<◌, ◌≤◌, List, [], ◌∷◌, ◌++◌, length, get_or, take, Option, Some, None, inl, inr, refl, sym, ◌∙◌, ap, append-nil, subst, arith}
+use Rattle.std.proofs.Common.{◌≡◌, ℕ, Bool, true, false, ◌||◌, suc, ◌+◌, ◌-◌, ◌<◌, ◌≤◌, List, [], ◌∷◌, ◌++◌, length, get_or, take, Option, Some, None, inl, inr, refl, sym, ◌∙◌, ap, append-nil, subst, arith}
 use Rattle.std.specs.Prelude.{slice_get}
 use Rattle.std.proofs.lemmas.List.{length-append, length-take-le}
 use Rattle.std.proofs.lemmas.Option.{same_Some, slice_get_read, get_or_from_slice_get}
 use Rattle.std.proofs.Math.Seq.{take-add}
 use Rattle.ring_records.specs.declared.input.Input.{Input}
-use Rattle.ring_records.specs.declared.input.Input.TheVariants.{Stand, Take, Acked}
+use Rattle.ring_records.specs.declared.input.Input.TheVariants.{Stand, Take, Acked, Retire}
 use Rattle.ring_records.specs.declared.refusal.Refusal.{Refusal}
 use Rattle.ring_records.specs.declared.refusal.Refusal.TheVariants.{Full}
 use Rattle.ring_records.specs.declared.reply.Reply.{Reply}
@@ -13,7 +13,7 @@ use Rattle.ring_records.specs.declared.reply.Reply.TheVariants as say
 use Rattle.ring_records.specs.declared.request.Request.{Request}
 use Rattle.ring_records.specs.declared.request.Request.TheVariants as ask
 use Rattle.ring_records.specs.declared.summary.Summary.{Summary}
-use Rattle.ring_records.specs.Admission.{fresh, objection, refusal}
+use Rattle.ring_records.specs.Admission.{cost, fresh, lacks, not_yet, objection, refusal, used}
 use Rattle.ring_records.specs.Answer.{Answer, Answered, input_of, if_free, unless, gained, reply, answer}
 use Rattle.ring_records.specs.Known.{Objects, known_of, leader_of, leads_in}
 use Rattle.ring_records.specs.Leader.{leader, latest}
@@ -25,18 +25,30 @@ use Rattle.ring_records.proofs.Known.{leader-known, objects-known}
 use Rattle.ring_records.proofs.Latest.{latest_is, latest_same, one_latest}
 use Rattle.ring_records.proofs.Lists.{none≢some}
 use Rattle.ring_records.proofs.LookBack.{shortage-full}
+use Rattle.std.proofs.lemmas.Bool.{lt-ltb}
+use Rattle.node_core.specs.Brought.{who_by}
 use Rattle.node_core.specs.Core.{FreeView}
+use Rattle.group_commit.specs.Opening.{who_reply}
 use Rattle.group_commit.specs.Past.{shifted}
 use Rattle.group_commit.specs.Vouch.{acceptance, Accepts, IsInput, IsVouched, RepliesFull, refused_or_full}
-use Rattle.group_commit.proofs.Past.{take-front}
+use Rattle.group_commit.proofs.Past.{take-front, who_said}
 use Rattle.group_commit.proofs.Settling.{drop-front}
 use Rattle.group_commit.proofs.Costs.{cost_least}
 
 -- ---- without room
 
+lacking : (h : List Input) (x : Input) → lacks 0 (used fresh h) x ≡ true
+lacking h x =
+    let some = cost_least x in
+    (λ i. not_yet x || lt-ltb 0 (used fresh h + cost x) (omega (arith, some)) i) ∙ either (not_yet x)
+  where
+    either : (b : Bool) → (b || true) ≡ true
+    either true = refl
+    either false = refl
+
 refusal-full : (me n : ℕ) (h : List Input) (x : Input) → refusal me n 0 fresh h x ≡ or_else (objection me n h x) (Some Full)
 unfolding refusal
-refusal-full me n h x = let some = cost_least x in ap (or_else (objection me n h x)) (shortage-full me 0 fresh h x refl (omega arith) (omega (arith, some)))
+refusal-full me n h x = ap (or_else (objection me n h x)) (shortage-full me 0 fresh h x refl (omega arith) (lacking h x))
 
 refused-or : (o : Option Refusal) (good : Reply) → refused_or_full o ≡ unless (or_else o (Some Full)) good
 refused-or None good = refl
@@ -60,7 +72,8 @@ unfolding reply gained input_of
 replies-full core h (ask.Stand key bid) given knows (o, objects, says) = weighed core.me core.size core.known h (Stand key bid) say.Stood given o knows objects says
 replies-full core h (ask.Take msg_no msg) given knows (o, objects, says) = weighed core.me core.size core.known h (Take msg_no msg) say.Taken given o knows objects says
 replies-full core h (ask.Acked upto) given knows (o, objects, says) = weighed core.me core.size core.known h (Acked upto) say.Acked given o knows objects says
-replies-full core h (ask.Who key) given knows says = (says ∙ ap say.Leader (ap (λ (s : Summary). leader_of (known_of s key)) knows ∙ leader-known core.me h key), refl)
+replies-full core h (ask.Retire group new) given knows (o, objects, says) = weighed core.me core.size core.known h (Retire group new) say.Retired given o knows objects says
+replies-full core h (ask.Who key) given knows says = (says ∙ (ap (λ (s : Summary). who_reply (who_by s key)) knows ∙ who_said core.me h key), refl)
 replies-full core h (ask.Latest group) given knows (led, is, says) =
     let leads = λ (term : ℕ). ap (λ (s : Summary). leader_of (known_of s (record { group = group; term = term }))) knows ∙ leader-known core.me h (record { group = group; term = term }) in
     let same = one_latest (λ term. leader core.me h (record { group = group; term = term })) led (latest core.me h group)
@@ -88,6 +101,8 @@ no_acceptance me n h (ask.Take msg_no msg) a x accepts e =
     refused-none (objection me n h (Take msg_no msg)) say.Taken (λ why s. cc) (ap (λ p. unless p say.Taken) (sym (refusal-full me n h (Take msg_no msg))) ∙ (sym (ap (λ (b : Answer). b.reply) e) ∙ says a.reply x (Take msg_no msg) accepts.asked accepts.says))
 no_acceptance me n h (ask.Acked upto) a x accepts e =
     refused-none (objection me n h (Acked upto)) say.Acked (λ why s. cc) (ap (λ p. unless p say.Acked) (sym (refusal-full me n h (Acked upto))) ∙ (sym (ap (λ (b : Answer). b.reply) e) ∙ says a.reply x (Acked upto) accepts.asked accepts.says))
+no_acceptance me n h (ask.Retire group new) a x accepts e =
+    refused-none (objection me n h (Retire group new)) say.Retired (λ why s. cc) (ap (λ p. unless p say.Retired) (sym (refusal-full me n h (Retire group new))) ∙ (sym (ap (λ (b : Answer). b.reply) e) ∙ says a.reply x (Retire group new) accepts.asked accepts.says))
 no_acceptance me n h (ask.Who key) a x accepts e = none≢some x accepts.asked
 no_acceptance me n h (ask.Latest group) a x accepts e = none≢some x accepts.asked
 

@@ -1,10 +1,10 @@
 -- What a desk knows: by the summary that it was opened with, and by its inputs since. That summary may be that of no history.
-use Rattle.std.specs.Prelude.{ℕ, ◌≡◌, ◌+◌, ◌≤◌, ◌||◌, List, [], length, take, slice_get, Option, Some, None}
+use Rattle.std.specs.Prelude.{ℕ, ◌≡◌, ◌+◌, ◌≤◌, ◌||◌, List, [], length, take, slice_get, Option, Some, None, Result, Ok, Err}
 use Rattle.std.specs.List.{cons_option, list_any}
 use Rattle.ring_records.specs.declared.base.Base.{Base}
 use Rattle.ring_records.specs.declared.candidate.Candidate.{Candidate}
 use Rattle.ring_records.specs.declared.input.Input.{Input}
-use Rattle.ring_records.specs.declared.input.Input.TheVariants.{Stand, Take, Acked}
+use Rattle.ring_records.specs.declared.input.Input.TheVariants.{Stand, Take, Acked, Retire}
 use Rattle.ring_records.specs.declared.refusal.Refusal.{Refusal}
 use Rattle.ring_records.specs.declared.refusal.Refusal.TheVariants as refused
 use Rattle.ring_records.specs.declared.reply.Reply.{Reply}
@@ -20,6 +20,7 @@ use Rattle.ring_records.specs.Leader.{IsLatest}
 use Rattle.ring_records.specs.Lists.{EachAfter}
 use Rattle.ring_records.specs.Member.{Member}
 use Rattle.ring_records.specs.Summary.{summary}
+use Rattle.node_core.specs.Brought.{who_by}
 use Rattle.node_core.specs.Core.{CoreView, Refuses}
 
 -- the core of a node that knows this, for which the area stands
@@ -64,10 +65,16 @@ pub record IsOf (core : CoreView) (base : Base) (h : List Input) : Type 0 where
 abbrev pub IsWeighed : CoreView → Input → Reply → Reply → Option Input → Type 0
 IsWeighed core x good reply more = (o : Option Refusal) × Refuses core x o × (reply ≡ unless o good) × (cons_option more [] ≡ if_free o x)
 
+-- the reply that tells who leads, or why that is not told
+abbrev pub who_reply : Result (Option Candidate) Refusal → Reply
+who_reply (Ok leader) = say.Leader leader
+who_reply (Err refusal) = say.Refused refusal
+
 -- to a request: the reply, and the input that it accepts
 abbrev pub Replies : CoreView → Request → Reply → Option Input → Type 0
 Replies core (ask.Stand key bid) reply more = IsWeighed core (Stand key bid) say.Stood reply more
 Replies core (ask.Take msg_no msg) reply more = IsWeighed core (Take msg_no msg) say.Taken reply more
 Replies core (ask.Acked upto) reply more = IsWeighed core (Acked upto) say.Acked reply more
-Replies core (ask.Who key) reply more = (reply ≡ say.Leader (leader_of (known_of core.known key))) × (more ≡ None)
+Replies core (ask.Retire group floor) reply more = IsWeighed core (Retire group floor) say.Retired reply more
+Replies core (ask.Who key) reply more = (reply ≡ who_reply (who_by core.known key)) × (more ≡ None)
 Replies core (ask.Latest group) reply more = (led : Option (ℕ × Candidate)) × IsLatest (leads_in core.known group) led × (reply ≡ say.Latest led) × (more ≡ None)

@@ -1,10 +1,10 @@
 -- A desk's state by the summary that it was opened with, and by its inputs since: that summary may be that of no history.
 -- All counts begin at the opening.
-use Rattle.std.specs.Prelude.{ℕ, ◌≡◌, ◌<◌, ◌≤◌, List, [], ◌∷◌, ◌++◌, length, take, Some, None}
+use Rattle.std.specs.Prelude.{ℕ, ◌≡◌, ◌<◌, ◌≤◌, false, List, [], ◌∷◌, ◌++◌, length, take, Some, None}
 use Rattle.ring_records.specs.declared.base.Base.{Base}
 use Rattle.ring_records.specs.declared.input.Input.{Input}
 use Rattle.ring_records.specs.declared.summary.Summary.{Summary}
-use Rattle.ring_records.specs.Admission.{area_bytes, room_of, snapshot_len, HasRoom, newest}
+use Rattle.ring_records.specs.Admission.{area_bytes, room_of, snapshot_len, HasRoom, newest, not_yet}
 use Rattle.ring_records.specs.Known.{Objects, after}
 use Rattle.ring_records.specs.Lists.{EachAfter}
 use Rattle.ring_records.specs.Member.{Member}
@@ -12,9 +12,11 @@ use Rattle.ring_records.specs.States.{NodeState, IsNodeState, launched_base, dur
 use Rattle.node_core.specs.Core.{CoreView}
 use Rattle.group_commit.specs.Desk.{epochs}
 
--- nothing is against the input behind these inputs since, and it fits, with room counted from the base
+-- nothing is against the input behind these inputs since, it is one that has room some day, and it fits, with room counted
+-- from the base
 pub record IsOpenSince (m : Member) (opening : Summary) (base : Base) (before : List Input) (x : Input) : Type 0 where
   pub free : Objects m.n (after m.node opening before) x None
+  pub yet : not_yet x ≡ false
   pub fits : base.inputs ≤ length before → HasRoom m.capacity (room_of base before) x (snapshot_len newest (after m.node opening (before ++ x ∷ [])))
 
 -- so each of these is, behind those before it

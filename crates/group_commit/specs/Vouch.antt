@@ -4,7 +4,7 @@ use Rattle.ring_records.specs.declared.candidate.Candidate.{Candidate}
 use Rattle.ring_records.specs.declared.input.Input.{Input}
 use Rattle.ring_records.specs.declared.refusal.Refusal.{Refusal}
 use Rattle.ring_records.specs.declared.refusal.Refusal.TheVariants as refused
-use Rattle.ring_records.specs.declared.input.Input.TheVariants.{Stand, Take, Acked}
+use Rattle.ring_records.specs.declared.input.Input.TheVariants.{Stand, Take, Acked, Retire}
 use Rattle.ring_records.specs.declared.reply.Reply.{Reply}
 use Rattle.ring_records.specs.declared.reply.Reply.TheVariants as say
 use Rattle.ring_records.specs.declared.request.Request.{Request}
@@ -14,14 +14,17 @@ use Rattle.ring_records.specs.Answer.{Answered, input_of, answer}
 use Rattle.ring_records.specs.Known.{Objects, known_of, leader_of, leads_in}
 use Rattle.ring_records.specs.Leader.{IsLatest}
 use Rattle.ring_records.specs.Member.{Member}
+use Rattle.node_core.specs.Brought.{who_by}
 use Rattle.node_core.specs.Core.{FreeView}
 use Rattle.ring_records.specs.States.{NodeState}
+use Rattle.group_commit.specs.Opening.{who_reply}
 
 -- the reply that says that the input is accepted
 unfoldable pub acceptance : Input → Reply
 acceptance (Stand key bid) = say.Stood
 acceptance (Take msg_no msg) = say.Taken
 acceptance (Acked upto) = say.Acked
+acceptance (Retire group floor) = say.Retired
 
 -- the request asks the node to accept the input, and the reply says that it is accepted
 pub record Accepts (q : Request) (reply : Reply) (x : Input) : Type 0 where
@@ -61,5 +64,6 @@ abbrev pub RepliesFull : FreeView → Request → Reply → Type 0
 RepliesFull core (ask.Stand key bid) reply = (o : Option Refusal) × Objects core.size core.known (Stand key bid) o × (reply ≡ refused_or_full o)
 RepliesFull core (ask.Take msg_no msg) reply = (o : Option Refusal) × Objects core.size core.known (Take msg_no msg) o × (reply ≡ refused_or_full o)
 RepliesFull core (ask.Acked upto) reply = (o : Option Refusal) × Objects core.size core.known (Acked upto) o × (reply ≡ refused_or_full o)
-RepliesFull core (ask.Who key) reply = reply ≡ say.Leader (leader_of (known_of core.known key))
+RepliesFull core (ask.Retire group floor) reply = (o : Option Refusal) × Objects core.size core.known (Retire group floor) o × (reply ≡ refused_or_full o)
+RepliesFull core (ask.Who key) reply = reply ≡ who_reply (who_by core.known key)
 RepliesFull core (ask.Latest group) reply = (led : Option (ℕ × Candidate)) × IsLatest (leads_in core.known group) led × (reply ≡ say.Latest led)

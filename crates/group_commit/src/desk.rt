@@ -90,7 +90,7 @@ impl Desk {
 
     /// The desk of a node whose journal holds this: the inputs that its summary stands for, and those since, all of them
     /// durable. The caller sees that the summary is sound for a ring of `n`. Refused as 24 with the number of the first
-    /// input since, counted from 0, that is not admitted after those before it, and as 8.
+    /// input since, counted from 0, that is not admitted after those before it, and as 8, also where there are 2^32 floors.
     pub fn open(
         alloc: Global,
         node: NodeNo,
@@ -110,6 +110,9 @@ impl Desk {
             base,
             inputs,
         } = opening;
+        if base.floors.len() > u32::MAX as usize {
+            return Err(Refusal::OutOfMemory);
+        }
         let taken = summary_len(&base, layout);
         let room = Room {
             layout,

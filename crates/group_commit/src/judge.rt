@@ -3,11 +3,11 @@ ghost use Rattle.std.specs.Prelude.{◌≡◌, [], None, IfSome};
 ghost use Rattle.std.specs.List.{cons_option};
 ghost use Rattle.ring_records.specs.Answer.{unless, if_free};
 ghost use Rattle.node_core.specs.Core.{Refuses};
-ghost use Rattle.group_commit.specs.Opening.{IsWeighed, Replies};
+ghost use Rattle.group_commit.specs.Opening.{IsWeighed, Replies, who_reply};
 ghost use Rattle.group_commit.specs.Vouch.{acceptance};
 
 use node_core::NodeCore;
-use ring_records::{Input, Reply, Request};
+use ring_records::{Candidate, Input, Refusal, Reply, Request};
 
 /// What it answers to a request, and the input that it accepts.
 #[tactic(auto, unfolding(crate::specs::Vouch::acceptance))]
@@ -19,7 +19,8 @@ pub(crate) fn judge(core: &NodeCore, question: &Request) -> (Reply, Option<Input
         Request::Stand(key, bid) => weigh(core, Input::Stand { key, bid }),
         Request::Take(no, msg) => weigh(core, Input::Take { no, msg }),
         Request::Acked(upto) => weigh(core, Input::Acked { upto }),
-        Request::Who(key) => (Reply::Leader(core.who(&key)), None),
+        Request::Retire(group, floor) => weigh(core, Input::Retire { group, floor }),
+        Request::Who(key) => (who_reply(core.who(&key)), None),
         Request::Latest(group) => (Reply::Latest(core.latest(&group)), None),
     }
 }
@@ -33,6 +34,17 @@ pub(crate) fn acceptance(input: &Input) -> Reply
         Input::Stand { .. } => Reply::Stood,
         Input::Take { .. } => Reply::Taken,
         Input::Acked { .. } => Reply::Acked,
+        Input::Retire { .. } => Reply::Retired,
+    }
+}
+
+/// The reply that tells who leads, or why that is not told.
+pub(crate) fn who_reply(found: Result<Option<Candidate>, Refusal>) -> Reply
+    ensures { result ≡ who_reply found }
+{
+    match found {
+        Ok(leader) => Reply::Leader(leader),
+        Err(refusal) => Reply::Refused(refusal),
     }
 }
 

@@ -82,6 +82,7 @@ impl Released {
         push_notice(&mut self.notices, &effects.notice);
         match input {
             Input::Stand { .. } => {}
+            Input::Retire { .. } => {}
             Input::Take { .. } => self.taken += 1,
             Input::Acked { upto } => credit(&mut self.link, *upto),
         }

@@ -181,7 +181,7 @@ fn one_batch_flies(rt: HostRuntime) -> Result<(), Fail> {
     Ok(())
 }
 
-/// A node that stood, took a message of 29 bytes and heard of a credit, none of it durable, behind a snapshot of 38 bytes.
+/// A node that stood, took a message of 29 bytes and heard of a credit, none of it durable, behind a snapshot of 42 bytes.
 /// The next one has a key more.
 const THREE: Look = Look {
     shown: Shown {
@@ -191,8 +191,8 @@ const THREE: Look = Look {
         taken: 1,
         credit: 1,
     },
-    used: 38 + 20 + 29 + 16,
-    snapshot: 38 + 13,
+    used: 42 + 20 + 29 + 16,
+    snapshot: 42 + 13,
     epoch: 1,
     capacity: 4096,
     stands: 1,
@@ -231,7 +231,7 @@ fn an_open_hub_takes_requests(rt: HostRuntime) -> Result<(), Fail> {
     Ok(())
 }
 
-/// Two Stands, of which the first is durable, in a summary of 65 bytes. The next one has a key and a message more.
+/// Two Stands, of which the first is durable, in an area of layout 2, whose snapshot has 65 bytes. The next one has a key and a message more, and a number of floors.
 const SECOND: Look = Look {
     shown: Shown {
         inputs: 2,
@@ -241,7 +241,7 @@ const SECOND: Look = Look {
         credit: 0,
     },
     used: 65 + 20,
-    snapshot: 65 + 13 + 14,
+    snapshot: 69 + 13 + 14,
     epoch: 2,
     capacity: 4096,
     stands: 2,
@@ -265,7 +265,7 @@ fn a_hub_goes_on_from_a_summary(rt: HostRuntime) -> Result<(), Fail> {
     Ok(())
 }
 
-/// A node takes messages until more than half of the capacity is taken, 38 + 20 + 69 * 29 bytes at least. Then a
+/// A node takes messages until more than half of the capacity is taken, 42 + 20 + 69 * 29 bytes at least. Then a
 /// checkpoint of all that waits is launched, and once it has landed its snapshot is all that is taken: that of one Stand.
 /// What comes after is a batch again, behind all of that, in the new area.
 const RENEWS: &[Step] = &[
@@ -275,9 +275,9 @@ const RENEWS: &[Step] = &[
     Takes(0, 1),
     Flushes,
     Takes(1, 69),
-    Uses(38 + 20 + 69 * 29),
-    Renews(68, 65),
-    Uses(65),
+    Uses(42 + 20 + 69 * 29),
+    Renews(68, 69),
+    Uses(69),
     Asks(AGAIN, 71),
     Flushes,
     Redeems,

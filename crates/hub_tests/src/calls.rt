@@ -152,7 +152,7 @@ pub fn replaces<R: Abort>(rt: &R, journal: &mut Journal<MemDevice>, made: Checkp
     assert!(rt; made.node() == journal.node());
     assert!(rt; made.first() == journal.len());
     assert!(rt; made.cost() <= journal.capacity());
-    assert!(rt; journal.epoch() + 1 < 1 << 40);
+    assert!(rt; journal.epoch() < (1 << 40) - 1);
     match journal.checkpoint(made) {
         Ok(receipt) => receipt,
         Err(_spoiled) => panic!(rt; "spoiled"),

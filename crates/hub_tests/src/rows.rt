@@ -54,14 +54,14 @@ pub fn new_desk<R: Abort + AllocGlobal>(rt: &R, number: u8, run: u64) -> Desk
     Desk::open(rt.alloc(), node(rt, number), 3, 4096, run, opening(rt)).expect(rt, "no inputs")
 }
 
-/// The snapshot of a Stand of node 1, group `red`, term 5, bid 10. It is 65 bytes long.
+/// The snapshot in layout 2 of a Stand of node 1, group `red`, term 5, bid 10. It is 65 bytes long.
 const STOOD: [u8; 65] = [
     0, 0, 0, 0, 0, 0, 0, 1, 0, 0, 0, 0, 0, 0, 0, 0, 0, 0, 0, 0, 0, 0, 0, 0, 0, 0, 0, 0, 0, 0, 0, 1,
     0, 1, 0, 0, 0, 1, 3, 0x72, 0x65, 0x64, 0, 0, 0, 5, 1, 0, 0, 0, 10, 2, 3, 0x72, 0x65, 0x64, 0,
     0, 0, 5, 0, 0, 0, 10, 1,
 ];
 
-/// What a journal holds that summarises a Stand: no inputs behind it.
+/// What a journal of layout 2 holds that summarises a Stand: no inputs behind it.
 fn opening_behind<R: Abort + AllocGlobal>(rt: &R) -> Opening
     ensures { IsSound 3 result.base }
 {

@@ -10,7 +10,7 @@ use Rattle.disk_model.specs.declared.device.Device.{Ghosts}
 use Rattle.disk_model.specs.Disk.{MayLeave}
 use Rattle.ring_records.specs.declared.base.Base.{Base}
 use Rattle.ring_records.specs.declared.input.Input.{Input}
-use Rattle.ring_records.specs.declared.input.Input.TheVariants.{Stand, Take, Acked}
+use Rattle.ring_records.specs.declared.input.Input.TheVariants.{Stand, Take, Acked, Retire}
 use Rattle.ring_records.specs.declared.refusal.Refusal.{Refusal}
 use Rattle.ring_records.specs.declared.refusal.Refusal.TheVariants as refused
 use Rattle.ring_records.specs.declared.summary.Summary.{Summary}
@@ -82,6 +82,7 @@ one_more : (me : ℕ) (s : Summary) (x : Input) → (stepped me s x).inputs ≡ 
 one_more me s (Stand key bid) = refl
 one_more me s (Take msg_no msg) = refl
 one_more me s (Acked upto) = refl
+one_more me s (Retire group new) = refl
 
 -- each input since is counted
 after-inputs : (me : ℕ) (s : Summary) (l : List Input) → (after me s l).inputs ≡ s.inputs + length l

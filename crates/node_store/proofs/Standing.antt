@@ -113,6 +113,6 @@ module _ {D : Type 0} {g : Ghosts D} (m : Member) (journal : Journal D g) (run :
 
   -- a new one
   pub opens_empty : IsNodeOf m.n m.node → member_of journal ≡ m → AllReadAs (member_of journal) (g.disk (device_of journal)) (fresh_area newest 1 empty) → is_spoiled journal ≡ false
-      → len_of journal ≡ 0 → room_of journal ≡ m.capacity - 38 → epoch_of journal ≡ 1 → Stands (new_desk m run (fresh_area newest 1 empty)) journal
+      → len_of journal ≡ 0 → room_of journal ≡ m.capacity - 42 → epoch_of journal ≡ 1 → Stands (new_desk m run (fresh_area newest 1 empty)) journal
   unfolding EachAfter
   opens_empty inside named all works count left area = opens (fresh_area newest 1 empty) inside named tt all works count (omega (arith, left, length-empty newest (omega arith))) area

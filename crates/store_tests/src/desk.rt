@@ -9,7 +9,7 @@ use disk_model::{FuseDevice, MemDevice};
 use gated_journal::{Batch, Journal, Opening, Receipt, Spoiled};
 use group_commit::{Desk, Landed, Stub, Ticket};
 use ring_records::Refusal;
-use std::alloc::AllocGlobal;
+use std::alloc::{AllocFailed, AllocGlobal};
 use std::process::Abort;
 use test_rows::{Ask, Cause, Note, Op, Say, Sends, candidate, key};
 
@@ -89,10 +89,26 @@ fn opening_of<R: Abort + AllocGlobal>(rt: &R, ops: &[Op]) -> Opening
     opening
 }
 
-/// The desk of this node, at this opening, that opens with these inputs.
-fn opened<R: Abort + AllocGlobal>(rt: &R, number: u8, run: u64, ops: &[Op]) -> Desk {
+/// The desk of this node, at this opening, that opens with these inputs, or why it does not open.
+fn opens<R: Abort + AllocGlobal>(
+    rt: &R,
+    number: u8,
+    run: u64,
+    ops: &[Op],
+) -> Result<Desk, Refusal> {
     let opening = opening_of(rt, ops);
-    Desk::open(rt.alloc(), node(rt, number), 3, 4096, run, opening).expect(rt, "lawful inputs")
+    Desk::open(rt.alloc(), node(rt, number), 3, 4096, run, opening)
+}
+
+/// The same of a desk that opens, at the second call where the first finds no memory.
+fn opened<R: Abort + AllocGlobal>(rt: &R, number: u8, run: u64, ops: &[Op]) -> Desk {
+    match opens(rt, number, run, ops) {
+        Ok(desk) => desk,
+        Err(refusal) => {
+            assert_eq!(rt; refusal, Refusal::OutOfMemory);
+            opens(rt, number, run, ops).expect(rt, "lawful inputs")
+        }
+    }
 }
 
 /// How many inputs the desk has, how many are durable or fly, and how many are durable.
@@ -273,6 +289,10 @@ impl Station {
 
     fn keeps(&mut self, rt: &impl Abort, place: usize, ticket: Ticket) {
         assert!(rt; place <= self.tickets.len());
+        let AllocFailed { value: ticket } = match self.tickets.insert(place, ticket) {
+            Ok(()) => return,
+            Err(refused) => refused,
+        };
         match self.tickets.insert(place, ticket) {
             Ok(()) => {}
             Err(_ticket) => panic!(rt; "ample memory"),
@@ -345,6 +365,10 @@ impl Station {
     fn flies(&mut self, rt: &impl Abort, batch: Batch, count: usize) {
         assert_eq!(rt; batch.inputs().len(), count);
         let receipt = commits(rt, &mut self.journal, batch);
+        let AllocFailed { value: receipt } = match self.flown.push(receipt) {
+            Ok(()) => return,
+            Err(refused) => refused,
+        };
         match self.flown.push(receipt) {
             Ok(()) => {}
             Err(_receipt) => panic!(rt; "ample memory"),

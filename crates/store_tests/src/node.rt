@@ -13,6 +13,7 @@ use std::process::Abort;
 use test_rows::{Ask, Cause, Note, Say, Sends};
 
 mod checkpoints;
+mod earlier;
 mod faults;
 mod memory;
 mod pieces;
@@ -69,6 +70,8 @@ enum Step {
     Fails(No),
     /// The next checkpoint makes so many inputs durable, and releases these packets. The node knows no leader by them.
     Checkpoints(u64, &'static [Sends]),
+    /// The same, at the second call where the first finds no memory, which changes nothing.
+    CheckpointsAtLast(u64, &'static [Sends]),
     /// The next checkpoint makes nothing durable, for this cause, and the node tells what it told.
     ChecksNot(No),
     /// The call of its device behind so many fails.
@@ -82,6 +85,8 @@ enum Step {
     Window(&'static [Sends]),
     /// It knows these leaders.
     Decides(&'static [Leads]),
+    /// It may send these again, and knows these leaders, at the second call of each where the first finds no memory.
+    TellsAtLast(&'static [Sends], &'static [Leads]),
     /// It is closed, its device crashes with this tear, and it is recovered at its opening 1.
     Stops(Tear),
     /// It is closed, and recovered at its opening 1, at the second call where the first finds no memory.
@@ -95,13 +100,18 @@ fn created<R: Abort + AllocGlobal>(rt: &R, number: u8, n: u8) -> Stored {
     created_on(rt, empty_device(rt), number, n)
 }
 
-/// The same on this device.
+/// The same on this device, at the second call where the first finds no memory.
 fn created_on<R: Abort + AllocGlobal>(
     rt: &R,
     device: FuseDevice<MemDevice>,
     number: u8,
     n: u8,
 ) -> Stored {
+    let (device, refusal) = match Node::create(rt.alloc(), device, node(rt, number), n, 4096, 0) {
+        Ok(made) => return made,
+        Err(refused) => refused,
+    };
+    assert_eq!(rt; refusal, Refusal::OutOfMemory);
     match Node::create(rt.alloc(), device, node(rt, number), n, 4096, 0) {
         Ok(made) => made,
         Err((_device, refusal)) => panic!(rt; "{refusal}"),

@@ -45,6 +45,9 @@ pub fn reply(rt: &impl Abort, say: Say) -> Reply {
 
 pub fn inputs(rt: &impl Abort, alloc: Global, ops: &[Op]) -> Vec<Input> {
     let mut inputs = Vec::new(alloc);
+    if inputs.reserve(ops.len()).is_err() {
+        inputs.reserve(ops.len()).expect(rt, "ample memory");
+    }
     for op in ops {
         let input = op.input().expect(rt, "an input");
         inputs.push(input).expect(rt, "ample memory");

@@ -41,6 +41,13 @@ impl Desk {
         self.durable < self.inputs.len() as u64
     }
 
+    /// The layout of the area of the journal that is in use, which its next checkpoint makes the newest.
+    pub fn layout(&self) -> u8
+        ensures { result ≡ self.now.view.state.base.layout }
+    {
+        self.layout
+    }
+
     /// The epoch of the area of the journal that is in use.
     pub fn epoch(&self) -> u64
         ensures { result ≡ self.now.view.state.base.epoch }
@@ -99,11 +106,14 @@ impl Desk {
         }
     }
 
-    /// The leader that its inputs make known for a key, also where they are not durable.
+    /// The leader that its inputs make known for a key, also where they are not durable; none where the key is retired.
     pub fn who(&self, key: &Key) -> Option<Candidate>
         ensures { (past : List Input) → IsPast self.now.view.member self.now.opening past → result ≡ leader self.now.view.member.node (seen past self.now).state.inputs key.now }
     {
-        self.core.who(key)
+        match self.core.who(key) {
+            Ok(leader) => leader,
+            Err(_) => None,
+        }
     }
 
     /// How many messages of the predecessor its durable inputs took: so many it may credit.

@@ -8,7 +8,7 @@ ghost use Rattle.group_commit.specs.Outbox.{AreFree};
 ghost use Rattle.group_commit.specs.Vouch.{Accepts, IsInput, RepliesFull, refused_or_full};
 
 use crate::desk::Desk;
-use crate::judge::acceptance;
+use crate::judge::{acceptance, who_reply};
 use crate::ticket::Stub;
 use node_core::FreeCore;
 use ring_records::{Input, NodeNo, Refusal, Reply, Request, Summary};
@@ -53,7 +53,8 @@ fn reply_of(core: &FreeCore, question: &Request) -> Reply
         Request::Stand(key, bid) => refused(core, &Input::Stand { key, bid }),
         Request::Take(no, msg) => refused(core, &Input::Take { no, msg }),
         Request::Acked(upto) => refused(core, &Input::Acked { upto }),
-        Request::Who(key) => Reply::Leader(core.who(&key)),
+        Request::Retire(group, floor) => refused(core, &Input::Retire { group, floor }),
+        Request::Who(key) => who_reply(core.who(&key)),
         Request::Latest(group) => Reply::Latest(core.latest(&group)),
     }
 }

@@ -1,5 +1,8 @@
 // What is answered, when it is released, and what a desk shows.
-use super::Step::{Asks, AsksAtLast, Closes, Forfeits, Has, Holds, Redeems, Returns, Settles};
+use super::Step::{
+    Asks, AsksAtLast, Closes, Forfeits, Has, Holds, Lands, LaunchesAtLast, Redeems, Returns,
+    Settles,
+};
 use super::*;
 use test_rows::Sends::{Carry, Credit};
 
@@ -134,10 +137,11 @@ fn taken_and_credited(rt: HostRuntime) {
     plays(&rt, 1, &[STOOD], &TAKES);
 }
 
-static GROWTHS: [Step; 5] = [
+static GROWTHS: [Step; 6] = [
     AsksAtLast(STAND, 1),
-    Asks(WHO, 1),
-    Settles(1, &[Carry(0, OWN)], &[]),
+    AsksAtLast(WHO, 1),
+    LaunchesAtLast(1),
+    Lands(1, &[Carry(0, OWN)], &[]),
     Redeems(0, Say::Stood),
     Redeems(0, Say::Nobody),
 ];

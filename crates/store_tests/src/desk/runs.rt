@@ -1,5 +1,5 @@
 // Batch after batch, node after node, and where memory is short.
-use super::Step::{Asks, Has, Lands, LaunchesAtLast, Redeems, Returns, Settles};
+use super::Step::{Asks, AsksAtLast, Has, Lands, LaunchesAtLast, Redeems, Returns, Settles};
 use super::*;
 use test_rows::Sends::{Carry, Credit};
 
@@ -74,8 +74,8 @@ fn late_after_relay(rt: HostRuntime) {
 const ANNOUNCED: Note = Note::Elected("red", 5, 20, 3);
 
 static GROWTHS: [Step; 7] = [
-    Asks(STAND, 1),
-    Asks(Ask::Take(0, ANNOUNCED), 2),
+    AsksAtLast(STAND, 1),
+    AsksAtLast(Ask::Take(0, ANNOUNCED), 2),
     Has(2, 0, 0),
     LaunchesAtLast(2),
     Lands(

@@ -43,7 +43,7 @@ impl Station {
     /// So many inputs are durable: the last of them lands where it waits.
     fn lands_up_to(&mut self, rt: &impl Abort, number: u64) {
         if number > self.desk.durable() {
-            self.launches(rt, 1);
+            self.launches_at_last(rt, 1);
             self.landed(rt, 1);
         }
     }
@@ -52,7 +52,7 @@ impl Station {
 /// The stub that a desk of node 1 which opens so releases.
 fn stub_of<R: Abort + AllocGlobal>(rt: &R, before: &[Op], ask: Ask, number: u64, say: Say) -> Stub {
     let mut station = station_of(rt, 1, 0, before);
-    station.asks(rt, ask, number);
+    station.asks_at_last(rt, ask, number);
     station.lands_up_to(rt, number);
     let stub = station.redeems(rt, 0, say);
     station.ends(rt);

@@ -2,6 +2,7 @@
 use super::Step::{
     Arms, Asks, Checkpoints, ChecksNot, Fails, Forfeits, Has, Lasts, Returns, Stops, TakesNo,
 };
+use super::earlier::{LAYOUT_1, LAYOUT_2, device_of};
 use super::*;
 
 /// What is left of a node whose device is torn so, or not torn, and works again.
@@ -59,6 +60,10 @@ enum Area {
     Closed,
     /// A checkpoint wrote it whole, and did not open it.
     Written,
+    /// Nobody wrote it, and the journal is of layout 1, with a Stand.
+    MissingOf1,
+    /// The same of layout 2.
+    MissingOf2,
 }
 
 static OPENS: [Step; 2] = [Lasts(STAND, Say::Stood, 1), Checkpoints(0, &[])];
@@ -67,14 +72,20 @@ static CLOSES: [Step; 3] = [Arms(2), ChecksNot(No::Device), Stops(Tear::Old)];
 
 static WRITES: [Step; 3] = [Arms(4), ChecksNot(No::Device), Stops(Tear::Old)];
 
+/// A new node 1 of 3.
+fn fresh<R: Abort + AllocGlobal>(rt: &R) -> Rig {
+    Rig::of(rt, created(rt, 1, 3), 1)
+}
+
 /// Node 1 of 3, whose other area is so.
 fn over<R: Abort + AllocGlobal>(rt: &R, area: Area) -> Rig {
-    let rig = Rig::of(rt, created(rt, 1, 3), 1);
     match area {
-        Area::Missing => rig,
-        Area::Open => rig.goes_through(rt, &OPENS),
-        Area::Closed => rig.goes_through(rt, &OPENS).goes_through(rt, &CLOSES),
-        Area::Written => rig.goes_through(rt, &OPENS).goes_through(rt, &WRITES),
+        Area::Missing => fresh(rt),
+        Area::Open => fresh(rt).goes_through(rt, &OPENS),
+        Area::Closed => fresh(rt).goes_through(rt, &OPENS).goes_through(rt, &CLOSES),
+        Area::Written => fresh(rt).goes_through(rt, &OPENS).goes_through(rt, &WRITES),
+        Area::MissingOf1 => Rig::of(rt, recovered(rt, device_of(rt, &LAYOUT_1), 1), 1),
+        Area::MissingOf2 => Rig::of(rt, recovered(rt, device_of(rt, &LAYOUT_2), 1), 1),
     }
 }
 
@@ -108,6 +119,24 @@ fn checkpoint_over(area: Area) -> Course {
         round: Round::Checkpoint,
         before: (2, 1, 0, 1),
         behind: (3, 2, 0, 2),
+    }
+}
+
+/// A round of a node of this layout, 1 or 2, which has a Stand.
+fn of_layout(layout: u8, round: Round) -> Course {
+    let (area, epoch) = if layout == 1 {
+        (Area::MissingOf1, 0)
+    } else {
+        (Area::MissingOf2, 1)
+    };
+    Course {
+        area,
+        round,
+        before: (epoch, 0, 1, 1),
+        behind: match round {
+            Round::Batch => (epoch, 0, 2, 2),
+            Round::Checkpoint => (epoch + 1, 2, 0, 2),
+        },
     }
 }
 
@@ -215,5 +244,17 @@ fn each_call_fails(rt: HostRuntime) {
     fails_at_each_call(&rt, &FIRST_CHECKPOINT, &CHECKPOINT_IS_THERE);
     for area in [Area::Open, Area::Closed, Area::Written] {
         fails_at_each_call(&rt, &checkpoint_over(area), &CHECKPOINT_IS_THERE);
+    }
+}
+
+#[test]
+fn each_call_fails_in_an_earlier_layout(rt: HostRuntime) {
+    for layout in [1, 2] {
+        fails_at_each_call(&rt, &of_layout(layout, Round::Batch), &BATCH_IS_THERE);
+        fails_at_each_call(
+            &rt,
+            &of_layout(layout, Round::Checkpoint),
+            &CHECKPOINT_IS_THERE,
+        );
     }
 }

@@ -90,7 +90,7 @@ const CHANGES: [(u64, u8, Refusal); 6] = [
     (16, 0, Refusal::Damaged(16)),
     (17, 1, Refusal::Damaged(16)),
     (30, 2, Refusal::Damaged(16)),
-    (68, 1, Refusal::Damaged(68)),
+    (72, 1, Refusal::Damaged(72)),
 ];
 
 #[test]

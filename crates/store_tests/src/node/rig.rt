@@ -1,5 +1,6 @@
 // What plays the steps.
 use super::*;
+use std::alloc::AllocFailed;
 
 /// A node, its number, and its open tickets, oldest first.
 pub(super) struct Rig {
@@ -77,6 +78,7 @@ impl Rig {
             ),
             Step::Fails(no) => rig.fails(rt, no),
             Step::Checkpoints(count, sends) => rig.checkpoints(rt, count, sends),
+            Step::CheckpointsAtLast(count, sends) => rig.checkpoints_at_last(rt, count, sends),
             Step::ChecksNot(no) => rig.checks_not(rt, no),
             Step::Arms(after) => rig.arms(after),
             Step::Has(epoch, first, inputs, durable) => rig.has(
@@ -86,6 +88,7 @@ impl Rig {
             Step::Passed(sent, taken) => rig.passed(rt, sent, taken),
             Step::Window(sends) => rig.window(rt, sends),
             Step::Decides(leads) => rig.decides(rt, leads),
+            Step::TellsAtLast(sends, leads) => rig.tells_at_last(rt, sends, leads),
             Step::Stops(tear) => return rig.stops(rt, tear),
             Step::RecoversAtLast => return rig.recovers_at_last(rt),
             Step::IsMadeAnew => return rig.is_made_anew(rt),
@@ -95,6 +98,10 @@ impl Rig {
 
     pub(super) fn keeps(&mut self, rt: &impl Abort, place: usize, ticket: Ticket) {
         assert!(rt; place <= self.tickets.len());
+        let AllocFailed { value: ticket } = match self.tickets.insert(place, ticket) {
+            Ok(()) => return,
+            Err(refused) => refused,
+        };
         match self.tickets.insert(place, ticket) {
             Ok(()) => {}
             Err(_ticket) => panic!(rt; "ample memory"),
@@ -226,6 +233,18 @@ impl Rig {
         landed_are(rt, &landed, count, sends, &[]);
     }
 
+    fn checkpoints_at_last(&mut self, rt: &impl Abort, count: u64, sends: &[Sends]) {
+        let before = told(&self.made);
+        match self.made.checkpoint() {
+            Ok(landed) => landed_are(rt, &landed, count, sends, &[]),
+            Err(refusal) => {
+                assert_eq!(rt; refusal, Refusal::OutOfMemory);
+                assert_eq!(rt; told(&self.made), before);
+                self.checkpoints(rt, count, sends);
+            }
+        }
+    }
+
     fn checks_not(&mut self, rt: &impl Abort, no: No) {
         let before = told(&self.made);
         assert_eq!(rt; self.made.checkpoint().err(), Some(no.refusal()));
@@ -253,6 +272,17 @@ impl Rig {
     fn decides(&self, rt: &impl Abort, leads: &[Leads]) {
         let told = self.made.desk().decisions().expect(rt, "ample memory");
         leads_are(rt, &told, leads);
+    }
+
+    fn tells_at_last(&self, rt: &impl Abort, sends: &[Sends], leads: &[Leads]) {
+        match self.made.desk().window() {
+            Ok(window) => sends_are(rt, &window, sends),
+            Err(_) => self.window(rt, sends),
+        }
+        match self.made.desk().decisions() {
+            Ok(told) => leads_are(rt, &told, leads),
+            Err(_) => self.decides(rt, leads),
+        }
     }
 
     fn stops<R: Abort + AllocGlobal>(self, rt: &R, tear: Tear) -> Rig {

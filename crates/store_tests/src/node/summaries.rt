@@ -6,18 +6,18 @@ use disk_model::Device;
 use test_rows::Op;
 use test_rows::Sends::{Carry, Credit};
 
-/// The snapshot of a Stand of node 1, group `red`, term 5, bid 10. It is 65 bytes long.
-const STOOD: [u8; 65] = [
+/// The snapshot of a Stand of node 1, group `red`, term 5, bid 10. It is 69 bytes long.
+const STOOD: [u8; 69] = [
     0, 0, 0, 0, 0, 0, 0, 1, 0, 0, 0, 0, 0, 0, 0, 0, 0, 0, 0, 0, 0, 0, 0, 0, 0, 0, 0, 0, 0, 0, 0, 1,
     0, 1, 0, 0, 0, 1, 3, 0x72, 0x65, 0x64, 0, 0, 0, 5, 1, 0, 0, 0, 10, 2, 3, 0x72, 0x65, 0x64, 0,
-    0, 0, 5, 0, 0, 0, 10, 1,
+    0, 0, 5, 0, 0, 0, 10, 1, 0, 0, 0, 0,
 ];
 
 /// A snapshot that may be read and is of no history: of 1,000 inputs, of which 7 are Takes and at most 3 others credit
 /// the 3 messages that were sent. The leader of group `red`, term 5, is node 2 with bid 30.
-const OF_NONE: [u8; 52] = [
+const OF_NONE: [u8; 56] = [
     0, 0, 0, 0, 0, 0, 3, 0xE8, 0, 0, 0, 0, 0, 0, 0, 7, 0, 0, 0, 0, 0, 0, 0, 3, 0, 0, 0, 0, 0, 0, 0,
-    3, 0, 0, 0, 0, 0, 1, 3, 0x72, 0x65, 0x64, 0, 0, 0, 5, 2, 0, 0, 0, 30, 2,
+    3, 0, 0, 0, 0, 0, 1, 3, 0x72, 0x65, 0x64, 0, 0, 0, 5, 2, 0, 0, 0, 30, 2, 0, 0, 0, 0,
 ];
 
 const SECOND: Note = Note::Token("red", 5, 20, 3);
@@ -133,7 +133,7 @@ fn inputs_that_a_summary_does_not_admit(rt: HostRuntime) {
 #[test]
 fn bytes_that_changed(rt: HostRuntime) {
     // A count of the snapshot, and an open gate with no frame behind it.
-    for (at, damaged) in [(4141, 4127), (4206, 4206)] {
+    for (at, damaged) in [(4141, 4127), (4210, 4210)] {
         let mut device = summarised(&rt, &STOOD, &[]);
         assert!(rt; device.write_at(at, &[1]).is_ok());
         refuses(&rt, device, Refusal::Damaged(damaged));

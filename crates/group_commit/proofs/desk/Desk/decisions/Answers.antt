@@ -14,6 +14,7 @@ use Rattle.group_commit.proofs.Inside.{member_in, state_in}
 use Rattle.group_commit.proofs.Landing.{told-since}
 use Rattle.group_commit.proofs.Leaders.{decisions-among, leaders-known}
 use Rattle.group_commit.proofs.Past.{durable-shifted, free_since}
+use Rattle.group_commit.proofs.Since.{no_floors}
 use Rattle.group_commit.proofs.desk.Desk.decisions.Goals as goal
 
 pub returns : goal.returns
@@ -27,6 +28,7 @@ returns c =
     let known = subst (λ (v : DeskKept). (past : List Input) → IsPast v.view.member v.opening past → AreLeaders v.view.member.node (durable_in (seen past v).state) leaders) c.self.view_is (λ past is.
     subst (λ (l : List Input). AreLeaders d.node l leaders) (sym (durable-shifted past s))
     (leaders-known d.node d.base past (take d.durable d.inputs.items) c.in_ok-leaders.leaders.items leaders is.summed
+    (no_floors (member_in d) d.base (launched_base s) d.durable d.inputs.items c.self.invariant.state.all)
     (among
     ∙ (ap (filter_map decision_in) (c.self.invariant.holds.released.notices ∙ told-since (member_in d) d.base past d.inputs.items d.durable is (free_since (member_in d) d.base (launched_base s) d.inputs.items c.self.invariant.state.all))
     ∙ decisions-among d.node past (take d.durable d.inputs.items) (leaders_in d.base))) sorted.permutation keys)) in

@@ -1,5 +1,7 @@
 use Rattle.std.proofs.Common.{rules, ◌≡◌, ◌<◌, ◌≤◌, ◌+◌, ◌-◌, ◌∙◌, List, length, take, drop, None, ap, subst, arith}
 use Rattle.ring_records.specs.declared.input.Input.{Input}
+use Rattle.std.specs.List.{list_any}
+use Rattle.ring_records.specs.Admission.{not_yet}
 use Rattle.ring_records.specs.Known.{after}
 use Rattle.ring_records.specs.States.{launched_base}
 use Rattle.gated_journal.specs.Batch.{numbered}
@@ -7,11 +9,17 @@ use Rattle.group_commit.specs.Desk.{DeskKept}
 use Rattle.group_commit.specs.Kept.{notices_since, state_with}
 use Rattle.group_commit.specs.Outbox.{Holds}
 use Rattle.group_commit.specs.Since.{IsLawfulSince}
-use Rattle.group_commit.proofs.Inside.{member_in, area_in}
+use Rattle.group_commit.proofs.Inside.{member_in, area_in, state_in}
 use Rattle.group_commit.proofs.Landing.{part, part-length}
 use Rattle.group_commit.proofs.Settling.{holds_still}
-use Rattle.group_commit.proofs.Since.{known_launched, core_launched, first_fit}
+use Rattle.group_commit.proofs.Since.{known_launched, none_early, core_launched, first_fit}
 use Rattle.group_commit.proofs.desk.Desk.launch.Goals as goal
+
+pub prepare-requires-clause-yet : goal.prepare-requires-clause-yet
+prepare-requires-clause-yet c =
+    let d = c.self.inside in
+    ap (λ (l : List Input). list_any not_yet (take (c.min-end.result - d.durable) (drop d.durable l))) c.deref.ensures.value
+    ∙ none_early (member_in d) d.base (launched_base (state_in d)) d.durable (c.min-end.result - d.durable) d.inputs.items c.self.invariant.state.all
 
 pub invariant_of-self : goal.invariant_of-self
 invariant_of-self c =

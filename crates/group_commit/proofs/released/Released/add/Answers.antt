@@ -1,5 +1,5 @@
 use Rattle.std.proofs.Common.{rules, refl}
-use Rattle.group_commit.proofs.Releases.{few_queued, few_taken, queued, may_credit, next_stand, next_take, next_acked}
+use Rattle.group_commit.proofs.Releases.{few_queued, few_taken, queued, may_credit, next_stand, next_take, next_acked, next_retire}
 use Rattle.group_commit.proofs.released.Released.add.Goals as goal
 
 pub queue-requires-clause-few : goal.queue-requires-clause-few
@@ -34,3 +34,8 @@ pub returns-in-Acked-clause-keeps : goal.returns-in-Acked-clause-keeps
 returns-in-Acked-clause-keeps c = λ me n s list keeps free brings.
     next_acked me n c.args.self.now _ _ s list _ c.args.input.now c.in-Acked.upto keeps c.in-Acked.is free
     (queued me c.args.self.now _ s list c.args.input.now c.args.effects.now keeps brings c.queue.ensures.credited c.queue.ensures.window) c.credit.ensures.credited c.credit.ensures.window refl c.push_notice.ensures.items
+
+pub returns-in-Retire-clause-keeps : goal.returns-in-Retire-clause-keeps
+returns-in-Retire-clause-keeps c = λ me n s list keeps free brings.
+    next_retire me c.args.self.now _ s list _ c.args.input.now c.in-Retire.group c.in-Retire.floor keeps c.in-Retire.is
+    (queued me c.args.self.now _ s list c.args.input.now c.args.effects.now keeps brings c.queue.ensures.credited c.queue.ensures.window) refl c.push_notice.ensures.items
