@@ -1,25 +1,26 @@
 -- What a round let its node release rests on inputs that any later stop leaves.
-use Rattle.std.proofs.Common.{◌≡◌, ℕ, Bool, true, false, List, [], ◌∷◌, ◌++◌, append_assoc, append-nil, length, take, Option, Some, None, sym, ◌∙◌, ap, subst, arith}
-use Rattle.std.specs.List.{Contains}
+use Rattle.std.proofs.Common.{◌≡◌, ℕ, Bool, true, false, List, [], ◌∷◌, ◌++◌, append_assoc, append-nil, length, take, Option, Some, None, refl, sym, inl, inr, ◌∙◌, ap, subst, arith}
+use Rattle.std.specs.List.{Contains, cons_option}
+use Rattle.std.specs.Option.{option_map}
 use Rattle.std.proofs.lemmas.List.{take_all}
-use Rattle.std.proofs.lemmas.List.Elements.{Contains-append_right}
 use mathlib.Core.List.{IsPrefix}
 use Rattle.disk_model.specs.Disk.{Disk, MayLeave, LeavesOnly}
 use Rattle.disk_model.proofs.Moments.{weaken}
 use Rattle.ring_records.specs.declared.decision.Decision.{Decision}
 use Rattle.ring_records.specs.declared.input.Input.{Input}
+use Rattle.ring_records.specs.declared.input.Input.TheVariants.{Stand, Take, Acked, Retire}
 use Rattle.ring_records.specs.declared.notice.Notice.{Notice}
 use Rattle.ring_records.specs.declared.notice.Notice.TheVariants.{Decided}
 use Rattle.ring_records.specs.declared.summary.Summary.{Summary}
-use Rattle.ring_records.specs.Leader.{decided, leader}
+use Rattle.ring_records.specs.Leader.{decided, first_leader, told}
 use Rattle.ring_records.specs.Lists.{found_after}
 use Rattle.ring_records.specs.Member.{Member}
-use Rattle.ring_records.specs.Release.{decisions}
+use Rattle.ring_records.specs.Release.{notices}
 use Rattle.ring_records.specs.States.{NodeState, durable_in, flown_in, left_by}
-use Rattle.ring_records.proofs.DecisionNotices.{among-told, notices-decided}
-use Rattle.ring_records.proofs.Decisions.{decided-leads}
-use Rattle.ring_records.proofs.Growth.{EachAfter-front, leader-kept}
-use Rattle.ring_records.proofs.Lists.{found_after-append}
+use Rattle.ring_records.proofs.Decisions.{decided-tells}
+use Rattle.ring_records.proofs.Growth.{EachAfter-front, first_leader-kept}
+use Rattle.ring_records.proofs.Leader.{Contains-cons_cases, Contains-nil}
+use Rattle.ring_records.proofs.Lists.{none≢some}
 use Rattle.ring_records.proofs.Prefixes.{prefix_trans}
 use Rattle.group_commit.specs.Past.{IsPast, shifted}
 use Rattle.group_commit.proofs.Opening.{EachAfter-behind}
@@ -64,16 +65,38 @@ begins_round past known round later =
 
 -- ---- what it released
 
--- a decision of these inputs names the leader, whatever stands behind them
-found_leads : (me : ℕ) (h l rest : List Input) (d : Decision) → Contains (decisions me h l) d → leader me ((h ++ l) ++ rest) d.key ≡ Some d.leader
-unfolding decisions
-found_leads me h l rest d has =
-    let all : Contains (found_after (decided me) [] (h ++ l)) d =
-    subst (λ (ds : List Decision). Contains ds d) (sym (found_after-append (decided me) [] h l)) (Contains-append_right (found_after (decided me) [] h) (found_after (decided me) h l) d has) in
-    leader-kept me (h ++ l) rest d.key d.leader ((decided-leads me (h ++ l) d).0 all)
+-- an input tells a decision where it decides that
+told_decides : (me : ℕ) (h : List Input) (x : Input) (d : Decision) → told me h x ≡ Some (Decided d) → decided me h x ≡ Some d
+unfolding told
+told_decides me h (Stand key bid) d e = none≢some (Decided d) e
+told_decides me h (Take msg_no msg) d e = go (decided me h (Take msg_no msg)) e
+  where
+    go : (o : Option Decision) → option_map Decided o ≡ Some (Decided d) → o ≡ Some d
+    go None e = none≢some (Decided d) e
+    go (Some f) e = let same : f ≡ d = cc in ap Some same
+told_decides me h (Acked upto) d e = none≢some (Decided d) e
+told_decides me h (Retire group floor) d e = absurd cc
+
+-- a decision that these inputs tell names the first leader, whatever stands behind them
+found_leads : (me : ℕ) (h l rest : List Input) (d : Decision) → Contains (found_after (told me) h l) (Decided d) → first_leader me ((h ++ l) ++ rest) d.key ≡ Some d.leader
+unfolding found_after
+found_leads me h [] rest d has = Contains-nil (Decided d) has
+found_leads me h (x ∷ l) rest d has =
+    subst (λ (g : List Input). first_leader me (g ++ rest) d.key ≡ Some d.leader) (append_assoc h (x ∷ []) l) (go (λ has. found_leads me (h ++ x ∷ []) l rest d has) (told me h x) refl has)
+  where
+    go : (Contains (found_after (told me) (h ++ x ∷ []) l) (Decided d) → first_leader me (((h ++ x ∷ []) ++ l) ++ rest) d.key ≡ Some d.leader)
+        → (o : Option Notice) → told me h x ≡ o → Contains (cons_option o (found_after (told me) (h ++ x ∷ []) l)) (Decided d) → first_leader me (((h ++ x ∷ []) ++ l) ++ rest) d.key ≡ Some d.leader
+    go later None e there = later there
+    go later (Some notice) e there = elim (Contains-cons_cases notice (found_after (told me) (h ++ x ∷ []) l) (Decided d) there) [
+      | inl same ↦ (
+          let first = (decided-tells me h x d (told_decides me h x d (e ∙ ap Some same))).2 in
+          first_leader-kept me ((h ++ x ∷ []) ++ l) rest d.key d.leader (first_leader-kept me (h ++ x ∷ []) l d.key d.leader first))
+      | inr behind ↦ later behind
+    ]
 
 rests : {V : Type 0} (m : Member) (past since : List Input) (round : Round V) (s : NodeState) (image : List ℕ) → IsBroughtBehind m past since round.inputs round.landed → IsLeft m s image
     → ((keep : Bool) → IsPrefix ((past ++ since) ++ round.inputs) (left_by keep s).inputs) → RestsOnBehind m past since round image
+unfolding notices
 rests m past since round s image brought left begins = record {
   state = s;
   left = left;
@@ -82,8 +105,8 @@ rests m past since round s image brought left begins = record {
   notices = brought.notices;
   leaders = λ keep d has.
       let first = begins keep in
-      subst (λ (l : List Input). leader m.node l d.key ≡ Some d.leader) first.1
-      (found_leads m.node (past ++ since) round.inputs first.0 d (among-told (decisions m.node (past ++ since) round.inputs) d (subst (λ (ns : List Notice). Contains ns (Decided d)) (brought.notices ∙ notices-decided m.node (past ++ since) round.inputs) has)));
+      subst (λ (l : List Input). first_leader m.node l d.key ≡ Some d.leader) first.1
+      (found_leads m.node (past ++ since) round.inputs first.0 d (subst (λ (ns : List Notice). Contains ns (Decided d)) brought.notices has));
 }
 
 module _ {V : Type 0} (disk : V → Disk) (clock : V → ℕ) (left_since : V → ℕ → List ℕ → Type 0) (m : Member) (opening : Summary) where

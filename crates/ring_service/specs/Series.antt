@@ -8,7 +8,7 @@ use Rattle.ring_records.specs.declared.input.Input.{Input}
 use Rattle.ring_records.specs.declared.notice.Notice.TheVariants.{Decided}
 use Rattle.ring_records.specs.declared.summary.Summary.{Summary}
 use Rattle.ring_records.specs.Known.{after}
-use Rattle.ring_records.specs.Leader.{leader}
+use Rattle.ring_records.specs.Leader.{first_leader}
 use Rattle.ring_records.specs.Lists.{EachAfter}
 use Rattle.ring_records.specs.Member.{Member}
 use Rattle.ring_records.specs.Release.{packets, notices}
@@ -111,14 +111,14 @@ pub record IsCut {V : Type 0} (disk : V → Disk) (clock : V → ℕ) (left_sinc
 
 -- Behind the past and the inputs since, which were durable before it, the round made its own durable. What it let the node
 -- release is told by these, and whatever the image is opened as begins with all of them; so each leader that it made known
--- leads by what is opened.
+-- is the first one of its key by what is opened.
 pub record RestsOnBehind {V : Type 0} (member : Member) (past since : List Input) (round : Round V) (image : List ℕ) : Type 0 where
   pub state : NodeState
   pub left : IsLeft member state image
   pub begins : (keep : Bool) → IsPrefix ((past ++ since) ++ round.inputs) (left_by keep state).inputs
   pub packets : round.landed.packets.items ≡ packets member.node (past ++ since) round.inputs
   pub notices : round.landed.notices.items ≡ notices member.node (past ++ since) round.inputs
-  pub leaders : (keep : Bool) (d : Decision) → Contains round.landed.notices.items (Decided d) → leader member.node (left_by keep state).inputs d.key ≡ Some d.leader
+  pub leaders : (keep : Bool) (d : Decision) → Contains round.landed.notices.items (Decided d) → first_leader member.node (left_by keep state).inputs d.key ≡ Some d.leader
 
 -- so it is whatever past of the node the opening is of
 abbrev pub RestsOn : {V : Type 0} → Member → Summary → Durable → Round V → List ℕ → Type 0

@@ -10,7 +10,7 @@ use Rattle.ring_records.specs.declared.refusal.Refusal.TheVariants as refused
 use Rattle.ring_records.specs.declared.reply.Reply.{Reply}
 use Rattle.ring_records.specs.declared.reply.Reply.TheVariants as replied
 use Rattle.ring_records.specs.declared.request.Request.{Request}
-use Rattle.ring_records.specs.declared.request.Request.TheVariants.{Stand, Take, Acked, Who, Latest}
+use Rattle.ring_records.specs.declared.request.Request.TheVariants.{Stand, Take, Acked, Retire, Who, Latest}
 use Rattle.ring_records.specs.declared.summary.Summary.{Summary}
 use Rattle.ring_records.specs.Answer.{Answered}
 use Rattle.ring_records.specs.Notices.{floor_in, leader_in, leads_in}
@@ -93,3 +93,4 @@ module _ {R J A : Type 0} {a : node.Ghosts A} where
   HubAnswers member opening old (Latest group) (Err why) new = IsOver old why new
   HubAnswers member opening old (Take number msg) answer new = ⊥
   HubAnswers member opening old (Acked upto) answer new = ⊥
+  HubAnswers member opening old (Retire group floor) answer new = ⊥

@@ -17,7 +17,7 @@ ghost use Rattle.group_commit.specs.Desk.{DeskKept};
 ghost use Rattle.group_commit.specs.Past.{IsPast, shifted};
 ghost use Rattle.node_store.specs.State.{Holds, IsOpenedAs};
 ghost use Rattle.commit_hub.specs.Tied.{Durable, durable_part};
-ghost use Rattle.ring_service.specs.Restarts.{AreLater};
+ghost use Rattle.ring_service.specs.Restarts.{AreLater, UnlessRetired};
 ghost use Rattle.ring_service.specs.Rounds.{IsRound, IsStopped, at_rest, known_behind};
 ghost use Rattle.ring_service.specs.Series.{Round, AreRounds, IsCut, IsHeld, IsLeftBehind, IsRoundOf, IsSplit, RestsOn, device_behind, inputs_of, known_since};
 
@@ -72,12 +72,12 @@ pub fn released_by_a_flusher<V: Device, A: Node>()
 {}
 
 /// A board is made of what a desk tells as its decisions: the leaders that its node knows by its history, in order of
-/// key. Made of a longer history, it has every decision that it had; so a leader is the same, and the latest leader of a
-/// group does not go down.
+/// key. Made of a longer history, it has every decision that it had for a key that is not retired since; so a leader is the
+/// same, and the latest leader of a group does not go down.
 pub fn restarted_board()
-    ensures decisions { (me : ℕ) (h more : List Input) (list longer : List Decision) (d : Decision) → AreLater me h more list longer → Contains list d → Contains longer d }
-    ensures leader { (me : ℕ) (h more : List Input) (list longer : List Decision) (key : Key) (c : Candidate) → AreLater me h more list longer
-        → leader_in (decided_all list) key ≡ Some c → leader_in (decided_all longer) key ≡ Some c }
-    ensures never_down { (me : ℕ) (h more : List Input) (list longer : List Decision) (group : List ℕ) (a b : Option (ℕ × Candidate)) → AreLater me h more list longer
+    ensures decisions { (me n : ℕ) (h more : List Input) (list longer : List Decision) (d : Decision) → AreLater me n h more list longer → Contains list d → UnlessRetired (h ++ more) d.key (Contains longer d) }
+    ensures leader { (me n : ℕ) (h more : List Input) (list longer : List Decision) (key : Key) (c : Candidate) → AreLater me n h more list longer
+        → leader_in (decided_all list) key ≡ Some c → UnlessRetired (h ++ more) key (leader_in (decided_all longer) key ≡ Some c) }
+    ensures never_down { (me n : ℕ) (h more : List Input) (list longer : List Decision) (group : List ℕ) (a b : Option (ℕ × Candidate)) → AreLater me n h more list longer
         → IsLatest (leads_in (decided_all list) group) a → IsLatest (leads_in (decided_all longer) group) b → IsNotBelow a b }
 {}

@@ -19,7 +19,7 @@ pub enum Condition {
 /// How often clients were told a refusal.
 #[derive(Clone, Copy, Debug, PartialEq, Eq)]
 pub struct RefusalCount {
-    /// The refusal's number, 1 to 25.
+    /// The refusal's number, 1 to 27.
     pub number: u8,
     pub count: u64,
 }

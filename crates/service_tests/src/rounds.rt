@@ -86,25 +86,61 @@ const GROWS: &[Step] = &[
     Reads("green", Some((7, 30, 2))),
 ];
 
-/// Leaders are made known on a new device.
+/// What the steps leave of a hub on a new device.
 fn grown<R: Threads + Wait + Clock + Abort + AllocGlobal + Sync>(
     rt: &R,
+    steps: &'static [Step],
 ) -> Result<(u64, bool, usize), Refusal> {
     match device_for(rt, 4096) {
-        Ok(device) => counts(plays(rt, device, 4096, Play::Alone(GROWS))),
+        Ok(device) => counts(plays(rt, device, 4096, Play::Alone(steps))),
         Err(_) => Err(Refusal::OutOfMemory),
+    }
+}
+
+/// The same. Where making it was refused, it is made again.
+fn grown_at_last<R: Threads + Wait + Clock + Abort + AllocGlobal + Sync>(
+    rt: &R,
+    steps: &'static [Step],
+) -> Result<(u64, bool, usize), Refusal> {
+    match grown(rt, steps) {
+        Err(Refusal::OutOfMemory) => grown(rt, steps),
+        seen => seen,
     }
 }
 
 /// The test passes as it stands, with memory enough. `rt try --test --fail-alloc N` has its growth N refused.
 #[test]
 fn refused_growths(rt: HostRuntime) -> Result<(), Fail> {
-    let seen = match grown(&rt) {
-        // Making it was refused. It can be made again.
-        Err(Refusal::OutOfMemory) => grown(&rt),
-        seen => seen,
-    };
-    assert!(rt; seen == Ok((4, false, 0)));
+    assert!(rt; grown_at_last(&rt, GROWS) == Ok((4, false, 0)));
+    Ok(())
+}
+
+/// Two appenders stand, one behind the other, and a round makes both durable. Then a leader and 69 messages wait, which a
+/// round makes durable by a checkpoint; behind it two more leaders are made known, the last of which may stay unpublished.
+const RENEWS_AT_LAST: &[Step] = &[
+    Submits(STAND_RED),
+    Submits(STAND_GREEN),
+    RoundsAtLast(0, 2, 0),
+    Redeems,
+    Redeems,
+    Submits(RED),
+    Takes(1, 70),
+    IsDue(true),
+    RoundsAtLast(2, 70, 1),
+    Epoch(2),
+    IsDue(false),
+    Redeems,
+    Leads(Ask::Take(70, Note::Elected("blue", 1, 30, 2))),
+    Leads(Ask::Take(71, Note::Elected("pink", 2, 30, 2))),
+    Reads("red", Some((5, 30, 2))),
+    Reads("blue", Some((1, 30, 2))),
+    Closes,
+    RoundsNot,
+];
+
+#[test]
+fn refused_growths_of_a_checkpoint(rt: HostRuntime) -> Result<(), Fail> {
+    assert!(rt; grown_at_last(&rt, RENEWS_AT_LAST) == Ok((74, false, 0)));
     Ok(())
 }
 
@@ -124,7 +160,7 @@ fn ends<V: Device + Drop + Send, R: Threads + Wait + Clock + Abort + AllocGlobal
     }
 }
 
-/// A Stand, 66 leaders and 74 messages wait, which take 20 + 140 * 29 bytes beside the 38 of no inputs, more than half of
+/// A Stand, 66 leaders and 74 messages wait, which take 20 + 140 * 29 bytes beside the 42 of no inputs, more than half of
 /// 8,192. The round makes all of them durable by a checkpoint, which tells the leaders, more than a batch may. The next
 /// rounds are batches, in the new area. Then the hub is closed.
 const RENEWS: &[Step] = &[
@@ -132,7 +168,7 @@ const RENEWS: &[Step] = &[
     Submits(RED),
     TakesLeaders,
     Takes(66, 140),
-    Used(38 + 20 + 140 * 29),
+    Used(42 + 20 + 140 * 29),
     IsDue(true),
     Reads("red", None),
     Epoch(1),

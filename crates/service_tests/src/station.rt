@@ -8,7 +8,7 @@ use decision_board::Naming;
 use disk_model::Device;
 use group_commit::Ticket;
 use ring_service::Flusher;
-use std::alloc::AllocGlobal;
+use std::alloc::{AllocFailed, AllocGlobal};
 use std::process::Abort;
 use std::sync::Wait;
 use test_rows::{Ask, Note};
@@ -26,6 +26,8 @@ pub enum Step {
     TakesLeaders,
     /// A round makes inputs durable: so many are before them, so many they are, and so many leaders they make known.
     Rounds(u64, u64, usize),
+    /// The same. What the board is refused for memory is published by the next round.
+    RoundsAtLast(u64, u64, usize),
     /// There is no round any more.
     RoundsNot,
     /// The request gets a ticket, a round makes a leader known, and the ticket is redeemed.
@@ -58,6 +60,10 @@ pub struct Station<V: Device, J: Naming, A: Node> {
 }
 
 fn keeps(rt: &impl Abort, tickets: &mut Vec<Ticket>, ticket: Ticket) {
+    let AllocFailed { value: ticket } = match tickets.push(ticket) {
+        Ok(()) => return,
+        Err(refused) => refused,
+    };
     match tickets.push(ticket) {
         Ok(()) => {}
         Err(_ticket) => panic!(rt; "ample memory"),
@@ -96,6 +102,7 @@ impl<V: Device, J: Naming, A: Node> Station<V, J, A> {
             Step::Takes(first, end) => self.takes(rt, first, end),
             Step::TakesLeaders => self.takes_leaders(rt),
             Step::Rounds(first, count, leaders) => self.rounds(rt, first, count, leaders),
+            Step::RoundsAtLast(first, count, leaders) => self.lands(rt, first, count, leaders),
             Step::RoundsNot => self.rounds_not(rt),
             Step::Leads(ask) => {
                 leads(
@@ -133,10 +140,15 @@ impl<V: Device, J: Naming, A: Node> Station<V, J, A> {
         }
     }
 
-    fn rounds<R: Wait + Abort>(&mut self, rt: &R, first: u64, count: u64, leaders: usize) {
+    fn lands<R: Wait + Abort>(&mut self, rt: &R, first: u64, count: u64, leaders: usize) {
         let landed = rounds(rt, &self.hub, &mut self.flusher, &mut self.gate);
-        assert!(rt; landed == (count, leaders) && self.flusher.is_published());
+        assert!(rt; landed == (count, leaders));
         assert!(rt; self.gate.first == first && self.gate.count == count as usize);
+    }
+
+    fn rounds<R: Wait + Abort>(&mut self, rt: &R, first: u64, count: u64, leaders: usize) {
+        self.lands(rt, first, count, leaders);
+        assert!(rt; self.flusher.is_published());
     }
 
     fn rounds_not<R: Wait + Abort>(&mut self, rt: &R) {
