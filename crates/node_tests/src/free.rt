@@ -36,7 +36,7 @@ fn has_won(rt: &impl Abort, core: &FreeCore) {
         })
     );
     assert_eq!(rt; core.state(&key(rt, "red", 4)), None);
-    assert_eq!(rt; core.who(&red), leader);
+    assert_eq!(rt; core.who(&red), Ok(Some(candidate(rt, (30, 2)))));
     assert_eq!(rt;
         core.latest(&red.group),
         Some((red.term, candidate(rt, (30, 2))))

@@ -1,6 +1,9 @@
-//! The tests of a node and of its parts: a ballot, a table of ballots, the two links, and the node that has them.
+//! The tests of a node and of its parts: a ballot, a table of ballots, the two links, and the node that has them; and
+//! of the audit of a ring's histories.
 #![tactic(auto)]
 
+#[cfg(test)]
+mod audits;
 #[cfg(test)]
 mod ballots;
 #[cfg(test)]
