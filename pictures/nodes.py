@@ -41,12 +41,15 @@ REPLIES = {Stand: "stood", Take: "taken", Acked: "acked"}
 
 
 class Node:
-    """Its inputs, of which the first ones are durable, and what they amount to."""
+    """Its inputs, of which the first ones are durable, and what they amount to. A checkpoint stands for so many first
+    inputs, and at its last opening one stood for so many, which it has no more: where a stop left it open which of two
+    checkpoints that is, the counts that it may be."""
 
     def __init__(self, me: int) -> None:
         self.me = me
         self.inputs: list[Input] = []
         self.durable = 0
+        self.summarised = self.dropped = {0}
         self.forget()
 
     def forget(self) -> None:
@@ -57,8 +60,9 @@ class Node:
         self.sent: list[tuple[Message, int]] = []
         self.taken = self.credit = 0
 
-    def restart(self, held: int) -> None:
-        """It is opened with its first inputs, all of them durable."""
+    def restart(self, held: int, summarised: set[int]) -> None:
+        """It is opened with its first inputs, all of them durable, of which so many are summarised."""
+        self.summarised = self.dropped = summarised
         kept, self.inputs = self.inputs[:held], []
         self.forget()
         for each in kept:

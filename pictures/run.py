@@ -159,6 +159,7 @@ class Run:
     def line_checkpoint(self, words: list[str]) -> None:
         node = self.node(words[1])
         self.land(node, "+", "checkpointed", len(node.inputs) - node.durable)
+        node.summarised = {node.durable}
 
     def land(self, node: Node, sign: str, what: str, count: int) -> None:
         self.expect(f"{what} {count}")
@@ -171,18 +172,21 @@ class Run:
 
     def line_crash(self, words: list[str]) -> None:
         node = self.node(words[1])
-        self.end(node, "crash", [node.durable])
+        self.end(node, "crash", {node.durable: node.summarised})
 
     def line_stop(self, words: list[str]) -> None:
         """Which of the two lists a stop leaves ringctl tells."""
         node = self.node(words[1])
         if words[2] == "checkpoint":
-            self.end(node, f"stop at call {words[3]} of a checkpoint, {' '.join(words[4:])}", [node.durable, len(node.inputs)])
+            count = len(node.inputs)
+            may_hold = {node.durable: node.summarised, count: {count} | (node.summarised if node.durable == count else set())}
+            self.end(node, f"stop at call {words[3]} of a checkpoint, {' '.join(words[4:])}", may_hold)
             return
         flown = min(node.durable + BATCH, len(node.inputs))
-        self.end(node, f"stop at call {words[2]}, {' '.join(words[3:])}", [node.durable, flown])
+        self.end(node, f"stop at call {words[2]}, {' '.join(words[3:])}", {node.durable: node.summarised, flown: node.summarised})
 
-    def end(self, node: Node, what: str, may_hold: list[int]) -> None:
+    def end(self, node: Node, what: str, may_hold: dict[int, set[int]]) -> None:
+        """It holds one of these counts of inputs, of which so many are summarised."""
         lost = [ticket for ticket in self.open if ticket.node is node]
         for ticket in lost:
             self.expect(f"{ticket.number}: lost")
@@ -190,8 +194,8 @@ class Run:
         printed = self.next()
         held = next((held for held in may_hold if printed == f"up {node.me} {held}"), None)
         if held is None:
-            raise Fault(f"line {self.mark}: ringctl printed `{printed}`; held may be {may_hold}")
-        node.restart(held)
+            raise Fault(f"line {self.mark}: ringctl printed `{printed}`; held may be {list(may_hold)}")
+        node.restart(held, may_hold[held])
         self.row(node, "X", "; ".join([what, *(f"{ticket.number}: lost" for ticket in lost), f"up with {held}"]))
 
     def line_show(self, words: list[str]) -> None:
@@ -199,6 +203,22 @@ class Run:
         counts = f"inputs {len(node.inputs)} durable {node.durable} sent {len(node.sent)}"
         self.expect(f"node {node.me} {counts} taken {node.taken} credit {node.credit}")
         self.row(node, "o", f"{counts} taken {node.taken} credit {node.credit}")
+
+    def line_audit(self, _words: list[str]) -> None:
+        """Whether a node dropped inputs ringctl tells, where that was left open."""
+        printed = self.next()
+        for node in self.nodes:
+            if any(node.dropped) and printed == f"no 27 dropped {node.me}":
+                node.dropped = node.dropped - {0}
+                self.row(node, "o", f"audit, {printed}")
+                return
+            if 0 not in node.dropped:
+                raise Fault(f"line {self.mark}: ringctl printed `{printed}`, and not `no 27 dropped {node.me}`")
+            node.dropped = {0}
+        placed = sum(node.durable for node in self.nodes)
+        if printed != f"audit ok {placed}":
+            raise Fault(f"line {self.mark}: ringctl printed `{printed}`, and not `audit ok {placed}`")
+        self.row(self.nodes[0], "o", printed)
 
     def submit(self, node: Node, asked: Input) -> tuple[str, str]:
         """The node is asked to accept an input: what ringctl told of it, and what came of it."""

@@ -22,6 +22,7 @@ credit 2 1
 deliver 1 7
 latest 2 red
 show 2
+audit
 """
 PRINTED = """ring 2
 1: sealed
@@ -37,6 +38,7 @@ flushed 1
 no 21 unknown
 5: none
 node 2 inputs 1 durable 1 sent 1 taken 1 credit 0
+audit ok 2
 """
 
 
@@ -56,6 +58,7 @@ class PictureTest(unittest.TestCase):
             "11 o deliver 1 7, no 21 unknown",
             "12 o 5: latest red, none",
             "13 o inputs 1 durable 1 sent 1 taken 1 credit 0",
+            "14 o audit ok 2",
         ])
         texts = [each.text for each in xml.etree.ElementTree.fromstring(image).iter("{http://www.w3.org/2000/svg}text")]
         self.assertIn("crash; 2: lost; up with 0", texts)
@@ -67,6 +70,21 @@ class PictureTest(unittest.TestCase):
         self.assertIn("- 4: 1 blue 1 Token (3, 1), passed on -", drawn)
         drawn, _ = picture.draw(script, "ring 2\n1: stood\n2: no 7 full\n3: taken\nno 21 unknown\n", "run")
         self.assertIn("2: stand blue 1 3, no 7 full", drawn)
+
+    def test_an_opening_drops_what_is_summarised(self) -> None:
+        script = "ring 2 lazy\nstand 1 red 5 10\ncheckpoint 1\naudit\n"
+        printed = "ring 2\n1: sealed\ncheckpointed 1\n1: stood\naudit ok 1\n"
+        drawn, _ = picture.draw(f"{script}crash 1\naudit\n", f"{printed}up 1 1\nno 27 dropped 1\n", "run")
+        self.assertIn("o audit, no 27 dropped 1", drawn)
+        for wrong in ("audit ok 1", "no 27 dropped 2"):
+            with self.assertRaises(Fault):
+                picture.draw(f"{script}crash 1\naudit\n", f"{printed}up 1 1\n{wrong}\n", "run")
+        # What a stopped checkpoint left of the same inputs is told by the audit, and stays so.
+        stopped = "ring 2\nstand 1 red 5 10\nstop 1 checkpoint 4 old\naudit\naudit\n"
+        for told in ("audit ok 1", "no 27 dropped 1"):
+            picture.draw(stopped, f"ring 2\n1: stood\nup 1 1\n{told}\n{told}\n", "run")
+        with self.assertRaises(Fault):
+            picture.draw(stopped, "ring 2\n1: stood\nup 1 1\naudit ok 1\nno 27 dropped 1\n", "run")
 
     def test_what_does_not_agree_is_told(self) -> None:
         lines = PRINTED.splitlines(keepends=True)
@@ -100,6 +118,7 @@ def random_script(rng: random.Random) -> str:
             f"who {node} {group} {term}", f"latest {node} {group}", f"deliver {node} {rng.randrange(6)}",
             f"deliver {node} {rng.randrange(3)}", f"credit {node} {rng.randrange(5)}", "deliver all", f"flush {node}",
             f"flush {node}", f"crash {node}", f"stop {node} {rng.randint(1, 4)} {rng.choice(['old', 'new', 'fill 1'])}",
+            f"checkpoint {node}", f"stop {node} checkpoint {rng.randint(1, 6)} {rng.choice(['old', 'new', 'fill 1'])}", "audit",
             f"show {node}", f"stand {node} Red 1 1", "hello", "# a comment", "", f"deliver {nodes + 1} 0",
         ]))
     return "\n".join(lines) + rng.choice(["", "\n"])

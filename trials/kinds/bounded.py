@@ -7,7 +7,7 @@ from nodes import Acked, Input, Node, Stand, Take
 
 STANDS = 1_024
 # What the snapshot of a node without inputs takes.
-FRESH = 38
+FRESH = 42
 
 
 def cost(asked: Input) -> int:

@@ -69,9 +69,9 @@ class Bytes:
 class State:
     """What a node's inputs come to."""
 
-    def __init__(self, me: int, nodes: int, capacity: int, snapshot: bytes) -> None:
+    def __init__(self, me: int, nodes: int, capacity: int, layout: int, snapshot: bytes) -> None:
         self.me, self.nodes, self.capacity, self.used = me, nodes, capacity, len(snapshot)
-        text = Bytes(snapshot)
+        text = Bytes(snapshot if layout > 1 else bytes(38))
         self.inputs, self.taken, self.credit, self.sent = (text.number(8) for _ in range(4))
         self.stands, count = text.number(2), text.number(4)
         self.stood: dict[tuple[bytes, int], int] = {}
@@ -85,7 +85,9 @@ class State:
         # The messages from number `credit` on.
         self.window = [Message(text.number(1, 2, 3) == 2, text.key(), (text.number(4, 0, BID), text.number(1, 1, nodes)))
                        for _ in range(min(self.sent - self.credit, len(snapshot)))]
-        if text.at != len(snapshot) or len(self.window) != self.sent - self.credit:
+        if layout > 2:
+            text.number(4, 0, 0)
+        if text.at != len(text.text) or len(self.window) != self.sent - self.credit:
             raise Short
 
     def read_key(self, text: Bytes) -> tuple[bytes, int]:
@@ -156,7 +158,7 @@ def read(image: bytes, me: int, nodes: int) -> tuple[State, int]:
     if image[14:16] != b"\0\0":
         raise Refused("damaged 14")
     epochs = {start: int.from_bytes(image[start + 2:start + 10].ljust(8, b"\0"), "big") for start in (HEAD, 31 + capacity)
-              if image[start:start + 2] == b"\1\2"}
+              if image[start:start + 2] in (b"\1\2", b"\1\3")}
     is_plain = not epochs and image[:8] == OLD_MARK
     if is_plain:
         epochs = {HEAD: 0}
@@ -167,11 +169,10 @@ def read(image: bytes, me: int, nodes: int) -> tuple[State, int]:
     try:
         if epochs[start] >= EPOCHS or not is_plain and len(image) < start + 14 + size:
             raise Short
-        state = State(me, nodes, capacity, bytes(38) if is_plain else image[start + 14:start + 14 + size])
+        layout, snapshot = (1, b"") if is_plain else (image[start + 1], image[start + 14:start + 14 + size])
+        state = State(me, nodes, capacity, layout, snapshot)
     except Short:
         raise Refused(f"damaged {start}") from None
-    if is_plain:
-        state.used = 0
     inputs, gate = frames(image, start if is_plain else start + 14 + size)
     if gate > start + 14 + capacity:
         raise Refused(f"damaged {start}")

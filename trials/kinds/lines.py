@@ -11,7 +11,7 @@ RANGES = {b"T": (1, 999_999_999), b"B": (0, 999_999_999), b"NO": (0, 9_999_999_9
 # Each form: capital letters are numbers or a group, a word with `|` is one of these, and all else stands as it is.
 RING = [b"ring N", b"ring N eager|lazy", b"ring N eager|lazy CAP"]
 RUNNING = [b"stand I G T B", b"who I G T", b"latest I G", b"deliver all", b"deliver I NO", b"credit I NO", b"flush I", b"crash I",
-           b"checkpoint I", b"show I", b"stop I K old|new", b"stop I K fill BYTE", b"stop I checkpoint C old|new",
+           b"checkpoint I", b"show I", b"audit", b"stop I K old|new", b"stop I K fill BYTE", b"stop I checkpoint C old|new",
            b"stop I checkpoint C fill BYTE"]
 SESSION = [b"stand G T B", b"who G T", b"latest G", b"bye"]
 

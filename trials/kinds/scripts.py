@@ -88,7 +88,8 @@ class Judge(Run):
             held = len(node.inputs) if is_checkpoint else min(held + BATCH, len(node.inputs))
             if is_checkpoint:
                 node.rebase()
-        self.end(node, "stop", [held])
+                node.summarised = {held}
+        self.end(node, "stop", {held: node.summarised})
 
 
 class Scripts(Kind):
@@ -147,7 +148,7 @@ def line(rng: random.Random, nodes: int) -> bytes:
         b"stand %d %s %d %d" % (node, group, term, rng.randrange(6)), b"stand %d %s %d %d" % (node, group, term, rng.randrange(6)),
         b"who %d %s %d" % (node, group, term), b"latest %d %s" % (node, group), b"deliver %d %d" % (node, rng.randrange(8)),
         b"deliver %d %d" % (node, rng.randrange(3)), b"credit %d %d" % (node, rng.randrange(6)), b"deliver all", b"deliver all",
-        b"flush %d" % node, b"flush %d" % node, b"crash %d" % node, b"checkpoint %d" % node, b"show %d" % node,
+        b"flush %d" % node, b"flush %d" % node, b"crash %d" % node, b"checkpoint %d" % node, b"show %d" % node, b"audit",
         b"stop %d %d %s" % (node, rng.randint(1, 4), tear), b"stop %d checkpoint %d %s" % (node, rng.randint(1, 6), tear),
     ]).split(b" ")
     kind = rng.random()
@@ -164,5 +165,5 @@ def line(rng: random.Random, nodes: int) -> bytes:
     elif kind > 0.95:
         text += b" " * (rng.randint(198, 203) - len(text))
     elif kind > 0.94:
-        text = rng.choice([b"", b" ", b"# stand 1 red 5 10", b" # no", b"hello", b"ring 3", b"audit", b"retire 1 red 5", b"#" * 300])
+        text = rng.choice([b"", b" ", b"# stand 1 red 5 10", b" # no", b"hello", b"ring 3", b"audits", b"retire 1 red 5", b"#" * 300])
     return text.replace(b"\n", b"")

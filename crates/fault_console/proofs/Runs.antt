@@ -8,6 +8,7 @@ use Rattle.ring_records.specs.declared.refusal.Refusal.{Refusal}
 use Rattle.ring_records.specs.declared.reply.Reply.{Reply}
 use Rattle.ring_records.specs.declared.request.Request.{Request}
 use Rattle.ring_world.specs.Ring.{carried}
+use Rattle.ring_world.specs.Dropped.{withheld}
 use Rattle.ring_world.specs.State.{State, opened}
 use Rattle.ring_world.specs.Step.{Told, Steps, stepped, submitted, put, unknown, spent, no_node, all_told, objection_to, refusal_of}
 use Rattle.ring_world.specs.declared.event.Event.{Event}
@@ -17,7 +18,7 @@ use Rattle.fault_console.specs.Commands.{is_silent, shapes, commands}
 use Rattle.fault_console.specs.declared.commands.Command.{Command}
 use Rattle.fault_console.specs.declared.commands.Command.TheVariants as ask
 use Rattle.fault_console.specs.declared.commands.RingShape.{RingShape}
-use Rattle.fault_console.specs.Script.{Prints, LinePrints, Answers, Opens, Happens, Shows, Obeys, ring_line, reply_line, sealed_of, sealed_lines, asked_lines, lines_told, show_line, shown_at, unshown, MayPrint}
+use Rattle.fault_console.specs.Script.{Prints, LinePrints, Answers, Opens, Happens, Shows, Audits, Obeys, ring_line, reply_line, sealed_of, sealed_lines, asked_lines, lines_told, show_line, shown_at, unshown, audit_line, placed_of, MayPrint}
 
 -- a run goes on with a run
 pub MayPrint-append : (s t u : Option State) (xs ys out more : List (List ℕ)) → MayPrint s xs out t → MayPrint t ys more u → MayPrint s (xs ++ ys) (out ++ more) u
@@ -51,10 +52,15 @@ shows : (w : State) (node : ℕ) (refusal : Option Refusal) → Goes (Shows w no
 shows w node (Some refusal) = (refusal_text refusal ∷ [], Some w, (refl, refl))
 shows w node None = (show_line node (shown_at w node) ∷ [], Some w, (refl, refl))
 
+audits : (w : State) (refusal : Option Refusal) → Goes (Audits w refusal)
+audits w (Some refusal) = (refusal_text refusal ∷ [], Some w, (refl, refl))
+audits w None = (audit_line (placed_of w) ∷ [], Some w, (refl, refl))
+
 obeys : (w : State) (r : Result Command Refusal) → Goes (Obeys w r)
 obeys w (Err refusal) = (refusal_text refusal ∷ [], Some w, (refl, refl))
 obeys w (Ok (ask.Event event)) = happens w event (refusal_of w event)
 obeys w (Ok (ask.Show node)) = shows w node (unshown w node)
+obeys w (Ok ask.Audit) = audits w (withheld w)
 
 answers : (ring : Option State) (line : List ℕ) → Goes (Answers ring line)
 answers None line = opens (line_says shapes line)
@@ -119,6 +125,10 @@ shows_some : (w : State) (node : ℕ) (r : Option Refusal) (out : List (List ℕ
 shows_some w node (Some refusal) out next h = one_line out _ h.0
 shows_some w node None out next h = one_line out _ h.0
 
+audits_some : (w : State) (r : Option Refusal) (out : List (List ℕ)) (next : Option State) → Audits w r out next → 1 ≤ length out
+audits_some w (Some refusal) out next h = one_line out _ h.0
+audits_some w None out next h = one_line out _ h.0
+
 opens_some : (r : Result RingShape Refusal) (out : List (List ℕ)) (next : Option State) → Opens r out next → 1 ≤ length out
 opens_some (Err refusal) out next h = one_line out _ h.0
 opens_some (Ok shape) out next h = one_line out _ h.0
@@ -127,6 +137,7 @@ obeys_some : (w : State) (r : Result Command Refusal) (out : List (List ℕ)) (n
 obeys_some w (Err refusal) out next h = one_line out _ h.0
 obeys_some w (Ok (ask.Event event)) out next h = happens_some w event (refusal_of w event) out next refl h
 obeys_some w (Ok (ask.Show node)) out next h = shows_some w node (unshown w node) out next h
+obeys_some w (Ok ask.Audit) out next h = audits_some w (withheld w) out next h
 
 answers_some : (ring : Option State) (line : List ℕ) (out : List (List ℕ)) (next : Option State) → Answers ring line out next → 1 ≤ length out
 answers_some None line out next h = opens_some (line_says shapes line) out next h

@@ -70,4 +70,5 @@ commands nodes =
     ∷ (Fixed (codes "stop") ∷ node ∷ checkpoint ∷ checkpoint_call ∷ Fixed (codes "new") ∷ [], λ i k. ask.Event (StopCheckpoint i k New))
     ∷ (Fixed (codes "stop") ∷ node ∷ checkpoint ∷ checkpoint_call ∷ Fixed (codes "fill") ∷ Number 0 255 ∷ [], λ i k b. ask.Event (StopCheckpoint i k (Fill b)))
     ∷ (Fixed (codes "show") ∷ node ∷ [], λ i. ask.Show i)
+    ∷ (Fixed (codes "audit") ∷ [], ask.Audit)
     ∷ []

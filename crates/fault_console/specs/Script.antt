@@ -1,5 +1,5 @@
 -- The lines that a script may print.
-use Rattle.std.specs.Prelude.{◌≡◌, ℕ, Bool, nat_eq, if◌then◌else◌, List, [], ◌∷◌, ◌++◌, map, Option, Some, None, MatchBool, Result, Ok, Err, codes, unwrap_or}
+use Rattle.std.specs.Prelude.{◌≡◌, ℕ, Bool, nat_eq, if◌then◌else◌, List, [], ◌∷◌, ◌++◌, length, map, Option, Some, None, MatchBool, Result, Ok, Err, codes, unwrap_or}
 use Rattle.std.specs.Fmt.{decimal}
 use Rattle.std.specs.List.{list_any}
 use Rattle.ring_records.specs.Admission.{where_so}
@@ -10,7 +10,9 @@ use Rattle.ring_records.specs.declared.refusal.Refusal.{Refusal}
 use Rattle.ring_records.specs.declared.refusal.Refusal.TheVariants.{Failed}
 use Rattle.ring_records.specs.declared.reply.Reply.{Reply}
 use Rattle.ring_records.specs.declared.shown.Shown.{Shown}
+use Rattle.ring_world.specs.Committed.{committed}
 use Rattle.ring_world.specs.Events.{state_after}
+use Rattle.ring_world.specs.Dropped.{withheld}
 use Rattle.ring_world.specs.State.{State, opened}
 use Rattle.ring_world.specs.Step.{Told, Steps, refusal_of, no_node}
 use Rattle.ring_world.specs.declared.event.Event.{Event}
@@ -53,6 +55,10 @@ delivered_line count = codes "delivered " ++ decimal count
 
 abbrev pub show_line : ℕ → Shown → List ℕ
 show_line node v = codes "node " ++ decimal node ++ codes " " ++ shown_text v
+
+-- an audit found the run of all inputs that became durable, so many
+abbrev pub audit_line : ℕ → List ℕ
+audit_line count = codes "audit ok " ++ decimal count
 
 -- ---- the lines of an event
 
@@ -102,6 +108,12 @@ shown_at w node = shown_in node (state_after w.ring.size w.ring.capacity w.ring.
 abbrev pub unshown : State → ℕ → Option Refusal
 unshown w node = or_else (where_so w.ring.failed Failed) (no_node w node)
 
+-- ---- what an audit of a world places
+
+-- all inputs that became durable
+abbrev pub placed_of : State → ℕ
+placed_of w = length (committed w.ring.size w.ring.capacity w.ring.events)
+
 -- ---- the lines of a script
 
 -- what may be printed, and the ring afterwards: none before it is made
@@ -127,11 +139,17 @@ abbrev pub Shows : State → ℕ → Option Refusal → Prints
 Shows w node (Some refusal) out next = Refuses (Some w) refusal out next
 Shows w node None out next = (out ≡ show_line node (shown_at w node) ∷ []) × (next ≡ Some w)
 
--- A command to the world w: the fault of the line, or an event, or a node to show.
+-- The histories of the world w are to be audited: why they are not, or the audit's line, and the ring stays as it is.
+abbrev pub Audits : State → Option Refusal → Prints
+Audits w (Some refusal) out next = Refuses (Some w) refusal out next
+Audits w None out next = (out ≡ audit_line (placed_of w) ∷ []) × (next ≡ Some w)
+
+-- A command to the world w: the fault of the line, or an event, or a node to show, or an audit.
 abbrev pub Obeys : State → Result Command Refusal → Prints
 Obeys w (Err refusal) out next = Refuses (Some w) refusal out next
 Obeys w (Ok (ask.Event event)) out next = Happens w event (refusal_of w event) out next
 Obeys w (Ok (ask.Show node)) out next = Shows w node (unshown w node) out next
+Obeys w (Ok ask.Audit) out next = Audits w (withheld w) out next
 
 -- A line that is not silent makes the ring, or it is a command to its world.
 abbrev pub Answers : Option State → List ℕ → Prints

@@ -32,6 +32,8 @@ pub enum Command {
     Event(Event),
     /// To show a node.
     Show(NodeNo),
+    /// To audit the histories of its nodes.
+    Audit,
 }
 
 fn read_node(nodes: u8, word: &[u8]) -> Result<NodeNo, Refusal>
@@ -105,7 +107,6 @@ fn ring_of_four(verb: &[u8], n: &[u8], mode: &[u8], capacity: &[u8]) -> Result<R
     })
 }
 
-#[tactic(auto, using(crate::proofs::Counts::few_words_of_a_ring, crate::proofs::Counts::many_words_of_a_ring))]
 fn shape_of(words: &[&[u8]]) -> Result<RingShape, Refusal>
     ensures value { result ≡ form_says shapes (map (λ x. x.now) words.now) }
     ensures range { IfOk result (λ shape. is_ring shape.nodes shape.capacity ≡ true) }
@@ -130,7 +131,20 @@ fn read_checkpoint_call(word: &[u8]) -> Result<u64, Refusal>
     read_number(word, 1, 6)
 }
 
-// The commands of two words.
+// The command of one word.
+#[tactic(auto, unfolding(line_words::specs::Forms::form_says, crate::specs::Commands::commands))]
+fn of_one(nodes: u8, verb: &[u8]) -> Result<Command, Refusal>
+    requires { nodes ≤ 16 }
+    ensures { result ≡ form_says (commands nodes) (verb.now ∷ []) }
+{
+    if verb == b"audit".as_slice() {
+        Ok(Command::Audit)
+    } else {
+        Err(Refusal::BadLine)
+    }
+}
+
+// Those of two.
 #[tactic(auto, unfolding(line_words::specs::Forms::form_says, crate::specs::Commands::commands))]
 fn of_two(nodes: u8, verb: &[u8], i: &[u8]) -> Result<Command, Refusal>
     requires { nodes ≤ 16 }
@@ -286,6 +300,7 @@ fn command_of(nodes: u8, words: &[&[u8]]) -> Result<Command, Refusal>
     ensures { result ≡ form_says (commands nodes) (map (λ x. x.now) words.now) }
 {
     match words {
+        [verb] => of_one(nodes, verb),
         [verb, i] => of_two(nodes, verb, i),
         [verb, i, x] => of_three(nodes, verb, i, x),
         [verb, i, x, y] => of_four(nodes, verb, i, x, y),

@@ -8,6 +8,7 @@ ghost use Rattle.fault_console.specs.Commands.{commands, is_silent};
 ghost use Rattle.fault_console.specs.Progress.{Does, tickets_of};
 ghost use Rattle.fault_console.specs.Script.{Happens, LinePrints, Obeys, Opens, Shows, ring_line, shown_at, unshown};
 
+use crate::audits::tell_audit;
 use crate::commands::{Command, RingShape, line_is_silent, read_command, read_shape};
 use crate::print::{count_lines, print_outcome, print_ring, print_shown};
 use line_words::print_refusal;
@@ -21,7 +22,8 @@ pub struct Console {
     pub world: Option<World>,
 }
 
-fn refuse(out: &mut String, refusal: Refusal) -> Result<u64, AllocError>
+/// Adds the line of a refusal: one line.
+pub(crate) fn refuse(out: &mut String, refusal: Refusal) -> Result<u64, AllocError>
     ensures prints { IfOk result (λ n. Does (string_bytes out.old) (string_bytes out.new) n (λ lines. lines ≡ refusal_text refusal ∷ [])) }
     ensures few { IfOk result (λ n. n ≡ 1) }
 {
@@ -73,7 +75,12 @@ fn show(world: &World, node: NodeNo, out: &mut String) -> Result<u64, AllocError
     }
 }
 
-fn follow(world: &mut World, command: Command, out: &mut String) -> Result<u64, AllocError>
+fn follow(
+    alloc: Global,
+    world: &mut World,
+    command: Command,
+    out: &mut String,
+) -> Result<u64, AllocError>
     requires small { world.old.tickets ≤ 1000000 }
     ensures prints { IfOk result (λ n. Does (string_bytes out.old) (string_bytes out.new) n
         (λ lines. Obeys world.old (Ok command) lines (Some world.new))) }
@@ -83,10 +90,12 @@ fn follow(world: &mut World, command: Command, out: &mut String) -> Result<u64, 
     match command {
         Command::Event(event) => perform(world, event, out),
         Command::Show(node) => show(world, node, out),
+        Command::Audit => tell_audit(alloc, world, out),
     }
 }
 
 fn answer(
+    alloc: Global,
     world: &mut World,
     said: Result<Command, Refusal>,
     out: &mut String,
@@ -98,7 +107,7 @@ fn answer(
     ensures few { IfOk result (λ n. n ≤ world.old.tickets + 2) }
 {
     match said {
-        Ok(command) => follow(world, command, out),
+        Ok(command) => follow(alloc, world, command, out),
         Err(refusal) => refuse(out, refusal),
     }
 }
@@ -111,7 +120,7 @@ fn speak(alloc: Global, world: &mut World, line: &[u8], out: &mut String) -> Res
     ensures few { IfOk result (λ n. n ≤ world.old.tickets + 2) }
 {
     match read_command(alloc, world.size(), line) {
-        Ok(said) => answer(world, said, out),
+        Ok(said) => answer(alloc, world, said, out),
         Err(_) => Err(AllocError),
     }
 }

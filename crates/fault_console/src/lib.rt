@@ -15,13 +15,15 @@
 //! I` takes node I's memory, and `stop I K TEAR` stops its flush at device call K, 1 to 4, and tears what was not
 //! synced: `old`, `new` or `fill B`; `stop I checkpoint K TEAR`, K 1 to 6, stops a checkpoint, also where nothing
 //! waits. These open it again, and print `K: lost` for each ticket that was open there and `up I H`, H its inputs.
-//! `show I` prints the counts of node I. A line that is refused prints its refusal alone. Tickets that are open at the
+//! `show I` prints the counts of node I. `audit` places the durable histories of all nodes in one legal run, and prints
+//! `audit ok R`, R the run's length. A line that is refused prints its refusal alone. Tickets that are open at the
 //! end are given up without a line.
 //!
 //! `specs/` says what a script may print: Commands has the form of each command, Script the texts. Lines, words and
 //! numbers are those of line_words.
 #![tactic(auto)]
 
+mod audits;
 mod commands;
 mod console;
 mod print;

@@ -2,7 +2,7 @@
 ghost use Rattle.std.specs.Prelude.{◌≡◌, ◌≤◌, ◌+◌, ◌<◌, ◌^◌, ◌∷◌, ◌++◌, [], OnOk, string_bytes, length, map};
 ghost use Rattle.line_words.specs.Texts.{AddsLine, AddsLines};
 ghost use Rattle.ring_world.specs.Step.{told};
-ghost use Rattle.fault_console.specs.Script.{ring_line, reply_line, sealed_line, lost_line, up_line, flushed_line, checkpointed_line, delivered_line, show_line, is_answered, sealed_of, sealed_lines, lines_told};
+ghost use Rattle.fault_console.specs.Script.{ring_line, reply_line, sealed_line, lost_line, up_line, flushed_line, checkpointed_line, delivered_line, show_line, audit_line, is_answered, sealed_of, sealed_lines, lines_told};
 
 use ring_records::{NodeNo, Reply, Shown};
 use ring_world::{Event, Outcome};
@@ -82,6 +82,13 @@ pub fn print_shown(out: &mut String, node: NodeNo, shown: Shown) -> Result<(), A
 {
     let node = node.number();
     writeln!(out, "node {node} {shown}")
+}
+
+/// Adds the line of an audit that placed so many inputs.
+pub fn print_audit(out: &mut String, count: u64) -> Result<(), AllocError>
+    ensures { OnOk result (AddsLine (string_bytes out.old) (string_bytes out.new) (audit_line count)) }
+{
+    writeln!(out, "audit ok {count}")
 }
 
 fn is_answered(ticket: u64, replies: &[(u64, Reply)]) -> bool

@@ -8,7 +8,7 @@ use Rattle.std.proofs.Math.Seq.{drop-append_seam, drop-nil}
 use Rattle.disk_model.specs.Disk.{Disk, Reach, Reaches}
 use Rattle.ring_records.specs.declared.base.Base.{Base}
 use Rattle.ring_records.specs.declared.input.Input.{Input}
-use Rattle.ring_records.specs.declared.input.Input.TheVariants.{Stand, Take, Acked}
+use Rattle.ring_records.specs.declared.input.Input.TheVariants.{Stand, Take, Acked, Retire}
 use Rattle.ring_records.specs.declared.msg.Msg.{Msg}
 use Rattle.ring_records.specs.declared.summary.Summary.{Summary}
 use Rattle.ring_records.specs.Admission.{IsAdmitted, IsInTurn, IsLawful}
@@ -35,7 +35,7 @@ use Rattle.ring_node.specs.Held.{HeldView, view_with, IsServed, IsWhole, IsRingN
 use Rattle.ring_node.proofs.Flights.{inputs_stay, durable_same, lawful_flying, flying_shown, gains, told}
 use Rattle.ring_node.proofs.Queue.{serials_shown}
 use Rattle.ring_node.proofs.Ring.{by_name, opens}
-use Rattle.ring_node.proofs.Serving.{same_view, reopens_shown, base_stays}
+use Rattle.ring_node.proofs.Serving.{reopens_shown, base_stays}
 
 -- ---- messages
 
@@ -111,6 +111,7 @@ credit_more me n capacity b h (Acked upto) admitted =
     let more = credit-push h (Acked upto) in
     let above = admitted.allowed.in_turn.above in
     omega arith
+credit_more me n capacity b h (Retire group floor) admitted = let more = credit-push h (Retire group floor) in omega arith
 
 credit_next : (me n capacity : ℕ) (b : Base) (h : List Input) (x : Input) → IsAdmitted me n capacity b h x → ((k : ℕ) → credit (take k h) ≤ credit h) → (k : ℕ) → credit (take k (h ++ x ∷ [])) ≤ credit (h ++ x ∷ [])
 credit_next me n capacity b h x admitted before k = go (nat_lt (length h) k) refl
@@ -180,6 +181,13 @@ module _ (m : Member) (s : NodeState) (past : List Input) (desk : DeskKept) (aga
   past_is : past ≡ take t.base.inputs t.inputs
   past_is = again.is ∙ (ap (λ k. take k s.inputs) summarised_is ∙ front_is again.keep)
 
+  past_long : length past ≡ t.base.inputs
+  past_long =
+      let same = ap length past_is in
+      let long = length-take t.base.inputs t.inputs in
+      let within = summarised_within in
+      omega arith
+
   pub left_behind : IsPast desk.view.member desk.opening past
   left_behind = subst (λ (a : Member × List Input). IsPast a.0 desk.opening a.1) (λ i. (sym (ap (λ (v : DeskView). v.member) again.found.shows) i, sym past_is i)) again.found.past
 
@@ -194,12 +202,12 @@ module _ (m : Member) (s : NodeState) (past : List Input) (desk : DeskKept) (aga
         by_name m _ _ _ _ past desk reach queue messages left_behind (left_seen ∙ ap (opened_view m again.run) (opened_is s again.keep)) refl spent refl
         (opens m again.run t.base t.inputs reach messages range (subst (IsLawfulState m) (opened_is s again.keep) lawful_left) reaches sends)
 
-    pub left_shown : (v : NodeView) → v.member ≡ m → view_with (seen past desk) queue ≡ reopened t v
-    left_shown v node_is = same_view _ _ _ _ left_seen spent ∙ reopens_shown m again.run t v node_is
+    pub left_shown : (v : NodeView) → v.member ≡ m → view_with (length past) (seen past desk) queue ≡ reopened t v
+    left_shown v node_is = (λ i. view_with (past_long i) (left_seen i) (spent i)) ∙ reopens_shown m again.run t v node_is
 
 module _ (m : Member) (desk : DeskView) (reach : Reach) (queue : List HeldView) (messages : List Msg) (here : IsWhole m desk reach queue messages) where
-  abbrev v : NodeView
-  v = view_with desk queue
+  abbrev v : ℕ → NodeView
+  v dropped = view_with dropped desk queue
 
   -- its state is lawful
   pub lawful_here : IsLawfulState m desk.state
@@ -215,7 +223,7 @@ module _ (m : Member) (desk : DeskView) (reach : Reach) (queue : List HeldView) 
 
   -- ---- a crash
 
-  either : (keep : Bool) → left_by keep desk.state ≡ opened v.base (durable_in v)
+  either : (keep : Bool) → left_by keep desk.state ≡ opened (v 0).base (durable_in (v 0))
   either true = λ i. opened (base_stays desk.state here.served.none i) (take (here.served.idle i) desk.state.inputs)
   either false = refl
 
@@ -225,8 +233,8 @@ module _ (m : Member) (desk : DeskView) (reach : Reach) (queue : List HeldView) 
     crashed_again reach' reaches =
         left_again m desk.state past' desk' again lawful_here queue' spent reach' messages here.range reaches (here.sends ∙ ap (λ (t : NodeState). sent m.node t.inputs) (sym (either again.keep)))
 
-    pub crashed_shown : view_with (seen past' desk') queue' ≡ reopened (opened v.base (durable_in v)) v
-    crashed_shown = left_shown m desk.state past' desk' again lawful_here queue' spent v here.is ∙ ap (λ (t : NodeState). reopened t v) (either again.keep)
+    pub crashed_shown : (dropped : ℕ) → view_with (length past') (seen past' desk') queue' ≡ reopened (opened (v dropped).base (durable_in (v dropped))) (v dropped)
+    crashed_shown dropped = left_shown m desk.state past' desk' again lawful_here queue' spent (v dropped) here.is ∙ ap (λ (t : NodeState). reopened t (v dropped)) (either again.keep)
 
   -- ---- a stop while this flies
 
@@ -241,7 +249,7 @@ module _ (m : Member) (desk : DeskView) (reach : Reach) (queue : List HeldView) 
     durable_in_same = durable_same m desk reach queue messages here flight
 
     -- no more is credited by what is left
-    few_credits : is_credited v ≡ true → credit (left_by again.keep s).inputs ≤ length messages
+    few_credits : is_credited (v 0) ≡ true → credit (left_by again.keep s).inputs ≤ length messages
     few_credits credited =
         let all : credit desk.state.inputs ≤ length (sent desk.member.node (states.durable_in desk.state)) = grind (arith, nat_tests, credited) in
         let same : length messages ≡ length (sent desk.member.node (states.durable_in desk.state)) = ap length (here.sends ∙ ap (λ (k : Member). sent k.node (states.durable_in desk.state)) (sym here.is)) in
@@ -275,7 +283,7 @@ module _ (m : Member) (desk : DeskView) (reach : Reach) (queue : List HeldView) 
           ∙ λ i. sent (sym node_is i) (take s.durable (sym inputs_are i))),
     )
 
-    pub credits_few : is_credited v ≡ true → credit (seen past' desk').state.inputs ≤ length messages
+    pub credits_few : is_credited (v 0) ≡ true → credit (seen past' desk').state.inputs ≤ length messages
     credits_few credited = let few = few_credits credited in let same = ap credit inputs_are in omega arith
 
     module _ (queue' : List HeldView) (spent : queue' ≡ []) where
@@ -284,13 +292,15 @@ module _ (m : Member) (desk : DeskView) (reach : Reach) (queue : List HeldView) 
           left_again m s past' desk' again lawful_s queue' spent reach' messages' here.range reaches (sends ∙ λ i. sent (node_is i) (inputs_are i))
 
       -- its counts tell whether it has what flew
-      pub stopped_shown : (kept : Bool) → MayStop flight v → kept ≡ gains v (seen past' desk').state → view_with (seen past' desk') queue' ≡ reopened (left flight kept v) v
-      stopped_shown kept may tells =
-          let flew : left_by again.keep s ≡ left flight again.keep v = (λ i. left_by again.keep (launched_as flight (sym here.is i).node desk.state)) ∙ ap (left_by again.keep) (sym (flying_shown desk reach queue here.served flight)) in
-          let same_one : kept ≡ again.keep = tells ∙ (ap (gains v) (ap (λ (d : DeskView). d.state) stopped_seen ∙ flew) ∙ told flight again.keep v may) in
-          left_shown m s past' desk' again lawful_s queue' spent v here.is
-          ∙ (ap (λ (t : NodeState). reopened t v) flew ∙ ap (λ b. reopened (left flight b v) v) (sym same_one))
+      pub stopped_shown : (dropped : ℕ) (kept : Bool) → MayStop flight (v dropped) → kept ≡ gains (v dropped) (seen past' desk').state
+          → view_with (length past') (seen past' desk') queue' ≡ reopened (left flight kept (v dropped)) (v dropped)
+      stopped_shown dropped kept may tells =
+          let u = v dropped in
+          let flew : left_by again.keep s ≡ left flight again.keep u = (λ i. left_by again.keep (launched_as flight (sym here.is i).node desk.state)) ∙ ap (left_by again.keep) (sym (flying_shown desk reach queue here.served flight)) in
+          let same_one : kept ≡ again.keep = tells ∙ (ap (gains u) (ap (λ (d : DeskView). d.state) stopped_seen ∙ flew) ∙ told flight again.keep u may) in
+          left_shown m s past' desk' again lawful_s queue' spent u here.is
+          ∙ (ap (λ (t : NodeState). reopened t u) flew ∙ ap (λ b. reopened (left flight b u) u) (sym same_one))
 
 -- the numbers of the open tickets
-pub lost_serials : (desk : DeskView) (reach : Reach) (queue : List HeldView) → IsServed desk reach queue → filter_map (λ (h : HeldView). h.serial) queue ≡ filter_map serial_of (view_with desk queue).held
+pub lost_serials : (desk : DeskView) (reach : Reach) (queue : List HeldView) → IsServed desk reach queue → filter_map (λ (h : HeldView). h.serial) queue ≡ filter_map serial_of (view_with 0 desk queue).held
 lost_serials desk reach queue here = serials_shown desk.member.node desk.run 0 _ desk.tickets queue here.held

@@ -97,7 +97,7 @@ no_memory m s = limit_or_full (nat_lt m.capacity (snapshot_len newest (summary m
 
 -- a node at work launches what it may begin
 pub may_fly : (flight : Flight) (past : List Input) (d : DeskKept) (reach : Reach) (queue : List HeldView) → IsPast d.view.member d.opening past → IsServed (seen past d) reach queue
-    → MayBegin flight d.view.member (state_of (view_with (seen past d) queue)) → MayFly flight d
+    → MayBegin flight d.view.member (state_of (view_with 0 (seen past d) queue)) → MayFly flight d
 may_fly Batch past d reach queue is here may = here.works
 may_fly Checkpoint past d reach queue is here may = objection_is past d reach queue is here ∙ may
 
@@ -161,10 +161,10 @@ module _ (desk : DeskView) (reach : Reach) (queue : List HeldView) (here : IsSer
   lawful_served = lawful_flies flight desk.member desk.state (is_idle_state desk.state here.idle here.none) here.lawful
 
   -- its state is what it shows
-  pub state_shown : state_of (view_with desk queue) ≡ desk.state
+  pub state_shown : state_of (view_with 0 desk queue) ≡ desk.state
   state_shown = λ i. record desk.state { flying = sym here.idle i; checkpoint = sym here.none i }
 
-  pub flying_shown : flying flight (view_with desk queue) ≡ s
+  pub flying_shown : flying flight (view_with 0 desk queue) ≡ s
   flying_shown = ap (launched_as flight desk.member.node) state_shown
 
   lands_served : IsServed (landed (flies flight desk)) reach queue
@@ -178,9 +178,9 @@ module _ (desk : DeskView) (reach : Reach) (queue : List HeldView) (here : IsSer
     reaches = here.reaches;
   }
 
-  pub lands_shown : view_with (landed (flies flight desk)) queue ≡ made_durable flight (view_with desk queue)
-  lands_shown = (λ i. record (view_with desk queue) { inputs = inputs_stay flight desk.member.node desk.state i; durable = s.flying; base = launched_base s })
-      ∙ λ i. record (view_with desk queue) { durable = (sym flying_shown i).flying; base = launched_base (sym flying_shown i) }
+  pub lands_shown : {dropped : ℕ} → view_with dropped (landed (flies flight desk)) queue ≡ made_durable flight (view_with dropped desk queue)
+  lands_shown {dropped} = (λ i. record (view_with dropped desk queue) { inputs = inputs_stay flight desk.member.node desk.state i; durable = s.flying; base = launched_base s })
+      ∙ λ i. record (view_with dropped desk queue) { durable = (sym flying_shown i).flying; base = launched_base (sym flying_shown i) }
 
 module _ (m : Member) (desk : DeskView) (reach : Reach) (queue : List HeldView) (messages : List Msg) (here : IsWhole m desk reach queue messages) (flight : Flight) where
   abbrev f : NodeState

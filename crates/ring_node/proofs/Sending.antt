@@ -7,7 +7,7 @@ use Rattle.std.proofs.Math.Seq.{take-add}
 use Rattle.std.proofs.lemmas.List.Elements.{filter_map-append}
 use Rattle.ring_records.specs.declared.base.Base.{Base}
 use Rattle.ring_records.specs.declared.input.Input.{Input}
-use Rattle.ring_records.specs.declared.input.Input.TheVariants.{Stand, Take, Acked}
+use Rattle.ring_records.specs.declared.input.Input.TheVariants.{Stand, Take, Acked, Retire}
 use Rattle.ring_records.specs.declared.candidate.Candidate.{Candidate}
 use Rattle.ring_records.specs.declared.msg.Msg.{Msg}
 use Rattle.ring_records.specs.declared.packet.Packet.{Packet}
@@ -127,6 +127,7 @@ named me n h (Take msg_no t) msg le turn (inr other) =
     let r = turn.in_ring in
     omega arith
 named me n h (Acked upto) msg le turn (inr other) = none≢some other.0 other.1
+named me n h (Retire group floor) msg le turn (inr other) = none≢some other.0 other.1
 
 inside-next : (me n capacity : ℕ) (b : Base) → me ≤ n → (h : List Input) (x : Input) → IsAdmitted me n capacity b h x → AreInside n (sent me h) → AreInside n (sent me (h ++ x ∷ []))
 unfolding sent

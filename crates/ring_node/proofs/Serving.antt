@@ -38,8 +38,8 @@ use Rattle.ring_node.specs.Held.{HeldView, MatchFirst, AreHeld, shown_with, view
 use Rattle.ring_node.proofs.Queue.{First, held_none, held_more, shown_more, first, held_from, none_due, ended_first, found_first}
 
 -- what is shown by other names
-pub same_view : (desk desk' : DeskView) (queue queue' : List HeldView) → desk' ≡ desk → queue' ≡ queue → view_with desk' queue' ≡ view_with desk queue
-same_view desk desk' queue queue' d q = λ i. view_with (d i) (q i)
+pub same_view : {dropped : ℕ} (desk desk' : DeskView) (queue queue' : List HeldView) → desk' ≡ desk → queue' ≡ queue → view_with dropped desk' queue' ≡ view_with dropped desk queue
+same_view {dropped} desk desk' queue queue' d q = λ i. view_with dropped (d i) (q i)
 
 -- ---- a node that is opened
 
@@ -66,14 +66,14 @@ starts m run base inputs reach lawful reaches = record {
   reaches = reaches;
 }
 
-pub new_shown : (node n capacity : ℕ) → view_with (opened_view (member node n capacity) 0 (opened fresh [])) [] ≡ new_node node n capacity
+pub new_shown : (node n capacity : ℕ) → view_with 0 (opened_view (member node n capacity) 0 (opened fresh [])) [] ≡ new_node node n capacity
 unfolding shown_with
 new_shown node n capacity = refl
 
 -- it shows that state
-pub reopens_shown : (m : Member) (run : ℕ) (s : NodeState) (v : NodeView) → v.member ≡ m → view_with (opened_view m run s) [] ≡ reopened s v
+pub reopens_shown : (m : Member) (run : ℕ) (s : NodeState) (v : NodeView) → v.member ≡ m → view_with s.base.inputs (opened_view m run s) [] ≡ reopened s v
 unfolding reopened shown_with
-reopens_shown m run s v member_is = λ i. record { member = sym member_is i; inputs = s.inputs; durable = s.durable; base = s.base; held = []; issued = 0 }
+reopens_shown m run s v member_is = λ i. record { member = sym member_is i; inputs = s.inputs; durable = s.durable; base = s.base; held = []; issued = 0; dropped = s.base.inputs }
 
 pub none_lawful : (me n capacity : ℕ) → IsLawfulState (member me n capacity) (opened fresh [])
 unfolding IsLawful EachAfter
@@ -170,14 +170,14 @@ module _ (desk : DeskView) (reach : Reach) (queue : List HeldView) (here : IsSer
           reaches = here.reaches;
         }
 
-    pub gives_shown : view_with (submitted q desk) (queue ++ h ∷ []) ≡ asked_with h.serial q (view_with desk queue)
+    pub gives_shown : {dropped : ℕ} → view_with dropped (submitted q desk) (queue ++ h ∷ []) ≡ asked_with h.serial q (view_with dropped desk queue)
     unfolding asked_with
-    gives_shown =
+    gives_shown {dropped} =
         let shown = shown_more desk.member.node desk.run 0 (length desk.state.inputs) desk.issued (desks.answered desk q) h desk.tickets queue here.held in
         let m = desk.member in
         let base = base_stays desk.state here.none in
-        (λ i. record (view_with (submitted q desk) (queue ++ h ∷ [])) { held = shown i })
-        ∙ (λ i. record (view_with (submitted q desk) (queue ++ h ∷ [])) {
+        (λ i. record (view_with dropped (submitted q desk) (queue ++ h ∷ [])) { held = shown i })
+        ∙ (λ i. record (view_with dropped (submitted q desk) (queue ++ h ∷ [])) {
           inputs = desk.state.inputs ++ gained m.node m.n m.capacity (base i) desk.state.inputs q;
           held = shown_with desk.tickets queue ++ record { serial = h.serial; kept = answered m.node m.n m.capacity (base i) desk.state.inputs q } ∷ [];
         })

@@ -1,5 +1,5 @@
 -- How many inputs of a desk wait, where room is told by what they cost.
-use Rattle.std.proofs.Common.{◌≡◌, ◌*◌, ◌≤◌, ℕ, List, length, drop, None, inl, inr, subst, arith}
+use Rattle.std.proofs.Common.{◌≡◌, ◌*◌, ◌≤◌, length, drop, None, inl, inr, subst, arith}
 use Rattle.std.proofs.Math.Nat.{eq-or-lt_of_le}
 use Rattle.std.proofs.lemmas.List.{length-drop}
 use Rattle.ring_records.specs.declared.base.Base.{Base}
@@ -11,7 +11,7 @@ use Rattle.group_commit.proofs.Costs.{base_stays, costs_least, durable_costs}
 use Rattle.group_commit.proofs.Since.{all_fit}
 
 -- what is not durable takes no more than the capacity, where no checkpoint flies
-pub few_wait : (m : Member) (opening : Summary) (s : NodeState) → s.checkpoint ≡ None → IsKnownState m opening s → 16 * length (drop s.durable s.inputs) ≤ m.capacity
+pub few_wait : (m : Member) (opening : Summary) (s : NodeState) → s.checkpoint ≡ None → IsKnownState m opening s → 13 * length (drop s.durable s.inputs) ≤ m.capacity
 few_wait m opening s none known = elim (eq-or-lt_of_le within) [
   | inl all ↦ omega (arith, length-drop s.durable s.inputs, all)
   | inr some ↦ (

@@ -54,14 +54,15 @@ shown_with (t ∷ tickets) (h ∷ queue) = record { serial = h.serial; kept = t.
 
 -- ---- a node at work
 
-abbrev pub view_with : DeskView → List HeldView → NodeView
-view_with desk queue = record {
+abbrev pub view_with : ℕ → DeskView → List HeldView → NodeView
+view_with dropped desk queue = record {
   member = desk.member;
   inputs = desk.state.inputs;
   durable = desk.state.durable;
   base = desk.state.base;
   held = shown_with desk.tickets queue;
   issued = desk.issued;
+  dropped = dropped;
 }
 
 -- the reach of a node's device

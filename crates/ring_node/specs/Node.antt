@@ -18,8 +18,8 @@ use Rattle.ring_node.specs.declared.flight.Flight.{Flight}
 use Rattle.ring_node.specs.declared.flight.Flight.TheVariants.{Batch, Checkpoint}
 
 -- which node it is, of how large a ring, and its capacity; the inputs that it accepted, and how many of them are
--- durable; what the area in use stands for; its open tickets, the oldest first; and how many tickets it gave since it was
--- opened
+-- durable; what the area in use stands for; its open tickets, the oldest first; how many tickets it gave since it was
+-- opened; and how many first inputs it has no more, as a summary stood for them when it was opened
 pub record NodeView : Type 0 where
   pub member : Member
   pub inputs : List Input
@@ -27,9 +27,10 @@ pub record NodeView : Type 0 where
   pub base : Base
   pub held : List Open
   pub issued : ℕ
+  pub dropped : ℕ
 
 abbrev pub new_node : ℕ → ℕ → ℕ → NodeView
-new_node me n capacity = record { member = member me n capacity; inputs = []; durable = 0; base = fresh; held = []; issued = 0 }
+new_node me n capacity = record { member = member me n capacity; inputs = []; durable = 0; base = fresh; held = []; issued = 0; dropped = 0 }
 
 -- its state: nothing flies
 abbrev pub state_of : NodeView → NodeState
@@ -87,7 +88,7 @@ is_credited v = nat_le (credit v.inputs) (length (sent v.member.node (durable_in
 
 -- after it was opened again in this state: no ticket is open
 unfoldable pub reopened : NodeState → NodeView → NodeView
-reopened s v = record v { inputs = s.inputs; durable = s.durable; base = s.base; held = []; issued = 0 }
+reopened s v = record v { inputs = s.inputs; durable = s.durable; base = s.base; held = []; issued = 0; dropped = s.base.inputs }
 
 -- the state that a stop leaves while this flies: with what flies, or without
 abbrev pub left : Flight → Bool → NodeView → NodeState

@@ -47,10 +47,10 @@ impl RingNode {
     }
 }
 
-// How many inputs of the desk are not durable yet: a sixteenth of its capacity's bytes at most, where no checkpoint flies.
+// How many inputs of the desk are not durable yet: a thirteenth of its capacity's bytes at most, where no checkpoint flies.
 fn waiting(desk: &Desk) -> u64
     ensures value { result ≡ length desk.now.view.state.inputs - desk.now.view.state.durable }
-    ensures few { desk.now.view.state.checkpoint ≡ None → 16 * result ≤ desk.now.view.member.capacity }
+    ensures few { desk.now.view.state.checkpoint ≡ None → 13 * result ≤ desk.now.view.member.capacity }
 {
     desk.accepted() - desk.durable()
 }

@@ -41,6 +41,7 @@ pub struct RingNode {
 }
 
 impl Model for RingNode {
+    ghost use Rattle.std.specs.Prelude.{length};
     ghost use Rattle.ring_records.specs.Member.{member};
     ghost use Rattle.group_commit.specs.Desk.{seen};
     ghost use Rattle.node_store.specs.Node as nodes;
@@ -49,7 +50,7 @@ impl Model for RingNode {
 
     ghost Value = { NodeView };
 
-    ghost view = { λ r. view_with (seen r.past.items (nodes.desk_of r.node)) r.held.items };
+    ghost view = { λ r. view_with (length r.past.items) (seen r.past.items (nodes.desk_of r.node)) r.held.items };
 
     ghost invariant = { λ r. IsRingNode (member r.me r.n r.capacity) r.past.items (nodes.desk_of r.node) (reach_of (nodes.device_of r.node)) r.held.items r.messages.items };
 }
@@ -150,6 +151,24 @@ impl RingNode {
         ensures tickets { length result.now.view.tickets ≡ length self.now.held }
     {
         self.node.desk()
+    }
+
+    /// How many first inputs it has no more, as a summary stood for them when it was opened.
+    pub fn dropped(&self) -> u64
+        ensures { result ≡ self.now.dropped }
+    {
+        self.node.desk().first()
+    }
+
+    /// Its durable inputs, all of which it has. Refused for memory alone.
+    pub fn durable_history(&self) -> Result<Vec<Input>, AllocError>
+        requires whole { self.now.dropped ≡ 0 }
+        ensures { IfOk result (λ inputs. inputs.items ≡ durable_in self.now) }
+    {
+        let durable = self.node.durable() as usize;
+        let mut inputs = Vec::new(self.alloc);
+        inputs.extend_from_slice(&self.node.history()[..durable])?;
+        Ok(inputs)
     }
 
     /// Whether no more messages are credited than its durable inputs sent, so that it may be stopped.

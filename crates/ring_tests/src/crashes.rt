@@ -98,7 +98,7 @@ fn a_checkpoint_releases_what_was_sealed(rt: HostRuntime) {
     world.end();
 }
 
-// The snapshot of 151 Stands has 38 + 151 times 27 bytes, more than the capacity.
+// The snapshot of 151 Stands has 42 + 151 times 27 bytes, more than the capacity.
 #[test]
 fn a_checkpoint_that_is_refused_changes_nothing(rt: HostRuntime) {
     let mut world = ring(&rt, rt.alloc(), 2, true);

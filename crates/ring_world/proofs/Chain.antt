@@ -131,7 +131,7 @@ took i key h c (inl p) = (Token key c, p.1, refl)
 took i key h c (inr p) = (Elected key c, p.1, refl)
 
 module _ (n : ℕ) (run : List (ℕ × Input)) (parts : Parts n run) (key : Key) where
-  won : (c : Candidate) → IsShown run key c → HasWon n run key c
+  pub won : (c : Candidate) → IsShown run key c → HasWon n run key c
   won c k =
       let cause = (allowed_facts k.node n key (part run k.node) (parts.allowed k.node)).leads c k.shows in
       let t = took k.node key (part run k.node) c cause in
@@ -139,12 +139,12 @@ module _ (n : ℕ) (run : List (ℕ × Input)) (parts : Parts n run) (key : Key)
       home n run parts key c origin (known n run parts key c origin k.node (parts.takers k.node t.0 t.1) cause)
 
   -- another candidate that stands is less
-  lesser : (c d : Candidate) → HasWon n run key c → first_stand (part run d.node) key ≡ Some d.bid → IsNode n d.node → (d.node ≡ c.node → ⊥) → is_less d c ≡ true
+  pub lesser : (c d : Candidate) → HasWon n run key c → first_stand (part run d.node) key ≡ Some d.bid → IsNode n d.node → (d.node ≡ c.node → ⊥) → is_less d c ≡ true
   unfolding is_below
   lesser c d w s node ne = subst (λ o. is_below o d.node c ≡ true) s (w.beaten d.node node ne)
 
   -- a node stands with one bid
-  one_bid : (c d : Candidate) → first_stand (part run c.node) key ≡ Some c.bid → first_stand (part run d.node) key ≡ Some d.bid → c.node ≡ d.node → c ≡ d
+  pub one_bid : (c d : Candidate) → first_stand (part run c.node) key ≡ Some c.bid → first_stand (part run d.node) key ≡ Some d.bid → c.node ≡ d.node → c ≡ d
   one_bid c d s t e =
       let both : ◌≡◌ {A = Option ℕ} (Some c.bid) (Some d.bid) = sym s ∙ (ap (λ k. first_stand (part run k) key) e ∙ t) in
       let bids : c.bid ≡ d.bid = cc in

@@ -7,7 +7,7 @@ use Rattle.std.proofs.lemmas.List.Elements.{Contains-push, Contains-append_left}
 use Rattle.std.proofs.lemmas.Option.{same_Some, slice_get_within}
 use Rattle.ring_records.specs.declared.base.Base.{Base}
 use Rattle.ring_records.specs.declared.input.Input.{Input}
-use Rattle.ring_records.specs.declared.input.Input.TheVariants.{Stand, Take, Acked}
+use Rattle.ring_records.specs.declared.input.Input.TheVariants.{Stand, Take, Acked, Retire}
 use Rattle.ring_records.specs.declared.msg.Msg.{Msg}
 use Rattle.ring_records.specs.Admission.{IsAdmitted, IsInTurn, IsLawful}
 use Rattle.ring_records.specs.Emission.{sent}
@@ -38,6 +38,7 @@ unfolding upto_of
 acked h (Stand key bid) upto there e = none≢some upto e
 acked h (Take msg_no msg) upto there e = none≢some upto e
 acked h (Acked k) upto there e = subst (λ u. Contains h (Acked u)) (same_Some k upto e) there
+acked h (Retire group floor) upto there e = none≢some upto e
 
 -- the credit is 0, or was accepted
 credit_from : (h : List Input) → (credit h ≡ 0) ⊎ Contains h (Acked (credit h))
@@ -70,6 +71,7 @@ next : (me n capacity : ℕ) (base : Base) (h : List Input) (x : Input) → IsAd
 unfolding IsInTurn message_of
 next me n capacity base h (Stand key bid) admitted earlier = stays h (Stand key bid) refl earlier
 next me n capacity base h (Acked upto) admitted earlier = stays h (Acked upto) refl earlier
+next me n capacity base h (Retire group floor) admitted earlier = stays h (Retire group floor) refl earlier
 next me n capacity base h (Take msg_no msg) admitted earlier =
     let more = ap length (taken-push h (Take msg_no msg)) in
     let sum = length-append (taken h) (msg ∷ []) in

@@ -66,6 +66,7 @@ unfolding IsDelivered
 handed_delivers n i events (ask.Stand key bid) = tt
 handed_delivers n i events (ask.Take msg_no msg) = Contains-push events (before n i, Release (Sent (Carry msg_no msg)))
 handed_delivers n i events (ask.Acked upto) = Contains-push events (after n i, Release (Sent (Credit upto)))
+handed_delivers n i events (ask.Retire group floor) = tt
 handed_delivers n i events (ask.Who key) = tt
 handed_delivers n i events (ask.Latest group) = tt
 
@@ -106,6 +107,7 @@ module _ (w : RingView) (schedule : IsSchedule w.size w.capacity w.events) where
         let low = after_low w.size i first last in
         let high = after_high w.size i first last in
         packet_stays b low high (Credit upto) (credit_rests b low high upto e)
+    handed_stays (ask.Retire group floor) e = release_none w.size w.capacity w.events schedule
     handed_stays (ask.Who key) e = release_none w.size w.capacity w.events schedule
     handed_stays (ask.Latest group) e = release_none w.size w.capacity w.events schedule
 

@@ -2,7 +2,9 @@ mod Chain
 mod Counts
 mod Credits
 mod Handed
+mod Histories
 mod Kept
+mod Lowest
 mod Moves
 mod Named
 mod Nodes
@@ -10,7 +12,9 @@ mod Opened
 mod Processes
 mod Promises
 mod Reached
+mod Replies
 mod Rest
+mod Rounds
 mod Runs
 mod Same
 mod Schedules

@@ -37,6 +37,7 @@ still n capacity events more k v same shows = record {
   is = shows.is;
   state = shows.state ∙ ap (λ (p : Process). p.state) (sym same);
   kept = λ t here. subst (λ (p : Process). Contains p.kept t.kept) (sym same) (shows.kept t here);
+  dropped = shows.dropped ∙ ap (λ (p : Process). p.dropped) (sym same);
   few = (let l = length-append events more in let f = shows.few in omega arith);
 }
 
@@ -93,6 +94,7 @@ module _ (n capacity : ℕ) (events : List (ℕ × Action)) (nodes : List NodeVi
             | inr new ↦ subst (λ (u : Open). Contains (p.kept ++ answered_by (member i n capacity) p.state q ∷ []) u.kept) new
                 (subst (Contains (p.kept ++ answered_by (member i n capacity) p.state q ∷ [])) (sym (answered_same q)) (Contains-push p.kept (answered_by (member i n capacity) p.state q)))
           ]);
+          dropped = mine.dropped ∙ ap (λ (r : Process). r.dropped) (sym same);
           few = (let l = length-append events (submission q) in let f = mine.few in omega arith);
         }
 
@@ -120,6 +122,7 @@ module _ (n capacity : ℕ) (events : List (ℕ × Action)) (nodes : List NodeVi
           is = mine.is;
           state = durable_state flight v ∙ ((λ t. landed (launched_as flight (mine.is t).node (mine.state t))) ∙ ap (λ (r : Process). r.state) (sym same));
           kept = λ t here. subst (λ (r : Process). Contains r.kept t.kept) (sym same) (mine.kept t here);
+          dropped = mine.dropped ∙ ap (λ (r : Process). r.dropped) (sym same);
           few = (let l = length-append events (flight_events flight Land) in let f = mine.few in omega arith);
         }
 
@@ -152,6 +155,7 @@ module _ (n capacity : ℕ) (events : List (ℕ × Action)) (nodes : List NodeVi
           is = now.is;
           state = now.state;
           kept = λ t here. now.kept t (from_filter _ v.held t here).0;
+          dropped = now.dropped;
           few = now.few;
         }
 
@@ -166,6 +170,7 @@ module _ (n capacity : ℕ) (events : List (ℕ × Action)) (nodes : List NodeVi
       is = mine.is;
       state = idle_left keeps_flying s v ∙ ap (λ (r : Process). r.state) (sym same);
       kept = λ t here. Contains-nil t here;
+      dropped = ap (λ (r : Process). r.dropped) (sym same);
       few = omega arith;
     }
 

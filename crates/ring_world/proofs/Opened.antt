@@ -62,6 +62,7 @@ fresh_node size capacity at = record {
   is = refl;
   state = refl;
   kept = λ t here. Contains-nil t here;
+  dropped = refl;
   few = omega arith;
 }
 

@@ -8,10 +8,12 @@ use Rattle.ring_records.specs.declared.candidate.Candidate.{Candidate}
 use Rattle.ring_records.specs.declared.input.Input.{Input}
 use Rattle.ring_records.specs.declared.input.Input.TheVariants.{Stand}
 use Rattle.ring_records.specs.declared.key.Key.{Key}
+use Rattle.ring_records.specs.declared.refusal.Refusal.{Refusal}
 use Rattle.ring_records.specs.declared.reply.Reply.TheVariants as say
 use Rattle.ring_records.specs.declared.request.Request.{Request}
 use Rattle.ring_records.specs.declared.request.Request.TheVariants as ask
-use Rattle.ring_records.specs.Answer.{Answer, reply}
+use Rattle.ring_records.specs.Admission.{retired}
+use Rattle.ring_records.specs.Answer.{Answer, unless, reply}
 use Rattle.ring_records.specs.Fitting.{RingFits}
 use Rattle.ring_records.specs.Leader.{first_leader, leader, latest}
 use Rattle.ring_records.specs.Lists.{joined_after}
@@ -139,14 +141,21 @@ latest-named group (Some led) key c e =
     let both = same_Some (record { group = group; term = led.0 }, led.1) (key, c) e in
     (ap (λ (w : Key × Candidate). w.0.group) both, ap (λ (w : Key × Candidate). Some (w.0.term, w.1)) both)
 
+-- nor of a key that is retired
+who-asked : (asked : Key) (p : Option Refusal) (o : Option Candidate) (key : Key) (c : Candidate) → named_by (ask.Who asked) (unless p (say.Leader o)) ≡ Some (key, c) → (asked ≡ key) × (o ≡ Some c)
+unfolding named_by
+who-asked asked None o key c e = who-leads asked o key c e
+who-asked asked (Some why) o key c e = none≢some (key, c) e
+
 -- a reply that names a leader was given by a node that knew it
 reply-leads : (me n capacity : ℕ) (base : Base) (h : List Input) (q : Request) (key : Key) (c : Candidate) → named_by q (reply me n capacity base h q) ≡ Some (key, c) → leader me h key ≡ Some c
 unfolding named_by reply
-reply-leads me n capacity base h (ask.Who asked) key c e = let r = who-leads asked (leader me h asked) key c e in ap (leader me h) (sym r.0) ∙ r.1
+reply-leads me n capacity base h (ask.Who asked) key c e = let r = who-asked asked (retired h asked) (leader me h asked) key c e in ap (leader me h) (sym r.0) ∙ r.1
 reply-leads me n capacity base h (ask.Latest group) key c e = let r = latest-named group (latest me h group) key c e in latest-leads me h key.group key.term c (ap (latest me h) (sym r.0) ∙ r.1)
 reply-leads me n capacity base h (ask.Stand asked bid) key c e = none≢some (key, c) e
 reply-leads me n capacity base h (ask.Take msg_no msg) key c e = none≢some (key, c) e
 reply-leads me n capacity base h (ask.Acked upto) key c e = none≢some (key, c) e
+reply-leads me n capacity base h (ask.Retire group floor) key c e = none≢some (key, c) e
 
 -- The inputs that a thing rests on show the leader that it names. A reply was given by the first of them.
 rests-shows : (me n capacity : ℕ) (h : List Input) (t : Thing) (key : Key) (c : Candidate) → Rests me n capacity h t → named t ≡ Some (key, c) → first_leader me h key ≡ Some c

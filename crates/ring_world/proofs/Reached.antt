@@ -17,6 +17,7 @@ module _ (w : RingView) (i : ℕ) where
   node_given (ask.Stand key bid) j = ap (λ (p : Process). p.state) (process-releases w.size w.capacity i [] w.events j)
   node_given (ask.Take msg_no msg) j = ap (λ (p : Process). p.state) (process-release w.size w.capacity w.events _ _ j)
   node_given (ask.Acked upto) j = ap (λ (p : Process). p.state) (process-release w.size w.capacity w.events _ _ j)
+  node_given (ask.Retire group floor) j = ap (λ (p : Process). p.state) (process-releases w.size w.capacity i [] w.events j)
   node_given (ask.Who key) j = ap (λ (p : Process). p.state) (process-releases w.size w.capacity i [] w.events j)
   node_given (ask.Latest group) j = ap (λ (p : Process). p.state) (process-releases w.size w.capacity i [] w.events j)
 

@@ -7,7 +7,7 @@ use Rattle.std.proofs.lemmas.List.Elements.{Contains-push_cases}
 use Rattle.std.proofs.lemmas.List.Sums.{fold-append}
 use Rattle.ring_records.specs.declared.base.Base.{Base}
 use Rattle.ring_records.specs.declared.input.Input.{Input}
-use Rattle.ring_records.specs.declared.input.Input.TheVariants.{Stand, Take, Acked}
+use Rattle.ring_records.specs.declared.input.Input.TheVariants.{Stand, Take, Acked, Retire}
 use Rattle.ring_records.specs.declared.packet.Packet.{Packet}
 use Rattle.ring_records.specs.declared.packet.Packet.TheVariants.{Carry, Credit}
 use Rattle.ring_records.specs.declared.request.Request.{Request}
@@ -50,6 +50,7 @@ unfolding IsCarried
 carried-kept n run more i (Stand key bid) c = tt
 carried-kept n run more i (Take msg_no msg) c = rw part-append (sent-kept (before n i) (part run (before n i)) _ msg_no msg c)
 carried-kept n run more i (Acked upto) c = rw part-append (taken-kept (part run (after n i)) _ upto c)
+carried-kept n run more i (Retire group floor) c = tt
 
 -- lawful inputs of one node, each of them carried, go on with a legal run
 legal-more : (n capacity j : ℕ) (base : Base) → 1 ≤ j → j ≤ n → (xs : List Input) (run : List (ℕ × Input)) → IsLegal n run → IsLawful j n capacity base (part run j ++ xs) → ((x : Input) → Contains xs x → IsCarried n run j x)
@@ -81,6 +82,7 @@ module _ (n : ℕ) (events : List (ℕ × Action)) (run : List (ℕ × Input)) (
   delivered i (ask.Stand key bid) x d e = subst (IsCarried n run i) (let p : Stand key bid ≡ x = cc in p) tt
   delivered i (ask.Take msg_no msg) x d e = subst (IsCarried n run i) (let p : Take msg_no msg ≡ x = cc in p) (packets (before n i) (Carry msg_no msg) d)
   delivered i (ask.Acked upto) x d e = subst (IsCarried n run i) (let p : Acked upto ≡ x = cc in p) (packets (after n i) (Credit upto) d).1
+  delivered i (ask.Retire group floor) x d e = subst (IsCarried n run i) (let p : Retire group floor ≡ x = cc in p) tt
   delivered i (ask.Who key) x d e = none≢some x e
   delivered i (ask.Latest group) x d e = none≢some x e
 

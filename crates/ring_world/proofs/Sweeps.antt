@@ -1,52 +1,21 @@
 -- Which message is delivered next, and what is left after it.
-use Rattle.std.proofs.Common.{ℕ, suc, ◌≡◌, ◌+◌, Bool, true, false, cond, List, [], length, Option, Some, None, refl, sym, ap, ◌∙◌, arith}
-use Rattle.std.specs.List.{cons_option, filter_map, range_with_len}
-use Rattle.std.specs.Prelude.{is_some}
+use Rattle.std.proofs.Common.{ℕ, ◌≡◌, ◌+◌, Bool, true, false, cond, [], length, Option, Some, None, sym, ap, ◌∙◌, arith}
 use Rattle.ring_records.specs.declared.request.Request.{Request}
 use Rattle.ring_records.specs.History.{taken}
-use Rattle.ring_records.specs.Lists.{first}
 use Rattle.ring_records.specs.Place.{after}
 use Rattle.ring_node.specs.declared.flight.Flight.TheVariants.{Batch}
 use Rattle.ring_world.specs.Ring.{RingView, node_at, expected, next_of, next_delivery, Part, waits, and_then, round, rounds, swept_one, swept_on, swept_with, swept}
+use Rattle.ring_world.proofs.Lowest.{after_one, lowest_from}
 
 -- ---- the lowest node that is ready
 
-after_one : (m k : ℕ) → m ≡ k + 1 → m ≡ suc k
-after_one m k e = omega arith
-
 -- the first that is ready of so many nodes from this one on
 abbrev pub ready_from : RingView → ℕ → ℕ → Option (ℕ × Request)
-ready_from w from count = first (filter_map (next_of w) (range_with_len from count))
-
-pub ready_found : (w : RingView) (from j m k : ℕ) (d : Option (ℕ × Request)) → from ≡ j → m ≡ k + 1 → d ≡ next_of w from → is_some d ≡ true → ready_from w j m ≡ d
-unfolding first
-ready_found w from j m k d at e is some = ap (λ f. ready_from w f m) (sym at) ∙ (ap (ready_from w from) (after_one m k e) ∙ (ap (λ o. first (cons_option o others)) (sym is) ∙ found d some))
-  where
-    others : List (ℕ × Request)
-    others = filter_map (next_of w) (range_with_len (from + 1) k)
-
-    found : (d : Option (ℕ × Request)) → is_some d ≡ true → first (cons_option d others) ≡ d
-    found None f = absurd cc
-    found (Some x) f = refl
-
-pub ready_skip : (w : RingView) (from j m k : ℕ) (d : Option (ℕ × Request)) → from ≡ j → m ≡ k + 1 → d ≡ next_of w from → is_some d ≡ false → ready_from w j m ≡ ready_from w (j + 1) k
-ready_skip w from j m k d at e is none =
-    ap (λ f. ready_from w f m) (sym at) ∙ (ap (ready_from w from) (after_one m k e) ∙ (ap (λ o. first (cons_option o others)) (sym is) ∙ (skipped d none ∙ ap (λ f. ready_from w (f + 1) k) at)))
-  where
-    others : List (ℕ × Request)
-    others = filter_map (next_of w) (range_with_len (from + 1) k)
-
-    skipped : (d : Option (ℕ × Request)) → is_some d ≡ false → first (cons_option d others) ≡ first others
-    skipped None f = refl
-    skipped (Some x) f = absurd cc
+ready_from w from count = lowest_from (next_of w) from count
 
 -- what the code reads of the successor is the number that it expects
 pub expected_is : (w : RingView) (from next count size : ℕ) → size ≡ w.size → next ≡ after size from → count ≡ length (taken (node_at w next).inputs) → count ≡ expected w from
 expected_is w from next count size same behind is = is ∙ ap (λ n. length (taken (node_at w n).inputs)) (behind ∙ ap (λ k. after k from) same)
-
-pub ready_last : (w : RingView) (from m : ℕ) → m ≡ 0 → ready_from w from m ≡ None
-unfolding first
-ready_last w from m e = ap (ready_from w from) e
 
 -- ---- rounds
 

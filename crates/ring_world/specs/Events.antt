@@ -61,18 +61,20 @@ pub data Action : Type 0 where
   -- it stops, and is opened again: with what flies, or without
   Crash : Bool → Action
 
--- a node at work: what it accepted, and the answers that it keeps, each with its request
+-- a node at work: what it accepted; the answers that it keeps, each with its request; and how many first inputs its last
+-- opening stood for, which it has no more
 pub record Process : Type 0 where
   pub state : NodeState
   pub kept : List Answered
+  pub dropped : ℕ
 
 -- it is opened in this state, and keeps no answer
 abbrev pub started : NodeState → Process
-started state = record { state = state; kept = [] }
+started state = record { state = state; kept = []; dropped = state.base.inputs }
 
 -- node me of a ring of n, with a capacity, after the action
 unfoldable pub act : ℕ → ℕ → ℕ → Process → Action → Process
-act me n capacity p (Submit q) = record { state = asked (member me n capacity) p.state q; kept = p.kept ++ answered_by (member me n capacity) p.state q ∷ [] }
+act me n capacity p (Submit q) = record p { state = asked (member me n capacity) p.state q; kept = p.kept ++ answered_by (member me n capacity) p.state q ∷ [] }
 act me n capacity p Launch = record p { state = launched p.state }
 act me n capacity p LaunchAll = record p { state = launched_all me p.state }
 act me n capacity p Land = record p { state = landed p.state }
@@ -98,6 +100,7 @@ unfoldable pub IsDelivered : ℕ → List (ℕ × Action) → ℕ → Request �
 IsDelivered n events i (ask.Stand key bid) = Unit {0}
 IsDelivered n events i (ask.Take msg_no msg) = Contains events (before n i, Release (Sent (Carry msg_no msg)))
 IsDelivered n events i (ask.Acked upto) = Contains events (after n i, Release (Sent (Credit upto)))
+IsDelivered n events i (ask.Retire group floor) = Unit {0}
 IsDelivered n events i (ask.Who key) = Unit {0}
 IsDelivered n events i (ask.Latest group) = Unit {0}
 

@@ -2,8 +2,10 @@ pub mod Agreement
 pub mod Announced
 pub mod Committed
 pub mod Counts
+pub mod Dropped
 pub mod Events
 pub mod Happened
+pub mod Histories
 pub mod Released
 pub mod Rest
 pub mod Ring

@@ -62,6 +62,7 @@ abbrev pub handed : ℕ → ℕ → Request → List (ℕ × Action)
 handed size i (ask.Stand key bid) = []
 handed size i (ask.Take msg_no msg) = (before size i, Release (Sent (Carry msg_no msg))) ∷ []
 handed size i (ask.Acked upto) = (after size i, Release (Sent (Credit upto))) ∷ []
+handed size i (ask.Retire group floor) = []
 handed size i (ask.Who key) = []
 handed size i (ask.Latest group) = []
 
@@ -182,6 +183,7 @@ unfoldable pub is_released : RingView → ℕ → Request → Bool
 is_released w i (ask.Stand key bid) = true
 is_released w i (ask.Take msg_no msg) = is_sent (message w (before w.size i) msg_no) msg
 is_released w i (ask.Acked upto) = is_earned w (after w.size i) upto
+is_released w i (ask.Retire group floor) = true
 is_released w i (ask.Who key) = true
 is_released w i (ask.Latest group) = true
 

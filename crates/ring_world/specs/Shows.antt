@@ -29,6 +29,8 @@ pub record ShowsNode (size capacity : ℕ) (events : List (ℕ × Action)) (i : 
   pub state : state_of v ≡ state_after size capacity events i
   -- the node keeps the answers of its open tickets
   pub kept : (t : Open) → Contains v.held t → Contains (process size capacity events i).kept t.kept
+  -- it has as many first inputs no more as its last opening stood for
+  pub dropped : v.dropped ≡ (process size capacity events i).dropped
   -- it gave at most a ticket an event
   pub few : v.issued ≤ length events
 

@@ -1,18 +1,21 @@
 //! Laws of runs and schedules of a ring: public functions with an empty body, whose contracts say what follows from the
 //! definitions alone. No program calls them.
-ghost use Rattle.std.specs.Prelude.{◌≡◌, ◌≢◌, ℕ, List, ◌∷◌, ◌++◌, take, IsTrue};
+ghost use Rattle.std.specs.Prelude.{◌≡◌, ◌≢◌, ◌≤◌, ℕ, List, ◌∷◌, ◌++◌, take, IsTrue, IsSome};
 ghost use Rattle.std.specs.List.{Contains};
 ghost use Rattle.ring_records.specs.declared.candidate.Candidate.{Candidate};
 ghost use Rattle.ring_records.specs.declared.input.Input.{Input};
 ghost use Rattle.ring_records.specs.declared.input.Input.TheVariants.{Stand};
 ghost use Rattle.ring_records.specs.declared.key.Key.{Key};
 ghost use Rattle.ring_records.specs.Fitting.{RingFits};
+ghost use Rattle.ring_records.specs.Leader.{leader};
 ghost use Rattle.ring_records.specs.Order.{is_less};
 ghost use Rattle.ring_records.specs.Ring.{IsLegal, part};
 ghost use Rattle.ring_records.specs.States.{durable_in};
-ghost use Rattle.ring_world.specs.Agreement.{IsKnown};
+ghost use Rattle.ring_audit.specs.Placement.{IsWhole};
+ghost use Rattle.ring_world.specs.Agreement.{IsKnown, IsRetiredNowhere, IsDrained};
 ghost use Rattle.ring_world.specs.Committed.{committed};
 ghost use Rattle.ring_world.specs.Events.{Thing, Action, Release, state_after, IsSchedule};
+ghost use Rattle.ring_world.specs.Histories.{histories};
 ghost use Rattle.ring_world.specs.Released.{IsKept, IsAnnounced};
 
 /// In a legal run all leaders that are known for one key, at whatever node and after however many of its inputs, are
@@ -23,6 +26,13 @@ pub fn agreement()
     ensures stands { (n : ℕ) (run : List (ℕ × Input)) (key : Key) (c : Candidate) → IsLegal n run → IsKnown run key c → Contains run (c.node, Stand key c.bid) }
     ensures greatest { (n : ℕ) (run : List (ℕ × Input)) (key : Key) (c d : Candidate)
         → IsLegal n run → IsKnown run key c → Contains run (d.node, Stand key d.bid) → d ≢ c → IsTrue (is_less d c) }
+{}
+
+/// In a legal run in which each message was taken, every node has a leader for each key that some node stood for and no
+/// node retired. No law says that a run ever comes to that.
+pub fn decided()
+    ensures { (n : ℕ) (run : List (ℕ × Input)) (key : Key) (i bid node : ℕ)
+        → IsLegal n run → IsDrained n run → Contains run (i, Stand key bid) → IsRetiredNowhere n run key → 1 ≤ node → node ≤ n → IsSome (leader node (part run node) key) }
 {}
 
 /// In every schedule, at every node, what is released rests on inputs that are durable at its release. They are durable
@@ -39,6 +49,11 @@ pub fn ring_legality()
     ensures legal { (n capacity : ℕ) (events : List (ℕ × Action)) → IsSchedule n capacity events → IsLegal n (committed n capacity events) }
     ensures parts { (n capacity : ℕ) (events : List (ℕ × Action)) (i : ℕ)
         → IsSchedule n capacity events → part (committed n capacity events) i ≡ take (state_after n capacity events i).durable (state_after n capacity events i).inputs }
+{}
+
+/// In every schedule the durable histories of all nodes are the parts of that run, whole.
+pub fn whole_histories()
+    ensures { (n capacity : ℕ) (events : List (ℕ × Action)) → IsSchedule n capacity events → IsWhole (histories n capacity events) (committed n capacity events) }
 {}
 
 /// In every schedule the durable histories of all nodes fit, and so do those with which they are opened again: for each

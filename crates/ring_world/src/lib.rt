@@ -17,4 +17,5 @@ mod world;
 pub use announced::Announced;
 pub use event::Event;
 pub use outcome::Outcome;
+pub use ring_audit::{AuditFault, Run, audit};
 pub use world::World;

@@ -7,7 +7,7 @@ ghost use Rattle.ring_records.specs.Order.{is_msg};
 ghost use Rattle.ring_records.specs.States.{shown_in};
 ghost use Rattle.ring_node.specs.Held.{IsShownBy};
 ghost use Rattle.ring_node.specs.Node.{state_of};
-ghost use Rattle.ring_world.specs.Events.{IsSchedule};
+ghost use Rattle.ring_world.specs.Events.{IsSchedule, process};
 ghost use Rattle.ring_world.specs.Happened.{action_of};
 ghost use Rattle.ring_world.specs.Ring.{launch};
 ghost use Rattle.ring_world.specs.Shows.{new_nodes};
@@ -97,6 +97,7 @@ impl Working {
         ensures member { result.now.member ≡ member node self.now.ring.size self.now.ring.capacity }
         ensures inputs { result.now.inputs ≡ (node_at self.now.ring node).inputs }
         ensures durable { result.now.durable ≡ (node_at self.now.ring node).durable }
+        ensures dropped { result.now.dropped ≡ (process self.now.ring.size self.now.ring.capacity self.now.ring.events node).dropped }
         ensures state { state_of result.now ≡ node_at self.now.ring node }
     {
         &self.nodes[node.number() as usize - 1]
@@ -179,7 +180,8 @@ impl Working {
                 let from = node.successor(self.log.size);
                 self.is_earned(from, *upto)
             }
-            Request::Stand(..) | Request::Who(_) | Request::Latest(_) => true,
+            Request::Stand(..) | Request::Retire(..) => true,
+            Request::Who(_) | Request::Latest(_) => true,
         }
     }
 
@@ -197,6 +199,7 @@ const EVENTS: usize = 1 << 60;
 mod changes;
 mod crashes;
 mod deliveries;
+mod histories;
 mod objections;
 mod parts;
 

@@ -7,7 +7,12 @@ ghost use Rattle.ring_records.specs.History.{taken, credit};
 ghost use Rattle.ring_records.specs.Order.{is_less};
 ghost use Rattle.ring_world.specs.declared.announced.Announced.{Announced as TheAnnounced};
 ghost use Rattle.ring_world.specs.Announced.{announced, Stands};
+ghost use Rattle.ring_audit.specs.Audits.{HasShape};
+ghost use Rattle.ring_audit.specs.Placement.{lists, IsWhole};
+ghost use Rattle.ring_world.specs.Committed.{committed};
 ghost use Rattle.ring_world.specs.Events.{IsSchedule, state_after};
+ghost use Rattle.ring_world.specs.Dropped.{withheld};
+ghost use Rattle.ring_world.specs.Histories.{histories};
 ghost use Rattle.ring_world.specs.Step.{told, Steps, refusal_of, is_lasting};
 
 use crate::announced::Announced;
@@ -17,7 +22,7 @@ use crate::laws;
 use crate::log::Log;
 use crate::outcome::Outcome;
 use crate::working::Working;
-use ring_records::{GREATEST_CAPACITY, LEAST_CAPACITY, NodeNo, Refusal, Shown};
+use ring_records::{GREATEST_CAPACITY, Input, LEAST_CAPACITY, NodeNo, Refusal, Shown};
 use std::alloc::{AllocError, Global};
 use std::marker::Model;
 use std::mem::replace;
@@ -160,6 +165,23 @@ impl World {
                 }
                 Ok(ring.shown(node))
             }
+        }
+    }
+
+    /// The durable inputs of each node, in ring order: the parts of one legal run, so an audit finds one. Refused, in
+    /// this order: 9 after a refused growth; 27 where a node has its first inputs no more, by the lowest such; 8.
+    pub fn histories(&self) -> Result<Vec<Vec<Input>>, Refusal>
+        ensures lists { IfOk result (λ hs. lists hs.items ≡ histories self.now.ring.size self.now.ring.capacity self.now.ring.events) }
+        ensures shape { IfOk result (λ hs. HasShape (lists hs.items)) }
+        ensures whole { IfOk result (λ hs. IsWhole (lists hs.items) (committed self.now.ring.size self.now.ring.capacity self.now.ring.events)) }
+        ensures given { OnOk result (withheld self.now ≡ None) }
+        ensures refused { IfErr result (λ why. (why ≡ Refusal.OutOfMemory) ⊎ (withheld self.now ≡ Some why)) }
+        ensures memory_last { IfErr result (λ why. why ≡ Refusal.OutOfMemory → withheld self.now ≡ None) }
+    {
+        laws::whole_histories();
+        match &self.stage {
+            Stage::Failed(_) => Err(Refusal::Failed),
+            Stage::Working(ring) => ring.histories(),
         }
     }
 }

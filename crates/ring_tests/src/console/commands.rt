@@ -100,7 +100,7 @@ fn unknown_commands(rt: HostRuntime) {
         ("up 1 0", &["no 25 line"]),
         ("checkpoints 1", &["no 25 line"]),
         ("retire 1 red 1", &["no 25 line"]),
-        ("audit", &["no 25 line"]),
+        ("audits", &["no 25 line"]),
     ];
     assert_session(&rt, SESSION);
 }

@@ -168,6 +168,41 @@ fn checkpoint_and_crash(rt: HostRuntime) {
 }
 
 #[test]
+fn audits(rt: HostRuntime) {
+    const ELECTED: &[Line] = &[
+        ("ring 3", &["ring 3"]),
+        ("stand 1 red 5 10", &["1: stood"]),
+        ("stand 2 red 5 30", &["2: stood"]),
+        ("stand 3 red 5 20", &["3: stood"]),
+        ("deliver all", &["delivered 9"]),
+        ("audit", &["audit ok 12"]),
+    ];
+    const DROPPED: &[Line] = &[
+        ("ring 2", &["ring 2"]),
+        ("audit", &["audit ok 0"]),
+        ("stand 1 red 9 5", &["1: stood"]),
+        ("deliver all", &["delivered 4"]),
+        ("checkpoint 1", &["checkpointed 0"]),
+        ("audit", &["audit ok 5"]),
+        ("crash 1", &["up 1 3"]),
+        ("audit", &["no 27 dropped 1"]),
+    ];
+    const OF_WHAT_IS_DURABLE: &[Line] = &[
+        ("ring 3 lazy", &["ring 3"]),
+        ("stand 1 red 5 10", &["1: sealed"]),
+        ("audit", &["audit ok 0"]),
+        ("audit 1", &["no 25 line"]),
+        ("flush 1", &["flushed 1", "1: stood"]),
+        ("audit", &["audit ok 1"]),
+        ("stop 3 checkpoint 6 old", &["up 3 0"]),
+        ("audit", &["audit ok 1"]),
+    ];
+    assert_named(&rt, "an election", ELECTED);
+    assert_named(&rt, "behind a checkpoint", DROPPED);
+    assert_named(&rt, "of what is durable", OF_WHAT_IS_DURABLE);
+}
+
+#[test]
 fn stopped_checkpoint(rt: HostRuntime) {
     const BEFORE_THE_GATE: &[Line] = &[
         ("ring 3 lazy", &["ring 3"]),

@@ -141,6 +141,7 @@ fn push_packet(events: &mut Vec<Happened>, size: u8, node: NodeNo, question: &Re
             events.push_reserved(Happened::new(from, deed));
         }
         Request::Stand(..) => {}
+        Request::Retire(..) => {}
         Request::Who(_) => {}
         Request::Latest(_) => {}
     }

@@ -31,7 +31,7 @@ invariant_of-again c = crashed_again _ _ _ _ _ c.self.invariant.whole _ _ (again
 
 pub returns-clause-next : goal.returns-clause-next
 returns-clause-next c =
-    crashed_shown _ _ _ _ _ c.self.invariant.whole _ _ (again (goal.at.returns-clause-next c).After-summarised-past) _ c.new-held.ensures.items
+    crashed_shown _ _ _ _ _ c.self.invariant.whole _ _ (again (goal.at.returns-clause-next c).After-summarised-past) _ c.new-held.ensures.items _
     ∙ ap (λ (v : NodeView). reopened (opened v.base (durable_in v)) v) c.self.view_is
 
 pub returns-clause-lost : goal.returns-clause-lost

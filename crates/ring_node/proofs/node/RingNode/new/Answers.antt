@@ -1,4 +1,4 @@
-use Rattle.std.proofs.Common.{arith, ◌≡◌, ◌∙◌, [], List, ap, sym, subst}
+use Rattle.std.proofs.Common.{arith, ◌≡◌, ◌∙◌, [], List, length, ap, sym, subst}
 use Rattle.ring_records.specs.Member.{Member, member}
 use Rattle.ring_records.specs.declared.input.Input.{Input}
 use Rattle.ring_records.specs.Summary.{empty}
@@ -11,10 +11,10 @@ use Rattle.ring_records.specs.Admission.{fresh, newest}
 use Rattle.ring_records.specs.States.{opened}
 use Rattle.node_store.specs.State.{opened_view}
 use Rattle.node_store.specs.Node as nodes
-use Rattle.ring_node.specs.Held.{reach_of}
+use Rattle.ring_node.specs.Held.{reach_of, view_with}
 use Rattle.ring_node.proofs.Ring.{by_name, opens}
 use Rattle.ring_node.proofs.Sending.{sent-none}
-use Rattle.ring_node.proofs.Serving.{idle_reaches, none_lawful, same_view, new_shown}
+use Rattle.ring_node.proofs.Serving.{idle_reaches, none_lawful, new_shown}
 use Rattle.ring_node.proofs.node.RingNode.new.Goals as goal
 
 -- what it shows, with no past
@@ -35,4 +35,7 @@ invariant_of-result c =
     by_name m _ _ _ _ _ _ _ _ _ behind (seen_new m desk c.new-in-Ok.result.items c.new-in-Ok.ensures.items made.desk) same c.new-in-Ok-2.ensures.items c.new-in-Ok-3.ensures.items (opens m 0 fresh [] _ [] c.requires.range (none_lawful c.args.me c.args.n c.args.capacity) reaches (sent-none c.args.me))
 
 pub returns-in-Ok : goal.returns-in-Ok
-returns-in-Ok c = record { made = same_view _ _ _ _ (seen_new (member c.args.me c.args.n c.args.capacity) c.in-Ok.node.desk c.new-in-Ok.result.items c.new-in-Ok.ensures.items c.in-Ok.ensures.desk) c.new-in-Ok-2.ensures.items ∙ new_shown c.args.me c.args.n c.args.capacity }
+returns-in-Ok c =
+    let none = c.new-in-Ok.ensures.items in
+    let shows = seen_new (member c.args.me c.args.n c.args.capacity) c.in-Ok.node.desk c.new-in-Ok.result.items none c.in-Ok.ensures.desk in
+    record { made = (λ i. view_with (length (none i)) (shows i) (c.new-in-Ok-2.ensures.items i)) ∙ new_shown c.args.me c.args.n c.args.capacity }

@@ -57,7 +57,7 @@ returns-clause-next c =
     let behind = stopped_behind _ _ _ _ _ c.self.invariant.whole c.args.flight _ _ now in
     let tells = c.has_gained-keeps.ensures ∙ λ i. nat_lt ((c.durable-durable.ensures ∙ count_past c.self.inside.past.items c.self.inside.node.desk _ c.self.invariant.behind) i) (count_past c.summarised-past.result.items c.in_ok-node.node.desk c.in_ok-node.node.desk.view.state.durable behind i)
     || nat_lt (c.epoch-epoch.ensures i) c.in_ok-node.node.desk.view.state.base.epoch in
-    stopped_shown _ _ _ _ _ c.self.invariant.whole c.args.flight _ _ now _ c.new.ensures.items c.has_gained-keeps.result may tells ∙ ap (λ (v : NodeView). reopened (left c.args.flight c.has_gained-keeps.result v) v) c.self.view_is
+    stopped_shown _ _ _ _ _ c.self.invariant.whole c.args.flight _ _ now _ c.new.ensures.items _ c.has_gained-keeps.result may tells ∙ ap (λ (v : NodeView). reopened (left c.args.flight c.has_gained-keeps.result v) v) c.self.view_is
 
 pub returns-clause-lost : goal.returns-clause-lost
 returns-clause-lost c = c.in_ok-lost.ensures ∙ (lost_serials _ _ _ c.self.invariant.whole.served ∙ ap (λ (v : NodeView). filter_map serial_of v.held) c.self.view_is)

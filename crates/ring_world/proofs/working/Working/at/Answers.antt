@@ -8,4 +8,4 @@ pub returns : goal.returns
 returns c =
     let here = node_is c.args.self.now.ring c.self.inside.log.events.items c.self.inside.nodes.items (tied c.self.inside.log c.self.inside.nodes.items _ c.self.view_is c.self.invariant) c.args.node c.number.result c.number.ensures.value c.number.ensures.range.0 c.requires.inside
     c.index.result.now c.index.ensures in
-    record { member = here.is; inputs = ap (λ (s : NodeState). s.inputs) here.state; durable = ap (λ (s : NodeState). s.durable) here.state; state = here.state }
+    record { member = here.is; inputs = ap (λ (s : NodeState). s.inputs) here.state; durable = ap (λ (s : NodeState). s.durable) here.state; dropped = here.dropped; state = here.state }

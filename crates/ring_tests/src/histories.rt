@@ -1,0 +1,125 @@
+// What the nodes of a ring hold durably, and which of them have their first inputs no more.
+use crate::worlds::{asks, happens, node, ring, submit, sweeps};
+use ring_records::{Input, Refusal};
+use ring_world::{Event, World, audit};
+use std::alloc::Global;
+use std::process::Abort;
+use test_rows::Ask;
+
+/// The histories have these lengths, and an audit places so many inputs.
+fn are_whole(rt: &impl Abort, alloc: Global, world: &World, counts: &[usize], placed: usize) {
+    let histories = world.histories().expect(rt, "whole histories");
+    assert!(rt;
+        histories
+            .iter()
+            .map(|inputs| inputs.len())
+            .eq(counts.iter().copied())
+    );
+    let run = audit(alloc, &histories).expect(rt, "a run");
+    assert_eq!(rt; run.len(), placed);
+}
+
+/// The node of this number has its first inputs no more, and those before it have theirs.
+fn is_dropped(rt: &impl Abort, world: &World, number: u8) {
+    let refusal = Refusal::Dropped(node(rt, number));
+    match world.histories() {
+        Ok(_) => panic!(rt; "not refused"),
+        Err(was) => assert_eq!(rt; was, refusal),
+    }
+}
+
+#[test]
+fn three_nodes_hold_an_election(rt: HostRuntime) {
+    let mut world = ring(&rt, rt.alloc(), 3, true);
+    are_whole(&rt, rt.alloc(), &world, &[0, 0, 0], 0);
+    for (number, bid) in [(1, 10), (2, 30), (3, 20)] {
+        let _stood = asks(&rt, &mut world, number, Ask::Stand("red", 5, bid));
+    }
+    sweeps(&rt, &mut world, 9);
+    are_whole(&rt, rt.alloc(), &world, &[4, 5, 3], 12);
+    world.end();
+}
+
+#[test]
+fn what_waits_is_no_history(rt: HostRuntime) {
+    let mut world = ring(&rt, rt.alloc(), 2, false);
+    for (term, before, after) in [(1, 0, 1), (2, 1, 2)] {
+        let _stood = asks(&rt, &mut world, 2, Ask::Stand("red", term, 10));
+        are_whole(&rt, rt.alloc(), &world, &[0, before], before);
+        let _flushed = happens(&rt, &mut world, Event::Flush(node(&rt, 2)));
+        are_whole(&rt, rt.alloc(), &world, &[0, after], after);
+    }
+    world.end();
+}
+
+#[test]
+fn an_opening_drops_what_a_checkpoint_summarised(rt: HostRuntime) {
+    let (first, second) = (node(&rt, 1), node(&rt, 2));
+    let mut world = ring(&rt, rt.alloc(), 2, true);
+    let _empty = happens(&rt, &mut world, Event::Checkpoint(first));
+    let _reopened = happens(&rt, &mut world, Event::Crash(first));
+    are_whole(&rt, rt.alloc(), &world, &[0, 0], 0);
+    for number in [1, 2] {
+        let _stood = asks(&rt, &mut world, number, Ask::Stand("red", 5, 10));
+    }
+    for dropped in [second, first] {
+        let _checkpointed = happens(&rt, &mut world, Event::Checkpoint(dropped));
+    }
+    are_whole(&rt, rt.alloc(), &world, &[1, 1], 2);
+    let _reopened = happens(&rt, &mut world, Event::Crash(second));
+    is_dropped(&rt, &world, 2);
+    let _reopened = happens(&rt, &mut world, Event::Crash(first));
+    is_dropped(&rt, &world, 1);
+    world.end();
+}
+
+/// A lazy ring of two whose node 1 stood and flushed. Where a growth was refused in that, there is none.
+fn stood(rt: &impl Abort, alloc: Global) -> Option<World> {
+    let Ok(mut world) = World::new(alloc, 2, false, 4_096) else {
+        return None;
+    };
+    let stand = submit(rt, 1, Ask::Stand("red", 5, 10));
+    let asked = world.step(stand).is_ok();
+    let flushed = world.step(Event::Flush(node(rt, 1)));
+    if let (true, Ok(outcome)) = (asked, &flushed) {
+        assert_eq!(rt; outcome.flushed, Some(1));
+        return Some(world);
+    }
+    if flushed.is_err() {
+        is_failed(rt, &world);
+    }
+    world.end();
+    None
+}
+
+/// It gives no histories behind a refused growth.
+fn is_failed(rt: &impl Abort, world: &World) {
+    match world.histories() {
+        Ok(_) => panic!(rt; "not refused"),
+        Err(was) => assert_eq!(rt; was, Refusal::Failed),
+    }
+}
+
+/// The histories; where a growth is refused, nothing has changed, and the next call gives them.
+fn given(rt: &impl Abort, world: &World) -> Vec<Vec<Input>> {
+    match world.histories() {
+        Ok(histories) => histories,
+        Err(refusal) => {
+            assert_eq!(rt; refusal, Refusal::OutOfMemory);
+            world.histories().expect(rt, "ample memory")
+        }
+    }
+}
+
+#[test]
+fn refused_growths(rt: HostRuntime) {
+    let world = match stood(&rt, rt.alloc()) {
+        Some(world) => world,
+        None => stood(&rt, rt.alloc()).expect(&rt, "ample memory"),
+    };
+    let histories = given(&rt, &world);
+    assert_eq!(&rt; histories.len(), 2);
+    assert_eq!(&rt; histories[0].len(), 1);
+    assert_eq!(&rt; histories[1].len(), 0);
+    world.end();
+}
