@@ -1,5 +1,5 @@
 -- That all that a node releases stands on bytes that this process wrote.
-use Rattle.std.specs.Prelude.{◌≡◌, ◌+◌, ◌⊎◌, ℕ, true, false, Some, List}
+use Rattle.std.specs.Prelude.{◌≡◌, ◌+◌, ◌⊎◌, ℕ, Bool, true, false, if◌then◌else◌, nat_lt, Some, List}
 use Rattle.std.specs.List.{AllZip}
 use Rattle.disk_model.specs.declared.device.Device.{Ghosts}
 use Rattle.ring_records.specs.declared.refusal.Refusal.TheVariants as refused
@@ -20,27 +20,44 @@ pub record GoesOn (old new : DeskKept) : Type 0 where
   pub opening : new.opening ≡ old.opening
   pub inputs : new.view.state.inputs ≡ old.view.state.inputs
 
+-- the epoch of the area in use
+abbrev pub epoch_of : DeskKept → ℕ
+epoch_of desk = desk.view.state.base.epoch
+
+-- the area in use is of an earlier layout
+abbrev pub is_of_old : DeskKept → Bool
+is_of_old desk = nat_lt desk.view.state.base.layout newest
+
+-- How many checkpoints a start makes of a node. One writes the area that is not in use; behind a second one no area is left
+-- of an earlier layout, which an earlier program would take for what the node holds.
+abbrev pub renewals : DeskKept → ℕ
+renewals desk = if is_of_old desk then 2 else 1
+
+-- no checkpoint can be made of it, since its journal may write no other area or its snapshot does not fit
+abbrev pub IsBarred : DeskKept → Type 0
+IsBarred desk = (checkpoint_objection desk ≡ Some refused.Limit) ⊎ (checkpoint_objection desk ≡ Some refused.Full)
+
 module _ {D : Type 0} {g : Ghosts D} where
   -- Every image that a stop may leave reads as the summary of all that this desk accepted, in the area of this epoch.
   abbrev pub HoldsAll : ℕ → DeskKept → OpenNode D g → Type 0
   HoldsAll epoch desk opened = AllReadAs (member_of opened.node) (g.disk (device_of opened.node)) (fresh_area newest epoch (known_all desk))
 
-  -- It made a checkpoint: that is so in the epoch behind the one that it had.
-  pub record IsRenewed (old new : OpenNode D g) : Type 0 where
-    pub epoch : (kept_by new).view.state.base.epoch ≡ (kept_by old).view.state.base.epoch + 1
-    pub holds : HoldsAll ((kept_by old).view.state.base.epoch + 1) (kept_by old) new
+  -- It made so many checkpoints.
+  pub record IsRenewed (count : ℕ) (old new : OpenNode D g) : Type 0 where
+    pub later : epoch_of (kept_by new) ≡ epoch_of (kept_by old) + count
+    pub holds : HoldsAll (epoch_of (kept_by new)) (kept_by old) new
 
-  -- It was made, or made a checkpoint: what it holds was written by this process.
+  -- It was made, or made the checkpoints of a start, or one behind which no other can be made: what it holds was written by
+  -- this process.
   abbrev pub IsWritten : Found D g → OpenNode D g → Type 0
-  IsWritten (found.There old) opened = IsRenewed old opened
+  IsWritten (found.There old) opened = IsRenewed (renewals (kept_by old)) old opened ⊎ (IsRenewed 1 old opened × IsBarred (kept_by opened))
   IsWritten (found.New new) opened = HoldsAll 1 new.desk opened
 
-  -- No checkpoint can be made of it, since its journal may write no other area or its snapshot does not fit, and nothing was
-  -- done to it.
+  -- No checkpoint can be made of it, and nothing was done to it.
   pub record IsUntouched (old new : OpenNode D g) : Type 0 where
     pub desk : kept_by new ≡ kept_by old
     pub device : device_of new.node ≡ device_of old.node
-    pub objection : (checkpoint_objection (kept_by old) ≡ Some refused.Limit) ⊎ (checkpoint_objection (kept_by old) ≡ Some refused.Full)
+    pub objection : IsBarred (kept_by old)
 
   abbrev pub IsKept : Found D g → OpenNode D g → Type 0
   IsKept (found.There old) opened = IsUntouched old opened
@@ -49,6 +66,12 @@ module _ {D : Type 0} {g : Ghosts D} where
   -- its desk
   abbrev pub ready_as : Ready D g → DeskKept
   ready_as ready = kept_by ready.opened
+
+  -- what one checkpoint makes of a node
+  pub record IsTried (old : OpenNode D g) (ready : Ready D g) : Type 0 where
+    pub goes_on : GoesOn (kept_by old) (kept_by ready.opened)
+    pub written : ready.is_written ≡ true → IsRenewed 1 old ready.opened
+    pub kept : ready.is_written ≡ false → IsUntouched old ready.opened
 
   -- what a start makes of a node that it found
   pub record IsReady (node : Found D g) (ready : Ready D g) : Type 0 where

@@ -6,7 +6,7 @@ ghost use Rattle.ring_records.specs.Summary.{empty};
 ghost use Rattle.gated_journal.specs.Reading.{fresh_area};
 ghost use Rattle.group_commit.specs.Desk.{new_desk};
 ghost use Rattle.ring_server.specs.Fits.{found_as, kept_by, number_of};
-ghost use Rattle.ring_server.specs.Written.{HoldsAll, IsReady};
+ghost use Rattle.ring_server.specs.Written.{HoldsAll, IsReady, IsTried};
 
 use crate::found::{Found, NewNode};
 use crate::open_node::OpenNode;
@@ -283,7 +283,8 @@ impl<'a> Folder<'a> {
         }
     }
 
-    /// Has the node make a checkpoint.
+    /// Has the node make a checkpoint, and another one where its area in use was of an earlier layout: then no area of
+    /// such a layout is left, which an earlier program would take for what the node holds.
     fn renew<R: Files<File = File>>(
         &self,
         rt: &R,
@@ -291,6 +292,27 @@ impl<'a> Folder<'a> {
         opened: OpenNode<FileDevice>,
     ) -> Result<Ready<FileDevice>, Unopened>
         ensures { IfOk result (λ ready. IsReady (Found.There opened) ready) }
+    {
+        let is_of_old = opened.is_of_old();
+        let ready = self.renew_once(rt, alloc, opened)?;
+        if !(is_of_old && ready.is_written) {
+            return Ok(ready);
+        }
+        let again = self.renew_once(rt, alloc, ready.opened)?;
+        Ok(Ready {
+            opened: again.opened,
+            is_written: true,
+        })
+    }
+
+    /// Has the node make a checkpoint.
+    fn renew_once<R: Files<File = File>>(
+        &self,
+        rt: &R,
+        alloc: Global,
+        opened: OpenNode<FileDevice>,
+    ) -> Result<Ready<FileDevice>, Unopened>
+        ensures { IfOk result (λ ready. IsTried opened ready) }
     {
         let node = opened.number;
         let path = format!(in alloc; "{}/node-{node}.crj", self.path)?;

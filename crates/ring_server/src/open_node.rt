@@ -10,7 +10,7 @@ ghost use Rattle.node_store.specs.State.{MayBeLeft};
 use crate::ready::Ready;
 use disk_model::Device;
 use node_store::Node;
-use ring_records::{NodeNo, Refusal};
+use ring_records::{LAYOUT, NodeNo, Refusal};
 
 /// A node with its place in the ring, which takes requests, has no open ticket, and whose inputs are all durable.
 #[derive(Drop)]
@@ -27,7 +27,7 @@ pub struct OpenNode<V: Device> {
 
 impl<V: Device> OpenNode<V> {
     ghost use Rattle.ring_server.specs.Fits.{kept_by};
-    ghost use Rattle.ring_server.specs.Written.{GoesOn, IsRenewed, IsUntouched};
+    ghost use Rattle.ring_server.specs.Written.{GoesOn, IsRenewed, IsUntouched, is_of_old};
 
     /// This node of a ring of so many.
     pub fn new(number: NodeNo, nodes: u8, node: Node<V>) -> OpenNode<V>
@@ -45,12 +45,19 @@ impl<V: Device> OpenNode<V> {
         }
     }
 
+    /// Whether its area in use is of an earlier layout than the next one.
+    pub fn is_of_old(&self) -> bool
+        ensures { result ≡ is_of_old (kept_by self.now) }
+    {
+        self.node.desk().layout() < LAYOUT
+    }
+
     /// Makes a checkpoint of what the node holds, so that all that it releases from now on stands on bytes that this
     /// process wrote and synced. It goes on without one where the snapshot does not fit, or no epoch is left. Refused as
     /// 15 where the device fails, and as 8; the node ends then.
     pub fn renew(self) -> Result<Ready<V>, (V, Refusal)>
         ensures goes_on { IfOk result (λ ready. GoesOn (kept_by self) (kept_by ready.opened)) }
-        ensures written { IfOk result (λ ready. ready.is_written ≡ true → IsRenewed self ready.opened) }
+        ensures written { IfOk result (λ ready. ready.is_written ≡ true → IsRenewed 1 self ready.opened) }
         ensures kept { IfOk result (λ ready. ready.is_written ≡ false → IsUntouched self ready.opened) }
 
         // A stop at any moment leaves what the node held before, or the summary of it.

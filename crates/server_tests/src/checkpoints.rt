@@ -62,10 +62,10 @@ pub fn leads_all_terms<R: Net<Stream = TcpStream> + Clock + AllocGlobal>(
     answers(&stream, b"bye\n", b"bye")
 }
 
-/// The epoch in the head of the area of a journal that begins there, 0 where none is open.
+/// The epoch in the head of the area of a journal that begins there, 0 where none counts.
 fn epoch_at(journal: &[u8], start: usize) -> u64 {
     match journal.get(start..start.saturating_add(10)) {
-        Some(head) if head.len() == 10 && head[0] == 1 => {
+        Some(head) if head.len() == 10 && head[0] == 1 && head[1] > 1 => {
             u64::from_be_bytes([
                 head[2], head[3], head[4], head[5], head[6], head[7], head[8], head[9],
             ])
@@ -77,6 +77,19 @@ fn epoch_at(journal: &[u8], start: usize) -> u64 {
 /// The epoch of a journal with a capacity of 4,096.
 pub fn epoch_of(journal: &[u8]) -> u64 {
     epoch_at(journal, 16).max(epoch_at(journal, 31 + 4_096))
+}
+
+/// The layout in the head of the area of a journal that begins there, 0 where there is none.
+fn layout_at(journal: &[u8], start: usize) -> u8 {
+    match journal.get(start.saturating_add(1)) {
+        Some(layout) => *layout,
+        None => 0,
+    }
+}
+
+/// The layouts of both areas of a journal with a capacity of 4,096.
+pub fn layouts_of(journal: &[u8]) -> (u8, u8) {
+    (layout_at(journal, 16), layout_at(journal, 31 + 4_096))
 }
 
 const RING: Ring = Ring::Program(

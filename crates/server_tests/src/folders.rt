@@ -1,6 +1,6 @@
 // Folders as a kill, a fault or an operator left them.
 use crate::steps::Change::{
-    Anew, Clears, Has, Holds, IsEmpty, MakesFolder, Removes, RemovesFolder, Renames, Writes,
+    Anew, Clears, Has, IsEmpty, MakesFolder, Removes, RemovesFolder, Renames, Writes,
 };
 use crate::steps::Step::{Changes, Ends, EndsBesideLock, Serves};
 use crate::steps::{SERVE, Step, plays};
@@ -13,11 +13,6 @@ const OPEN_GATE: &[u8] =
 
 /// Its beginning, in which no area counts.
 const NO_AREA: &[u8] = b"CRJRNL02\x01\x02\x00\x01\x00\x00\x00\x00\x01";
-
-/// Journals of an earlier version, of two nodes: a header, and a closed gate.
-const OLD_FIRST: &[u8] = b"CRJRNL01\x01\x02\x00\x01\x00\x00\x00\x00\x00";
-
-const OLD_SECOND: &[u8] = b"CRJRNL01\x02\x02\x00\x01\x00\x00\x00\x00\x00";
 
 const KILLED: &[u8] = b"nodes = 2\ndir = \"killed\"\nport = 7151\n";
 
@@ -94,28 +89,6 @@ static REFUSALS: [Step; 18] = [
 #[test]
 fn journals_that_are_refused(rt: HostRuntime) {
     plays(&rt, &REFUSALS);
-}
-
-const EARLIER: &[u8] = b"nodes = 2\ndir = \"earlier\"\nport = 7255\n";
-
-static OLD_LAYOUTS: [Step; 8] = [
-    Changes(&[Anew("earlier")]),
-    Serves(EARLIER, 7255, b"stand red 5 10\n", b"stood"),
-    Changes(&[Writes("earlier/node-1.crj", OLD_FIRST)]),
-    Ends(SERVE, EARLIER, 1, b"ringd: nodes 1 and 2 do not fit\n"),
-    // it is left as it is; and where both are, they are read, and go on
-    Changes(&[
-        Holds("earlier/node-1.crj", OLD_FIRST),
-        Writes("earlier/node-2.crj", OLD_SECOND),
-    ]),
-    Serves(EARLIER, 7255, b"stand red 5 10\n", b"stood"),
-    Serves(EARLIER, 7255, b"stand red 5 10\n", b"no 3 already 10"),
-    Changes(&[Clears("earlier")]),
-];
-
-#[test]
-fn a_folder_of_an_earlier_version(rt: HostRuntime) {
-    plays(&rt, &OLD_LAYOUTS);
 }
 
 const GONE: &[u8] = b"nodes = 2\ndir = \"gone\"\nport = 7221\n";

@@ -12,6 +12,8 @@ mod devices;
 #[cfg(test)]
 mod doors;
 #[cfg(test)]
+mod earlier;
+#[cfg(test)]
 mod elections;
 #[cfg(test)]
 mod folders;

@@ -34,6 +34,25 @@ const OPEN: &[Say] = &[
             b"{\"dir\":\"told\",\"nodes\":[{\"journal\":{\"batches\":",
         ),
     ),
+    // a checkpoint would write 42 bytes of counts, 18 of the key, where it stood and leads, and 28 of two messages
+    Meanwhile(
+        7230,
+        Target("/status", b",\"renewable\":true,\"snapshot\":88,\"syncs\":"),
+    ),
+    Meanwhile(
+        7230,
+        Target(
+            "/metrics",
+            b"\ncinoweta_journal_snapshot_bytes{node=\"1\"} 88\n",
+        ),
+    ),
+    Meanwhile(
+        7230,
+        Target(
+            "/metrics",
+            b"\ncinoweta_journal_renewable{node=\"1\"} 1\ncinoweta_journal_renewable{node=\"2\"} 1\n",
+        ),
+    ),
     Meanwhile(
         7230,
         Target(
@@ -353,6 +372,15 @@ const NOT_WELL: Scenario = Scenario {
             Visit::StandsUntilItFails(7248),
             Visit::Operator(7245, NotWell(b"\r\n\r\nnode 2 failed\n")),
             Visit::StandsUntil(7247, 7245, b"\r\n\r\nnode 1 full\nnode 2 failed\n"),
+            // its snapshot takes more than a quarter of the capacity, so no checkpoint comes
+            Visit::Operator(
+                7245,
+                Target("/status", b",\"renewable\":false,\"snapshot\":"),
+            ),
+            Visit::Operator(
+                7245,
+                Target("/metrics", b"\ncinoweta_journal_renewable{node=\"1\"} 0\n"),
+            ),
             Visit::Asks(7249, b"latest green\n", b"none"),
         ],
         &[],

@@ -1,5 +1,5 @@
 // What is done with folders and the program, step by step, and what comes of it.
-use crate::checkpoints::epoch_of;
+use crate::checkpoints::{epoch_of, layouts_of};
 use crate::programs::{Ended, Ring, Scenario, beside, run, runs};
 use crate::visits::{Say, Visit};
 use std::alloc::AllocGlobal;
@@ -37,6 +37,8 @@ pub enum Change {
     IsRenewed(&'static str),
     /// The journal, of a capacity of 4,096, is in this epoch.
     IsInEpoch(&'static str, u64),
+    /// Both areas of the journal, of a capacity of 4,096, are of this layout.
+    IsOfLayout(&'static str, u8),
     /// The one file holds what the other does.
     IsCopy(&'static str, &'static str),
 }
@@ -94,6 +96,12 @@ fn is_in_epoch<R: Abort + AllocGlobal + Files<File = File>>(rt: &R, path: &str, 
     assert_eq!(rt; epoch_of(&journal), epoch);
 }
 
+/// Both areas of the journal are of this layout.
+fn is_of_layout<R: Abort + AllocGlobal + Files<File = File>>(rt: &R, path: &str, layout: u8) {
+    let journal = fs::read(rt, path).expect(rt, "a journal");
+    assert_eq!(rt; layouts_of(&journal), (layout, layout));
+}
+
 /// The one file holds what the other does.
 fn is_copy<R: Abort + AllocGlobal + Files<File = File>>(rt: &R, path: &str, other: &str) {
     let bytes = fs::read(rt, other).expect(rt, "a file");
@@ -109,6 +117,7 @@ fn changes<R: Abort + AllocGlobal + Files<File = File> + Copy>(rt: &R, change: C
         Change::IsEmpty(path) => return is_empty(rt, path),
         Change::IsRenewed(path) => return is_renewed(rt, path),
         Change::IsInEpoch(path, epoch) => return is_in_epoch(rt, path, epoch),
+        Change::IsOfLayout(path, layout) => return is_of_layout(rt, path, layout),
         Change::IsCopy(path, other) => return is_copy(rt, path, other),
         Change::Clears(path) => fs::remove_dir_all(rt, path).is_ok(),
         Change::MakesFolder(path) => fs::create_dir(rt, path).is_ok(),

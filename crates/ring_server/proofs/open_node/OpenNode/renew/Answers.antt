@@ -1,4 +1,4 @@
-use Rattle.std.proofs.Common.{◌+◌, inl, inr, ap, sym, subst, ◌∙◌}
+use Rattle.std.proofs.Common.{ℕ, ◌+◌, inl, inr, ap, sym, subst, ◌∙◌}
 use Rattle.ring_records.specs.Admission.{newest}
 use Rattle.ring_records.specs.Member.{Member}
 use Rattle.gated_journal.specs.Areas.{AllReadAs}
@@ -13,10 +13,11 @@ use Rattle.ring_server.proofs.open_node.OpenNode.renew.Goals as goal
 pub returns-in-Ok-clause-written : goal.returns-in-Ok-clause-written
 returns-in-Ok-clause-written g c = λ _.
     let old = desk_of c.args.self.node in
-    let read = λ (m : Member). AllReadAs m (g.V.Device.disk (device_of c.checkpoint.new.self)) (fresh_area newest (old.view.state.base.epoch + 1) (known_all old)) in
+    let epoch = ap (λ (d : DeskKept). d.view.state.base.epoch) c.in-Ok.ensures.next in
+    let read = λ (m : Member) (k : ℕ). AllReadAs m (g.V.Device.disk (device_of c.checkpoint.new.self)) (fresh_area newest k (known_all old)) in
     record {
-      epoch = ap (λ (d : DeskKept). d.view.state.base.epoch) c.in-Ok.ensures.next;
-      holds = subst read (sym (ap (λ (d : DeskKept). d.view.member) c.in-Ok.ensures.next)) c.in-Ok.ensures.durable;
+      later = epoch;
+      holds = subst (read _) (sym epoch) (subst (λ (m : Member). read m (old.view.state.base.epoch + 1)) (sym (ap (λ (d : DeskKept). d.view.member) c.in-Ok.ensures.next)) c.in-Ok.ensures.durable);
     }
 
 pub returns-in-Limit-clause-kept : goal.returns-in-Limit-clause-kept
