@@ -6,6 +6,7 @@
 # clients: the tests of the clients, over bin/ringd.
 # picture: the run of SCRIPT by ringctl, drawn as text and, to the file SVG, as SVG. pictures: the tests of that, and the pictures of the docs, over bin/ringctl.
 # kills: bin/ringd is killed 100 times at random moments, started again, and held to all that it told.
+# earlier: a ringd of an earlier release, EARLIER, is killed 50 times, and bin/ringd as often on the same folders.
 # short: bin/ringd under sessions of one Stand each, its memory, and elections right behind them.
 # threads: bin/ringd where the system grants too few threads; as root.
 # scrapes: bin/ringd asked for its health, beside 10,000 connections that ask nothing, silent ones and such with half a head.
@@ -16,7 +17,7 @@
 # faults, growths: each call of the system that a ring makes fails in turn, and each growth of the programs is refused.
 # load: bin/ringd under load; LOAD has further words of bench/load.py.
 .PHONY: run test wrong_bodies bench clean always
-.PHONY: ringd install serve fencing clients picture pictures kills load short threads scrapes writeback syncs fuzz faults growths hangs
+.PHONY: ringd install serve fencing clients picture pictures kills earlier load short threads scrapes writeback syncs fuzz faults growths hangs
 
 run:
 	@bench/try.sh examples/first_election.ring
@@ -71,6 +72,9 @@ pictures: bin/ringctl
 kills:
 	@trials/kill.py --rounds 100
 
+earlier: bin/ringd
+	@trials/earlier.py --earlier "$(EARLIER)"
+
 bench: bin/ringctl bin/bench
 	@bench/measure.sh bin/ringctl bin/bench
 
@@ -100,7 +104,7 @@ faults: bin/ringd
 	@trials/faults.py
 
 growths: bin/ringctl bin/ringd
-	@for crate in board_tests node_tests service_tests store_tests; do (cd crates/$$crate && rt test > /dev/null) || exit 1; done
+	@for crate in board_tests journal_tests node_tests records_tests service_tests sessions_tests store_tests; do (cd crates/$$crate && rt test > /dev/null) || exit 1; done
 	@trials/growths.py
 
 load: bin/ringd

@@ -39,7 +39,7 @@ SAID = re.compile(r"|".join([r"", r"ringd: out of memory\n", r"ringd: node [1-3]
                              r"ringd: no thread can be started\n"]))
 SECONDS = 10
 # The crates whose tests call again after a refusal.
-GROWN = ("board_tests", "node_tests", "service_tests", "store_tests")
+GROWN = ("board_tests", "journal_tests", "node_tests", "records_tests", "ring_tests", "service_tests", "sessions_tests", "store_tests")
 
 
 class Trial:
@@ -130,9 +130,9 @@ def found(crates: str) -> list[tuple[str, str]]:
 def scripts() -> dict[str, list[bytes]]:
     """Three scripts, as lists of lines."""
     with open(os.path.join(ROOT, "examples", "first_election.ring"), "rb") as file:
-        first = file.readlines()
+        first = [*file.readlines(), b"audit\n"]
     stopped = b"ring 3 lazy\nstand 1 red 5 10\nflush 1\nstand 1 blue 1 3\nwho 1 red 5\nstop 1 checkpoint 5 fill 1\nshow 1\ncheckpoint 1\n" \
-              b"deliver 1 0\ncheckpoint 2\nstop 2 checkpoint 4 new\nlatest 2 red\nflush 2\n"
+              b"deliver 1 0\ncheckpoint 2\nstop 2 checkpoint 4 new\nlatest 2 red\nflush 2\naudit\n"
     many = b"ring 3 lazy 8192\n" + b"".join(
         b"stand %d g%d %d 1\nflush %d\ndeliver all\nlatest %d g%d\n" % (place % 3 + 1, place % 7, place, place % 3 + 1, place % 3 + 1, place % 7)
         if place % 9 else b"flush 1\nflush 2\nflush 3\ncheckpoint %d\n" % (place % 3 + 1) for place in range(1, 76))

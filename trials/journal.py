@@ -1,6 +1,8 @@
 """What stands in a node's journal, as docs/FORMATS.md has it."""
 from typing import Iterator, NamedTuple
 
+# What the journals begin with that were made without areas, and the layouts of areas.
+OLD_MARK, LAYOUTS = b"CRJRNL01", (b"\2", b"\3")
 # Where area A begins.
 AREA_A = 16
 # The bytes of an area before its snapshot: gate, layout, epoch, and the snapshot's size.
@@ -49,8 +51,20 @@ def number(data: bytes, at: int, length: int) -> int:
 
 
 def epochs(data: bytes) -> dict[int, int]:
-    """Those of the areas whose gate is open, by where these begin."""
-    return {start: number(data, start + 2, 8) for start in areas(number(data, 10, 4)) if data[start:start + 1] == b"\1"}
+    """Those of the areas that count, by where these begin. An open gate of frames alone, of layout 1, is none."""
+    return {start: number(data, start + 2, 8) for start in areas(number(data, 10, 4))
+            if data[start:start + 1] == b"\1" and data[start + 1:start + 2] in LAYOUTS}
+
+
+def first_epoch(data: bytes) -> int:
+    """That in which a journal is made: one that has no area has 0."""
+    return 0 if data[:8] == OLD_MARK else 1
+
+
+def layout(data: bytes) -> int:
+    """That of the area in use, 1 where no area counts."""
+    counting = epochs(data)
+    return data[max(counting, key=counting.__getitem__) + 1] if counting else 1
 
 
 def name_at(data: bytes, at: int) -> tuple[str, int]:

@@ -35,7 +35,7 @@ HERE = os.path.dirname(os.path.abspath(__file__))
 sys.path.insert(0, HERE)
 import journal
 from clients import Client, start
-from known import Known
+from known import MANY, Known
 
 # How long, in seconds, a step of ringd is waited for before that counts as a fault: a start, an answer.
 PATIENCE = 60.0
@@ -87,10 +87,13 @@ class Ring:
 
     def made(self, node: int) -> int:
         """How many this node made: each raises the epoch of a journal by 1. A node that was not made has none."""
-        path = os.path.join(self.folder, "ring", f"node-{node}.crj")
-        if not os.path.exists(path):
-            return 0
-        return max(journal.epochs(pathlib.Path(path).read_bytes()).values(), default=1) - 1
+        data = self.bytes_of(node)
+        return max(journal.epochs(data).values(), default=journal.first_epoch(data)) - journal.first_epoch(data)
+
+    def bytes_of(self, node: int) -> bytes:
+        """The bytes of this node's journal, none where it was not made."""
+        path = pathlib.Path(self.folder, "ring", f"node-{node}.crj")
+        return path.read_bytes() if path.exists() else b""
 
     def await_line(self, process: subprocess.Popen[bytes], line: bytes) -> None:
         """Waits until ringd printed this line. `Ended` where it ended before or does not come so far."""
@@ -183,17 +186,29 @@ class Trial:
             self.rounds += 1
             self.kills[kind] += 1
 
+    def go_on(self, ring: Ring, rounds: int, many: int = MANY) -> None:
+        """So many rounds at most, until there is a fault, or a node made so many Stands."""
+        for _ in range(rounds):
+            if not ring.known.faults and not ring.known.is_used_up(many):
+                self.round(ring, False)
+
+    def look(self, ring: Ring) -> None:
+        """A last look, where there was no fault."""
+        if not ring.known.faults:
+            self.round(ring, True)
+
+    def course(self, ring: Ring, rounds: int) -> None:
+        """So many rounds at most on this folder, and a last look at it."""
+        self.go_on(ring, min(rounds, ring.rounds))
+        self.look(ring)
+
     def folder(self, rounds: int) -> None:
         """So many rounds at most, over a folder of their own."""
         folder, is_kept = tempfile.mkdtemp(prefix="ringd-kill-"), False
         try:
             ring = Ring(self.ringd, folder, self.doors, self.capacity, self.rng)
             known = ring.known
-            for _ in range(min(rounds, ring.rounds)):
-                if not known.faults and not known.is_used_up():
-                    self.round(ring, False)
-            if not known.faults:
-                self.round(ring, True)
+            self.course(ring, rounds)
             self.checkpoints += ring.checkpoints()
             is_kept = bool(known.faults) and self.faults == 0
         finally:
@@ -217,10 +232,15 @@ class Trial:
         print(f"killed {kills}; {self.unanswered} Stands without an answer; {self.checkpoints} checkpoints")
         print(f"rounds {self.rounds} answers {self.answers} stands {self.stands} leaders {self.leaders} "
               f"faults {self.faults}")
-        lacks_some = self.capacity is not None and self.capacity <= 8_192 and not self.checkpoints
+        lacks_some = self.lacks()
         if lacks_some:
-            print("no checkpoint was made")
+            print(lacks_some)
         return 1 if self.faults or not self.stands or not self.leaders or lacks_some else 0
+
+    def lacks(self) -> str:
+        """What it did not try."""
+        is_small = self.capacity is not None and self.capacity <= 8_192
+        return "no checkpoint was made" if is_small and not self.checkpoints else ""
 
 
 def number(low: int, high: int):
@@ -230,6 +250,19 @@ def number(low: int, high: int):
             raise argparse.ArgumentTypeError(f"{word} is not {low} to {high}")
         return int(word)
     return read
+
+
+def run(trial: Trial, rounds: int) -> int:
+    """Runs it, and leaves no process behind where a signal ends it."""
+    def end(_signal: int, _frame: object) -> None:
+        sys.exit(1)
+
+    signal.signal(signal.SIGTERM, end)
+    try:
+        return trial.run(rounds)
+    finally:
+        if trial.process is not None and trial.process.poll() is None:
+            trial.process.kill()
 
 
 def main() -> int:
@@ -242,17 +275,7 @@ def main() -> int:
     words = parser.parse_args()
     if not os.access(words.ringd, os.X_OK):
         parser.error(f"{words.ringd} is not there; make ringd builds bin/ringd")
-    trial = Trial(os.path.abspath(words.ringd), words.seed, words.doors, words.capacity)
-
-    def end(_signal: int, _frame: object) -> None:
-        sys.exit(1)
-
-    signal.signal(signal.SIGTERM, end)
-    try:
-        return trial.run(words.rounds)
-    finally:
-        if trial.process is not None and trial.process.poll() is None:
-            trial.process.kill()
+    return run(Trial(os.path.abspath(words.ringd), words.seed, words.doors, words.capacity), words.rounds)
 
 
 if __name__ == "__main__":

@@ -99,10 +99,10 @@ class Known:
             for place, term in latest.items():
                 self.latest_before[place] = max(term, self.latest_before.get(place, 0))
 
-    def is_used_up(self) -> bool:
-        """Whether a node made so many Stands that the folder is to be left."""
+    def is_used_up(self, many: int = MANY) -> bool:
+        """Whether a node made so many Stands."""
         counts = Counter(node for node, _ in self.stood)
-        return any(count >= MANY for count in counts.values())
+        return any(count >= many for count in counts.values())
 
     def questions(self, node: int, rng: random.Random) -> list[Question]:
         """Asks the node again what is known of it: Stands that it has, with another bid; some that it refused; those

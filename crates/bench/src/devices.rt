@@ -16,7 +16,7 @@ pub fn in_memory(alloc: Global) -> Result<MemDevice, Refusal> {
 }
 
 /// Where the gate of a new journal stands: behind its header, and the head and the snapshot of its first area.
-const GATE: u64 = 68;
+const GATE: u64 = 72;
 
 /// Writes and syncs as so many commits of this frame do, all at one place. Tells how many bytes the device has then.
 pub fn write_bare<D: Device>(

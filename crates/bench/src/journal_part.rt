@@ -8,7 +8,7 @@ use ring_records::{Bid, GroupName, Input, Key, NodeNo, Refusal, Term};
 use std::alloc::{AllocGlobal, Global};
 use std::env::Args;
 
-/// How many batches of 64 inputs fill a journal: each takes 64 times 33 bytes, behind the 38 of a new journal.
+/// How many batches of 64 inputs fill a journal: each takes 64 times 33 bytes, behind the 42 of a new journal.
 const FULL: u32 = 496;
 
 /// The bytes of the frame of a batch.

@@ -18,7 +18,7 @@ use ring_records::{Bid, Candidate, GroupName, Key, Msg, NodeNo, Refusal, Request
 use std::alloc::{AllocGlobal, Global};
 use std::env::Args;
 
-/// How many flushes of 64 messages fill a node: each takes 64 times 29 bytes, behind the 38 of a new node.
+/// How many flushes of 64 messages fill a node: each takes 64 times 29 bytes, behind the 42 of a new node.
 const FULL: u32 = 564;
 
 /// The bytes of the frame of a flush.
