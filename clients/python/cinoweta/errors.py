@@ -23,7 +23,7 @@ class WrongRing(CinowetaError):
 
 
 class Refused(CinowetaError):
-    """A node refused: its number, 1 to 25, and its text, as 5 and `stale 9`. Each cause is a class of its own."""
+    """A node refused: its number, 1 to 27, and its text, as 5 and `stale 9`. Each cause is a class of its own."""
 
     def __init__(self, number: int, text: str) -> None:
         super().__init__(f"no {number} {text}")
