@@ -3,7 +3,6 @@ use Rattle.std.proofs.Common.{◌≡◌, ℕ, ◌+◌, ◌-◌, ◌≤◌, List,
 use Rattle.std.proofs.Math.Seq.{take-add}
 use Rattle.std.proofs.lemmas.Bool.{lt-ltb, le-ltb}
 use Rattle.std.proofs.lemmas.List.{length-append, length-take-le, length-drop, drop-drop, take-append-drop, take-append-le, drop-append-le, take_all, drop_all}
-use Rattle.std.proofs.lemmas.List.Elements.{filter_map-append}
 use Rattle.std.proofs.lemmas.List.Sums.{fold-append}
 use Rattle.std.specs.Prelude.{if◌then◌else◌}
 use Rattle.ring_records.specs.declared.notice.Notice.{Notice}
@@ -13,22 +12,20 @@ use Rattle.ring_records.specs.declared.packet.Packet.{Packet}
 use Rattle.ring_records.specs.declared.packet.Packet.TheVariants.{Credit}
 use Rattle.ring_records.specs.declared.summary.Summary.{Summary}
 use Rattle.ring_records.specs.Admission.{IsAllowed}
-use Rattle.ring_records.specs.Emission.{sent, carry}
-use Rattle.ring_records.specs.History.{taken, credit}
+use Rattle.ring_records.specs.Emission.{carry}
+use Rattle.ring_records.specs.History.{taken}
 use Rattle.ring_records.specs.Known.{Objects, stepped, after}
 use Rattle.ring_records.specs.Leader.{told}
 use Rattle.ring_records.specs.Lists.{EachAfter}
 use Rattle.ring_records.specs.Member.{Member}
-use Rattle.ring_records.specs.Notices.{decided_all}
 use Rattle.ring_records.specs.Release.{carries, credit_where, credits, packets, notices}
 use Rattle.ring_records.specs.Summary.{summary}
 use Rattle.ring_records.proofs.Growth.{taken-append, EachAfter-take}
-use Rattle.ring_records.proofs.Known.{credit-sent}
 use Rattle.node_core.specs.declared.effects.Effects.{Effects}
 use Rattle.group_commit.specs.declared.outbox.Outbox.{Outbox}
-use Rattle.group_commit.specs.Kept.{HoldsFor, notices_since}
+use Rattle.group_commit.specs.Kept.{HoldsFor}
 use Rattle.group_commit.specs.Past.{IsPast}
-use Rattle.group_commit.specs.Outbox.{AreFree, brought_after, carried, told_in, leaders_in, credit_since, Holds}
+use Rattle.group_commit.specs.Outbox.{AreFree, brought_after, carried, told_in, credit_since, Holds}
 use Rattle.group_commit.proofs.Opening.{free-part, EachAfter-behind}
 use Rattle.group_commit.proofs.Past.{follows-take, found-known}
 use Rattle.group_commit.proofs.Settling.{brought-append, length-brought}
@@ -57,9 +54,9 @@ part-length start end inputs within =
 -- so they are the first of those that wait
 pub flies : (me start end : ℕ) (outbox : Outbox) (opening : Summary) (inputs : List Input) → start ≤ end → end ≤ length inputs
     → HoldsFor me outbox opening (take start inputs) (drop start inputs) (end - start)
-    → Holds me outbox (after me opening (take start inputs)) (notices_since me opening (take start inputs)) (part start end inputs ++ drop end inputs) (length (part start end inputs))
+    → Holds me outbox (after me opening (take start inputs)) (part start end inputs ++ drop end inputs) (length (part start end inputs))
 flies me start end outbox opening inputs within all holds =
-    subst (λ (p : List Input × ℕ). Holds me outbox (after me opening (take start inputs)) (notices_since me opening (take start inputs)) p.0 p.1)
+    subst (λ (p : List Input × ℕ). Holds me outbox (after me opening (take start inputs)) p.0 p.1)
     (λ i. (part-rest start end inputs within i, sym (part-length start end inputs all) i)) holds
 
 -- and nothing is against them
@@ -83,28 +80,16 @@ brought-part me s l rest waiting is =
     ∙ take_all (length l) (brought_after me s l) (omega (arith, count)))
 
 -- the desk once they are durable
-pub lands : (me start end : ℕ) (new : Outbox) (opening : Summary) (inputs : List Input) (all : List Notice) (waiting : List Effects) → start ≤ end
-    → waiting ≡ brought_after me (after me opening (take start inputs)) (drop start inputs)
-    → all ≡ told_in (take (length (part start end inputs)) waiting)
-    → Holds me new (after me (after me opening (take start inputs)) (part start end inputs)) (notices_since me opening (take start inputs) ++ all) (drop end inputs) 0
-    → HoldsFor me new opening (take end inputs) (drop end inputs) (end - end)
-lands me start end new opening inputs all waiting within waits are holds =
-    let s = after me opening (take start inputs) in
-    let l = part start end inputs in
-    let joined = part-joins start end inputs within in
+pub lands : (me start end : ℕ) (new : Outbox) (opening : Summary) (inputs : List Input) → start ≤ end
+    → Holds me new (after me (after me opening (take start inputs)) (part start end inputs)) (drop end inputs) 0 → HoldsFor me new opening (take end inputs) (drop end inputs) (end - end)
+lands me start end new opening inputs within holds =
     let none : 0 ≡ end - end = omega arith in
-    let brings = brought-part me s l (drop end inputs) waiting (waits ∙ ap (brought_after me s) (part-rest start end inputs within)) in
-    let known = sym (fold-append (stepped me) opening (take start inputs) l) ∙ ap (after me opening) joined in
-    let front = told_in (brought_after me opening (take start inputs)) in
-    let grown = ap (λ ds. front ++ ds) (are ∙ ap told_in brings)
-    ∙ (sym (filter_map-append (λ (e : Effects). e.notice) (brought_after me opening (take start inputs)) (brought_after me s l))
-    ∙ (ap told_in (sym (brought-append me opening (take start inputs) l)) ∙ ap (λ k. told_in (brought_after me opening k)) joined)) in
-    let more = append_assoc (decided_all (leaders_in opening)) front all ∙ ap (λ ns. decided_all (leaders_in opening) ++ ns) grown in
-    subst (λ (p : (Summary × List Notice) × ℕ). Holds me new p.0.0 p.0.1 (drop end inputs) p.1) (λ i. ((known i, more i), none i)) holds
+    let known = sym (fold-append (stepped me) opening (take start inputs) (part start end inputs)) ∙ ap (after me opening) (part-joins start end inputs within) in
+    subst (λ (p : Summary × ℕ). Holds me new p.0 (drop end inputs) p.1) (λ i. (known i, none i)) holds
 
 -- all of them are durable
 pub whole_holds : (me count : ℕ) (outbox : Outbox) (opening : Summary) (inputs : List Input) → count ≡ length inputs
-    → Holds me outbox (after me opening inputs) (notices_since me opening inputs) [] 0 → HoldsFor me outbox opening (take count inputs) (drop count inputs) (count - count)
+    → Holds me outbox (after me opening inputs) [] 0 → HoldsFor me outbox opening (take count inputs) (drop count inputs) (count - count)
 whole_holds me count outbox opening inputs all holds =
     let none : 0 ≡ count - count = omega arith in
     subst (λ (p : (List Input × List Input) × ℕ). HoldsFor me outbox opening p.0.0 p.0.1 p.1)
@@ -112,7 +97,7 @@ whole_holds me count outbox opening inputs all holds =
 
 -- more inputs wait behind them
 pub waits_more : (me k : ℕ) (outbox : Outbox) (opening : Summary) (inputs more : List Input) (durable : ℕ) → durable ≤ length inputs
-    → Holds me outbox (after me opening (take durable inputs)) (notices_since me opening (take durable inputs)) (drop durable inputs ++ more) k
+    → Holds me outbox (after me opening (take durable inputs)) (drop durable inputs ++ more) k
     → HoldsFor me outbox opening (take durable (inputs ++ more)) (drop durable (inputs ++ more)) k
 waits_more me k outbox opening inputs more durable within holds =
     subst (λ (p : List Input × List Input). HoldsFor me outbox opening p.0 p.1 k) (λ i. (sym (take-append-le durable inputs more within) i, sym (drop-append-le durable inputs more within) i)) holds
@@ -178,13 +163,3 @@ landed_notices m opening past inputs start end waiting l all past_is each within
     ∙ (ap told_in brings
     ∙ notices-known m.node m.n s (past ++ take start inputs) (part start end inputs) f.knows f.allowed
     (allowed-part m (past ++ take start inputs) (part start end inputs) (subst (EachAfter (IsAllowed m.node m.n) []) (sym joined) g.allowed)))
-
--- the notices of what was known at first, and of the first inputs since
-pub told-since : (m : Member) (opening : Summary) (past inputs : List Input) (k : ℕ) → IsPast m opening past → AreFree m.node m.n opening inputs
-    → notices_since m.node opening (take k inputs) ≡ decided_all (leaders_in opening) ++ notices m.node past (take k inputs)
-unfolding notices
-told-since m opening past inputs k is each =
-    let f = follows-take m opening past inputs k is each in
-    ap (λ ns. decided_all (leaders_in opening) ++ ns)
-    (found-known (λ (e : Effects). e.notice) (told m.node) m.node m.n (λ g x. refl) opening past (take k inputs) is.summed is.allowed
-    (allowed-part m past (take k inputs) f.allowed))

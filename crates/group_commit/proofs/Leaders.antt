@@ -4,36 +4,30 @@ use Rattle.std.specs.FinMap as fin
 use Rattle.std.specs.FinMap.{find}
 use Rattle.std.specs.List.{Contains, AllByRecursion, cons_option, filter_map}
 use Rattle.std.specs.Option.{option_map}
-use Rattle.std.specs.List.Sorted.{IsPermutation, IsSortedByKey, IsStrictlySortedBy}
+use Rattle.std.specs.List.Sorted.{IsStrictlySortedBy}
 use Rattle.std.specs.Ordering.{is_eq}
-use Rattle.std.proofs.lemmas.Map.Keys.{IsDistinct-from_sorted}
 use Rattle.std.proofs.lemmas.Option.{same_Some}
 use Rattle.ring_records.specs.declared.candidate.Candidate.{Candidate}
 use Rattle.ring_records.specs.declared.decision.Decision.{Decision}
 use Rattle.ring_records.specs.declared.input.Input.{Input}
 use Rattle.ring_records.specs.declared.key.Key.{Key}
 use Rattle.ring_records.specs.declared.key_state.KeyState.{KeyState}
-use Rattle.ring_records.specs.declared.input.Input.TheVariants.{Stand, Take, Acked, Retire}
-use Rattle.ring_records.specs.declared.notice.Notice.{Notice}
-use Rattle.ring_records.specs.declared.notice.Notice.TheVariants.{Decided}
+use Rattle.ring_records.specs.declared.notice.Notice.TheVariants.{Decided, Retired}
 use Rattle.ring_records.specs.declared.summary.Summary.{Summary}
-use Rattle.ring_records.specs.History.{floor_for}
+use Rattle.ring_records.specs.Floors.{floor_keys}
 use Rattle.ring_records.specs.KeyOrder.{key_cmp}
 use Rattle.ring_records.specs.KeyStates.{by_state}
-use Rattle.ring_records.specs.Leader.{leader, decided, told}
-use Rattle.ring_records.specs.Lists.{found_after}
+use Rattle.ring_records.specs.Leader.{leader}
 use Rattle.ring_records.specs.Notices.{decided_all}
-use Rattle.ring_records.specs.Release.{decisions, notices, by_key, AreLeaders}
+use Rattle.ring_records.specs.Release.{by_key, AreLeaders}
 use Rattle.ring_records.specs.Summary.{state_of, key_states, summary}
-use Rattle.ring_records.proofs.Counts.{none-decided}
-use Rattle.ring_records.proofs.Decisions.{AreLive, live-more, in_order}
 use Rattle.ring_records.proofs.Leader.{Contains-here, Contains-later, Contains-nil, Contains-cons_cases}
 use Rattle.ring_records.proofs.Lists.{none≢some}
 use Rattle.ring_records.proofs.Compare.{keys_total, keys_exact}
 use Rattle.ring_records.proofs.Entries.{each-entry}
 use Rattle.ring_records.proofs.StatesInOrder.{IsOwn, sorted-own}
 use Rattle.ring_records.proofs.Summaries.{get-states, is_known, unknown-leader}
-use Rattle.group_commit.specs.Outbox.{led, leaders_in, decision_in}
+use Rattle.group_commit.specs.Content.{led, leaders_in, retired_all, AreKnown}
 
 -- ---- the states of a history
 
@@ -112,9 +106,10 @@ rising (s ∷ ss) sorted = go s.leader (rising ss sorted.1)
     go None rest = rest
     go (Some c) rest = (above s.key ss sorted.0, rest)
 
-leaders-decided : (me : ℕ) (h : List Input) → AreLive me h (leaders_in (summary me h))
-leaders-decided me h = record {
-  apart = IsDistinct-from_sorted by_key (leaders_in (summary me h)) (rising (fin.values (key_states me h)) (sorted-own (states me h) (owns me h (states me h) (each_state me h)) (fin.entries_sorted (key_states me h))));
+-- the leaders in a history's summary are those that it knows
+leaders-known : (me : ℕ) (h : List Input) → AreLeaders me h (leaders_in (summary me h))
+leaders-known me h = record {
+  sorted = rising (fin.values (key_states me h)) (sorted-own (states me h) (owns me h (states me h) (each_state me h)) (fin.entries_sorted (key_states me h)));
   each = λ d has. tells me h (states me h) (each_state me h) d has;
   all = λ key c leads. listed me h key c (states me h) (sym (fin.get-entries (key_states me h) key) ∙ (get-states me h key ∙ was key c leads (is_known h key) refl)) leads;
 }
@@ -122,6 +117,10 @@ leaders-decided me h = record {
     was : (key : Key) (c : Candidate) → leader me h key ≡ Some c → (b : Bool) → is_known h key ≡ b → cond b (Some (state_of me h key)) None ≡ Some (state_of me h key)
     was key c leads true touch = refl
     was key c leads false touch = none≢some c (sym (unknown-leader me h key touch) ∙ leads)
+
+-- what a summary knows is what its history knows
+pub content-known : (me : ℕ) (s : Summary) (h : List Input) → s ≡ summary me h → AreKnown me h (leaders_in s) (floor_keys s.floors)
+content-known me s h knows = subst (λ (t : Summary). AreKnown me h (leaders_in t) (floor_keys t.floors)) (sym knows) (record { lead = leaders-known me h; stand = refl })
 
 -- ---- their notices
 
@@ -133,33 +132,6 @@ pub all-push : (ds : List Decision) (o : Option Decision) → decided_all (ds ++
 all-push ds None = all-append ds []
 all-push ds (Some d) = all-append ds (d ∷ [])
 
--- ---- what a desk sorts
-
--- the decisions among what inputs tell
-one_among : (me : ℕ) (h : List Input) (x : Input) (rest : List Notice) → filter_map decision_in (cons_option (told me h x) rest) ≡ cons_option (decided me h x) (filter_map decision_in rest)
-unfolding told decided
-one_among me h (Stand key bid) rest = sym (ap (λ o. cons_option o (filter_map decision_in rest)) (none-decided me h key bid))
-one_among me h (Take msg_no msg) rest = at (decided me h (Take msg_no msg))
-  where
-    at : (o : Option Decision) → filter_map decision_in (cons_option (option_map Decided o) rest) ≡ cons_option o (filter_map decision_in rest)
-    at None = refl
-    at (Some d) = refl
-one_among me h (Acked upto) rest = refl
-one_among me h (Retire group floor) rest = refl
-
-told_among : (me : ℕ) (h l : List Input) → filter_map decision_in (found_after (told me) h l) ≡ found_after (decided me) h l
-unfolding found_after
-told_among me h [] = refl
-told_among me h (x ∷ l) = one_among me h x (found_after (told me) (h ++ x ∷ []) l) ∙ ap (cons_option (decided me h x)) (told_among me (h ++ x ∷ []) l)
-
-pub decisions-among : (me : ℕ) (h l : List Input) (ds : List Decision) → filter_map decision_in (decided_all ds ++ notices me h l) ≡ ds ++ decisions me h l
-unfolding notices decisions
-decisions-among me h l [] = told_among me h l
-decisions-among me h l (d ∷ ds) = ap (λ rest. d ∷ rest) (decisions-among me h l ds)
-
-pub leaders-known : (me : ℕ) (s : Summary) (h l : List Input) (list sorted : List Decision) → s ≡ summary me h → ((x : Input) (group : List ℕ) → Contains l x → floor_for group x ≡ None) → list ≡ leaders_in s ++ decisions me h l → IsPermutation list sorted
-    → IsSortedByKey (λ (d : Decision). d.key) key_cmp sorted → AreLeaders me (h ++ l) sorted
-unfolding decisions
-leaders-known me s h l list sorted knows none is moved ascends =
-    in_order me (h ++ l) list sorted
-    (subst (AreLive me (h ++ l)) (sym (is ∙ ap (λ (t : Summary). leaders_in t ++ decisions me h l) knows)) (live-more me h l (leaders_in (summary me h)) none (leaders-decided me h))) moved ascends
+pub retired-push : (floors : List Key) (floor : Key) → retired_all (floors ++ floor ∷ []) ≡ retired_all floors ++ retired_all (floor ∷ [])
+retired-push [] floor = refl
+retired-push (f ∷ floors) floor = ap (λ ns. Retired f.group f.term ∷ ns) (retired-push floors floor)

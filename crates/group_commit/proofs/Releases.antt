@@ -4,7 +4,6 @@ use Rattle.std.specs.List.{cons_option}
 use Rattle.std.specs.Option.{option_map}
 use Rattle.std.specs.Prelude.{nat_le, is_some}
 use Rattle.std.proofs.lemmas.Bool.{ltb-false, leb-false}
-use Rattle.ring_records.specs.declared.notice.Notice.{Notice}
 use Rattle.ring_records.specs.declared.input.Input.{Input}
 use Rattle.ring_records.specs.declared.input.Input.TheVariants.{Stand, Take, Acked, Retire}
 use Rattle.ring_records.specs.declared.key.Key.{Key}
@@ -56,11 +55,11 @@ credited n s x upto free is =
     let b = or_else-none _ _ a.1 in
     (leb-false upto s.credit (where_so-none _ _ a.0), ltb-false s.sent upto (where_so-none _ _ b.0))
 
-pub few_queued : (n : ℕ) (released : Released) (s : Summary) (list : List Notice) (x : Input) → Keeps released s list → Objects n s x None → sent_count released.link.link + 1 < 2 ^ 64
-few_queued n released s list x keeps free = let below = few n s x free in let sent = keeps.sent in let within = keeps.sent_few in omega arith
+pub few_queued : (n : ℕ) (released : Released) (s : Summary) (x : Input) → Keeps released s → Objects n s x None → sent_count released.link.link + 1 < 2 ^ 64
+few_queued n released s x keeps free = let below = few n s x free in let sent = keeps.sent in let within = keeps.sent_few in omega arith
 
-pub few_taken : (n : ℕ) (released : Released) (s : Summary) (list : List Notice) (x : Input) → Keeps released s list → Objects n s x None → released.taken + 1 < 2 ^ 64
-few_taken n released s list x keeps free = let below = few n s x free in let taken = keeps.taken in let within = keeps.taken_few in omega arith
+pub few_taken : (n : ℕ) (released : Released) (s : Summary) (x : Input) → Keeps released s → Objects n s x None → released.taken + 1 < 2 ^ 64
+few_taken n released s x keeps free = let below = few n s x free in let taken = keeps.taken in let within = keeps.taken_few in omega arith
 
 -- ---- one more input
 
@@ -70,10 +69,10 @@ pub record Queued (me : ℕ) (link : LinkView) (s : Summary) (x : Input) : Type 
   pub window : link.window ≡ s.window ++ cons_option (sends me s x) []
   pub sent : sent_count link ≡ s.sent + length (cons_option (sends me s x) [])
 
-pub queued : (me : ℕ) (old : Released) (link : LinkView) (s : Summary) (list : List Notice) (x : Input) (effects : Effects) → Keeps old s list → effects ≡ brought me s x
+pub queued : (me : ℕ) (old : Released) (link : LinkView) (s : Summary) (x : Input) (effects : Effects) → Keeps old s → effects ≡ brought me s x
     → link.credited ≡ old.link.link.credited
     → ((count : ℕ) (on : Option Msg) → effects.carry ≡ option_map (Carry count) on → link.window ≡ old.link.link.window ++ cons_option on []) → Queued me link s x
-queued me old link s list x effects keeps brings credited window =
+queued me old link s x effects keeps brings credited window =
     let more = window s.sent (sends me s x) (ap (λ (e : Effects). e.carry) brings ∙ brought-carry me s x) in
     let count = ap length more ∙ length-append old.link.link.window (cons_option (sends me s x) []) in
     let before = keeps.sent in
@@ -96,37 +95,35 @@ one_most : {A : Type 0} (o : Option A) → length (cons_option o []) ≤ 1
 one_most None = omega arith
 one_most (Some x) = omega arith
 
-pub next_stand : (me : ℕ) (old new : Released) (s : Summary) (list more : List Notice) (x : Input) (key : Key) (bid : ℕ) → Keeps old s list → x ≡ Stand key bid
+pub next_stand : (me : ℕ) (old new : Released) (s : Summary) (x : Input) (key : Key) (bid : ℕ) → Keeps old s → x ≡ Stand key bid
     → Queued me new.link.link s x
-    → new.taken ≡ old.taken → new.notices.items ≡ old.notices.items ++ more → Keeps new (stepped me s x) (list ++ more)
-next_stand me old new s list more x key bid keeps is q taken told = subst (λ (y : Input). Queued me new.link.link s y → Keeps new (stepped me s y) (list ++ more)) (sym is) (λ q. record {
+    → new.taken ≡ old.taken → Keeps new (stepped me s x)
+next_stand me old new s x key bid keeps is q taken = subst (λ (y : Input). Queued me new.link.link s y → Keeps new (stepped me s y)) (sym is) (λ q. record {
   credited = q.credited;
   window = q.window;
   sent = q.sent;
   taken = taken ∙ keeps.taken;
-  notices = told ∙ ap (λ l. l ++ more) keeps.notices;
   sent_few = (let few = keeps.sent_few in let one = one_most (sends me s (Stand key bid)) in omega arith);
   taken_few = (let few = keeps.taken_few in omega arith);
 }) q
 
-pub next_take : (me : ℕ) (old new : Released) (s : Summary) (list more : List Notice) (x : Input) (msg_no : ℕ) (msg : Msg) → Keeps old s list → x ≡ Take msg_no msg
+pub next_take : (me : ℕ) (old new : Released) (s : Summary) (x : Input) (msg_no : ℕ) (msg : Msg) → Keeps old s → x ≡ Take msg_no msg
     → Queued me new.link.link s x
-    → new.taken ≡ old.taken + 1 → new.notices.items ≡ old.notices.items ++ more → Keeps new (stepped me s x) (list ++ more)
-next_take me old new s list more x msg_no msg keeps is q taken told = subst (λ (y : Input). Queued me new.link.link s y → Keeps new (stepped me s y) (list ++ more)) (sym is) (λ q. record {
+    → new.taken ≡ old.taken + 1 → Keeps new (stepped me s x)
+next_take me old new s x msg_no msg keeps is q taken = subst (λ (y : Input). Queued me new.link.link s y → Keeps new (stepped me s y)) (sym is) (λ q. record {
   credited = q.credited;
   window = q.window;
   sent = q.sent;
   taken = taken ∙ ap (λ n. n + 1) keeps.taken;
-  notices = told ∙ ap (λ l. l ++ more) keeps.notices;
   sent_few = (let few = keeps.sent_few in let one = one_most (sends me s (Take msg_no msg)) in omega arith);
   taken_few = (let few = keeps.taken_few in omega arith);
 }) q
 
-pub next_acked : (me n : ℕ) (old new : Released) (link : LinkView) (s : Summary) (list more : List Notice) (x : Input) (upto : ℕ) → Keeps old s list → x ≡ Acked upto → Objects n s x None
+pub next_acked : (me n : ℕ) (old new : Released) (link : LinkView) (s : Summary) (x : Input) (upto : ℕ) → Keeps old s → x ≡ Acked upto → Objects n s x None
     → Queued me link s x
     → new.link.link.credited ≡ upto → new.link.link.window ≡ drop (upto - link.credited) link.window
-    → new.taken ≡ old.taken → new.notices.items ≡ old.notices.items ++ more → Keeps new (stepped me s x) (list ++ more)
-next_acked me n old new link s list more x upto keeps is free q upto_is window taken told = subst (λ (y : Input). Objects n s y None → Queued me link s y → Keeps new (stepped me s y) (list ++ more)) (sym is) (λ free q.
+    → new.taken ≡ old.taken → Keeps new (stepped me s x)
+next_acked me n old new link s x upto keeps is free q upto_is window taken = subst (λ (y : Input). Objects n s y None → Queued me link s y → Keeps new (stepped me s y)) (sym is) (λ free q.
     let within = credited n s (Acked upto) upto free refl in
     let same : link.window ≡ s.window = q.window ∙ append-nil s.window in
     let left : new.link.link.window ≡ drop (upto - s.credit) s.window = window ∙ (λ i. drop (upto - q.credited i) (same i)) in
@@ -139,7 +136,6 @@ next_acked me n old new link s list more x upto keeps is free q upto_is window t
       window = left;
       sent = omega arith;
       taken = taken ∙ keeps.taken;
-      notices = told ∙ ap (λ l. l ++ more) keeps.notices;
       sent_few = (let few = keeps.sent_few in omega arith);
       taken_few = (let few = keeps.taken_few in omega arith);
     }) free q
@@ -162,15 +158,14 @@ numbered-item first msgs index msg before after here is more =
     ∙ ap (λ n. numbered first (take index msgs) ++ Carry (first + n) msg ∷ []) count
     ∙ sym (numbered-push first (take index msgs) msg) ∙ ap (numbered first) (sym (take-item msgs index msg here))
 
-pub next_retire : (me : ℕ) (old new : Released) (s : Summary) (list more : List Notice) (x : Input) (group : List ℕ) (floor : ℕ) → Keeps old s list → x ≡ Retire group floor
+pub next_retire : (me : ℕ) (old new : Released) (s : Summary) (x : Input) (group : List ℕ) (floor : ℕ) → Keeps old s → x ≡ Retire group floor
     → Queued me new.link.link s x
-    → new.taken ≡ old.taken → new.notices.items ≡ old.notices.items ++ more → Keeps new (stepped me s x) (list ++ more)
-next_retire me old new s list more x group floor keeps is q taken told = subst (λ (y : Input). Queued me new.link.link s y → Keeps new (stepped me s y) (list ++ more)) (sym is) (λ q. record {
+    → new.taken ≡ old.taken → Keeps new (stepped me s x)
+next_retire me old new s x group floor keeps is q taken = subst (λ (y : Input). Queued me new.link.link s y → Keeps new (stepped me s y)) (sym is) (λ q. record {
   credited = q.credited;
   window = q.window ∙ append-nil s.window;
   sent = (let sent = q.sent in omega arith);
   taken = taken ∙ keeps.taken;
-  notices = told ∙ ap (λ l. l ++ more) keeps.notices;
   sent_few = (let few = keeps.sent_few in omega arith);
   taken_few = (let few = keeps.taken_few in omega arith);
 }) q

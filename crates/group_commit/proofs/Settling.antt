@@ -1,10 +1,8 @@
 -- What an outbox holds as inputs are accepted, fly and land.
-use Rattle.std.proofs.Common.{◌≡◌, ℕ, zero, suc, ◌+◌, ◌-◌, ◌<◌, ◌≤◌, List, [], ◌∷◌, ◌++◌, length, take, drop, None, refl, sym, ap, ◌∙◌, subst, append_assoc, add-one, arith}
+use Rattle.std.proofs.Common.{◌≡◌, ℕ, zero, suc, ◌+◌, ◌-◌, ◌<◌, List, [], ◌∷◌, ◌++◌, length, take, drop, None, refl, sym, ap, ◌∙◌, subst, append_assoc, add-one, arith}
 use Rattle.std.specs.List.{cons_option}
-use Rattle.std.specs.Prelude.{vec_len, vec_capacity}
 use Rattle.std.proofs.lemmas.List.{take_all, length-take-le}
 use Rattle.std.proofs.lemmas.List.Sums.{fold-append}
-use Rattle.ring_records.specs.declared.notice.Notice.{Notice}
 use Rattle.ring_records.specs.declared.input.Input.{Input}
 use Rattle.ring_records.specs.declared.summary.Summary.{Summary}
 use Rattle.ring_records.specs.Known.{Objects, stepped, after}
@@ -37,34 +35,25 @@ unfolding brought_after
 length-brought me s [] = refl
 length-brought me s (x ∷ l) = let rest = length-brought me (stepped me s x) l in omega arith
 
--- the notices among it, with those of one input more
-pub told-item : (me : ℕ) (s : Summary) (l : List Input) (i : ℕ) (x : Input) (effects : Effects) (before : List Notice) → IsItem l i x → effects ≡ brought me (after me s (take i l)) x
-    → (before ++ told_in (brought_after me s (take i l))) ++ cons_option effects.notice [] ≡ before ++ told_in (brought_after me s (take (i + 1) l))
-told-item me s l i x effects before here brings =
-    append_assoc before (told_in (brought_after me s (take i l))) (cons_option effects.notice [])
-    ∙ ap (λ ds. before ++ ds) (ap (λ (e : Effects). told_in (brought_after me s (take i l)) ++ cons_option e.notice []) brings
-    ∙ sym (ap (λ k. told_in (brought_after me s k)) (take-item l i x here)
-    ∙ (ap told_in (brought-push me s (take i l) x) ∙ filter_map-push (λ (e : Effects). e.notice) (brought_after me s (take i l)) (brought me (after me s (take i l)) x))))
-
 -- ---- an outbox where nothing waits
 
-pub holds_restored : (me : ℕ) (outbox : Outbox) (s : Summary) (list : List Notice) → Keeps outbox.released s list → vec_len outbox.released.notices ≤ vec_capacity outbox.released.notices
-    → outbox.waiting.items ≡ [] → IsBlank outbox.landing → Holds me outbox s list [] 0
+pub holds_restored : (me : ℕ) (outbox : Outbox) (s : Summary) → Keeps outbox.released s
+    → outbox.waiting.items ≡ [] → IsBlank outbox.landing → Holds me outbox s [] 0
 unfolding brought_after
-holds_restored me outbox s list keeps room none blank = record {
+holds_restored me outbox s keeps none blank = record {
   released = keeps;
   waiting = none;
-  room = record { messages = omega arith; notices = omega (arith, room) };
+  room = omega arith;
   blank = blank;
   ready = λ less. absurd (omega (arith, less));
   count = λ less. absurd (omega (arith, less));
 }
 
 -- one more durable input
-pub holds_next : (me : ℕ) (old new : Outbox) (s t : Summary) (list more : List Notice) → Holds me old s list [] 0 → new.waiting ≡ old.waiting → new.landing ≡ old.landing
-    → Keeps new.released t more → HasRoom new.released 0 → Holds me new t more [] 0
+pub holds_next : (me : ℕ) (old new : Outbox) (s t : Summary) → Holds me old s [] 0 → new.waiting ≡ old.waiting → new.landing ≡ old.landing
+    → Keeps new.released t → HasRoom new.released 0 → Holds me new t [] 0
 unfolding brought_after
-holds_next me old new s t list more holds same_waiting same_landing keeps room = record {
+holds_next me old new s t holds same_waiting same_landing keeps room = record {
   released = keeps;
   waiting = (λ i. (same_waiting i).items) ∙ holds.waiting;
   room = room;
@@ -76,11 +65,11 @@ holds_next me old new s t list more holds same_waiting same_landing keeps room =
 -- ---- what waits
 
 -- one more input waits
-pub waits_next : (me flying : ℕ) (old new : Outbox) (s : Summary) (list : List Notice) (l : List Input) (x : Input) (effects : Effects) → Holds me old s list l flying
+pub waits_next : (me flying : ℕ) (old new : Outbox) (s : Summary) (l : List Input) (x : Input) (effects : Effects) → Holds me old s l flying
     → effects ≡ brought me (after me s l) x
-    → new.released ≡ old.released → new.landing ≡ old.landing → new.waiting.items ≡ old.waiting.items ++ effects ∷ [] → Holds me new s list (l ++ x ∷ []) flying
-waits_next me flying old new s list l x effects holds brings same_released same_landing more = record {
-  released = subst (λ (r : Released). Keeps r s list) (sym same_released) holds.released;
+    → new.released ≡ old.released → new.landing ≡ old.landing → new.waiting.items ≡ old.waiting.items ++ effects ∷ [] → Holds me new s (l ++ x ∷ []) flying
+waits_next me flying old new s l x effects holds brings same_released same_landing more = record {
+  released = subst (λ (r : Released). Keeps r s) (sym same_released) holds.released;
   waiting = more ∙ (λ i. holds.waiting i ++ brings i ∷ []) ∙ sym (brought-push me s l x);
   room = subst (λ (r : Released). HasRoom r flying) (sym same_released) holds.room;
   blank = subst IsBlank (sym same_landing) holds.blank;
@@ -89,21 +78,21 @@ waits_next me flying old new s list l x effects holds brings same_released same_
 }
 
 -- the memory for what flies is there, or nothing flies
-pub holds_loaded : (me flying count : ℕ) (old new : Outbox) (s : Summary) (list : List Notice) (l : List Input) → Holds me old s list l flying → new.waiting ≡ old.waiting
-    → Keeps new.released s list → HasRoom new.released count
-    → IsBlank new.landing → (0 < count → IsReady new.landing count) → (0 < count → new.landing.count ≡ count) → Holds me new s list l count
-holds_loaded me flying count old new s list l holds same keeps room blank ready counts =
+pub holds_loaded : (me flying count : ℕ) (old new : Outbox) (s : Summary) (l : List Input) → Holds me old s l flying → new.waiting ≡ old.waiting
+    → Keeps new.released s → HasRoom new.released count
+    → IsBlank new.landing → (0 < count → IsReady new.landing count) → (0 < count → new.landing.count ≡ count) → Holds me new s l count
+holds_loaded me flying count old new s l holds same keeps room blank ready counts =
     record { released = keeps; waiting = (λ i. (same i).items) ∙ holds.waiting; room = room; blank = blank; ready = ready; count = counts }
 
 pub idle : {A : Type 0} → 0 < 0 → A
 idle less = absurd (omega (arith, less))
 
 -- where nothing flies, it needs no memory for what flies
-pub holds_still : (me flying : ℕ) (outbox : Outbox) (s : Summary) (list : List Notice) (l : List Input) → Holds me outbox s list l flying → Holds me outbox s list l 0
-holds_still me flying outbox s list l holds = record {
+pub holds_still : (me flying : ℕ) (outbox : Outbox) (s : Summary) (l : List Input) → Holds me outbox s l flying → Holds me outbox s l 0
+holds_still me flying outbox s l holds = record {
   released = holds.released;
   waiting = holds.waiting;
-  room = record { messages = omega arith; notices = (let all = holds.room.notices in omega arith) };
+  room = omega arith;
   blank = holds.blank;
   ready = λ less. absurd (omega (arith, less));
   count = λ less. absurd (omega (arith, less));
@@ -164,9 +153,9 @@ pub record Settles (outbox : Outbox) (landed : Landed) (waited : List Effects) (
   pub again : landed.again.items ≡ landed.notices.items
   pub counts : landed.count ≡ count
 
-pub settles_none : (me : ℕ) (old new : Outbox) (landed : Landed) (s : Summary) (list : List Notice) (l : List Input) (count : ℕ) → 0 < count → Holds me old s list l count
+pub settles_none : (me : ℕ) (old new : Outbox) (landed : Landed) (s : Summary) (l : List Input) (count : ℕ) → 0 < count → Holds me old s l count
     → landed ≡ old.landing → new.released ≡ old.released → new.waiting ≡ old.waiting → IsBlank new.landing → Settles new landed old.waiting.items count 0
-settles_none me old new landed s list l count some holds same released waits blank =
+settles_none me old new landed s l count some holds same released waits blank =
     let all : count ≡ count - 0 = omega arith in
     record {
       blank = blank;
@@ -201,24 +190,19 @@ settles_next old new landed now waited count i effects settles less split blank 
     }
 
 -- what the node may release, once so many have landed
-pub keeps_next : (me : ℕ) (new : Released) (s : Summary) (list : List Notice) (l : List Input) (waited rest : List Effects) (i : ℕ) (x : Input) (effects : Effects) → IsItem l i x
-    → drop i waited ≡ effects ∷ rest
-    → Keeps new (stepped me (after me s (take i l)) x) ((list ++ told_in (take i waited)) ++ cons_option effects.notice []) → Keeps new (after me s (take (i + 1) l)) (list ++ told_in (take (i + 1) waited))
-keeps_next me new s list l waited rest i x effects here split keeps =
-    let known = ap (after me s) (take-item l i x here) ∙ after-push me s (take i l) x in
-    let more = ap told_in (passes i waited rest effects split).0 ∙ filter_map-push (λ (e : Effects). e.notice) (take i waited) effects in
-    subst (λ (p : Summary × List Notice). Keeps new p.0 p.1) (λ k. (sym known k, (append_assoc list (told_in (take i waited)) (cons_option effects.notice []) ∙ ap (λ ds. list ++ ds) (sym more)) k)) keeps
+pub keeps_next : (me : ℕ) (new : Released) (s : Summary) (l : List Input) (i : ℕ) (x : Input) → IsItem l i x → Keeps new (stepped me (after me s (take i l)) x) → Keeps new (after me s (take (i + 1) l))
+keeps_next me new s l i x here keeps = subst (Keeps new) (sym (ap (after me s) (take-item l i x here) ∙ after-push me s (take i l) x)) keeps
 
 -- nothing flies behind what landed
-pub holds_landed : (me : ℕ) (old new : Outbox) (landed : Landed) (s : Summary) (list all : List Notice) (l rest : List Input) → Holds me old s list (l ++ rest) (length l)
+pub holds_landed : (me : ℕ) (old new : Outbox) (landed : Landed) (s : Summary) (l rest : List Input) → Holds me old s (l ++ rest) (length l)
     → Settles new landed old.waiting.items (length l) (length l)
-    → Keeps new.released (after me s (take (length l) l)) (list ++ told_in (take (length l) old.waiting.items)) → all ≡ told_in (take (length l) old.waiting.items) → Holds me new (after me s l) (list ++ all) rest 0
-holds_landed me old new landed s list all l rest holds settles keeps are =
+    → Keeps new.released (after me s (take (length l) l)) → Holds me new (after me s l) rest 0
+holds_landed me old new landed s l rest holds settles keeps =
     let whole = take_all (length l) l (omega arith) in
     let none_left : length l - length l ≡ 0 = omega arith in
     let front = sym (length-brought me s l) in
     record {
-      released = subst (λ (p : Summary × List Notice). Keeps new.released p.0 p.1) (λ i. (after me s (whole i), list ++ sym are i)) keeps;
+      released = subst (λ (k : List Input). Keeps new.released (after me s k)) whole keeps;
       waiting = settles.waits ∙ (λ i. drop (front i) ((holds.waiting ∙ brought-append me s l rest) i)) ∙ drop-front (brought_after me s l) (brought_after me (after me s l) rest);
       room = subst (HasRoom new.released) none_left settles.room;
       blank = settles.blank;

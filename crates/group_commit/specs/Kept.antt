@@ -1,20 +1,18 @@
 -- What a desk keeps to.
-use Rattle.std.specs.Prelude.{ℕ, ◌≡◌, ◌+◌, ◌-◌, ◌<◌, List, [], ◌∷◌, ◌++◌, drop, Option}
+use Rattle.std.specs.Prelude.{ℕ, ◌≡◌, ◌+◌, ◌-◌, ◌<◌, List, [], ◌∷◌, drop, Option}
 use Rattle.std.specs.Option.{option_map}
 use Rattle.ring_records.specs.declared.base.Base.{Base}
 use Rattle.ring_records.specs.declared.input.Input.{Input}
-use Rattle.ring_records.specs.declared.notice.Notice.{Notice}
 use Rattle.ring_records.specs.declared.summary.Summary.{Summary}
 use Rattle.ring_records.specs.Admission.{newest}
 use Rattle.ring_records.specs.Answer.{Answered}
 use Rattle.ring_records.specs.Known.{after}
 use Rattle.ring_records.specs.Member.{Member}
-use Rattle.ring_records.specs.Notices.{decided_all}
 use Rattle.ring_records.specs.Snapshot.{IsSound}
 use Rattle.ring_records.specs.States.{NodeState, durable_in}
 use Rattle.node_core.specs.Core.{CoreView}
 use Rattle.group_commit.specs.Desk.{IsAnswer}
-use Rattle.group_commit.specs.Outbox.{brought_after, told_in, leaders_in, Holds}
+use Rattle.group_commit.specs.Outbox.{Holds}
 use Rattle.group_commit.specs.Past.{IsPast}
 use Rattle.group_commit.specs.Since.{IsKnownState, core_in}
 use Rattle.group_commit.specs.declared.outbox.Outbox.{Outbox}
@@ -44,13 +42,9 @@ state_with base inputs durable flying pending = record {
   checkpoint = option_map (area_behind base flying) pending;
 }
 
--- the notices of what was known at first, and of these inputs since
-abbrev pub notices_since : ℕ → Summary → List Input → List Notice
-notices_since me opening l = decided_all (leaders_in opening) ++ told_in (brought_after me opening l)
-
 -- the outbox holds what node me may release, where these inputs are durable, and what those behind them bring
 abbrev pub HoldsFor : ℕ → Outbox → Summary → List Input → List Input → ℕ → Type 0
-HoldsFor me outbox opening durable rest flying = Holds me outbox (after me opening durable) (notices_since me opening durable) rest flying
+HoldsFor me outbox opening durable rest flying = Holds me outbox (after me opening durable) rest flying
 
 -- The summary of the opening is sound. The state is one that its node may be in since, and the core is the node's in that
 -- state; the outbox holds what the durable inputs let the node release; no number of a ticket is given twice; and what is

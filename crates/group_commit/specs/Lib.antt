@@ -1,4 +1,5 @@
 pub mod Codes
+pub mod Content
 pub mod Desk
 pub mod Kept
 pub mod Next

@@ -15,7 +15,7 @@ use Rattle.ring_records.specs.declared.room.Room.{Room}
 use Rattle.ring_records.specs.declared.summary.Summary.{Summary}
 use Rattle.ring_records.specs.Admission.{costs_of, is_retire, room_of}
 use Rattle.ring_records.specs.Answer.{if_free, unless}
-use Rattle.ring_records.specs.Known.{after, known_of, leader_of, leads_in}
+use Rattle.ring_records.specs.Known.{after, leads_in}
 use Rattle.ring_records.specs.Leader.{IsLatest}
 use Rattle.ring_records.specs.Lists.{EachAfter}
 use Rattle.ring_records.specs.Member.{Member}

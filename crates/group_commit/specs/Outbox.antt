@@ -1,13 +1,8 @@
 -- What an outbox holds, where a node knows s by its durable inputs.
-use Rattle.std.specs.Prelude.{ℕ, ◌≡◌, ◌+◌, ◌<◌, ◌≤◌, nat_lt, if◌then◌else◌, List, [], ◌∷◌, Option, Some, None, vec_len, vec_capacity}
-use Rattle.std.specs.FinMap as map
+use Rattle.std.specs.Prelude.{ℕ, ◌≡◌, ◌+◌, ◌<◌, ◌≤◌, nat_lt, if◌then◌else◌, List, [], ◌∷◌, None, vec_len, vec_capacity}
 use Rattle.std.specs.List.{filter_map}
-use Rattle.std.specs.Option.{option_map}
-use Rattle.ring_records.specs.declared.decision.Decision.{Decision}
 use Rattle.ring_records.specs.declared.input.Input.{Input}
-use Rattle.ring_records.specs.declared.key_state.KeyState.{KeyState}
 use Rattle.ring_records.specs.declared.notice.Notice.{Notice}
-use Rattle.ring_records.specs.declared.notice.Notice.TheVariants.{Decided, Retired}
 use Rattle.ring_records.specs.declared.packet.Packet.{Packet}
 use Rattle.ring_records.specs.declared.packet.Packet.TheVariants.{Credit}
 use Rattle.ring_records.specs.declared.summary.Summary.{Summary}
@@ -31,13 +26,6 @@ unfoldable pub brought_after : ℕ → Summary → List Input → List Effects
 brought_after me s [] = []
 brought_after me s (x ∷ l) = brought me s x ∷ brought_after me (stepped me s x) l
 
--- the decision of each key with a leader that a node knows, in order of key
-abbrev pub led : KeyState → Option Decision
-led state = option_map (λ c. record { key = state.key; leader = c }) state.leader
-
-abbrev pub leaders_in : Summary → List Decision
-leaders_in s = filter_map led (map.values s.keys)
-
 -- the messages among it
 abbrev pub carried : List Effects → List Packet
 carried effects = filter_map (λ (e : Effects). e.carry) effects
@@ -46,32 +34,25 @@ carried effects = filter_map (λ (e : Effects). e.carry) effects
 abbrev pub told_in : List Effects → List Notice
 told_in effects = filter_map (λ (e : Effects). e.notice) effects
 
--- the decision that the notice tells
-abbrev pub decision_in : Notice → Option Decision
-decision_in (Decided d) = Some d
-decision_in (Retired group floor) = None
-
 -- one credit of all messages that are taken now, where more are than before
 abbrev pub credit_since : ℕ → ℕ → List Packet
 credit_since before now = if nat_lt before now then Credit now ∷ [] else []
 
 -- ---- what is kept
 
--- it has what a node that knows s may release, with these notices
-pub record Keeps (released : Released) (s : Summary) (list : List Notice) : Type 0 where
+-- it has what a node that knows s may release
+pub record Keeps (released : Released) (s : Summary) : Type 0 where
   pub credited : released.link.link.credited ≡ s.credit
   pub window : released.link.link.window ≡ s.window
   pub sent : sent_count released.link.link ≡ s.sent
   pub taken : released.taken ≡ s.taken
-  pub notices : released.notices.items ≡ list
   -- no more was sent, and no more was taken, than there were inputs
   pub sent_few : s.sent ≤ s.inputs
   pub taken_few : s.taken ≤ s.inputs
 
 -- so many inputs more take no memory
-pub record HasRoom (released : Released) (count : ℕ) : Type 0 where
-  pub messages : count ≤ released.link.room
-  pub notices : vec_len released.notices + count ≤ vec_capacity released.notices
+abbrev pub HasRoom : Released → ℕ → Type 0
+HasRoom released count = count ≤ released.link.room
 
 -- what so many inputs bring takes no memory
 pub record IsReady (landed : Landed) (count : ℕ) : Type 0 where
@@ -85,10 +66,10 @@ pub record IsBlank (landed : Landed) : Type 0 where
   pub notices : landed.notices.items ≡ []
   pub again : landed.again.items ≡ []
 
--- It has what the durable inputs, by which node me knows s, let it release, with these notices, and what each input of l
--- brings, which wait behind them. So many of these fly, and land without memory.
-pub record Holds (me : ℕ) (outbox : Outbox) (s : Summary) (list : List Notice) (l : List Input) (flying : ℕ) : Type 0 where
-  pub released : Keeps outbox.released s list
+-- It has what the durable inputs, by which node me knows s, let it release, and what each input of l brings, which wait
+-- behind them. So many of these fly, and land without memory.
+pub record Holds (me : ℕ) (outbox : Outbox) (s : Summary) (l : List Input) (flying : ℕ) : Type 0 where
+  pub released : Keeps outbox.released s
   pub waiting : outbox.waiting.items ≡ brought_after me s l
   pub room : HasRoom outbox.released flying
   pub blank : IsBlank outbox.landing

@@ -11,7 +11,7 @@ use Rattle.ring_records.specs.declared.request.Request.{Request}
 use Rattle.ring_records.specs.declared.request.Request.TheVariants as ask
 use Rattle.ring_records.specs.Admission.{fresh}
 use Rattle.ring_records.specs.Answer.{Answered, input_of, answer}
-use Rattle.ring_records.specs.Known.{Objects, known_of, leader_of, leads_in}
+use Rattle.ring_records.specs.Known.{Objects, leads_in}
 use Rattle.ring_records.specs.Leader.{IsLatest}
 use Rattle.ring_records.specs.Member.{Member}
 use Rattle.node_core.specs.Brought.{who_by}

@@ -3,10 +3,8 @@ ghost use Rattle.std.specs.Prelude.{◌≡◌, ◌+◌, ◌^◌, ◌++◌, ◌�
 ghost use Rattle.std.specs.List.{cons_option};
 ghost use Rattle.std.specs.VecDeque.{deque_len, deque_capacity};
 ghost use Rattle.ring_records.specs.declared.input.Input.{Input};
-ghost use Rattle.ring_records.specs.declared.notice.Notice.{Notice};
 ghost use Rattle.ring_records.specs.declared.summary.Summary.{Summary};
 ghost use Rattle.ring_records.specs.Known.{Objects, stepped, after};
-ghost use Rattle.ring_records.specs.Notices.{decided_all};
 ghost use Rattle.ring_records.specs.Snapshot.{IsSound};
 ghost use Rattle.node_core.specs.Brought.{brought};
 ghost use Rattle.node_core.specs.Core.{Refuses, taking};
@@ -43,13 +41,13 @@ pub(crate) struct Outbox {
 }
 
 impl Outbox {
-    ghost use Rattle.group_commit.specs.Outbox.{Holds, AreFree, carried, told_in, credit_since, leaders_in};
+    ghost use Rattle.group_commit.specs.Outbox.{Holds, AreFree, carried, told_in, credit_since};
 
     /// That of a node that knows this by its durable inputs. The caller sees that it is sound for a ring of `n`. The error is
     /// that of the allocator.
     pub(crate) fn restore(alloc: Global, n: u8, from: &Summary) -> Result<Outbox, AllocError>
         requires { IsSound n from.now }
-        ensures { IfOk result (λ outbox. (me : ℕ) → Holds me outbox from.now (decided_all (leaders_in from.now)) [] 0) }
+        ensures { IfOk result (λ outbox. (me : ℕ) → Holds me outbox from.now [] 0) }
     {
         Ok(Outbox {
             released: Released::restore(alloc, n, from)?,
@@ -60,9 +58,9 @@ impl Outbox {
 
     /// Adds what a durable input lets the node release, where none waits.
     pub(crate) fn add(&mut self, input: &Input, effects: &Effects) -> Result<(), AllocError>
-        requires free { (me n : ℕ) × (s : Summary) × (list : List Notice) × Holds me self.old s list [] 0 × Objects n s input.now None × (effects.now ≡ brought me s input.now) }
-        ensures holds { OnOk result ((me n : ℕ) (s : Summary) (list : List Notice) → Holds me self.old s list [] 0 → Objects n s input.now None → effects.now ≡ brought me s input.now
-            → Holds me self.new (stepped me s input.now) (list ++ cons_option effects.now.notice []) [] 0) }
+        requires free { (me n : ℕ) × (s : Summary) × Holds me self.old s [] 0 × Objects n s input.now None × (effects.now ≡ brought me s input.now) }
+        ensures holds { OnOk result ((me n : ℕ) (s : Summary) → Holds me self.old s [] 0 → Objects n s input.now None → effects.now ≡ brought me s input.now
+            → Holds me self.new (stepped me s input.now) [] 0) }
     {
         self.released.reserve(1)?;
         self.released.add(input, effects);
@@ -74,10 +72,10 @@ impl Outbox {
     pub(crate) fn accept(&mut self, core: &mut NodeCore, input: &Input) -> Result<(), AllocError>
         requires { Refuses core.old input.now None }
         ensures steps { OnOk result (core.new ≡ record core.old { known = stepped core.old.me core.old.known input.now; room = taking input.now core.old.room }) }
-        ensures holds { OnOk result ((s : Summary) (list : List Notice) (l : List Input) (flying : ℕ) → core.old.known ≡ after core.old.me s l → Holds core.old.me self.old s list l flying
-            → Holds core.old.me self.new s list (l ++ input.now ∷ []) flying) }
+        ensures holds { OnOk result ((s : Summary) (l : List Input) (flying : ℕ) → core.old.known ≡ after core.old.me s l → Holds core.old.me self.old s l flying
+            → Holds core.old.me self.new s (l ++ input.now ∷ []) flying) }
         ensures err { OnErr result (core.new ≡ core.old) }
-        ensures same { OnErr result ((me flying : ℕ) (s : Summary) (list : List Notice) (l : List Input) → Holds me self.old s list l flying → Holds me self.new s list l flying) }
+        ensures same { OnErr result ((me flying : ℕ) (s : Summary) (l : List Input) → Holds me self.old s l flying → Holds me self.new s l flying) }
     {
         self.waiting.reserve(1)?;
         match core.apply(*input) {
@@ -92,8 +90,8 @@ impl Outbox {
     /// Takes the memory for what so many inputs bring, which fly from now on.
     pub(crate) fn load(&mut self, count: u64) -> Result<(), AllocError>
         requires few { count < 2 ^ 63 }
-        ensures holds { OnOk result ((me : ℕ) (s : Summary) (list : List Notice) (l : List Input) → Holds me self.old s list l 0 → Holds me self.new s list l count) }
-        ensures err { OnErr result ((me : ℕ) (s : Summary) (list : List Notice) (l : List Input) → Holds me self.old s list l 0 → Holds me self.new s list l 0) }
+        ensures holds { OnOk result ((me : ℕ) (s : Summary) (l : List Input) → Holds me self.old s l 0 → Holds me self.new s l count) }
+        ensures err { OnErr result ((me : ℕ) (s : Summary) (l : List Input) → Holds me self.old s l 0 → Holds me self.new s l 0) }
     {
         let alloc = *self.waiting.allocator();
         self.released.reserve(count as usize)?;
@@ -104,13 +102,13 @@ impl Outbox {
     /// Adds what these inputs bring, which flew and are durable now: the first of those that wait. A checkpoint may have
     /// none.
     pub(crate) fn land(&mut self, inputs: &[Input]) -> Landed
-        requires holds { (me n : ℕ) × (s : Summary) × (list : List Notice) × (rest : List Input) × Holds me self.old s list (inputs.now ++ rest) (length inputs.now) × AreFree me n s inputs.now }
+        requires holds { (me n : ℕ) × (s : Summary) × (rest : List Input) × Holds me self.old s (inputs.now ++ rest) (length inputs.now) × AreFree me n s inputs.now }
         ensures count { result.count ≡ length inputs.now }
         ensures packets { result.packets.items ≡ carried (take (length inputs.now) self.old.waiting.items) ++ credit_since self.old.released.taken self.new.released.taken }
         ensures notices { result.notices.items ≡ told_in (take (length inputs.now) self.old.waiting.items) }
         ensures again { result.again.items ≡ result.notices.items }
-        ensures holds { (me n : ℕ) (s : Summary) (list : List Notice) (rest : List Input) → Holds me self.old s list (inputs.now ++ rest) (length inputs.now) → AreFree me n s inputs.now
-            → Holds me self.new (after me s inputs.now) (list ++ result.notices.items) rest 0 }
+        ensures holds { (me n : ℕ) (s : Summary) (rest : List Input) → Holds me self.old s (inputs.now ++ rest) (length inputs.now) → AreFree me n s inputs.now
+            → Holds me self.new (after me s inputs.now) rest 0 }
     {
         if inputs.is_empty() {
             return Landed::new(*self.waiting.allocator());
@@ -121,13 +119,13 @@ impl Outbox {
     // Adds what these inputs bring, one at least.
     fn settle(&mut self, inputs: &[Input]) -> Landed
         requires some { 0 < length inputs.now }
-        requires holds { (me n : ℕ) × (s : Summary) × (list : List Notice) × (rest : List Input) × Holds me self.old s list (inputs.now ++ rest) (length inputs.now) × AreFree me n s inputs.now }
+        requires holds { (me n : ℕ) × (s : Summary) × (rest : List Input) × Holds me self.old s (inputs.now ++ rest) (length inputs.now) × AreFree me n s inputs.now }
         ensures count { result.count ≡ length inputs.now }
         ensures packets { result.packets.items ≡ carried (take (length inputs.now) self.old.waiting.items) ++ credit_since self.old.released.taken self.new.released.taken }
         ensures notices { result.notices.items ≡ told_in (take (length inputs.now) self.old.waiting.items) }
         ensures again { result.again.items ≡ result.notices.items }
-        ensures holds { (me n : ℕ) (s : Summary) (list : List Notice) (rest : List Input) → Holds me self.old s list (inputs.now ++ rest) (length inputs.now) → AreFree me n s inputs.now
-            → Holds me self.new (after me s inputs.now) (list ++ result.notices.items) rest 0 }
+        ensures holds { (me n : ℕ) (s : Summary) (rest : List Input) → Holds me self.old s (inputs.now ++ rest) (length inputs.now) → AreFree me n s inputs.now
+            → Holds me self.new (after me s inputs.now) rest 0 }
     {
         let mut landed = self.landing.hand_out();
         let taken = self.released.taken;

@@ -1,59 +1,51 @@
 // What the durable inputs of a node let it release.
-ghost use Rattle.std.specs.Prelude.{◌≡◌, ◌+◌, ◌-◌, ◌++◌, ◌∷◌, ◌≤◌, ◌<◌, ◌^◌, ℕ, List, [], None, length, drop, Option, IfOk, OnOk, OnErr, vec_len, vec_capacity};
-ghost use Rattle.std.specs.List.{cons_option, filter_map};
+ghost use Rattle.std.specs.Prelude.{◌≡◌, ◌+◌, ◌-◌, ◌++◌, ◌∷◌, ◌≤◌, ◌<◌, ◌^◌, ℕ, List, [], None, length, drop, Option, IfOk, OnOk, OnErr};
+ghost use Rattle.std.specs.List.{cons_option};
 ghost use Rattle.std.specs.Option.{option_map};
 ghost use Rattle.ring_records.specs.declared.msg.Msg.{Msg};
-ghost use Rattle.ring_records.specs.declared.notice.Notice.{Notice};
-ghost use Rattle.ring_records.specs.declared.notice.Notice.TheVariants.{Decided};
 ghost use Rattle.ring_records.specs.declared.packet.Packet.TheVariants.{Carry};
 ghost use Rattle.ring_records.specs.declared.summary.Summary.{Summary};
 ghost use Rattle.ring_records.specs.Known.{Objects, stepped};
-ghost use Rattle.ring_records.specs.Notices.{decided_all};
 ghost use Rattle.ring_records.specs.Release.{numbered};
 ghost use Rattle.ring_records.specs.Snapshot.{IsSound};
 ghost use Rattle.neighbour_link.specs.Outlink.{sent_count};
 ghost use Rattle.node_core.specs.Brought.{brought};
-ghost use Rattle.group_commit.specs.Outbox.{led};
 
-use crate::landed::push_notice;
 use neighbour_link::Outlink;
 use node_core::Effects;
-use ring_records::{Decision, Input, KeyState, Notice, Packet, Summary};
+use ring_records::{Input, Packet, Summary};
 use std::alloc::{AllocError, Global};
 
-/// What a node keeps of its durable inputs: the messages that the successor is not known to have taken, what they tell
-/// a board, in order, and how many messages were taken.
+/// What a node keeps of its durable inputs: the messages that the successor is not known to have taken, and how many
+/// messages were taken.
 #[derive(Drop)]
 pub(crate) struct Released {
     pub(crate) link: Outlink,
-    pub(crate) notices: Vec<Notice>,
     pub(crate) taken: u64,
 }
 
 impl Released {
-    ghost use Rattle.group_commit.specs.Outbox.{Keeps, HasRoom, leaders_in};
+    ghost use Rattle.group_commit.specs.Outbox.{Keeps, HasRoom};
 
     /// That of a node that knows this by its durable inputs. The caller sees that it is sound for a ring of `n`. The error is
     /// that of the allocator.
     pub(crate) fn restore(alloc: Global, n: u8, from: &Summary) -> Result<Released, AllocError>
         requires { IsSound n from.now }
-        ensures { IfOk result (λ made. Keeps made from.now (decided_all (leaders_in from.now))) }
+        ensures { IfOk result (λ made. Keeps made from.now) }
     {
         let _ring = n;
         Ok(Released {
             link: Outlink::restore(alloc, from.sent, from.window.as_slice())?,
-            notices: leaders_of(alloc, from.keys.as_slice())?,
             taken: from.taken,
         })
     }
 
     /// Makes room for what so many inputs more let it release.
     pub(crate) fn reserve(&mut self, count: usize) -> Result<(), AllocError>
-        ensures keeps { (s : Summary) (list : List Notice) → Keeps self.old s list → Keeps self.new s list }
+        ensures keeps { (s : Summary) → Keeps self.old s → Keeps self.new s }
         ensures room { OnOk result (HasRoom self.new count) }
     {
-        self.link.reserve(count)?;
-        self.notices.reserve(count)
+        self.link.reserve(count)
     }
 
     /// The messages that the successor is not known to have taken, as packets.
@@ -73,43 +65,18 @@ impl Released {
     /// Adds what the next durable input lets it release, for which there is room.
     pub(crate) fn add(&mut self, input: &Input, effects: &Effects)
         requires room { HasRoom self.old 1 }
-        requires free { (me n : ℕ) × (s : Summary) × (list : List Notice) × Keeps self.old s list × Objects n s input.now None × (effects.now ≡ brought me s input.now) }
-        ensures keeps { (me n : ℕ) (s : Summary) (list : List Notice) → Keeps self.old s list → Objects n s input.now None → effects.now ≡ brought me s input.now
-            → Keeps self.new (stepped me s input.now) (list ++ cons_option effects.now.notice []) }
+        requires free { (me n : ℕ) × (s : Summary) × Keeps self.old s × Objects n s input.now None × (effects.now ≡ brought me s input.now) }
+        ensures keeps { (me n : ℕ) (s : Summary) → Keeps self.old s → Objects n s input.now None → effects.now ≡ brought me s input.now
+            → Keeps self.new (stepped me s input.now) }
         ensures room { (k : ℕ) → HasRoom self.old (k + 1) → HasRoom self.new k }
     {
         queue(&mut self.link, &effects.carry);
-        push_notice(&mut self.notices, &effects.notice);
         match input {
             Input::Stand { .. } => {}
             Input::Retire { .. } => {}
             Input::Take { .. } => self.taken += 1,
             Input::Acked { upto } => credit(&mut self.link, *upto),
         }
-    }
-}
-
-// A notice for each key with a leader.
-fn leaders_of(alloc: Global, states: &[KeyState]) -> Result<Vec<Notice>, AllocError>
-    ensures { IfOk result (λ made. made.items ≡ decided_all (filter_map led states.now)) }
-{
-    let mut notices = Vec::with_capacity(alloc, states.len())?;
-    for state in states {
-        push_notice(&mut notices, &notice_of(state));
-    }
-    Ok(notices)
-}
-
-// The notice of a key, where it has a leader.
-fn notice_of(state: &KeyState) -> Option<Notice>
-    ensures { result ≡ option_map Decided (led state.now) }
-{
-    match state.leader {
-        Some(leader) => Some(Notice::Decided(Decision {
-            key: state.key,
-            leader,
-        })),
-        None => None,
     }
 }
 

@@ -1,53 +1,85 @@
 //! What a desk's durable inputs tell a board.
-ghost use Rattle.std.specs.Prelude.{◌≡◌, List, IfOk};
+ghost use Rattle.std.specs.Prelude.{◌≡◌, ◌++◌, List, IfOk, OnOk};
 ghost use Rattle.std.specs.List.{filter_map};
+ghost use Rattle.std.specs.Option.{option_map};
 ghost use Rattle.ring_records.specs.declared.decision.Decision.{Decision};
 ghost use Rattle.ring_records.specs.declared.input.Input.{Input};
+ghost use Rattle.ring_records.specs.declared.key.Key.{Key};
+ghost use Rattle.ring_records.specs.declared.notice.Notice.TheVariants.{Decided};
+ghost use Rattle.ring_records.specs.Known.{after};
 ghost use Rattle.ring_records.specs.Notices.{decided_all};
 ghost use Rattle.ring_records.specs.States.{durable_in};
-ghost use Rattle.ring_records.specs.Release.{AreLeaders};
+ghost use Rattle.group_commit.specs.Content.{content_of, led, retired_all, AreKnown};
 ghost use Rattle.group_commit.specs.Desk.{seen};
-ghost use Rattle.group_commit.specs.Outbox.{decision_in};
 ghost use Rattle.group_commit.specs.Past.{IsPast};
 
 use crate::desk::Desk;
-use ring_records::{Decision, Notice};
+use crate::desk::vouch::core_of;
+use crate::landed::push_notice;
+use ring_records::{Decision, Key, KeyState, Notice, Summary};
 use std::alloc::{AllocError, Global};
 
 impl Desk {
-    /// What a board is made of: a notice for each key with a leader in the durable inputs, in order of key.
+    /// What a board is made of: a notice for each key with a leader in the durable inputs, in order of key, and then one for
+    /// each floor, in order of group. Where inputs wait it takes the durable ones since its opening again, k of them in
+    /// k log k steps.
     pub fn decisions(&self) -> Result<Vec<Notice>, AllocError>
-        ensures { IfOk result (λ told. (list : List Decision) × (told.items ≡ decided_all list)
-            × ((past : List Input) → IsPast self.now.view.member self.now.opening past → AreLeaders self.now.view.member.node (durable_in (seen past self.now).state) list)) }
+        ensures { IfOk result (λ told. (leaders : List Decision) × (floors : List Key) × (told.items ≡ content_of leaders floors)
+            × ((past : List Input) → IsPast self.now.view.member self.now.opening past → AreKnown self.now.view.member.node (durable_in (seen past self.now).state) leaders floors)) }
     {
-        let told = &self.outbox.released.notices;
-        let alloc = *told.allocator();
-        let mut leaders = decisions_among(alloc, told)?;
-        leaders.sort_unstable_by_key(|decision| decision.key);
-        notices_of(alloc, &leaders)
+        let alloc = *self.inputs.allocator();
+        let known = self.durable_summary(alloc)?;
+        let mut notices = leaders_of(alloc, known.keys.as_slice())?;
+        push_floors(&mut notices, known.floors.as_slice())?;
+        Ok(notices)
     }
-}
 
-// The decisions among these notices, in order.
-fn decisions_among(alloc: Global, told: &[Notice]) -> Result<Vec<Decision>, AllocError>
-    ensures { IfOk result (λ made. made.items ≡ filter_map decision_in told.now) }
-{
-    let mut decisions = Vec::with_capacity(alloc, told.len())?;
-    for notice in told {
-        if let Notice::Decided(decision) = notice {
-            decisions.push_reserved(*decision);
+    // What its node knows by the durable inputs.
+    fn durable_summary(&self, alloc: Global) -> Result<Summary, AllocError>
+        ensures { IfOk result (λ known. known ≡ after self.now.view.member.node self.now.opening (durable_in self.now.view.state)) }
+    {
+        if self.durable == self.inputs.len() as u64 {
+            return self.core.summary(alloc);
         }
+        let durable = &self.inputs[..self.durable as usize];
+        let core = core_of(alloc, self.node, self.n, &self.base, durable)?;
+        core.summary(alloc)
     }
-    Ok(decisions)
 }
 
-// The notices of these decisions, in order.
-fn notices_of(alloc: Global, decisions: &[Decision]) -> Result<Vec<Notice>, AllocError>
-    ensures { IfOk result (λ made. made.items ≡ decided_all decisions.now) }
+// A notice for each key with a leader.
+fn leaders_of(alloc: Global, states: &[KeyState]) -> Result<Vec<Notice>, AllocError>
+    ensures { IfOk result (λ made. made.items ≡ decided_all (filter_map led states.now)) }
 {
-    let mut notices = Vec::with_capacity(alloc, decisions.len())?;
-    for decision in decisions {
-        notices.push_reserved(Notice::Decided(*decision));
+    let mut notices = Vec::with_capacity(alloc, states.len())?;
+    for state in states {
+        push_notice(&mut notices, &notice_of(state));
     }
     Ok(notices)
+}
+
+// The notice of a key, where it has a leader.
+fn notice_of(state: &KeyState) -> Option<Notice>
+    ensures { result ≡ option_map Decided (led state.now) }
+{
+    match state.leader {
+        Some(leader) => Some(Notice::Decided(Decision {
+            key: state.key,
+            leader,
+        })),
+        None => None,
+    }
+}
+
+// Adds a notice for each floor.
+fn push_floors(notices: &mut Vec<Notice>, floors: &[Key]) -> Result<(), AllocError>
+    ensures { OnOk result (notices.new.items ≡ notices.old.items ++ retired_all floors.now) }
+{
+    for floor in floors {
+        notices.push(Notice::Retired {
+            group: floor.group,
+            floor: floor.term,
+        })?;
+    }
+    Ok(())
 }

@@ -1,7 +1,6 @@
 // What a desk has its core and its outbox do.
 ghost use Rattle.std.specs.Prelude.{◌≡◌, ◌+◌, ◌-◌, ◌^◌, ◌++◌, ◌∷◌, ◌≤◌, ◌<◌, ◌⊎◌, ℕ, List, [], false, Some, None, length, take, drop, IfSome, IfOk, IfErr, OnOk, OnErr};
 ghost use Rattle.std.specs.List.{cons_option, list_any};
-ghost use Rattle.ring_records.specs.declared.notice.Notice.{Notice};
 ghost use Rattle.ring_records.specs.declared.input.Input.{Input};
 ghost use Rattle.ring_records.specs.declared.summary.Summary.{Summary};
 ghost use Rattle.ring_records.specs.Admission.{newest, not_yet};
@@ -10,7 +9,7 @@ ghost use Rattle.ring_records.specs.Snapshot.{IsSound, snapshot_len};
 ghost use Rattle.gated_journal.specs.Batch.{shown as batch_shown, numbered, numbered_with, numbered_by, base_by};
 ghost use Rattle.node_core.specs.Core.{IsNodeOf, Refuses, taking};
 ghost use Rattle.group_commit.specs.Opening.{core_after, IsKnownLawful, IsUnlawful};
-ghost use Rattle.group_commit.specs.Outbox.{brought_after, told_in, Holds};
+ghost use Rattle.group_commit.specs.Outbox.{Holds};
 
 use crate::outbox::Outbox;
 use gated_journal::{Batch, Checkpoint};
@@ -24,11 +23,10 @@ pub(super) fn replay(
     outbox: &mut Outbox,
     inputs: &[Input],
 ) -> Result<(), Refusal>
-    requires { (list : List Notice) × Holds core.old.me outbox.old core.old.known list [] 0 }
+    requires { Holds core.old.me outbox.old core.old.known [] 0 }
     ensures knows { OnOk result (core.new ≡ core_after core.old inputs.now) }
     ensures lawful { OnOk result (IsKnownLawful core.old inputs.now) }
-    ensures holds { OnOk result ((list : List Notice) → Holds core.old.me outbox.old core.old.known list [] 0
-        → Holds core.old.me outbox.new (after core.old.me core.old.known inputs.now) (list ++ told_in (brought_after core.old.me core.old.known inputs.now)) [] 0) }
+    ensures holds { OnOk result (Holds core.old.me outbox.new (after core.old.me core.old.known inputs.now) [] 0) }
     ensures refusal { IfErr result (λ refusal. (refusal ≡ Refusal.OutOfMemory) ⊎ IsUnlawful core.old inputs.now refusal) }
 {
     for i in 0..inputs.len() {
@@ -56,10 +54,10 @@ pub(super) fn accept(
     requires { IfSome input.now (λ x. Refuses core.old x None) }
     ensures inputs { OnOk result (inputs.new.items ≡ inputs.old.items ++ cons_option input.now []) }
     ensures knows { OnOk result (core.new ≡ core_after core.old (cons_option input.now [])) }
-    ensures holds { OnOk result ((s : Summary) (list : List Notice) (l : List Input) (flying : ℕ) → core.old.known ≡ after core.old.me s l → Holds core.old.me outbox.old s list l flying
-        → Holds core.old.me outbox.new s list (l ++ cons_option input.now []) flying) }
+    ensures holds { OnOk result ((s : Summary) (l : List Input) (flying : ℕ) → core.old.known ≡ after core.old.me s l → Holds core.old.me outbox.old s l flying
+        → Holds core.old.me outbox.new s (l ++ cons_option input.now []) flying) }
     ensures err { OnErr result ((inputs.new.items ≡ inputs.old.items) × (core.new ≡ core.old)) }
-    ensures same { OnErr result ((me flying : ℕ) (s : Summary) (list : List Notice) (l : List Input) → Holds me outbox.old s list l flying → Holds me outbox.new s list l flying) }
+    ensures same { OnErr result ((me flying : ℕ) (s : Summary) (l : List Input) → Holds me outbox.old s l flying → Holds me outbox.new s l flying) }
 {
     match input {
         Some(input) => accept_one(core, inputs, outbox, input),
@@ -76,10 +74,10 @@ fn accept_one(
     requires { Refuses core.old input.now None }
     ensures inputs { OnOk result (inputs.new.items ≡ inputs.old.items ++ input.now ∷ []) }
     ensures steps { OnOk result (core.new ≡ record core.old { known = stepped core.old.me core.old.known input.now; room = taking input.now core.old.room }) }
-    ensures holds { OnOk result ((s : Summary) (list : List Notice) (l : List Input) (flying : ℕ) → core.old.known ≡ after core.old.me s l → Holds core.old.me outbox.old s list l flying
-        → Holds core.old.me outbox.new s list (l ++ input.now ∷ []) flying) }
+    ensures holds { OnOk result ((s : Summary) (l : List Input) (flying : ℕ) → core.old.known ≡ after core.old.me s l → Holds core.old.me outbox.old s l flying
+        → Holds core.old.me outbox.new s (l ++ input.now ∷ []) flying) }
     ensures err { OnErr result ((inputs.new.items ≡ inputs.old.items) × (core.new ≡ core.old)) }
-    ensures same { OnErr result ((me flying : ℕ) (s : Summary) (list : List Notice) (l : List Input) → Holds me outbox.old s list l flying → Holds me outbox.new s list l flying) }
+    ensures same { OnErr result ((me flying : ℕ) (s : Summary) (l : List Input) → Holds me outbox.old s l flying → Holds me outbox.new s l flying) }
 {
     inputs.reserve(1)?;
     outbox.accept(core, input)?;
@@ -97,9 +95,9 @@ pub(super) fn prepare(
     requires few { length inputs.now ≤ BATCH_INPUTS }
     requires yet { list_any not_yet inputs.now ≡ false }
     ensures batch { IfOk result (λ batch. batch_shown batch ≡ numbered node first inputs.now) }
-    ensures holds { OnOk result ((me : ℕ) (s : Summary) (list : List Notice) (l : List Input) → Holds me outbox.old s list l 0 → Holds me outbox.new s list l (length inputs.now)) }
+    ensures holds { OnOk result ((me : ℕ) (s : Summary) (l : List Input) → Holds me outbox.old s l 0 → Holds me outbox.new s l (length inputs.now)) }
     ensures refusal { IfErr result (λ refusal. refusal ≡ Refusal.OutOfMemory) }
-    ensures err { OnErr result ((me : ℕ) (s : Summary) (list : List Notice) (l : List Input) → Holds me outbox.old s list l 0 → Holds me outbox.new s list l 0) }
+    ensures err { OnErr result ((me : ℕ) (s : Summary) (l : List Input) → Holds me outbox.old s l 0 → Holds me outbox.new s l 0) }
 {
     if outbox.load(inputs.len() as u64).is_err() {
         return Err(Refusal::OutOfMemory);
@@ -123,10 +121,10 @@ pub(super) fn summarise(
     ensures summary { IfOk result (λ made. base_by made ≡ core.old.known) }
     ensures sound { OnOk result (IsNodeOf core.old.size core.old.me → IsSound core.old.size core.old.known) }
     ensures rebased { OnOk result (core.new ≡ record core.old { room = record { layout = newest; epoch = epoch; taken = snapshot_len newest core.old.known; waits = false } }) }
-    ensures holds { OnOk result ((me : ℕ) (s : Summary) (list : List Notice) (l : List Input) → Holds me outbox.old s list l 0 → Holds me outbox.new s list l (length inputs.now)) }
+    ensures holds { OnOk result ((me : ℕ) (s : Summary) (l : List Input) → Holds me outbox.old s l 0 → Holds me outbox.new s l (length inputs.now)) }
     ensures refusal { IfErr result (λ refusal. refusal ≡ Refusal.OutOfMemory) }
     ensures same { OnErr result (core.new ≡ core.old) }
-    ensures err { OnErr result ((me : ℕ) (s : Summary) (list : List Notice) (l : List Input) → Holds me outbox.old s list l 0 → Holds me outbox.new s list l 0) }
+    ensures err { OnErr result ((me : ℕ) (s : Summary) (l : List Input) → Holds me outbox.old s l 0 → Holds me outbox.new s l 0) }
 {
     let count = inputs.len() as u64;
     if outbox.load(count).is_err() {

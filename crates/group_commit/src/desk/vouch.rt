@@ -89,7 +89,7 @@ fn accepted(question: &Request, reply: &Reply) -> Option<Input>
 }
 
 // The core of a node that knew this and accepted these inputs, whatever room it had.
-fn core_of(
+pub(super) fn core_of(
     alloc: Global,
     node: NodeNo,
     n: u8,

@@ -12,7 +12,7 @@ use Rattle.ring_records.proofs.Counts.{length-filter_map}
 use Rattle.gated_journal.specs.Batch.{kept_in, landed}
 use Rattle.node_core.specs.declared.effects.Effects.{Effects}
 use Rattle.group_commit.specs.Desk.{DeskKept, IsFlying, seen}
-use Rattle.group_commit.specs.Kept.{IsDesk, HoldsFor, area_behind, notices_since, state_with}
+use Rattle.group_commit.specs.Kept.{IsDesk, HoldsFor, area_behind, state_with}
 use Rattle.group_commit.specs.Past.{IsPast}
 use Rattle.group_commit.specs.Outbox.{AreFree, Holds, told_in}
 use Rattle.group_commit.proofs.Checkpoints.{none_pending}
@@ -32,7 +32,6 @@ land-landed-requires c =
         d.node,
         d.n,
         after d.node d.base (take d.durable d.inputs.items),
-        notices_since d.node d.base (take d.durable d.inputs.items),
         drop d.flying d.inputs.items,
         flies d.node d.durable d.flying d.outbox d.base d.inputs.items i.state.counts.durable i.state.counts.flying i.holds,
         free d.node d.n d.durable d.flying d.base d.inputs.items i.state.counts.durable (free_since (member_in d) d.base (launched_base (state_in d)) d.inputs.items i.state.all),
@@ -50,15 +49,10 @@ settled : (c : After-land-landed)
 settled c =
     let d = c.self.inside in
     let i = c.self.invariant in
-    let l = part d.durable d.flying d.inputs.items in
     let rest = drop d.flying d.inputs.items in
     let s = after d.node d.base (take d.durable d.inputs.items) in
-    let list = notices_since d.node d.base (take d.durable d.inputs.items) in
-    let holds : Holds d.node d.outbox s list (l ++ rest) (length l) → AreFree d.node d.n s l → Holds d.node c.land-landed.new.self (after d.node s l) (list ++ c.land-landed.result.notices.items) rest 0 =
-    subst (λ (k : List Input). Holds d.node d.outbox s list (k ++ rest) (length k) → AreFree d.node d.n s k → Holds d.node c.land-landed.new.self (after d.node s k) (list ++ c.land-landed.result.notices.items) rest 0)
-    (flew c) (c.land-landed.ensures.holds d.node d.n s list rest) in
-    lands d.node d.durable d.flying c.land-landed.new.self d.base d.inputs.items c.land-landed.result.notices.items d.outbox.waiting.items i.state.counts.durable i.holds.waiting
-    (c.land-landed.ensures.notices ∙ ap (λ (k : List Input). told_in (take (length k) d.outbox.waiting.items)) (flew c))
+    let holds = subst (λ (k : List Input). Holds d.node d.outbox s (k ++ rest) (length k) → AreFree d.node d.n s k → Holds d.node c.land-landed.new.self (after d.node s k) rest 0) (flew c) (c.land-landed.ensures.holds d.node d.n s rest) in
+    lands d.node d.durable d.flying c.land-landed.new.self d.base d.inputs.items i.state.counts.durable
     (holds (flies d.node d.durable d.flying d.outbox d.base d.inputs.items i.state.counts.durable i.state.counts.flying i.holds) (free d.node d.n d.durable d.flying d.base d.inputs.items i.state.counts.durable (free_since (member_in d) d.base (launched_base (state_in d)) d.inputs.items i.state.all)))
 
 -- the desk then, where this is the area that is in use, and no other is pending

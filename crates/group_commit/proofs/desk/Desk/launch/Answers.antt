@@ -6,7 +6,7 @@ use Rattle.ring_records.specs.Known.{after}
 use Rattle.ring_records.specs.States.{launched_base}
 use Rattle.gated_journal.specs.Batch.{numbered}
 use Rattle.group_commit.specs.Desk.{DeskKept}
-use Rattle.group_commit.specs.Kept.{notices_since, state_with}
+use Rattle.group_commit.specs.Kept.{state_with}
 use Rattle.group_commit.specs.Outbox.{Holds}
 use Rattle.group_commit.specs.Since.{IsLawfulSince}
 use Rattle.group_commit.proofs.Inside.{member_in, area_in, state_in}
@@ -26,7 +26,6 @@ invariant_of-self c =
     let d = c.self.inside in
     let i = c.self.invariant in
     let s = after d.node d.base (take d.durable d.inputs.items) in
-    let list = notices_since d.node d.base (take d.durable d.inputs.items) in
     let waits = drop d.durable d.inputs.items in
     let within : c.min-end.result ≤ length d.inputs.items = search rules in
     let none : d.pending ≡ None = search rules in
@@ -36,7 +35,7 @@ invariant_of-self c =
       sound = i.sound;
       knows = i.knows ∙ core_launched (member_in d) d.base (area_in d) d.inputs.items d.durable d.flying c.min-end.result d.pending none;
       state = known_launched (member_in d) d.base (area_in d) d.inputs.items d.durable d.flying c.min-end.result d.pending none low within i.state;
-      holds = subst (λ k. Holds d.node c.prepare.new.outbox s list waits k) count (c.in-Ok.ensures.holds d.node s list waits (holds_still d.node _ d.outbox _ _ _ i.holds));
+      holds = subst (λ k. Holds d.node c.prepare.new.outbox s waits k) count (c.in-Ok.ensures.holds d.node s waits (holds_still d.node _ d.outbox _ _ i.holds));
       given = i.given;
       answers = i.answers;
     }

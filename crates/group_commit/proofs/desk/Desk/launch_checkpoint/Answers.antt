@@ -10,7 +10,7 @@ use Rattle.ring_records.proofs.States.{idle-none}
 use Rattle.gated_journal.specs.Batch.{base_by}
 use Rattle.node_core.specs.Core.{CoreView}
 use Rattle.group_commit.specs.Desk.{DeskKept, seen}
-use Rattle.group_commit.specs.Kept.{area_behind, notices_since, state_with}
+use Rattle.group_commit.specs.Kept.{area_behind, state_with}
 use Rattle.group_commit.specs.Outbox.{Holds}
 use Rattle.group_commit.specs.Past.{IsPast}
 use Rattle.group_commit.proofs.Checkpoints.{MayLaunch, may_launch, none_pending}
@@ -69,14 +69,13 @@ invariant_of-self c =
     let all : c.len.result ≡ length d.inputs.items = search rules in
     let spells : c.summary_len-length.result ≡ snapshot_len newest (after d.node d.base d.inputs.items) = c.summary_len-length.ensures ∙ ap (λ (v : CoreView). snapshot_len newest v.known) i.knows in
     let s = after d.node d.base (take d.durable d.inputs.items) in
-    let list = notices_since d.node d.base (take d.durable d.inputs.items) in
     let count : length (drop d.durable d.inputs.items) ≡ c.len.result - d.durable = length-drop d.durable d.inputs.items ∙ ap (λ n. n - d.durable) (sym all) in
     record {
       sound = i.sound;
       knows = core_all m d.base (area_in d) d.inputs.items d.durable d.flying c.len.result c.summary_len-length.result d.pending d.core c.summarise.new.core all spells i.knows c.in-Ok.ensures.rebased;
       state = known_all m d.base (area_in d) d.inputs.items d.durable d.flying c.len.result c.summary_len-length.result d.pending none all spells (may a).few (subst (λ k. k ≤ d.capacity) (sym spells) (may a).fits) i.state;
-      holds = subst (λ k. Holds d.node c.summarise.new.outbox s list (drop d.durable d.inputs.items) k) (ap length (waits a) ∙ count)
-          (c.in-Ok.ensures.holds d.node s list (drop d.durable d.inputs.items) (holds_still d.node _ d.outbox s list _ i.holds));
+      holds = subst (λ k. Holds d.node c.summarise.new.outbox s (drop d.durable d.inputs.items) k) (ap length (waits a) ∙ count)
+          (c.in-Ok.ensures.holds d.node s (drop d.durable d.inputs.items) (holds_still d.node _ d.outbox s _ i.holds));
       given = i.given;
       answers = i.answers;
     }

@@ -1,4 +1,4 @@
-use Rattle.std.proofs.Common.{rules, ◌≡◌, ◌⊎◌, List, [], ◌++◌, true, false, length, refl, sym, subst, ◌∙◌, arith}
+use Rattle.std.proofs.Common.{rules, ◌≡◌, ◌⊎◌, List, [], true, false, length, refl, sym, subst, ◌∙◌, arith}
 use Rattle.std.specs.Prelude.{is_ok}
 use Rattle.ring_records.specs.declared.base.Base.{Base}
 use Rattle.ring_records.specs.declared.input.Input.{Input}
@@ -7,11 +7,10 @@ use Rattle.ring_records.specs.Known.{after}
 use Rattle.ring_records.specs.Member.{member}
 use Rattle.node_core.specs.Core.{CoreView}
 use Rattle.gated_journal.specs.Reading.{reading_of_opening}
-use Rattle.ring_records.specs.Notices.{decided_all}
 use Rattle.group_commit.specs.Desk.{core_of, first_base}
 use Rattle.group_commit.specs.Kept.{AreAnswers}
 use Rattle.group_commit.specs.Opening.{opened_core, core_after, IsKnownLawful, IsUnlawful}
-use Rattle.group_commit.specs.Outbox.{brought_after, told_in, leaders_in, Holds}
+use Rattle.group_commit.specs.Outbox.{Holds}
 use Rattle.group_commit.proofs.Landing.{whole_holds}
 use Rattle.group_commit.proofs.Numbers.{below_none}
 use Rattle.group_commit.proofs.Opening.{on_ok}
@@ -27,7 +26,7 @@ restored c = c.in-Ok.ensures ∙ (λ i. record { me = c.args.node; size = c.args
 pub replay-requires : goal.replay-requires
 replay-requires c =
     let first = restored (goal.at.replay-requires c).After-restore-2 in
-    (decided_all (leaders_in c.args.opening.base), subst (λ (core : CoreView). Holds core.me c.in-Ok-restore.outbox core.known (decided_all (leaders_in c.args.opening.base)) [] 0) (sym first) (c.in-Ok-restore.ensures c.args.node))
+    subst (λ (core : CoreView). Holds core.me c.in-Ok-restore.outbox core.known [] 0) (sym first) (c.in-Ok-restore.ensures c.args.node)
 
 pub returns-in-Err-clause-refusal : goal.returns-in-Err-clause-refusal
 returns-in-Err-clause-refusal c =
@@ -50,15 +49,14 @@ invariant_of-result c =
     let began : c.in-Ok.core ≡ opened_core m o.base area = c.in-Ok.ensures ∙ (λ i. record { me = m.node; size = m.n; capacity = m.capacity; known = o.base; room = record { layout = o.layout; epoch = o.epoch; taken = sym (used-first area refl) i; waits = false } }) in
     let replayed : is_ok c.replay.result ≡ true = search rules in
     let count : c.len-count.result ≡ length l = search rules in
-    let holds = subst (λ (p : CoreView × List Input). Holds p.0.me c.in-Ok-restore.outbox p.0.known (decided_all (leaders_in o.base)) [] 0
-    → Holds p.0.me c.replay.new.outbox (after p.0.me p.0.known p.1) (decided_all (leaders_in o.base) ++ told_in (brought_after p.0.me p.0.known p.1)) [] 0)
-    (λ i. (first i, c.deref.ensures.value i)) (on_ok c.replay.result replayed c.replay.ensures.holds (decided_all (leaders_in o.base))) in
+    let holds = subst (λ (p : CoreView × List Input). Holds p.0.me c.replay.new.outbox (after p.0.me p.0.known p.1) [] 0)
+    (λ i. (first i, c.deref.ensures.value i)) (on_ok c.replay.result replayed c.replay.ensures.holds) in
     record {
       sound = c.requires;
       knows = core_opened m o.base area l c.len-count.result c.len-count.result c.replay.new.core refl (on_ok c.replay.result replayed c.replay.ensures.knows ∙ (λ i. core_after (began i) (c.deref.ensures.value i)));
       state = known_opened m o.base area l c.len-count.result c.len-count.result refl c.summary_len-taken.ensures.value (omega arith) (omega (arith, count))
           (subst (λ (p : CoreView × List Input). IsKnownLawful p.0 p.1) (λ i. (began i, c.deref.ensures.value i)) (on_ok c.replay.result replayed c.replay.ensures.lawful));
-      holds = whole_holds m.node c.len-count.result c.replay.new.outbox o.base l count (holds (c.in-Ok-restore.ensures c.args.node));
+      holds = whole_holds m.node c.len-count.result c.replay.new.outbox o.base l count holds;
       given = search (rules, below_none);
       answers = subst (AreAnswers m o.base) (sym c.new.ensures.empty) (answers_none m o.base);
     }

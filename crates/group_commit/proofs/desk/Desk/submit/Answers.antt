@@ -8,7 +8,7 @@ use Rattle.ring_records.specs.States.{NodeState, launched_base, gained_by}
 use Rattle.node_core.specs.Core.{Refuses}
 use Rattle.group_commit.specs.Desk.{DeskKept, IsSubmitted, answered, seen}
 use Rattle.group_commit.specs.declared.desk.Desk.TheInside.{Inside}
-use Rattle.group_commit.specs.Kept.{AreBelow, AreAnswers, HoldsFor, notices_since, state_with}
+use Rattle.group_commit.specs.Kept.{AreBelow, AreAnswers, HoldsFor, state_with}
 use Rattle.group_commit.specs.Outbox.{Holds}
 use Rattle.group_commit.specs.Past.{IsPast, shifted}
 use Rattle.group_commit.specs.Since.{IsKnownState, core_in}
@@ -57,7 +57,7 @@ invariant_of-self-then-is_err-2 c =
       sound = i.sound;
       knows = same.1 ∙ (i.knows ∙ ap (λ l. core_in m d.base (state_for d l)) (sym same.0));
       state = subst (λ l. IsKnownState m d.base (state_for d l)) (sym same.0) i.state;
-      holds = subst (λ (l : List Input). HoldsFor d.node c.accept.new.outbox d.base (take d.durable l) (drop d.durable l) (d.flying - d.durable)) (sym same.0) (on_err c.accept.result failed c.accept.ensures.same d.node _ _ _ _ i.holds);
+      holds = subst (λ (l : List Input). HoldsFor d.node c.accept.new.outbox d.base (take d.durable l) (drop d.durable l) (d.flying - d.durable)) (sym same.0) (on_err c.accept.result failed c.accept.ensures.same d.node _ _ _ i.holds);
       given = subst (λ (ts : List (ℕ × Answered)). AreBelow c.self.inside.issued ts) tickets i.given;
       answers = subst (λ (ts : List (ℕ × Answered)). AreAnswers m d.base ts) tickets i.answers;
     }
@@ -102,14 +102,13 @@ holds_more c accepted =
     let i = c.self.invariant in
     let me : d.core.me ≡ d.node = λ k. (i.knows k).me in
     let s = after d.node d.base (take d.durable d.inputs.items) in
-    let list = notices_since d.node d.base (take d.durable d.inputs.items) in
     let waits = drop d.durable d.inputs.items in
     let more = cons_option c.judge.result.1 [] in
     let within : d.durable ≤ length d.inputs.items = (let a = i.state.counts.durable in let b = i.state.counts.flying in omega arith) in
-    let holds = on_ok c.accept.result accepted c.accept.ensures.holds s list waits (d.flying - d.durable) (subst (λ n. d.core.known ≡ after n s waits) (sym me) (knows_front (member_in d) d.base (state_in d) d.core d.durable i.knows)) in
+    let holds = on_ok c.accept.result accepted c.accept.ensures.holds s waits (d.flying - d.durable) (subst (λ n. d.core.known ≡ after n s waits) (sym me) (knows_front (member_in d) d.base (state_in d) d.core d.durable i.knows)) in
     subst (λ (l : List Input). HoldsFor d.node c.accept.new.outbox d.base (take d.durable l) (drop d.durable l) (d.flying - d.durable)) (sym (on_ok c.accept.result accepted c.accept.ensures.inputs))
     (waits_more d.node (d.flying - d.durable) c.accept.new.outbox d.base d.inputs.items more d.durable within
-    (subst (λ n. Holds n d.outbox s list waits (d.flying - d.durable) → Holds n c.accept.new.outbox s list (waits ++ more) (d.flying - d.durable)) me holds i.holds))
+    (subst (λ n. Holds n d.outbox s waits (d.flying - d.durable) → Holds n c.accept.new.outbox s (waits ++ more) (d.flying - d.durable)) me holds i.holds))
 
 pub invariant_of-self-2 : goal.invariant_of-self-2
 invariant_of-self-2 c =

@@ -1,5 +1,4 @@
 use Rattle.std.proofs.Common.{rules, ◌≡◌, length, ℕ, List, true, is_ok}
-use Rattle.ring_records.specs.declared.notice.Notice.{Notice}
 use Rattle.ring_records.specs.declared.input.Input.{Input}
 use Rattle.ring_records.specs.declared.summary.Summary.{Summary}
 use Rattle.group_commit.specs.Outbox.{Holds}
@@ -11,6 +10,6 @@ pub returns-clause-err : goal.returns-clause-err
 returns-clause-err c =
     let loaded : is_ok c.load.result ≡ true = search rules in
     let holds = on_ok c.load.result loaded c.load.ensures.holds in
-    let still : (me : ℕ) (s : Summary) (list : List Notice) (l : List Input) → Holds me c.args.outbox.now s list l 0 → Holds me c.load.new.self s list l 0 =
-    λ me s list l none. holds_still me (length c.args.inputs.now) c.load.new.self s list l (holds me s list l none) in
+    let still : (me : ℕ) (s : Summary) (l : List Input) → Holds me c.args.outbox.now s l 0 → Holds me c.load.new.self s l 0 =
+    λ me s l none. holds_still me (length c.args.inputs.now) c.load.new.self s l (holds me s l none) in
     when_err c.new.result still

@@ -1,8 +1,6 @@
-use Rattle.std.proofs.Common.{rules, ◌≡◌, ◌++◌, inr, List, [], ◌≤◌, true, false, is_err, is_ok, length, None, Some, refl, sym, subst, ap, ◌∙◌, append-nil}
+use Rattle.std.proofs.Common.{rules, ◌≡◌, inr, [], ◌≤◌, true, false, is_err, is_ok, length, None, Some, refl, sym, subst, ap, ◌∙◌}
 use Rattle.std.proofs.lemmas.List.{take_all}
 use Rattle.std.proofs.lemmas.Option.{slice_get_read}
-use Rattle.ring_records.specs.declared.notice.Notice.{Notice}
-use Rattle.ring_records.specs.declared.input.Input.{Input}
 use Rattle.ring_records.specs.declared.summary.Summary.{Summary}
 use Rattle.ring_records.specs.Known.{Objects, stepped, after}
 use Rattle.ring_records.specs.Lists.{EachAfter}
@@ -10,14 +8,13 @@ use Rattle.ring_records.proofs.LookBack.{IsItem}
 use Rattle.node_core.specs.Brought.{brought}
 use Rattle.node_core.specs.Core.{CoreView, Refuses, taking}
 use Rattle.group_commit.specs.Opening.{core_after, IsKnownLawful}
-use Rattle.group_commit.specs.Outbox.{brought_after, told_in, Holds}
+use Rattle.group_commit.specs.Outbox.{Holds}
 use Rattle.group_commit.proofs.Opening.{objects_none, core-none, core-item, lawful-item, why, why_not, on_ok}
-use Rattle.group_commit.proofs.Settling.{told-item}
 use Rattle.group_commit.proofs.desk.parts.replay.Goals as goal
 
 pub loop-i-init : goal.loop-i-init
-unfolding EachAfter brought_after
-loop-i-init c = (core-none c.args.core.now, tt, λ list holds. subst (λ ds. Holds c.args.core.now.me c.args.outbox.now c.args.core.now.known ds [] 0) (sym (append-nil list)) holds)
+unfolding EachAfter
+loop-i-init c = (core-none c.args.core.now, tt, c.requires)
 
 pub returns-then-is_err-clause-refusal : goal.returns-then-is_err-clause-refusal
 returns-then-is_err-clause-refusal c =
@@ -52,8 +49,7 @@ add-requires c =
         first.me,
         first.size,
         c.loop-i.core.known,
-        _,
-        c.loop-i.invariant.2 c.requires.0 c.requires.1,
+        c.loop-i.invariant.2,
         subst (λ n. Objects n c.loop-i.core.known c.index-inputs-i.result None) (λ i. (is i).size) (objects_none c.loop-i.core c.index-inputs-i.result free),
         c.in-Ok.ensures.brings ∙ ap (λ me. brought me c.loop-i.core.known c.index-inputs-i.result) (λ i. (is i).me),
       );
@@ -72,13 +68,8 @@ loop-i-preserved c =
     let added : is_ok c.add.result ≡ true = search rules in (
       core-item first c.loop-i.core c.apply.new.self c.args.inputs.now c.loop-i.i x is here steps,
       lawful-item first c.loop-i.core c.args.inputs.now c.loop-i.i x is here c.loop-i.invariant.1 free,
-      λ list holds.
-          subst (λ (p : Summary × List Notice). Holds first.me c.add.new.self p.0 p.1 [] 0)
-          (λ i. (
-            (ap (λ me. stepped me c.loop-i.core.known x) (λ j. (sym is j).me) ∙ (λ j. (sym steps j).known)) i,
-            told-item first.me first.known c.args.inputs.now c.loop-i.i x c.in-Ok.effects list here (brings ∙ ap (λ s. brought first.me s x) (λ j. (is j).known)) i,
-          ))
-          (on_ok c.add.result added c.add.ensures.holds first.me first.size c.loop-i.core.known _ (c.loop-i.invariant.2 list holds)
+      subst (λ (t : Summary). Holds first.me c.add.new.self t [] 0) (ap (λ me. stepped me c.loop-i.core.known x) (λ j. (sym is j).me) ∙ (λ j. (sym steps j).known))
+          (on_ok c.add.result added c.add.ensures.holds first.me first.size c.loop-i.core.known c.loop-i.invariant.2
           (subst (λ n. Objects n c.loop-i.core.known x None) (λ i. (is i).size) (objects_none c.loop-i.core x free)) brings),
     )
 
@@ -90,9 +81,6 @@ returns c =
     record {
       knows = c.loop-i.invariant.0 ∙ ap (core_after first) all;
       lawful = subst (IsKnownLawful first) all c.loop-i.invariant.1;
-      holds = λ list holds.
-          subst (λ (p : Summary × List Input). Holds first.me c.loop-i.outbox p.0 (list ++ told_in (brought_after first.me first.known p.1)) [] 0)
-          (λ i. (((λ j. (c.loop-i.invariant.0 j).known) ∙ ap (after first.me first.known) all) i, all i))
-          (c.loop-i.invariant.2 list holds);
+      holds = subst (λ (t : Summary). Holds first.me c.loop-i.outbox t [] 0) ((λ j. (c.loop-i.invariant.0 j).known) ∙ ap (after first.me first.known) all) c.loop-i.invariant.2;
       refusal = tt;
     }

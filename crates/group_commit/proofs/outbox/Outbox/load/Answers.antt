@@ -1,5 +1,4 @@
 use Rattle.std.proofs.Common.{rules, ℕ, List, refl}
-use Rattle.ring_records.specs.declared.notice.Notice.{Notice}
 use Rattle.ring_records.specs.declared.input.Input.{Input}
 use Rattle.ring_records.specs.declared.summary.Summary.{Summary}
 use Rattle.group_commit.specs.Outbox.{Holds}
@@ -9,9 +8,9 @@ use Rattle.group_commit.proofs.outbox.Outbox.load.Goals as goal
 use Rattle.group_commit.proofs.outbox.Outbox.load.Goals.{After-reserve}
 
 -- with more room it holds what it held
-roomier : (c : After-reserve) (me : ℕ) (s : Summary) (list : List Notice) (l : List Input) → Holds me c.args.self.now s list l 0
-    → Holds me (record c.args.self.now { released = c.reserve.new.self }) s list l 0
-roomier c me s list l holds = holds_loaded me 0 0 c.args.self.now (record c.args.self.now { released = c.reserve.new.self }) s list l holds refl (c.reserve.ensures.keeps s list holds.released) (search rules) holds.blank idle idle
+roomier : (c : After-reserve) (me : ℕ) (s : Summary) (l : List Input) → Holds me c.args.self.now s l 0
+    → Holds me (record c.args.self.now { released = c.reserve.new.self }) s l 0
+roomier c me s l holds = holds_loaded me 0 0 c.args.self.now (record c.args.self.now { released = c.reserve.new.self }) s l holds refl (c.reserve.ensures.keeps s holds.released) (search rules) holds.blank idle idle
 
 pub returns-in_err-reserve-clause-err : goal.returns-in_err-reserve-clause-err
 returns-in_err-reserve-clause-err c = when_err c.from_residual.result (roomier (goal.at.returns-in_err-reserve-clause-err c).After-reserve)
@@ -20,5 +19,5 @@ pub returns-in_err-self-clause-err : goal.returns-in_err-self-clause-err
 returns-in_err-self-clause-err c = when_err c.from_residual-in_err-self.result (roomier (goal.at.returns-in_err-self-clause-err c).After-reserve)
 
 pub returns-clause-holds : goal.returns-clause-holds
-returns-clause-holds c = λ me s list l holds.
-    holds_loaded me 0 c.args.count c.args.self.now _ s list l holds refl (c.reserve.ensures.keeps s list holds.released) (search rules) (search rules) (λ some. c.in_ok-self.ensures.room) (λ some. c.in_ok-self.ensures.count)
+returns-clause-holds c = λ me s l holds.
+    holds_loaded me 0 c.args.count c.args.self.now _ s l holds refl (c.reserve.ensures.keeps s holds.released) (search rules) (search rules) (λ some. c.in_ok-self.ensures.room) (λ some. c.in_ok-self.ensures.count)

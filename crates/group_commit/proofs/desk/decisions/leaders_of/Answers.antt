@@ -3,9 +3,9 @@ use Rattle.std.specs.List.{cons_option, filter_map}
 use Rattle.ring_records.specs.Notices.{decided_all}
 use Rattle.ring_records.proofs.Lists.{filter_map-push}
 use Rattle.ring_records.proofs.LookBack.{IsItem, take-item}
-use Rattle.group_commit.specs.Outbox.{led}
+use Rattle.group_commit.specs.Content.{led}
 use Rattle.group_commit.proofs.Leaders.{all-push}
-use Rattle.group_commit.proofs.released.leaders_of.Goals as goal
+use Rattle.group_commit.proofs.desk.decisions.leaders_of.Goals as goal
 
 pub loop-state-preserved : goal.loop-state-preserved
 loop-state-preserved c =
