@@ -12,6 +12,7 @@ use Rattle.ring_records.specs.declared.decision.Decision.{Decision}
 use Rattle.ring_records.specs.declared.input.Input.{Input}
 use Rattle.ring_records.specs.declared.key.Key.{Key}
 use Rattle.ring_records.specs.declared.key_state.KeyState.{KeyState}
+use Rattle.ring_records.specs.declared.notice.Notice.{Notice}
 use Rattle.ring_records.specs.declared.notice.Notice.TheVariants.{Decided, Retired}
 use Rattle.ring_records.specs.declared.summary.Summary.{Summary}
 use Rattle.ring_records.specs.Floors.{floor_keys}
@@ -20,14 +21,14 @@ use Rattle.ring_records.specs.KeyStates.{by_state}
 use Rattle.ring_records.specs.Leader.{leader}
 use Rattle.ring_records.specs.Notices.{decided_all}
 use Rattle.ring_records.specs.Release.{by_key, AreLeaders}
-use Rattle.ring_records.specs.Summary.{state_of, key_states, summary}
+use Rattle.ring_records.specs.Summary.{state_of, key_states, summary, floors_in}
 use Rattle.ring_records.proofs.Leader.{Contains-here, Contains-later, Contains-nil, Contains-cons_cases}
 use Rattle.ring_records.proofs.Lists.{none≢some}
 use Rattle.ring_records.proofs.Compare.{keys_total, keys_exact}
 use Rattle.ring_records.proofs.Entries.{each-entry}
 use Rattle.ring_records.proofs.StatesInOrder.{IsOwn, sorted-own}
 use Rattle.ring_records.proofs.Summaries.{get-states, is_known, unknown-leader}
-use Rattle.group_commit.specs.Content.{led, leaders_in, retired_all, AreKnown}
+use Rattle.group_commit.specs.Content.{led, leaders_in, retired_all, content_of, IsContent}
 
 -- ---- the states of a history
 
@@ -119,8 +120,14 @@ leaders-known me h = record {
     was key c leads false touch = none≢some c (sym (unknown-leader me h key touch) ∙ leads)
 
 -- what a summary knows is what its history knows
-pub content-known : (me : ℕ) (s : Summary) (h : List Input) → s ≡ summary me h → AreKnown me h (leaders_in s) (floor_keys s.floors)
-content-known me s h knows = subst (λ (t : Summary). AreKnown me h (leaders_in t) (floor_keys t.floors)) (sym knows) (record { lead = leaders-known me h; stand = refl })
+pub content-known : (me : ℕ) (s : Summary) (h : List Input) (list : List Notice) → s ≡ summary me h → list ≡ content_of (leaders_in s) (floor_keys s.floors) → IsContent me h list
+content-known me s h list knows is = record {
+  leaders = leaders_in (summary me h);
+  floors = floor_keys (floors_in h);
+  is = is ∙ ap (λ (t : Summary). content_of (leaders_in t) (floor_keys t.floors)) knows;
+  lead = leaders-known me h;
+  stand = refl;
+}
 
 -- ---- their notices
 

@@ -1,7 +1,7 @@
 -- A desk's state since its opening, by what is known: what happens to it, and that it fits.
-use Rattle.std.proofs.Common.{◌≡◌, ℕ, zero, suc, Bool, ◌+◌, ◌<◌, ◌≤◌, List, [], ◌∷◌, ◌++◌, ◌||◌, false, append-nil, length, take, drop, Option, Some, None, refl, sym, ap, ◌∙◌, subst, inl, inr, arith}
+use Rattle.std.proofs.Common.{◌≡◌, ℕ, zero, suc, Bool, ◌+◌, ◌<◌, ◌≤◌, List, [], ◌∷◌, ◌++◌, ◌||◌, false, append-nil, length, take, drop, Option, Some, None, refl, sym, ap, ◌∙◌, subst, arith}
 use Rattle.std.specs.FinMap as map
-use Rattle.std.specs.List.{Contains, cons_option, list_any, sum_by}
+use Rattle.std.specs.List.{cons_option, list_any, sum_by}
 use Rattle.std.specs.Prelude.{unwrap_or}
 use Rattle.std.proofs.lemmas.Bool.{or_parts}
 use Rattle.std.proofs.lemmas.List.{length-append, length-take, length-take-le, take_all, drop_all, take-take, take-append-drop, take-append-le, drop-append-le}
@@ -10,11 +10,9 @@ use Rattle.std.proofs.lemmas.List.Sums.{fold-append, sum_by-append}
 use Rattle.std.proofs.lemmas.Option.{same_Some}
 use Rattle.ring_records.specs.declared.base.Base.{Base}
 use Rattle.ring_records.specs.declared.input.Input.{Input}
-use Rattle.ring_records.specs.declared.input.Input.TheVariants.{Stand, Take, Acked, Retire}
 use Rattle.ring_records.specs.declared.room.Room.{Room}
 use Rattle.ring_records.specs.declared.summary.Summary.{Summary}
 use Rattle.ring_records.specs.Admission.{area_bytes, costs_of, is_retire, must_renew, newest, no_room, not_yet, room_of, snapshot_len, state_len, used, HasRoom}
-use Rattle.ring_records.specs.History.{floor_for}
 use Rattle.ring_records.specs.Known.{stepped, after}
 use Rattle.ring_records.specs.Lists.{EachAfter}
 use Rattle.ring_records.specs.Member.{Member}
@@ -22,7 +20,6 @@ use Rattle.ring_records.specs.States.{NodeState, launched_base, durable_in, flow
 use Rattle.ring_records.proofs.Admission.{or_else-none, none_renews, room-had}
 use Rattle.ring_records.proofs.Counts.{used-more}
 use Rattle.ring_records.proofs.Growth.{EachAfter-take}
-use Rattle.ring_records.proofs.Leader.{Contains-cons_cases, Contains-nil}
 use Rattle.ring_records.proofs.Lists.{along, EachAfter-push, none≢some}
 use Rattle.ring_records.proofs.Snapshots.{length-parts}
 use Rattle.ring_records.proofs.States.{next-few}
@@ -276,26 +273,6 @@ rest_none p (suc k) (x ∷ l) none = rest_none p k l (or_parts (p x) (list_any p
 
 pub none_early : (m : Member) (opening : Summary) (b : Base) (start count : ℕ) (l : List Input) → IsLawfulSince m opening b l → list_any not_yet (take count (drop start l)) ≡ false
 none_early m opening b start count l lawful = first_none not_yet count (drop start l) (rest_none not_yet start l (late m opening b [] l lawful))
-
--- so none of them gives a floor
-pub no_floor : (x : Input) (group : List ℕ) → not_yet x ≡ false → floor_for group x ≡ None
-unfolding not_yet floor_for
-no_floor (Stand key bid) group yet = refl
-no_floor (Take msg_no msg) group yet = refl
-no_floor (Acked upto) group yet = refl
-no_floor (Retire g floor) group yet = absurd cc
-
-pub no_floors : (m : Member) (opening : Summary) (b : Base) (k : ℕ) (l : List Input) → IsLawfulSince m opening b l → (x : Input) (group : List ℕ) → Contains (take k l) x → floor_for group x ≡ None
-no_floors m opening b k l lawful x group has = no_floor x group (list_any_at not_yet (take k l) (first_none not_yet k l (late m opening b [] l lawful)) x has)
-  where
-    list_any_at : (p : Input → Bool) (l : List Input) → list_any p l ≡ false → (x : Input) → Contains l x → p x ≡ false
-    list_any_at p [] none x has = Contains-nil x has
-    list_any_at p (y ∷ l) none x has =
-        let parts = or_parts (p y) (list_any p l) none in
-        elim (Contains-cons_cases y l x has) [
-          | inl same ↦ subst (λ z. p z ≡ false) same parts.0
-          | inr later ↦ list_any_at p l parts.1 x later
-        ]
 
 -- what stands behind the base fits
 pub all_fit : (m : Member) (opening : Summary) (base : Base) (l : List Input) → IsLawfulSince m opening base l → base.inputs < length l → used base l ≤ m.capacity

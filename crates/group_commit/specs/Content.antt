@@ -31,7 +31,11 @@ retired_all floors = map (λ (floor : Key). Retired floor.group floor.term) floo
 abbrev pub content_of : List Decision → List Key → List Notice
 content_of leaders floors = decided_all leaders ++ retired_all floors
 
--- They are what node me knows by h: each key with a leader, in order of key, and each floor, in order of group.
-pub record AreKnown (me : ℕ) (h : List Input) (leaders : List Decision) (floors : List Key) : Type 0 where
+-- The list has what node me knows by h: a notice for each key with a leader, in order of key, and then one for each floor, in
+-- order of group.
+pub record IsContent (me : ℕ) (h : List Input) (list : List Notice) : Type 0 where
+  pub leaders : List Decision
+  pub floors : List Key
+  pub is : list ≡ content_of leaders floors
   pub lead : AreLeaders me h leaders
   pub stand : floors ≡ floor_keys (floors_in h)

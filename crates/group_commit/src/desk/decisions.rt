@@ -2,14 +2,12 @@
 ghost use Rattle.std.specs.Prelude.{◌≡◌, ◌++◌, List, IfOk, OnOk};
 ghost use Rattle.std.specs.List.{filter_map};
 ghost use Rattle.std.specs.Option.{option_map};
-ghost use Rattle.ring_records.specs.declared.decision.Decision.{Decision};
 ghost use Rattle.ring_records.specs.declared.input.Input.{Input};
-ghost use Rattle.ring_records.specs.declared.key.Key.{Key};
 ghost use Rattle.ring_records.specs.declared.notice.Notice.TheVariants.{Decided};
 ghost use Rattle.ring_records.specs.Known.{after};
 ghost use Rattle.ring_records.specs.Notices.{decided_all};
 ghost use Rattle.ring_records.specs.States.{durable_in};
-ghost use Rattle.group_commit.specs.Content.{content_of, led, retired_all, AreKnown};
+ghost use Rattle.group_commit.specs.Content.{led, retired_all, IsContent};
 ghost use Rattle.group_commit.specs.Desk.{seen};
 ghost use Rattle.group_commit.specs.Past.{IsPast};
 
@@ -24,8 +22,7 @@ impl Desk {
     /// each floor, in order of group. Where inputs wait it takes the durable ones since its opening again, k of them in
     /// k log k steps.
     pub fn decisions(&self) -> Result<Vec<Notice>, AllocError>
-        ensures { IfOk result (λ told. (leaders : List Decision) × (floors : List Key) × (told.items ≡ content_of leaders floors)
-            × ((past : List Input) → IsPast self.now.view.member self.now.opening past → AreKnown self.now.view.member.node (durable_in (seen past self.now).state) leaders floors)) }
+        ensures { IfOk result (λ told. (past : List Input) → IsPast self.now.view.member self.now.opening past → IsContent self.now.view.member.node (durable_in (seen past self.now).state) told.items) }
     {
         let alloc = *self.inputs.allocator();
         let known = self.durable_summary(alloc)?;

@@ -6,7 +6,7 @@ use Rattle.ring_records.specs.Floors.{floor_keys}
 use Rattle.ring_records.specs.Known.{after}
 use Rattle.ring_records.specs.Notices.{decided_all}
 use Rattle.ring_records.specs.States.{durable_in}
-use Rattle.group_commit.specs.Content.{content_of, led, leaders_in, retired_all, AreKnown}
+use Rattle.group_commit.specs.Content.{content_of, led, leaders_in, retired_all, IsContent}
 use Rattle.group_commit.specs.Desk.{DeskKept, seen}
 use Rattle.group_commit.specs.Past.{IsPast, shifted}
 use Rattle.group_commit.proofs.Inside.{member_in, state_in}
@@ -21,6 +21,5 @@ returns c =
     let knows : s ≡ after d.node d.base (durable_in (state_in d)) = c.in_ok-known.ensures ∙ ap (λ (v : DeskKept). after v.view.member.node v.opening (durable_in v.view.state)) (sym c.self.view_is) in
     let listed : c.push_floors.new.notices.items ≡ content_of (leaders_in s) (floor_keys s.floors) = c.in_ok-push_floors.ensures
     ∙ (λ i. (c.in_ok-notices.ensures ∙ ap (λ (l : List KeyState). decided_all (filter_map led l)) (sym c.as_slice.ensures.values)) i ++ retired_all (sym c.as_slice-2.ensures.values i)) in
-    let known = subst (λ (v : DeskKept). (past : List Input) → IsPast v.view.member v.opening past → AreKnown v.view.member.node (durable_in (seen past v).state) (leaders_in s) (floor_keys s.floors)) c.self.view_is (λ past is.
-    content-known d.node s (durable_in (shifted past (state_in d))) (knows ∙ durable_knows (member_in d) d.base past (state_in d) is c.self.invariant.state)) in
-    (leaders_in s, floor_keys s.floors, listed, known)
+    subst (λ (v : DeskKept). (past : List Input) → IsPast v.view.member v.opening past → IsContent v.view.member.node (durable_in (seen past v).state) c.push_floors.new.notices.items) c.self.view_is (λ past is.
+    content-known d.node s (durable_in (shifted past (state_in d))) _ (knows ∙ durable_knows (member_in d) d.base past (state_in d) is c.self.invariant.state) listed)
