@@ -1,4 +1,5 @@
 pub mod Commands
+pub mod Contents
 pub mod Keys
 pub mod Next
 pub mod Restarted

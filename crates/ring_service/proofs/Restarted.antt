@@ -1,5 +1,5 @@
 -- What a board shows that is made of a longer history.
-use Rattle.std.proofs.Common.{ℕ, ◌≡◌, ◌⊎◌, ◌<◌, ◌≤◌, Bool, true, false, List, ◌++◌, Option, Some, None, refl, sym, ap, ◌∙◌, subst, inl, inr, arith}
+use Rattle.std.proofs.Common.{ℕ, ◌≡◌, ◌⊎◌, ◌<◌, ◌≤◌, Bool, true, false, List, [], ◌∷◌, ◌++◌, Option, Some, None, refl, sym, ap, ◌∙◌, subst, inl, inr, arith, append-nil, append_assoc}
 use Rattle.std.specs.List.{Contains}
 use Rattle.std.proofs.lemmas.Bool.{cases_lt, ltb-true}
 use Rattle.std.proofs.lemmas.Option.{same_Some}
@@ -7,15 +7,22 @@ use Rattle.ring_records.specs.declared.candidate.Candidate.{Candidate}
 use Rattle.ring_records.specs.declared.decision.Decision.{Decision}
 use Rattle.ring_records.specs.declared.input.Input.{Input}
 use Rattle.ring_records.specs.declared.key.Key.{Key}
+use Rattle.ring_records.specs.declared.notice.Notice.{Notice}
+use Rattle.ring_records.specs.declared.notice.Notice.TheVariants.{Decided}
 use Rattle.ring_records.specs.History.{floor, is_retired}
-use Rattle.ring_records.specs.Notices.{decided_all, leader_in, leads_in, IsNotBelow}
+use Rattle.ring_records.specs.Admission.{IsAllowed}
+use Rattle.ring_records.specs.Lists.{EachAfter}
+use Rattle.ring_records.specs.Notices.{floor_in, leader_in, leads_in, IsNotBelow}
 use Rattle.ring_records.specs.Leader.{IsLatest, first_leader, latest, leader, term_of}
-use Rattle.ring_records.proofs.DecisionNotices.{leaders_content}
-use Rattle.ring_records.proofs.FloorsRise.{floor-at_most}
-use Rattle.ring_records.proofs.Growth.{first_leader-kept}
+use Rattle.ring_records.proofs.FloorsRise.{floor-at_most, floor-rises}
+use Rattle.ring_records.proofs.Growth.{first_leader-kept, EachAfter-front}
 use Rattle.ring_records.proofs.History.{if_live-same, if_live-some}
 use Rattle.ring_records.proofs.Latest.{latest_is, latest_same, one_latest}
 use Rattle.ring_records.proofs.Lists.{none≢some}
+use Rattle.ring_records.proofs.Told.{Tells, tells-leader}
+use Rattle.group_commit.specs.Content.{IsContent}
+use Rattle.group_commit.proofs.Opening.{EachAfter-behind}
+use Rattle.ring_service.proofs.Contents.{content-told, told-leads, leads-told}
 use Rattle.ring_service.specs.Restarts.{AreLater, UnlessRetired}
 
 -- a leader stays, unless its key is retired
@@ -27,17 +34,45 @@ leader_stays me h more key c e = go (is_retired (h ++ more) key) refl
     go true gone = inr gone
     go false live = inl (if_live-same (h ++ more) key (first_leader me (h ++ more) key) live ∙ first_leader-kept me h more key c (if_live-some h key (first_leader me h key) c e).1)
 
-pub decision_stays : (me n : ℕ) (h more : List Input) (list longer : List Decision) (d : Decision) → AreLater me n h more list longer → Contains list d
-    → UnlessRetired (h ++ more) d.key (Contains longer d)
-decision_stays me n h more list longer d are has = elim (leader_stays me h more d.key d.leader (are.before.each d has)) [
-  | inl leads ↦ inl (are.later.all d.key d.leader leads)
+pub decision_stays : (me n : ℕ) (h more : List Input) (list longer : List Notice) (d : Decision) → AreLater me n h more list longer → Contains list (Decided d)
+    → UnlessRetired (h ++ more) d.key (Contains longer (Decided d))
+decision_stays me n h more list longer d are has = elim (leader_stays me h more d.key d.leader (told-leads me h list d are.before has)) [
+  | inl leads ↦ inl (leads-told me (h ++ more) longer d are.later leads)
   | inr gone ↦ inr gone
 ]
 
-pub named_stays : (me n : ℕ) (h more : List Input) (list longer : List Decision) (key : Key) (c : Candidate) → AreLater me n h more list longer → leader_in (decided_all list) key ≡ Some c
-    → UnlessRetired (h ++ more) key (leader_in (decided_all longer) key ≡ Some c)
-named_stays me n h more list longer key c are e = elim (leader_stays me h more key c (sym (leaders_content me h list are.before key) ∙ e)) [
-  | inl leads ↦ inl (leaders_content me (h ++ more) longer are.later key ∙ leads)
+-- what is told before, and later
+tells_before : (me n : ℕ) (h more : List Input) (list longer : List Notice) → AreLater me n h more list longer → Tells me h list
+tells_before me n h more list longer are = content-told me n h list (EachAfter-front (IsAllowed me n) [] h more are.allowed) are.before
+
+tells_later : (me n : ℕ) (h more : List Input) (list longer : List Notice) → AreLater me n h more list longer → Tells me (h ++ more) longer
+tells_later me n h more list longer are = content-told me n (h ++ more) longer are.allowed are.later
+
+pub says_all : (me n : ℕ) (h : List Input) (list : List Notice) → EachAfter (IsAllowed me n) [] h → IsContent me h list
+    → ((key : Key) → leader_in list key ≡ leader me h key) × ((group : List ℕ) → floor_in list group ≡ floor h group)
+says_all me n h list allowed content = let tells = content-told me n h list allowed content in (tells-leader me h list tells, tells.floors)
+
+-- floors rise with more inputs
+floors_more : (me n : ℕ) (h more : List Input) → EachAfter (IsAllowed me n) h more → (group : List ℕ) → floor h group ≤ floor (h ++ more) group
+unfolding EachAfter
+floors_more me n h [] allowed group = let same = ap (λ g. floor g group) (append-nil h) in omega (arith, same)
+floors_more me n h (x ∷ more) allowed group =
+    let one = floor-rises me n h x allowed.0 group in
+    let rest = floors_more me n (h ++ x ∷ []) more allowed.1 group in
+    let same = ap (λ g. floor g group) (append_assoc h (x ∷ []) more) in
+    omega (arith, one, rest, same)
+
+pub floor_stays : (me n : ℕ) (h more : List Input) (list longer : List Notice) (group : List ℕ) → AreLater me n h more list longer → floor_in list group ≤ floor_in longer group
+floor_stays me n h more list longer group are =
+    let was = (tells_before me n h more list longer are).floors group in
+    let now = (tells_later me n h more list longer are).floors group in
+    let rises = floors_more me n h more (EachAfter-behind (IsAllowed me n) [] h more are.allowed) group in
+    omega (arith, was, now, rises)
+
+pub named_stays : (me n : ℕ) (h more : List Input) (list longer : List Notice) (key : Key) (c : Candidate) → AreLater me n h more list longer → leader_in list key ≡ Some c
+    → UnlessRetired (h ++ more) key (leader_in longer key ≡ Some c)
+named_stays me n h more list longer key c are e = elim (leader_stays me h more key c (sym (tells-leader me h list (tells_before me n h more list longer are) key) ∙ e)) [
+  | inl leads ↦ inl (tells-leader me (h ++ more) longer (tells_later me n h more list longer are) key ∙ leads)
   | inr gone ↦ inr gone
 ]
 
@@ -64,22 +99,22 @@ latest_stays was now (Some x) (Some y) m n kept = elim (kept x.0 x.1 m.0) [
 ]
 
 -- what is retired is below the latest term
-retired_below : (me n : ℕ) (h more : List Input) (list longer : List Decision) (group : List ℕ) (b : Option (ℕ × Candidate)) → AreLater me n h more list longer
-    → IsLatest (leads_in (decided_all longer) group) b → (term : ℕ) → is_retired (h ++ more) (record { group = group; term = term }) ≡ true → term < term_of b
+retired_below : (me n : ℕ) (h more : List Input) (list longer : List Notice) (group : List ℕ) (b : Option (ℕ × Candidate)) → AreLater me n h more list longer
+    → IsLatest (leads_in longer group) b → (term : ℕ) → is_retired (h ++ more) (record { group = group; term = term }) ≡ true → term < term_of b
 unfolding is_retired
 retired_below me n h more list longer group b are is term gone =
     let whole = h ++ more in
     let leads : ℕ → Option Candidate = λ t. leader me whole (record { group = group; term = t }) in
     let same : b ≡ latest me whole group =
-    one_latest leads b (latest me whole group) (latest_same (leads_in (decided_all longer) group) leads (λ t. sym (leaders_content me whole longer are.later (record { group = group; term = t }))) b is) (latest_is me whole group) in
+    one_latest leads b (latest me whole group) (latest_same (leads_in longer group) leads (λ t. sym (tells-leader me whole longer (tells_later me n h more list longer are) (record { group = group; term = t }))) b is) (latest_is me whole group) in
     let below : term < floor whole group = ltb-true term (floor whole group) gone in
     let most = floor-at_most me n whole are.allowed group in
     subst (λ o. term < term_of o) (sym same) (omega (arith, below, most))
 
-pub never_down : (me n : ℕ) (h more : List Input) (list longer : List Decision) (group : List ℕ) (a b : Option (ℕ × Candidate)) → AreLater me n h more list longer
-    → IsLatest (leads_in (decided_all list) group) a → IsLatest (leads_in (decided_all longer) group) b → IsNotBelow a b
+pub never_down : (me n : ℕ) (h more : List Input) (list longer : List Notice) (group : List ℕ) (a b : Option (ℕ × Candidate)) → AreLater me n h more list longer
+    → IsLatest (leads_in list group) a → IsLatest (leads_in longer group) b → IsNotBelow a b
 never_down me n h more list longer group a b are m is =
-    latest_stays (leads_in (decided_all list) group) (leads_in (decided_all longer) group) a b m is (λ term c e. elim (named_stays me n h more list longer (record { group = group; term = term }) c are e) [
+    latest_stays (leads_in list group) (leads_in longer group) a b m is (λ term c e. elim (named_stays me n h more list longer (record { group = group; term = term }) c are e) [
       | inl stays ↦ inl stays
       | inr gone ↦ inr (retired_below me n h more list longer group b are is term gone)
     ])

@@ -1,11 +1,9 @@
 //! The board of a node that is opened.
 ghost use Rattle.std.specs.Prelude.{◌≡◌, ◌≤◌, [], List, IfOk, IfErr};
-ghost use Rattle.ring_records.specs.declared.decision.Decision.{Decision};
 ghost use Rattle.ring_records.specs.declared.input.Input.{Input};
 ghost use Rattle.ring_records.specs.declared.limits.TheConstants.{DOORS};
-ghost use Rattle.ring_records.specs.Notices.{decided_all};
 ghost use Rattle.ring_records.specs.States.{durable_in};
-ghost use Rattle.ring_records.specs.Release.{AreLeaders};
+ghost use Rattle.group_commit.specs.Content.{IsContent};
 ghost use Rattle.group_commit.specs.Desk.{seen};
 ghost use Rattle.group_commit.specs.Past.{IsPast};
 ghost use Rattle.decision_board.specs.Boards.{published, pending};
@@ -15,8 +13,8 @@ use group_commit::Desk;
 use ring_records::Refusal;
 use std::alloc::Global;
 
-/// A board for so many readers, 1 to 32, that shows the leaders which the desk knows by its durable inputs, in order of
-/// key. Refused as 8. `laws::restarted_board` says why a board may begin so.
+/// A board for so many readers, 1 to 32, that shows the leaders and the floors which the desk knows by its durable inputs.
+/// Refused as 8. `laws::restarted_board` says why a board may begin so.
 pub fn opened_board<J: Naming>(
     alloc: Global,
     opened: Opened,
@@ -25,8 +23,7 @@ pub fn opened_board<J: Naming>(
 ) -> Result<Board<J>, Refusal>
     requires history { opened ≡ J.book }
     requires readers { (1 ≤ readers) × (readers ≤ DOORS) }
-    ensures leaders { IfOk result (λ board. (list : List Decision) × (published board ≡ decided_all list) × ((past : List Input) → IsPast desk.now.view.member desk.now.opening past
-        → AreLeaders desk.now.view.member.node (durable_in (seen past desk.now).state) list)) }
+    ensures content { IfOk result (λ board. (past : List Input) → IsPast desk.now.view.member desk.now.opening past → IsContent desk.now.view.member.node (durable_in (seen past desk.now).state) (published board)) }
     ensures pending { IfOk result (λ board. pending board ≡ []) }
     ensures refusal { IfErr result (λ why. why ≡ Refusal.OutOfMemory) }
 {

@@ -1,18 +1,23 @@
 //! Laws of what a stop leaves of a flusher's rounds, and of what a board shows after a restart: public functions with an
 //! empty body, whose contracts say what follows from the definitions alone. No program calls them.
-ghost use Rattle.std.specs.Prelude.{◌≡◌, ◌++◌, ◌∷◌, [], ℕ, Bool, List, Option, Some, take};
+ghost use Rattle.std.specs.Prelude.{◌≡◌, ◌≤◌, ◌++◌, ◌∷◌, [], ℕ, Bool, List, Option, Some, take};
 ghost use Rattle.std.specs.List.{Contains};
 ghost use Rattle.disk_model.specs.Disk.{LeavesOnly};
 ghost use Rattle.ring_records.specs.declared.candidate.Candidate.{Candidate};
 ghost use Rattle.ring_records.specs.declared.decision.Decision.{Decision};
 ghost use Rattle.ring_records.specs.declared.input.Input.{Input};
 ghost use Rattle.ring_records.specs.declared.key.Key.{Key};
-ghost use Rattle.ring_records.specs.Notices.{decided_all, leader_in, leads_in, IsNotBelow};
-ghost use Rattle.ring_records.specs.Leader.{IsLatest};
+ghost use Rattle.ring_records.specs.declared.notice.Notice.{Notice};
+ghost use Rattle.ring_records.specs.Admission.{IsAllowed};
+ghost use Rattle.ring_records.specs.History.{floor};
+ghost use Rattle.ring_records.specs.Leader.{IsLatest, leader};
+ghost use Rattle.ring_records.specs.Lists.{EachAfter};
+ghost use Rattle.ring_records.specs.Notices.{floor_in, leader_in, leads_in, IsNotBelow};
 ghost use Rattle.ring_records.specs.States.{NodeState, IsLawfulState, left_by};
 ghost use Rattle.gated_journal.specs.Areas.{AllReadAs};
 ghost use Rattle.gated_journal.specs.Reading.{Reading};
 ghost use Rattle.group_commit.specs.declared.landed.Landed.{Landed};
+ghost use Rattle.group_commit.specs.Content.{IsContent};
 ghost use Rattle.group_commit.specs.Desk.{DeskKept};
 ghost use Rattle.group_commit.specs.Past.{IsPast, shifted};
 ghost use Rattle.node_store.specs.State.{Holds, IsOpenedAs};
@@ -71,13 +76,18 @@ pub fn released_by_a_flusher<V: Device, A: Node>()
         → LeavesOnly V.clock V.left_since (device_behind device (before ++ round ∷ later)) new (RestsOn A.member A.opening (known_since known before) round) }
 {}
 
-/// A board is made of what a desk tells as its decisions: the leaders that its node knows by its history, in order of
-/// key. Made of a longer history, it has every decision that it had for a key that is not retired since; so a leader is the
-/// same, and the latest leader of a group does not go down.
+/// A board is made of what a desk tells: the leaders that its node knows by its history, in order of key, and its floors, in
+/// order of group. It says of each key and of each group what the history says. Made of a longer history, it has every
+/// floor, and every decision that it had for a key that is not retired since; so a leader is the same, and the latest
+/// leader of a group does not go down.
 pub fn restarted_board()
-    ensures decisions { (me n : ℕ) (h more : List Input) (list longer : List Decision) (d : Decision) → AreLater me n h more list longer → Contains list d → UnlessRetired (h ++ more) d.key (Contains longer d) }
-    ensures leader { (me n : ℕ) (h more : List Input) (list longer : List Decision) (key : Key) (c : Candidate) → AreLater me n h more list longer
-        → leader_in (decided_all list) key ≡ Some c → UnlessRetired (h ++ more) key (leader_in (decided_all longer) key ≡ Some c) }
-    ensures never_down { (me n : ℕ) (h more : List Input) (list longer : List Decision) (group : List ℕ) (a b : Option (ℕ × Candidate)) → AreLater me n h more list longer
-        → IsLatest (leads_in (decided_all list) group) a → IsLatest (leads_in (decided_all longer) group) b → IsNotBelow a b }
+    ensures says { (me n : ℕ) (h : List Input) (list : List Notice) → EachAfter (IsAllowed me n) [] h → IsContent me h list
+        → ((key : Key) → leader_in list key ≡ leader me h key) × ((group : List ℕ) → floor_in list group ≡ floor h group) }
+    ensures decisions { (me n : ℕ) (h more : List Input) (list longer : List Notice) (d : Decision) → AreLater me n h more list longer
+        → Contains list (Notice.Decided d) → UnlessRetired (h ++ more) d.key (Contains longer (Notice.Decided d)) }
+    ensures floors { (me n : ℕ) (h more : List Input) (list longer : List Notice) (group : List ℕ) → AreLater me n h more list longer → floor_in list group ≤ floor_in longer group }
+    ensures leader { (me n : ℕ) (h more : List Input) (list longer : List Notice) (key : Key) (c : Candidate) → AreLater me n h more list longer
+        → leader_in list key ≡ Some c → UnlessRetired (h ++ more) key (leader_in longer key ≡ Some c) }
+    ensures never_down { (me n : ℕ) (h more : List Input) (list longer : List Notice) (group : List ℕ) (a b : Option (ℕ × Candidate)) → AreLater me n h more list longer
+        → IsLatest (leads_in list group) a → IsLatest (leads_in longer group) b → IsNotBelow a b }
 {}
