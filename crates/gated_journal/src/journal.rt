@@ -20,7 +20,7 @@ use crate::open::{Opened, open};
 use crate::place::Place;
 use crate::{Batch, Checkpoint, Opening, Receipt, Spoiled, Work};
 use disk_model::{Device, FuseDevice};
-use ring_records::{NodeNo, Refusal, costs_of, summary_len};
+use ring_records::{Input, NodeNo, Refusal, costs_of, summary_len};
 use std::alloc::Global;
 
 /// The durable inputs of one node, on a device of its own.
@@ -223,11 +223,11 @@ impl<D: Device> Journal<D> {
         self.place.area.epoch
     }
 
-    /// Whether its area in use may hold the batch: a Retire only in layout 3.
-    pub fn suits(&self, batch: &Batch) -> bool
-        ensures { Decides result (AreSuited (layout_of self.now) (shown batch.now).inputs) }
+    /// Whether its area in use may hold the inputs: a Retire only in layout 3.
+    pub fn suits(&self, inputs: &[Input]) -> bool
+        ensures { Decides result (AreSuited (layout_of self.now) inputs.now) }
     {
-        are_suited(&batch.flown.inputs, self.place.area.layout)
+        are_suited(inputs, self.place.area.layout)
     }
 
     /// Whether the device has failed in a `commit` or a `checkpoint`: then it may hold what was to become durable or not,
