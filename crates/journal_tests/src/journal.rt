@@ -20,6 +20,7 @@ mod hostile;
 mod images;
 mod pieces;
 mod plain;
+mod retires;
 mod rows;
 mod stops;
 
