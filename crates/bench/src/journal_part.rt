@@ -50,7 +50,7 @@ pub fn commit<D: Device>(
     journal: &mut Journal<D>,
     inputs: &[Input],
 ) -> Result<(), Refusal> {
-    if journal.is_spoiled() || journal.room() < 42 * 64 {
+    if journal.is_spoiled() || journal.room() < 42 * 64 || !journal.suits(inputs) {
         return Err(Refusal::Full);
     }
     let batch = Batch::new(alloc, journal.node(), journal.len(), inputs)?;

@@ -56,10 +56,10 @@ joined_at start at size image from =
 -- what was taken behind what was taken before
 pub listed_at : (layout start at size : ℕ) (image now : List ℕ) (stage : Stage) (old new : List Input) (rest : List ℕ) → now ≡ image → start ≤ at
     → Lists layout (take (at - start) (drop start image)) old
-    → ((other : ℕ) (taken : List ℕ) → Lists other taken old → IsListed other stage (taken ++ take size (drop at now)) new rest) → IsListed layout stage (take (at + size - start) (drop start image)) new rest
+    → ((taken : List ℕ) → Lists layout taken old → IsListed layout stage (taken ++ take size (drop at now)) new rest) → IsListed layout stage (take (at + size - start) (drop start image)) new rest
 listed_at layout start at size image now stage old new rest same from lists step =
     subst (λ (l : List ℕ). IsListed layout stage l new rest) (ap (λ (l : List ℕ). take (at - start) (drop start image) ++ take size (drop at l)) same ∙ joined_at start at size image from)
-    (step layout (take (at - start) (drop start image)) lists)
+    (step (take (at - start) (drop start image)) lists)
 
 module _ (layout start at : ℕ) (image : List ℕ) (from : start ≤ at) (to : at ≤ length image) where
   split : drop start image ≡ take (at - start) (drop start image) ++ drop at image

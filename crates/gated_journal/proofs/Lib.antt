@@ -24,6 +24,7 @@ pub mod Results
 pub mod Shift
 pub mod Shorts
 pub mod Spelled
+pub mod Suited
 pub mod Taken
 pub mod Told
 pub mod Unique

@@ -1,5 +1,5 @@
 -- What a batch, a checkpoint, a receipt and a spoiled batch show.
-use Rattle.std.specs.Prelude.{ℕ, Bool, not, ◌&&◌, nat_le, if◌then◌else◌, List, Option, None, Some, is_some}
+use Rattle.std.specs.Prelude.{ℕ, Bool, ◌&&◌, nat_le, if◌then◌else◌, List, Option, None, Some, is_some}
 use Rattle.ring_records.specs.Admission.{newest}
 use Rattle.ring_records.specs.declared.input.Input.{Input}
 use Rattle.ring_records.specs.declared.limits.TheConstants.{BATCH_INPUTS}
@@ -56,6 +56,6 @@ base_by checkpoint = checkpoint.base
 abbrev pub is_size : ℕ → Bool
 is_size n = nat_le 1 n && nat_le n BATCH_INPUTS
 
--- why there is no batch of so many inputs, where one of them is a Retire or not: no area holds one yet
-abbrev pub batch_refusal : ℕ → Bool → Refusal
-batch_refusal n retires = if is_size n && not retires then refused.OutOfMemory else refused.BadNumber
+-- why there is no batch of so many inputs
+abbrev pub batch_refusal : ℕ → Refusal
+batch_refusal n = if is_size n then refused.OutOfMemory else refused.BadNumber

@@ -97,9 +97,9 @@ IsBefore Done = ⊥
 IsBefore (Damaged at) = ⊥
 
 -- so many bytes more are taken without a growth, where a snapshot has room for some and there are so many places for
--- inputs; a record has 9 bytes at least
+-- inputs; a record has 7 bytes at least
 abbrev pub IsRoom : Stage → ℕ → ℕ → ℕ → Type 0
-IsRoom stage snapshot places bytes = (IsBefore stage → bytes ≤ snapshot) × (bytes ≤ 9 * places)
+IsRoom stage snapshot places bytes = (IsBefore stage → bytes ≤ snapshot) × (bytes ≤ 7 * places)
 
 abbrev pub HasRoom : Found → ℕ → Type 0
 HasRoom found bytes = IsRoom found.stage found.snapshot.room (vec_capacity found.inputs - vec_len found.inputs) bytes

@@ -1,10 +1,12 @@
 -- Frames of inputs, by the layout of their area, and what is read behind an offset. Numbers are big-endian.
-use Rattle.std.specs.Prelude.{◌≡◌, ◌≢◌, ◌⊎◌, ◌+◌, ◌≤◌, ℕ, List, [], ◌∷◌, ◌++◌, length, drop}
+use Rattle.std.specs.Prelude.{◌≡◌, ◌≢◌, ◌⊎◌, ◌+◌, ◌≤◌, ℕ, true, List, [], ◌∷◌, ◌++◌, length, drop}
 use Rattle.std.specs.Int.{w16, w32, to_be_bytes}
+use Rattle.std.specs.List.{AllByRecursion}
 use Rattle.disk_model.specs.Disk.{Changes}
 use Rattle.ring_records.specs.declared.input.Input.{Input}
 use Rattle.ring_records.specs.declared.input.Input.TheVariants.{Stand, Take, Acked, Retire}
 use Rattle.ring_records.specs.declared.limits.TheConstants.{BATCH_INPUTS}
+use Rattle.ring_records.specs.Admission.{has_floors}
 use Rattle.ring_records.specs.Record.{HasRecord, record_of}
 
 -- ---- how frames are spelled
@@ -23,12 +25,16 @@ abbrev pub frames : List (List Input) → List ℕ
 frames [] = []
 frames (batch ∷ batches) = 1 ∷ (body batch ++ frames batches)
 
--- The frames of an area of this layout may hold the input. No area may hold a Retire yet: those of layout 3 will.
+-- The frames of an area of this layout may hold the input: a Retire where the area's snapshot tells floors.
 abbrev pub Suits : ℕ → Input → Type 0
 Suits layout (Stand key bid) = Unit {0}
 Suits layout (Take msg_no msg) = Unit {0}
 Suits layout (Acked upto) = Unit {0}
-Suits layout (Retire group new) = ⊥
+Suits layout (Retire group new) = has_floors layout ≡ true
+
+-- they may hold each of these
+abbrev pub AreSuited : ℕ → List Input → Type 0
+AreSuited layout inputs = AllByRecursion (Suits layout) inputs
 
 abbrev pub HaveRecords : ℕ → List Input → Type 0
 HaveRecords layout [] = Unit {0}

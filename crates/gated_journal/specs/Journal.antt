@@ -19,6 +19,10 @@ module _ {D : Type 0} {g : Ghosts D} where
   abbrev pub epoch_of : Journal D g → ℕ
   epoch_of journal = journal.place.area.epoch
 
+  -- the layout of its area in use, 1 of frames alone
+  abbrev pub layout_of : Journal D g → ℕ
+  layout_of journal = journal.place.area.layout
+
   -- how many bytes of the capacity are left
   abbrev pub room_of : Journal D g → ℕ
   room_of journal = journal.place.capacity - journal.place.used

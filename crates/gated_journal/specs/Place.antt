@@ -34,7 +34,7 @@ pub record Stands (header : Member) (disk : Disk) (place : Place) (r : Reading) 
 
 -- the journal that stands there takes the work
 abbrev pub IsTakenAt : Member → Place → Work → Type 0
-IsTakenAt header place work = IsTaken (record header { capacity = place.capacity }) place.count (place.capacity - place.used) place.area.epoch work
+IsTakenAt header place work = IsTaken (record header { capacity = place.capacity }) place.count (place.capacity - place.used) place.area.layout place.area.epoch work
 
 -- what is read there behind the work
 abbrev pub reading_behind : Place → Work → Reading → Reading

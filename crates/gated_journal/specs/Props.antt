@@ -26,7 +26,7 @@ pub Suits-prop : (layout : ℕ) (x : Input) → IsProp (Suits layout x)
 Suits-prop layout (Stand key bid) = Unit-prop
 Suits-prop layout (Take msg_no msg) = Unit-prop
 Suits-prop layout (Acked upto) = Unit-prop
-Suits-prop layout (Retire group new) = λ p. absurd p
+Suits-prop layout (Retire group new) = Coded-set coded_bool _ _
 
 pub HaveRecords-prop : (layout : ℕ) (inputs : List Input) → IsProp (HaveRecords layout inputs)
 HaveRecords-prop layout [] = Unit-prop

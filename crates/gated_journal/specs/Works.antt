@@ -6,6 +6,7 @@ use Rattle.ring_records.specs.Admission.{costs_of, newest}
 use Rattle.ring_records.specs.Member.{Member}
 use Rattle.ring_records.specs.Snapshot.{IsSound, snapshot_len}
 use Rattle.gated_journal.specs.Batch.{Numbered, numbered_by, base_by, shown}
+use Rattle.gated_journal.specs.Frames.{AreSuited}
 use Rattle.gated_journal.specs.Reading.{Reading, fresh_area, with_more}
 use Rattle.gated_journal.specs.declared.work.Work.{Work}
 use Rattle.gated_journal.specs.declared.work.Work.TheVariants as works
@@ -28,11 +29,11 @@ syncs_of is_checkpoint = if is_checkpoint then 3 else 2
 
 -- ---- what a journal takes
 
--- It may be written to a journal with so many inputs, so much room, and this epoch of its area in use.
-abbrev pub IsTaken : Member → ℕ → ℕ → ℕ → Work → Type 0
-IsTaken member count room epoch (works.Batch batch) =
-    ((shown batch).node ≡ member.node) × ((shown batch).first ≡ count) × (costs_of (shown batch).inputs ≤ room)
-IsTaken member count room epoch (works.Checkpoint made) =
+-- It may be written to a journal with so many inputs, so much room, and this layout and epoch of its area in use.
+abbrev pub IsTaken : Member → ℕ → ℕ → ℕ → ℕ → Work → Type 0
+IsTaken member count room layout epoch (works.Batch batch) =
+    ((shown batch).node ≡ member.node) × ((shown batch).first ≡ count) × (costs_of (shown batch).inputs ≤ room) × AreSuited layout (shown batch).inputs
+IsTaken member count room layout epoch (works.Checkpoint made) =
     ((numbered_by made).node ≡ member.node) × ((numbered_by made).first ≡ count)
     × (snapshot_len newest (base_by made) ≤ member.capacity) × IsSound member.n (base_by made) × (epoch + 1 < 2 ^ 40)
 
@@ -58,7 +59,12 @@ abbrev pub room_after : Option ℕ → ℕ → ℕ → ℕ → ℕ
 room_after None capacity costs room = room - costs
 room_after (Some length) capacity costs room = capacity - length
 
--- the epoch of the area in use then
+-- the layout of the area in use then
+abbrev pub layout_after : Option ℕ → ℕ → ℕ
+layout_after None layout = layout
+layout_after (Some length) layout = newest
+
+-- and its epoch
 abbrev pub epoch_after : Option ℕ → ℕ → ℕ
 epoch_after None epoch = epoch
 epoch_after (Some length) epoch = epoch + 1

@@ -1,8 +1,7 @@
 //! Inputs that become durable together.
-ghost use Rattle.std.specs.Prelude.{◌≡◌, ◌≤◌, ◌*◌, true, false, None, length, IfOk, IfErr, OnOk};
-ghost use Rattle.std.specs.List.{list_any};
+ghost use Rattle.std.specs.Prelude.{◌≡◌, ◌≤◌, ◌*◌, true, None, length, IfOk, IfErr, OnOk};
 ghost use Rattle.ring_records.specs.declared.limits.TheConstants.{BATCH_INPUTS};
-ghost use Rattle.ring_records.specs.Admission.{costs_of, newest, not_yet};
+ghost use Rattle.ring_records.specs.Admission.{costs_of, newest};
 ghost use Rattle.gated_journal.specs.Frames.{IsFrame};
 ghost use Rattle.gated_journal.specs.Props.{IsFrame-prop};
 
@@ -22,29 +21,18 @@ pub struct Batch {
     ghost small: { cost ≤ 42 * BATCH_INPUTS },
 }
 
-// Whether one of them is a Retire.
-#[tactic(auto, unfolding(ring_records::specs::Admission::not_yet))]
-fn has_retire(inputs: &[Input]) -> bool
-    ensures { result ≡ list_any not_yet inputs.now }
-{
-    inputs
-        .iter()
-        .any(|input| matches!(input, Input::Retire { .. }))
-}
-
 impl Batch {
     ghost use Rattle.gated_journal.specs.Batch.{is_size, batch_refusal, numbered, shown};
 
     /// The inputs of this node from number `first` on, counted from 0. Refused as 2 where there are not 1 to 64 of
-    /// them, or where one of them is a Retire, which no area holds yet; and as 8.
+    /// them; and as 8.
     pub fn new(alloc: Global, node: NodeNo, first: u64, inputs: &[Input]) -> Result<Batch, Refusal>
         ensures value { IfOk result (λ batch. shown batch ≡ numbered node first inputs.now) }
         ensures size { OnOk result (is_size (length inputs.now) ≡ true) }
         ensures bound { OnOk result (costs_of inputs.now ≤ 42 * BATCH_INPUTS) }
-        ensures yet { OnOk result (list_any not_yet inputs.now ≡ false) }
-        ensures refusal { IfErr result (λ refusal. refusal ≡ batch_refusal (length inputs.now) (list_any not_yet inputs.now)) }
+        ensures refusal { IfErr result (λ refusal. refusal ≡ batch_refusal (length inputs.now)) }
     {
-        if inputs.is_empty() || inputs.len() > BATCH_INPUTS || has_retire(inputs) {
+        if inputs.is_empty() || inputs.len() > BATCH_INPUTS {
             return Err(Refusal::BadNumber);
         }
         let Ok(bytes) = spell(alloc, inputs) else {

@@ -1,4 +1,4 @@
-ghost use Rattle.std.specs.Prelude.{◌≡◌, ◌+◌, ◌-◌, ◌*◌, ◌⊎◌, ◌<◌, ◌≤◌, ◌^◌, ℕ, List, true, false, length, min, is_err, IfOk, IfErr, OnOk, OnErr, IsOk};
+ghost use Rattle.std.specs.Prelude.{◌≡◌, ◌+◌, ◌-◌, ◌*◌, ◌⊎◌, ◌<◌, ◌≤◌, ◌^◌, ℕ, List, true, false, length, min, is_err, Decides, IfOk, IfErr, OnOk, OnErr, IsOk};
 ghost use Rattle.disk_model.specs.Disk.{MayLeave, LeavesOnly, HasCause, Reaches, synced};
 ghost use Rattle.ring_records.specs.declared.limits.TheConstants.{GREATEST_CAPACITY, LEAST_CAPACITY};
 ghost use Rattle.ring_records.specs.Admission.{costs_of, newest};
@@ -6,20 +6,21 @@ ghost use Rattle.ring_records.specs.Member.{member};
 ghost use Rattle.ring_records.specs.Snapshot.{IsSound, snapshot_len};
 ghost use Rattle.ring_records.specs.Summary.{empty};
 ghost use Rattle.gated_journal.specs.Areas.{ReadsAs, AllReadAs, ReadsAsOneOf};
+ghost use Rattle.gated_journal.specs.Frames.{AreSuited};
 ghost use Rattle.gated_journal.specs.Place.{IsInUse};
 ghost use Rattle.gated_journal.specs.Reading.{Reading, device_size, with_more, fresh_area, reading_of_opening, count_in, used_in, is_header};
 ghost use Rattle.gated_journal.specs.Unread.{IsFault, IsUnread, IsUnopened};
-ghost use Rattle.gated_journal.specs.Works.{flown_by, summary_by, reading_after, count_after, room_after, epoch_after, IsTaken};
+ghost use Rattle.gated_journal.specs.Works.{flown_by, summary_by, reading_after, count_after, room_after, layout_after, epoch_after, IsTaken};
 
 use crate::area::Chosen;
 use crate::contents::Contents;
 use crate::format::lay_out;
-use crate::layout::{AREA_A, LAYOUT, area_b, is_header};
+use crate::layout::{AREA_A, LAYOUT, are_suited, area_b, is_header};
 use crate::open::{Opened, open};
 use crate::place::Place;
 use crate::{Batch, Checkpoint, Opening, Receipt, Spoiled, Work};
 use disk_model::{Device, FuseDevice};
-use ring_records::{NodeNo, Refusal, costs_of, summary_len};
+use ring_records::{Input, NodeNo, Refusal, costs_of, summary_len};
 use std::alloc::Global;
 
 /// The durable inputs of one node, on a device of its own.
@@ -35,7 +36,7 @@ pub struct Journal<D: Device> {
 
 impl<D: Device> Journal<D> {
     ghost use Rattle.gated_journal.specs.Batch.{shown, numbered_by, base_by, landed, lost};
-    ghost use Rattle.gated_journal.specs.Journal.{device_of, member_of, len_of, room_of, epoch_of, is_spoiled};
+    ghost use Rattle.gated_journal.specs.Journal.{device_of, member_of, len_of, room_of, layout_of, epoch_of, is_spoiled};
 
     /// A journal without inputs: one write and one sync, and between them a write of one byte that closes area B, where
     /// the device goes that far. Refused as 2 where `n` is not 2 to 16, `node` is above it, or the capacity is not 4,096 to 1,048,576
@@ -46,6 +47,7 @@ impl<D: Device> Journal<D> {
         ensures ready { IfOk result (λ journal. is_spoiled journal ≡ false) }
         ensures len { IfOk result (λ journal. len_of journal ≡ 0) }
         ensures room { IfOk result (λ journal. room_of journal ≡ capacity - 42) }
+        ensures layout { IfOk result (λ journal. layout_of journal ≡ newest) }
         ensures epoch { IfOk result (λ journal. epoch_of journal ≡ 1) }
         ensures range { OnOk result (is_header (member node n capacity) ≡ true) }
         ensures same { IfOk result (λ journal. D.count (device_of journal) ≡ D.count device) }
@@ -109,6 +111,7 @@ impl<D: Device> Journal<D> {
         ensures ready { IfOk result (λ r. is_spoiled r.0 ≡ false) }
         ensures len { IfOk result (λ r. len_of r.0 ≡ count_in (reading_of_opening r.1)) }
         ensures room { IfOk result (λ r. room_of r.0 ≡ (member_of r.0).capacity - used_in (reading_of_opening r.1)) }
+        ensures layout { IfOk result (λ r. layout_of r.0 ≡ r.1.layout) }
         ensures epoch { IfOk result (λ r. epoch_of r.0 ≡ r.1.epoch) }
         ensures sound { IfOk result (λ r. IsSound n r.1.base) }
 
@@ -204,12 +207,27 @@ impl<D: Device> Journal<D> {
         u64::from(self.place.capacity).saturating_sub(self.place.used) as u32
     }
 
+    /// The layout of its area in use, 1 to 3: 1 where frames alone are read, and 3 behind a checkpoint.
+    pub fn layout(&self) -> u8
+        ensures value { result ≡ layout_of self.now }
+        ensures reading { is_spoiled self.now ≡ false → (r : Reading) → AllReadAs (member_of self.now) (D.disk (device_of self.now)) r → result ≡ r.layout }
+    {
+        self.place.area.layout
+    }
+
     /// The epoch of its area in use, below 2^40: each checkpoint raises it by 1.
     pub fn epoch(&self) -> u64
         ensures value { result ≡ epoch_of self.now }
         ensures reading { is_spoiled self.now ≡ false → (r : Reading) → AllReadAs (member_of self.now) (D.disk (device_of self.now)) r → result ≡ r.epoch }
     {
         self.place.area.epoch
+    }
+
+    /// Whether its area in use may hold the inputs: a Retire only in layout 3.
+    pub fn suits(&self, inputs: &[Input]) -> bool
+        ensures { Decides result (AreSuited (layout_of self.now) inputs.now) }
+    {
+        are_suited(inputs, self.place.area.layout)
     }
 
     /// Whether the device has failed in a `commit` or a `checkpoint`: then it may hold what was to become durable or not,
@@ -241,12 +259,14 @@ impl<D: Device> Journal<D> {
         device
     }
 
-    /// Makes a batch durable, whole, by four device calls. At `Err` the device failed, and the journal is spoiled.
+    /// Makes a batch durable, whole, by four device calls. A Retire goes only to an area of layout 3. At `Err` the device
+    /// failed, and the journal is spoiled.
     pub fn commit(&mut self, batch: Batch) -> Result<Receipt, Spoiled>
         requires ready { is_spoiled self.old ≡ false }
         requires node { (shown batch).node ≡ (member_of self.old).node }
         requires first { (shown batch).first ≡ len_of self.old }
         requires room { costs_of (shown batch).inputs ≤ room_of self.old }
+        requires suits { AreSuited (layout_of self.old) (shown batch).inputs }
 
         // A stop at any moment of the call leaves what was read before it, with the whole batch or without.
         ensures any_moment { (r : Reading) → AllReadAs (member_of self.old) (D.disk (device_of self.old)) r
@@ -265,6 +285,7 @@ impl<D: Device> Journal<D> {
         ensures len { OnOk result (len_of self.new ≡ len_of self.old + length (shown batch).inputs) }
         ensures kept { OnErr result ((len_of self.new ≡ len_of self.old) × (room_of self.new ≡ room_of self.old)) }
         ensures left { OnOk result (room_of self.new ≡ room_of self.old - costs_of (shown batch).inputs) }
+        ensures layout { layout_of self.new ≡ layout_of self.old }
         ensures epoch { epoch_of self.new ≡ epoch_of self.old }
     {
         self.write(Work::Batch(batch))
@@ -296,8 +317,10 @@ impl<D: Device> Journal<D> {
         ensures header { member_of self.new ≡ member_of self.old }
         ensures len { OnOk result (len_of self.new ≡ (base_by checkpoint).inputs) }
         ensures room { OnOk result (room_of self.new ≡ (member_of self.old).capacity - snapshot_len newest (base_by checkpoint)) }
+        ensures layout { OnOk result (layout_of self.new ≡ newest) }
         ensures next { OnOk result (epoch_of self.new ≡ epoch_of self.old + 1) }
-        ensures kept { OnErr result ((len_of self.new ≡ len_of self.old) × (room_of self.new ≡ room_of self.old) × (epoch_of self.new ≡ epoch_of self.old)) }
+        ensures kept { OnErr result ((len_of self.new ≡ len_of self.old) × (room_of self.new ≡ room_of self.old)
+            × (epoch_of self.new ≡ epoch_of self.old) × (layout_of self.new ≡ layout_of self.old)) }
     {
         self.write(Work::Checkpoint(checkpoint))
     }
@@ -305,7 +328,7 @@ impl<D: Device> Journal<D> {
     /// Makes a work durable, whole, as `commit` and `checkpoint` do. At `Err` the device failed, and the journal is spoiled.
     pub fn write(&mut self, work: Work) -> Result<Receipt, Spoiled>
         requires ready { is_spoiled self.old ≡ false }
-        requires taken { IsTaken (member_of self.old) (len_of self.old) (room_of self.old) (epoch_of self.old) work }
+        requires taken { IsTaken (member_of self.old) (len_of self.old) (room_of self.old) (layout_of self.old) (epoch_of self.old) work }
 
         // A stop at any moment of the call leaves what was read before it, or what is read behind the work.
         ensures any_moment { (r : Reading) → AllReadAs (member_of self.old) (D.disk (device_of self.old)) r
@@ -324,8 +347,10 @@ impl<D: Device> Journal<D> {
         ensures header { member_of self.new ≡ member_of self.old }
         ensures len { OnOk result (len_of self.new ≡ count_after (summary_by work) (length (flown_by work).inputs) (len_of self.old)) }
         ensures room { OnOk result (room_of self.new ≡ room_after (flown_by work).snapshot (member_of self.old).capacity (costs_of (flown_by work).inputs) (room_of self.old)) }
+        ensures layout { OnOk result (layout_of self.new ≡ layout_after (flown_by work).snapshot (layout_of self.old)) }
         ensures epoch { OnOk result (epoch_of self.new ≡ epoch_after (flown_by work).snapshot (epoch_of self.old)) }
-        ensures kept { OnErr result ((len_of self.new ≡ len_of self.old) × (room_of self.new ≡ room_of self.old) × (epoch_of self.new ≡ epoch_of self.old)) }
+        ensures kept { OnErr result ((len_of self.new ≡ len_of self.old) × (room_of self.new ≡ room_of self.old)
+            × (epoch_of self.new ≡ epoch_of self.old) × (layout_of self.new ≡ layout_of self.old)) }
     {
         self.is_spoiled = true;
         let (flown, next, written) = self.place.put(&mut self.device, work);
@@ -343,7 +368,7 @@ impl<D: Device> Journal<D> {
 impl<D: Device> Journal<FuseDevice<D>> {
     ghost use Rattle.disk_model.specs.Fuse.{planned};
     ghost use Rattle.disk_model.specs.FuseDevice.{inner_of, will_fail, own_faults};
-    ghost use Rattle.gated_journal.specs.Journal.{device_of, member_of, len_of, room_of, epoch_of, is_spoiled};
+    ghost use Rattle.gated_journal.specs.Journal.{device_of, member_of, len_of, room_of, layout_of, epoch_of, is_spoiled};
 
     /// Sets the device's fuse anew: from now on `after` of its calls pass, and then the next fails if `once`, else all
     /// later ones.
@@ -354,6 +379,7 @@ impl<D: Device> Journal<FuseDevice<D>> {
         ensures header { member_of self.new ≡ member_of self.old }
         ensures len { len_of self.new ≡ len_of self.old }
         ensures room { room_of self.new ≡ room_of self.old }
+        ensures layout { layout_of self.new ≡ layout_of self.old }
         ensures epoch { epoch_of self.new ≡ epoch_of self.old }
         ensures spoiled { is_spoiled self.new ≡ is_spoiled self.old }
     {

@@ -2,9 +2,10 @@
 ghost use Rattle.std.specs.Prelude.{◌≡◌, Decides};
 ghost use Rattle.ring_records.specs.Member.{member};
 ghost use Rattle.gated_journal.specs.Areas.{IsLayout, area_b};
+ghost use Rattle.gated_journal.specs.Frames.{Suits, AreSuited};
 ghost use Rattle.gated_journal.specs.Reading.{device_size, is_header};
 
-use ring_records::{GREATEST_CAPACITY, LEAST_CAPACITY, NodeNo, OLDEST_AREA};
+use ring_records::{GREATEST_CAPACITY, Input, LEAST_CAPACITY, NodeNo, OLDEST_AREA};
 
 /// The layout of the areas that are written.
 pub(crate) use ring_records::LAYOUT;
@@ -17,6 +18,23 @@ pub(crate) fn is_layout(layout: u8) -> bool
     ensures { Decides result (IsLayout layout) }
 {
     OLDEST_AREA <= layout && layout <= LAYOUT
+}
+
+/// Whether an area of this layout may hold the input: a Retire where the area's snapshot tells floors.
+pub(crate) fn suits(input: &Input, layout: u8) -> bool
+    ensures { Decides result (Suits layout input.now) }
+{
+    match input {
+        Input::Retire { .. } => layout > 2,
+        Input::Stand { .. } | Input::Take { .. } | Input::Acked { .. } => true,
+    }
+}
+
+/// Whether it may hold each of these.
+pub(crate) fn are_suited(inputs: &[Input], layout: u8) -> bool
+    ensures { Decides result (AreSuited layout inputs.now) }
+{
+    inputs.iter().all(|input| suits(input, layout))
 }
 
 /// The offset of area B: it stands where area A ends at the latest.

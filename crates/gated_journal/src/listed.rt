@@ -16,22 +16,22 @@ use disk_model::Device;
 use ring_records::{Input, Refusal};
 use std::alloc::{AllocError, Global};
 
-// Takes all frames that are whole from the front of the bytes, which stand at this offset: what stands next, and how many
-// bytes were taken.
+// Takes all frames of layout 1 that are whole from the front of the bytes, which stand at this offset: what stands next, and
+// how many bytes were taken.
 fn take_list(inputs: &mut Vec<Input>, at: u64, bytes: &[u8]) -> (Stage, usize)
-    requires room { length bytes.now ≤ 9 * (vec_capacity inputs.old - vec_len inputs.old) }
+    requires room { length bytes.now ≤ 7 * (vec_capacity inputs.old - vec_len inputs.old) }
     requires small { at + length bytes.now < 2 ^ 64 }
-    ensures lists { (layout : ℕ) (taken : List ℕ) → Lists layout taken inputs.old.items
-        → IsListed layout result.0 (taken ++ take result.1 bytes.now) inputs.new.items (drop result.1 bytes.now) }
+    ensures lists { (taken : List ℕ) → Lists 1 taken inputs.old.items
+        → IsListed 1 result.0 (taken ++ take result.1 bytes.now) inputs.new.items (drop result.1 bytes.now) }
     ensures waits { IsWaiting result.0 (drop result.1 bytes.now) }
     ensures damaged { (p : ℕ) → result.0 ≡ Stage.Damaged p → p ≡ at + result.1 }
     ensures size { result.1 ≤ length bytes.now }
 {
     let mut taken = 0;
-    let mut next = take_framed(inputs, at, bytes);
+    let mut next = take_framed(inputs, at, bytes, 1);
     while next.1 > 0 {
         taken += next.1;
-        next = take_framed(inputs, at + taken as u64, &bytes[taken..]);
+        next = take_framed(inputs, at + taken as u64, &bytes[taken..], 1);
     }
     (next.0, taken)
 }
@@ -44,14 +44,14 @@ fn list_piece(
     piece: &[u8],
 ) -> Result<(Stage, usize), AllocError>
     requires small { at + (length rest.old.items + length piece.now) < 2 ^ 64 }
-    ensures lists { IfOk result (λ next. (layout : ℕ) (taken : List ℕ) → Lists layout taken inputs.old.items
-        → IsListed layout next.0 (taken ++ take next.1 (rest.old.items ++ piece.now)) inputs.new.items rest.new.items) }
+    ensures lists { IfOk result (λ next. (taken : List ℕ) → Lists 1 taken inputs.old.items
+        → IsListed 1 next.0 (taken ++ take next.1 (rest.old.items ++ piece.now)) inputs.new.items rest.new.items) }
     ensures rest { IfOk result (λ next. rest.new.items ≡ drop next.1 (rest.old.items ++ piece.now)) }
     ensures waits { IfOk result (λ next. IsWaiting next.0 rest.new.items) }
     ensures damaged { IfOk result (λ next. (p : ℕ) → next.0 ≡ Stage.Damaged p → p ≡ at + next.1) }
     ensures size { IfOk result (λ next. next.1 ≤ length rest.old.items + length piece.now) }
 {
-    inputs.reserve((rest.len() + piece.len()) / 9 + 1)?;
+    inputs.reserve((rest.len() + piece.len()) / 7 + 1)?;
     rest.extend_from_slice(piece)?;
     let (stage, taken) = take_list(inputs, at, rest);
     drop_front(rest, taken);
@@ -69,8 +69,8 @@ fn list_next<D: Device>(
     requires there { at + (length rest.old.items + length piece.old) ≤ length (D.disk device.old).image }
     requires small { at + (length rest.old.items + length piece.old) < 2 ^ 64 }
     requires rest { rest.old.items ≡ take (length rest.old.items) (drop at (D.disk device.old).image) }
-    ensures lists { IfOk result (λ next. (layout : ℕ) (taken : List ℕ) → Lists layout taken inputs.old.items
-        → IsListed layout next.0 (taken ++ take next.1 (drop at (D.disk device.old).image)) inputs.new.items rest.new.items) }
+    ensures lists { IfOk result (λ next. (taken : List ℕ) → Lists 1 taken inputs.old.items
+        → IsListed 1 next.0 (taken ++ take next.1 (drop at (D.disk device.old).image)) inputs.new.items rest.new.items) }
     ensures rest { IfOk result (λ next. rest.new.items ≡ take (length rest.old.items + length piece.old - next.1) (drop (at + next.1) (D.disk device.old).image)) }
     ensures waits { IfOk result (λ next. IsWaiting next.0 rest.new.items) }
     ensures damaged { IfOk result (λ next. (p : ℕ) → next.0 ≡ Stage.Damaged p → p ≡ at + next.1) }

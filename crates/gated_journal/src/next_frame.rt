@@ -7,6 +7,7 @@ ghost use Rattle.gated_journal.specs.NextFrame.{HasHead, TakesRecords, TakesFram
 ghost use Rattle.gated_journal.specs.Damage.{NoFrame};
 ghost use Rattle.gated_journal.specs.Pieces.{IsFrameFront, IsEnough};
 
+use crate::layout::suits;
 use ring_records::{BATCH_INPUTS, Input, read_record};
 
 /// Whether bytes are missing of a frame that may stand at the head, by its two numbers.
@@ -43,30 +44,31 @@ fn head_of(tail: &[u8]) -> Option<(usize, &[u8])>
     Some((count, &tail[6..6 + size]))
 }
 
-// The record at the front, of an input that an area may hold, and how long it is.
-fn read_suited(bytes: &[u8]) -> Option<(Input, usize)>
-    ensures { MatchOption result ((layout : ℕ) (x : Input) (n : ℕ) → BeginsWith bytes.now x n → Suits layout x → ⊥)
-        (λ found. BeginsWith bytes.now found.0 found.1 × ((layout : ℕ) → Suits layout found.0)) }
+// The record at the front, of an input that an area of this layout may hold, and how long it is.
+fn read_suited(bytes: &[u8], layout: u8) -> Option<(Input, usize)>
+    ensures { MatchOption result ((x : Input) (n : ℕ) → BeginsWith bytes.now x n → Suits layout x → ⊥)
+        (λ found. BeginsWith bytes.now found.0 found.1 × Suits layout found.0) }
 {
     let Ok((input, size)) = read_record(bytes) else {
         return None;
     };
-    match input {
-        Input::Retire { .. } => None,
-        Input::Stand { .. } | Input::Take { .. } | Input::Acked { .. } => Some((input, size)),
+    if suits(&input, layout) {
+        Some((input, size))
+    } else {
+        None
     }
 }
 
 // Takes so many records from the bytes, and tells whether they were there and nothing else.
-fn take_records(inputs: &mut Vec<Input>, bytes: &[u8], count: usize) -> bool
-    requires room { length bytes.now ≤ 9 * (vec_capacity inputs.old - vec_len inputs.old) }
-    ensures taken { result ≡ true → (layout : ℕ) → TakesRecords layout inputs.old.items inputs.new.items count bytes.now [] }
-    ensures broken { result ≡ false → (layout : ℕ) (batch : List Input) → length batch ≡ count → HaveRecords layout batch → bytes.now ≡ records batch → ⊥ }
-    ensures room { result ≡ true → 9 * (vec_capacity inputs.old - vec_len inputs.old) ≤ 9 * (vec_capacity inputs.new - vec_len inputs.new) + length bytes.now }
+fn take_records(inputs: &mut Vec<Input>, bytes: &[u8], count: usize, layout: u8) -> bool
+    requires room { length bytes.now ≤ 7 * (vec_capacity inputs.old - vec_len inputs.old) }
+    ensures taken { result ≡ true → TakesRecords layout inputs.old.items inputs.new.items count bytes.now [] }
+    ensures broken { result ≡ false → (batch : List Input) → length batch ≡ count → HaveRecords layout batch → bytes.now ≡ records batch → ⊥ }
+    ensures room { result ≡ true → 7 * (vec_capacity inputs.old - vec_len inputs.old) ≤ 7 * (vec_capacity inputs.new - vec_len inputs.new) + length bytes.now }
 {
     let mut rest = bytes;
     for _ in 0..count {
-        let Some((input, size)) = read_suited(rest) else {
+        let Some((input, size)) = read_suited(rest, layout) else {
             return false;
         };
         inputs.push_reserved(input);
@@ -75,18 +77,18 @@ fn take_records(inputs: &mut Vec<Input>, bytes: &[u8], count: usize) -> bool
     rest.is_empty()
 }
 
-/// Takes the inputs of the frame at the head, and tells how long it is.
-pub(crate) fn take_frame(inputs: &mut Vec<Input>, tail: &[u8]) -> Option<usize>
-    requires room { length tail.now ≤ 9 * (vec_capacity inputs.old - vec_len inputs.old) }
-    ensures frame { MatchOption result ((layout : ℕ) → NoFrame layout tail.now) (λ size. (layout : ℕ) → TakesFrame layout inputs.old.items inputs.new.items tail.now size) }
+/// Takes the inputs of the frame at the head, in this layout, and tells how long it is.
+pub(crate) fn take_frame(inputs: &mut Vec<Input>, tail: &[u8], layout: u8) -> Option<usize>
+    requires room { length tail.now ≤ 7 * (vec_capacity inputs.old - vec_len inputs.old) }
+    ensures frame { MatchOption result (NoFrame layout tail.now) (λ size. TakesFrame layout inputs.old.items inputs.new.items tail.now size) }
     ensures size { MatchOption result (Unit {0}) (λ size. size ≤ length tail.now) }
-    ensures room { MatchOption result (Unit {0}) (λ size. 9 * (vec_capacity inputs.old - vec_len inputs.old) ≤ 9 * (vec_capacity inputs.new - vec_len inputs.new) + size) }
+    ensures room { MatchOption result (Unit {0}) (λ size. 7 * (vec_capacity inputs.old - vec_len inputs.old) ≤ 7 * (vec_capacity inputs.new - vec_len inputs.new) + size) }
 {
     let (count, records) = match head_of(tail) {
         Some(head) => head,
         None => return None,
     };
-    if take_records(inputs, records, count) {
+    if take_records(inputs, records, count, layout) {
         Some(6 + records.len())
     } else {
         None

@@ -131,7 +131,7 @@ fn make_room(found: &mut Found, bytes: usize) -> Result<(), AllocError>
     ensures room { OnOk result (HasRoom found.new bytes) }
 {
     make_snapshot_room(found.stage, &mut found.snapshot, bytes)?;
-    found.inputs.reserve(bytes / 9 + 1)
+    found.inputs.reserve(bytes / 7 + 1)
 }
 
 // Room in the snapshot is needed only while it goes on.
@@ -211,7 +211,7 @@ fn take_part(found: &mut Found, layout: u8, bytes: &[u8]) -> (Stage, usize)
     match found.stage {
         Stage::Head => take_head(&found.snapshot, layout, bytes),
         Stage::Snapshot(left) => take_snapshot(&mut found.snapshot, left, bytes),
-        Stage::Frames => take_framed(&mut found.inputs, found.at, bytes),
+        Stage::Frames => take_framed(&mut found.inputs, found.at, bytes, layout),
         Stage::Done => (Stage::Done, 0),
         Stage::Damaged(at) => (Stage::Damaged(at), 0),
     }
@@ -286,15 +286,20 @@ fn take_snapshot(snapshot: &mut SummaryReader, left: u32, bytes: &[u8]) -> (Stag
     }
 }
 
-// A frame with its gate.
-pub(crate) fn take_framed(inputs: &mut Vec<Input>, at: u64, bytes: &[u8]) -> (Stage, usize)
-    requires room { length bytes.now ≤ 9 * (vec_capacity inputs.old - vec_len inputs.old) }
-    ensures holds { (layout n : ℕ) (snapshot taken : List ℕ) → at ≡ length taken → InFrames layout n snapshot taken inputs.old.items
+// A frame of this layout, with its gate.
+pub(crate) fn take_framed(
+    inputs: &mut Vec<Input>,
+    at: u64,
+    bytes: &[u8],
+    layout: u8,
+) -> (Stage, usize)
+    requires room { length bytes.now ≤ 7 * (vec_capacity inputs.old - vec_len inputs.old) }
+    ensures holds { (n : ℕ) (snapshot taken : List ℕ) → at ≡ length taken → InFrames layout n snapshot taken inputs.old.items
         → IsFound layout n result.0 snapshot inputs.new.items (taken ++ take result.1 bytes.now) (drop result.1 bytes.now) }
     ensures waits { result.1 ≡ 0 → IsWaiting result.0 bytes.now }
-    ensures room { 1 ≤ result.1 → length bytes.now - result.1 ≤ 9 * (vec_capacity inputs.new - vec_len inputs.new) }
+    ensures room { 1 ≤ result.1 → length bytes.now - result.1 ≤ 7 * (vec_capacity inputs.new - vec_len inputs.new) }
     ensures before { IsBefore result.0 → ⊥ }
-    ensures lists { (layout : ℕ) (taken : List ℕ) → Lists layout taken inputs.old.items
+    ensures lists { (taken : List ℕ) → Lists layout taken inputs.old.items
         → IsListed layout result.0 (taken ++ take result.1 bytes.now) inputs.new.items (drop result.1 bytes.now) }
     ensures damaged { (p : ℕ) → result.0 ≡ Stage.Damaged p → p ≡ at }
     ensures more { 1 ≤ result.1 → result.0 ≡ Stage.Frames }
@@ -309,7 +314,7 @@ pub(crate) fn take_framed(inputs: &mut Vec<Input>, at: u64, bytes: &[u8]) -> (St
     if is_short(&bytes[1..]) {
         return (Stage::Frames, 0);
     }
-    match take_frame(inputs, &bytes[1..]) {
+    match take_frame(inputs, &bytes[1..], layout) {
         Some(size) => (Stage::Frames, 1 + size),
         None => (Stage::Damaged(at), 0),
     }

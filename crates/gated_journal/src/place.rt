@@ -37,7 +37,7 @@ pub(crate) struct Place {
 impl Place {
     ghost use Rattle.gated_journal.specs.Batch.{kept_in};
     ghost use Rattle.gated_journal.specs.Place.{reading_behind, IsTakenAt, Stands};
-    ghost use Rattle.gated_journal.specs.Works.{flown_by, summary_by, count_after, used_after, epoch_after};
+    ghost use Rattle.gated_journal.specs.Works.{flown_by, summary_by, count_after, used_after, layout_after, epoch_after};
 
     /// Writes the work, whose gate is opened once all else is stable: what flew, where the journal stands once that is
     /// durable, and whether it is.
@@ -59,6 +59,7 @@ impl Place {
         ensures capacity { result.1.capacity ≡ self.now.capacity }
         ensures count { result.1.count ≡ count_after (summary_by work) (length (flown_by work).inputs) self.now.count }
         ensures used { result.1.used ≡ used_after (flown_by work).snapshot (costs_of (flown_by work).inputs) self.now.used }
+        ensures layout { result.1.area.layout ≡ layout_after (flown_by work).snapshot self.now.area.layout }
         ensures epoch { result.1.area.epoch ≡ epoch_after (flown_by work).snapshot self.now.area.epoch }
     {
         match work {

@@ -1,8 +1,7 @@
 //! A frame's bytes.
-ghost use Rattle.std.specs.Prelude.{◌≡◌, ◌≤◌, ◌+◌, ◌*◌, ◌^◌, ◌<◌, ◌++◌, ◌∷◌, [], false, length, IfOk, OnOk};
-ghost use Rattle.std.specs.List.{list_any};
+ghost use Rattle.std.specs.Prelude.{◌≡◌, ◌≤◌, ◌+◌, ◌*◌, ◌^◌, ◌<◌, ◌++◌, ◌∷◌, [], length, IfOk, OnOk};
 ghost use Rattle.ring_records.specs.declared.limits.TheConstants.{BATCH_INPUTS};
-ghost use Rattle.ring_records.specs.Admission.{costs_of, newest, not_yet};
+ghost use Rattle.ring_records.specs.Admission.{costs_of, newest};
 ghost use Rattle.ring_records.specs.Record.{AreBytes, HasRecord, record_of};
 ghost use Rattle.gated_journal.specs.Frames.{IsFrame, records};
 
@@ -40,11 +39,10 @@ fn push_record(bytes: &mut Vec<u8>, input: &Input) -> Result<(), AllocError>
     push_text(bytes, &record[..size])
 }
 
-/// The frame of the inputs behind its gate, and the next gate, which is closed.
+/// The frame of the inputs behind its gate, in the newest layout, and the next gate, which is closed.
 pub(crate) fn spell(alloc: Global, inputs: &[Input]) -> Result<Vec<u8>, AllocError>
     requires some { 1 ≤ length inputs.now }
     requires few { length inputs.now ≤ BATCH_INPUTS }
-    requires yet { list_any not_yet inputs.now ≡ false }
     ensures { IfOk result (λ bytes. IsFrame newest inputs.now bytes.items) }
 {
     let count = inputs.len() as u16;

@@ -15,6 +15,7 @@ use Rattle.gated_journal.specs.declared.checkpoint.Checkpoint.{Checkpoint}
 use Rattle.gated_journal.specs.declared.work.Work.{Work}
 use Rattle.gated_journal.specs.declared.work.Work.TheVariants as works
 use Rattle.gated_journal.specs.Batch.{Numbered, numbered_with, numbered_by, base_by, shown}
+use Rattle.gated_journal.specs.Frames.{AreSuited}
 use Rattle.gated_journal.specs.Works.{flown_by, summary_by}
 use Rattle.node_core.specs.Core.{IsNodeOf}
 use Rattle.group_commit.specs.Desk.{DeskKept, epochs, is_due, known_all, launch_objection, launched, launched_all}
@@ -62,11 +63,12 @@ FliesLawfully m opening known flown = IsLawfulBehind m opening (flying_behind kn
 
 -- ---- for a journal of the node that has so much durable
 
--- It may commit the batch.
+-- It may commit the batch, which the area in use may hold.
 pub record IsNextBatch (m : Member) (opening : Summary) (known : Durable) (batch : Numbered) : Type 0 where
   pub node : batch.node ≡ m.node
   pub first : batch.first ≡ opening.inputs + length known.inputs
   pub room : used known.base known.inputs + costs_of batch.inputs ≤ m.capacity
+  pub suits : AreSuited known.base.layout batch.inputs
   pub lawful : FliesLawfully m opening known batch
 
 -- It may make the checkpoint, where the node is one of the ring: its summary is that of all, and it is due, since what is

@@ -68,6 +68,7 @@ fn committed(rt: &impl Abort, alloc: Global) -> Journal<MemDevice>
     assert!(rt; batch.node() == journal.node());
     assert!(rt; batch.first() == journal.len());
     assert!(rt; journal.room() >= batch.cost());
+    assert!(rt; journal.suits(batch.inputs()));
     is_durable(rt, journal.commit(batch));
     journal
 }

@@ -20,6 +20,7 @@ mod hostile;
 mod images;
 mod pieces;
 mod plain;
+mod retires;
 mod rows;
 mod stops;
 
@@ -140,6 +141,7 @@ fn commits<D: Device, R: Abort + AllocGlobal>(
     assert!(rt; batch.node() == journal.node());
     assert!(rt; batch.first() == journal.len());
     assert!(rt; journal.room() >= batch.cost());
+    assert!(rt; journal.suits(batch.inputs()));
     let committed = is_spent(rt, journal.commit(batch), first, inputs, None);
     assert_eq!(rt; journal.is_spoiled(), !committed);
     committed

@@ -28,7 +28,7 @@ use Rattle.gated_journal.specs.declared.checkpoint.Checkpoint.{Checkpoint}
 use Rattle.gated_journal.specs.declared.journal.Journal.{Journal}
 use Rattle.gated_journal.specs.Areas.{AllReadAs, ReadsAsOneOf}
 use Rattle.gated_journal.specs.Batch.{Numbered, numbered, numbered_with, numbered_by, base_by, shown}
-use Rattle.gated_journal.specs.Journal.{device_of, member_of, len_of, room_of, epoch_of, is_spoiled}
+use Rattle.gated_journal.specs.Journal.{device_of, member_of, len_of, room_of, layout_of, epoch_of, is_spoiled}
 use Rattle.gated_journal.specs.Reading.{Reading, fresh_area, with_more}
 use Rattle.gated_journal.specs.Unread.{IsFault}
 use Rattle.node_core.specs.Core.{IsNodeOf}
@@ -42,7 +42,8 @@ use Rattle.gated_journal.specs.declared.work.Work.TheVariants as work
 use Rattle.node_store.specs.Recovery.{IsUnbegun}
 use Rattle.node_store.specs.Standing.{Flies, Stands}
 use Rattle.node_store.specs.State.{MayBeLeft, area_with, durable_held, flown_held}
-use Rattle.gated_journal.specs.Works.{count_after, epoch_after, flown_by, reading_after, room_after, summary_by}
+use Rattle.gated_journal.specs.Frames.{AreSuited}
+use Rattle.gated_journal.specs.Works.{count_after, epoch_after, flown_by, layout_after, reading_after, room_after, summary_by}
 use Rattle.node_store.proofs.Left.{may_be_left}
 
 -- ---- why nothing is launched
@@ -207,8 +208,8 @@ module _ {D : Type 0} {g : Ghosts D} (desk : DeskKept) (journal : Journal D g) (
         ((λ i. record { layout = s.base.layout; epoch = s.base.epoch; base = after m.node desk.opening (sym front i); inputs = sym rest i }) ∙ ap (area_with desk s.base) (flown (launched s) batch_counts))
 
     pub batch_flies : (batch : Batch) → s.durable < length s.inputs → shown batch ≡ numbered m.node first (flying_in (launched s)) → used s.base (flown_in (launched s)) ≤ m.capacity
-        → Flies (record desk { view = desks.launched desk.view }) journal (work.Batch batch)
-    batch_flies batch some is fits =
+        → AreSuited s.base.layout (shown batch).inputs → Flies (record desk { view = desks.launched desk.view }) journal (work.Batch batch)
+    batch_flies batch some is fits suits =
         let ready = stands.ready works in
         let inputs : (shown batch).inputs ≡ flying_in (launched s) = ap (λ (n : Numbered). n.inputs) is in
         let count : s.durable + length (shown batch).inputs ≡ (launched s).flying = ap (λ (l : List Input). s.durable + length l) inputs ∙ flown_count (launched s) batch_counts in
@@ -223,7 +224,12 @@ module _ {D : Type 0} {g : Ghosts D} (desk : DeskKept) (journal : Journal D g) (
           flying = is_flying (record desk { view = desks.launched desk.view }) (shown batch) (rw ready.none is);
           ready = ready.works;
           all = all works;
-          taken = (ap (λ (n : Numbered). n.node) is ∙ ap (λ (n : Member). n.node) (sym stands.named), ap (λ (n : Numbered). n.first) is ∙ sym ready.count, omega (arith, costs, fits, ready.left, bytes));
+          taken = (
+            ap (λ (n : Numbered). n.node) is ∙ ap (λ (n : Member). n.node) (sym stands.named),
+            ap (λ (n : Numbered). n.first) is ∙ sym ready.count,
+            omega (arith, costs, fits, ready.left, bytes),
+            subst (λ (k : ℕ). AreSuited k (shown batch).inputs) (sym ready.form) suits,
+          );
           held = ap (with_more (durable_held desk)) inputs ∙ joined;
           other = λ one. omega (arith, some, ap (λ (r : Reading). length r.inputs) (one ∙ sym joined), length-append (durable_held desk).inputs (flying_in (launched s)), flown_count (launched s) batch_counts);
           behind = record {
@@ -232,6 +238,7 @@ module _ {D : Type 0} {g : Ghosts D} (desk : DeskKept) (journal : Journal D g) (
             works = refl;
             count = omega (arith, ready.count, count);
             left = rw ready.none (omega (arith, ready.left, costs, bytes));
+            form = rw ready.none ready.form;
             area = rw ready.none ready.area;
           };
         }
@@ -291,6 +298,7 @@ module _ {D : Type 0} {g : Ghosts D} (desk : DeskKept) (journal : Journal D g) (
             count = ap (λ (k : Summary). k.inputs) base ∙ after-inputs m.node desk.opening s.inputs;
             left = ap (λ (o : Option ℕ). room_after o (member_of journal).capacity (costs_of (numbered_by made).inputs) (room_of journal)) snapshot
                 ∙ (λ i. (stands.named i).capacity - sym (used-none (next_area desk) (take (length s.inputs) s.inputs) none_of) i);
+            form = ap (λ (o : Option ℕ). layout_after o (layout_of journal)) snapshot;
             area = ap (λ (o : Option ℕ). epoch_after o (epoch_of journal)) snapshot ∙ ap (λ k. k + 1) ready.area;
           };
         }
@@ -314,15 +322,16 @@ module _ {D : Type 0} {g : Ghosts D} (desk : DeskKept) (old new : Journal D g) (
 
   pub lands : member_of new ≡ member_of old → AllReadAs (member_of old) (g.disk (device_of new)) with_it → is_spoiled new ≡ false
       → len_of new ≡ count_after (summary_by w) (length (flown_by w).inputs) (len_of old)
-      → room_of new ≡ room_after (flown_by w).snapshot (member_of old).capacity (costs_of (flown_by w).inputs) (room_of old) → epoch_of new ≡ epoch_after (flown_by w).snapshot (epoch_of old)
+      → room_of new ≡ room_after (flown_by w).snapshot (member_of old).capacity (costs_of (flown_by w).inputs) (room_of old)
+      → layout_of new ≡ layout_after (flown_by w).snapshot (layout_of old) → epoch_of new ≡ epoch_after (flown_by w).snapshot (epoch_of old)
       → Stands (record desk { view = desks.landed desk.view }) new
-  lands same read unspoiled longer less later = record {
+  lands same read unspoiled longer less layout later = record {
     inside = flies.inside;
     counts = record { durable = omega arith; flying = flies.counts.flying; based = next-few desk.view.state flies.counts; checkpointed = λ b e. none≢some b e };
     lawful = λ past of. rw (landed_shifted past desk.view.state) (lawful-landed desk.view.member (seen past desk).state (flies.lawful past of));
     named = same ∙ flies.named;
     holds = λ image left. inl (rw (same, flies.named) (landed_all read image left));
-    ready = λ _. let ready = flies.behind in record { idle = refl; none = refl; works = unspoiled; count = longer ∙ ready.count; left = less ∙ ready.left; area = later ∙ ready.area };
+    ready = λ _. let ready = flies.behind in record { idle = refl; none = refl; works = unspoiled; count = longer ∙ ready.count; left = less ∙ ready.left; form = layout ∙ ready.form; area = later ∙ ready.area };
   }
 
   -- the device failed

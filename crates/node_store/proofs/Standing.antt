@@ -17,7 +17,7 @@ use Rattle.ring_records.proofs.Snapshots.{length-empty}
 use Rattle.ring_records.proofs.States.{lawful-asked}
 use Rattle.gated_journal.specs.declared.journal.Journal.{Journal}
 use Rattle.gated_journal.specs.Areas.{AllReadAs, ReadsAsOneOf}
-use Rattle.gated_journal.specs.Journal.{device_of, member_of, len_of, room_of, epoch_of, is_spoiled}
+use Rattle.gated_journal.specs.Journal.{device_of, member_of, len_of, room_of, layout_of, epoch_of, is_spoiled}
 use Rattle.gated_journal.specs.Reading.{Reading, count_in, fresh_area, used_in}
 use Rattle.node_core.specs.Core.{IsNodeOf}
 use Rattle.group_commit.specs.Desk.{DeskKept, DeskView, core_of, new_desk, seen, IsSubmitted}
@@ -55,19 +55,19 @@ module _ {D : Type 0} {g : Ghosts D} (desk : DeskKept) (journal : Journal D g) (
     lawful = stands.lawful;
     named = stands.named;
     holds = stands.holds;
-    ready = λ works. let r = stands.ready works in record { idle = r.idle; none = r.none; works = r.works; count = r.count; left = r.left; area = r.area };
+    ready = λ works. let r = stands.ready works in record { idle = r.idle; none = r.none; works = r.works; count = r.count; left = r.left; form = r.form; area = r.area };
   }
 
   -- another fuse of the journal's device
   pub rearmed : (new : Journal D g) → member_of new ≡ member_of journal → g.disk (device_of new) ≡ g.disk (device_of journal) → is_spoiled new ≡ is_spoiled journal
-      → len_of new ≡ len_of journal → room_of new ≡ room_of journal → epoch_of new ≡ epoch_of journal → Stands desk new
-  rearmed new member disk spoiled len room epoch = record {
+      → len_of new ≡ len_of journal → room_of new ≡ room_of journal → layout_of new ≡ layout_of journal → epoch_of new ≡ epoch_of journal → Stands desk new
+  rearmed new member disk spoiled len room layout epoch = record {
     inside = stands.inside;
     counts = stands.counts;
     lawful = stands.lawful;
     named = member ∙ stands.named;
     holds = λ image may. subst (λ (m : Member). ReadsOnce m (durable_held desk) (flown_held desk) image) (sym member) (stands.holds image (subst (λ (d : Disk). MayLeave d image) disk may));
-    ready = λ works. let r = stands.ready works in record { idle = r.idle; none = r.none; works = spoiled ∙ r.works; count = len ∙ r.count; left = room ∙ r.left; area = epoch ∙ r.area };
+    ready = λ works. let r = stands.ready works in record { idle = r.idle; none = r.none; works = spoiled ∙ r.works; count = len ∙ r.count; left = room ∙ r.left; form = layout ∙ r.form; area = epoch ∙ r.area };
   }
 
   -- a request
@@ -90,7 +90,7 @@ module _ {D : Type 0} {g : Ghosts D} (desk : DeskKept) (journal : Journal D g) (
             (lawful-asked desk.view.member (seen past desk).state q (stands.lawful past of));
         named = stands.named;
         holds = λ image may. rw (durable, flown) (stands.holds image may);
-        ready = λ works. let r = stands.ready works in record { idle = r.idle; none = r.none; works = r.works; count = r.count; left = rw durable r.left; area = r.area };
+        ready = λ works. let r = stands.ready works in record { idle = r.idle; none = r.none; works = r.works; count = r.count; left = rw durable r.left; form = r.form; area = r.area };
       })
 
 -- ---- a node that is opened
@@ -98,9 +98,9 @@ module _ {D : Type 0} {g : Ghosts D} (desk : DeskKept) (journal : Journal D g) (
 module _ {D : Type 0} {g : Ghosts D} (m : Member) (journal : Journal D g) (run : ℕ) where
   pub opens : (r : Reading) → IsNodeOf m.n m.node → member_of journal ≡ m
       → IsKnownLawful (core_of m r) r.inputs → AllReadAs (member_of journal) (g.disk (device_of journal)) r → is_spoiled journal ≡ false
-      → len_of journal ≡ count_in r → room_of journal ≡ m.capacity - used_in r → epoch_of journal ≡ r.epoch → Stands (new_desk m run r) journal
+      → len_of journal ≡ count_in r → room_of journal ≡ m.capacity - used_in r → layout_of journal ≡ r.layout → epoch_of journal ≡ r.epoch → Stands (new_desk m run r) journal
   unfolding used
-  opens r inside named lawful all works count left area =
+  opens r inside named lawful all works count left layout area =
       let whole : take (length r.inputs) r.inputs ≡ r.inputs = take_all (length r.inputs) r.inputs (omega arith) in
       record {
         inside = inside;
@@ -108,11 +108,11 @@ module _ {D : Type 0} {g : Ghosts D} (m : Member) (journal : Journal D g) (run :
         lawful = λ past is. lawful_seen m r.layout r.epoch r.base past r.inputs (length r.inputs) (length r.inputs) is lawful (omega arith) (omega arith);
         named = named;
         holds = λ image may. inl (rw whole (all image may));
-        ready = λ _. record { idle = refl; none = refl; works = works; count = count; left = rw whole left; area = area };
+        ready = λ _. record { idle = refl; none = refl; works = works; count = count; left = rw whole left; form = layout; area = area };
       }
 
   -- a new one
   pub opens_empty : IsNodeOf m.n m.node → member_of journal ≡ m → AllReadAs (member_of journal) (g.disk (device_of journal)) (fresh_area newest 1 empty) → is_spoiled journal ≡ false
-      → len_of journal ≡ 0 → room_of journal ≡ m.capacity - 42 → epoch_of journal ≡ 1 → Stands (new_desk m run (fresh_area newest 1 empty)) journal
+      → len_of journal ≡ 0 → room_of journal ≡ m.capacity - 42 → layout_of journal ≡ newest → epoch_of journal ≡ 1 → Stands (new_desk m run (fresh_area newest 1 empty)) journal
   unfolding EachAfter
-  opens_empty inside named all works count left area = opens (fresh_area newest 1 empty) inside named tt all works count (omega (arith, left, length-empty newest (omega arith))) area
+  opens_empty inside named all works count left layout area = opens (fresh_area newest 1 empty) inside named tt all works count (omega (arith, left, length-empty newest (omega arith))) layout area

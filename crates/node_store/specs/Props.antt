@@ -11,7 +11,7 @@ use Rattle.ring_records.specs.Member.{Member}
 use Rattle.ring_records.specs.Props.{IsLawful-prop, IsNodeState-prop}
 use Rattle.ring_records.specs.States.{NodeState, IsLawfulState, launched_base, durable_in, flown_in}
 use Rattle.gated_journal.specs.declared.journal.Journal.{Journal}
-use Rattle.gated_journal.specs.Journal.{member_of, len_of, room_of, epoch_of, is_spoiled}
+use Rattle.gated_journal.specs.Journal.{member_of, len_of, room_of, layout_of, epoch_of, is_spoiled}
 use Rattle.gated_journal.specs.Reading.{Reading}
 use Rattle.gated_journal.proofs.AreaAlone.{one_reading}
 use Rattle.gated_journal.proofs.Once.{ReadsAs-prop}
@@ -51,8 +51,8 @@ IsLawfulState-prop m s p q i = record {
 IsNodeOf-prop : (n me : ℕ) → IsProp (IsNodeOf n me)
 IsNodeOf-prop n me p q i = record { from = le_prop p.from q.from i; to = le_prop p.to q.to i; in_ring = le_prop p.in_ring q.in_ring i }
 
-IsReady-prop : (desk : DeskKept) (spoiled : Bool) (len room epoch : ℕ) → IsProp (IsReady desk spoiled len room epoch)
-IsReady-prop desk spoiled len room epoch p q =
+IsReady-prop : (desk : DeskKept) (spoiled : Bool) (len room layout epoch : ℕ) → IsProp (IsReady desk spoiled len room layout epoch)
+IsReady-prop desk spoiled len room layout epoch p q =
     let number_set : IsSet ℕ = hlevel props in
     let bool_set : IsSet Bool = hlevel props in
     λ i. record {
@@ -61,6 +61,7 @@ IsReady-prop desk spoiled len room epoch p q =
       works = bool_set _ _ p.works q.works i;
       count = number_set _ _ p.count q.count i;
       left = number_set _ _ p.left q.left i;
+      form = number_set _ _ p.form q.form i;
       area = number_set _ _ p.area q.area i;
     }
 
@@ -74,5 +75,5 @@ module _ {D : Type 0} {g : Ghosts D} (desk : DeskKept) (journal : Journal D g) w
         lawful = λ past is. IsLawfulState-prop desk.view.member (seen past desk).state (p.lawful past is) (q.lawful past is) i;
         named = member_set _ _ p.named q.named i;
         holds = λ image left. ReadsOnce-prop (member_of journal) (durable_held desk) (flown_held desk) image (p.holds image left) (q.holds image left) i;
-        ready = λ works. IsReady-prop desk (is_spoiled journal) (len_of journal) (room_of journal) (epoch_of journal) (p.ready works) (q.ready works) i;
+        ready = λ works. IsReady-prop desk (is_spoiled journal) (len_of journal) (room_of journal) (layout_of journal) (epoch_of journal) (p.ready works) (q.ready works) i;
       }

@@ -8,9 +8,9 @@ use Rattle.ring_records.specs.Member.{Member}
 use Rattle.ring_records.specs.States.{IsNodeState, IsLawfulState, durable_in}
 use Rattle.gated_journal.specs.declared.journal.Journal.{Journal}
 use Rattle.gated_journal.specs.Areas.{ReadsAs, AllReadAs}
-use Rattle.gated_journal.specs.Journal.{device_of, member_of, len_of, room_of, epoch_of, is_spoiled}
+use Rattle.gated_journal.specs.Journal.{device_of, member_of, len_of, room_of, layout_of, epoch_of, is_spoiled}
 use Rattle.gated_journal.specs.Reading.{Reading}
-use Rattle.gated_journal.specs.Works.{IsTaken, count_after, epoch_after, flown_by, reading_after, room_after, summary_by}
+use Rattle.gated_journal.specs.Works.{IsTaken, count_after, epoch_after, flown_by, layout_after, reading_after, room_after, summary_by}
 use Rattle.gated_journal.specs.declared.work.Work.{Work}
 use Rattle.node_core.specs.Core.{IsNodeOf}
 use Rattle.group_commit.specs.Desk.{DeskKept, IsFlying, landed, seen}
@@ -23,12 +23,13 @@ ReadsOnce member old new image = ReadsAs member image old ⊎ ((old ≢ new) × 
 
 -- nothing flies, and a journal with these numbers takes the next batch behind the durable inputs, or the next area behind
 -- the one in use
-pub record IsReady (desk : DeskKept) (spoiled : Bool) (len room epoch : ℕ) : Type 0 where
+pub record IsReady (desk : DeskKept) (spoiled : Bool) (len room layout epoch : ℕ) : Type 0 where
   pub idle : desk.view.state.flying ≡ desk.view.state.durable
   pub none : desk.view.state.checkpoint ≡ None
   pub works : spoiled ≡ false
   pub count : len ≡ desk.opening.inputs + desk.view.state.durable
   pub left : room ≡ desk.view.member.capacity - used desk.view.state.base (durable_in desk.view.state)
+  pub form : layout ≡ desk.view.state.base.layout
   pub area : epoch ≡ desk.view.state.base.epoch
 
 module _ {D : Type 0} {g : Ghosts D} where
@@ -40,7 +41,7 @@ module _ {D : Type 0} {g : Ghosts D} where
     pub lawful : (past : List Input) → IsPast desk.view.member desk.opening past → IsLawfulState desk.view.member (seen past desk).state
     pub named : member_of journal ≡ desk.view.member
     pub holds : (image : List ℕ) → MayLeave (g.disk (device_of journal)) image → ReadsOnce (member_of journal) (durable_held desk) (flown_held desk) image
-    pub ready : desk.view.failed ≡ false → IsReady desk (is_spoiled journal) (len_of journal) (room_of journal) (epoch_of journal)
+    pub ready : desk.view.failed ≡ false → IsReady desk (is_spoiled journal) (len_of journal) (room_of journal) (layout_of journal) (epoch_of journal)
 
   -- The work flies of a desk that has not failed, in a lawful state. The journal holds what is durable, and takes the work;
   -- with it the journal holds what flies too, which is something else, and is ready again.
@@ -53,10 +54,11 @@ module _ {D : Type 0} {g : Ghosts D} where
     pub flying : IsFlying desk (flown_by work)
     pub ready : is_spoiled journal ≡ false
     pub all : AllReadAs (member_of journal) (g.disk (device_of journal)) (durable_held desk)
-    pub taken : IsTaken (member_of journal) (len_of journal) (room_of journal) (epoch_of journal) work
+    pub taken : IsTaken (member_of journal) (len_of journal) (room_of journal) (layout_of journal) (epoch_of journal) work
     pub held : reading_after (epoch_of journal) (summary_by work) (flown_by work).inputs (durable_held desk) ≡ flown_held desk
     pub other : durable_held desk ≢ flown_held desk
     pub behind : IsReady (record desk { view = landed desk.view }) false
         (count_after (summary_by work) (length (flown_by work).inputs) (len_of journal))
         (room_after (flown_by work).snapshot (member_of journal).capacity (costs_of (flown_by work).inputs) (room_of journal))
+        (layout_after (flown_by work).snapshot (layout_of journal))
         (epoch_after (flown_by work).snapshot (epoch_of journal))

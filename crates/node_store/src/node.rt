@@ -301,6 +301,7 @@ impl<D: Device> Node<D> {
         ensures ready { journals.is_spoiled result.1 ≡ false }
         ensures len { journals.len_of result.1 ≡ result.0.opening.inputs + result.0.view.state.durable }
         ensures room { journals.room_of result.1 ≡ result.0.view.member.capacity - used result.0.view.state.base (durable_in result.0.view.state) }
+        ensures layout { journals.layout_of result.1 ≡ result.0.view.state.base.layout }
         ensures epoch { journals.epoch_of result.1 ≡ result.0.view.state.base.epoch }
         ensures durable { AllReadAs result.0.view.member (D.disk (journals.device_of result.1)) (durable_held result.0) }
     {

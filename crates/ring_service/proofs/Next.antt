@@ -9,22 +9,23 @@ use Rattle.ring_records.specs.Member.{Member}
 use Rattle.ring_records.specs.Snapshot.{snapshot_len}
 use Rattle.ring_records.proofs.Lists.{none≢some}
 use Rattle.node_core.specs.Core.{IsNodeOf}
-use Rattle.gated_journal.specs.Batch.{base_by, numbered_by}
+use Rattle.gated_journal.specs.Batch.{base_by, numbered_by, shown}
+use Rattle.gated_journal.specs.Frames.{AreSuited}
 use Rattle.gated_journal.specs.declared.work.Work.{Work}
 use Rattle.gated_journal.specs.declared.work.Work.TheVariants as works
 use Rattle.commit_hub.specs.Tied.{Durable, with_area, with_batch}
 use Rattle.commit_hub.specs.Works.{flown_by, summary_by, flying_behind, IsLawfulBehind, IsNext}
 use Rattle.group_commit.proofs.Costs.{used-joined}
 use Rattle.commit_hub.proofs.Works.{after-inputs}
-use Rattle.gated_journal.specs.Works.{IsTaken, count_after, epoch_after, room_after}
+use Rattle.gated_journal.specs.Works.{IsTaken, count_after, epoch_after, layout_after, room_after}
 use Rattle.ring_service.specs.Rounds.{HasKnown, IsMade, IsSpent, known_behind}
 
 -- a journal that has what is known to be durable takes it
-pub takes : (member : Member) (opening : Summary) (known : Durable) (len room epoch : ℕ) (w : Work) → IsNodeOf member.n member.node → HasKnown member opening known len room epoch
-    → IsNext member opening known w → IsTaken member len room epoch w
-takes member opening known len room epoch (works.Batch batch) inside has next =
-    (next.node, next.first ∙ sym has.count, (let fits = next.room in let left = has.left in omega (arith, fits, left)))
-takes member opening known len room epoch (works.Checkpoint made) inside has next = (
+pub takes : (member : Member) (opening : Summary) (known : Durable) (len room layout epoch : ℕ) (w : Work) → IsNodeOf member.n member.node → HasKnown member opening known len room layout epoch
+    → IsNext member opening known w → IsTaken member len room layout epoch w
+takes member opening known len room layout epoch (works.Batch batch) inside has next =
+    (next.node, next.first ∙ sym has.count, (let fits = next.room in let left = has.left in omega (arith, fits, left)), subst (λ (k : ℕ). AreSuited k (shown batch).inputs) (sym has.form) next.suits)
+takes member opening known len room layout epoch (works.Checkpoint made) inside has next = (
   next.node,
   next.first ∙ sym has.count,
   (let short = next.short in omega (arith, short)),
@@ -33,10 +34,10 @@ takes member opening known len room epoch (works.Checkpoint made) inside has nex
 )
 
 -- and has its inputs more then, which a summary counts too
-pub counts : (member : Member) (opening : Summary) (known : Durable) (len room epoch : ℕ) (w : Work) → HasKnown member opening known len room epoch
+pub counts : (member : Member) (opening : Summary) (known : Durable) (len room layout epoch : ℕ) (w : Work) → HasKnown member opening known len room layout epoch
     → IsNext member opening known w → count_after (summary_by w) (length (flown_by w).inputs) len ≡ len + length (flown_by w).inputs
-counts member opening known len room epoch (works.Batch batch) has next = refl
-counts member opening known len room epoch (works.Checkpoint made) has next =
+counts member opening known len room layout epoch (works.Batch batch) has next = refl
+counts member opening known len room layout epoch (works.Checkpoint made) has next =
     let inputs = (numbered_by made).inputs in
     let all : (base_by made).inputs ≡ opening.inputs + length (known.inputs ++ inputs) = ap (λ (s : Summary). s.inputs) next.summary ∙ after-inputs member.node opening (known.inputs ++ inputs) in
     let count = has.count in omega (arith, all, count, length-append known.inputs inputs)
@@ -64,22 +65,24 @@ unfolding used
 alone known inputs bytes = let none : costs_of (drop (length (known.inputs ++ inputs)) (known.inputs ++ inputs)) ≡ 0 = ap costs_of (drop_all (length (known.inputs ++ inputs)) (known.inputs ++ inputs) (omega arith)) in omega (arith, none)
 
 -- and its journal has that
-pub has : (member : Member) (opening : Summary) (known : Durable) (len room epoch : ℕ) (w : Work) → known.base.inputs ≤ length known.inputs → HasKnown member opening known len room epoch
+pub has : (member : Member) (opening : Summary) (known : Durable) (len room layout epoch : ℕ) (w : Work) → known.base.inputs ≤ length known.inputs → HasKnown member opening known len room layout epoch
     → IsNext member opening known w
     → HasKnown member opening (known_behind (summary_by w) (flown_by w).inputs known) (len + length (flown_by w).inputs)
-    (room_after (flown_by w).snapshot member.capacity (costs_of (flown_by w).inputs) room) (epoch_after (flown_by w).snapshot epoch)
-has member opening known len room epoch (works.Batch batch) based before next =
+    (room_after (flown_by w).snapshot member.capacity (costs_of (flown_by w).inputs) room) (layout_after (flown_by w).snapshot layout) (epoch_after (flown_by w).snapshot epoch)
+has member opening known len room layout epoch (works.Batch batch) based before next =
     let inputs = (flown_by (works.Batch batch)).inputs in
     record {
       count = (let count = before.count in omega (arith, count, length-append known.inputs inputs));
       left = (let left = before.left in omega (arith, left, used-joined known.base known.inputs inputs based));
+      form = before.form;
       area = before.area;
     }
-has member opening known len room epoch (works.Checkpoint made) based before next =
+has member opening known len room layout epoch (works.Checkpoint made) based before next =
     let inputs = (numbered_by made).inputs in
     record {
       count = (let count = before.count in omega (arith, count, length-append known.inputs inputs));
       left = ap (λ (o : Option ℕ). room_after o member.capacity (costs_of inputs) room) next.snapshot ∙ ap (λ k. member.capacity - k) (sym (alone known inputs (snapshot_len newest (base_by made))));
+      form = ap (λ (o : Option ℕ). layout_after o layout) next.snapshot;
       area = ap (λ (o : Option ℕ). epoch_after o epoch) next.snapshot ∙ ap (λ k. k + 1) before.area;
     }
 

@@ -6,9 +6,10 @@ use Rattle.ring_records.specs.Member.{Member}
 use Rattle.commit_hub.specs.Tied.{Durable}
 use Rattle.ring_service.specs.Rounds.{HasKnown}
 
-pub HasKnown-prop : (ended : Bool) (m : Member) (opening : Summary) (known : Durable) (len room epoch : ℕ) → IsProp (ended ≡ false → HasKnown m opening known len room epoch)
-HasKnown-prop ended m opening known len room epoch p q i = λ works. record {
+pub HasKnown-prop : (ended : Bool) (m : Member) (opening : Summary) (known : Durable) (len room layout epoch : ℕ) → IsProp (ended ≡ false → HasKnown m opening known len room layout epoch)
+HasKnown-prop ended m opening known len room layout epoch p q i = λ works. record {
   count = Coded-set coded_ℕ _ _ (p works).count (q works).count i;
   left = Coded-set coded_ℕ _ _ (p works).left (q works).left i;
+  form = Coded-set coded_ℕ _ _ (p works).form (q works).form i;
   area = Coded-set coded_ℕ _ _ (p works).area (q works).area i;
 }

@@ -67,10 +67,11 @@ pub record IsStopped {V : Type 0} (clock : V → ℕ) (left_since : V → ℕ �
 
 -- ---- what a journal has
 
--- a journal with so many inputs, so much room and this epoch of its area in use has what is known to be durable
-pub record HasKnown (member : Member) (opening : Summary) (known : Durable) (len room epoch : ℕ) : Type 0 where
+-- a journal with so many inputs, so much room, and this layout and epoch of its area in use has what is known to be durable
+pub record HasKnown (member : Member) (opening : Summary) (known : Durable) (len room layout epoch : ℕ) : Type 0 where
   pub count : len ≡ opening.inputs + length known.inputs
   pub left : room ≡ member.capacity - used known.base known.inputs
+  pub form : layout ≡ known.base.layout
   pub area : epoch ≡ known.base.epoch
 
 -- ---- refusals

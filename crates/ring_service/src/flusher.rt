@@ -4,7 +4,7 @@ ghost use mathlib.Core.List.{IsPrefix};
 ghost use Rattle.disk_model.specs.Disk.{LeavesOnly, Reaches};
 ghost use Rattle.gated_journal.specs.Areas.{AllReadAs, ReadsAsOneOf};
 ghost use Rattle.gated_journal.specs.Batch.{landed, lost};
-ghost use Rattle.gated_journal.specs.Journal.{device_of, member_of, len_of, room_of, epoch_of as journal_epoch, is_spoiled};
+ghost use Rattle.gated_journal.specs.Journal.{device_of, member_of, len_of, room_of, layout_of, epoch_of as journal_epoch, is_spoiled};
 ghost use Rattle.gated_journal.specs.Reading.{Reading, device_size};
 ghost use Rattle.gated_journal.specs.Unread.{IsFault};
 ghost use Rattle.gated_journal.specs.Works.{reading_after};
@@ -40,7 +40,7 @@ pub struct Flusher<V: Device, J: Naming, A: Node> {
     ghost shown: { is_published ≡ true → pending board ≡ [] },
     ghost ready: { has_ended ≡ false → is_spoiled journal ≡ false },
     ghost member: { has_ended ≡ false → member_of journal ≡ A.member },
-    ghost known: { has_ended ≡ false → HasKnown A.member A.opening (known_by tie) (len_of journal) (room_of journal) (journal_epoch journal) } by { HasKnown-prop has_ended A.member A.opening (known_by tie) (len_of journal) (room_of journal) (journal_epoch journal) },
+    ghost known: { has_ended ≡ false → HasKnown A.member A.opening (known_by tie) (len_of journal) (room_of journal) (layout_of journal) (journal_epoch journal) } by { HasKnown-prop has_ended A.member A.opening (known_by tie) (len_of journal) (room_of journal) (layout_of journal) (journal_epoch journal) },
 }
 
 impl<V: Device, J: Naming, A: Node> Flusher<V, J, A> {
@@ -52,7 +52,7 @@ impl<V: Device, J: Naming, A: Node> Flusher<V, J, A> {
         requires inside { IsNodeOf A.member.n A.member.node }
         requires ready { is_spoiled journal ≡ false }
         requires member { member_of journal ≡ A.member }
-        requires known { HasKnown A.member A.opening (known_by tie) (len_of journal) (room_of journal) (journal_epoch journal) }
+        requires known { HasKnown A.member A.opening (known_by tie) (len_of journal) (room_of journal) (layout_of journal) (journal_epoch journal) }
         ensures journal { journal_of result ≡ journal }
         ensures known { known_to result ≡ known_by tie }
         ensures board { board_of result ≡ board }
@@ -195,7 +195,7 @@ fn settle<V: Device, A: Node, R: Wait>(
     requires inside { IsNodeOf A.member.n A.member.node }
     requires next { IsNext A.member A.opening (known_by tie.old) work }
     requires based { (known_by tie.old).base.inputs ≤ length (known_by tie.old).inputs }
-    requires known { HasKnown A.member A.opening (known_by tie.old) (len_of journal.old) (room_of journal.old) (journal_epoch journal.old) }
+    requires known { HasKnown A.member A.opening (known_by tie.old) (len_of journal.old) (room_of journal.old) (layout_of journal.old) (journal_epoch journal.old) }
     ensures count { IfOk result (λ landed. landed.count ≡ length (flown_by work).inputs) }
     ensures kind { IfOk result (λ landed. landed.is_checkpoint ≡ is_some (summary_by work)) }
     ensures brought { IfOk result (λ landed. IsBrought A.member A.opening (known_by tie.old).inputs (flown_by work).inputs landed) }
@@ -205,7 +205,7 @@ fn settle<V: Device, A: Node, R: Wait>(
     ensures ready { OnOk result (is_spoiled journal.new ≡ false) }
     ensures member { member_of journal.new ≡ A.member }
     ensures next { OnOk result (known_by tie.new ≡ known_behind (summary_by work) (flown_by work).inputs (known_by tie.old)) }
-    ensures known { OnOk result (HasKnown A.member A.opening (known_by tie.new) (len_of journal.new) (room_of journal.new) (journal_epoch journal.new)) }
+    ensures known { OnOk result (HasKnown A.member A.opening (known_by tie.new) (len_of journal.new) (room_of journal.new) (layout_of journal.new) (journal_epoch journal.new)) }
     ensures refusal { IfErr result (λ why. IsFault (V.count (device_of journal.old)) (V.count (device_of journal.new)) why ⊎ (why ≡ Refusal.Foreign)) }
     ensures spoiled { IfErr result (λ why. IsFault (V.count (device_of journal.old)) (V.count (device_of journal.new)) why → is_spoiled journal.new ≡ true) }
     ensures foreign { IfErr result (λ why. why ≡ Refusal.Foreign → IsSpent (len_of journal.old) (len_of journal.new) (journal_epoch journal.old) (journal_epoch journal.new) (is_spoiled journal.new)) }

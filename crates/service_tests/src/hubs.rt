@@ -2,7 +2,7 @@
 ghost use Rattle.std.specs.Prelude.{◌≡◌, ◌+◌, ◌-◌, ◌||◌, false, length, None};
 ghost use Rattle.ring_records.specs.Admission.{used};
 ghost use Rattle.ring_records.specs.States.{durable_in};
-ghost use Rattle.gated_journal.specs.Journal.{member_of, len_of, room_of, epoch_of, is_spoiled};
+ghost use Rattle.gated_journal.specs.Journal.{member_of, len_of, room_of, layout_of, epoch_of, is_spoiled};
 ghost use Rattle.node_core.specs.Core.{IsNodeOf};
 ghost use Rattle.node_store.specs.Node.{desk_of};
 ghost use Rattle.commit_hub.specs.Pages.{ForAccepted, ForTie};
@@ -112,6 +112,7 @@ fn on_hub<
     requires header { member_of journal ≡ desk.view.member }
     requires len { len_of journal ≡ desk.opening.inputs + desk.view.state.durable }
     requires room { room_of journal ≡ desk.view.member.capacity - used desk.view.state.base (durable_in desk.view.state) }
+    requires layout { layout_of journal ≡ desk.view.state.base.layout }
     requires epoch { epoch_of journal ≡ desk.view.state.base.epoch }
 {
     let board = Board::<J>::new(rt.alloc(), opened, &[], 2)?;

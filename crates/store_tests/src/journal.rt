@@ -60,6 +60,7 @@ pub fn commit(
     assert!(rt; batch.node() == journal.node());
     assert!(rt; batch.first() == journal.len());
     assert!(rt; journal.room() >= batch.cost());
+    assert!(rt; journal.suits(batch.inputs()));
     journal.commit(batch)
 }
 

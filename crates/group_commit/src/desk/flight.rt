@@ -8,6 +8,7 @@ ghost use Rattle.ring_records.specs.States as states;
 ghost use Rattle.ring_records.specs.States.{launched_base, durable_in, flown_in, flying_in};
 ghost use Rattle.ring_records.specs.Summary.{summary};
 ghost use Rattle.node_core.specs.Core.{IsNodeOf};
+ghost use Rattle.gated_journal.specs.Frames.{AreSuited};
 ghost use Rattle.group_commit.specs.Desk.{launched, landed};
 
 use crate::desk::Desk;
@@ -27,6 +28,7 @@ impl Desk {
         ensures batch { IfOk result (λ some. IfSome some (λ batch. batch_shown batch ≡ numbered self.old.view.member.node (self.old.opening.inputs + self.old.view.state.durable) (flying_in self.new.view.state))) }
         ensures none { IfOk result (λ some. MatchOption some (self.old.view.state.durable ≡ length self.old.view.state.inputs) (λ _. self.old.view.state.durable < length self.old.view.state.inputs)) }
         ensures fits { IfOk result (λ some. IfSome some (λ batch. used self.new.view.state.base (flown_in self.new.view.state) ≤ self.new.view.member.capacity)) }
+        ensures suits { IfOk result (λ some. IfSome some (λ batch. AreSuited self.old.view.state.base.layout (batch_shown batch).inputs)) }
         ensures next { OnOk result (self.new ≡ record self.old { view = launched self.old.view }) }
         ensures free { OnOk result (launch_objection self.old.view ≡ None) }
         ensures refusal { IfErr result (λ refusal. (launch_objection self.old.view ≡ Some refusal) ⊎ ((launch_objection self.old.view ≡ None) × (refusal ≡ Refusal.OutOfMemory))) }

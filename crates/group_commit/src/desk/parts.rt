@@ -1,9 +1,9 @@
 // What a desk has its core and its outbox do.
 ghost use Rattle.std.specs.Prelude.{◌≡◌, ◌+◌, ◌-◌, ◌^◌, ◌++◌, ◌∷◌, ◌≤◌, ◌<◌, ◌⊎◌, ℕ, List, [], false, Some, None, length, take, drop, IfSome, IfOk, IfErr, OnOk, OnErr};
-ghost use Rattle.std.specs.List.{cons_option, list_any};
+ghost use Rattle.std.specs.List.{cons_option};
 ghost use Rattle.ring_records.specs.declared.input.Input.{Input};
 ghost use Rattle.ring_records.specs.declared.summary.Summary.{Summary};
-ghost use Rattle.ring_records.specs.Admission.{newest, not_yet};
+ghost use Rattle.ring_records.specs.Admission.{newest};
 ghost use Rattle.ring_records.specs.Known.{after, stepped};
 ghost use Rattle.ring_records.specs.Snapshot.{IsSound, snapshot_len};
 ghost use Rattle.gated_journal.specs.Batch.{shown as batch_shown, numbered, numbered_with, numbered_by, base_by};
@@ -93,7 +93,6 @@ pub(super) fn prepare(
 ) -> Result<Batch, Refusal>
     requires some { 0 < length inputs.now }
     requires few { length inputs.now ≤ BATCH_INPUTS }
-    requires yet { list_any not_yet inputs.now ≡ false }
     ensures batch { IfOk result (λ batch. batch_shown batch ≡ numbered node first inputs.now) }
     ensures holds { OnOk result ((me : ℕ) (s : Summary) (l : List Input) → Holds me outbox.old s l 0 → Holds me outbox.new s l (length inputs.now)) }
     ensures refusal { IfErr result (λ refusal. refusal ≡ Refusal.OutOfMemory) }

@@ -9,7 +9,7 @@ use super::stops::{CHECKPOINT_FAILS, COMMIT_FAILS, TEARS, opens, stopped};
 use super::*;
 
 /// A journal of layout 2 of node 1 of 3, capacity 4,096, with one frame, the Stand: its snapshot is 38 zeros.
-static EARLIER: [u8; 89] = [
+pub static EARLIER: [u8; 89] = [
     0x43, 0x52, 0x4A, 0x52, 0x4E, 0x4C, 0x30, 0x32, 1, 3, 0, 0, 0x10, 0, 0, 0, 1, 2, 0, 0, 0, 0, 0,
     0, 0, 1, 0, 0, 0, 38, 0, 0, 0, 0, 0, 0, 0, 0, 0, 0, 0, 0, 0, 0, 0, 0, 0, 0, 0, 0, 0, 0, 0, 0,
     0, 0, 0, 0, 0, 0, 0, 0, 0, 0, 0, 0, 0, 0, 1, 0, 1, 0, 0, 0, 0x0D, 1, 3, 0x72, 0x65, 0x64, 0, 0,
@@ -42,7 +42,7 @@ static ALONE: [Row; 14] = [
     (&[(68, 7)], Reads(0, 1)),
     (&[(70, 0)], Damaged(68)),
     (&[(75, 5)], Damaged(68)),
-    // A Retire, which no area holds yet.
+    // A Retire, which an area of layout 3 alone may hold.
     (&[(74, 9), (75, 5)], Damaged(68)),
 ];
 
@@ -81,7 +81,7 @@ fn areas_of_layout_2_are_read(rt: HostRuntime) {
 }
 
 /// Area B of layout 3 in epoch 2, with the snapshot of the Stand and an Acked of 1.
-const BEHIND: [u8; 70] = [
+pub const BEHIND: [u8; 70] = [
     1, 3, 0, 0, 0, 0, 0, 0, 0, 2, 0, 0, 0, 55, 0, 0, 0, 0, 0, 0, 0, 2, 0, 0, 0, 0, 0, 0, 0, 0, 0,
     0, 0, 0, 0, 0, 0, 1, 0, 0, 0, 0, 0, 0, 0, 1, 0, 1, 0, 0, 0, 1, 3, 0x72, 0x65, 0x64, 0, 0, 0, 5,
     1, 0, 0, 0, 10, 0, 0, 0, 0, 0,

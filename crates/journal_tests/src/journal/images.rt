@@ -6,7 +6,7 @@ use super::*;
 pub type Row = (&'static [(u64, u8)], Verdict);
 
 /// Changes of row `one_commit`.
-pub static ONE_AREA: [Row; 46] = [
+pub static ONE_AREA: [Row; 52] = [
     // The mark, which may be that of a journal that began without areas, the node, the ring's size.
     (&[(0, b'c')], NotFormatted),
     (&[(7, b'1')], Reads(1, 1)),
@@ -51,7 +51,7 @@ pub static ONE_AREA: [Row; 46] = [
     (&[(78, 14)], Damaged(72)),
     (&[(75, 1)], Damaged(72)),
     // A record's kind, name and term; and a next gate with nothing behind it.
-    (&[(79, 5)], Damaged(72)),
+    (&[(79, 6)], Damaged(72)),
     (&[(81, b'R')], Damaged(72)),
     (&[(87, 0)], Damaged(72)),
     (&[(92, 1)], Damaged(92)),
@@ -62,8 +62,41 @@ pub static ONE_AREA: [Row; 46] = [
     (&[(12, 0), (14, 1)], Damaged(10)),
     (&[(14, 1), (16, 0)], Damaged(14)),
     (&[(20, 1), (74, 0)], Damaged(16)),
-    // A Retire, which no area holds yet.
-    (&[(78, 9), (79, 5)], Damaged(72)),
+    // A Retire, and one with bytes behind it; numbers of 0, of 10^9 - 1 and of 10^9; the shortest, and a name of no letters.
+    (&[(78, 9), (79, 5)], Reads(1, 1)),
+    (&[(79, 5)], Damaged(72)),
+    (&[(78, 9), (79, 5), (87, 0)], Damaged(72)),
+    (
+        &[
+            (78, 9),
+            (79, 5),
+            (84, 0x3B),
+            (85, 0x9A),
+            (86, 0xC9),
+            (87, 0xFF),
+        ],
+        Reads(1, 1),
+    ),
+    (
+        &[(78, 9), (79, 5), (84, 0x3B), (85, 0x9A), (86, 0xCA)],
+        Damaged(72),
+    ),
+    (
+        &[(78, 7), (79, 5), (80, 1), (82, 0), (83, 0), (85, 5)],
+        Reads(1, 1),
+    ),
+    (
+        &[
+            (78, 6),
+            (79, 5),
+            (80, 0),
+            (81, 0),
+            (82, 0),
+            (83, 0),
+            (84, 5),
+        ],
+        Damaged(72),
+    ),
 ];
 
 /// Changes of the same with area B behind it, which is read.

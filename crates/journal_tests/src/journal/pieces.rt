@@ -9,7 +9,7 @@ use gated_journal::{AreaReader, Fed};
 use ring_records::Refusal::Damaged;
 
 /// How many inputs are read of an area, those that are summarised among them, and the offset of the closed gate.
-type Answer = Result<(u64, u64), Refusal>;
+pub type Answer = Result<(u64, u64), Refusal>;
 
 /// Whether it asks for more behind the next bytes: then it keeps 2,246 bytes at most, and else none.
 fn goes_on(rt: &impl Abort, reader: &mut AreaReader, piece: &[u8]) -> bool
@@ -25,10 +25,11 @@ fn goes_on(rt: &impl Abort, reader: &mut AreaReader, piece: &[u8]) -> bool
     goes_on
 }
 
-/// What is read of the area whose gate stands at this offset, in pieces of these lengths in turn, and behind how many of
-/// them it asked for more. All bytes are fed, also behind a closed gate or behind what is damaged.
+/// What is read of the area of this layout whose gate stands at this offset, in pieces of these lengths in turn, and behind
+/// how many of them it asked for more. All bytes are fed, also behind a closed gate or behind what is damaged.
 fn fed(
     rt: &(impl Abort + AllocGlobal),
+    layout: u8,
     offset: u64,
     area: &[u8],
     lengths: &[usize],
@@ -36,7 +37,7 @@ fn fed(
     requires room { offset + length area.now < 2 ^ 64 }
     requires some { 0 < length lengths.now }
 {
-    let mut reader = AreaReader::new(rt.alloc(), offset, LAYOUT, 3);
+    let mut reader = AreaReader::new(rt.alloc(), offset, layout, 3);
     let mut rest = area;
     let mut asked = 0;
     for i in 0..area.len() {
@@ -60,14 +61,14 @@ fn read(reader: AreaReader) -> Answer
 #[test]
 fn one_commit_in_pieces(rt: HostRuntime) {
     for size in [1, 2, 77] {
-        let (area, _) = fed(&rt, 16, &COMMITTED[16..], &[size]);
+        let (area, _) = fed(&rt, LAYOUT, 16, &COMMITTED[16..], &[size]);
         assert_eq!(rt; area, Ok((1, 92)), "{size}");
     }
 }
 
 /// Changes of area A of row `one_commit` with sevens behind it, behind how many of its bytes more is asked for, and what is
 /// told behind the next one.
-static TOLD: [(&[(u64, u8)], usize, Verdict); 20] = [
+static TOLD: [(&[(u64, u8)], usize, Verdict); 21] = [
     (&[], 76, Reads(1, 1)),
     // A closed gate, another layout, an epoch that is too great: once the 14 bytes of the head are there.
     (&[(16, 0)], 13, Verdict::Damaged(16)),
@@ -91,9 +92,10 @@ static TOLD: [(&[(u64, u8)], usize, Verdict); 20] = [
     // One of 35 bytes and of 12, and another kind, once the records are there.
     (&[(78, 35)], 97, Verdict::Damaged(72)),
     (&[(78, 12)], 74, Verdict::Damaged(72)),
-    (&[(79, 5)], 75, Verdict::Damaged(72)),
-    // A Retire, which no area holds yet.
-    (&[(78, 9), (79, 5)], 71, Verdict::Damaged(72)),
+    (&[(79, 6)], 75, Verdict::Damaged(72)),
+    // A Retire, once the closed gate behind it is there, and one of number 0, once its record is.
+    (&[(78, 9), (79, 5)], 72, Reads(1, 1)),
+    (&[(78, 9), (79, 5), (87, 0)], 71, Verdict::Damaged(72)),
 ];
 
 #[test]
@@ -102,7 +104,7 @@ fn a_fault_is_told_once_it_is_there(rt: HostRuntime) {
         let mut image = [7; 200];
         image[..93].copy_from_slice(&COMMITTED);
         change(&mut image, changes);
-        let (area, behind) = fed(&rt, 16, &image[16..], &[1]);
+        let (area, behind) = fed(&rt, LAYOUT, 16, &image[16..], &[1]);
         assert_eq!(rt; count(area), count(verdict.answer()));
         assert_eq!(rt; behind, *asked);
     }
@@ -139,12 +141,12 @@ fn the_bytes_that_are_kept(rt: HostRuntime) {
 }
 
 /// In pieces of any length it reads as whole.
-fn in_pieces(rt: &(impl Abort + AllocGlobal), offset: u64, area: &[u8]) -> Answer
+pub fn in_pieces(rt: &(impl Abort + AllocGlobal), layout: u8, offset: u64, area: &[u8]) -> Answer
     requires { offset + length area.now < 2 ^ 64 }
 {
-    let (whole, _) = fed(rt, offset, area, &[5000]);
+    let (whole, _) = fed(rt, layout, offset, area, &[5000]);
     for size in [1, 2, 3, 7, 4096] {
-        let (cut, _) = fed(rt, offset, area, &[size]);
+        let (cut, _) = fed(rt, layout, offset, area, &[size]);
         assert_eq!(rt; cut, whole, "{size}");
     }
     whole
@@ -173,7 +175,7 @@ pub fn one_area(rt: &(impl Abort + AllocGlobal), image: &mut [u8], row: &Row)
     requires size { (16 ≤ length image.old) × (length image.old < 2 ^ 32) }
 {
     change(image, row.0);
-    let area = in_pieces(rt, 16, &image[16..]);
+    let area = in_pieces(rt, LAYOUT, 16, &image[16..]);
     if row.0.iter().all(|(at, _)| *at >= 16) {
         assert_eq!(rt; count(area), count(row.1.answer()));
     }
@@ -185,8 +187,8 @@ fn two_areas(rt: &(impl Abort + AllocGlobal), row: &Row) {
     image[..93].copy_from_slice(&COMMITTED);
     image[4127..].copy_from_slice(&SECOND);
     change(&mut image, row.0);
-    let a = count(in_pieces(rt, 16, &image[16..]));
-    let b = count(in_pieces(rt, AREA_B, &image[4127..]));
+    let a = count(in_pieces(rt, LAYOUT, 16, &image[16..]));
+    let b = count(in_pieces(rt, LAYOUT, AREA_B, &image[4127..]));
     let told = count(row.1.answer());
     assert!(rt; told == a || told == b || told == Err(Damaged(16)));
 }
@@ -254,7 +256,7 @@ fn two_frames() -> [u8; 120] {
 #[test]
 fn random_cuts_of_random_images(rt: HostRuntime) {
     assert_eq!(rt;
-        in_pieces(&rt, AREA_B, &two_frames()),
+        in_pieces(&rt, LAYOUT, AREA_B, &two_frames()),
         Ok((3, AREA_B + 119))
     );
     let mut random = Random {
@@ -264,10 +266,10 @@ fn random_cuts_of_random_images(rt: HostRuntime) {
         let mut image = two_frames();
         random.change(&mut image);
         let area = &image[..120 - random.below(60)];
-        let (whole, _) = fed(&rt, AREA_B, area, &[120]);
+        let (whole, _) = fed(&rt, LAYOUT, AREA_B, area, &[120]);
         for _ in 0..5 {
             let lengths = random.lengths();
-            let (cut, _) = fed(&rt, AREA_B, area, &lengths);
+            let (cut, _) = fed(&rt, LAYOUT, AREA_B, area, &lengths);
             assert_eq!(rt; cut, whole);
         }
     }

@@ -26,7 +26,7 @@ static CHANGED: [Row; 14] = [
     (&[(23, 5)], Damaged(16)),
     // A next gate with nothing behind it.
     (&[(36, 1)], Damaged(36)),
-    // A Retire, which no area holds yet.
+    // A Retire, which an area of layout 3 alone may hold.
     (&[(22, 9), (23, 5)], Damaged(16)),
 ];
 

@@ -22,14 +22,14 @@ joined g c =
     (λ i. c.requires.rest i ++ (read ∙ ap (λ (l : List ℕ). take (length c.args.piece.now) l) (sym (drop-drop k at image))) i) ∙ take_plus k (length c.args.piece.now) (k + length c.args.piece.now) (drop at image) (omega arith)
 
 pub returns-in-Ok-clause-lists : goal.returns-in-Ok-clause-lists
-returns-in-Ok-clause-lists g c = λ layout taken l.
+returns-in-Ok-clause-lists g c = λ taken l.
     let image = (g.D.Device.disk c.args.device.now).image in
     let all = length c.args.rest.now.items + length c.args.piece.now in
     let n = c.in-Ok.next.1 in
     let long : length c.read_part.new.buf ≡ length c.args.piece.now = search rules in
     let same : take n (c.args.rest.now.items ++ c.read_part.new.buf) ≡ take n (drop c.args.at image) =
     ap (λ (b : List ℕ). take n b) (joined g c) ∙ take_twice n all (drop c.args.at image) (omega (arith, c.in-Ok.ensures.size, long)) in
-    subst (λ (b : List ℕ). IsListed layout c.in-Ok.next.0 (taken ++ b) c.list_piece.new.inputs.items c.list_piece.new.rest.items) same (c.in-Ok.ensures.lists layout taken l)
+    subst (λ (b : List ℕ). IsListed 1 c.in-Ok.next.0 (taken ++ b) c.list_piece.new.inputs.items c.list_piece.new.rest.items) same (c.in-Ok.ensures.lists taken l)
 
 pub returns-in-Ok-clause-rest : goal.returns-in-Ok-clause-rest
 returns-in-Ok-clause-rest g c =

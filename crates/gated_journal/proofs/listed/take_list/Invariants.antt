@@ -7,10 +7,10 @@ use Rattle.gated_journal.proofs.listed.take_list.Given as goal
 abbrev pub invariant-loop-next : goal.invariant-loop-next
 invariant-loop-next l = record {
   within : l.taken + l.next.1 ≤ length l.bytes;
-  lists : (layout : ℕ) (from : List ℕ) → Lists layout from l.fn.inputs.items
-      → IsListed layout l.next.0 (from ++ take (l.taken + l.next.1) l.bytes) l.inputs.items (drop (l.taken + l.next.1) l.bytes);
+  lists : (from : List ℕ) → Lists 1 from l.fn.inputs.items
+      → IsListed 1 l.next.0 (from ++ take (l.taken + l.next.1) l.bytes) l.inputs.items (drop (l.taken + l.next.1) l.bytes);
   waits : l.next.1 ≡ 0 → IsWaiting l.next.0 (drop l.taken l.bytes);
-  room : 1 ≤ l.next.1 → length l.bytes - (l.taken + l.next.1) ≤ 9 * (vec_capacity l.inputs - vec_len l.inputs);
+  room : 1 ≤ l.next.1 → length l.bytes - (l.taken + l.next.1) ≤ 7 * (vec_capacity l.inputs - vec_len l.inputs);
   damaged : (p : ℕ) → l.next.0 ≡ Damaged p → p ≡ l.fn.at + l.taken;
   more : 1 ≤ l.next.1 → l.next.0 ≡ Frames;
 }

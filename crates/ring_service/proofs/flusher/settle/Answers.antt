@@ -5,7 +5,7 @@ use Rattle.gated_journal.specs.Areas.{AllReadAs}
 use Rattle.gated_journal.specs.declared.work.Work.{Work}
 use Rattle.gated_journal.specs.declared.work.Work.TheVariants.{Batch, Checkpoint}
 use Rattle.gated_journal.specs.Batch.{Numbered, is_checkpoint}
-use Rattle.gated_journal.specs.Journal.{device_of, len_of, room_of, epoch_of}
+use Rattle.gated_journal.specs.Journal.{device_of, len_of, room_of, layout_of, epoch_of}
 use Rattle.gated_journal.specs.Reading.{Reading}
 use Rattle.commit_hub.specs.Holders.{known_by}
 use Rattle.commit_hub.specs.Tied.{Durable, with_area, with_batch}
@@ -17,8 +17,8 @@ use Rattle.ring_service.proofs.flusher.settle.Goals as goal
 pub write-requires-clause-taken : goal.write-requires-clause-taken
 write-requires-clause-taken g c =
     let journal = c.args.journal.now in
-    subst (λ (m : Member). IsTaken m (len_of journal) (room_of journal) (epoch_of journal) c.args.work) (sym c.requires.member)
-    (takes g.A.Node.member g.A.Node.opening _ _ _ _ c.args.work c.requires.inside c.requires.known c.requires.next)
+    subst (λ (m : Member). IsTaken m (len_of journal) (room_of journal) (layout_of journal) (epoch_of journal) c.args.work) (sym c.requires.member)
+    (takes g.A.Node.member g.A.Node.opening _ _ _ _ _ c.args.work c.requires.inside c.requires.known c.requires.next)
 
 -- a work is a checkpoint where it has a summary
 kind : (w : Work) → is_checkpoint (flown_by w) ≡ is_some (summary_by w)
@@ -53,10 +53,11 @@ returns-in-Ok-land-clause-known g c =
     let is = knows g.A.Node.member g.A.Node.opening old new w c.requires.next
     (subst (λ (n : Numbered). n.snapshot ≡ None → new ≡ with_batch old n.inputs) c.in-Ok.ensures.receipt c.in-Ok-land.ensures.batch)
     (subst (λ (n : Numbered). (bytes : ℕ) → n.snapshot ≡ Some bytes → new ≡ with_area old n.inputs bytes) c.in-Ok.ensures.receipt c.in-Ok-land.ensures.checkpoint) in
-    let behind = has g.A.Node.member g.A.Node.opening old (len_of journal) (room_of journal) (epoch_of journal) w c.requires.based c.requires.known c.requires.next in
+    let behind = has g.A.Node.member g.A.Node.opening old (len_of journal) (room_of journal) (layout_of journal) (epoch_of journal) w c.requires.based c.requires.known c.requires.next in
     let room = ap (λ (m : Member). room_after (flown_by w).snapshot m.capacity (costs_of (flown_by w).inputs) (room_of journal)) c.requires.member in
     record {
-      count = c.in-Ok.ensures.len ∙ (counts g.A.Node.member g.A.Node.opening old (len_of journal) (room_of journal) (epoch_of journal) w c.requires.known c.requires.next ∙ (behind.count ∙ ap (λ (d : Durable). g.A.Node.opening.inputs + length d.inputs) (sym is)));
+      count = c.in-Ok.ensures.len ∙ (counts g.A.Node.member g.A.Node.opening old (len_of journal) (room_of journal) (layout_of journal) (epoch_of journal) w c.requires.known c.requires.next ∙ (behind.count ∙ ap (λ (d : Durable). g.A.Node.opening.inputs + length d.inputs) (sym is)));
       left = c.in-Ok.ensures.room ∙ (room ∙ (behind.left ∙ ap (λ (d : Durable). g.A.Node.member.capacity - used d.base d.inputs) (sym is)));
+      form = c.in-Ok.ensures.layout ∙ (behind.form ∙ ap (λ (d : Durable). d.base.layout) (sym is));
       area = c.in-Ok.ensures.epoch ∙ (behind.area ∙ ap (λ (d : Durable). d.base.epoch) (sym is));
     }

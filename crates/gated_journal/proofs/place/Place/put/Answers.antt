@@ -4,7 +4,7 @@ use Rattle.ring_records.specs.Admission.{costs_of, newest}
 use Rattle.ring_records.specs.Member.{Member}
 use Rattle.ring_records.specs.Snapshot.{snapshot_len}
 use Rattle.gated_journal.specs.Areas.{ReadsAt, ReadsAsOneOf, IsGate, MayReplace, leaves_closed}
-use Rattle.gated_journal.specs.Frames.{IsFrame}
+use Rattle.gated_journal.specs.Frames.{AreSuited, IsFrame}
 use Rattle.gated_journal.specs.Place.{reading_behind, IsReadHere, IsTakenAt, Stands}
 use Rattle.gated_journal.specs.Reading.{Reading, fresh_area, with_more}
 use Rattle.gated_journal.specs.declared.batch.Batch.{Batch}
@@ -17,7 +17,7 @@ use Rattle.gated_journal.proofs.AreaBeside.{start_low, swapped}
 use Rattle.gated_journal.proofs.AreaRest.{checkpoint_moment, commit_moment, commit_stands}
 use Rattle.gated_journal.proofs.AreaStaged.{length-new_area}
 use Rattle.gated_journal.proofs.Costs.{fits}
-use Rattle.gated_journal.proofs.Spelled.{frame-suited}
+use Rattle.gated_journal.proofs.Suited.{frame-suited}
 use Rattle.gated_journal.proofs.place.Place.put.Goals as goal
 
 both : {T E : Type 0} (r : Result T E) (A B C : Type 0) → OnOk r A → OnOk r B → (A → B → C) → OnOk r C
@@ -81,7 +81,7 @@ returns-in-Batch-clause-any_moment g c = rw c.in-Batch.is (λ header r taken s.
     let within : p.gate_at + length c.deref.result.now ≤ p.area.start + 14 + header.capacity = omega (arith, ap length c.deref.ensures.value, h.long, h.ends, p.within, s.here.capacity) in
     weaken g.D.Device.clock g.D.Device.left_since d c.append-written.new.device _ (ReadsAsOneOf header r (with_more r l))
     (λ image moment. commit_moment header (g.D.Device.disk d).image image r l p.area.start p.area.other p.area.offset p.gate_at (length c.deref.result.now) s.here.at within moment)
-    (c.append-written.ensures.any_moment r.layout p.area.offset r.inputs l s.rest.synced s.here.at.frames (subst (IsFrame r.layout l) (sym c.deref.ensures.value) (frame-suited newest r.layout l b.bytes.items b.framed))))
+    (c.append-written.ensures.any_moment r.layout p.area.offset r.inputs l s.rest.synced s.here.at.frames (subst (IsFrame r.layout l) (sym c.deref.ensures.value) (frame-suited r.layout newest l b.bytes.items b.framed (subst (λ (k : ℕ). AreSuited k l) (sym s.here.layout) taken.3)))))
 
 pub returns-in-Batch-clause-done : goal.returns-in-Batch-clause-done
 returns-in-Batch-clause-done g c = both c.append-written.result _ _ _ c.append-written.ensures.synced c.append-written.ensures.done (λ synced done header r taken s.
@@ -89,11 +89,13 @@ returns-in-Batch-clause-done g c = both c.append-written.result _ _ _ c.append-w
     let b = c.in-Batch.batch in
     let l = b.flown.inputs.items in
     let h = has_room p c.args.work b c.in-Batch.is c.requires in
+    let t : IsTakenAt header p (works.Batch b) = subst (IsTakenAt header p) c.in-Batch.is taken in
+    let suited = subst (λ (k : ℕ). AreSuited k l) (sym s.here.layout) t.3 in
     let long : c.len.result ≡ length c.deref.result.now = omega (arith, c.len.ensures, ap length c.deref.ensures.value) in
     let within : p.gate_at + length c.deref.result.now ≤ p.area.start + 14 + header.capacity = omega (arith, ap length c.deref.ensures.value, h.long, h.ends, p.within, s.here.capacity) in
     subst (Stands header (g.D.Device.disk c.append-written.new.device) _) (ap (λ w. reading_behind p w r) (sym c.in-Batch.is))
     (commit_stands header (g.D.Device.disk c.args.device.now) (g.D.Device.disk c.append-written.new.device) p _ r l (length c.deref.result.now) s synced within
-    (done r.layout p.area.offset r.inputs l s.rest.synced s.here.at.frames (subst (IsFrame r.layout l) (sym c.deref.ensures.value) (frame-suited newest r.layout l b.bytes.items b.framed)))
+    (done r.layout p.area.offset r.inputs l s.rest.synced s.here.at.frames (subst (IsFrame r.layout l) (sym c.deref.ensures.value) (frame-suited r.layout newest l b.bytes.items b.framed suited)))
     refl refl (omega (arith, long)) (omega (arith, c.len-in-Batch.ensures)) (omega (arith, c.from.ensures, b.counted))))
 
 pub returns-in-Batch-clause-reach : goal.returns-in-Batch-clause-reach

@@ -4,7 +4,8 @@ use Rattle.std.specs.List.{list_any}
 use Rattle.ring_records.specs.Admission.{not_yet}
 use Rattle.ring_records.specs.Known.{after}
 use Rattle.ring_records.specs.States.{launched_base}
-use Rattle.gated_journal.specs.Batch.{numbered}
+use Rattle.gated_journal.specs.Batch.{Numbered, numbered}
+use Rattle.gated_journal.proofs.Suited.{plain-all}
 use Rattle.group_commit.specs.Desk.{DeskKept}
 use Rattle.group_commit.specs.Kept.{state_with}
 use Rattle.group_commit.specs.Outbox.{Holds}
@@ -15,11 +16,14 @@ use Rattle.group_commit.proofs.Settling.{holds_still}
 use Rattle.group_commit.proofs.Since.{known_launched, none_early, core_launched, first_fit}
 use Rattle.group_commit.proofs.desk.Desk.launch.Goals as goal
 
-pub prepare-requires-clause-yet : goal.prepare-requires-clause-yet
-prepare-requires-clause-yet c =
+pub returns-in-Ok-clause-suits : goal.returns-in-Ok-clause-suits
+returns-in-Ok-clause-suits c =
     let d = c.self.inside in
-    ap (λ (l : List Input). list_any not_yet (take (c.min-end.result - d.durable) (drop d.durable l))) c.deref.ensures.value
+    plain-all _ _ (
+    ap (λ (n : Numbered). list_any not_yet n.inputs) c.in-Ok.ensures.batch
+    ∙ ap (λ (l : List Input). list_any not_yet (take (c.min-end.result - d.durable) (drop d.durable l))) c.deref.ensures.value
     ∙ none_early (member_in d) d.base (launched_base (state_in d)) d.durable (c.min-end.result - d.durable) d.inputs.items c.self.invariant.state.all
+    )
 
 pub invariant_of-self : goal.invariant_of-self
 invariant_of-self c =

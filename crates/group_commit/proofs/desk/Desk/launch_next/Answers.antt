@@ -63,6 +63,7 @@ returns-in-Ok-Some-clause-fits c =
           let within = subst (λ (d : DeskKept). used d.view.state.base (flown_in d.view.state) ≤ d.view.member.capacity) launch.next fits in
           omega (arith, ap costs_of inputs, within, flown_costs (states.launched s) (launched_counts s (idle-none s (idle_free desk.view launch.free)) counts))
           );
+      suits = rw c.in-Ok-Some.field-0-is at launch.suits;
       lawful = (
           let from = desk.opening.inputs + s.durable in
           let flown = is ∙ ap (λ (d : DeskKept). numbered desk.view.member.node from (flying_in d.view.state)) launch.next in

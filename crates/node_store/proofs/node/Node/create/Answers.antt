@@ -22,4 +22,4 @@ invariant_of-result g c =
     let made = c.in-Ok-format.ensures in
     let all : AllReadAs (journals.member_of journal) disk (fresh_area newest 1 empty) = rw made.header made.empty in
     let is : desk ≡ new_desk here c.args.run (fresh_area newest 1 empty) = c.in-Ok.ensures.desk ∙ ap (new_desk here c.args.run) c.fresh.ensures in
-    record { stands = rw is (opens_empty here journal c.args.run c.inside.ensures made.header all made.ready made.len made.room made.epoch) }
+    record { stands = rw is (opens_empty here journal c.args.run c.inside.ensures made.header all made.ready made.len made.room made.layout made.epoch) }

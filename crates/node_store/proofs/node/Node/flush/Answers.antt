@@ -63,7 +63,7 @@ settle-requires g c =
     let node = c.args.self.now in
     let launch = c.in-Ok-Some.ensures in
     let is = c.in-Ok-Some.field-0-is in
-    rw launch.next (batch_flies node.desk node.journal node.stands launch.free c.in-Ok-Some.batch (rw is at launch.none) (rw (is, launch.next) at launch.batch) (rw (is, launch.next) at launch.fits))
+    rw launch.next (batch_flies node.desk node.journal node.stands launch.free c.in-Ok-Some.batch (rw is at launch.none) (rw (is, launch.next) at launch.batch) (rw (is, launch.next) at launch.fits) (rw is at launch.suits))
 
 pub returns-in-Ok-clause-packets : goal.returns-in-Ok-clause-packets
 returns-in-Ok-clause-packets g c = λ past is.

@@ -17,7 +17,7 @@ invariant_of-result g c =
     let read = c.in-Ok.ensures in
     let named : journals.member_of journal ≡ here = named_again c.args.node c.args.n c.capacity.result (journals.member_of journal) read.header.0 read.header.1 c.capacity.ensures.value in
     let left : journals.room_of journal ≡ c.capacity.result - used_in r = omega (arith, read.room, c.capacity.ensures.value) in
-    record { stands = rw made.desk (opens here journal c.args.run r c.inside.ensures named made.lawful read.durable read.ready read.len left read.epoch) }
+    record { stands = rw made.desk (opens here journal c.args.run r c.inside.ensures named made.lawful read.durable read.ready read.len left read.layout read.epoch) }
 
 pub returns-in-Err-clause-recovery_err : goal.returns-in-Err-clause-recovery_err
 returns-in-Err-clause-recovery_err g c = λ capacity s lawful holds.

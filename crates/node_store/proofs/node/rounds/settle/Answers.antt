@@ -10,7 +10,7 @@ returns-in-Ok-clause-stands g c =
     let flies = c.requires in
     let written = c.in-Ok.ensures in
     rw c.land.ensures.next
-    (lands desk c.args.journal.now c.write.new.self c.args.work flies written.header (written.durable (durable_held desk) flies.all) written.spoils written.len written.room written.epoch)
+    (lands desk c.args.journal.now c.write.new.self c.args.work flies written.header (written.durable (durable_held desk) flies.all) written.spoils written.len written.room written.layout written.epoch)
 
 pub returns-in-Ok-clause-durable : goal.returns-in-Ok-clause-durable
 returns-in-Ok-clause-durable g c =
