@@ -1,3 +1,4 @@
+mod FloorsPut
 pub mod Histories
 mod Measures
 mod Objections
