@@ -71,7 +71,7 @@ acked_within n s upto e =
     (leb-false upto s.credit (where_so-none _ _ a.0), ltb-false s.sent upto (where_so-none _ _ b.0))
 
 -- what is known of the key of a Stand that nothing is said against: nothing
-unnamed : (n : ℕ) (s : Summary) (key : Key) (bid : ℕ) → Objects n s (Stand key bid) None → known_of s key ≡ None
+pub unnamed : (n : ℕ) (s : Summary) (key : Key) (bid : ℕ) → Objects n s (Stand key bid) None → known_of s key ≡ None
 unnamed n s key bid (led, is, e) = none (known_of s key) (where_so-none (is_some (known_of s key)) refused.Late (or_else-none (already (stood_of (known_of s key))) (where_so (is_some (known_of s key)) refused.Late) touched).1)
   where
     touched : or_else (already (stood_of (known_of s key))) (where_so (is_some (known_of s key)) refused.Late) ≡ None

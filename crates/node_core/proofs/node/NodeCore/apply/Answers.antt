@@ -1,5 +1,4 @@
 use Rattle.std.proofs.Common.{◌≡◌, ◌+◌, ◌≤◌, ◌∙◌, None, sym, ap, subst, arith}
-use Rattle.ring_records.specs.declared.input.Input.{Input}
 use Rattle.ring_records.specs.declared.summary.Summary.{Summary}
 use Rattle.ring_records.specs.Admission.{newest, snapshot_len}
 use Rattle.ring_records.specs.Known.{Objects}
@@ -9,6 +8,7 @@ use Rattle.node_core.specs.Core.{CoreView, FreeView}
 use Rattle.node_core.proofs.Histories.{carries, tells, goes_on}
 use Rattle.node_core.proofs.Measures.{few_inputs, one_more, within_next}
 use Rattle.node_core.proofs.Refusals.{objects_none, stepped_core}
+use Rattle.node_core.proofs.Retiring.{counted_next, stood_count}
 use Rattle.node_core.proofs.node.NodeCore.apply.Goals as goal
 
 pub len_after-snapshot-requires-clause-free : goal.len_after-snapshot-requires-clause-free
@@ -40,6 +40,7 @@ invariant_of-self-2 c =
     record {
       exact = c.len_after-snapshot.ensures.value ∙ sym (ap (snapshot_len newest) next);
       within = subst (λ (s : Summary). s.credit ≤ s.sent) (sym next) (within_next c.self.inside.core.me c.self.inside.core.size c.self.inside.core.known c.args.input free c.self.invariant.within);
+      stood = subst (λ (s : Summary). s.stands ≡ stood_count s.keys) (sym next) (counted_next c.self.inside.core.me c.self.inside.core.size c.self.inside.core.known c.args.input free c.self.invariant.stood);
       short = omega (arith, more, c.self.invariant.short, c.len_after-snapshot.ensures.range);
       taken = omega (arith, more, c.self.invariant.taken, c.cost-cost.ensures.range);
       plain = c.self.invariant.plain;
@@ -63,4 +64,5 @@ pub returns-clause-stands : goal.returns-clause-stands
 returns-clause-stands c = λ h s.
     goes_on c.args.self.now _ h c.args.input
     (stepped_core c.args.self.now c.self.inside.core c.apply.new.self c.self.inside.capacity _ c.self.inside.room c.args.input c.self.view_is c.in_ok-effects.ensures.steps c.cost-cost.ensures.value)
-    (subst (λ (v : CoreView). v.known.credit ≤ v.known.sent) c.self.view_is c.self.invariant.within) c.requires s
+    (subst (λ (v : CoreView). v.known.credit ≤ v.known.sent) c.self.view_is c.self.invariant.within)
+    (subst (λ (v : CoreView). v.known.stands ≡ stood_count v.known.keys) c.self.view_is c.self.invariant.stood) c.requires s
