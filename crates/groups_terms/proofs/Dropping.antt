@@ -101,7 +101,7 @@ terms_retained m n p is have other some = at (p other) (subst IsSome (ap (λ (l 
 
 -- ---- a group's keys below a floor
 
-nat_less : (s t : ℕ) → s < t → nat_cmp s t ≡ Less
+pub nat_less : (s t : ℕ) → s < t → nat_cmp s t ≡ Less
 nat_less s t less = at (nat_cmp s t) refl
   where
     at : (o : Ordering) → nat_cmp s t ≡ o → o ≡ Less
@@ -188,7 +188,7 @@ fewer m key some = at (map.get m key) refl some
 pub get-states_by : (m : BallotMap) (key : Key) → map.get (states_by m) key ≡ option_map (λ b. state_at (key, b)) (map.get m key)
 get-states_by m key = get-states_in (record { me = 0; ballots = m; stands = 0; floors = map.empty }) key
 
-retained_states : (s : map.FinMap key_cmp KeyState) (p : Key → Bool) (q : Key) → map.get (map.retain_keys s p) q ≡ cond (p q) (map.get s q) None
+pub retained_states : (s : map.FinMap key_cmp KeyState) (p : Key → Bool) (q : Key) → map.get (map.retain_keys s p) q ≡ cond (p q) (map.get s q) None
 retained_states s p q = map.get-retain_keys s p q (λ x same. ap p (sym (keys_exact q x same)))
 
 pub states-retained : (m : BallotMap) (p : Key → Bool) → states_by (map.retain_keys m p) ≡ map.retain_keys (states_by m) p

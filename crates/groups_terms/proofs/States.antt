@@ -40,7 +40,7 @@ sorted_states [] s = tt
 sorted_states (e ∷ es) s = (below e.0 es s.0 e.1, sorted_states es s.1)
 
 -- what the states have at a key
-find-states : (es : List (Key × Ballot)) (key : Key) → find key_cmp key (list_map under_key (list_map state_at es)) ≡ option_map (λ b. state_at (key, b)) (find key_cmp key es)
+pub find-states : (es : List (Key × Ballot)) (key : Key) → find key_cmp key (list_map under_key (list_map state_at es)) ≡ option_map (λ b. state_at (key, b)) (find key_cmp key es)
 find-states [] key = refl
 find-states (e ∷ es) key =
     ap (cond (is_eq (key_cmp key e.0)) (Some (state_at e))) (find-states es key) ∙ go (key_cmp key e.0) refl

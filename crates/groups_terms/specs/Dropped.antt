@@ -2,9 +2,10 @@
 use Rattle.std.specs.Prelude.{ℕ, ◌≤◌, Bool, if◌then◌else◌, map as list_map, IsSome, is_some}
 use Rattle.std.specs.BTreeMap.{BTreeMap}
 use Rattle.std.specs.FinMap as map
-use Rattle.std.specs.List.{count_by}
+use Rattle.std.specs.List.{count_by, sum_by}
 use Rattle.ring_records.specs.declared.key.Key.{Key}
 use Rattle.ring_records.specs.declared.key_state.KeyState.{KeyState}
+use Rattle.ring_records.specs.Admission.{state_len}
 use Rattle.ring_records.specs.KeyOrder.{key_cmp}
 use Rattle.ring_records.specs.KeyStates.{keyed}
 use Rattle.ring_records.specs.Snapshot.{has_stood}
@@ -33,3 +34,7 @@ stood_among ballots test = count_by has_stood (map.values (map.retain_keys (stat
 -- and at one key
 abbrev pub stood_at : BallotMap → Key → ℕ
 stood_at ballots key = if is_some (known (map.get ballots key)).stood then 1 else 0
+
+-- the bytes that their states take in a snapshot, where the test holds of the key
+abbrev pub bytes_among : BallotMap → (Key → Bool) → ℕ
+bytes_among ballots test = sum_by state_len (map.values (map.retain_keys (states_by ballots) test))

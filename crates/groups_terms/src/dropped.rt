@@ -1,18 +1,18 @@
 // The ballots of a group below a floor.
-ghost use Rattle.std.specs.Prelude.{◌≡◌, ◌-◌, ◌<◌, ℕ, None, IsSome, MatchOption, not};
+ghost use Rattle.std.specs.Prelude.{◌≡◌, ◌-◌, ◌<◌, ◌≤◌, ◌^◌, ℕ, None, IsSome, MatchOption, not};
 ghost use Rattle.std.specs.FinMap as map;
 ghost use Rattle.ring_records.specs.Known.{drops};
-ghost use Rattle.groups_terms.specs.Dropped.{HaveTerms, kept_in, stood_at, stood_among};
+ghost use Rattle.groups_terms.specs.Dropped.{HaveTerms, bytes_among, kept_in, stood_at, stood_among};
 
 use cr_automaton::Ballot;
-use ring_records::{GroupName, Key, Term};
+use ring_records::{GroupName, Key, KeyState, Term, state_len};
 use std::collections::BTreeMap;
 
-// A key of the group below the floor, if one has a ballot.
-fn under(ballots: &BTreeMap<Key, Ballot>, group: &GroupName, floor: Term) -> Option<Key>
-    requires terms { HaveTerms (kept_in ballots.now) }
-    ensures { MatchOption result ((term : ℕ) → term < floor → map.get (kept_in ballots.now) (record { group = group.now; term = term }) ≡ None)
-        (λ key. (key.group ≡ group.now) × (key.term < floor) × IsSome (map.get (kept_in ballots.now) key)) }
+// Between which keys those of the group below the floor lie: from the first on, before the end.
+fn bounds(group: &GroupName, floor: Term) -> (Key, Key)
+    ensures first { result.0 ≡ record { group = group.now; term = 1 } }
+    ensures end { result.1 ≡ record { group = group.now; term = floor } }
+    ensures some { 1 ≤ floor }
 {
     // The number that is read is known to be 1 at least, where the range begins.
     let _number = floor.number();
@@ -24,6 +24,16 @@ fn under(ballots: &BTreeMap<Key, Ballot>, group: &GroupName, floor: Term) -> Opt
         group: *group,
         term: floor,
     };
+    (first, end)
+}
+
+// A key of the group below the floor, if one has a ballot.
+fn under(ballots: &BTreeMap<Key, Ballot>, group: &GroupName, floor: Term) -> Option<Key>
+    requires terms { HaveTerms (kept_in ballots.now) }
+    ensures { MatchOption result ((term : ℕ) → term < floor → map.get (kept_in ballots.now) (record { group = group.now; term = term }) ≡ None)
+        (λ key. (key.group ≡ group.now) × (key.term < floor) × IsSome (map.get (kept_in ballots.now) key)) }
+{
+    let (first, end) = bounds(group, floor);
     let (key, _ballot) = ballots.range(first..end).next()?;
     Some(*key)
 }
@@ -55,4 +65,22 @@ pub fn drop_under(
     while let Some(key) = under(ballots, group, floor) {
         remove(ballots, stands, &key);
     }
+}
+
+/// The bytes that the states of the group's keys below the floor take in a snapshot: the others are not looked at.
+pub fn bytes_under(ballots: &BTreeMap<Key, Ballot>, group: &GroupName, floor: Term) -> u64
+    requires terms { HaveTerms (kept_in ballots.now) }
+    requires few { bytes_among (kept_in ballots.now) (drops group.now floor) < 2 ^ 64 }
+    ensures { result ≡ bytes_among (kept_in ballots.now) (drops group.now floor) }
+{
+    let (first, end) = bounds(group, floor);
+    let mut bytes = 0;
+    for (key, ballot) in ballots.range(first..end) {
+        bytes += u64::from(state_len(&KeyState {
+            key: *key,
+            stood: ballot.stood,
+            leader: ballot.leader,
+        }));
+    }
+    bytes
 }

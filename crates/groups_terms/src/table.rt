@@ -1,10 +1,11 @@
 // The ballots of one node.
 ghost use Rattle.std.specs.Prelude.{◌≡◌, ◌+◌, ◌-◌, ◌<◌, ◌≤◌, ◌^◌, ℕ, false, not, if◌then◌else◌, map as list_map, Option, Some, None, IfOk, OnOk, OnErr};
-ghost use Rattle.std.specs.List.{count_by};
+ghost use Rattle.std.specs.List.{count_by, sum_by};
 ghost use Rattle.std.specs.FinMap as map;
 ghost use Rattle.ring_records.specs.declared.candidate.Candidate.{Candidate};
 ghost use Rattle.ring_records.specs.declared.key.Key.{Key};
 ghost use Rattle.ring_records.specs.declared.msg.Msg.TheVariants.{Token};
+ghost use Rattle.ring_records.specs.Admission.{state_len};
 ghost use Rattle.ring_records.specs.Floors.{is_below_floor};
 ghost use Rattle.ring_records.specs.KeyOrder.{key_cmp};
 ghost use Rattle.ring_records.specs.KeyStates.{keyed};
@@ -15,7 +16,7 @@ ghost use Rattle.ring_records.specs.Snapshot.{has_stood};
 ghost use Rattle.groups_terms.specs.Dropped.{HaveTerms};
 ghost use Rattle.groups_terms.specs.Table.{state_at, heard};
 
-use crate::dropped::drop_under;
+use crate::dropped::{bytes_under, drop_under};
 use crate::floors::{Kept, floor_of, is_below, kept, list_of, put_floor};
 use crate::latest::{Latest, latest_leader, make_room, note};
 use cr_automaton::Ballot;
@@ -113,13 +114,6 @@ impl Table {
         self.stands
     }
 
-    /// How many keys its inputs named.
-    pub fn keys(&self) -> usize
-        ensures { result ≡ map.len (states_in self.now) }
-    {
-        self.ballots.len()
-    }
-
     /// Stands for a key for which the node has not stood: the token that it sends. An `Err` changes nothing.
     pub fn stand(&mut self, key: Key, bid: Bid) -> Result<Msg, AllocError>
         requires fresh { (ballot_at self.old key).stood ≡ None }
@@ -185,6 +179,30 @@ impl Table {
         put_floor(&mut self.floors, group, floor)?;
         drop_under(&mut self.ballots, &mut self.stands, &group, floor);
         Ok(())
+    }
+
+    /// The bytes that what it knows of the group's keys below the floor takes in a snapshot: of what `retire` lets go.
+    pub fn bytes_under(&self, group: &GroupName, floor: Term) -> u64
+        requires { sum_by state_len (map.values (map.retain_keys (states_in self.now) (drops group.now floor))) < 2 ^ 64 }
+        ensures { result ≡ sum_by state_len (map.values (map.retain_keys (states_in self.now) (drops group.now floor))) }
+    {
+        bytes_under(&self.ballots, group, floor)
+    }
+
+    /// What hearing the message would change, where its key is not below a floor: the key's ballot, if an input named it,
+    /// that ballot then, and what the node would send on.
+    pub fn would_hear(&self, msg: &Msg) -> (Option<Ballot>, Ballot, Option<Msg>)
+        ensures before { result.0 ≡ map.get self.now.ballots (key_of msg.now) }
+        ensures heard { result.1 ≡ heard self.now.me (ballot_at self.now (key_of msg.now)) msg.now }
+        ensures passes { result.2 ≡ passes_on self.now msg.now }
+    {
+        let before = self.ballot(&msg.key());
+        let mut ballot = match &before {
+            Some(ballot) => *ballot,
+            None => Ballot::new(),
+        };
+        let on = hear(&mut ballot, self.me, msg);
+        (before, ballot, on)
     }
 
     /// A table that has the same ballots.

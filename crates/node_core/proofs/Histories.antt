@@ -16,7 +16,6 @@ use Rattle.ring_records.specs.declared.notice.Notice.TheVariants.{Decided}
 use Rattle.ring_records.specs.declared.packet.Packet.TheVariants.{Carry}
 use Rattle.ring_records.specs.declared.refusal.Refusal.{Refusal}
 use Rattle.ring_records.specs.declared.refusal.Refusal.TheVariants as refused
-use Rattle.ring_records.specs.declared.room.Room.{Room}
 use Rattle.ring_records.specs.declared.summary.Summary.{Summary}
 use Rattle.ring_records.specs.Admission.{fresh, is_retire, no_room, room_of, snapshot_len, objection, refusal, IsAllowed, newest}
 use Rattle.ring_records.specs.Emission.{is_below, passed_on, emit, sent, carry}
@@ -28,16 +27,16 @@ use Rattle.ring_records.specs.Member.{refusal_by}
 use Rattle.ring_records.specs.Message.{key_of}
 use Rattle.ring_records.specs.Order.{is_key}
 use Rattle.ring_records.specs.Summary.{summary}
-use Rattle.ring_records.proofs.Admission.{none_waits, or_else-none, objection-allowed, plain_room, shortage-each}
+use Rattle.ring_records.proofs.Admission.{or_else-none, objection-allowed, plain_room, shortage-each}
 use Rattle.ring_records.proofs.Counts.{used-more, shown-decided}
 use Rattle.ring_records.proofs.History.{if_live-none, if_live-same, leader-push, or-false}
 use Rattle.ring_records.proofs.Keys.{is_key-same}
-use Rattle.ring_records.proofs.Known.{leader-known, sends-known, objects-known, objects-of, plain-known, live-known}
+use Rattle.ring_records.proofs.Known.{leader-known, sends-known, objects-known, objects-of, live-known}
 use Rattle.ring_records.proofs.Summaries.{floor-known}
 use Rattle.ring_records.proofs.Latest.{latest_is, latest_same, one_latest}
 use Rattle.node_core.specs.Brought.{told_by, brought, who_after, who_by}
 use Rattle.node_core.specs.Core.{CoreView, CoreStandsFor, Refuses, member_of, taking}
-use Rattle.node_core.proofs.Refusals.{has_come}
+use Rattle.node_core.proofs.Retiring.{stood_count, known_next}
 
 -- ---- what is refused
 
@@ -145,10 +144,11 @@ room-push base h x within =
     let waits = ap (list_any is_retire) (drop-append-le base.inputs h (x ∷ []) within) ∙ (list_any-append is_retire (drop base.inputs h) (x ∷ []) ∙ ap (λ b. list_any is_retire (drop base.inputs h) || b) (or-false (is_retire x))) in
     λ i. record { layout = base.layout; epoch = base.epoch; taken = used-more base h x within i; waits = waits i }
 
-pub goes_on : (core new : CoreView) (h : List Input) (x : Input) → new ≡ record core { known = stepped core.me core.known x; room = taking x core.room } → core.known.credit ≤ core.known.sent → Refuses core x None → CoreStandsFor core h → CoreStandsFor new (h ++ x ∷ [])
-goes_on core new h x is within r s = subst (λ (c : CoreView). CoreStandsFor c (h ++ x ∷ [])) (sym is) (record {
+pub goes_on : (core new : CoreView) (h : List Input) (x : Input) → new ≡ record core { known = stepped core.me core.known x; room = taking x core.room }
+    → core.known.credit ≤ core.known.sent → core.known.stands ≡ stood_count core.known.keys → Refuses core x None → CoreStandsFor core h → CoreStandsFor new (h ++ x ∷ [])
+goes_on core new h x is within counted r s = subst (λ (c : CoreView). CoreStandsFor c (h ++ x ∷ [])) (sym is) (record {
   knows = ap (λ (k : Summary). stepped core.me k x) s.knows
-      ∙ plain-known core.me core.size h x (has_come core x (ap (λ (r : Room). r.waits) s.room ∙ none_waits (drop fresh.inputs h)) r) (allowed core h x s r) (subst (λ (k : Summary). k.credit ≤ k.sent) s.knows within);
+      ∙ known_next core.me core.size h x (allowed core h x s r) (subst (λ (k : Summary). k.credit ≤ k.sent) s.knows within) (subst (λ (k : Summary). k.stands ≡ stood_count k.keys) s.knows counted);
   room = ap (taking x) s.room ∙ sym (room-push fresh h x (omega arith));
 })
 

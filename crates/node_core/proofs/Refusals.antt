@@ -14,7 +14,7 @@ use Rattle.ring_records.specs.declared.summary.Summary.{Summary}
 use Rattle.ring_records.specs.Admission.{cost, is_retire, lacks, must_renew, newest, no_room, not_yet, snapshot_len, where_so}
 use Rattle.ring_records.specs.Known.{Objects, known_of, leader_of, stepped}
 use Rattle.ring_records.specs.Lists.{or_else}
-use Rattle.ring_records.proofs.Admission.{or_else-none, no_renewal, no_retire, plain_room, room-had}
+use Rattle.ring_records.proofs.Admission.{or_else-none, no_retire, plain_room}
 use Rattle.node_core.specs.Brought.{who_by}
 use Rattle.node_core.specs.Core.{CoreView, FreeView, Refuses, taking}
 
@@ -34,11 +34,6 @@ refuses_last core x first short plain objects e f = (
 -- where nothing is said, nothing is known against the input
 pub objects_none : (core : CoreView) (x : Input) → Refuses core x None → Objects core.size core.known x None
 objects_none core x (first, objects, e) = subst (Objects core.size core.known x) (or_else-none _ _ (sym e)).0 objects
-
--- nor is it one that has no room yet
-pub has_come : (core : CoreView) (x : Input) → core.room.waits ≡ false → Refuses core x None → not_yet x ≡ false
-has_come core x none (first, objects, e) =
-    (room-had core.capacity core.room x (snapshot_len newest (stepped core.me core.known x)) (or_else-none first _ (sym e)).1).yet (no_renewal core.room x none)
 
 -- ---- as it is seen once it has accepted an input
 

@@ -14,13 +14,14 @@ use Rattle.ring_records.proofs.Sound.{sound-stepped}
 use Rattle.ring_records.specs.Floors.{is_below_floor}
 use Rattle.ring_records.specs.KeyOrder.{key_cmp}
 use Rattle.ring_records.specs.KeyStates.{keyed}
-use Rattle.ring_records.specs.Known.{Objects, drops, passed, shown, stood_of, leader_of, sends, stepped}
+use Rattle.ring_records.specs.Known.{Objects, drops, known_of, passed, shown, stood_of, leader_of, sends, stepped}
+use Rattle.ring_records.specs.Known.{heard as known_heard}
 use Rattle.ring_records.specs.Lists.{or_else}
 use Rattle.ring_records.specs.Message.{key_of}
 use Rattle.ring_records.specs.Snapshot.{has_stood}
 use Rattle.cr_automaton.specs.declared.ballot.Ballot.{Ballot}
 use Rattle.neighbour_link.specs.Outlink.{LinkView, sent_count}
-use Rattle.groups_terms.specs.Table.{TableView, ballot_at, heard, heard_by, state_at, states_in}
+use Rattle.groups_terms.specs.Table.{TableView, ballot_at, heard, heard_by, passes_on, state_at, states_in}
 use Rattle.groups_terms.proofs.States.{states-put, stood_in, leader_in}
 use Rattle.node_core.specs.Kept.{known_with, sent_on, credited_to, hears, hearing, IsFree, IsCounted}
 
@@ -40,6 +41,18 @@ stand-steps inputs expected t u old new key bid put on = λ i. record {
   window = (on i).window;
   floors = put.2 i;
 }
+
+-- what is known of the key of a message once it is heard, and what is sent on, told by the states
+pub heard-state : (inputs expected : ℕ) (t : TableView) (link : LinkView) (msg : Msg) → state_at (key_of msg, heard t.me (ballot_at t (key_of msg)) msg) ≡ known_heard t.me (known_with inputs t link expected) msg
+heard-state inputs expected t link msg = λ i. record {
+  key = key_of msg;
+  stood = sym (stood_in t (key_of msg)) i;
+  leader = or_else (sym (leader_in t (key_of msg)) i) (shown t.me (sym (stood_in t (key_of msg)) i) msg);
+}
+
+pub passes-state : (inputs expected : ℕ) (t : TableView) (link : LinkView) (msg : Msg)
+    → passes_on t msg ≡ passed t.me (stood_of (known_of (known_with inputs t link expected) (key_of msg))) (leader_of (known_of (known_with inputs t link expected) (key_of msg))) msg
+passes-state inputs expected t link msg = λ i. passed t.me (sym (stood_in t (key_of msg)) i) (sym (leader_in t (key_of msg)) i) msg
 
 passes : (t : TableView) (msg : Msg)
     → hears t msg ≡ cond (is_below_floor t.floors (key_of msg)) None (passed t.me (stood_of (map.get (states_in t) (key_of msg))) (leader_of (map.get (states_in t) (key_of msg))) msg)

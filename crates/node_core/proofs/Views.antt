@@ -1,17 +1,12 @@
 -- A core as it is seen: new, restored, and once it has accepted an input.
-use Rattle.std.proofs.Common.{ℕ, ◌≡◌, ◌+◌, [], length, Option, Some, None, sym, ap, subst, ◌∙◌, arith}
-use Rattle.std.proofs.lemmas.Option.{same_Some}
+use Rattle.std.proofs.Common.{ℕ, ◌≡◌, ◌+◌, [], length, sym, ap, subst, ◌∙◌, arith}
 use Rattle.std.specs.FinMap as map
 use Rattle.std.specs.Option.{option_map}
-use Rattle.ring_records.specs.declared.key.Key.{Key}
-use Rattle.ring_records.specs.declared.key_state.KeyState.{KeyState}
 use Rattle.ring_records.specs.declared.summary.Summary.{Summary}
 use Rattle.ring_records.specs.KeyOrder.{key_cmp}
 use Rattle.ring_records.specs.Snapshot.{IsSound}
 use Rattle.ring_records.specs.Summary.{empty}
 use Rattle.ring_records.proofs.Compare.{keys_total, keys_exact}
-use Rattle.ring_records.proofs.Lists.{none≢some}
-use Rattle.cr_automaton.specs.declared.ballot.Ballot.{Ballot}
 use Rattle.neighbour_link.specs.Outlink.{LinkView}
 use Rattle.groups_terms.specs.Table.{TableView, state_at, states_in}
 use Rattle.groups_terms.proofs.States.{get-states_in}
@@ -41,19 +36,3 @@ restored_counted me n s u same sound =
     let sent = sound.sent in
     let acts = sound.acts in
     subst (IsCounted me n) (sym same) (record { sent_few = sent; taken_few = omega arith; stands_few = sound.few; sound = λ here. sound })
-
--- ---- what is known of a key
-
-pub state-some : (t : TableView) (key : Key) (o : Option Ballot) (b : Ballot) → o ≡ map.get t.ballots key → o ≡ Some b → Some (state_at (key, b)) ≡ map.get (states_in t) key
-state-some t key o b e is = sym (get-states_in t key ∙ ap (option_map (λ c. state_at (key, c))) (sym e ∙ is))
-
-pub state-none : (t : TableView) (key : Key) (o : Option Ballot) → o ≡ map.get t.ballots key → o ≡ None → None ≡ map.get (states_in t) key
-state-none t key o e is = sym (get-states_in t key ∙ ap (option_map (λ c. state_at (key, c))) (sym e ∙ is))
-
--- a state is that of the key which it is kept for
-pub states-named : (t : TableView) (key : Key) (k : KeyState) → map.get (states_in t) key ≡ Some k → k.key ≡ key
-states-named t key k is = named (map.get t.ballots key) (sym (get-states_in t key) ∙ is)
-  where
-    named : (o : Option Ballot) → option_map (λ b. state_at (key, b)) o ≡ Some k → k.key ≡ key
-    named None e = none≢some k e
-    named (Some b) e = sym (ap (λ (state : KeyState). state.key) (same_Some (state_at (key, b)) k e))

@@ -1,7 +1,7 @@
 -- By what a core keeps what it knows.
 use Rattle.std.specs.Prelude.{ℕ, ◌≡◌, ◌+◌, ◌-◌, ◌*◌, ◌^◌, ◌<◌, ◌≤◌, if◌then◌else◌, false, [], ◌++◌, drop, Option, None}
 use Rattle.std.specs.FinMap as map
-use Rattle.std.specs.List.{cons_option}
+use Rattle.std.specs.List.{cons_option, count_by}
 use Rattle.ring_records.specs.declared.candidate.Candidate.{Candidate}
 use Rattle.ring_records.specs.declared.input.Input.{Input}
 use Rattle.ring_records.specs.declared.input.Input.TheVariants.{Stand, Take, Acked, Retire}
@@ -14,7 +14,7 @@ use Rattle.ring_records.specs.Floors.{is_below_floor}
 use Rattle.ring_records.specs.KeyOrder.{key_cmp}
 use Rattle.ring_records.specs.Leader.{IsLatest, term_of}
 use Rattle.ring_records.specs.Message.{key_of}
-use Rattle.ring_records.specs.Snapshot.{IsSound}
+use Rattle.ring_records.specs.Snapshot.{IsSound, has_stood}
 use Rattle.cr_automaton.specs.declared.ballot.Ballot.{Ballot}
 use Rattle.neighbour_link.specs.Outlink.{LinkView, sent_count}
 use Rattle.groups_terms.specs.Table.{TableView, ballot_at, heard_by, leads, passes_on, states_in}
@@ -42,10 +42,11 @@ pub record IsCounted (me n : ℕ) (s : Summary) : Type 0 where
   pub sound : IsNodeOf n me → IsSound n s
 
 -- So many bytes are the length of the snapshot: these, and those that are taken of room, stay below 2^64. No more is credited
--- than was sent, and nothing waits.
+-- than was sent, the Stands are the keys that stood, and nothing waits.
 pub record IsMeasured (s : Summary) (bytes : ℕ) (room : Room) : Type 0 where
   pub exact : bytes ≡ snapshot_len newest s
   pub within : s.credit ≤ s.sent
+  pub stood : s.stands ≡ count_by has_stood (map.values s.keys)
   pub short : bytes < 2 ^ 63 + 2 ^ 62 + 64 * s.inputs
   pub taken : room.taken < 2 ^ 63 + 2 ^ 62 + 64 * s.inputs
   pub plain : room.waits ≡ false

@@ -1,18 +1,24 @@
 // A node by what it knows, whatever its journal has room for.
-ghost use Rattle.std.specs.Prelude.{◌≡◌, ◌≤◌, ℕ, ◌+◌, length, IfOk, OnOk, OnErr};
-ghost use Rattle.ring_records.specs.Known.{Objects, stepped, known_of, leads_in};
+ghost use Rattle.std.specs.Prelude.{◌≡◌, ◌≤◌, ◌<◌, ◌^◌, ℕ, ◌+◌, length, is_some, IfOk, OnOk, OnErr};
+ghost use Rattle.std.specs.List.{sum_by};
+ghost use Rattle.std.specs.Option.{option_map};
+ghost use Rattle.ring_records.specs.Admission.{state_len};
+ghost use Rattle.ring_records.specs.Floors.{is_below_floor};
+ghost use Rattle.ring_records.specs.Known.{Objects, drops, heard, stepped, known_of, leader_of, leads_in, passed, stood_of};
 ghost use Rattle.ring_records.specs.Leader.{IsLatest};
+ghost use Rattle.ring_records.specs.Message.{key_of};
 ghost use Rattle.ring_records.specs.Snapshot.{IsSound};
 ghost use Rattle.ring_records.specs.Summary.{empty};
+ghost use Rattle.groups_terms.specs.Table.{state_at};
 ghost use Rattle.node_core.specs.Brought.{brought, who_by};
 ghost use Rattle.std.specs.FinMap as map;
 ghost use Rattle.node_core.specs.Core.{IsNodeOf};
-ghost use Rattle.node_core.specs.Measure.{AreNamed};
 
 use crate::accept::accept;
 use crate::effects::Effects;
 use crate::judge::{against_acked, against_retire, against_stand, against_take};
 use crate::ranges::look_at;
+use cr_automaton::Ballot;
 use groups_terms::Table;
 use neighbour_link::{Inlink, Outlink};
 use ring_records::{
@@ -143,22 +149,41 @@ impl FreeCore {
     pub fn state(&self, key: &Key) -> Option<KeyState>
         ensures { result ≡ known_of self.now.known key.now }
     {
-        match self.table.ballot(key) {
-            Some(ballot) => Some(KeyState {
-                key: *key,
-                stood: ballot.stood,
-                leader: ballot.leader,
-            }),
-            None => None,
-        }
+        state_by(key, &self.table.ballot(key))
     }
 
-    /// How many keys its inputs named.
-    pub fn keys(&self) -> usize
-        ensures count { result ≡ map.len self.now.known.keys }
-        ensures named { AreNamed self.now.known }
+    /// What hearing the message would change, where its key is not below a floor: what it knows of the key, what it would
+    /// know of it then, and what it would send on.
+    pub fn would_hear(&self, msg: &Msg) -> (Option<KeyState>, KeyState, Option<Msg>)
+        ensures before { result.0 ≡ known_of self.now.known (key_of msg.now) }
+        ensures heard { result.1 ≡ heard self.now.me self.now.known msg.now }
+        ensures passes { result.2 ≡ passed self.now.me (stood_of (known_of self.now.known (key_of msg.now))) (leader_of (known_of self.now.known (key_of msg.now))) msg.now }
     {
-        self.table.keys()
+        let key = msg.key();
+        let (before, heard, on) = self.table.would_hear(msg);
+        (state_by(&key, &before), state_of(&key, &heard), on)
+    }
+
+    /// Whether the group has a floor.
+    pub fn has_floor(&self, group: &GroupName) -> bool
+        ensures { result ≡ is_some (map.get self.now.known.floors group.now) }
+    {
+        self.table.floor(group).is_some()
+    }
+
+    /// Whether the key is below the floor of its group.
+    pub fn is_below(&self, key: &Key) -> bool
+        ensures { result ≡ is_below_floor self.now.known.floors key.now }
+    {
+        self.table.is_below(key)
+    }
+
+    /// The bytes that what it knows of the group's keys below the floor takes in a snapshot.
+    pub fn bytes_under(&self, group: &GroupName, floor: Term) -> u64
+        requires { sum_by state_len (map.values (map.retain_keys self.now.known.keys (drops group.now floor))) < 2 ^ 64 }
+        ensures { result ≡ sum_by state_len (map.values (map.retain_keys self.now.known.keys (drops group.now floor))) }
+    {
+        self.table.bytes_under(group, floor)
     }
 
     /// The leader for the key, if one is known. Refused as 23 with the floor of its group where the key is below it.
@@ -248,5 +273,26 @@ impl FreeCore {
             self.table.latest(group),
             self.inputs,
         )
+    }
+}
+
+// What the ballot says of the key.
+fn state_of(key: &Key, ballot: &Ballot) -> KeyState
+    ensures { result ≡ state_at (key.now, ballot.now) }
+{
+    KeyState {
+        key: *key,
+        stood: ballot.stood,
+        leader: ballot.leader,
+    }
+}
+
+// What it says of the key, if there is one.
+fn state_by(key: &Key, ballot: &Option<Ballot>) -> Option<KeyState>
+    ensures { result ≡ option_map (λ b. state_at (key.now, b)) ballot.now }
+{
+    match ballot {
+        Some(ballot) => Some(state_of(key, ballot)),
+        None => None,
     }
 }

@@ -16,7 +16,6 @@ ghost use Rattle.node_core.specs.Core.{CoreStandsFor, IsNodeOf, Refuses, member_
 
 use crate::effects::Effects;
 use crate::free::FreeCore;
-use crate::measure::{freed, grown, len_on};
 use ring_records::{
     Candidate, GroupName, Input, Key, LAYOUT, Msg, NodeNo, Refusal, Room, Summary, Term,
     summary_len,
@@ -157,11 +156,9 @@ impl NodeCore {
         ensures err { OnErr result (self.new ≡ self.old) }
     {
         let cost = input.cost() as u64;
-        let keys = self.core.keys();
-        let removed = freed(&self.core, &input);
+        let snapshot = self.core.len_after(self.snapshot, &input);
         let effects = self.core.apply(input)?;
-        let added = grown(keys, self.core.keys(), &input, &effects) + len_on(&effects);
-        self.snapshot = self.snapshot + added as u64 - removed;
+        self.snapshot = snapshot;
         self.room.taken += cost;
         Ok(effects)
     }
