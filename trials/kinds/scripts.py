@@ -165,5 +165,5 @@ def line(rng: random.Random, nodes: int) -> bytes:
     elif kind > 0.95:
         text += b" " * (rng.randint(198, 203) - len(text))
     elif kind > 0.94:
-        text = rng.choice([b"", b" ", b"# stand 1 red 5 10", b" # no", b"hello", b"ring 3", b"audits", b"retire 1 red 5", b"#" * 300])
+        text = rng.choice([b"", b" ", b"# stand 1 red 5 10", b" # no", b"hello", b"ring 3", b"audits", b"retires 1 red 5", b"#" * 300])
     return text.replace(b"\n", b"")

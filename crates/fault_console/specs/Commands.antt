@@ -6,7 +6,7 @@ use Rattle.line_words.specs.Forms.{Fixed, Number, Name, Form, bid, term}
 use Rattle.ring_records.specs.declared.limits.TheConstants.{GREATEST_CAPACITY, LEAST_CAPACITY}
 use Rattle.ring_records.specs.declared.key.Key.{Key}
 use Rattle.ring_records.specs.declared.request.Request.{Request}
-use Rattle.ring_records.specs.declared.request.Request.TheVariants.{Stand, Who, Latest}
+use Rattle.ring_records.specs.declared.request.Request.TheVariants.{Stand, Retire, Who, Latest}
 use Rattle.ring_world.specs.declared.event.Event.TheVariants.{Submit, Flush, Deliver, DeliverAll, Credit, Crash, Stop, Checkpoint, StopCheckpoint}
 use Rattle.fault_console.specs.declared.commands.Command.{Command}
 use Rattle.fault_console.specs.declared.commands.Command.TheVariants as ask
@@ -55,6 +55,7 @@ commands nodes =
     let checkpoint = Fixed (codes "checkpoint") in
     let checkpoint_call = Number 1 6 in
     (Fixed (codes "stand") ∷ node ∷ Name ∷ term ∷ bid ∷ [], λ i g t b. requested i (Stand (key g t) b))
+    ∷ (Fixed (codes "retire") ∷ node ∷ Name ∷ term ∷ [], λ i g f. requested i (Retire g f))
     ∷ (Fixed (codes "who") ∷ node ∷ Name ∷ term ∷ [], λ i g t. requested i (Who (key g t)))
     ∷ (Fixed (codes "latest") ∷ node ∷ Name ∷ [], λ i g. requested i (Latest g))
     ∷ (Fixed (codes "deliver") ∷ Fixed (codes "all") ∷ [], ask.Event DeliverAll)

@@ -194,7 +194,12 @@ fn of_four(nodes: u8, verb: &[u8], i: &[u8], x: &[u8], y: &[u8]) -> Result<Comma
     requires { nodes ≤ 16 }
     ensures { result ≡ form_says (commands nodes) (verb.now ∷ i.now ∷ x.now ∷ y.now ∷ []) }
 {
-    if verb == b"who".as_slice() {
+    if verb == b"retire".as_slice() {
+        let node = read_node(nodes, i)?;
+        let group = read_group(x)?;
+        let floor = read_term(y)?;
+        Ok(Command::Event(Event::Submit(node, Request::Retire(group, floor))))
+    } else if verb == b"who".as_slice() {
         let node = read_node(nodes, i)?;
         let group = read_group(x)?;
         let term = read_term(y)?;

@@ -5,6 +5,7 @@
 //! 1,048,576 bytes, 65,536 by default. Then these ask a node, each under the next ticket number, and print `K: ` with
 //! the reply, or `K: sealed` where that rests on inputs which are not durable yet:
 //! - `stand I G T B`: node I stands for group G and term T with bid B;
+//! - `retire I G F`: node I retires the terms of group G below the floor F;
 //! - `who I G T`, `latest I G`: node I is asked who leads;
 //! - `deliver I NO`: message NO of node I reaches the node behind it;
 //! - `credit I U`: node I tells the node before it that it took U messages.

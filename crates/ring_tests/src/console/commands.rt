@@ -5,6 +5,7 @@ use crate::console::session::{Line, assert_session};
 fn ring_is_the_only_first_command(rt: HostRuntime) {
     const SESSION: &[Line] = &[
         ("stand 1 red 5 10", &["no 25 line"]),
+        ("retire 1 red 5", &["no 25 line"]),
         ("who 1 Red 5", &["no 25 line"]),
         ("latest 1 red", &["no 25 line"]),
         ("deliver 1 0", &["no 25 line"]),
@@ -99,7 +100,8 @@ fn unknown_commands(rt: HostRuntime) {
         ("shows 1", &["no 25 line"]),
         ("up 1 0", &["no 25 line"]),
         ("checkpoints 1", &["no 25 line"]),
-        ("retire 1 red 1", &["no 25 line"]),
+        ("retires 1 red 1", &["no 25 line"]),
+        ("retire red 1", &["no 25 line"]),
         ("audits", &["no 25 line"]),
     ];
     assert_session(&rt, SESSION);
@@ -213,6 +215,9 @@ fn counts_of_words(rt: HostRuntime) {
         ("ring 2", &["ring 2"]),
         ("stand 1 red 5", &["no 25 line"]),
         ("stand 1 red 5 10 1", &["no 25 line"]),
+        ("retire", &["no 25 line"]),
+        ("retire 1 red", &["no 25 line"]),
+        ("retire 1 red 5 6", &["no 25 line"]),
         ("who 1 red", &["no 25 line"]),
         ("who 1 red 5 1", &["no 25 line"]),
         ("deliver", &["no 25 line"]),
@@ -254,6 +259,8 @@ fn names(rt: HostRuntime) {
         ("who 1 aB 1", &["no 1 name"]),
         ("who 1 a_b 1", &["no 1 name"]),
         ("who 1 A 1", &["no 1 name"]),
+        ("retire 1 abcdefghijklmnopq 1", &["no 1 name"]),
+        ("retire 1 1a 1", &["no 1 name"]),
         ("latest 1 abcdefghijklmnopq", &["no 1 name"]),
         ("latest 1 1a", &["no 1 name"]),
     ];
@@ -270,6 +277,10 @@ fn numbers_out_of_their_ranges(rt: HostRuntime) {
         ("who 1 red 1000000000", &["no 2 number"]),
         ("stand 1 red 1 1000000000", &["no 2 number"]),
         ("stand 1 red 0 1", &["no 2 number"]),
+        ("retire 0 red 1", &["no 2 number"]),
+        ("retire 3 red 1", &["no 2 number"]),
+        ("retire 1 red 0", &["no 2 number"]),
+        ("retire 1 red 1000000000", &["no 2 number"]),
         ("deliver 0 0", &["no 2 number"]),
         ("deliver 3 0", &["no 2 number"]),
         ("deliver 1 10000000000", &["no 2 number"]),
@@ -292,6 +303,8 @@ fn first_fault_from_the_left(rt: HostRuntime) {
         ("stand 1 Red 0 x", &["no 1 name"]),
         ("who 3 Red 1", &["no 2 number"]),
         ("who 1 Red 0", &["no 1 name"]),
+        ("retire 3 Red 0", &["no 2 number"]),
+        ("retire 1 Red 0", &["no 1 name"]),
         ("who 3 Red", &["no 25 line"]),
         ("latest 3 Red", &["no 2 number"]),
         ("latest 1 Red", &["no 1 name"]),

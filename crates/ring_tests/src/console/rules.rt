@@ -50,7 +50,7 @@ fn refused_lines_take_no_ticket(rt: HostRuntime) {
         ("stand 3 red 5 10", &["no 2 number"]),
         ("deliver 1 0", &["no 21 unknown"]),
         ("stand 1 Red 5 10", &["no 1 name"]),
-        ("retire 1 red 5", &["no 25 line"]),
+        ("retire 1 red 0", &["no 2 number"]),
         ("show 3", &["no 2 number"]),
         ("stand 1 red 5 10", &["1: stood"]),
     ];
@@ -86,6 +86,45 @@ fn latest_leader_of_a_group(rt: HostRuntime) {
         ("latest 1 red", &["4: term 9 leader 1 5"]),
         ("latest 2 red", &["5: term 9 leader 1 5"]),
         ("latest 2 blue", &["6: none"]),
+    ];
+    assert_session(&rt, SESSION);
+}
+
+// A floor is at most the latest term of its group with a leader known there.
+#[test]
+fn retire_rules(rt: HostRuntime) {
+    const SESSION: &[Line] = &[
+        ("ring 2", &["ring 2"]),
+        ("retire 1 red 1", &["1: no 26 undecided"]),
+        ("stand 1 red 9 5", &["2: stood"]),
+        ("retire 1 red 9", &["3: no 26 undecided"]),
+        ("deliver 1 0", &["4: taken"]),
+        ("deliver 2 0", &["5: taken"]),
+        ("retire 1 red 10", &["6: no 26 undecided"]),
+        ("retire 1 blue 1", &["7: no 26 undecided"]),
+        ("retire 2 red 9", &["8: no 26 undecided"]),
+        ("who 1 red 9", &["9: leader 1 5"]),
+        ("latest 1 red", &["10: term 9 leader 1 5"]),
+        (
+            "show 1",
+            &["node 1 inputs 2 durable 2 sent 2 taken 1 credit 0"],
+        ),
+    ];
+    assert_session(&rt, SESSION);
+}
+
+// What is asked rests on the inputs before it.
+#[test]
+fn a_retire_is_sealed(rt: HostRuntime) {
+    const SESSION: &[Line] = &[
+        ("ring 2 lazy", &["ring 2"]),
+        ("retire 1 red 5", &["1: no 26 undecided"]),
+        ("stand 1 red 5 10", &["2: sealed"]),
+        ("retire 1 red 5", &["3: sealed"]),
+        ("flush 1", &["flushed 1", "2: stood", "3: no 26 undecided"]),
+        ("stand 1 blue 5 10", &["4: sealed"]),
+        ("retire 1 red 5", &["5: sealed"]),
+        ("crash 1", &["4: lost", "5: lost", "up 1 1"]),
     ];
     assert_session(&rt, SESSION);
 }
