@@ -1,4 +1,5 @@
 """A node of a ring as docs/PROTOCOL.md has it, as far as a picture needs it: no capacity, no limit of Stands."""
+import bisect
 from typing import NamedTuple
 
 
@@ -87,7 +88,7 @@ class Node:
 
     def released(self) -> int:
         """How many of the messages sent rest on durable inputs."""
-        return sum(at <= self.durable for _, at in self.sent)
+        return bisect.bisect_right(self.sent, self.durable, key=lambda each: each[1])
 
     def durably_taken(self) -> int:
         return sum(isinstance(each, Take) for each in self.inputs[:self.durable])

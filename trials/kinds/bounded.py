@@ -26,8 +26,17 @@ class Bounded(Node):
         self.capacity, self.based, self.base = capacity, 0, FRESH
         super().__init__(me)
 
+    def forget(self) -> None:
+        super().forget()
+        # What the first inputs cost, by how many these are.
+        self.costs = [0]
+
+    def accept(self, asked: Input) -> str:
+        self.costs.append(self.costs[-1] + cost(asked))
+        return super().accept(asked)
+
     def used(self) -> int:
-        return self.base + sum(map(cost, self.inputs[self.based:]))
+        return self.base + self.costs[-1] - self.costs[self.based]
 
     def refusal(self, asked: Input) -> str | None:
         told = super().refusal(asked)
