@@ -22,6 +22,10 @@ def know_retire() -> None:
     SESSION.append(b"retire G T")
 
 
+def knows_retire() -> bool:
+    return b"retire G T" in SESSION
+
+
 def lines_of(text: bytes) -> list[bytes]:
     """The lines of a script. A carriage return before a line feed is dropped, and kept at the end of a last line without one."""
     *lines, last = text.split(b"\n")
