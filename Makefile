@@ -5,7 +5,7 @@
 # fencing: a leader that is paused and wakes late is turned away, over bin/ringd.
 # clients: the tests of the clients, over bin/ringd.
 # picture: the run of SCRIPT by ringctl, drawn as text and, to the file SVG, as SVG. pictures: the tests of that, and the pictures of the docs, over bin/ringctl.
-# kills: bin/ringd is killed 100 times at random moments, started again, and held to all that it told.
+# kills: bin/ringd is killed 100 times at random moments, started again, and held to all that it told; what holds it is tried first.
 # earlier: a ringd of an earlier release, EARLIER, is killed 50 times, and bin/ringd as often on the same folders.
 # short: bin/ringd under sessions of one Stand each, its memory, and elections right behind them.
 # threads: bin/ringd where the system grants too few threads; as root.
@@ -70,6 +70,7 @@ pictures: bin/ringctl
 	@pictures/picture.py --docs
 
 kills:
+	@python3 -m unittest discover -s trials
 	@trials/kill.py --rounds 100
 
 earlier: bin/ringd

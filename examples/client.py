@@ -36,7 +36,7 @@ class Election(NamedTuple):
 
 
 class Refused(Exception):
-    """A refusal of the node: its number, 1 to 25, and its text, as 5 and `stale 9`. docs/SESSIONS.md says what each
+    """A refusal of the node: its number, 1 to 27, and its text, as 5 and `stale 9`. docs/SESSIONS.md says what each
     one means, and what to do."""
 
     def __init__(self, number: int, text: str) -> None:
@@ -111,12 +111,13 @@ class Client:
 
     def is_taken(self, group: str, term: int, bid: int) -> bool:
         """Whether the node stands for who asked. Not where somebody else stands there (3), or stood elsewhere before
-        (4), or a greater term has a leader (5): one comes to be known then. `Refused` for every other cause."""
+        (4), or a greater term has a leader (5, and 23 where the node retired this one): one comes to be known then.
+        `Refused` for every other cause."""
         try:
             self.stand(group, term, bid)
             return True
         except Refused as refusal:
-            if refusal.number not in (3, 4, 5):
+            if refusal.number not in (3, 4, 5, 23):
                 raise
             return False
 

@@ -171,7 +171,7 @@ class CampaignTest(ClientTest):
         self.assertGreater(len(set(votes.stood.values())), 1)
 
     def test_follows_where_it_may_not_stand(self) -> None:
-        for refusal in ("no 3 already 30", "no 4 late", "no 5 stale 1"):
+        for refusal in ("no 3 already 30", "no 4 late", "no 5 stale 1", "no 23 retired 2"):
             node = self.serve(first("none", refusal, "none", "none", "term 1 leader 2 30"))
             self.assertEqual(self.ask(node).campaign("red"), Election(1, Leader(2, 30), False))
             self.assertEqual(len(node.stands()), 1)

@@ -1,4 +1,5 @@
 """A node of a ring as docs/PROTOCOL.md has it, as far as a picture needs it: no capacity, no limit of Stands."""
+import bisect
 from typing import NamedTuple
 
 
@@ -36,8 +37,13 @@ class Acked(NamedTuple):
     number: int
 
 
-Input = Stand | Take | Acked
-REPLIES = {Stand: "stood", Take: "taken", Acked: "acked"}
+class Retire(NamedTuple):
+    group: str
+    floor: int
+
+
+Input = Stand | Take | Acked | Retire
+REPLIES = {Stand: "stood", Take: "taken", Acked: "acked", Retire: "retired"}
 
 
 class Node:
@@ -53,6 +59,8 @@ class Node:
         self.forget()
 
     def forget(self) -> None:
+        # By group: the term below which its terms are retired. Of their keys the node has nothing.
+        self.floors: dict[str, int] = {}
         self.stood: dict[Key, int] = {}
         self.touched: set[Key] = set()
         self.leaders: dict[Key, Candidate] = {}
@@ -73,16 +81,25 @@ class Node:
         """The key of the group's greatest term that has a leader."""
         return max((key for key in self.leaders if key.group == group), default=None)
 
+    def retired(self, key: Key) -> str | None:
+        """Why nobody stands or leads for the key, where its term is below its group's floor."""
+        floor = self.floors.get(key.group, 0)
+        return f"no 23 retired {floor}" if key.term < floor else None
+
     def released(self) -> int:
         """How many of the messages sent rest on durable inputs."""
-        return sum(at <= self.durable for _, at in self.sent)
+        return bisect.bisect_right(self.sent, self.durable, key=lambda each: each[1])
 
     def durably_taken(self) -> int:
         return sum(isinstance(each, Take) for each in self.inputs[:self.durable])
 
     def refusal(self, asked: Input) -> str | None:
         """Why the input is not admitted, but for want of room."""
+        if isinstance(asked, Retire):
+            return self.objection(asked)
         if isinstance(asked, Stand):
+            if (retired := self.retired(asked.key)) is not None:
+                return retired
             if asked.key in self.stood:
                 return f"no 3 already {self.stood[asked.key]}"
             if asked.key in self.touched:
@@ -95,6 +112,13 @@ class Node:
             return f"no 13 {'old' if asked.number < self.taken else 'gap'} {self.taken}"
         return f"no 13 old {self.credit}" if asked.number <= self.credit else None
 
+    def objection(self, asked: Retire) -> str | None:
+        """Why a floor is none, but for want of room."""
+        floor, latest = self.floors.get(asked.group, 0), self.latest(asked.group)
+        if asked.floor <= floor:
+            return f"no 23 retired {floor}"
+        return "no 26 undecided" if latest is None or latest.term < asked.floor else None
+
     def accept(self, asked: Input) -> str:
         """Takes the input, and tells what came of it."""
         self.inputs.append(asked)
@@ -106,9 +130,21 @@ class Node:
             self.stood[asked.key] = asked.bid
             self.send(Message("Token", asked.key, Candidate(asked.bid, self.me)))
             return "stood"
+        if isinstance(asked, Retire):
+            self.retire(asked)
+            return "retired"
         self.taken += 1
+        if self.retired(asked.message.key) is not None:
+            return "retired"
         self.touched.add(asked.message.key)
         return self.hear(asked.message)
+
+    def retire(self, asked: Retire) -> None:
+        self.floors[asked.group] = asked.floor
+        self.touched = {key for key in self.touched if self.retired(key) is None}
+        for known in (self.stood, self.leaders):
+            for key in known.keys() - self.touched:
+                del known[key]
 
     def hear(self, message: Message) -> str:
         """What a message does, as the table of docs/PROTOCOL.md says."""

@@ -2,7 +2,7 @@
 from collections.abc import Iterator
 from typing import NamedTuple
 
-from nodes import REPLIES, Acked, Input, Key, Message, Node, Stand, Take
+from nodes import REPLIES, Acked, Input, Key, Message, Node, Retire, Stand, Take
 
 # What a node may print for want of room or memory, which is not worked out here.
 WANT = ("no 6 limit", "no 7 full")
@@ -97,10 +97,15 @@ class Run:
         self.row(node, "o", f"{self.tickets}: {' '.join(['stand', *words[2:]])}, {told}")
 
     def line_who(self, words: list[str]) -> None:
-        node = self.node(words[1])
-        leader = node.leaders.get(Key(words[2], int(words[3])))
-        told = self.reply(node, f"leader {leader.node} {leader.bid}" if leader else "none")
+        node, key = self.node(words[1]), Key(words[2], int(words[3]))
+        leader = node.leaders.get(key)
+        told = self.reply(node, node.retired(key) or (f"leader {leader.node} {leader.bid}" if leader else "none"))
         self.row(node, "o", f"{self.tickets}: {' '.join(['who', *words[2:]])}, {told}")
+
+    def line_retire(self, words: list[str]) -> None:
+        node, asked = self.node(words[1]), Retire(words[2], int(words[3]))
+        told, _ = self.submit(node, asked)
+        self.row(node, "o", f"{self.tickets}: {' '.join(['retire', *words[2:]])}, {told}")
 
     def line_latest(self, words: list[str]) -> None:
         node = self.node(words[1])

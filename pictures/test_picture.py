@@ -42,6 +42,59 @@ audit ok 2
 """
 
 
+# What a node that retired terms refuses, behind a checkpoint and a crash too; and what it does not pass on.
+RULES = """ring 2
+stand 1 red 9 5
+deliver all
+retire 1 red 10
+retire 1 red 9
+retire 1 red 9
+who 1 red 4
+stand 1 red 8 5
+latest 1 red
+checkpoint 1
+crash 1
+stand 1 red 4 5
+who 1 red 9
+show 1
+"""
+RULED = """ring 2
+1: stood
+delivered 4
+2: no 26 undecided
+3: retired
+4: no 23 retired 9
+5: no 23 retired 9
+6: no 23 retired 9
+7: term 9 leader 1 5
+checkpointed 0
+up 1 4
+8: no 23 retired 9
+9: leader 1 5
+node 1 inputs 4 durable 4 sent 2 taken 2 credit 0
+"""
+RELAY = """ring 2
+stand 1 red 9 5
+deliver 1 0
+deliver 2 0
+retire 1 red 9
+stand 2 red 4 7
+deliver 2 1
+show 1
+audit
+"""
+RELAYED = """ring 2
+1: stood
+2: taken
+3: taken
+4: retired
+5: stood
+6: taken
+node 1 inputs 4 durable 4 sent 2 taken 2 credit 0
+audit ok 6
+"""
+
+
 class PictureTest(unittest.TestCase):
     def test_a_lazy_ring(self) -> None:
         drawn, image = picture.draw(RUN, PRINTED, "run")
@@ -86,14 +139,32 @@ class PictureTest(unittest.TestCase):
         with self.assertRaises(Fault):
             picture.draw(stopped, "ring 2\n1: stood\nup 1 1\naudit ok 1\nno 27 dropped 1\n", "run")
 
+    def test_retired_terms(self) -> None:
+        drawn, _ = picture.draw(RULES, RULED, "rules")
+        for text in ("o 2: retire red 10, no 26 undecided", "o 3: retire red 9, retired", "o 5: who red 4, no 23 retired 9"):
+            self.assertIn(text, drawn)
+        drawn, _ = picture.draw(RELAY, RELAYED, "relay")
+        self.assertIn(" 6: 1 red 4 Token (7, 2), retired ", drawn)
+
+    def test_what_a_floor_leaves(self) -> None:
+        # A floor of one group is none of another one; of the lazy node it waits, and with it is lost.
+        script = "ring 2 lazy\nstand 1 red 2 5\nflush 1\ndeliver 1 0\nflush 2\ndeliver 2 0\nflush 1\n"
+        printed = "ring 2\n1: sealed\nflushed 1\n1: stood\n2: sealed\nflushed 1\n2: taken\n3: sealed\nflushed 1\n3: taken\n"
+        picture.draw(f"{script}retire 1 blue 1\nretire 1 red 2\nwho 1 red 1\ncrash 1\nwho 1 red 1\nretire 1 red 1\nflush 1\n",
+                     f"{printed}4: no 26 undecided\n5: sealed\n6: sealed\n5: lost\n6: lost\nup 1 2\n7: none\n8: sealed\n"
+                     "flushed 1\n8: retired\n", "lazy")
+        # Nor is one given up that the node has not heard of.
+        picture.draw(f"{script}retire 2 red 1\n", f"{printed}4: no 26 undecided\n", "behind")
+
     def test_what_does_not_agree_is_told(self) -> None:
-        lines = PRINTED.splitlines(keepends=True)
-        for number, line in enumerate(lines):
-            for other in ("", line.replace("1", "9").replace("0", "8") + "", line + line):
-                changed = "".join([*lines[:number], other, *lines[number + 1:]])
-                if changed != PRINTED:
-                    with self.assertRaises(Fault, msg=changed):
-                        picture.draw(RUN, changed, "run")
+        for script, printed in ((RUN, PRINTED), (RULES, RULED), (RELAY, RELAYED)):
+            lines = printed.splitlines(keepends=True)
+            for number, line in enumerate(lines):
+                for other in ("", line.replace("1", "9").replace("0", "8") + "", line + line):
+                    changed = "".join([*lines[:number], other, *lines[number + 1:]])
+                    if changed != printed:
+                        with self.assertRaises(Fault, msg=changed):
+                            picture.draw(script, changed, "run")
         with self.assertRaises(Fault):
             picture.draw("", "", "nothing")
 
@@ -116,6 +187,7 @@ def random_script(rng: random.Random) -> str:
         lines.append(rng.choice([
             f"stand {node} {group} {term} {rng.randrange(5)}", f"stand {node} {group} {term} {rng.randrange(5)}",
             f"who {node} {group} {term}", f"latest {node} {group}", f"deliver {node} {rng.randrange(6)}",
+            f"retire {node} {group} {term}",
             f"deliver {node} {rng.randrange(3)}", f"credit {node} {rng.randrange(5)}", "deliver all", f"flush {node}",
             f"flush {node}", f"crash {node}", f"stop {node} {rng.randint(1, 4)} {rng.choice(['old', 'new', 'fill 1'])}",
             f"checkpoint {node}", f"stop {node} checkpoint {rng.randint(1, 6)} {rng.choice(['old', 'new', 'fill 1'])}", "audit",

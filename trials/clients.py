@@ -46,9 +46,11 @@ class Client:
 
     def pick(self) -> Question:
         """A new question. Stands are mostly for the term above the greatest one that has a leader, so that nodes stand
-        for the same."""
+        for the same; floors are near that one."""
         group = self.rng.choice(GROUPS)
         term = self.known.greatest.get(group, 0) + 1
+        if self.known.retires and self.rng.random() < 0.1:
+            return Question("retire", group, max(1, term + self.rng.choice([-9, -4, -3, -2, -1, -1, 0])))
         kind = self.rng.random()
         if kind < 0.45:
             return Question("stand", group, term + self.rng.choice([0, 0, 0, 1, 2]), self.rng.randrange(BIDS))

@@ -1,12 +1,12 @@
 #!/usr/bin/env python3
 """Kills an earlier ringd at random moments, and has a new one go on in its folder under the same book of answers.
 
-earlier.py --earlier PATH [--ringd PATH] [--rounds N] [--seed S] [--capacity C]
+earlier.py --earlier PATH [--ringd PATH] [--rounds N] [--seed S] [--capacity C] [--retire]
 
 The first PATH is a built ringd of an earlier release, the second one the new one, bin/ringd where none is named; N, 1
 to 1,000, how often each of them is killed, 50 by default; S a number that the choices begin with; C, 4,096 to
-1,048,576, the capacity of all nodes, in place of one of three by chance. Both are started by words that each release
-knows: --settings and --serve.
+1,048,576, the capacity of all nodes, in place of one of three by chance. With --retire the new one is asked to retire
+terms, as by kill.py. Both are started by words that each release knows: --settings and --serve.
 
 A round is one of kill.py, and what is known of a folder is held against the answers of both programs. The earlier one
 has a folder for N rounds, or until a node made half of the Stands that use a folder up; then the new one is asked again
@@ -39,18 +39,18 @@ REFUSED = re.compile(r"ringd: node 1: (damaged 16|unformatted)\n")
 class Succession(Trial):
     """Rounds by an earlier ringd, and as many by the new one."""
 
-    def __init__(self, earlier: str, ringd: str, seed: int, capacity: int | None) -> None:
-        super().__init__(ringd, seed, 1, capacity)
+    def __init__(self, earlier: str, ringd: str, seed: int, capacity: int | None, retires: bool) -> None:
+        super().__init__(ringd, seed, 1, capacity, retires)
         self.earlier = earlier
         self.layouts: Counter[tuple[int, int]] = Counter()
         self.said: Counter[str] = Counter()
 
     def course(self, ring: Ring, rounds: int) -> None:
-        ring.ringd = self.earlier
+        ring.ringd, ring.known.retires = self.earlier, False
         before = self.rounds
         self.go_on(ring, (rounds + 1) // 2, MANY // 2)
         layouts = layouts_of(ring)
-        ring.ringd = self.ringd
+        ring.ringd, ring.known.retires = self.ringd, self.retires
         self.look(ring)
         self.go_on(ring, self.rounds - before, 2 * MANY)
         self.look(ring)
@@ -76,7 +76,7 @@ class Succession(Trial):
         told = ", ".join(f"{count} of {old}, then of {new}" for (old, new), count in sorted(self.layouts.items()))
         print(f"layouts of journals: {told}; the earlier one said {dict(self.said)}")
         is_left = any(old >= new for old, new in self.layouts)
-        return "no journal got another layout" if is_left or not self.layouts else ""
+        return "no journal got another layout" if is_left or not self.layouts else super().lacks()
 
 
 def layouts_of(ring: Ring) -> dict[int, int]:
@@ -103,8 +103,10 @@ def main() -> int:
     parser.add_argument("--rounds", type=number(1, 1_000), default=50, metavar="N")
     parser.add_argument("--seed", type=number(0, 2**63), default=random.randrange(1_000_000), metavar="S")
     parser.add_argument("--capacity", type=number(4_096, 1_048_576), metavar="C")
+    parser.add_argument("--retire", action="store_true")
     words = parser.parse_args()
-    return run(Succession(words.earlier, words.ringd, words.seed, words.capacity), 2 * words.rounds)
+    trial = Succession(words.earlier, words.ringd, words.seed, words.capacity, words.retire)
+    return run(trial, 2 * words.rounds)
 
 
 if __name__ == "__main__":

@@ -1,5 +1,5 @@
 #!/usr/bin/env python3
-"""fuzz.py --seconds N --seed S [KIND..] [--ringd PATH] [--ringctl PATH] [--unproved]
+"""fuzz.py --seconds N --seed S [KIND..] [--ringd PATH] [--ringctl PATH] [--unproved] [--retire]
 
 Gives the programs what nobody would give them, and holds what they do against models that share nothing with the proofs. Each KIND is
 tried for N seconds, 10 by default, side by side; all of them where none is named:
@@ -12,7 +12,8 @@ tried for N seconds, 10 by default, side by side; all of them where none is name
   heads     heads of HTTP, whole, cut, repeated, with bytes changed
 
 Besides: no run is ended by a signal, none hangs for ten seconds, none takes 64 MiB, and no start that is refused changes a file.
---unproved is for builds of `rt try`, which are slow: a hang is a minute then, and memory is not looked at.
+--unproved is for builds of `rt try`, which are slow: a hang is a minute then, and memory is not looked at. --retire is for programs that
+retire terms: others are held to take `retire` for no line.
 
 S is a number that the cases begin with, but not the moments at which threads run. A difference is told with the smallest case that shows
 it, and ends its kind. The last lines are `KIND cases N` for each, or `KIND differs`. Status 0 where nothing differed; 1 where something
@@ -30,6 +31,7 @@ HERE = os.path.dirname(os.path.abspath(__file__))
 sys.path[:0] = [HERE, os.path.join(HERE, "kinds"), os.path.join(HERE, "..", "pictures")]
 from files import Files
 from heads import Heads
+from lines import know_retire
 from programs import Kind, Programs
 from scripts import Scripts
 from sessions import Sessions
@@ -76,6 +78,8 @@ def trial(name: str, words: argparse.Namespace, counts: multiprocessing.Queue) -
     """Tries one kind. Puts how many cases it tried, none where one differed."""
     signal.signal(signal.SIGTERM, lambda *_: sys.exit(1))
     programs = Programs(os.path.abspath(words.ringd), os.path.abspath(words.ringctl), words.unproved)
+    if words.retire:
+        know_retire()
     try:
         kind = KINDS[name](programs)
         try:
@@ -109,6 +113,7 @@ def main() -> int:
     parser.add_argument("--seconds", type=int, default=10, metavar="N")
     parser.add_argument("--seed", type=int, default=random.randrange(1_000_000), metavar="S")
     parser.add_argument("--unproved", action="store_true")
+    parser.add_argument("--retire", action="store_true")
     for name in ("ringd", "ringctl"):
         parser.add_argument(f"--{name}", default=os.path.join(os.path.dirname(HERE), "bin", name), metavar="PATH")
     words = parser.parse_args()

@@ -11,7 +11,7 @@ HEAD = 14
 COUNTS = 38
 # What an input takes of the capacity beside its record.
 FRAME = 7
-STAND, TOKEN, ELECTED, ACKED = 1, 2, 3, 4
+STAND, TOKEN, ELECTED, ACKED, RETIRE = 1, 2, 3, 4, 5
 
 
 class Input(NamedTuple):
@@ -77,12 +77,16 @@ def records(data: bytes) -> Iterator[Input]:
     at = 0
     while at < len(data):
         kind, counted, at = data[at], 0, at + 1
-        if kind != STAND:
+        if kind not in (STAND, RETIRE):
             counted, at = number(data, at, 8), at + 8
         if kind == ACKED:
             yield Input(kind, counted)
             continue
         group, at = name_at(data, at)
+        if kind == RETIRE:
+            yield Input(kind, 0, group, number(data, at, 4))
+            at += 4
+            continue
         term, bid, at = number(data, at, 4), number(data, at + 4, 4), at + 8
         if kind == STAND:
             yield Input(kind, 0, group, term, bid)

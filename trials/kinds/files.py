@@ -6,10 +6,12 @@ import threading
 from typing import NamedTuple
 
 import journals
+import lines
 from journals import Input, Refused, State
 from programs import Kind, Programs, Server
 
 NODES = 3
+GROUPS = [b"a", b"red", b"abcdefghijklmnop"]
 # What a node needs so that it is never full, in bytes and in inputs.
 ROOM, FEW = 1_500, 2**50
 
@@ -47,8 +49,11 @@ class Files(Kind):
             if server.ended:
                 raise SystemExit(f"the ring does not serve: {server.ended}")
             first = 40 * len(older)
-            texts = [b"".join(b"stand %s %d %d\n" % (rng.choice([b"a", b"red", b"abcdefghijklmnop"]), first + rng.randint(1, 30), rng.randrange(9))
+            texts = [b"".join(b"stand %s %d %d\n" % (rng.choice(GROUPS), first + rng.randint(1, 30), rng.randrange(9))
                               for _ in range(rng.randint(1, 40))) for _ in range(NODES)]
+            if older and lines.knows_retire():
+                # Of what was elected before it was killed.
+                texts = [b"retire %s %d\n" % (rng.choice(GROUPS), rng.randint(1, 30)) * rng.randint(0, 2) + text for text in texts]
             clients = [threading.Thread(target=server.exchange, args=(server.port + node, [text])) for node, text in enumerate(texts)]
             for client in clients:
                 client.start()
@@ -121,7 +126,7 @@ class Files(Kind):
             told = (node["messages"]["sent"], node["messages"]["taken"], node["stands"]["taken"], node["journal"]["capacity"])
             if told != (state.sent, state.taken, state.stands, state.capacity) or node["journal"]["epoch"] < epoch:
                 return f"node {state.me} tells {node}, where it sent {state.sent}, took {state.taken}, and has {state.stands} Stands"
-            keys = sorted(state.touched)
+            keys = sorted(state.touched) + [(group, floor - 1) for group, floor in sorted(state.floors.items()) if floor > 1]
             text = b"".join(b"who %s %d\nlatest %s\n" % (*key, key[0]) for key in keys)
             right = b"".join(leader(state, key) + latest(state, key[0]) for key in keys)
             answer = server.exchange(server.port + state.me - 1, [text])
@@ -150,6 +155,8 @@ def rest(states: list[State]) -> None:
 
 
 def leader(state: State, key: tuple[bytes, int]) -> bytes:
+    if state.is_retired(key):
+        return b"no 23 retired %d\n" % state.floors[key[0]]
     if key not in state.leaders:
         return b"none\n"
     return b"leader %d %d\n" % state.leaders[key][::-1]

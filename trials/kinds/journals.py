@@ -2,6 +2,8 @@
 import re
 from typing import NamedTuple
 
+import lines
+
 MARK, OLD_MARK, NAME = b"CRJRNL02", b"CRJRNL01", re.compile(rb"[a-z][a-z0-9-]*")
 HEAD, LEAST, GREATEST, BID = 16, 4_096, 1_048_576, 999_999_999
 STANDS, INPUTS, EPOCHS, COUNT, FULLEST = 1_024, 2**56, 2**40, 64, 2**21 + 2**12
@@ -22,7 +24,7 @@ class Message(NamedTuple):
 
 
 class Input(NamedTuple):
-    """A Stand with a key and a bid, a Take with a number and a message, or an Acked with a number."""
+    """A Stand with a key and a bid, a Take with a number and a message, an Acked with a number, or a Retire with a group and a floor."""
     kind: str
     number: int = 0
     key: tuple[bytes, int] | None = None
@@ -54,11 +56,12 @@ class Bytes:
             raise Short
         return name, self.number(4, 1, BID)
 
-    def record(self) -> Input:
-        begin, kind = self.at, self.number(1, 1, 4)
-        if kind == 1:
+    def record(self, kinds: int) -> Input:
+        begin, kind = self.at, self.number(1, 1, kinds)
+        if kind in (1, 5):
             key = self.key()
-            return Input("stand", self.number(4, 0, BID), key, None, self.at - begin)
+            number = self.number(4, 0, BID) if kind == 1 else 0
+            return Input("stand" if kind == 1 else "retire", number, key, None, self.at - begin)
         number = self.number(8)
         if kind == 4:
             return Input("acked", number, None, None, self.at - begin)
@@ -85,9 +88,11 @@ class State:
         # The messages from number `credit` on.
         self.window = [Message(text.number(1, 2, 3) == 2, text.key(), (text.number(4, 0, BID), text.number(1, 1, nodes)))
                        for _ in range(min(self.sent - self.credit, len(snapshot)))]
-        if layout > 2:
-            text.number(4, 0, 0)
-        if text.at != len(text.text) or len(self.window) != self.sent - self.credit:
+        count = text.number(4) if layout > 2 else 0
+        floors = [text.key() for _ in range(min(count, len(snapshot)))]
+        self.floors = dict(floors)
+        is_sound = len(floors) == count and all(a < b for (a, _), (b, _) in zip(floors, floors[1:]))
+        if text.at != len(text.text) or len(self.window) != self.sent - self.credit or not is_sound or any(map(self.is_retired, keys)):
             raise Short
 
     def read_key(self, text: Bytes) -> tuple[bytes, int]:
@@ -102,10 +107,18 @@ class State:
         """The greatest term of the group that has a leader."""
         return max((term for name, term in self.leaders if name == group), default=0)
 
+    def is_retired(self, key: tuple[bytes, int]) -> bool:
+        """Whether its term is below its group's floor."""
+        return key[1] < self.floors.get(key[0], 0)
+
     def is_lawful(self, asked: Input) -> bool:
         """Whether the inputs before it allow it."""
         if asked.kind == "stand":
-            is_right = asked.key not in self.touched and self.latest(asked.key[0]) <= asked.key[1] and self.stands < STANDS
+            is_new = asked.key not in self.touched and not self.is_retired(asked.key)
+            is_right = is_new and self.latest(asked.key[0]) <= asked.key[1] and self.stands < STANDS
+        elif asked.kind == "retire":
+            # A node that retires no terms has room for none.
+            is_right = self.floors.get(asked.key[0], 0) < asked.key[1] <= self.latest(asked.key[0]) and lines.knows_retire()
         elif asked.kind == "take":
             is_right = asked.message.candidate[1] <= self.nodes and asked.number == self.taken
         else:
@@ -120,15 +133,26 @@ class State:
             self.touched.add(asked.key)
             self.stood[asked.key] = asked.number
             self.send(Message(True, asked.key, (asked.number, self.me)))
+        elif asked.kind == "retire":
+            self.retire(*asked.key)
         elif asked.kind == "acked":
             del self.window[:asked.number - self.credit]
             self.credit = asked.number
         else:
             self.take(asked.message)
 
+    def retire(self, group: bytes, floor: int) -> None:
+        self.floors[group] = floor
+        for key in [key for key in self.touched if self.is_retired(key)]:
+            self.touched.remove(key)
+            self.leaders.pop(key, None)
+            self.stands -= self.stood.pop(key, None) is not None
+
     def take(self, message: Message) -> None:
         self.taken += 1
         is_token, key, candidate = message
+        if self.is_retired(key):
+            return
         own = (self.stood[key], self.me) if key in self.stood else None
         self.touched.add(key)
         is_own = candidate[1] == self.me
@@ -173,7 +197,7 @@ def read(image: bytes, me: int, nodes: int) -> tuple[State, int]:
         state = State(me, nodes, capacity, layout, snapshot)
     except Short:
         raise Refused(f"damaged {start}") from None
-    inputs, gate = frames(image, start if is_plain else start + 14 + size)
+    inputs, gate = frames(image, start if is_plain else start + 14 + size, 5 if layout > 2 else 4)
     if gate > start + 14 + capacity:
         raise Refused(f"damaged {start}")
     for place, asked in enumerate(inputs):
@@ -183,15 +207,15 @@ def read(image: bytes, me: int, nodes: int) -> tuple[State, int]:
     return state, epochs[start]
 
 
-def frames(image: bytes, gate: int) -> tuple[list[Input], int]:
-    """The inputs of the frames from this gate on, and the closed gate."""
+def frames(image: bytes, gate: int, kinds: int) -> tuple[list[Input], int]:
+    """The inputs of the frames from this gate on, of so many kinds, and the closed gate."""
     inputs: list[Input] = []
     while gate < len(image) and image[gate] == 1:
         text = Bytes(image[gate + 1:])
         try:
             count, length = text.number(2, 1, COUNT), text.number(4)
             records = Bytes(text.bytes(length))
-            inputs += [records.record() for _ in range(count)]
+            inputs += [records.record(kinds) for _ in range(count)]
             if records.at != length:
                 raise Short
         except Short:

@@ -16,6 +16,16 @@ RUNNING = [b"stand I G T B", b"who I G T", b"latest I G", b"deliver all", b"deli
 SESSION = [b"stand G T B", b"who G T", b"latest G", b"bye"]
 
 
+def know_retire() -> None:
+    """From now on the programs know `retire`. To others it is no line."""
+    RUNNING.append(b"retire I G T")
+    SESSION.append(b"retire G T")
+
+
+def knows_retire() -> bool:
+    return b"retire G T" in SESSION
+
+
 def lines_of(text: bytes) -> list[bytes]:
     """The lines of a script. A carriage return before a line feed is dropped, and kept at the end of a last line without one."""
     *lines, last = text.split(b"\n")

@@ -106,14 +106,17 @@ class Scripts(Kind):
         for _ in range(rng.choice([3, 10, 30, 60, 120])):
             case.append(line(rng, nodes) + rng.choice([b"\n"] * 12 + [b"\r\n", b"\r\r\n", b"", b" \n"]))
         kind = rng.random()
-        if kind < 0.06:
-            # More than a small capacity holds, and seldom more Stands than a node takes.
-            count = 1_030 if kind < 0.004 else rng.randint(90, 260)
+        at = rng.randint(0, len(case))
+        if kind < 0.004:
+            case[at:at] = limit(rng)
+        elif kind < 0.06:
+            # More than a small capacity holds.
             group = rng.choice([b"a", b"abcdefghijklmnop"])
-            bulk = [b"stand %d %s %d %d\n" % (rng.choice([1, 1, 1, nodes]), group, term, term % 3) for term in range(1, count)]
-            at = rng.randint(0, len(case))
-            case[at:at] = bulk
-        elif kind < 0.063:
+            case[at:at] = [b"stand %d %s %d %d\n" % (rng.choice([1, 1, 1, nodes]), group, term, term % 3)
+                           for term in range(1, rng.randint(90, 260))]
+        elif kind < 0.09:
+            case[at:at] = years(rng, nodes, 300 if kind < 0.064 else 12, b"lazy" in first)
+        elif kind < 0.093:
             case += [b"#" * 10_000 + b"\n"] * 99 + [b"#" * (MOST - sum(map(len, case)) - 990_099 + rng.choice([-1, 0, 1, 2]))]
         return case
 
@@ -140,6 +143,35 @@ ODD = [b"0", b"00000000001", b"0000000001", b"1", b"17", b"16", b"999999999", b"
        b"lazy", b"#", b"256", b"18446744073709551617"]
 
 
+def limit(rng: random.Random) -> list[bytes]:
+    """More Stands than a node takes, where its capacity allows them, some of which it retires."""
+    group, floor = rng.choice([b"a", b"abcdefghijklmnop"]), rng.randint(1, 1_040)
+    case = [b"stand 1 %s %d %d\n" % (group, term, term % 3) for term in range(1, 1_030)]
+    case += [b"deliver all\n", b"retire 1 %s %d\n" % (group, floor), rng.choice([b"checkpoint 1\n", b"crash 1\n", b"\n"])]
+    return case + [b"stand 1 %s %d 1\n" % (group, term) for term in range(1_025, rng.choice([1_100, 2_060]))]
+
+
+def years(rng: random.Random, nodes: int, count: int, is_lazy: bool) -> list[bytes]:
+    """So many times some terms of a group, whose messages are taken and credited, and which are retired then."""
+    group, term, kept = rng.choice([b"a", b"abcdefghijklmnop"]), 0, rng.choice([0, 0, 1, 5, 100])
+    case: list[bytes] = []
+    # What is not durable yet is not delivered.
+    rounds = [b"flush %d\n" % each for each in range(1, nodes + 1)] * is_lazy + [b"deliver all\n"]
+    rounds *= 2 * nodes if is_lazy and nodes <= 4 else 1
+    for _ in range(count):
+        node = rng.randint(1, nodes)
+        for term in range(term + 1, term + 1 + rng.choice([1, 2, 5, 20])):
+            case.append(b"stand %d %s %d %d\n" % (node, group, term, rng.randrange(3)))
+        case += rounds
+        for each in range(1, nodes + 1):
+            case.append(b"credit %d %d\n" % (each, 2 * term))
+            if rng.random() < 0.9:
+                case.append(b"retire %d %s %d\n" % (each, group, max(1, term - kept)))
+            if rng.random() < 0.5:
+                case.append(b"checkpoint %d\n" % each)
+    return case
+
+
 def line(rng: random.Random, nodes: int) -> bytes:
     """A line of a script: mostly a command, sometimes with a word or a byte changed."""
     node, group, term = rng.randint(1, nodes), rng.choice(GROUPS), rng.randint(1, 4)
@@ -149,6 +181,7 @@ def line(rng: random.Random, nodes: int) -> bytes:
         b"who %d %s %d" % (node, group, term), b"latest %d %s" % (node, group), b"deliver %d %d" % (node, rng.randrange(8)),
         b"deliver %d %d" % (node, rng.randrange(3)), b"credit %d %d" % (node, rng.randrange(6)), b"deliver all", b"deliver all",
         b"flush %d" % node, b"flush %d" % node, b"crash %d" % node, b"checkpoint %d" % node, b"show %d" % node, b"audit",
+        b"retire %d %s %d" % (node, group, term), b"retire %d %s %d" % (node, group, rng.randint(1, 2)),
         b"stop %d %d %s" % (node, rng.randint(1, 4), tear), b"stop %d checkpoint %d %s" % (node, rng.randint(1, 6), tear),
     ]).split(b" ")
     kind = rng.random()

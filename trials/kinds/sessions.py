@@ -55,7 +55,9 @@ def session(rng: random.Random) -> tuple[int, bytes, list[int]]:
     if kind < 0.02:
         text = rng.choice([b"latest a\n", b"\n", b"no\r\n"]) * rng.randint(9_998, 10_003) + rng.choice([b"", b"bye\n", b"who"])
     else:
-        text = b"".join(line(rng) for _ in range(rng.choice([1, 2, 5, 20, 60])))
+        told = [line(rng) for _ in range(rng.choice([1, 2, 5, 20, 60]))]
+        # While elections are on their way nobody knows which of them a floor ends.
+        text = b"".join(sorted(told, key=lambda each: each.split()[:1] != [b"retire"]))
     if rng.random() < 0.3:
         text += rng.choice([b"bye\n", b"bye\r\n", b"bye", b"bye\nlatest a\n", b"x" * 201 + b"\n", b"x" * 202, b" " * 200 + b"\r\n"])
     cuts = sorted(rng.randint(0, len(text)) for _ in range(rng.choice([0, 0, 1, 3, 10])))
@@ -65,7 +67,7 @@ def session(rng: random.Random) -> tuple[int, bytes, list[int]]:
 def line(rng: random.Random) -> bytes:
     """A line of a session, from one of a script without its node."""
     words = scripts.line(rng, 3).split(b" ")
-    if words[0] in (b"stand", b"who", b"latest") and rng.random() < 0.97:
+    if words[0] in (b"stand", b"who", b"latest", b"retire") and rng.random() < 0.97:
         del words[1:2]
     elif rng.random() < 0.6:
         words = rng.choice([b"stand %s %d %d", b"stand %s %d %d #"]).split(b" ")[:4]

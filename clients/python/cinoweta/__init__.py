@@ -10,11 +10,12 @@ leader that was paused from a late write. docs/SESSIONS.md tells of it, and of `
 """
 from .election import Election, Leader, Led
 from .errors import (AlreadyStands, BadLine, BadName, BadNumber, CinowetaError, DeviceFailed, Full, Late, LimitReached,
-                     LockTaken, NoAnswer, NodeFailed, NoLeader, OutOfMemory, Refused, Stale, WrongRing)
+                     LockTaken, NoAnswer, NodeFailed, NoLeader, OutOfMemory, Refused, Retired, Stale, Undecided,
+                     WrongRing)
 from .lock import Holder, Lock, holder
 from .ring import Ring
 
 __version__ = "0.1.0"
 __all__ = ["AlreadyStands", "BadLine", "BadName", "BadNumber", "CinowetaError", "DeviceFailed", "Election", "Full",
            "Holder", "Late", "Leader", "Led", "LimitReached", "Lock", "LockTaken", "NoAnswer", "NoLeader", "NodeFailed",
-           "OutOfMemory", "Refused", "Ring", "Stale", "WrongRing", "holder"]
+           "OutOfMemory", "Refused", "Retired", "Ring", "Stale", "Undecided", "WrongRing", "holder"]

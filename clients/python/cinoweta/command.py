@@ -53,16 +53,16 @@ def show(told: argparse.Namespace, text: str, /, **values: Any) -> None:
     print(json.dumps(values) if told.json else text, flush=True)
 
 
-def tell_fault(told: argparse.Namespace, fault: Exception) -> int:
-    """Tells a fault on standard error, and gives its status."""
+def tell_fault(told: argparse.Namespace, fault: Exception, place: str = "") -> int:
+    """Tells a fault, and where it is one, on standard error, and gives its status."""
     code = CODES.get(type(fault), WORDS)
-    values: dict[str, Any] = {"error": str(fault)}
+    values: dict[str, Any] = {"error": f"{place}{fault}"}
     if isinstance(fault, Refused):
         code = REFUSED + fault.number
         values |= {"refusal": fault.number, "text": fault.text}
     elif isinstance(fault, OSError):
         code = NO_ANSWER
-    print(json.dumps(values) if told.json else f"cinoweta: {fault}", file=sys.stderr)
+    print(json.dumps(values) if told.json else f"cinoweta: {place}{fault}", file=sys.stderr)
     return code
 
 
@@ -96,9 +96,33 @@ def show_term(told: argparse.Namespace, term: int, leader: dict[str, int], **mor
     show(told, text, group=told.group, term=term, leader=leader, **more)
 
 
+def retire(told: argparse.Namespace) -> int:
+    """A node that refuses, or is away, keeps no other one from it: its fault is told, and the first gives the status."""
+    codes: list[int] = []
+    with ring_of(told) as ring:
+        floor = least_latest(ring, told.group) if told.floor is None else told.floor
+        if floor is None:
+            show(told, "none", group=told.group, node=None, floor=None)
+            return NONE
+        for node in range(1, ring.nodes + 1) if told.node is None else [told.node]:
+            try:
+                known = ring.retire(told.group, floor, node)
+                show(told, f"node {node} retired {known}", group=told.group, node=node, floor=known)
+            except CinowetaError as fault:
+                codes.append(tell_fault(told, fault, f"node {node}: "))
+    return codes[0] if codes else 0
+
+
+def least_latest(ring: Ring, group: str) -> int | None:
+    """The greatest term that all nodes have come to; None where one knows no leader."""
+    known = [ring.latest(group, node) for node in range(1, ring.nodes + 1)]
+    terms = [each.term for each in known if each is not None]
+    return min(terms) if len(terms) == len(known) else None
+
+
 def campaign(told: argparse.Namespace) -> int:
     with ring_of(told) as ring:
-        election = ring.campaign(told.group, told.gone, told.rank, told.node, told.terms, told.wait)
+        election = ring.campaign(told.group, told.gone, told.rank, told.node, told.terms, told.wait, told.keep)
     show_term(told, election.term, election.leader._asdict(), is_mine=election.is_mine)
     return 0 if election.is_mine else NONE
 
@@ -125,7 +149,7 @@ def lock(told: argparse.Namespace) -> int:
     if shutil.which(told.run[0]) is None:
         print(f"cinoweta: {told.run[0]}: no such program", file=sys.stderr)
         return NO_PROGRAM
-    held = Lock(ring_of(told), told.group, told.rank, told.patience, told.wait, told.text)
+    held = Lock(ring_of(told), told.group, told.rank, told.patience, told.wait, told.text, told.keep)
     try:
         held.acquire(lambda text: print(f"cinoweta: {told.group}: {text}", file=sys.stderr, flush=True))
         code = held.run(told.run, told.grace)
@@ -158,6 +182,6 @@ def move(told: argparse.Namespace) -> int:
 
 
 COMMANDS: dict[str, Callable[[argparse.Namespace], int]] = {
-    "stand": stand, "who": who, "latest": latest, "campaign": campaign, "watch": watch, "status": show_status,
-    "lock": lock, "holder": holder, "move": move,
+    "stand": stand, "who": who, "latest": latest, "retire": retire, "campaign": campaign, "watch": watch,
+    "status": show_status, "lock": lock, "holder": holder, "move": move,
 }

@@ -1,14 +1,20 @@
 """Who leads, and how to come to lead."""
+import contextlib
 import secrets
 from collections.abc import Iterator
 from typing import TYPE_CHECKING, NamedTuple
 
 from . import status
-from .errors import AlreadyStands, CinowetaError, Late, LimitReached, NoAnswer, NoLeader, Stale, WrongRing
+from .errors import AlreadyStands, CinowetaError, Late, LimitReached, NoAnswer, NoLeader, Retired, Stale, WrongRing
 from .pause import Pause
 
 if TYPE_CHECKING:
     from .ring import Ring
+
+
+# So many terms below its own who leads keeps by default, and so long it waits for a node that is to retire the others,
+# in seconds.
+KEEP, SECONDS = 10, 1.0
 
 
 class Leader(NamedTuple):
@@ -38,10 +44,13 @@ def random_bid(rank: int) -> int:
 
 
 class Campaign:
-    """Stands for one term after the other, each with one bid, until one above `gone` has a leader."""
+    """Stands for one term after the other, each with one bid, until one above `gone` has a leader. Where that is who
+    calls, the terms more than `keep` below its own are retired."""
 
-    def __init__(self, ring: "Ring", group: str, gone: int, bid: int, node: int | None) -> None:
-        self.ring, self.group, self.gone, self.bid = ring, group, gone, bid
+    def __init__(self, ring: "Ring", group: str, gone: int, bid: int, node: int | None, keep: int = KEEP) -> None:
+        if keep < 0:
+            raise ValueError("who leads keeps 0 terms or more")
+        self.ring, self.group, self.gone, self.bid, self.keep = ring, group, gone, bid, keep
         first = secrets.randbelow(ring.nodes) + 1 if node is None else node
         # The nodes at which it may stand, the first of them first.
         self.places = [(first - 1 + step) % ring.nodes + 1 for step in range(ring.nodes if node is None else 1)]
@@ -59,11 +68,25 @@ class Campaign:
         is_mine = known in self.stood
         if not is_mine and known.leader.bid == self.bid and any(term == known.term for term, _ in self.stood):
             raise WrongRing(f"who stood at node {self.places[0]} leads at node {known.leader.node}: give all ports")
+        if is_mine:
+            self.retire(known.term - self.keep)
         return Election(known.term, known.leader, is_mine)
 
+    def retire(self, floor: int) -> None:
+        """Each node retires the terms below this one, but those that refuse or are away. Who leads does so all the same,
+        and they are asked again in a later term."""
+        # Below term 1 there is none.
+        if floor > 1:
+            # A session holds one of its node's doors, of which there may be one.
+            self.ring.close()
+            with self.ring.within(SECONDS) as ring:
+                for node in range(1, ring.nodes + 1):
+                    with contextlib.suppress(CinowetaError):
+                        ring.retire(self.group, floor, node)
+
     def stand(self, term: int) -> None:
-        """Stands for the term where it may. Not where somebody else does, who comes to be known then. A node that stood
-        as often as it may is passed by, where another one may be taken."""
+        """Stands for the term where it may. Not where somebody else does, or leads in a greater term, who comes to be
+        known then. A node that stood as often as it may is passed by, where another one may be taken."""
         for number, place in enumerate(self.places, 1):
             candidate = Leader(place, self.bid)
             try:
@@ -74,7 +97,7 @@ class Campaign:
                 # It may have been accepted, and nobody else has the bid.
                 self.stood.add((term, candidate))
                 raise
-            except (AlreadyStands, Late, Stale):
+            except (AlreadyStands, Late, Stale, Retired):
                 return
             except LimitReached:
                 if number == len(self.places):

@@ -1,4 +1,5 @@
 """What may go wrong. docs/SESSIONS.md says what each refusal means, and what to do."""
+import re
 
 
 class CinowetaError(Exception):
@@ -71,13 +72,27 @@ class DeviceFailed(Refused):
     """15: the device failed while the Stand was made durable, which it may be or not."""
 
 
+class Retired(Refused):
+    """23: the term is below the `floor` of its group at this node, or the floor that was asked for is not above it."""
+
+    @property
+    def floor(self) -> int:
+        """The term below which the node gave up the group's terms; 0 where its text tells none."""
+        words = re.fullmatch(r"retired (\d{1,10})", self.text, re.ASCII)
+        return int(words[1]) if words else 0
+
+
 class BadLine(Refused):
     """25: the line is none."""
 
 
+class Undecided(Refused):
+    """26: the floor is above the latest term of the group that has a leader, as far as the node knows."""
+
+
 KINDS: dict[int, type[Refused]] = {
     1: BadName, 2: BadNumber, 3: AlreadyStands, 4: Late, 5: Stale, 6: LimitReached, 7: Full, 8: OutOfMemory,
-    9: NodeFailed, 15: DeviceFailed, 25: BadLine,
+    9: NodeFailed, 15: DeviceFailed, 23: Retired, 25: BadLine, 26: Undecided,
 }
 
 

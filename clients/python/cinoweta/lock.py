@@ -8,7 +8,7 @@ from collections.abc import Callable
 from typing import NamedTuple
 
 from .beacon import Beacon, ask, is_there
-from .election import Campaign, Leader, Led
+from .election import KEEP, Campaign, Leader, Led
 from .errors import LockTaken, NoAnswer, OutOfMemory
 from .pause import Pause
 from .process import EVERY, run
@@ -45,14 +45,16 @@ class Lock:
     """The lock of a group: `with Lock(ring, "jobs") as held:` waits until this process leads, in `held.term`, which it
     sends with each write as a fencing number, and resigns at the end. A holder is gone once its process has ended, or
     did not answer for `patience` seconds, as a paused one. Waited is for `wait` seconds, or for ever: then `LockTaken`;
-    0 tries once. A ring that answered before is waited for just so; then `NoAnswer`. Others are told `text`."""
+    0 tries once. A ring that answered before is waited for just so; then `NoAnswer`. Others are told `text`. The terms
+    more than `keep` below its own are retired."""
 
     def __init__(self, ring: Ring, group: str, rank: int = 0, patience: float = 5.0, wait: float | None = None,
-                 text: str = "") -> None:
+                 text: str = "", keep: int = KEEP) -> None:
         self.ring, self.group, self.rank, self.patience, self.text = ring, group, rank, patience, text
+        self.keep = keep
         self.wait = float("inf") if wait is None else wait
         # What looks whether the lock is lost waits for no other question, and is not waited for long.
-        self.looks = Ring(ring.first, ring.first + ring.nodes - 1, timeout=min(ring.timeout, EVERY))
+        self.looks = ring.within(EVERY)
         self.beacon: Beacon | None = None
         # The term in which it leads or led, the greatest one that is over for it, and when the ring was asked.
         self.term, self.gone, self.asked = 0, 0, 0.0
@@ -63,7 +65,7 @@ class Lock:
             raise ValueError(f"{self.group}: the lock is held")
         self.beacon = Beacon(self.rank, self.text)
         try:
-            self.contend(Campaign(self.ring, self.group, self.gone, self.beacon.bid, None), tell)
+            self.contend(Campaign(self.ring, self.group, self.gone, self.beacon.bid, None, self.keep), tell)
         except BaseException:
             self.resign()
             raise

@@ -31,8 +31,8 @@ def move(port: int, ring: Ring) -> Iterator[tuple[str, Led]]:
         raise WrongRing(f"127.0.0.1:{port} tells of the new ring itself")
     moved = terms(port, ring.timeout)
     for group, term in sorted(moved.items()):
-        # Whoever waits for a lock looks for this leader at port 0, where nobody is.
-        election = ring.campaign_with(secrets.randbelow(SPREAD), group, term, terms=1, seconds=SECONDS)
+        # Whoever waits for a lock looks for this leader at port 0, where nobody is. A new ring has no terms to retire.
+        election = ring.campaign_with(secrets.randbelow(SPREAD), group, term, terms=1, seconds=SECONDS, keep=term)
         await_all(ring, group, term)
         yield group, Led(election.term, election.leader)
     for group, term in terms(port, ring.timeout).items():

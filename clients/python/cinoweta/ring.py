@@ -7,8 +7,8 @@ from collections.abc import Iterator
 from typing import NoReturn
 
 from . import election
-from .election import Campaign, Election, Leader, Led
-from .errors import AlreadyStands, NoAnswer, WrongRing, refusal
+from .election import KEEP, Campaign, Election, Leader, Led
+from .errors import AlreadyStands, NoAnswer, Retired, WrongRing, refusal
 from .session import Session
 
 # A node takes so many Stands. No more of them that got no answer are remembered.
@@ -75,19 +75,31 @@ class Ring:
             return None if answer == "none" else self.wrong(answer)
         return Led(int(words[1]), Leader(int(words[2]), int(words[3])))
 
+    def retire(self, group: str, floor: int, node: int) -> int:
+        """The node gives up the group's terms below `floor`, and so has room again. Its floor from then on: that one, or
+        a greater one that it has already. Else `Refused`: `Undecided` where it knows no leader of that term or above."""
+        try:
+            answer = self.ask(f"retire {group} {floor}", node)
+        except Retired as fault:
+            if fault.floor < floor:
+                raise
+            return fault.floor
+        return floor if answer == "retired" else self.wrong(answer)
+
     def campaign(self, group: str, gone: int = 0, rank: int = 0, node: int | None = None, terms: int = 3,
-                 seconds: float = 5.0) -> Election:
+                 seconds: float = 5.0, keep: int = KEEP) -> Election:
         """The leader of the first term above `gone` that comes to have one, for which who calls stands where he may:
         at this node, or at any. `gone` is the term of the leader that is taken for gone; a later one is never put
         aside. The bid is of this call alone; its upper digits are `rank`, 0 to 999. Stands for so many `terms` at most
-        and waits so many `seconds` in each: then `NoLeader`. `Refused` where no Stand is taken any more."""
-        return self.campaign_with(election.random_bid(rank), group, gone, node, terms, seconds)
+        and waits so many `seconds` in each: then `NoLeader`. `Refused` where no Stand is taken any more. Who leads
+        retires the terms more than `keep` below its own at all nodes that do."""
+        return self.campaign_with(election.random_bid(rank), group, gone, node, terms, seconds, keep)
 
     def campaign_with(self, bid: int, group: str, gone: int = 0, node: int | None = None, terms: int = 3,
-                      seconds: float = 5.0) -> Election:
+                      seconds: float = 5.0, keep: int = KEEP) -> Election:
         """`campaign` with this bid, which no other process may have."""
         try:
-            return Campaign(self, group, gone, bid, node).run(terms, seconds)
+            return Campaign(self, group, gone, bid, node, keep).run(terms, seconds)
         finally:
             self.close()
 
@@ -136,6 +148,10 @@ class Ring:
                 if len(self.unanswered) > STANDS:
                     del self.unanswered[next(iter(self.unanswered))]
             raise
+
+    def within(self, seconds: float) -> "Ring":
+        """The same ring, over sessions of its own, and so that an answer is not waited for longer than that."""
+        return Ring(self.first, self.ports[-1], timeout=min(self.timeout, seconds))
 
     def wrong(self, answer: str) -> NoReturn:
         self.close()

@@ -3,6 +3,7 @@ import argparse
 import os
 
 from . import __version__
+from .election import KEEP
 
 EPILOG = """exit status: 0 done; 1 no leader is known, another one leads, nobody holds the lock, or a node is not well;
 2 wrong words; 3 no answer; 4 no leader in so many terms; 5 the lock was lost; 6 it was not had in time; 10 + N refused
@@ -30,6 +31,10 @@ def arguments() -> argparse.ArgumentParser:
     command("stand", "a node, 1 where none is told, stands with a bid", "group", "term", "bid", is_of_a_node=True)
     command("who", "who leads in a term", "group", "term", is_of_a_node=True)
     command("latest", "the greatest term that has a leader", "group", is_of_a_node=True)
+    retire = command("retire", "a node, or each in turn, gives up the terms below a floor, and has room again", "group",
+                     is_of_a_node=True)
+    retire.add_argument("floor", type=int, nargs="?", metavar="FLOOR",
+                        help="the greatest term that all nodes know a leader of, where it is left out")
     add_campaign(command("campaign", "stands until there is a leader above the one that is gone", "group",
                          is_of_a_node=True))
     watch = command("watch", "prints each new leader", "group")
@@ -57,6 +62,7 @@ def add_campaign(parser: argparse.ArgumentParser) -> None:
     parser.add_argument("--rank", type=int, default=0, help="0 to 999: of who stands at once the greatest leads")
     parser.add_argument("--terms", type=int, default=3, metavar="N", help="for how many terms it stands at most")
     parser.add_argument("--wait", type=float, default=5.0, metavar="SECONDS", help="how long it waits in each")
+    add_keep(parser)
     add_status(parser)
 
 
@@ -68,12 +74,18 @@ def add_lock(parser: argparse.ArgumentParser) -> None:
                         help="how long it waits for who holds the lock; 0 tries once; for ever where it is left out")
     parser.add_argument("--grace", type=float, default=10.0, metavar="SECONDS", help="from TERM to KILL")
     parser.add_argument("--text", default="", help="what `holder` tells of this one, 200 bytes at most")
+    add_keep(parser)
     add_status(parser)
 
 
 def add_patience(parser: argparse.ArgumentParser) -> None:
     parser.add_argument("--patience", type=float, default=5.0, metavar="SECONDS",
                         help="a holder that does not answer for so long is gone, as one that is paused")
+
+
+def add_keep(parser: argparse.ArgumentParser) -> None:
+    parser.add_argument("--keep", type=int, default=KEEP, metavar="N",
+                        help="who leads has each node retire the terms more than so many below its own")
 
 
 def add_status(parser: argparse.ArgumentParser) -> None:

@@ -62,11 +62,16 @@ class Votes:
 
     def __init__(self, elects: bool = True) -> None:
         self.elects = elects
+        self.floor = 0
         self.stood: dict[int, int] = {}
         self.leaders: dict[int, tuple[int, int]] = {}
 
     def __call__(self, line: str) -> str:
         words = line.split()
+        if words[0] == "retire":
+            return self.retire(int(words[2]))
+        if words[0] in ("stand", "who") and int(words[2]) < self.floor:
+            return f"no 23 retired {self.floor}"
         if words[0] == "stand":
             term, bid = int(words[2]), int(words[3])
             if term in self.stood:
@@ -80,3 +85,11 @@ class Votes:
             return "none"
         told = "leader {} {}".format(*self.leaders[term])
         return told if words[0] == "who" else f"term {term} {told}"
+
+    def retire(self, floor: int) -> str:
+        if floor <= self.floor:
+            return f"no 23 retired {self.floor}"
+        if floor > max(self.leaders, default=0):
+            return "no 26 undecided"
+        self.floor = floor
+        return "retired"

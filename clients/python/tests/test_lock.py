@@ -140,6 +140,16 @@ class LockTest(Beside):
                 held.is_lost()
             self.assertLessEqual(sum(len(node.lines) for node in nodes), before + 1)
 
+    def test_the_terms_far_below_its_own_are_retired(self) -> None:
+        ring, nodes = self.votes_ring()
+        # Nobody is at the port of this bid.
+        self.votes.leaders[20] = (2, 0)
+        with self.lock(ring, keep=3) as held:
+            self.assertEqual((held.term, self.votes.floor), (21, 18))
+        nodes[0].answer = nodes[1].answer = lambda line: self.votes(line) if "retire" not in line else "no 7 full"
+        with held:
+            self.assertEqual((held.term, held.is_lost(), self.votes.floor), (22, False, 18))
+
     def test_its_next_term_is_above_the_number_that_turned_it_away(self) -> None:
         ring, _ = self.votes_ring()
         with self.lock(ring) as held:

@@ -1,4 +1,7 @@
 """A Ring beside servers of lines that answer as they are told."""
+import contextlib
+import io
+import json
 import os
 import time
 import unittest
@@ -6,7 +9,8 @@ from collections.abc import Callable
 from unittest import mock
 
 from cinoweta import (AlreadyStands, Election, Full, Leader, Led, LimitReached, NoAnswer, NodeFailed, NoLeader, Refused,
-                      Ring, WrongRing)
+                      Retired, Ring, Undecided, WrongRing)
+from cinoweta.command import main
 from cinoweta.election import Campaign
 from cinoweta.errors import KINDS, refusal
 
@@ -99,6 +103,30 @@ class RingTest(Beside):
         ring, _ = self.ring(lambda _line: "x" * 10_000_000, lambda _line: "none\nnone", timeout=0.3)
         with self.assertRaises(NoAnswer):
             ring.latest("red")
+
+    def test_a_node_retires(self) -> None:
+        votes = Votes()
+        votes.leaders[9] = (1, 5)
+        ring, nodes = self.ring(deaf, votes)
+        with self.assertRaises(Undecided):
+            ring.retire("red", 10, node=2)
+        # What it gave up already is given up.
+        self.assertEqual([ring.retire("red", floor, node=2) for floor in (8, 8, 3, 9)], [8, 8, 8, 9])
+        with self.assertRaises(Retired) as caught:
+            ring.who("red", 8, node=2)
+        self.assertEqual((caught.exception.floor, str(caught.exception)), (9, "no 23 retired 9"))
+        self.assertEqual(nodes[0].lines, [])
+
+    def test_a_retire_that_got_no_answer_is_asked_again(self) -> None:
+        ring, nodes = self.ring(first(None, "no 23 retired 5"), deaf)
+        self.assertEqual(ring.retire("red", 5, node=1), 5)
+        self.assertEqual(nodes[0].lines, ["retire red 5"] * 2)
+
+    def test_what_is_no_answer_to_a_retire(self) -> None:
+        ring, _ = self.ring(first("no 23 retired 4", "no 23 gone", "no 25 line", "stood"), deaf)
+        for kind in (Retired, Retired, Refused, WrongRing):
+            with self.assertRaises(kind):
+                ring.retire("red", 5, node=1)
 
     def test_each_refusal_is_of_its_kind(self) -> None:
         for number, kind in KINDS.items():
@@ -195,6 +223,58 @@ class CampaignTest(Beside):
                 self.campaign(ring)
             self.assertEqual(str(caught.exception), f"red: no leader in 3 terms above 0{told}")
 
+    def test_who_may_not_stand_follows(self) -> None:
+        for refusal in ("no 3 already 30", "no 4 late", "no 5 stale 9", "no 23 retired 8"):
+            ring, nodes = self.ring(first("none", refusal, "none", "term 9 leader 2 30"), deaf)
+            self.assertEqual(self.campaign(ring), Election(9, Leader(2, 30), False))
+            self.assertEqual(len(nodes[0].stands()), 1)
+
+    def test_who_leads_retires_the_terms_far_below(self) -> None:
+        votes = [Votes(), Votes(), Votes()]
+        ring, nodes = self.ring(*votes)
+        for each in votes:
+            each.leaders[14] = (1, 30)
+        # The others have not heard yet who leads in term 15, but know enough.
+        self.assertTrue(self.campaign(ring, gone=14).is_mine)
+        self.assertEqual([node.lines[-1] for node in nodes], ["retire red 5"] * 3)
+        self.assertEqual([each.floor for each in votes], [5, 5, 5])
+        self.assertTrue(self.campaign(ring, gone=15, keep=1).is_mine)
+        self.assertEqual([each.floor for each in votes], [15, 5, 5])
+
+    def test_who_leads_holds_no_door_while_nodes_retire(self) -> None:
+        votes, seen = Votes(), []
+
+        def answer(line: str) -> str:
+            seen.extend([ring.session] * line.startswith("retire"))
+            return votes(line)
+
+        ring, _ = self.ring(answer, answer)
+        self.campaign(ring, gone=20)
+        self.assertEqual(seen, [None, None])
+
+    def test_who_does_not_lead_or_keeps_all_terms_retires_none(self) -> None:
+        votes = Votes()
+        ring, nodes = self.ring(votes, votes)
+        self.campaign(ring, gone=10)
+        self.campaign(ring, gone=900, keep=900)
+        self.assertFalse(self.campaign(ring, gone=20).is_mine)
+        self.assertEqual([line for node in nodes for line in node.lines if line.startswith("retire")], [])
+        with self.assertRaises(ValueError):
+            self.campaign(ring, gone=901, keep=-1)
+
+    def test_who_leads_does_so_where_nodes_do_not_retire(self) -> None:
+        votes = Votes()
+        answers = iter(["no 25 line", None, "no 9 failed", "none"])
+
+        def refuses(line: str) -> str | None:
+            return next(answers) if line.startswith("retire") else votes(line)
+
+        ring, nodes = self.ring(*[refuses] * 4)
+        with mock.patch("cinoweta.election.SECONDS", 0.01):
+            self.assertTrue(self.campaign(ring, gone=20).is_mine)
+        self.assertEqual([node.lines.count("retire red 11") for node in nodes], [1, 1, 1, 1])
+        self.assertIsNone(ring.session)
+
     def test_a_stand_without_an_answer_may_lead(self) -> None:
         votes = Votes()
         ring, nodes = self.ring(votes, votes, timeout=0.2)
@@ -222,6 +302,54 @@ class CampaignTest(Beside):
         ring, _ = self.ring(deaf, deaf, timeout=0.2)
         with self.assertRaises(NoAnswer):
             next(ring.watch("red"))
+
+
+class RetireTest(Beside):
+    """The command `cinoweta retire`."""
+
+    def told(self, ring: Ring, *words: str) -> tuple[int, str, str]:
+        """Its exit status, and what it prints on either stream."""
+        with contextlib.redirect_stdout(io.StringIO()) as out, contextlib.redirect_stderr(io.StringIO()) as err:
+            code = main(["--ring", f"{ring.first}-{ring.ports[-1]}", "--timeout", "0.2", "retire", *words])
+        return code, out.getvalue(), err.getvalue()
+
+    def led(self, *terms: int) -> tuple[Ring, list[Votes]]:
+        """Nodes that know a leader of these terms."""
+        votes = [Votes() for _ in terms]
+        for each, term in zip(votes, terms):
+            each.leaders[term] = (1, 5)
+        return self.ring(*votes)[0], votes
+
+    def test_all_nodes_retire_below_what_all_have_come_to(self) -> None:
+        ring, votes = self.led(9, 7, 8)
+        self.assertEqual(self.told(ring, "red"), (0, "node 1 retired 7\nnode 2 retired 7\nnode 3 retired 7\n", ""))
+        self.assertEqual(self.told(ring, "red", "--node", "3"), (0, "node 3 retired 7\n", ""))
+        self.assertEqual([each.floor for each in votes], [7, 7, 7])
+
+    def test_a_floor_and_a_node(self) -> None:
+        ring, votes = self.led(9, 7)
+        self.assertEqual(self.told(ring, "red", "9", "--node", "1"), (0, "node 1 retired 9\n", ""))
+        self.assertEqual([each.floor for each in votes], [9, 0])
+        code, out, _ = self.told(ring, "red", "3", "--json")
+        self.assertEqual((code, [json.loads(line) for line in out.splitlines()]),
+                         (0, [{"group": "red", "node": 1, "floor": 9}, {"group": "red", "node": 2, "floor": 3}]))
+        self.assertEqual(self.told(ring, "red", "3", "--node", "4")[0], 2)
+
+    def test_a_node_that_does_not_keeps_no_other_one_from_it(self) -> None:
+        ring, votes = self.led(9, 7, 9)
+        code, out, err = self.told(ring, "red", "8")
+        self.assertEqual((code, out), (36, "node 1 retired 8\nnode 3 retired 8\n"))
+        self.assertEqual(err, "cinoweta: node 2: no 26 undecided\n")
+        ring, nodes = self.ring(deaf, lambda _line: "no 7 full", lambda _line: "retired")
+        code, out, err = self.told(ring, "red", "8", "--json")
+        self.assertEqual((code, json.loads(out)["node"], len(err.splitlines())), (3, 3, 2))
+        self.assertEqual(json.loads(err.splitlines()[1]), {"error": "node 2: no 7 full", "refusal": 7, "text": "full"})
+
+    def test_where_a_node_knows_no_leader_there_is_no_floor(self) -> None:
+        ring, votes = self.led(9, 7)
+        del votes[1].leaders[7]
+        self.assertEqual(self.told(ring, "red"), (1, "none\n", ""))
+        self.assertEqual(votes[0].floor, 0)
 
 
 if __name__ == "__main__":

@@ -7,7 +7,7 @@ import threading
 import time
 import unittest
 
-from cinoweta import AlreadyStands, Election, Full, Late, Ring, Stale
+from cinoweta import AlreadyStands, BadLine, Election, Full, Late, Retired, Ring, Stale, Undecided
 
 from .served import HERE, Served, require
 
@@ -71,16 +71,35 @@ class RingTest(ServedTest):
             election = ring.campaign("red", gone)
             self.assertEqual(next(seen), election[:2])
 
-    def test_a_full_ring_is_told(self) -> None:
+    def small(self) -> Ring:
+        """A ring that is full by some ninety terms, unless some are retired."""
         self.served.end()
         self.served = Served(capacity=4_096)
         self.addCleanup(self.served.end)
-        ring = self.ring()
+        return self.ring()
+
+    def test_a_full_ring_is_told(self) -> None:
+        ring = self.small()
         with self.assertRaises(Full):
             for gone in range(1_000):
-                ring.campaign("red", gone, node=1)
+                ring.campaign("red", gone, node=1, keep=1_000)
         stands = ring.latest("red").term
         self.assertLess(stands, 200)
+
+    def test_a_ring_that_retires_is_never_full(self) -> None:
+        ring = self.small()
+        try:
+            with self.assertRaises(Undecided):
+                ring.retire("red", 1, node=1)
+        except BadLine:
+            self.skipTest("this ringd retires no terms")
+        for gone in range(300):
+            self.assertTrue(ring.campaign("red", gone, node=gone % 3 + 1).is_mine)
+        for node in (1, 2, 3):
+            self.until(lambda: ring.retire("red", 290, node) == 290, "no floor")
+            # The node's board may show it a moment later.
+            with self.assertRaises(Retired):
+                self.until(lambda: ring.who("red", 289, node) is None, "a leader below the floor")
 
 
 class CommandTest(ServedTest):
