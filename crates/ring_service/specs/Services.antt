@@ -39,7 +39,7 @@ module _ {R J A : Type 0} {a : node.Ghosts A} where
   abbrev pub reader_of : HubService R J A a → List Notice × List Notice
   reader_of service = service.reader
 
-  -- the stub of its last reply to a Stand
+  -- the stub of its last reply to a Stand or a Retire
   abbrev pub last_of : HubService R J A a → Option Answered
   last_of service = service.last
 
@@ -83,14 +83,15 @@ module _ {R J A : Type 0} {a : node.Ghosts A} where
     pub below : key.term < floor_in (seen (reader_of new)) key.group
     pub read : IsRead old new
 
-  -- A Stand is answered by the hub, a question for leaders by the board. Nothing else is asked.
+  -- A Stand and a Retire are answered by the hub, a question for leaders by the board. Nothing else is asked.
   abbrev pub HubAnswers : Member → Summary → HubService R J A a → Request → Answer → HubService R J A a → Type 0
   HubAnswers member opening old (Stand key bid) (Ok reply) new = IsReleased member opening old (Stand key bid) reply new
   HubAnswers member opening old (Stand key bid) (Err why) new = IsUnreleased old why new
+  HubAnswers member opening old (Retire group floor) (Ok reply) new = IsReleased member opening old (Retire group floor) reply new
+  HubAnswers member opening old (Retire group floor) (Err why) new = IsUnreleased old why new
   HubAnswers member opening old (Who key) (Ok reply) new = (reply ≡ replied.Leader (leader_in (seen (reader_of new)) key)) × IsRead old new
   HubAnswers member opening old (Who key) (Err why) new = IsOver old why new ⊎ IsGivenUp old key why new
   HubAnswers member opening old (Latest group) (Ok reply) new = IsLatestReply group reply (seen (reader_of new)) × IsRead old new
   HubAnswers member opening old (Latest group) (Err why) new = IsOver old why new
   HubAnswers member opening old (Take number msg) answer new = ⊥
   HubAnswers member opening old (Acked upto) answer new = ⊥
-  HubAnswers member opening old (Retire group floor) answer new = ⊥

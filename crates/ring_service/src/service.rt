@@ -1,16 +1,17 @@
 //! A service over a hub and the board of its node.
-ghost use Rattle.std.specs.Prelude.{◌≡◌, Some, None, is_some, IfSome};
+ghost use Rattle.std.specs.Prelude.{◌≡◌, false, Some, None, is_some, IfErr, IfOk, IfSome};
+ghost use Rattle.ring_records.specs.Message.{is_outside};
 
 use commit_hub::{Hub, Node, Share};
 use decision_board::{BoardReader, Naming};
 use group_commit::Stub;
-use ring_records::{Bid, GroupName, Key, Refusal, Reply, Request};
+use ring_records::{Bid, GroupName, Key, Refusal, Reply, Request, Term};
 use sessions::Service;
 use std::sync::Wait;
 
-/// A service over a node that other threads use too. It stands by the hub, with a share of its own, and waits until the
-/// reply is released; it reads leaders from the board, whose reads take no handle to wait. A Stand is refused as 9 where
-/// the hub is closed or has failed, as 6 and as 8; a read as 20 after the board's end.
+/// A service over a node that other threads use too. It stands and retires by the hub, with a share of its own, and waits
+/// until the reply is released; it reads leaders from the board, whose reads take no handle to wait. A Stand and a Retire
+/// are refused as 9 where the hub is closed or has failed, as 6 and as 8; a read as 20 after the board's end.
 #[derive(Drop)]
 pub struct HubService<'a, R, J: Naming, A: Node> {
     rt: &'a R,
@@ -43,7 +44,7 @@ impl<'a, R, J: Naming, A: Node> HubService<'a, R, J, A> {
         }
     }
 
-    /// The stub of the last reply to a Stand, if there was one.
+    /// The stub of the last reply to a Stand or a Retire, if there was one.
     pub fn last(&self) -> Option<&Stub>
         ensures some { is_some result ≡ is_some (last_of self.now) }
         ensures stub { IfSome result (λ stub. last_of self.now ≡ Some stub.now) }
@@ -67,16 +68,16 @@ impl<'a, R, J: Naming, A: Node> HubService<'a, R, J, A> {
     }
 }
 
-impl<'a, R: Wait, J: Naming, A: Node> Service for HubService<'a, R, J, A> {
-    ghost use Rattle.ring_service.specs.Services.{HubAnswers};
+impl<'a, R: Wait, J: Naming, A: Node> HubService<'a, R, J, A> {
+    ghost use Rattle.ring_service.specs.Services.{IsReleased, IsUnreleased};
 
-    ghost answers = { HubAnswers A.member A.opening };
-
-    fn stand(&mut self, key: Key, bid: Bid) -> Result<Reply, Refusal> {
-        match self
-            .hub
-            .submit(self.rt, &mut self.share, Request::Stand(key, bid))
-        {
+    // Asks the hub for what is no question for leaders, and waits.
+    fn ask(&mut self, question: Request) -> Result<Reply, Refusal>
+        requires { is_outside A.member.n question ≡ false }
+        ensures reply { IfOk result (λ reply. IsReleased A.member A.opening self.old question reply self.new) }
+        ensures refusal { IfErr result (λ why. IsUnreleased self.old why self.new) }
+    {
+        match self.hub.submit(self.rt, &mut self.share, question) {
             Err(refusal) => Err(refusal),
             Ok(ticket) => match self.hub.redeem_wait(self.rt, ticket) {
                 Ok((reply, stub)) => {
@@ -89,6 +90,20 @@ impl<'a, R: Wait, J: Naming, A: Node> Service for HubService<'a, R, J, A> {
                 }
             },
         }
+    }
+}
+
+impl<'a, R: Wait, J: Naming, A: Node> Service for HubService<'a, R, J, A> {
+    ghost use Rattle.ring_service.specs.Services.{HubAnswers};
+
+    ghost answers = { HubAnswers A.member A.opening };
+
+    fn stand(&mut self, key: Key, bid: Bid) -> Result<Reply, Refusal> {
+        self.ask(Request::Stand(key, bid))
+    }
+
+    fn retire(&mut self, group: &GroupName, floor: Term) -> Result<Reply, Refusal> {
+        self.ask(Request::Retire(*group, floor))
     }
 
     fn who(&mut self, key: &Key) -> Result<Reply, Refusal> {

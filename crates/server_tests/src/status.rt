@@ -27,6 +27,7 @@ const OPEN: &[Say] = &[
     Line(b"stand red 5 10\n", b"no 3 already 10"),
     Line(b"stand RED 5 10\n", b"no 1 name"),
     AtLast(b"latest red\n", b"term 5 leader 1 10"),
+    Line(b"retire red 6\n", b"no 26 undecided"),
     Meanwhile(
         7230,
         Target(
@@ -57,7 +58,7 @@ const OPEN: &[Say] = &[
         7230,
         Target(
             "/status",
-            b"\"sessions\":{\"begun\":1,\"busy\":1,\"doors\":2,\"refusals\":[{\"count\":1,\"number\":1},{\"count\":1,\"number\":3}]},\"stands\":{\"left\":1023,\"taken\":1},\"state\":\"well\"},",
+            b"\"sessions\":{\"begun\":1,\"busy\":1,\"doors\":2,\"refusals\":[{\"count\":1,\"number\":1},{\"count\":1,\"number\":3},{\"count\":1,\"number\":26}]},\"stands\":{\"left\":1023,\"taken\":1},\"state\":\"well\"},",
         ),
     ),
     Meanwhile(
@@ -83,7 +84,7 @@ const OPEN: &[Say] = &[
         7230,
         Target(
             "/metrics",
-            b"\ncinoweta_refusals_total{node=\"1\",number=\"1\"} 1\ncinoweta_refusals_total{node=\"1\",number=\"3\"} 1\n",
+            b"\ncinoweta_refusals_total{node=\"1\",number=\"1\"} 1\ncinoweta_refusals_total{node=\"1\",number=\"3\"} 1\ncinoweta_refusals_total{node=\"1\",number=\"26\"} 1\n",
         ),
     ),
     Meanwhile(

@@ -27,7 +27,7 @@ pub enum Act {
     AwaitsHold,
     /// What is held goes on.
     Frees,
-    /// By a service it stands for term 5 of the group twice, and reads.
+    /// By a service it stands for term 5 of the group twice, reads, and retires.
     StandsTwice(&'static str),
 }
 
@@ -117,18 +117,21 @@ impl<J: Naming, A: Node> Client<J, A> {
         assert!(rt; self.reader.who(&key(rt, name, term)) == leader(rt, bid, node));
     }
 
-    /// Stands twice with bid 10: the second is refused, and no leader is known.
+    /// Stands twice with bid 10: the second is refused, and no leader is known, so no floor is taken.
     fn stands_twice<R: Wait + Abort>(self, rt: &R, hub: &Hub<A>, name: &str) -> Client<J, A> {
         let again = reply(rt, Say::Refused(Cause::Already(10)));
+        let early = reply(rt, Say::Refused(Cause::Undecided));
         let Client { share, reader, .. } = self;
         let mut service = HubService::new(rt, hub, share, reader);
         assert!(rt; service.stand(key(rt, name, 5), bid(rt, 10)) == Ok(reply(rt, Say::Stood)));
         assert!(rt; service.stand(key(rt, name, 5), bid(rt, 10)) == Ok(again));
+        assert!(rt; matches!(service.last(), Some(stub) if stub.reply() == again));
         assert!(rt; service.who(&key(rt, name, 5)) == Ok(reply(rt, Say::Nobody)));
         assert!(rt; service.latest(&group(rt, name)) == Ok(reply(rt, Say::NoTerm)));
+        assert!(rt; service.retire(&group(rt, name), key(rt, name, 5).term) == Ok(early));
         let (share, reader, last) = service.into_parts();
         match &last {
-            Some(stub) => assert!(rt; stub.reply() == again),
+            Some(stub) => assert!(rt; stub.reply() == early),
             None => panic!(rt; "no stub"),
         }
         Client {

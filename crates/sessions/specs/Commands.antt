@@ -9,7 +9,7 @@ use Rattle.ring_records.specs.declared.request.Request.TheVariants as ask
 use Rattle.sessions.specs.declared.command.Command.{Command}
 use Rattle.sessions.specs.declared.command.Command.TheVariants.{Ask, Bye}
 use Rattle.sessions.specs.declared.command.Question.{Question}
-use Rattle.sessions.specs.declared.command.Question.TheVariants.{Stand, Who, Latest}
+use Rattle.sessions.specs.declared.command.Question.TheVariants.{Stand, Retire, Who, Latest}
 
 abbrev pub key : List ℕ → ℕ → Key
 key group term = record { group = group; term = term }
@@ -18,6 +18,7 @@ key group term = record { group = group; term = term }
 unfoldable pub commands : List (Form Command)
 commands =
     (Fixed (codes "stand") ∷ Name ∷ term ∷ bid ∷ [], λ g t b. Ask (Stand (key g t) b))
+    ∷ (Fixed (codes "retire") ∷ Name ∷ term ∷ [], λ g f. Ask (Retire g f))
     ∷ (Fixed (codes "who") ∷ Name ∷ term ∷ [], λ g t. Ask (Who (key g t)))
     ∷ (Fixed (codes "latest") ∷ Name ∷ [], λ g. Ask (Latest g))
     ∷ (Fixed (codes "bye") ∷ [], Bye)
@@ -30,6 +31,7 @@ said line = line_says commands (strip_carriage_return line)
 -- the request that a question is
 abbrev pub request_of : Question → Request
 request_of (Stand key bid) = ask.Stand key bid
+request_of (Retire group floor) = ask.Retire group floor
 request_of (Who key) = ask.Who key
 request_of (Latest group) = ask.Latest group
 

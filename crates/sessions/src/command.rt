@@ -4,7 +4,7 @@ ghost use Rattle.line_words.specs.Forms.{form_says, line_says};
 ghost use Rattle.sessions.specs.Commands.{commands};
 
 use line_words::{read_bid, read_group, read_term, read_words};
-use ring_records::{Bid, GroupName, Key, Refusal};
+use ring_records::{Bid, GroupName, Key, Refusal, Term};
 use std::alloc::{AllocError, Global};
 
 /// What a client asks.
@@ -12,6 +12,8 @@ use std::alloc::{AllocError, Global};
 pub enum Question {
     /// To stand for a key with a bid.
     Stand(Key, Bid),
+    /// To retire the terms of a group below this floor.
+    Retire(GroupName, Term),
     /// Who leads for a key.
     Who(Key),
     /// The greatest term of a group with a known leader, and that leader.
@@ -50,17 +52,22 @@ fn of_two(verb: &[u8], g: &[u8]) -> Result<Command, Refusal>
     Ok(Command::Ask(Question::Latest(group)))
 }
 
-// That of three.
+// Those of three.
 #[tactic(auto, unfolding(line_words::specs::Forms::form_says, crate::specs::Commands::commands))]
 fn of_three(verb: &[u8], g: &[u8], t: &[u8]) -> Result<Command, Refusal>
     ensures { result ≡ form_says commands (verb.now ∷ g.now ∷ t.now ∷ []) }
 {
-    if verb != b"who".as_slice() {
-        return Err(Refusal::BadLine);
+    if verb == b"retire".as_slice() {
+        let group = read_group(g)?;
+        let floor = read_term(t)?;
+        Ok(Command::Ask(Question::Retire(group, floor)))
+    } else if verb == b"who".as_slice() {
+        let group = read_group(g)?;
+        let term = read_term(t)?;
+        Ok(Command::Ask(Question::Who(Key { group, term })))
+    } else {
+        Err(Refusal::BadLine)
     }
-    let group = read_group(g)?;
-    let term = read_term(t)?;
-    Ok(Command::Ask(Question::Who(Key { group, term })))
 }
 
 // That of four.

@@ -1,6 +1,7 @@
 //! Sessions: a client's lines, each answered by one line before the next is read.
 //!
 //! - `stand G T B`: the node stands for group G and term T with bid B;
+//! - `retire G F`: the node retires the terms of group G below the floor F;
 //! - `who G T`, `latest G`: the node is asked who leads;
 //! - `bye`: answered `bye`; the session ends, and nothing more is read.
 //!

@@ -19,6 +19,7 @@ fn ask<S: Service>(service: &mut S, question: Question) -> Result<Reply, Refusal
 {
     match question {
         Question::Stand(key, bid) => service.stand(key, bid),
+        Question::Retire(group, floor) => service.retire(&group, floor),
         Question::Who(key) => service.who(&key),
         Question::Latest(group) => service.latest(&group),
     }

@@ -1,5 +1,5 @@
 // What answers the questions of a session.
-use ring_records::{Bid, GroupName, Key, Refusal, Reply};
+use ring_records::{Bid, GroupName, Key, Refusal, Reply, Term};
 
 /// What answers the questions of a session: a node, or what stands in front of one.
 pub trait Service {
@@ -15,6 +15,10 @@ pub trait Service {
     /// Stands for a key with a bid.
     fn stand(&mut self, key: Key, bid: Bid) -> Result<Reply, Refusal>
         ensures { answers self.old (ask.Stand key bid) result self.new };
+
+    /// Retires the terms of the group below this floor.
+    fn retire(&mut self, group: &GroupName, floor: Term) -> Result<Reply, Refusal>
+        ensures { answers self.old (ask.Retire group.now floor) result self.new };
 
     /// Who leads for the key.
     fn who(&mut self, key: &Key) -> Result<Reply, Refusal>

@@ -13,7 +13,7 @@ use crate::Service;
 use disk_model::Device;
 use group_commit::Ticket;
 use node_store::Node;
-use ring_records::{Bid, GroupName, Key, Refusal, Reply, Request};
+use ring_records::{Bid, GroupName, Key, Refusal, Reply, Request, Term};
 use std::mem::replace;
 
 /// A service over one node, which flushes it until nothing waits before it answers. Refused as 6 and as 8, the node is
@@ -85,6 +85,10 @@ impl<D: Device> Service for SoloService<D> {
 
     fn stand(&mut self, key: Key, bid: Bid) -> Result<Reply, Refusal> {
         self.answer(Request::Stand(key, bid))
+    }
+
+    fn retire(&mut self, group: &GroupName, floor: Term) -> Result<Reply, Refusal> {
+        self.answer(Request::Retire(*group, floor))
     }
 
     fn who(&mut self, key: &Key) -> Result<Reply, Refusal> {

@@ -29,6 +29,10 @@ impl<'a> Service for Parrot<'a> {
         self.next()
     }
 
+    fn retire(&mut self, _group: &GroupName, _floor: Term) -> Result<Reply, Refusal> {
+        self.next()
+    }
+
     fn who(&mut self, _key: &Key) -> Result<Reply, Refusal> {
         self.next()
     }

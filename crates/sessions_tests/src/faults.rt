@@ -181,6 +181,8 @@ fn answers_of_a_service(rt: HostRuntime) -> Result<(), Fail> {
         Ok(Reply::Latest(Some(latest))),
         Ok(Reply::Leader(Some(leader))),
         Ok(Reply::Refused(Refusal::Stale(term))),
+        Ok(Reply::Retired),
+        Ok(Reply::Refused(Refusal::Retired(term))),
         Err(Refusal::OutOfMemory),
         Err(Refusal::Failed),
         Err(Refusal::Device(1)),
@@ -191,13 +193,13 @@ fn answers_of_a_service(rt: HostRuntime) -> Result<(), Fail> {
         asked: 0,
     };
     let mut reader: &[u8] =
-        b"latest red\nwho red 5\nstand red 4 1\nwho Red 5\nwho red 5\nlatest red\nwho red 5\nlatest red\nwho red 5\n";
+        b"latest red\nwho red 5\nstand red 4 1\nretire red 5\nretire red 5\nwho Red 5\nwho red 5\nlatest red\nwho red 5\nlatest red\nwho red 5\n";
     let mut out = Vec::new(rt.alloc());
     let answer = serve(rt.alloc(), &mut reader, &mut out, &mut service);
-    assert_eq!(rt; answer, Ok(9));
+    assert_eq!(rt; answer, Ok(11));
     let text =
-        b"term 5 leader 2 30\nleader 2 30\nno 5 stale 5\nno 1 name\nno 8 memory\nno 9 failed\nno 15 device 1\nnone\nnone\n";
+        b"term 5 leader 2 30\nleader 2 30\nno 5 stale 5\nretired\nno 23 retired 5\nno 1 name\nno 8 memory\nno 9 failed\nno 15 device 1\nnone\nnone\n";
     assert!(rt; out.as_slice() == text.as_slice());
-    assert_eq!(rt; service.asked, 8);
+    assert_eq!(rt; service.asked, 10);
     Ok(())
 }

@@ -1,7 +1,7 @@
 // What lines are commands, and how they are answered.
 use crate::talk::assert_says;
 
-static LINES: [(&str, &[u8], &str); 16] = [
+static LINES: [(&str, &[u8], &str); 17] = [
     (
         "a carriage return is dropped",
         b"stand red 5 10\r\nbye\r\n",
@@ -46,28 +46,33 @@ static LINES: [(&str, &[u8], &str); 16] = [
     ),
     (
         "counts of words",
-        b"stand\nstand red\nstand red 5\nstand red 5 10 1\nwho\nwho red\nwho red 5 1\nlatest\nlatest red 5\n",
-        "no 25 line\nno 25 line\nno 25 line\nno 25 line\nno 25 line\nno 25 line\nno 25 line\nno 25 line\nno 25 line\n",
+        b"stand\nstand red\nstand red 5\nstand red 5 10 1\nretire\nretire red\nretire red 5 6\nwho\nwho red\nwho red 5 1\nlatest\nlatest red 5\n",
+        "no 25 line\nno 25 line\nno 25 line\nno 25 line\nno 25 line\nno 25 line\nno 25 line\nno 25 line\nno 25 line\nno 25 line\nno 25 line\nno 25 line\n",
     ),
     (
         "commands that there are not",
-        b"Stand red 5 10\nstands red 5 10\nlast red\nwh red 5\nring 3\nstand 1 red 5 10\nshow 1\nflush 1\nretire red 5\n",
-        "no 25 line\nno 25 line\nno 25 line\nno 25 line\nno 25 line\nno 25 line\nno 25 line\nno 25 line\nno 25 line\n",
+        b"Stand red 5 10\nstands red 5 10\nlast red\nwh red 5\nring 3\nstand 1 red 5 10\nshow 1\nflush 1\nRetire red 5\nretires red 5\nretire 1 red 5\n",
+        "no 25 line\nno 25 line\nno 25 line\nno 25 line\nno 25 line\nno 25 line\nno 25 line\nno 25 line\nno 25 line\nno 25 line\nno 25 line\n",
     ),
     (
         "names",
-        b"who abcdefghijklmnopq 1\nwho abcdefghijklmnop 1\nwho -a 1\nwho 1a 1\nwho aB 1\nwho a_b 1\nwho a-1 1\nlatest Red\n",
-        "no 1 name\nnone\nno 1 name\nno 1 name\nno 1 name\nno 1 name\nnone\nno 1 name\n",
+        b"retire abcdefghijklmnopq 1\nretire 1a 1\nwho abcdefghijklmnopq 1\nwho abcdefghijklmnop 1\nwho -a 1\nwho 1a 1\nwho aB 1\nwho a_b 1\nwho a-1 1\nlatest Red\n",
+        "no 1 name\nno 1 name\nno 1 name\nnone\nno 1 name\nno 1 name\nno 1 name\nno 1 name\nnone\nno 1 name\n",
     ),
     (
         "numbers",
-        b"who red 0\nwho red 1\nwho red 999999999\nwho red 1000000000\nwho red -1\nwho red 0000000001\nwho red 00000000001\nstand red 0 1\nstand red 1 1000000000\nstand red 1 x\nstand red 1 999999999\nstand red 2 0\n",
-        "no 2 number\nnone\nnone\nno 2 number\nno 2 number\nnone\nno 2 number\nno 2 number\nno 2 number\nno 2 number\nstood\nstood\n",
+        b"retire red 0\nretire red 1\nretire red 999999999\nretire red 1000000000\nwho red 0\nwho red 1\nwho red 999999999\nwho red 1000000000\nwho red -1\nwho red 0000000001\nwho red 00000000001\nstand red 0 1\nstand red 1 1000000000\nstand red 1 x\nstand red 1 999999999\nstand red 2 0\n",
+        "no 2 number\nno 26 undecided\nno 26 undecided\nno 2 number\nno 2 number\nnone\nnone\nno 2 number\nno 2 number\nnone\nno 2 number\nno 2 number\nno 2 number\nno 2 number\nstood\nstood\n",
     ),
     (
         "the first fault from the left",
-        b"stand Red 0 x\nstand red 0 x\nwho Red 0\nwho Red\nlatest Red 0\n",
-        "no 1 name\nno 2 number\nno 1 name\nno 25 line\nno 25 line\n",
+        b"stand Red 0 x\nstand red 0 x\nretire Red 0\nwho Red 0\nwho Red\nlatest Red 0\n",
+        "no 1 name\nno 2 number\nno 1 name\nno 1 name\nno 25 line\nno 25 line\n",
+    ),
+    (
+        "no floor is above a term whose leader is known, and a Stand tells none",
+        b"retire red 10\nstand red 10 5\nretire red 10\nretire red 1\nbye\n",
+        "no 26 undecided\nstood\nno 26 undecided\nno 26 undecided\nbye\n",
     ),
     (
         "what the service refuses, and the session goes on",

@@ -21,6 +21,10 @@ fn what_is_accepted_is_durable(rt: HostRuntime) {
         service.stand(key, bid),
         Ok(Reply::Refused(Refusal::Already(bid)))
     );
+    assert_eq!(rt;
+        service.retire(&key.group, key.term),
+        Ok(Reply::Refused(Refusal::Undecided))
+    );
     assert_eq!(rt; service.who(&key), Ok(Reply::Leader(None)));
     assert_eq!(rt; service.latest(&key.group), Ok(Reply::Latest(None)));
     let node = ended(&rt, service);
@@ -32,11 +36,12 @@ fn what_is_accepted_is_durable(rt: HostRuntime) {
 fn a_refused_flush_ends_it(rt: HostRuntime) -> Result<(), Fail> {
     let mut service = failing_service(&rt);
     let mut reader: &[u8] =
-        b"who red 5\nstand red 5 10\nwho red 5\nstand blue 1 1\nhello\nlatest red\nbye\n";
+        b"who red 5\nstand red 5 10\nwho red 5\nretire red 5\nstand blue 1 1\nhello\nlatest red\nbye\n";
     let mut out = Vec::new(rt.alloc());
     let answer = serve(rt.alloc(), &mut reader, &mut out, &mut service);
-    assert_eq!(rt; answer, Ok(7));
-    let text = b"none\nno 15 device 1\nno 9 failed\nno 9 failed\nno 25 line\nno 9 failed\nbye\n";
+    assert_eq!(rt; answer, Ok(8));
+    let text =
+        b"none\nno 15 device 1\nno 9 failed\nno 9 failed\nno 9 failed\nno 25 line\nno 9 failed\nbye\n";
     assert!(rt; out.as_slice() == text.as_slice());
     match service.into_parts() {
         (_node, None) => panic!(rt; "no ticket is kept"),
