@@ -91,9 +91,11 @@ class RingTest(ServedTest):
         try:
             with self.assertRaises(Undecided):
                 ring.retire("red", 1, node=1)
-        except BadLine:
-            self.skipTest("this ringd retires no terms")
-        for gone in range(300):
+            ring.campaign("red", node=1)
+            ring.retire("red", 1, node=1)
+        except (BadLine, Full):
+            self.skipTest("this ringd has no room for a Retire")
+        for gone in range(1, 300):
             self.assertTrue(ring.campaign("red", gone, node=gone % 3 + 1).is_mine)
         for node in (1, 2, 3):
             self.until(lambda: ring.retire("red", 290, node) == 290, "no floor")
