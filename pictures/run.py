@@ -38,6 +38,9 @@ class Run:
     def __init__(self, script: str, printed: str) -> None:
         self.printed = printed.splitlines()
         self.at = 0
+        # What room a node has is ringctl's to tell: at once, or when a sealed ticket opens.
+        tickets = (line.partition(": ") for line in self.printed)
+        self.want = {ticket: told for ticket, _, told in tickets if told in WANT}
         self.nodes: list[Node] = []
         self.is_eager = True
         self.tickets = 0
@@ -227,10 +230,7 @@ class Run:
 
     def submit(self, node: Node, asked: Input) -> tuple[str, str]:
         """The node is asked to accept an input: what ringctl told of it, and what came of it."""
-        refusal = node.refusal(asked)
-        printed = self.printed[self.at] if self.at < len(self.printed) else ""
-        if refusal is None and printed.partition(": ")[2] in WANT:
-            refusal = printed.partition(": ")[2]
+        refusal = node.refusal(asked) or self.want.get(str(self.tickets + 1))
         came = node.accept(asked) if refusal is None else refusal
         if self.is_eager:
             node.durable = len(node.inputs)
