@@ -12,8 +12,8 @@ tried for N seconds, 10 by default, side by side; all of them where none is name
   heads     heads of HTTP, whole, cut, repeated, with bytes changed
 
 Besides: no run is ended by a signal, none hangs for ten seconds, none takes 64 MiB, and no start that is refused changes a file.
---unproved is for builds of `rt try`, which are slow: a hang is a minute then, and memory is not looked at. --retire is for programs that
-retire terms: others are held to take `retire` for no line.
+--unproved is for builds of `rt try`, which are slow: a hang is a minute then, and memory is not looked at. --retire is for programs of
+which a node has room for a Retire: others are held to refuse each with 7.
 
 S is a number that the cases begin with, but not the moments at which threads run. A difference is told with the smallest case that shows
 it, and ends its kind. The last lines are `KIND cases N` for each, or `KIND differs`. Status 0 where nothing differed; 1 where something
@@ -29,9 +29,9 @@ import time
 
 HERE = os.path.dirname(os.path.abspath(__file__))
 sys.path[:0] = [HERE, os.path.join(HERE, "kinds"), os.path.join(HERE, "..", "pictures")]
+from bounded import retire
 from files import Files
 from heads import Heads
-from lines import know_retire
 from programs import Kind, Programs
 from scripts import Scripts
 from sessions import Sessions
@@ -79,7 +79,7 @@ def trial(name: str, words: argparse.Namespace, counts: multiprocessing.Queue) -
     signal.signal(signal.SIGTERM, lambda *_: sys.exit(1))
     programs = Programs(os.path.abspath(words.ringd), os.path.abspath(words.ringctl), words.unproved)
     if words.retire:
-        know_retire()
+        retire()
     try:
         kind = KINDS[name](programs)
         try:

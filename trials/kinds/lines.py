@@ -12,18 +12,8 @@ RANGES = {b"T": (1, 999_999_999), b"B": (0, 999_999_999), b"NO": (0, 9_999_999_9
 RING = [b"ring N", b"ring N eager|lazy", b"ring N eager|lazy CAP"]
 RUNNING = [b"stand I G T B", b"who I G T", b"latest I G", b"deliver all", b"deliver I NO", b"credit I NO", b"flush I", b"crash I",
            b"checkpoint I", b"show I", b"audit", b"stop I K old|new", b"stop I K fill BYTE", b"stop I checkpoint C old|new",
-           b"stop I checkpoint C fill BYTE"]
-SESSION = [b"stand G T B", b"who G T", b"latest G", b"bye"]
-
-
-def know_retire() -> None:
-    """From now on the programs know `retire`. To others it is no line."""
-    RUNNING.append(b"retire I G T")
-    SESSION.append(b"retire G T")
-
-
-def knows_retire() -> bool:
-    return b"retire G T" in SESSION
+           b"stop I checkpoint C fill BYTE", b"retire I G T"]
+SESSION = [b"stand G T B", b"who G T", b"latest G", b"retire G T", b"bye"]
 
 
 def lines_of(text: bytes) -> list[bytes]:

@@ -43,7 +43,7 @@ class Judge(Run):
             return None if int(words[2]) < self.node(words[1]).released() else "no 21 unknown"
         if words[0] == "credit":
             return None if 1 <= int(words[2]) <= self.node(words[1]).durably_taken() else "no 21 unknown"
-        if words[0] == "checkpoint" or words[2:3] == ["checkpoint"]:
+        if words[0] == "checkpoint" or (words[0], words[2:3]) == ("stop", ["checkpoint"]):
             node = self.node(words[1])
             return "no 7 full" if node.snapshot() > node.capacity else None
         return None
