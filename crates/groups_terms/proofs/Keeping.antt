@@ -8,11 +8,11 @@ use Rattle.std.specs.Map.{lookup}
 use Rattle.std.specs.Ordering.{is_eq}
 use Rattle.std.specs.Prelude.{unwrap_or}
 use Rattle.std.specs.Cmp.{eq_by_cmp_equiv}
-use Rattle.std.proofs.lemmas.List.{drop_more}
+use Rattle.std.proofs.lemmas.List.{drop_more, length-map}
 use Rattle.ring_records.specs.declared.key.Key.{Key}
 use Rattle.ring_records.specs.Floors.{by_group, under_group, floored, as_key, is_below_floor}
 use Rattle.ring_records.specs.KeyOrder.{group_cmp}
-use Rattle.ring_records.proofs.FloorsInOrder.{groups_total, groups_exact}
+use Rattle.ring_records.proofs.FloorsInOrder.{groups_total, groups_exact, keys-floored, len-floors}
 
 find-lookup : (group : List ℕ) (es : List (List ℕ × ℕ)) → find group_cmp group es ≡ lookup (λ g. is_eq (group_cmp group g)) es
 find-lookup group [] = refl
@@ -49,6 +49,12 @@ forth (e ∷ es) = ap (λ l. e ∷ l) (forth es)
 
 pub floored-entries : (es : List (List ℕ × ℕ)) → floored (list_map as_key es) ≡ fin.from_entries es
 floored-entries es = ap (λ (l : List (List ℕ × ℕ)). fin.from_entries {R = group_cmp} l) (forth es)
+
+-- there are as many as entries
+pub len-floored : (es : List (List ℕ × ℕ)) → IsStrictlySortedBy group_cmp (list_map (λ e. e.0) es) → length es ≡ fin.len (fin.from_entries {R = group_cmp} es)
+len-floored es sorted =
+    sym (length-map es as_key) ∙ (ap length (sym (keys-floored (list_map as_key es) (sorted_floors es sorted)))
+    ∙ (len-floors (floored (list_map as_key es)) ∙ ap fin.len (floored-entries es)))
 
 -- a loop over the entries, at its end
 pub all_listed : (items : List Key) (left es : List (List ℕ × ℕ)) → items ++ list_map as_key left ≡ list_map as_key es → left ≡ [] → items ≡ list_map as_key es

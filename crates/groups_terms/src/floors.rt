@@ -29,6 +29,13 @@ pub fn is_below(floors: &Kept, key: &Key) -> bool
     }
 }
 
+/// How many groups have a floor.
+pub fn count_of(floors: &Kept) -> usize
+    ensures { result ≡ map.len (told floors.now) }
+{
+    floors.len()
+}
+
 /// Gives the group this floor. An `Err` changes nothing.
 pub fn put_floor(floors: &mut Kept, group: GroupName, floor: Term) -> Result<(), AllocError>
     ensures ok { OnOk result (told floors.new ≡ map.insert (told floors.old) group floor) }

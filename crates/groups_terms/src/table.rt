@@ -17,7 +17,7 @@ ghost use Rattle.groups_terms.specs.Dropped.{HaveTerms};
 ghost use Rattle.groups_terms.specs.Table.{state_at, heard};
 
 use crate::dropped::{bytes_under, drop_under};
-use crate::floors::{Kept, floor_of, is_below, kept, list_of, put_floor};
+use crate::floors::{Kept, count_of, floor_of, is_below, kept, list_of, put_floor};
 use crate::latest::{Latest, latest_leader, make_room, note};
 use cr_automaton::Ballot;
 use ring_records::{
@@ -105,6 +105,13 @@ impl Table {
         ensures { result ≡ is_below_floor self.now.floors key.now }
     {
         is_below(&self.floors, key)
+    }
+
+    /// How many groups have a floor.
+    pub fn floor_count(&self) -> usize
+        ensures { result ≡ map.len self.now.floors }
+    {
+        count_of(&self.floors)
     }
 
     /// How many Stands it made.

@@ -4,7 +4,7 @@
 
 ghost use Rattle.std.specs.Prelude.{◌≡◌, ℕ, ◌<◌, ◌≤◌, ◌*◌, ◌^◌, length, IfOk, Some};
 ghost use Rattle.std.specs.Option.{option_and_then};
-ghost use Rattle.ring_records.specs.Admission.{objection, shortage, refusal};
+ghost use Rattle.ring_records.specs.Admission.{newest, objection, shortage, refusal};
 ghost use Rattle.ring_records.specs.Emission.{is_below, passed_on, emit, sent, carry};
 ghost use Rattle.ring_records.specs.History.{names, is_named, touched, bid_for, message_of, upto_of, first_stand, stood, taken, credit};
 ghost use Rattle.ring_records.specs.Order.{is_key};
@@ -208,7 +208,7 @@ pub fn told(me: NodeNo, history: &[Input], input: &Input) -> Option<Notice>
 }
 
 /// Why node `me` of a ring of `n` refuses the input after the history, where the area of its journal stands for this
-/// beside its frames: the first cause that there is. None means that the input is admitted.
+/// beside its frames: the first cause that there is. None means that the input is admitted. The area is of the newest layout.
 pub fn refusal(
     me: NodeNo,
     n: u8,
@@ -217,6 +217,7 @@ pub fn refusal(
     history: &[Input],
     input: &Input,
 ) -> Option<Refusal>
+    requires { newest ≤ base.now.layout }
     ensures { result ≡ refusal me n capacity base.now history.now input.now }
 {
     let objection = objection(me, n, history, input);

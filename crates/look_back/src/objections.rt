@@ -2,7 +2,7 @@
 ghost use Rattle.std.specs.Prelude.{◌≡◌, ◌<◌, ◌≤◌, ◌*◌, ◌^◌, ℕ, length};
 ghost use Rattle.std.specs.List.{sum_by};
 ghost use Rattle.ring_records.specs.declared.limits.TheConstants.{INPUT_BYTES};
-ghost use Rattle.ring_records.specs.Admission.{cost, too_many, objection, lacks, not_yet, shortage, used};
+ghost use Rattle.ring_records.specs.Admission.{cost, newest, too_many, objection, lacks, shortage, used};
 
 use crate::{credit, floor, latest, retired, sent_count, stands, stood, takes, touched};
 use ring_records::{Base, GroupName, Input, Key, Msg, NodeNo, Refusal, STANDS, Term};
@@ -114,7 +114,8 @@ pub(super) fn shortage(
     history: &[Input],
     input: &Input,
 ) -> Option<Refusal>
-    requires { length history.now < 2 ^ 56 }
+    requires few { length history.now < 2 ^ 56 }
+    requires newest { newest ≤ base.now.layout }
     ensures { (me : ℕ) → result ≡ shortage me capacity base.now history.now input.now }
 {
     if (history.len() as u64) < base.inputs {
@@ -131,14 +132,7 @@ fn lacks(capacity: u32, base: &Base, history: &[Input], input: &Input) -> bool
     requires within { base.now.inputs ≤ length history.now }
     ensures { result ≡ lacks capacity (used base.now history.now) input.now }
 {
-    not_yet(input) || u64::from(capacity) < used(base, history) + u64::from(input.cost())
-}
-
-#[tactic(auto, unfolding(ring_records::specs::Admission::not_yet))]
-fn not_yet(input: &Input) -> bool
-    ensures { result ≡ not_yet input.now }
-{
-    matches!(input, Input::Retire { .. })
+    u64::from(capacity) < used(base, history) + u64::from(input.cost())
 }
 
 #[tactic(auto, unfolding(ring_records::specs::Admission::used))]

@@ -1,6 +1,6 @@
 // What a node answers to a request, and how many inputs that rests on.
-ghost use Rattle.std.specs.Prelude.{◌≡◌, ◌++◌, length};
-ghost use Rattle.ring_records.specs.Admission.{refusal};
+ghost use Rattle.std.specs.Prelude.{◌≤◌, ◌≡◌, ◌++◌, length};
+ghost use Rattle.ring_records.specs.Admission.{newest, refusal};
 ghost use Rattle.ring_records.specs.Answer.{if_free, unless, reply, answer};
 
 use crate::{latest, leader, refusal, retired};
@@ -18,6 +18,7 @@ pub fn answer(
     history: &[Input],
     request: &Request,
 ) -> (Reply, u64)
+    requires { newest ≤ base.now.layout }
     ensures reply { result.0 ≡ reply me n capacity base.now history.now request.now }
     ensures number { result.1 ≡ (answer me n capacity base.now history.now request.now).number }
 {
@@ -57,6 +58,7 @@ fn judged(
     input: &Input,
     accepted: Reply,
 ) -> (Reply, u64)
+    requires { newest ≤ base.now.layout }
     ensures reply { result.0 ≡ unless (refusal me n capacity base.now history.now input.now) accepted }
     ensures number { result.1 ≡ length (history.now ++ if_free (refusal me n capacity base.now history.now input.now) input.now) }
 {

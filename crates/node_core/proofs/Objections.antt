@@ -39,7 +39,8 @@ by_told None term = sym (ap (λ (b : Bool). where_so b (refused.Retired 0)) (le-
 by_told (Some floor) term = refl
 
 -- the latest leader of a group, by what is known
-pub latest_in : (inputs expected : ℕ) (t : TableView) (link : LinkView) (group : List ℕ) (led : Option (ℕ × Candidate)) → IsLatest (leads t.ballots group) led → IsLatest (leads_in (known_with inputs t link expected) group) led
+pub latest_in : (inputs expected : ℕ) (t : TableView) (link : LinkView) (group : List ℕ) (led : Option (ℕ × Candidate)) → IsLatest (leads t.ballots group) led
+    → IsLatest (leads_in (known_with inputs t link expected) group) led
 latest_in inputs expected t link group led is =
     latest_same (leads t.ballots group) (leads_in (known_with inputs t link expected) group) (λ term. leader_in t (record { group = group; term = term })) led is
 
@@ -54,7 +55,8 @@ stand_objects inputs expected n t link key bid floor ballot led stands o f b is 
       (or_else (stale key.term led) (or_else (where_so (nat_le STANDS (count i)) refused.Limit) (where_so (nat_le (2 ^ 56) inputs) refused.Limit))))),
 )
 
-pub take_objects : (inputs expected size : ℕ) (t : TableView) (link : LinkView) (msg_no : ℕ) (msg : Msg) (o : Option Refusal) → o ≡ against_take size expected inputs msg_no msg → Objects size (known_with inputs t link expected) (Take msg_no msg) o
+pub take_objects : (inputs expected size : ℕ) (t : TableView) (link : LinkView) (msg_no : ℕ) (msg : Msg) (o : Option Refusal) → o ≡ against_take size expected inputs msg_no msg
+    → Objects size (known_with inputs t link expected) (Take msg_no msg) o
 unfolding against_take full_count
 take_objects inputs expected size t link msg_no msg o e = e
 
@@ -62,7 +64,8 @@ or_else-assoc : (a b c : Option Refusal) → or_else (or_else a b) c ≡ or_else
 or_else-assoc None b c = refl
 or_else-assoc (Some x) b c = refl
 
-pub acked_objects : (inputs expected n : ℕ) (t : TableView) (link : LinkView) (upto : ℕ) (o : Option Refusal) → o ≡ against_acked link inputs upto → Objects n (known_with inputs t link expected) (Acked upto) o
+pub acked_objects : (inputs expected n : ℕ) (t : TableView) (link : LinkView) (upto : ℕ) (o : Option Refusal) → o ≡ against_acked link inputs upto
+    → Objects n (known_with inputs t link expected) (Acked upto) o
 unfolding against_acked full_count
 acked_objects inputs expected n t link upto o e =
     e ∙ or_else-assoc (where_so (nat_le upto link.credited) (refused.Old link.credited)) (where_so (nat_lt (sent_count link) upto) (refused.AckAhead (sent_count link))) (where_so (nat_le (2 ^ 56) inputs) refused.Limit)
@@ -119,7 +122,8 @@ free_in inputs expected n t link (Retire group new) (led, is, e) =
     )
 
 -- the same of the core as it is seen, on whose link room was made
-pub free : (inputs expected size : ℕ) (t : TableView) (link was : LinkView) (x : Input) (now : FreeView) → record { me = t.me; size = size; known = known_with inputs t link expected } ≡ now → was ≡ link → Objects now.size now.known x None
+pub free : (inputs expected size : ℕ) (t : TableView) (link was : LinkView) (x : Input) (now : FreeView) → record { me = t.me; size = size; known = known_with inputs t link expected } ≡ now
+    → was ≡ link → Objects now.size now.known x None
     → (inputs < 2 ^ 56) × IsFree t was x × Objects size (known_with inputs t link expected) x None
 free inputs expected size t link was x now view same objects =
     let none = subst (λ (v : FreeView). Objects v.size v.known x None) (sym view) objects in

@@ -12,7 +12,7 @@ use Rattle.ring_records.specs.declared.key.Key.{Key}
 use Rattle.ring_records.specs.declared.key_state.KeyState.{KeyState}
 use Rattle.ring_records.specs.declared.msg.Msg.{Msg}
 use Rattle.ring_records.specs.declared.summary.Summary.{Summary}
-use Rattle.ring_records.specs.Admission.{not_yet, IsInTurn, IsAllowed}
+use Rattle.ring_records.specs.Admission.{is_retire, IsInTurn, IsAllowed}
 use Rattle.ring_records.specs.Emission.{emit, sent}
 use Rattle.ring_records.specs.History.{floor, is_retired, bid_for, first_stand, stood, is_live_stand, stands, message_of, taken, upto_of, credit}
 use Rattle.ring_records.specs.KeyOrder.{key_cmp}
@@ -214,7 +214,8 @@ module _ (me : ℕ) (h : List Input) (group : List ℕ) (new : ℕ) (above : flo
   dropped-few : stood_count (map.retain_keys (key_states me h) (drops group new)) ≤ stands_with dropped h
   dropped-few = few_stood dropped h _ (λ key s there has. at key s has (drops group new key) refl (sym (map.get-retain_keys (key_states me h) (drops group new) key (alike (drops group new) key)) ∙ there))
     where
-      at : (key : Key) (s : KeyState) → has_stood s ≡ true → (b : Bool) → drops group new key ≡ b → cond b (map.get (key_states me h) key) None ≡ Some s → (dropped key ≡ true) × IsSome (first_stand h key)
+      at : (key : Key) (s : KeyState) → has_stood s ≡ true → (b : Bool) → drops group new key ≡ b → cond b (map.get (key_states me h) key) None ≡ Some s
+          → (dropped key ≡ true) × IsSome (first_stand h key)
       at key s has true e is =
           let found = are_stood me h key s is has in
           ((λ i. found.0 i && e i), found.1)
@@ -242,8 +243,9 @@ module _ (me : ℕ) (h : List Input) (group : List ℕ) (new : ℕ) (above : flo
       }
 
 -- what is known of h, and one input more
-pub known_next : (me n : ℕ) (h : List Input) (x : Input) → IsAllowed me n h x → credit h ≤ length (sent me h) → stands h ≡ stood_count (key_states me h) → stepped me (summary me h) x ≡ summary me (h ++ x ∷ [])
-unfolding IsInTurn not_yet
+pub known_next : (me n : ℕ) (h : List Input) (x : Input) → IsAllowed me n h x → credit h ≤ length (sent me h) → stands h ≡ stood_count (key_states me h)
+    → stepped me (summary me h) x ≡ summary me (h ++ x ∷ [])
+unfolding IsInTurn is_retire
 known_next me n h (Stand key bid) a within counted = plain-known me n h (Stand key bid) refl a within
 known_next me n h (Take msg_no msg) a within counted = plain-known me n h (Take msg_no msg) refl a within
 known_next me n h (Acked upto) a within counted = plain-known me n h (Acked upto) refl a within

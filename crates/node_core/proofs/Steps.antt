@@ -43,7 +43,8 @@ stand-steps inputs expected t u old new key bid put on = λ i. record {
 }
 
 -- what is known of the key of a message once it is heard, and what is sent on, told by the states
-pub heard-state : (inputs expected : ℕ) (t : TableView) (link : LinkView) (msg : Msg) → state_at (key_of msg, heard t.me (ballot_at t (key_of msg)) msg) ≡ known_heard t.me (known_with inputs t link expected) msg
+pub heard-state : (inputs expected : ℕ) (t : TableView) (link : LinkView) (msg : Msg)
+    → state_at (key_of msg, heard t.me (ballot_at t (key_of msg)) msg) ≡ known_heard t.me (known_with inputs t link expected) msg
 heard-state inputs expected t link msg = λ i. record {
   key = key_of msg;
   stood = sym (stood_in t (key_of msg)) i;
@@ -91,7 +92,8 @@ take-steps inputs expected msg_no t u old new msg put on = λ i. record {
   floors = put.2 i;
 }
 
-pub acked-steps : (inputs expected : ℕ) (t : TableView) (old new : LinkView) (upto : ℕ) → old.credited < upto → upto ≤ sent_count old → new ≡ credited_to upto old → known_with (inputs + 1) t new expected ≡ stepped t.me (known_with inputs t old expected) (Acked upto)
+pub acked-steps : (inputs expected : ℕ) (t : TableView) (old new : LinkView) (upto : ℕ) → old.credited < upto → upto ≤ sent_count old → new ≡ credited_to upto old
+    → known_with (inputs + 1) t new expected ≡ stepped t.me (known_with inputs t old expected) (Acked upto)
 acked-steps inputs expected t old new upto above within on = λ i. record {
   inputs = inputs + 1;
   taken = expected;
@@ -144,7 +146,8 @@ record AreFew (s : Summary) : Type 0 where
   taken_few : s.taken ≤ s.inputs
   stands_few : s.stands < 2 ^ 16
 
-few-steps : (n inputs expected : ℕ) (t : TableView) (link : LinkView) (x : Input) → IsFree t link x → IsCounted t.me n (known_with inputs t link expected) → AreFew (stepped t.me (known_with inputs t link expected) x)
+few-steps : (n inputs expected : ℕ) (t : TableView) (link : LinkView) (x : Input) → IsFree t link x → IsCounted t.me n (known_with inputs t link expected)
+    → AreFew (stepped t.me (known_with inputs t link expected) x)
 few-steps n inputs expected t link (Stand key bid) free c =
     let sent = c.sent_few in
     let taken = c.taken_few in
@@ -176,7 +179,8 @@ counted-steps n inputs expected t link x has none free c =
     }
 
 -- room was made on the link first, which leaves it as it was
-pub counted_next : (me n inputs expected : ℕ) (t : TableView) (old was : LinkView) (x : Input) (new : Summary) → me ≡ t.me → was ≡ old → HasRecord x → Objects n (known_with inputs t old expected) x None → IsFree t was x
+pub counted_next : (me n inputs expected : ℕ) (t : TableView) (old was : LinkView) (x : Input) (new : Summary) → me ≡ t.me → was ≡ old → HasRecord x
+    → Objects n (known_with inputs t old expected) x None → IsFree t was x
     → IsCounted t.me n (known_with inputs t old expected) → new ≡ stepped t.me (known_with inputs t was expected) x → IsCounted me n new
 counted_next me n inputs expected t old was x new me_is same has none free c e =
     let on_link = ap (λ (l : LinkView). stepped t.me (known_with inputs t l expected) x) same in

@@ -17,7 +17,8 @@ no_states t none = map.same_map keys_total keys_exact _ _ (λ key.
     get-states_in t key ∙ (ap (option_map (λ c. state_at (key, c))) (ap (λ m. map.get m key) none ∙ map.get-empty key_cmp key) ∙ sym (map.get-empty key_cmp key)))
 
 -- one that has accepted nothing
-pub new_known : (me : ℕ) (t : TableView) (link : LinkView) (expected : ℕ) → t ≡ record { me = me; ballots = map.empty; stands = 0; floors = map.empty } → link.credited ≡ 0 → link.window ≡ [] → expected ≡ 0 → known_with 0 t link expected ≡ empty
+pub new_known : (me : ℕ) (t : TableView) (link : LinkView) (expected : ℕ) → t ≡ record { me = me; ballots = map.empty; stands = 0; floors = map.empty } → link.credited ≡ 0 → link.window ≡ []
+    → expected ≡ 0 → known_with 0 t link expected ≡ empty
 new_known me t link expected is credited window next = λ i. record {
   inputs = 0;
   taken = next i;

@@ -1,5 +1,5 @@
 -- By what a core keeps what it knows.
-use Rattle.std.specs.Prelude.{ℕ, ◌≡◌, ◌+◌, ◌-◌, ◌*◌, ◌^◌, ◌<◌, ◌≤◌, if◌then◌else◌, false, [], ◌++◌, drop, Option, None}
+use Rattle.std.specs.Prelude.{ℕ, ◌≡◌, ◌+◌, ◌-◌, ◌*◌, ◌^◌, ◌<◌, ◌≤◌, if◌then◌else◌, [], ◌++◌, drop, Option, None}
 use Rattle.std.specs.FinMap as map
 use Rattle.std.specs.List.{cons_option, count_by}
 use Rattle.ring_records.specs.declared.candidate.Candidate.{Candidate}
@@ -42,14 +42,13 @@ pub record IsCounted (me n : ℕ) (s : Summary) : Type 0 where
   pub sound : IsNodeOf n me → IsSound n s
 
 -- So many bytes are the length of the snapshot: these, and those that are taken of room, stay below 2^64. No more is credited
--- than was sent, the Stands are the keys that stood, and nothing waits.
+-- than was sent, and the Stands are the keys that stood.
 pub record IsMeasured (s : Summary) (bytes : ℕ) (room : Room) : Type 0 where
   pub exact : bytes ≡ snapshot_len newest s
   pub within : s.credit ≤ s.sent
   pub stood : s.stands ≡ count_by has_stood (map.values s.keys)
   pub short : bytes < 2 ^ 63 + 2 ^ 62 + 64 * s.inputs
   pub taken : room.taken < 2 ^ 63 + 2 ^ 62 + 64 * s.inputs
-  pub plain : room.waits ≡ false
 
 -- the link once this is sent
 abbrev pub sent_on : Option Msg → LinkView → LinkView

@@ -242,6 +242,13 @@ impl FreeCore {
         self.outlink.window()
     }
 
+    /// How many groups have a floor.
+    pub fn floor_count(&self) -> usize
+        ensures { result ≡ map.len self.now.known.floors }
+    {
+        self.table.floor_count()
+    }
+
     /// How many Stands it made.
     pub fn stands(&self) -> u32
         ensures { result ≡ self.now.known.stands }

@@ -1,12 +1,13 @@
 // A node by what it knows, with the capacity of its journal.
-ghost use Rattle.std.specs.Prelude.{◌≡◌, ◌+◌, ◌<◌, ◌≤◌, ◌^◌, ℕ, List, [], ◌∷◌, ◌++◌, length, drop, Bool, false, nat_lt, None, IfOk, OnOk, OnErr};
+ghost use Rattle.std.specs.Prelude.{◌≡◌, ◌+◌, ◌<◌, ◌≤◌, ◌^◌, ℕ, List, [], ◌∷◌, ◌++◌, length, drop, Bool, false, nat_lt, ◌&&◌, None, IfOk, OnOk, OnErr};
 ghost use Rattle.std.specs.FinMap as map;
 ghost use Rattle.std.specs.Result.{result_err};
 ghost use Rattle.ring_records.specs.declared.input.Input.{Input};
-ghost use Rattle.ring_records.specs.Admission.{lacks, newest, snapshot_len};
+ghost use Rattle.ring_records.specs.Admission.{must_renew, newest, no_area, no_room, snapshot_len};
+ghost use Rattle.ring_records.specs.declared.limits.TheConstants.{INPUT_BYTES};
 ghost use Rattle.ring_records.specs.Emission.{sent, carry};
 ghost use Rattle.ring_records.specs.History.{taken, credit, stands};
-ghost use Rattle.ring_records.specs.Known.{stepped, leads_in};
+ghost use Rattle.ring_records.specs.Known.{Objects, stepped, leads_in};
 ghost use Rattle.ring_records.specs.Leader.{IsLatest, latest, told};
 ghost use Rattle.ring_records.specs.Member.{used_by, refusal_by};
 ghost use Rattle.ring_records.specs.Snapshot.{IsSound};
@@ -17,7 +18,7 @@ ghost use Rattle.node_core.specs.Core.{CoreStandsFor, IsNodeOf, Refuses, member_
 use crate::effects::Effects;
 use crate::free::FreeCore;
 use ring_records::{
-    Candidate, GroupName, Input, Key, LAYOUT, Msg, NodeNo, Refusal, Room, Summary, Term,
+    Candidate, EPOCHS, GroupName, Input, Key, LAYOUT, Msg, NodeNo, Refusal, Room, Summary, Term,
     summary_len,
 };
 use std::alloc::{AllocError, Global};
@@ -82,7 +83,6 @@ impl NodeCore {
     ) -> Result<NodeCore, AllocError>
         requires sound { IsSound n from.now }
         requires taken { room.taken < 2 ^ 63 + 2 ^ 62 }
-        requires plain { room.waits ≡ false }
         requires floors { map.len from.now.floors < 2 ^ 32 }
         ensures { IfOk result (λ core. core ≡ record { me = node; size = n; capacity = capacity; known = from.now; room = room }) }
     {
@@ -128,7 +128,9 @@ impl NodeCore {
     /// Stands; a Take as 2 where its candidate's node is above n, 13 where its number is not the next; an Acked as 13
     /// where it is not above the credit, 14 where it is above the count sent; a Retire as 23 where its floor is not above
     /// the group's, 26 where it is above the group's latest term with a leader; each as 6 at 2^56 inputs, and as 7 where
-    /// its cost does not fit the capacity, or where it is a Retire, which has no room yet.
+    /// its cost does not fit the capacity. In place of that rule, where the area in use is of an earlier layout, a Retire
+    /// and each input behind one are refused as 6 where no further area may be written, and as 7 where the snapshot behind
+    /// the input is longer than the capacity.
     pub fn admit(&self, input: &Input) -> Result<(), Refusal>
         ensures value { Refuses self.now input.now (result_err result) }
         ensures known { (h : List Input) → CoreStandsFor self.now h → result_err result ≡ refusal_by (member_of self.now) h input.now }
@@ -136,10 +138,10 @@ impl NodeCore {
         if let Some(refusal) = self.core.objection(input) {
             return Err(refusal);
         }
-        if self.lacks(input) {
-            return Err(Refusal::Full);
+        match self.no_room(input) {
+            Some(refusal) => Err(refusal),
+            None => Ok(()),
         }
-        Ok(())
     }
 
     /// Accepts an input that `admit` answers Ok of: what it brings. An `Err` changes nothing.
@@ -155,11 +157,11 @@ impl NodeCore {
         ensures stands { OnOk result ((h : List Input) → CoreStandsFor self.old h → CoreStandsFor self.new (h ++ input ∷ [])) }
         ensures err { OnErr result (self.new ≡ self.old) }
     {
-        let cost = input.cost() as u64;
+        let room = room_behind(&self.room, &input);
         let snapshot = self.core.len_after(self.snapshot, &input);
         let effects = self.core.apply(input)?;
         self.snapshot = snapshot;
-        self.room.taken += cost;
+        self.room = room;
         Ok(effects)
     }
 
@@ -175,14 +177,38 @@ impl NodeCore {
         })
     }
 
-    // Whether the input does not fit the capacity, or is one that has no room yet.
-    fn lacks(&self, input: &Input) -> bool
-        ensures { result ≡ lacks self.now.capacity self.now.room.taken input.now }
+    // What room says against an input against which nothing is known.
+    fn no_room(&self, input: &Input) -> Option<Refusal>
+        requires { Objects self.now.size self.now.known input.now None }
+        ensures { result ≡ no_room self.now.capacity self.now.room input.now (snapshot_len newest (stepped self.now.me self.now.known input.now)) }
     {
-        match input {
-            Input::Retire { .. } => true,
-            _ => self.is_short(input.cost()),
+        if self.must_renew(input) {
+            return self.no_area(self.core.len_after(self.snapshot, input));
         }
+        if self.is_short(input.cost()) {
+            return Some(Refusal::Full);
+        }
+        None
+    }
+
+    // Whether the input becomes durable by a checkpoint alone.
+    fn must_renew(&self, input: &Input) -> bool
+        ensures { result ≡ must_renew self.now.room input.now }
+    {
+        self.room.layout < LAYOUT && (self.room.waits || input.is_retire())
+    }
+
+    // Why no further area may be written, whose snapshot has so many bytes.
+    fn no_area(&self, renewed: u64) -> Option<Refusal>
+        ensures { result ≡ no_area self.now.capacity self.now.room renewed }
+    {
+        if self.room.epoch >= EPOCHS - 1 {
+            return Some(Refusal::Limit);
+        }
+        if renewed > u64::from(self.capacity) {
+            return Some(Refusal::Full);
+        }
+        None
     }
 
     // Whether so many bytes more do not fit the capacity.
@@ -227,6 +253,13 @@ impl NodeCore {
         self.room.taken
     }
 
+    /// Whether an input waits which only an area of the newest layout may hold, and the area in use is of an earlier one.
+    pub fn needs_area(&self) -> bool
+        ensures { result ≡ (nat_lt self.now.room.layout newest && self.now.room.waits) }
+    {
+        self.room.layout < LAYOUT && self.room.waits
+    }
+
     /// How many messages it sent.
     pub fn sent(&self) -> u64
         ensures value { result ≡ self.now.known.sent }
@@ -259,11 +292,32 @@ impl NodeCore {
         self.core.window()
     }
 
+    /// How many groups have a floor.
+    pub fn floor_count(&self) -> usize
+        ensures { result ≡ map.len self.now.known.floors }
+    {
+        self.core.floor_count()
+    }
+
     /// How many Stands it made.
     pub fn stands(&self) -> u32
         ensures value { result ≡ self.now.known.stands }
         ensures known { (h : List Input) → CoreStandsFor self.now h → result ≡ stands h }
     {
         self.core.stands()
+    }
+}
+
+// What room is told from behind one input more.
+fn room_behind(room: &Room, input: &Input) -> Room
+    requires { room.now.taken + INPUT_BYTES < 2 ^ 64 }
+    ensures value { result ≡ taking input.now room.now }
+    ensures range { result.taken ≤ room.now.taken + INPUT_BYTES }
+{
+    Room {
+        layout: room.layout,
+        epoch: room.epoch,
+        taken: room.taken + u64::from(input.cost()),
+        waits: room.waits || input.is_retire(),
     }
 }

@@ -74,7 +74,8 @@ module _ (p : Key → Bool) (lead : Key → Option Candidate) where
       ∙ ((λ i. cond (sym (is_named-apart h x other apart) i && p other) (Some (record { key = other; stood = sym (first_stand-apart h x other apart) i; leader = lead other })) None)
       ∙ sym (get-firsts (h ++ x ∷ []) other))
 
-  firsts-named : (h : List Input) (x : Input) (key : Key) → ((other : Key) → names other x ≡ is_key key other) → p key ≡ true → firsts (h ++ x ∷ []) ≡ fin.insert (firsts h) key (first_state (h ++ x ∷ []) key)
+  firsts-named : (h : List Input) (x : Input) (key : Key) → ((other : Key) → names other x ≡ is_key key other) → p key ≡ true
+      → firsts (h ++ x ∷ []) ≡ fin.insert (firsts h) key (first_state (h ++ x ∷ []) key)
   firsts-named h x key named passes = fin.same_map keys_total keys_exact _ _ (λ other. sym (get-put (firsts h) key (first_state (h ++ x ∷ []) key) other ∙ at other (is_key key other) refl))
     where
       at : (other : Key) (b : Bool) → is_key key other ≡ b → cond b (Some (first_state (h ++ x ∷ []) key)) (fin.get (firsts h) other) ≡ fin.get (firsts (h ++ x ∷ [])) other

@@ -40,7 +40,8 @@ floor-rises me n h (Retire g new) a group = go (bytes_eq g group) refl
         omega (arith, now)
 
 -- what one more input makes of a floor: the same, or at most the latest term of its group
-pub floor-decided : (me n : ℕ) (h : List Input) (x : Input) → IsAllowed me n h x → (group : List ℕ) → floor h group ≤ term_of (latest me h group) → floor (h ++ x ∷ []) group ≤ term_of (latest me h group)
+pub floor-decided : (me n : ℕ) (h : List Input) (x : Input) → IsAllowed me n h x → (group : List ℕ) → floor h group ≤ term_of (latest me h group)
+    → floor (h ++ x ∷ []) group ≤ term_of (latest me h group)
 unfolding IsInTurn floor_for
 floor-decided me n h (Stand key bid) a group le = let same = floor-same h (Stand key bid) group refl in omega (arith, same, le)
 floor-decided me n h (Take msg_no msg) a group le = let same = floor-same h (Take msg_no msg) group refl in omega (arith, same, le)
@@ -78,7 +79,8 @@ live h key le = le-ltb key.term (floor h key.group) le
 -- ---- the latest leader
 
 -- it is not retired by one more input
-pub latest-stays : (me n : ℕ) (h : List Input) (x : Input) → IsAllowed me n h x → (group : List ℕ) (led : ℕ × Candidate) → latest me h group ≡ Some led → leader me (h ++ x ∷ []) (record { group = group; term = led.0 }) ≡ Some led.1
+pub latest-stays : (me n : ℕ) (h : List Input) (x : Input) → IsAllowed me n h x → (group : List ℕ) (led : ℕ × Candidate) → latest me h group ≡ Some led
+    → leader me (h ++ x ∷ []) (record { group = group; term = led.0 }) ≡ Some led.1
 unfolding leader is_retired
 latest-stays me n h x a group led e =
     let key : Key = record { group = group; term = led.0 } in

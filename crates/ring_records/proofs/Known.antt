@@ -14,7 +14,7 @@ use Rattle.ring_records.specs.declared.msg.Msg.{Msg}
 use Rattle.ring_records.specs.declared.msg.Msg.TheVariants.{Token, Elected}
 use Rattle.ring_records.specs.declared.refusal.Refusal.{Refusal}
 use Rattle.ring_records.specs.declared.refusal.Refusal.TheVariants as refused
-use Rattle.ring_records.specs.Admission.{not_yet, IsInTurn, IsAllowed, where_so, retired, already, is_touched, stale, too_many, objection}
+use Rattle.ring_records.specs.Admission.{is_retire, IsInTurn, IsAllowed, where_so, retired, already, is_touched, stale, too_many, objection}
 use Rattle.ring_records.specs.Emission.{passed_on, emit, sent}
 use Rattle.ring_records.specs.History.{floor_for, floor, is_retired, if_live, names, is_named, touched, bid_for, first_stand, stood, message_of, taken, upto_of, credit, is_live_stand, stands}
 use Rattle.ring_records.specs.Floors.{is_below_floor}
@@ -141,7 +141,8 @@ objects-of me n h (Retire group new) =
 
 -- ---- one more input
 
-shows : (me : ℕ) (h : List Input) (msg_no : ℕ) (msg : Msg) (key : Key) → is_key (key_of msg) key ≡ true → is_retired h key ≡ false → makes_leader me key h (Take msg_no msg) ≡ shown me (stood h key) msg
+shows : (me : ℕ) (h : List Input) (msg_no : ℕ) (msg : Msg) (key : Key) → is_key (key_of msg) key ≡ true → is_retired h key ≡ false
+    → makes_leader me key h (Take msg_no msg) ≡ shown me (stood h key) msg
 unfolding makes_leader shown stood
 shows me h msg_no (Token k c) key e live =
     ap (λ b. cond (b && (eqb c.node me) && is_bid (first_stand h key) c.bid) (Some c) None) e
@@ -157,7 +158,8 @@ or_true true = refl
 or_true false = refl
 
 -- the state of a key that the input does not name
-state-apart : (me : ℕ) (h : List Input) (x : Input) (key : Key) → Keeps x → names key x ≡ false → cond (is_known h key) (Some (state_of me h key)) None ≡ cond (is_known (h ++ x ∷ []) key) (Some (state_of me (h ++ x ∷ []) key)) None
+state-apart : (me : ℕ) (h : List Input) (x : Input) (key : Key) → Keeps x → names key x ≡ false
+    → cond (is_known h key) (Some (state_of me h key)) None ≡ cond (is_known (h ++ x ∷ []) key) (Some (state_of me (h ++ x ∷ []) key)) None
 state-apart me h x key keeps apart = λ i.
     cond (sym (is_named-apart h x key apart) i && not (sym (retired-same h x key (keeps key.group)) i))
     (Some (record { key = key; stood = sym (stood-apart h x key apart (keeps key.group)) i; leader = sym (leader-apart me h x key apart (keeps key.group)) i })) None
@@ -179,7 +181,8 @@ states-named me h x key s keeps named live e = fin.same_map keys_total keys_exac
     at other false f = get-states me h other ∙ (state-apart me h x other keeps (named other ∙ f) ∙ sym (get-states me (h ++ x ∷ []) other))
 
 -- the states after one that names a retired key
-states-below : (me : ℕ) (h : List Input) (x : Input) (key : Key) → Keeps x → ((other : Key) → names other x ≡ is_key key other) → is_retired h key ≡ true → key_states me h ≡ key_states me (h ++ x ∷ [])
+states-below : (me : ℕ) (h : List Input) (x : Input) (key : Key) → Keeps x → ((other : Key) → names other x ≡ is_key key other) → is_retired h key ≡ true
+    → key_states me h ≡ key_states me (h ++ x ∷ [])
 states-below me h x key keeps named gone = fin.same_map keys_total keys_exact _ _ (λ other. get-states me h other ∙ (at other (is_key key other) refl ∙ sym (get-states me (h ++ x ∷ []) other)))
   where
     and_none : (b : Bool) → (b && false) ≡ false
@@ -305,8 +308,8 @@ acked-goes_on me h upto above =
     }
 
 -- an input that is no Retire: what is known goes on
-pub plain-known : (me n : ℕ) (h : List Input) (x : Input) → not_yet x ≡ false → IsAllowed me n h x → credit h ≤ length (sent me h) → stepped me (summary me h) x ≡ summary me (h ++ x ∷ [])
-unfolding IsInTurn not_yet
+pub plain-known : (me n : ℕ) (h : List Input) (x : Input) → is_retire x ≡ false → IsAllowed me n h x → credit h ≤ length (sent me h) → stepped me (summary me h) x ≡ summary me (h ++ x ∷ [])
+unfolding IsInTurn is_retire
 plain-known me n h (Stand key bid) plain a within = stand-goes_on me h key bid a.in_turn.untouched within
 plain-known me n h (Take msg_no msg) plain a within = take-goes_on me h msg_no msg within
 plain-known me n h (Acked upto) plain a within = acked-goes_on me h upto a.in_turn.above

@@ -14,7 +14,7 @@ use Rattle.ring_records.specs.declared.input.Input.{Input}
 use Rattle.ring_records.specs.declared.input.Input.TheVariants.{Stand, Take, Acked, Retire}
 use Rattle.ring_records.specs.declared.key.Key.{Key}
 use Rattle.ring_records.specs.declared.key_state.KeyState.{KeyState}
-use Rattle.ring_records.specs.Admission.{not_yet, IsInTurn, IsAllowed}
+use Rattle.ring_records.specs.Admission.{is_retire, IsInTurn, IsAllowed}
 use Rattle.ring_records.specs.Emission.{emit, sent}
 use Rattle.ring_records.specs.History.{floor_for, floor, is_retired, names, is_named, bid_for, first_stand, stood, message_of, taken, upto_of, credit, stands}
 use Rattle.ring_records.specs.KeyOrder.{key_cmp}
@@ -84,7 +84,8 @@ module _ (h : List Input) (group : List ℕ) (new : ℕ) (above : floor h group 
         | inr high ↦ sym (ap (λ b. b || ltb t new) (le-ltb t (floor h key.group) high))
       ]
 
-      go : (b : Bool) → bytes_eq group key.group ≡ b → ltb key.term (unwrap_or (cond b (Some new) None) (floor h key.group)) ≡ (ltb key.term (floor h key.group) || (bytes_eq key.group group && ltb key.term new))
+      go : (b : Bool) → bytes_eq group key.group ≡ b
+          → ltb key.term (unwrap_or (cond b (Some new) None) (floor h key.group)) ≡ (ltb key.term (floor h key.group) || (bytes_eq key.group group && ltb key.term new))
       go true e =
           let same : group ≡ key.group = (bytes_eq-Decides group key.group).0 e in
           less key.term (subst (λ (g : List ℕ). floor h g < new) same above)
@@ -163,7 +164,7 @@ retire-goes_on me n h group new each a =
     }
 
 pub stepped-known : (me n : ℕ) (h : List Input) (x : Input) → EachAfter (IsAllowed me n) [] h → IsAllowed me n h x → stepped me (summary me h) x ≡ summary me (h ++ x ∷ [])
-unfolding not_yet
+unfolding is_retire
 stepped-known me n h (Stand key bid) each a = plain-known me n h (Stand key bid) refl a (credit-sent me n h each)
 stepped-known me n h (Take msg_no msg) each a = plain-known me n h (Take msg_no msg) refl a (credit-sent me n h each)
 stepped-known me n h (Acked upto) each a = plain-known me n h (Acked upto) refl a (credit-sent me n h each)

@@ -379,6 +379,7 @@ module _ (layout n : ℕ) where
   sound_no true k p sound e = absurd cc
   sound_no false k p sound e = sound
 
-pub none_taken : (p : SnapshotPart) (n layout : ℕ) (counts : Option Counts) (parts : Parts) (room : ℕ) → record { n = n; layout = layout; taken = taken_of counts parts; room = room } ≡ p → counts ≡ None
+pub none_taken : (p : SnapshotPart) (n layout : ℕ) (counts : Option Counts) (parts : Parts) (room : ℕ) → record { n = n; layout = layout; taken = taken_of counts parts; room = room } ≡ p
+    → counts ≡ None
     → p.taken ≡ []
 none_taken p n layout counts parts room is none = sym (ap (λ (q : SnapshotPart). q.taken) is) ∙ ap (λ (o : Option Counts). taken_of o parts) none

@@ -303,7 +303,8 @@ module _ (n me : ℕ) (s : Summary) (sound : IsSound n s) where
         live = λ key state e. let found = found-kept (λ k. not (drops group new k)) key state e in retire-live group new key (sound.live key state found.1) found.0;
       }
     where
-      floor-put : (g : List ℕ) (f : ℕ) (b : Bool) → eq_by_cmp group_cmp g group ≡ b → cond (eq_by_cmp group_cmp g group) (Some new) (fin.get s.floors g) ≡ Some f → IsKeyInRange (record { group = g; term = f })
+      floor-put : (g : List ℕ) (f : ℕ) (b : Bool) → eq_by_cmp group_cmp g group ≡ b → cond (eq_by_cmp group_cmp g group) (Some new) (fin.get s.floors g) ≡ Some f
+          → IsKeyInRange (record { group = g; term = f })
       floor-put g f true is e =
           let same : group ≡ g = sym (groups_exact g group ((Equal-is (group_cmp g group)).0 is)) in
           subst (λ (k : Key). IsKeyInRange k) (λ i. record { group = same i; term = same_Some new f (sym (ap (λ c. cond c (Some new) (fin.get s.floors g)) is) ∙ e) i }) named

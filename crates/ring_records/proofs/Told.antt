@@ -52,7 +52,8 @@ or_none None = refl
 or_none (Some c) = refl
 
 -- an input that tells nothing, gives no floor, and shows no leader for a key that has none
-quiet : (me : ℕ) (h : List Input) (x : Input) (ns : List Notice) → ((group : List ℕ) → floor_for group x ≡ None) → ((key : Key) → is_retired h key ≡ false → or_else (first_leader me h key) (makes_leader me key h x) ≡ first_leader me h key) → Tells me h ns → Tells me (h ++ x ∷ []) ns
+quiet : (me : ℕ) (h : List Input) (x : Input) (ns : List Notice) → ((group : List ℕ) → floor_for group x ≡ None)
+    → ((key : Key) → is_retired h key ≡ false → or_else (first_leader me h key) (makes_leader me key h x) ≡ first_leader me h key) → Tells me h ns → Tells me (h ++ x ∷ []) ns
 quiet me h x ns none shows tells = record {
   floors = λ group. tells.floors group ∙ sym (floor-same h x group (none group));
   firsts = λ key live.
@@ -61,7 +62,8 @@ quiet me h x ns none shows tells = record {
 }
 
 -- a message that decides nothing shows no leader that is new
-undecided : (me : ℕ) (h : List Input) (msg_no : ℕ) (msg : Msg) → decided me h (Take msg_no msg) ≡ None → (key : Key) → is_retired h key ≡ false → or_else (first_leader me h key) (makes_leader me key h (Take msg_no msg)) ≡ first_leader me h key
+undecided : (me : ℕ) (h : List Input) (msg_no : ℕ) (msg : Msg) → decided me h (Take msg_no msg) ≡ None → (key : Key) → is_retired h key ≡ false
+    → or_else (first_leader me h key) (makes_leader me key h (Take msg_no msg)) ≡ first_leader me h key
 undecided me h msg_no msg none key live = go (first_leader me h key) (makes_leader me key h (Take msg_no msg)) refl refl
   where
     go : (o p : Option Candidate) → first_leader me h key ≡ o → makes_leader me key h (Take msg_no msg) ≡ p → or_else o p ≡ o
@@ -72,7 +74,8 @@ undecided me h msg_no msg none key live = go (first_leader me h key) (makes_lead
         none≢some (record { key = key; leader = c }) (sym none ∙ decided-first me h (Take msg_no msg) key c new)
 
 -- a message that decides d names it
-names-new : (me : ℕ) (h : List Input) (msg_no : ℕ) (msg : Msg) (d : Decision) → decided me h (Take msg_no msg) ≡ Some d → (key : Key) → is_retired h key ≡ false → or_else (first_leader me h key) (named_by key (Decided d)) ≡ or_else (first_leader me h key) (makes_leader me key h (Take msg_no msg))
+names-new : (me : ℕ) (h : List Input) (msg_no : ℕ) (msg : Msg) (d : Decision) → decided me h (Take msg_no msg) ≡ Some d → (key : Key) → is_retired h key ≡ false
+    → or_else (first_leader me h key) (named_by key (Decided d)) ≡ or_else (first_leader me h key) (makes_leader me key h (Take msg_no msg))
 unfolding named_by
 names-new me h msg_no msg d e key live = go (first_leader me h key) (makes_leader me key h (Take msg_no msg)) refl refl
   where
@@ -93,7 +96,8 @@ names-new me h msg_no msg d e key live = go (first_leader me h key) (makes_leade
 
 -- ---- one more input
 
-take-step : (me : ℕ) (h : List Input) (msg_no : ℕ) (msg : Msg) (ns : List Notice) → Tells me h ns → Tells me (h ++ Take msg_no msg ∷ []) (ns ++ cons_option (option_map Decided (decided me h (Take msg_no msg))) [])
+take-step : (me : ℕ) (h : List Input) (msg_no : ℕ) (msg : Msg) (ns : List Notice) → Tells me h ns
+    → Tells me (h ++ Take msg_no msg ∷ []) (ns ++ cons_option (option_map Decided (decided me h (Take msg_no msg))) [])
 unfolding floor_for floor_by
 take-step me h msg_no msg ns tells = go (decided me h (Take msg_no msg)) refl
   where
@@ -106,7 +110,8 @@ take-step me h msg_no msg ns tells = go (decided me h (Take msg_no msg)) refl
           first_named-push ns (Decided d) key ∙ (ap (λ o. or_else o (named_by key (Decided d))) (tells.firsts key was) ∙ (names-new me h msg_no msg d e key was ∙ sym (first_leader-push me h (Take msg_no msg) key)));
     }
 
-retire-floor : (me n : ℕ) (h : List Input) (g : List ℕ) (new : ℕ) (ns : List Notice) → IsAllowed me n h (Retire g new) → Tells me h ns → (group : List ℕ) → floor_in (ns ++ Retired g new ∷ []) group ≡ floor (h ++ Retire g new ∷ []) group
+retire-floor : (me n : ℕ) (h : List Input) (g : List ℕ) (new : ℕ) (ns : List Notice) → IsAllowed me n h (Retire g new) → Tells me h ns → (group : List ℕ)
+    → floor_in (ns ++ Retired g new ∷ []) group ≡ floor (h ++ Retire g new ∷ []) group
 unfolding IsInTurn floor_for floor_by
 retire-floor me n h g new ns a tells group = go (bytes_eq g group) refl
   where

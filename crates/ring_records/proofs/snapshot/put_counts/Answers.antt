@@ -6,7 +6,8 @@ six : (o p q r s t u a b c d e f : List ℕ) → p ≡ o ++ a → q ≡ p ++ b �
 six o p q r s t u a b c d e f pa pb pc pd pe pf = pf ∙ (ap (λ l. l ++ f) (pe ∙ ap (λ l. l ++ e) (pd ∙ ap (λ l. l ++ d) (pc ∙ ap (λ l. l ++ c) (pb ∙ ap (λ l. l ++ b) pa)))) ∙ simp append_assoc)
 
 -- six numbers are put, which spell these bytes
-spelled : (o p q r s t u a b c d e f a' b' c' d' e' f' : List ℕ) → p ≡ o ++ a → q ≡ p ++ b → r ≡ q ++ c → s ≡ r ++ d → t ≡ s ++ e → u ≡ t ++ f → a ≡ a' → b ≡ b' → c ≡ c' → d ≡ d' → e ≡ e' → f ≡ f' → u ≡ o ++ (a' ++ b' ++ c' ++ d' ++ e' ++ f')
+spelled : (o p q r s t u a b c d e f a' b' c' d' e' f' : List ℕ) → p ≡ o ++ a → q ≡ p ++ b → r ≡ q ++ c → s ≡ r ++ d → t ≡ s ++ e → u ≡ t ++ f → a ≡ a' → b ≡ b' → c ≡ c' → d ≡ d' → e ≡ e'
+    → f ≡ f' → u ≡ o ++ (a' ++ b' ++ c' ++ d' ++ e' ++ f')
 spelled o p q r s t u a b c d e f a' b' c' d' e' f' pa pb pc pd pe pf sa sb sc sd se sf = six o p q r s t u a b c d e f pa pb pc pd pe pf ∙ (λ i. o ++ (sa i ++ sb i ++ sc i ++ sd i ++ se i ++ sf i))
 
 pub returns : goal.returns

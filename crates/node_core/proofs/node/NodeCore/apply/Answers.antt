@@ -24,12 +24,11 @@ len_after-snapshot-requires-clause-short c =
 pub apply-requires : goal.apply-requires
 apply-requires c = subst (λ (v : CoreView). Objects v.size v.known c.args.input None) (sym c.self.view_is) (objects_none c.args.self.now c.args.input c.requires)
 
-pub overflow_add-self : goal.overflow_add-self
-overflow_add-self c =
+pub room_behind-room-requires : goal.room_behind-room-requires
+room_behind-room-requires c =
     let free = subst (λ (v : CoreView). Objects v.size v.known c.args.input None) (sym c.self.view_is) (objects_none c.args.self.now c.args.input c.requires) in
     let few = few_inputs c.self.inside.core.size c.self.inside.core.known c.args.input free in
     let taken = c.self.invariant.taken in
-    let range = c.cost-cost.ensures.range in
     omega arith
 
 pub invariant_of-self-2 : goal.invariant_of-self-2
@@ -42,12 +41,11 @@ invariant_of-self-2 c =
       within = subst (λ (s : Summary). s.credit ≤ s.sent) (sym next) (within_next c.self.inside.core.me c.self.inside.core.size c.self.inside.core.known c.args.input free c.self.invariant.within);
       stood = subst (λ (s : Summary). s.stands ≡ stood_count s.keys) (sym next) (counted_next c.self.inside.core.me c.self.inside.core.size c.self.inside.core.known c.args.input free c.self.invariant.stood);
       short = omega (arith, more, c.self.invariant.short, c.len_after-snapshot.ensures.range);
-      taken = omega (arith, more, c.self.invariant.taken, c.cost-cost.ensures.range);
-      plain = c.self.invariant.plain;
+      taken = omega (arith, more, c.self.invariant.taken, c.room_behind-room.ensures.range);
     }
 
 pub returns-clause-steps : goal.returns-clause-steps
-returns-clause-steps c = stepped_core c.args.self.now c.self.inside.core c.apply.new.self c.self.inside.capacity _ c.self.inside.room c.args.input c.self.view_is c.in_ok-effects.ensures.steps c.cost-cost.ensures.value
+returns-clause-steps c = stepped_core c.args.self.now c.self.inside.core c.apply.new.self c.self.inside.capacity c.self.inside.room _ c.args.input c.self.view_is c.in_ok-effects.ensures.steps c.room_behind-room.ensures.value
 
 pub returns-clause-brings : goal.returns-clause-brings
 returns-clause-brings c = c.in_ok-effects.ensures.brings ∙ ap (λ (v : CoreView). brought v.me v.known c.args.input) c.self.view_is
@@ -63,6 +61,6 @@ returns-clause-told c = λ h s.
 pub returns-clause-stands : goal.returns-clause-stands
 returns-clause-stands c = λ h s.
     goes_on c.args.self.now _ h c.args.input
-    (stepped_core c.args.self.now c.self.inside.core c.apply.new.self c.self.inside.capacity _ c.self.inside.room c.args.input c.self.view_is c.in_ok-effects.ensures.steps c.cost-cost.ensures.value)
+    (stepped_core c.args.self.now c.self.inside.core c.apply.new.self c.self.inside.capacity c.self.inside.room _ c.args.input c.self.view_is c.in_ok-effects.ensures.steps c.room_behind-room.ensures.value)
     (subst (λ (v : CoreView). v.known.credit ≤ v.known.sent) c.self.view_is c.self.invariant.within)
     (subst (λ (v : CoreView). v.known.stands ≡ stood_count v.known.keys) c.self.view_is c.self.invariant.stood) c.requires s

@@ -1,4 +1,4 @@
-use Rattle.std.proofs.Common.{◌≡◌, ◌≤◌, [], false, refl, sym, ap, ◌∙◌, subst, arith}
+use Rattle.std.proofs.Common.{◌≡◌, ◌≤◌, [], false, sym, ap, ◌∙◌, subst, arith}
 use Rattle.ring_records.specs.Admission.{newest, snapshot_len}
 use Rattle.ring_records.specs.Summary.{empty}
 use Rattle.ring_records.proofs.Counts.{used-each}
@@ -12,7 +12,7 @@ pub invariant_of-result : goal.invariant_of-result
 invariant_of-result c =
     let same : c.new.result.known ≡ empty = ap (λ (v : FreeView). v.known) c.new.ensures in
     let len = ap (snapshot_len newest) same ∙ length-empty newest (omega arith) in
-    record { exact = sym len; within = subst (λ s. s.credit ≤ s.sent) (sym same) (omega arith); stood = subst (λ s. s.stands ≡ stood_count s.keys) (sym same) (sound-empty c.args.n).stands; short = omega arith; taken = omega arith; plain = refl }
+    record { exact = sym len; within = subst (λ s. s.credit ≤ s.sent) (sym same) (omega arith); stood = subst (λ s. s.stands ≡ stood_count s.keys) (sym same) (sound-empty c.args.n).stands; short = omega arith; taken = omega arith }
 
 pub returns-clause-empty : goal.returns-clause-empty
 returns-clause-empty c = record {
