@@ -34,7 +34,8 @@ snapshot-empty =
     λ i. counts_bytes empty (none i) ++ flat_map state_bytes (keys i) ++ [] ++ floors i
 
 -- each byte of a new device
-pub bytes-new_areas : (header : Member) → new_areas header ≡ mark ++ header.node ∷ header.n ∷ to_be_bytes w32 header.capacity ++ 0 ∷ 0 ∷ 1 ∷ 3 ∷ to_be_bytes w64 1 ++ to_be_bytes w32 42 ++ replicate {A = ℕ} 43 0
+pub bytes-new_areas : (header : Member)
+    → new_areas header ≡ mark ++ header.node ∷ header.n ∷ to_be_bytes w32 header.capacity ++ 0 ∷ 0 ∷ 1 ∷ 3 ∷ to_be_bytes w64 1 ++ to_be_bytes w32 42 ++ replicate {A = ℕ} 43 0
 bytes-new_areas header =
     λ i. mark ++ header.node ∷ header.n ∷ to_be_bytes w32 header.capacity ++ 0 ∷ 0 ∷ 1 ∷ 3 ∷ to_be_bytes w64 1 ++ to_be_bytes w32 (length-empty newest (omega arith) i) ++ snapshot-empty i ++ 0 ∷ []
 

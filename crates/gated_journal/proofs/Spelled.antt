@@ -52,5 +52,5 @@ spells-item inputs i x head bytes more here spells is has =
     let pushed : take (i + 1) inputs ≡ take i inputs ++ x ∷ [] = take-item inputs i x here in
     subst (λ (l : List Input). Spells l head more) (sym pushed) (record {
       bytes_are = is ∙ ap (λ (l : List ℕ). l ++ record_of x) spells.bytes_are ∙ append_assoc head (records (take i inputs)) (record_of x) ∙ ap (λ (l : List ℕ). head ++ l) (sym (records-push (take i inputs) x));
-      have = have-push newest (take i inputs) x spells.have has (newest-suits x);
+      have = have-push newest (take i inputs) x spells.have has (newest-suits newest x (omega arith));
     })

@@ -1,16 +1,20 @@
 -- When a checkpoint is launched, and the desk then.
-use Rattle.std.proofs.Common.{◌≡◌, ◌+◌, ◌*◌, ◌<◌, ◌≤◌, true, false, Bool, cond, Option, Some, None, refl, sym}
+use Rattle.std.proofs.Common.{◌≡◌, ◌+◌, ◌*◌, ◌<◌, ◌≤◌, ◌⊎◌, ◌&&◌, ◌||◌, not, true, false, Bool, cond, length, Option, Some, None, inl, inr, refl, sym, ap, ◌∙◌, subst, arith}
 use Rattle.std.specs.Option.{option_map}
 use Rattle.std.specs.Prelude.{nat_le, nat_lt}
-use Rattle.std.proofs.lemmas.Bool.{and_parts, leb-false, leb-true, ltb-false, ltb-true}
-use Rattle.ring_records.specs.declared.refusal.Refusal.TheVariants.{Failed, Busy, Limit, Full}
+use Rattle.std.proofs.lemmas.Bool.{and_parts, leb-false, leb-true, ltb-false, ltb-true, lt-leb, le-ltb}
+use Rattle.ring_records.specs.declared.refusal.Refusal.TheVariants.{Failed, Busy, Limit, Full, OutOfMemory}
+use Rattle.ring_records.specs.declared.refusal.Refusal.{Refusal}
+use Rattle.ring_records.specs.Lists.{or_else}
 use Rattle.ring_records.specs.Admission.{used, where_so, newest}
 use Rattle.ring_records.specs.Snapshot.{snapshot_len}
 use Rattle.ring_records.specs.States.{is_idle, launched_base}
-use Rattle.ring_records.proofs.Admission.{or_else-none, where_so-none}
+use Rattle.ring_records.specs.declared.base.Base.{Base}
+use Rattle.ring_records.proofs.Admission.{or_else-none, where_so-none, or_else-free, where_so-free}
+use Rattle.ring_records.proofs.States.{idle-base}
 use Rattle.ring_records.proofs.Lists.{none≢some}
-use Rattle.group_commit.specs.Desk.{DeskView, DeskKept, known_all, is_due, launch_objection, checkpoint_objection, epochs}
-use Rattle.group_commit.specs.Next.{is_checkpoint_next}
+use Rattle.group_commit.specs.Desk.{DeskView, DeskKept, known_all, is_due, launch_objection, checkpoint_objection, epochs, needs_checkpoint, MayRenew}
+use Rattle.group_commit.specs.Next.{is_checkpoint_next, IsUnlaunched}
 
 -- where nothing is against a launch, nothing flies
 pub idle_free : (d : DeskView) → launch_objection d ≡ None → is_idle d.state ≡ true
@@ -42,14 +46,48 @@ pub none_pending : {A B : Type 0} (f : A → B) (o : Option A) → option_map f 
 none_pending f None e = refl
 none_pending f (Some x) e = none≢some (f x) (sym e)
 
--- where a checkpoint is next, more than half of the capacity is taken, and the snapshot takes a quarter at most
+-- where one is due, more than half of the capacity is taken, and the snapshot takes a quarter at most
 pub record Due (d : DeskKept) : Type 0 where
   pub filled : d.view.member.capacity < 2 * used (launched_base d.view.state) d.view.state.inputs
   pub short : 4 * snapshot_len newest (known_all d) ≤ d.view.member.capacity
+  pub left : (launched_base d.view.state).epoch + 1 < epochs
 
-pub due : (d : DeskKept) → is_checkpoint_next d ≡ true → Due d
-due d next =
+due : (d : DeskKept) → is_due d ≡ true → Due d
+due d is =
     let taken = 2 * used (launched_base d.view.state) d.view.state.inputs in
     let length = 4 * snapshot_len newest (known_all d) in
-    let filled = and_parts (nat_lt d.view.member.capacity taken) _ (and_parts (is_due d) _ next).0 in
-    record { filled = ltb-true d.view.member.capacity taken filled.0; short = leb-true length d.view.member.capacity (and_parts (nat_le length d.view.member.capacity) _ filled.1).0 }
+    let filled = and_parts (nat_lt d.view.member.capacity taken) _ is in
+    let short = and_parts (nat_le length d.view.member.capacity) _ filled.1 in
+    record { filled = ltb-true d.view.member.capacity taken filled.0; short = leb-true length d.view.member.capacity short.0; left = ltb-true _ epochs short.1 }
+
+-- where a checkpoint is next, one is due, or one is needed
+pub next_why : (d : DeskKept) → is_checkpoint_next d ≡ true → Due d ⊎ (needs_checkpoint d ≡ true)
+next_why d next = go (needs_checkpoint d) refl next
+  where
+    go : (b : Bool) → needs_checkpoint d ≡ b → (b || is_due d && (nat_lt d.view.state.durable (length d.view.state.inputs) || not (d.view.closed || d.view.failed))) ≡ true
+        → Due d ⊎ (needs_checkpoint d ≡ true)
+    go true e next = inr e
+    go false e next = inl (due d (and_parts (is_due d) _ next).0)
+
+-- and of one of which it is, nothing is against it but what is against a batch
+pub next_free : (d : DeskKept) → is_checkpoint_next d ≡ true → (needs_checkpoint d ≡ true → MayRenew d) → launch_objection d.view ≡ None → checkpoint_objection d ≡ None
+next_free d next renews free = or_else-free (launch_objection d.view) _ free (or_else-free _ _ (where_so-free _ _ (lt-leb epochs (d.view.state.base.epoch + 1) left)) (where_so-free _ _ (le-ltb d.view.member.capacity (snapshot_len newest (known_all d)) may.fits)))
+  where
+    may : MayRenew d
+    may = elim (next_why d next) [
+      | inl is ↦ record { left = is.left; fits = (let s = is.short in omega arith) }
+      | inr needs ↦ renews needs
+    ]
+
+    left : d.view.state.base.epoch + 1 < epochs
+    left = subst (λ (b : Base). b.epoch + 1 < epochs) (idle-base d.view.state (idle_free d.view free)) may.left
+
+-- so it is refused as a batch would be, or for want of memory
+pub next_refused : (d : DeskKept) (why : Refusal) → is_checkpoint_next d ≡ true → (needs_checkpoint d ≡ true → MayRenew d)
+    → (checkpoint_objection d ≡ Some why) ⊎ ((checkpoint_objection d ≡ None) × (why ≡ OutOfMemory)) → IsUnlaunched d why
+next_refused d why next renews (inl objected) = go (launch_objection d.view) refl
+  where
+    go : (o : Option Refusal) → launch_objection d.view ≡ o → IsUnlaunched d why
+    go None e = none≢some why (sym (next_free d next renews e) ∙ objected)
+    go (Some first) e = inl (e ∙ (sym (ap (λ (p : Option Refusal). or_else p (or_else (where_so (nat_le epochs (d.view.state.base.epoch + 1)) Limit) (where_so (nat_lt d.view.member.capacity (snapshot_len newest (known_all d))) Full))) e) ∙ objected))
+next_refused d why next renews (inr memory) = inr ((or_else-none (launch_objection d.view) _ memory.0).0, memory.1)

@@ -66,6 +66,7 @@ no_unlawful m opening base past l why none is lawful un =
       knows = f.knows;
       room = room-since base front none ∙ sym (room-moved base past front);
       within = omega (arith, none, sum);
+      allowed = f.allowed;
     } in
     none≢some un.refused_for (sym (admitted-free m.node m.n m.capacity c (past ++ front) un.input admitted)
     ∙ sym (refused-is (core_after (opened_core m opening base) front) c (past ++ front) un.input (Some un.refused_for) of un.because))

@@ -41,7 +41,8 @@ core-none core =
     λ i. record core { room = record core.room { taken = same i; waits = or-none core.room.waits i } }
 
 -- what the core becomes
-pub core-push : (first core new : CoreView) (l : List Input) (x : Input) → core ≡ core_after first l → new ≡ record core { known = stepped core.me core.known x; room = taking x core.room } → new ≡ core_after first (l ++ x ∷ [])
+pub core-push : (first core new : CoreView) (l : List Input) (x : Input) → core ≡ core_after first l → new ≡ record core { known = stepped core.me core.known x; room = taking x core.room }
+    → new ≡ core_after first (l ++ x ∷ [])
 core-push first core new l x is steps =
     let sum = sum_by_push cost l x in
     let same : first.room.taken + sum_by cost l + cost x ≡ first.room.taken + sum_by cost (l ++ x ∷ []) = omega (arith, sum) in
@@ -51,7 +52,8 @@ core-push first core new l x is steps =
     steps ∙ (ap (λ (c : CoreView). record c { known = stepped c.me c.known x; room = taking x c.room }) is
     ∙ λ i. record first { known = sym (after-push first.me first.known l x) i; room = record first.room { taken = same i; waits = waits i } })
 
-pub core-item : (first core new : CoreView) (inputs : List Input) (i : ℕ) (x : Input) → core ≡ core_after first (take i inputs) → IsItem inputs i x → new ≡ record core { known = stepped core.me core.known x; room = taking x core.room }
+pub core-item : (first core new : CoreView) (inputs : List Input) (i : ℕ) (x : Input) → core ≡ core_after first (take i inputs) → IsItem inputs i x
+    → new ≡ record core { known = stepped core.me core.known x; room = taking x core.room }
     → new ≡ core_after first (take (i + 1) inputs)
 core-item first core new inputs i x is here steps = core-push first core new (take i inputs) x is steps ∙ ap (core_after first) (sym (take-item inputs i x here))
 

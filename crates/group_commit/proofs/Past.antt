@@ -29,7 +29,7 @@ use Rattle.ring_records.specs.Lists.{or_else, found_after, EachAfter}
 use Rattle.ring_records.specs.Member.{Member}
 use Rattle.ring_records.specs.States.{NodeState, launched_base, durable_in, flying_in, answered_by, gained_by}
 use Rattle.ring_records.specs.Summary.{summary}
-use Rattle.ring_records.proofs.Admission.{none_renews, objection-allowed, plain_room}
+use Rattle.ring_records.proofs.Admission.{objection-allowed}
 use Rattle.ring_records.proofs.Growth.{EachAfter-take}
 use Rattle.ring_records.proofs.History.{if_live-none}
 use Rattle.ring_records.proofs.Known.{leader-known, objects-known, credit-next, credit-sent}
@@ -51,20 +51,23 @@ use Rattle.group_commit.proofs.Settling.{after-push, drop-front}
 -- ---- what it refuses and answers
 
 -- of an input behind the base, room is asked
-room_asked : (me capacity renewed : ℕ) (base : Base) (h : List Input) (x : Input) → base.inputs ≤ length h → no_room capacity (room_of base h) x renewed ≡ shortage me capacity base h x
+room_asked : (me capacity : ℕ) (base : Base) (h : List Input) (x : Input) → base.inputs ≤ length h
+    → no_room capacity (room_of base h) x (snapshot_len newest (summary me (h ++ x ∷ []))) ≡ shortage me capacity base h x
 unfolding shortage
-room_asked me capacity renewed base h x within =
-    plain_room capacity (room_of base h) x renewed (none_renews base h x)
-    ∙ (sym (plain_room capacity (room_of base h) x (snapshot_len newest (summary me (h ++ x ∷ []))) (none_renews base h x))
-    ∙ sym (ap (λ b. cond b (no_room capacity (room_of base h) x (snapshot_len newest (summary me (h ++ x ∷ [])))) None) (le-leb base.inputs (length h) within)))
+room_asked me capacity base h x within = sym (ap (λ b. cond b (no_room capacity (room_of base h) x (snapshot_len newest (summary me (h ++ x ∷ [])))) None) (le-leb base.inputs (length h) within))
 
 pub refused-is : (core : CoreView) (base : Base) (h : List Input) (x : Input) (o : Option Refusal) → IsOf core base h → Refuses core x o → o ≡ refusal core.me core.size core.capacity base h x
 unfolding refusal
 refused-is core base h x o of (first, objects, e) =
     let same = objects-known core.me core.size h x first (subst (λ (k : Summary). Objects core.size k x first) of.knows objects) in
-    e
-    ∙ ((λ i. or_else (same i) (no_room core.capacity (of.room i) x (snapshot_len newest (stepped core.me core.known x))))
-    ∙ ap (or_else (objection core.me core.size h x)) (room_asked core.me core.capacity (snapshot_len newest (stepped core.me core.known x)) base h x of.within))
+    e ∙ (go first same ∙ ap (λ p. or_else p (shortage core.me core.capacity base h x)) same)
+  where
+    go : (p : Option Refusal) → p ≡ objection core.me core.size h x
+        → or_else p (no_room core.capacity core.room x (snapshot_len newest (stepped core.me core.known x))) ≡ or_else p (shortage core.me core.capacity base h x)
+    go (Some why) is = refl
+    go None is =
+        let next = ap (λ (k : Summary). stepped core.me k x) of.knows ∙ stepped-known core.me core.size h x of.allowed (objection-allowed core.me core.size h x (sym is)) in
+        (λ i. no_room core.capacity (of.room i) x (snapshot_len newest (next i))) ∙ room_asked core.me core.capacity base h x of.within
 
 leads : (core : CoreView) (base : Base) (h : List Input) (key : Key) → IsOf core base h → leader_of (known_of core.known key) ≡ leader core.me h key
 leads core base h key of = ap (λ (k : Summary). leader_of (known_of k key)) of.knows ∙ leader-known core.me h key
@@ -270,10 +273,12 @@ pub core_past : (m : Member) (opening : Summary) (past : List Input) (s : NodeSt
 core_past m opening past s is known =
     let sum = length-append past s.inputs in
     let within = known.next.within in
+    let f = follows m opening past s.inputs is (free_since m opening (launched_base s) s.inputs known.all) in
     record {
-      knows = (follows m opening past s.inputs is (free_since m opening (launched_base s) s.inputs known.all)).knows;
+      knows = f.knows;
       room = sym (room-moved (launched_base s) past s.inputs);
       within = omega (arith, within, sum);
+      allowed = f.allowed;
     }
 
 pub core_knows : (m : Member) (opening : Summary) (past : List Input) (s : NodeState) (core : CoreView) → IsPast m opening past → IsKnownState m opening s → core ≡ core_in m opening s

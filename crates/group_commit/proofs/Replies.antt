@@ -27,7 +27,8 @@ answers_next member opening own kept [] all one = (one, tt)
 answers_next member opening own kept (t ∷ tickets) all one = (all.0, answers_next member opening own kept tickets all.1 one)
 
 -- a ticket ends
-pub answers_without : (member : Member) (opening : Summary) (own : ℕ) (tickets : List (ℕ × Answered)) → AreAnswers member opening tickets → AreAnswers member opening (remove_entry (nat_eq own) tickets)
+pub answers_without : (member : Member) (opening : Summary) (own : ℕ) (tickets : List (ℕ × Answered)) → AreAnswers member opening tickets
+    → AreAnswers member opening (remove_entry (nat_eq own) tickets)
 unfolding AreAnswers
 answers_without member opening own [] all = tt
 answers_without member opening own (t ∷ tickets) all = by_test (nat_eq own t.0) (answers_without member opening own tickets all.1)
@@ -37,11 +38,13 @@ answers_without member opening own (t ∷ tickets) all = by_test (nat_eq own t.0
     by_test false others = (all.0, others)
 
 -- what is kept for one ticket
-pub answers_at : (member : Member) (opening : Summary) (own : ℕ) (kept : Answered) (tickets : List (ℕ × Answered)) → AreAnswers member opening tickets → lookup (nat_eq own) tickets ≡ Some kept → IsAnswerOf member opening kept
+pub answers_at : (member : Member) (opening : Summary) (own : ℕ) (kept : Answered) (tickets : List (ℕ × Answered)) → AreAnswers member opening tickets → lookup (nat_eq own) tickets ≡ Some kept
+    → IsAnswerOf member opening kept
 unfolding AreAnswers
 answers_at member opening own kept [] all here = none≢some kept here
 answers_at member opening own kept (t ∷ tickets) all here = by_test (nat_eq own t.0) (answers_at member opening own kept tickets all.1) here
   where
-    by_test : (b : Bool) → (lookup (nat_eq own) tickets ≡ Some kept → IsAnswerOf member opening kept) → ◌≡◌ {A = Option Answered} (cond b (Some t.1) (lookup (nat_eq own) tickets)) (Some kept) → IsAnswerOf member opening kept
+    by_test : (b : Bool) → (lookup (nat_eq own) tickets ≡ Some kept → IsAnswerOf member opening kept) → ◌≡◌ {A = Option Answered} (cond b (Some t.1) (lookup (nat_eq own) tickets)) (Some kept)
+        → IsAnswerOf member opening kept
     by_test true others e = subst (IsAnswerOf member opening) (same_Some t.1 kept e) all.0
     by_test false others e = others e

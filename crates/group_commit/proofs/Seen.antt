@@ -95,7 +95,7 @@ lawful_known m opening past s is known =
 
 -- so is that of one that was opened, and of which no checkpoint flies
 pub lawful_seen : (m : Member) (layout epoch : ℕ) (opening : Summary) (past l : List Input) (durable flying : ℕ) → IsPast m opening past
-    → IsKnownLawful (opened_core m opening (first_base layout epoch opening)) l → durable ≤ flying → flying ≤ length l
+    → IsKnownLawful (opened_core m opening (first_base layout epoch opening)) l → durable ≡ flying → flying ≤ length l
     → IsLawfulState m (shifted past (state_with (first_base layout epoch opening) l durable flying None))
 lawful_seen m layout epoch opening past l durable flying is lawful in_order accepted =
     lawful_known m opening past (state_with (first_base layout epoch opening) l durable flying None) is

@@ -190,7 +190,8 @@ settles_next old new landed now waited count i effects settles less split blank 
     }
 
 -- what the node may release, once so many have landed
-pub keeps_next : (me : ℕ) (new : Released) (s : Summary) (l : List Input) (i : ℕ) (x : Input) → IsItem l i x → Keeps new (stepped me (after me s (take i l)) x) → Keeps new (after me s (take (i + 1) l))
+pub keeps_next : (me : ℕ) (new : Released) (s : Summary) (l : List Input) (i : ℕ) (x : Input) → IsItem l i x → Keeps new (stepped me (after me s (take i l)) x)
+    → Keeps new (after me s (take (i + 1) l))
 keeps_next me new s l i x here keeps = subst (Keeps new) (sym (ap (after me s) (take-item l i x here) ∙ after-push me s (take i l) x)) keeps
 
 -- nothing flies behind what landed

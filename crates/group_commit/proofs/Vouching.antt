@@ -1,5 +1,5 @@
 -- What a history gives to a request, where no room is left.
-use Rattle.std.proofs.Common.{◌≡◌, ℕ, Bool, true, false, ◌||◌, suc, ◌+◌, ◌-◌, ◌<◌, ◌≤◌, List, [], ◌∷◌, ◌++◌, length, get_or, take, Option, Some, None, inl, inr, refl, sym, ◌∙◌, ap, append-nil, subst, arith}
+use Rattle.std.proofs.Common.{◌≡◌, ℕ, true, suc, ◌+◌, ◌-◌, ◌<◌, ◌≤◌, List, [], ◌∷◌, ◌++◌, length, get_or, take, Option, Some, None, inl, inr, refl, sym, ◌∙◌, ap, append-nil, subst, arith}
 use Rattle.std.specs.Prelude.{slice_get}
 use Rattle.std.proofs.lemmas.List.{length-append, length-take-le}
 use Rattle.std.proofs.lemmas.Option.{same_Some, slice_get_read, get_or_from_slice_get}
@@ -7,13 +7,13 @@ use Rattle.std.proofs.Math.Seq.{take-add}
 use Rattle.ring_records.specs.declared.input.Input.{Input}
 use Rattle.ring_records.specs.declared.input.Input.TheVariants.{Stand, Take, Acked, Retire}
 use Rattle.ring_records.specs.declared.refusal.Refusal.{Refusal}
-use Rattle.ring_records.specs.declared.refusal.Refusal.TheVariants.{Full}
+use Rattle.ring_records.specs.declared.refusal.Refusal.TheVariants.{Full, Limit}
 use Rattle.ring_records.specs.declared.reply.Reply.{Reply}
 use Rattle.ring_records.specs.declared.reply.Reply.TheVariants as say
 use Rattle.ring_records.specs.declared.request.Request.{Request}
 use Rattle.ring_records.specs.declared.request.Request.TheVariants as ask
 use Rattle.ring_records.specs.declared.summary.Summary.{Summary}
-use Rattle.ring_records.specs.Admission.{cost, fresh, lacks, not_yet, objection, refusal, used}
+use Rattle.ring_records.specs.Admission.{cost, fresh, lacks, objection, refusal, used}
 use Rattle.ring_records.specs.Answer.{Answer, Answered, input_of, if_free, unless, gained, reply, answer}
 use Rattle.ring_records.specs.Known.{Objects, known_of, leader_of, leads_in}
 use Rattle.ring_records.specs.Leader.{leader, latest}
@@ -40,11 +40,7 @@ use Rattle.group_commit.proofs.Costs.{cost_least}
 lacking : (h : List Input) (x : Input) → lacks 0 (used fresh h) x ≡ true
 lacking h x =
     let some = cost_least x in
-    (λ i. not_yet x || lt-ltb 0 (used fresh h + cost x) (omega (arith, some)) i) ∙ either (not_yet x)
-  where
-    either : (b : Bool) → (b || true) ≡ true
-    either true = refl
-    either false = refl
+    lt-ltb 0 (used fresh h + cost x) (omega (arith, some))
 
 refusal-full : (me n : ℕ) (h : List Input) (x : Input) → refusal me n 0 fresh h x ≡ or_else (objection me n h x) (Some Full)
 unfolding refusal
@@ -80,7 +76,8 @@ replies-full core h (ask.Latest group) given knows (led, is, says) =
     (latest_same (leads_in core.known group) (λ term. leader core.me h (record { group = group; term = term })) (λ term. sym (leads term)) led is) (latest_is core.me h group) in
     (says ∙ ap say.Latest same, refl)
 
-pub answer-full : (core : FreeView) (h : List Input) (q : Request) (given : Reply) → core.known ≡ summary core.me h → RepliesFull core q given → ◌≡◌ {A = Answer} (record { reply = given; number = length h }) (answer core.me core.size 0 fresh h q)
+pub answer-full : (core : FreeView) (h : List Input) (q : Request) (given : Reply) → core.known ≡ summary core.me h → RepliesFull core q given
+    → ◌≡◌ {A = Answer} (record { reply = given; number = length h }) (answer core.me core.size 0 fresh h q)
 answer-full core h q given knows replies =
     let full = replies-full core h q given knows replies in
     λ i. record { reply = full.0 i; number = (ap length (sym (append-nil h)) ∙ ap (λ l. length (h ++ l)) (sym full.1)) i }
@@ -118,6 +115,14 @@ slice_get-behind (x ∷ xs) ys k =
 accepts_one : (q : Request) (reply : Reply) (x y : Input) → Accepts q reply x → Accepts q reply y → x ≡ y
 accepts_one q reply x y a b = same_Some x y (sym a.asked ∙ b.asked)
 
+-- a refusal accepts nothing
+no_limit : (x : Input) → acceptance x ≡ say.Refused Limit → ⊥
+unfolding acceptance
+no_limit (Stand key bid) e = cc
+no_limit (Take msg_no msg) e = cc
+no_limit (Acked upto) e = cc
+no_limit (Retire group floor) e = cc
+
 pub vouched-accepted : (m : Member) (first : ℕ) (past : List Input) (s : NodeState) (a : Answered) (x : Input) → first ≡ length past → first ≤ a.answer.number
     → a.answer.number - first ≤ s.durable → Accepts a.question a.answer.reply x
     → IsInput s.inputs (a.answer.number - first) x → IsVouched m first (shifted past s) a
@@ -150,7 +155,10 @@ accepted-vouched m first past s a x is accepts vouched = elim vouched.gives [
         number = omega (arith, count, above);
         there = sym (slice_get-behind past s.inputs (found.before - first)) ∙ (ap (slice_get (past ++ s.inputs)) back ∙ (found.there ∙ ap Some (accepts_one a.question a.answer.reply accepted.1.input x accepted.1.accepts accepts)));
       })
-  | inr same ↦ absurd (no_acceptance m.node m.n (take a.answer.number (past ++ s.inputs)) a.question a.answer x accepts same)
+  | inr full ↦ absurd (elim full.1 [
+    | inl same ↦ no_acceptance m.node m.n (take a.answer.number (past ++ s.inputs)) a.question a.answer x accepts (λ i. record { reply = same i; number = full.0 i })
+    | inr limit ↦ no_limit x (sym accepts.says ∙ limit.0)
+  ])
 ]
 
 -- as many of the first inputs

@@ -1,5 +1,5 @@
 -- What a desk is seen as, what its calls make of it, and why they are refused.
-use Rattle.std.specs.Prelude.{ℕ, ◌≡◌, ◌<◌, ◌^◌, ◌⊎◌, ◌+◌, ◌*◌, Bool, false, ◌&&◌, ◌||◌, if◌then◌else◌, List, [], ◌∷◌, ◌++◌, length, nat_eq, nat_le, nat_lt, Option, Some, None}
+use Rattle.std.specs.Prelude.{ℕ, ◌≡◌, ◌<◌, ◌≤◌, ◌^◌, ◌⊎◌, ◌+◌, ◌*◌, Bool, false, ◌&&◌, ◌||◌, if◌then◌else◌, List, [], ◌∷◌, ◌++◌, length, nat_eq, nat_le, nat_lt, Option, Some, None}
 use Rattle.std.specs.List.{cons_option}
 use Rattle.std.specs.Map.{lookup, remove_entry}
 use Rattle.std.specs.Option.{option_map}
@@ -23,7 +23,7 @@ use Rattle.ring_records.specs.Snapshot.{snapshot_len}
 use Rattle.gated_journal.specs.Reading.{Reading}
 use Rattle.gated_journal.specs.Batch.{Numbered}
 use Rattle.node_core.specs.Core.{CoreView}
-use Rattle.group_commit.specs.Opening.{opened_core}
+use Rattle.group_commit.specs.Opening.{opened_core, waits_for_area}
 use Rattle.group_commit.specs.Past.{IsPast, shifted}
 use Rattle.group_commit.specs.Ticket.{TicketView, ticket_with}
 
@@ -175,6 +175,15 @@ is_due desk =
     nat_lt desk.view.member.capacity (2 * used (launched_base desk.view.state) desk.view.state.inputs)
     && (nat_le (4 * snapshot_len newest (known_all desk)) desk.view.member.capacity
     && nat_lt ((launched_base desk.view.state).epoch + 1) epochs)
+
+-- An input waits that the area in use can't hold, or flies into the next one: no batch is launched, but a checkpoint.
+abbrev pub needs_checkpoint : DeskKept → Bool
+needs_checkpoint desk = waits_for_area (launched_base desk.view.state) desk.view.state.inputs
+
+-- the journal may write the next area, and its snapshot fits the capacity
+pub record MayRenew (desk : DeskKept) : Type 0 where
+  pub left : (launched_base desk.view.state).epoch + 1 < epochs
+  pub fits : snapshot_len newest (known_all desk) ≤ desk.view.member.capacity
 
 -- ---- replies
 

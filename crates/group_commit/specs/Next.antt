@@ -18,7 +18,7 @@ use Rattle.gated_journal.specs.Batch.{Numbered, numbered_with, numbered_by, base
 use Rattle.gated_journal.specs.Frames.{AreSuited}
 use Rattle.gated_journal.specs.Works.{flown_by, summary_by}
 use Rattle.node_core.specs.Core.{IsNodeOf}
-use Rattle.group_commit.specs.Desk.{DeskKept, epochs, is_due, known_all, launch_objection, launched, launched_all}
+use Rattle.group_commit.specs.Desk.{DeskKept, epochs, is_due, known_all, launch_objection, launched, launched_all, needs_checkpoint}
 use Rattle.group_commit.specs.Past.{IsPast, shifted}
 
 -- what is durable of a desk: the area in use, and the inputs since its opening
@@ -71,15 +71,17 @@ pub record IsNextBatch (m : Member) (opening : Summary) (known : Durable) (batch
   pub suits : AreSuited known.base.layout batch.inputs
   pub lawful : FliesLawfully m opening known batch
 
--- It may make the checkpoint, where the node is one of the ring: its summary is that of all, and it is due, since what is
--- taken, with the inputs, is more than half of the capacity, the snapshot takes a quarter at most, and an epoch is left.
+-- It may make the checkpoint, where the node is one of the ring: its summary is that of all, whose snapshot fits the capacity,
+-- and an epoch is left. It is due, since what is taken, with the inputs, is more than half of the capacity, and the snapshot
+-- takes a quarter at most; or the area in use is of an earlier layout, which can't hold all of the inputs.
 pub record IsNextCheckpoint (m : Member) (opening : Summary) (known : Durable) (made : Checkpoint) : Type 0 where
   pub node : (numbered_by made).node ≡ m.node
   pub first : (numbered_by made).first ≡ opening.inputs + length known.inputs
   pub snapshot : (numbered_by made).snapshot ≡ Some (snapshot_len newest (base_by made))
   pub summary : base_by made ≡ after m.node opening (known.inputs ++ (numbered_by made).inputs)
-  pub filled : m.capacity < 2 * (used known.base known.inputs + costs_of (numbered_by made).inputs)
-  pub short : 4 * snapshot_len newest (base_by made) ≤ m.capacity
+  pub why : (m.capacity < 2 * (used known.base known.inputs + costs_of (numbered_by made).inputs)) × (4 * snapshot_len newest (base_by made) ≤ m.capacity)
+      ⊎ (known.base.layout < newest)
+  pub fits : snapshot_len newest (base_by made) ≤ m.capacity
   pub sound : IsNodeOf m.n m.node → IsSound m.n (base_by made)
   pub left : known.base.epoch + 1 < epochs
   pub lawful : FliesLawfully m opening known (numbered_by made)
@@ -95,9 +97,9 @@ IsFitting desk work = IsNext desk.view.member desk.opening (durable_part desk) w
 
 -- ---- by the desk
 
--- its next work is a checkpoint: one is due, and something waits or the desk takes requests
+-- its next work is a checkpoint: one is needed, or is due, and something waits or the desk takes requests
 abbrev pub is_checkpoint_next : DeskKept → Bool
-is_checkpoint_next desk = is_due desk && (nat_lt desk.view.state.durable (length desk.view.state.inputs) || not (desk.view.closed || desk.view.failed))
+is_checkpoint_next desk = needs_checkpoint desk || is_due desk && (nat_lt desk.view.state.durable (length desk.view.state.inputs) || not (desk.view.closed || desk.view.failed))
 
 -- the desk once it flies
 abbrev pub launched_next : DeskKept → DeskKept

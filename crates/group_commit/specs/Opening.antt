@@ -1,5 +1,5 @@
 -- What a desk knows: by the summary that it was opened with, and by its inputs since. That summary may be that of no history.
-use Rattle.std.specs.Prelude.{ℕ, ◌≡◌, ◌+◌, ◌≤◌, ◌||◌, List, [], length, take, slice_get, Option, Some, None, Result, Ok, Err}
+use Rattle.std.specs.Prelude.{ℕ, ◌≡◌, ◌+◌, ◌≤◌, ◌||◌, ◌&&◌, nat_lt, Bool, List, [], length, take, drop, slice_get, Option, Some, None, Result, Ok, Err}
 use Rattle.std.specs.List.{cons_option, list_any}
 use Rattle.ring_records.specs.declared.base.Base.{Base}
 use Rattle.ring_records.specs.declared.candidate.Candidate.{Candidate}
@@ -13,7 +13,7 @@ use Rattle.ring_records.specs.declared.request.Request.{Request}
 use Rattle.ring_records.specs.declared.request.Request.TheVariants as ask
 use Rattle.ring_records.specs.declared.room.Room.{Room}
 use Rattle.ring_records.specs.declared.summary.Summary.{Summary}
-use Rattle.ring_records.specs.Admission.{costs_of, is_retire, room_of}
+use Rattle.ring_records.specs.Admission.{costs_of, is_retire, newest, room_of, IsAllowed}
 use Rattle.ring_records.specs.Answer.{if_free, unless}
 use Rattle.ring_records.specs.Known.{after, leads_in}
 use Rattle.ring_records.specs.Leader.{IsLatest}
@@ -35,6 +35,10 @@ room_past room l = record room { taken = room.taken + costs_of l; waits = room.w
 abbrev pub core_after : CoreView → List Input → CoreView
 core_after core l = record core { known = after core.me core.known l; room = room_past core.room l }
 
+-- behind what the base stands for one of these inputs waits for an area of the newest layout, and the base's is of an earlier one
+abbrev pub waits_for_area : Base → List Input → Bool
+waits_for_area base l = nat_lt base.layout newest && list_any is_retire (drop base.inputs l)
+
 -- it refuses the input for nothing, once it has accepted those before it
 abbrev pub IsOpenTo : CoreView → List Input → Input → Type 0
 IsOpenTo core before x = Refuses (core_after core before) x None
@@ -53,11 +57,12 @@ pub record IsUnlawful (core : CoreView) (inputs : List Input) (why : Refusal) : 
   pub refused_for : Refusal
   pub because : Refuses (core_after core (take index inputs)) input (Some refused_for)
 
--- it knows what the history h of its node says, with room counted from the base
+-- it knows what the history h of its node says, each input of which was allowed, with room counted from the base
 pub record IsOf (core : CoreView) (base : Base) (h : List Input) : Type 0 where
   pub knows : core.known ≡ summary core.me h
   pub room : core.room ≡ room_of base h
   pub within : base.inputs ≤ length h
+  pub allowed : EachAfter (IsAllowed core.me core.size) [] h
 
 -- ---- what a core answers
 

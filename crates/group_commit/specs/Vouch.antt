@@ -10,7 +10,7 @@ use Rattle.ring_records.specs.declared.reply.Reply.TheVariants as say
 use Rattle.ring_records.specs.declared.request.Request.{Request}
 use Rattle.ring_records.specs.declared.request.Request.TheVariants as ask
 use Rattle.ring_records.specs.Admission.{fresh}
-use Rattle.ring_records.specs.Answer.{Answered, input_of, answer}
+use Rattle.ring_records.specs.Answer.{Answer, Answered, input_of, answer}
 use Rattle.ring_records.specs.Known.{Objects, leads_in}
 use Rattle.ring_records.specs.Leader.{IsLatest}
 use Rattle.ring_records.specs.Member.{Member}
@@ -43,14 +43,23 @@ pub record IsAcceptance (inputs : List Input) (a : Answered) : Type 0 where
   pub accepts : Accepts a.question a.answer.reply input
   pub is_input : IsInput inputs a.answer.number input
 
+-- a node that had no room gave this reply, where one of no capacity replies so
+abbrev pub IsGiven : Reply → Reply → Type 0
+IsGiven full reply = (reply ≡ full) ⊎ ((reply ≡ say.Refused refused.Limit) × (full ≡ say.Refused refused.Full))
+
+-- what a node of no capacity with these first inputs answers to the request, so many
+abbrev pub full_answer : Member → List Input → Answered → Answer
+full_answer member inputs a = answer member.node member.n 0 fresh (take a.answer.number inputs) a.question
+
 -- The history gives this answer to the request, and as many inputs as its number are durable: the reply accepts the last
 -- of them, or they give the answer. Of the first inputs, which are summarised, no more is known than what they say together.
--- Room depends on where the journal's area began: so the answer is that of a node without room.
+-- Room depends on where the journal's area began: so the answer is that of a node without room, where a Limit may stand for a
+-- Full, since it is told where no further area may be written.
 pub record IsVouched (member : Member) (first : ℕ) (s : NodeState) (a : Answered) : Type 0 where
   pub durable : a.answer.number ≤ s.durable
   pub from : first ≤ a.answer.number
   pub gives : ((first < a.answer.number) × IsAcceptance s.inputs a)
-      ⊎ (a.answer ≡ answer member.node member.n 0 fresh (take a.answer.number s.inputs) a.question)
+      ⊎ ((a.answer.number ≡ (full_answer member s.inputs a).number) × IsGiven (full_answer member s.inputs a).reply a.answer.reply)
 
 -- ---- what a node without room replies
 

@@ -292,7 +292,8 @@ impl Desk {
     /// The messages of its durable inputs that the successor is not known to have taken, as Carry packets in order:
     /// those from the last durable credit on. They may be released again.
     pub fn window(&self) -> Result<Vec<Packet>, AllocError>
-        ensures packets { IfOk result (λ packets. (past : List Input) → IsPast self.now.view.member self.now.opening past → packets.items ≡ window self.now.view.member.node (durable_in (seen past self.now).state)) }
+        ensures packets { IfOk result (λ packets. (past : List Input) → IsPast self.now.view.member self.now.opening past
+            → packets.items ≡ window self.now.view.member.node (durable_in (seen past self.now).state)) }
         ensures lawful { (past : List Input) → IsPast self.now.view.member self.now.opening past → IsLawfulState self.now.view.member (seen past self.now).state }
     {
         self.outbox.released.window(*self.inputs.allocator())

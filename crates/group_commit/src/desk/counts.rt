@@ -1,12 +1,13 @@
 //! What a desk shows and counts of its inputs.
 ghost use Rattle.std.specs.Prelude.{◌≡◌, ◌+◌, ◌-◌, ◌^◌, ◌<◌, List, length, nat_lt};
+ghost use Rattle.std.specs.FinMap as map;
 ghost use Rattle.ring_records.specs.declared.input.Input.{Input};
 ghost use Rattle.ring_records.specs.Admission.{newest, snapshot_len, used};
 ghost use Rattle.ring_records.specs.Emission.{sent};
 ghost use Rattle.ring_records.specs.History.{taken, credit, stands};
 ghost use Rattle.ring_records.specs.Leader.{leader};
 ghost use Rattle.ring_records.specs.States.{IsNodeState, IsLawfulState, launched_base, shown_in, durable_in};
-ghost use Rattle.ring_records.specs.Summary.{summary};
+ghost use Rattle.ring_records.specs.Summary.{floors_in, summary};
 
 use crate::desk::Desk;
 use ring_records::{Candidate, Key, Shown};
@@ -137,6 +138,13 @@ impl Desk {
         ensures { (past : List Input) → IsPast self.now.view.member self.now.opening past → result ≡ stands (seen past self.now).state.inputs }
     {
         self.core.stands()
+    }
+
+    /// How many groups have a floor.
+    pub fn floor_count(&self) -> usize
+        ensures { (past : List Input) → IsPast self.now.view.member self.now.opening past → result ≡ map.len (floors_in (seen past self.now).state.inputs) }
+    {
+        self.core.floor_count()
     }
 
     /// The length of the snapshot of all its inputs, in bytes: that of the next checkpoint.

@@ -22,7 +22,8 @@ impl Desk {
     /// each floor, in order of group. Where inputs wait it takes the durable ones since its opening again, k of them in
     /// k log k steps.
     pub fn decisions(&self) -> Result<Vec<Notice>, AllocError>
-        ensures { IfOk result (λ told. (past : List Input) → IsPast self.now.view.member self.now.opening past → IsContent self.now.view.member.node (durable_in (seen past self.now).state) told.items) }
+        ensures { IfOk result (λ told. (past : List Input) → IsPast self.now.view.member self.now.opening past
+            → IsContent self.now.view.member.node (durable_in (seen past self.now).state) told.items) }
     {
         let alloc = *self.inputs.allocator();
         let known = self.durable_summary(alloc)?;

@@ -18,14 +18,16 @@ use gated_journal::{Batch, Checkpoint, Flown, Receipt, Spoiled};
 use ring_records::{BATCH_INPUTS, EPOCHS, LAYOUT, Refusal};
 
 impl Desk {
-    ghost use Rattle.group_commit.specs.Desk.{known_all, seen, launched_all, launch_objection, checkpoint_objection, is_due, IsFlying};
+    ghost use Rattle.group_commit.specs.Desk.{known_all, seen, launched_all, launch_objection, checkpoint_objection, is_due, needs_checkpoint, IsFlying, MayRenew};
     ghost use Rattle.group_commit.specs.Past.{IsPast};
     ghost use Rattle.gated_journal.specs.Batch.{shown as batch_shown, is_checkpoint, kept_in, landed as receipted, lost, numbered, numbered_with, numbered_by, base_by};
 
-    /// The first inputs that wait, at most 64, as a batch to be made durable; they fly from then on. `None` exactly
-    /// where none waits. Refused as 9 where the desk has failed, as 12 where a batch or a checkpoint is flying, and as 8.
+    /// The first inputs that wait, at most 64, as a batch to be made durable; they fly from then on. The caller sees that no
+    /// checkpoint is needed. `None` exactly where none waits. Refused as 9 where the desk has failed, as 12 where a batch or a checkpoint is flying, and as 8.
     pub fn launch(&mut self) -> Result<Option<Batch>, Refusal>
-        ensures batch { IfOk result (λ some. IfSome some (λ batch. batch_shown batch ≡ numbered self.old.view.member.node (self.old.opening.inputs + self.old.view.state.durable) (flying_in self.new.view.state))) }
+        requires plain { needs_checkpoint self.old ≡ false }
+        ensures batch { IfOk result (λ some. IfSome some (λ batch. batch_shown batch
+            ≡ numbered self.old.view.member.node (self.old.opening.inputs + self.old.view.state.durable) (flying_in self.new.view.state))) }
         ensures none { IfOk result (λ some. MatchOption some (self.old.view.state.durable ≡ length self.old.view.state.inputs) (λ _. self.old.view.state.durable < length self.old.view.state.inputs)) }
         ensures fits { IfOk result (λ some. IfSome some (λ batch. used self.new.view.state.base (flown_in self.new.view.state) ≤ self.new.view.member.capacity)) }
         ensures suits { IfOk result (λ some. IfSome some (λ batch. AreSuited self.old.view.state.base.layout (batch_shown batch).inputs)) }
@@ -59,7 +61,8 @@ impl Desk {
     pub fn launch_checkpoint(&mut self) -> Result<Checkpoint, Refusal>
         ensures checkpoint { IfOk result (λ made. numbered_by made ≡ numbered_with self.old.view.member.node (self.old.opening.inputs + self.old.view.state.durable) (flying_in self.new.view.state) (Some (snapshot_len newest (known_all self.old)))) }
         ensures summary { IfOk result (λ made. base_by made ≡ known_all self.old) }
-        ensures known { IfOk result (λ made. (past : List Input) → IsPast self.old.view.member self.old.opening past → base_by made ≡ summary self.old.view.member.node (seen past self.old).state.inputs) }
+        ensures known { IfOk result (λ made. (past : List Input) → IsPast self.old.view.member self.old.opening past
+            → base_by made ≡ summary self.old.view.member.node (seen past self.old).state.inputs) }
         ensures sound { IfOk result (λ made. IsNodeOf self.old.view.member.n self.old.view.member.node → IsSound self.old.view.member.n (base_by made)) }
         ensures fits { IfOk result (λ made. snapshot_len newest (base_by made) ≤ self.old.view.member.capacity) }
         ensures epoch { OnOk result (self.old.view.state.base.epoch + 1 < epochs) }
@@ -91,6 +94,15 @@ impl Desk {
             }
             Err(refusal) => Err(refusal),
         }
+    }
+
+    /// Whether an input waits that the area in use can't hold: then no batch is launched, but a checkpoint, which is refused
+    /// neither as 6 nor as 7.
+    pub fn needs_checkpoint(&self) -> bool
+        ensures needs { result ≡ needs_checkpoint self.now }
+        ensures may { result ≡ true → MayRenew self.now }
+    {
+        self.core.needs_area()
     }
 
     /// Whether a checkpoint is worth its device calls: more than half of the capacity is taken, the snapshot of all

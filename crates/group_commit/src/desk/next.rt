@@ -8,8 +8,8 @@ use gated_journal::Work;
 use ring_records::Refusal;
 
 impl Desk {
-    /// What is to be made durable next, which flies from then on: a checkpoint where one is due and the desk takes requests
-    /// or something waits, and else a batch. `None` where nothing is. Refused as 9 where the desk has failed, as 12 where
+    /// What is to be made durable next, which flies from then on: a checkpoint where one is needed, or is due and the desk takes
+    /// requests or something waits, and else a batch. `None` where nothing is. Refused as 9 where the desk has failed, as 12 where
     /// a batch or a checkpoint is flying, and as 8.
     pub fn launch_next(&mut self) -> Result<Option<Work>, Refusal>
         ensures work { IfOk result (λ some. MatchOption some (IsNoWork self.old) (IsWorkOf self.old self.new)) }
@@ -38,6 +38,6 @@ impl Desk {
     fn is_checkpoint_next(&self) -> bool
         ensures { result ≡ is_checkpoint_next self.now }
     {
-        self.due() && (self.waits() || self.is_open())
+        self.needs_checkpoint() || self.due() && (self.waits() || self.is_open())
     }
 }

@@ -1,11 +1,11 @@
 //! Whether a desk's history gives a reply that was released.
-ghost use Rattle.std.specs.Prelude.{◌≡◌, ◌≤◌, List, length, true, false, Option, None, MatchOption, IfOk, IfErr, OnOk};
+ghost use Rattle.std.specs.Prelude.{◌≡◌, ◌≤◌, Decides, List, length, true, false, Option, None, MatchOption, IfOk, IfErr, OnOk};
 ghost use Rattle.ring_records.specs.declared.input.Input.{Input};
 ghost use Rattle.ring_records.specs.declared.summary.Summary.{Summary};
 ghost use Rattle.ring_records.specs.Known.{Objects, after};
 ghost use Rattle.ring_records.specs.Snapshot.{IsSound};
 ghost use Rattle.group_commit.specs.Outbox.{AreFree};
-ghost use Rattle.group_commit.specs.Vouch.{Accepts, IsInput, RepliesFull, refused_or_full};
+ghost use Rattle.group_commit.specs.Vouch.{Accepts, IsGiven, IsInput, RepliesFull, refused_or_full};
 
 use crate::desk::Desk;
 use crate::judge::{acceptance, who_reply};
@@ -24,8 +24,10 @@ impl Desk {
     /// does not know. Refused as 8. No other call looks back: this one takes the inputs since its opening up to input k
     /// again, in k log k steps.
     pub fn vouch(&self, stub: &Stub) -> Result<bool, Refusal>
-        ensures yes { IfOk result (λ b. b ≡ true → (past : List Input) → IsPast self.now.view.member self.now.opening past → IsVouched self.now.view.member self.now.opening.inputs (seen past self.now).state stub.now) }
-        ensures no { IfOk result (λ b. b ≡ false → (past : List Input) → IsPast self.now.view.member self.now.opening past → IsVouched self.now.view.member self.now.opening.inputs (seen past self.now).state stub.now → ⊥) }
+        ensures yes { IfOk result (λ b. b ≡ true → (past : List Input) → IsPast self.now.view.member self.now.opening past
+            → IsVouched self.now.view.member self.now.opening.inputs (seen past self.now).state stub.now) }
+        ensures no { IfOk result (λ b. b ≡ false → (past : List Input) → IsPast self.now.view.member self.now.opening past
+            → IsVouched self.now.view.member self.now.opening.inputs (seen past self.now).state stub.now → ⊥) }
         ensures refusal { IfErr result (λ e. e ≡ Refusal.OutOfMemory) }
     {
         let first = self.base.inputs;
@@ -39,7 +41,7 @@ impl Desk {
         let alloc = *self.inputs.allocator();
         let before = &self.inputs[..since as usize];
         match core_of(alloc, self.node, self.n, &self.base, before) {
-            Ok(core) => Ok(reply_of(&core, &stub.question) == stub.reply),
+            Ok(core) => Ok(is_given(&reply_of(&core, &stub.question), &stub.reply)),
             Err(_) => Err(Refusal::OutOfMemory),
         }
     }
@@ -57,6 +59,28 @@ fn reply_of(core: &FreeCore, question: &Request) -> Reply
         Request::Who(key) => who_reply(core.who(&key)),
         Request::Latest(group) => Reply::Latest(core.latest(&group)),
     }
+}
+
+// Whether this was given by a node that had no room, where another replies so: a Limit may stand for a Full.
+fn is_given(full: &Reply, reply: &Reply) -> bool
+    ensures { Decides result (IsGiven full.now reply.now) }
+{
+    if reply == full {
+        return true;
+    }
+    is_limit(reply) && is_full(full)
+}
+
+fn is_limit(reply: &Reply) -> bool
+    ensures { Decides result (reply.now ≡ Reply.Refused Refusal.Limit) }
+{
+    matches!(reply, Reply::Refused(Refusal::Limit))
+}
+
+fn is_full(reply: &Reply) -> bool
+    ensures { Decides result (reply.now ≡ Reply.Refused Refusal.Full) }
+{
+    matches!(reply, Reply::Refused(Refusal::Full))
 }
 
 // Why it refuses the input: where nothing is known against it, for want of room.

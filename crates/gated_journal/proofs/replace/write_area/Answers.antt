@@ -13,13 +13,15 @@ use Rattle.gated_journal.proofs.replace.write_area.Goals.{then-is_closed, else-i
 
 module _ (header : Member) (r : Reading) (start other offset gate_at first : ℕ) (is_closed : Bool) (first_is : first ≡ first_write is_closed other) where
   -- while the other area is closed
-  close_torn : (disk : Disk) (image : List ℕ) → IsSynced disk → ReadsAt header disk.image r start other offset gate_at → IsGate is_closed other disk.image → IsTorn disk.stable (disk.ranges ++ (first, 1) ∷ []) image
+  close_torn : (disk : Disk) (image : List ℕ) → IsSynced disk → ReadsAt header disk.image r start other offset gate_at → IsGate is_closed other disk.image
+      → IsTorn disk.stable (disk.ranges ++ (first, 1) ∷ []) image
       → ReadsAt header image r start other offset gate_at
   close_torn disk image is reads gate torn =
       closing is_closed header disk.image image r start other offset gate_at reads gate (subst (λ (f : ℕ). Changes f 1 disk.image image) first_is (torn_changes first 1 disk image is torn))
 
   -- once it is
-  close_put : (old new : List ℕ) → ReadsAt header old r start other offset gate_at → IsGate is_closed other old → Puts first (0 ∷ []) old new → ReadsAt header new r start other offset gate_at × IsGate true other new
+  close_put : (old new : List ℕ) → ReadsAt header old r start other offset gate_at → IsGate is_closed other old → Puts first (0 ∷ []) old new
+      → ReadsAt header new r start other offset gate_at × IsGate true other new
   close_put old new reads gate put =
       let here : Puts (first_write is_closed other) (0 ∷ []) old new = subst (λ (f : ℕ). Puts f (0 ∷ []) old new) first_is put in
       (closing is_closed header old new r start other offset gate_at reads gate (puts_changes (first_write is_closed other) (0 ∷ []) old new here), closed_then is_closed other old new gate here)

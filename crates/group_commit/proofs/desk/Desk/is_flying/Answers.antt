@@ -12,7 +12,8 @@ same : (a b : Input) → Decides ((derived.TheImpl.eq-value).it a b) (a ≡ b)
 same a b = search rules
 
 -- whether the inputs are those that fly
-told : (c : goal.After-eq-then-first-durable) → Decides c.eq-then-first-durable.result (c.args.flown.now.inputs.items ≡ take (c.self.inside.flying - c.self.inside.durable) (drop c.self.inside.durable c.self.inside.inputs.items))
+told : (c : goal.After-eq-then-first-durable)
+    → Decides c.eq-then-first-durable.result (c.args.flown.now.inputs.items ≡ take (c.self.inside.flying - c.self.inside.durable) (drop c.self.inside.durable c.self.inside.inputs.items))
 told c =
     let d = c.self.inside in
     slice_eq-Decides same _ _ _ (c.eq-then-first-durable.ensures

@@ -1,29 +1,34 @@
-use Rattle.std.proofs.Common.{rules, ◌≡◌, ◌<◌, ◌≤◌, ◌+◌, ◌-◌, ◌∙◌, List, length, take, drop, None, ap, subst, arith}
+use Rattle.std.proofs.Common.{rules, ◌≡◌, ℕ, ◌<◌, ◌≤◌, ◌+◌, ◌-◌, ◌∙◌, false, List, length, take, drop, Option, None, sym, ap, subst, arith}
 use Rattle.ring_records.specs.declared.input.Input.{Input}
-use Rattle.std.specs.List.{list_any}
-use Rattle.ring_records.specs.Admission.{not_yet}
 use Rattle.ring_records.specs.Known.{after}
 use Rattle.ring_records.specs.States.{launched_base}
 use Rattle.gated_journal.specs.Batch.{Numbered, numbered}
-use Rattle.gated_journal.proofs.Suited.{plain-all}
-use Rattle.group_commit.specs.Desk.{DeskKept}
+use Rattle.gated_journal.specs.Frames.{AreSuited}
+use Rattle.group_commit.specs.Desk.{DeskKept, needs_checkpoint}
 use Rattle.group_commit.specs.Kept.{state_with}
+use Rattle.group_commit.specs.declared.desk.Desk.TheInside.{Inside}
+use Rattle.group_commit.specs.Opening.{waits_for_area}
 use Rattle.group_commit.specs.Outbox.{Holds}
 use Rattle.group_commit.specs.Since.{IsLawfulSince}
-use Rattle.group_commit.proofs.Inside.{member_in, area_in, state_in}
+use Rattle.group_commit.proofs.Inside.{member_in, area_in, shown_by}
 use Rattle.group_commit.proofs.Landing.{part, part-length}
 use Rattle.group_commit.proofs.Settling.{holds_still}
-use Rattle.group_commit.proofs.Since.{known_launched, none_early, core_launched, first_fit}
+use Rattle.group_commit.proofs.Since.{known_launched, core_launched, first_fit, plain_suited}
 use Rattle.group_commit.proofs.desk.Desk.launch.Goals as goal
+
+-- no input waits for another area, where none is pending
+plain_in : (d : Inside) (now : DeskKept) → shown_by d ≡ now → needs_checkpoint now ≡ false → d.pending ≡ None → waits_for_area (area_in d) d.inputs.items ≡ false
+plain_in d now view plain none =
+    ap (λ (o : Option ℕ). waits_for_area (launched_base (state_with (area_in d) d.inputs.items d.durable d.flying o)) d.inputs.items) (sym none) ∙ (ap needs_checkpoint view ∙ plain)
 
 pub returns-in-Ok-clause-suits : goal.returns-in-Ok-clause-suits
 returns-in-Ok-clause-suits c =
     let d = c.self.inside in
-    plain-all _ _ (
-    ap (λ (n : Numbered). list_any not_yet n.inputs) c.in-Ok.ensures.batch
-    ∙ ap (λ (l : List Input). list_any not_yet (take (c.min-end.result - d.durable) (drop d.durable l))) c.deref.ensures.value
-    ∙ none_early (member_in d) d.base (launched_base (state_in d)) d.durable (c.min-end.result - d.durable) d.inputs.items c.self.invariant.state.all
-    )
+    let none : d.pending ≡ None = search rules in
+    let layout : d.layout ≡ c.args.self.now.view.state.base.layout = ap (λ (v : DeskKept). v.view.state.base.layout) c.self.view_is in
+    let inputs = ap (λ (n : Numbered). n.inputs) c.in-Ok.ensures.batch ∙ ap (λ (l : List Input). take (c.min-end.result - d.durable) (drop d.durable l)) c.deref.ensures.value in
+    subst (λ (p : ℕ × List Input). AreSuited p.0 p.1) (λ i. (layout i, sym inputs i))
+    (plain_suited (area_in d) d.durable (c.min-end.result - d.durable) d.inputs.items c.self.invariant.state.counts.based (plain_in d c.args.self.now c.self.view_is c.requires.plain none))
 
 pub invariant_of-self : goal.invariant_of-self
 invariant_of-self c =
@@ -38,7 +43,7 @@ invariant_of-self c =
     record {
       sound = i.sound;
       knows = i.knows ∙ core_launched (member_in d) d.base (area_in d) d.inputs.items d.durable d.flying c.min-end.result d.pending none;
-      state = known_launched (member_in d) d.base (area_in d) d.inputs.items d.durable d.flying c.min-end.result d.pending none low within i.state;
+      state = known_launched (member_in d) d.base (area_in d) d.inputs.items d.durable d.flying c.min-end.result d.pending none low within (plain_in d c.args.self.now c.self.view_is c.requires.plain none) i.state;
       holds = subst (λ k. Holds d.node c.prepare.new.outbox s waits k) count (c.in-Ok.ensures.holds d.node s waits (holds_still d.node _ d.outbox _ _ i.holds));
       given = i.given;
       answers = i.answers;
@@ -60,4 +65,4 @@ returns-in-Ok-clause-fits c =
     let within : c.min-end.result ≤ length d.inputs.items = search rules in
     let based = i.state.counts.based in
     first_fit (member_in d) d.base (area_in d) c.min-end.result d.inputs.items
-    (subst (λ b. IsLawfulSince (member_in d) d.base b d.inputs.items) (ap (λ o. launched_base (state_with (area_in d) d.inputs.items d.durable d.flying o)) none) i.state.all) (omega (arith, some, based)) within
+    (subst (λ b. IsLawfulSince (member_in d) d.base b d.inputs.items) (ap (λ o. launched_base (state_with (area_in d) d.inputs.items d.durable d.flying o)) none) i.state.all) (plain_in d c.args.self.now c.self.view_is c.requires.plain none) (omega (arith, some, based)) within

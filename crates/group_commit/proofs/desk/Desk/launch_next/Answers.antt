@@ -1,4 +1,6 @@
-use Rattle.std.proofs.Common.{◌≡◌, ◌+◌, ◌*◌, ◌≤◌, ◌++◌, drop, Some, refl, sym, ap, ◌∙◌, subst, arith}
+use Rattle.std.proofs.Common.{◌≡◌, ◌+◌, ◌*◌, ◌<◌, ◌≤◌, ◌++◌, drop, Some, inl, inr, refl, sym, ap, ◌∙◌, subst, arith}
+use Rattle.std.specs.Prelude.{nat_lt}
+use Rattle.std.proofs.lemmas.Bool.{and_parts, ltb-true}
 use Rattle.std.proofs.lemmas.List.{take-append-drop}
 use Rattle.ring_records.specs.declared.base.Base.{Base}
 use Rattle.ring_records.specs.declared.summary.Summary.{Summary}
@@ -11,8 +13,9 @@ use Rattle.ring_records.proofs.States.{idle-none, idle-base}
 use Rattle.gated_journal.specs.Batch.{Numbered, numbered, numbered_by, numbered_with}
 use Rattle.group_commit.specs.Desk.{DeskKept, known_all}
 use Rattle.group_commit.specs.Next.{FliesLawfully, durable_part}
-use Rattle.group_commit.proofs.Checkpoints.{due, idle_free, may_launch}
+use Rattle.group_commit.proofs.Checkpoints.{idle_free, may_launch, next_refused, next_why}
 use Rattle.group_commit.proofs.Costs.{durable_costs, durable_count, flown_costs, launched_counts, not_durable}
+use Rattle.group_commit.proofs.Since.{may_renew}
 use Rattle.group_commit.proofs.Flies.{flies_all, flies_batch}
 use Rattle.group_commit.proofs.desk.Desk.launch_next.Goals as goal
 
@@ -25,18 +28,20 @@ returns-in-Ok-clause-fits c =
     let made = c.in-Ok.made in
     let counts = c.accepted-accepted.ensures.counts in
     let idle = (may_launch desk launch.free).idle in
-    let is = due desk (sym c.is_checkpoint_next.ensures ∙ c.if-is_checkpoint_next.true) in
+    let is = next_why desk (sym c.is_checkpoint_next.ensures ∙ c.if-is_checkpoint_next.true) in
     let inputs : (numbered_by made).inputs ≡ drop s.durable s.inputs = ap (λ (n : Numbered). n.inputs) launch.checkpoint ∙ (ap (λ (d : DeskKept). flying_in d.view.state) launch.next ∙ not_durable s) in
     record {
       node = ap (λ (n : Numbered). n.node) launch.checkpoint;
       first = ap (λ (n : Numbered). n.first) launch.checkpoint ∙ ap (λ k. desk.opening.inputs + k) (sym (durable_count s counts));
       snapshot = refl;
       summary = launch.summary ∙ ap (after m.node desk.opening) (sym (take-append-drop s.durable s.inputs) ∙ ap (λ l. durable_in s ++ l) (sym inputs));
-      filled = (
-          let base : used (launched_base s) s.inputs ≡ used s.base s.inputs = ap (λ (b : Base). used b s.inputs) (idle-base s idle) in
-          omega (arith, is.filled, base, durable_costs s counts, ap costs_of inputs)
-          );
-      short = subst (λ (b : Summary). 4 * snapshot_len newest b ≤ m.capacity) (sym launch.summary) is.short;
+      why = elim is [
+        | inl due ↦ (
+            let base : used (launched_base s) s.inputs ≡ used s.base s.inputs = ap (λ (b : Base). used b s.inputs) (idle-base s idle) in
+            inl (omega (arith, due.filled, base, durable_costs s counts, ap costs_of inputs), subst (λ (b : Summary). 4 * snapshot_len newest b ≤ m.capacity) (sym launch.summary) due.short))
+        | inr needs ↦ inr (subst (λ (b : Base). b.layout < newest) (idle-base s idle) (ltb-true (launched_base s).layout newest (and_parts (nat_lt (launched_base s).layout newest) _ needs).0))
+      ];
+      fits = launch.fits;
       sound = launch.sound;
       left = launch.epoch;
       lawful = (
@@ -71,3 +76,7 @@ returns-in-Ok-Some-clause-fits c =
           (flies_batch desk (idle_free desk.view launch.free) counts c.accepted-accepted.ensures.lawful desk.view.member.node from)
           );
     }
+
+pub returns-in-Err-clause-refusal : goal.returns-in-Err-clause-refusal
+returns-in-Err-clause-refusal c =
+    next_refused c.args.self.now c.in-Err.refusal (sym c.is_checkpoint_next.ensures ∙ c.if-is_checkpoint_next.true) (may_renew c.args.self.now c.accepted-accepted.ensures.known) c.in-Err.ensures.refusal

@@ -1,19 +1,19 @@
 use Rattle.std.proofs.Common.{rules, ◌≡◌, ◌≤◌, ◌-◌, ◌++◌, ◌∙◌, inl, inr, List, length, take, ap, sym, subst, arith}
 use Rattle.ring_records.specs.declared.input.Input.{Input}
+use Rattle.ring_records.specs.declared.reply.Reply.{Reply}
 use Rattle.ring_records.specs.Answer.{Answer, Answered, answer}
 use Rattle.ring_records.specs.Admission.{fresh}
 use Rattle.ring_records.specs.Known.{after}
 use Rattle.ring_records.specs.States.{launched_base}
-use Rattle.ring_records.proofs.Replies.{same_reply}
 use Rattle.group_commit.specs.Desk.{DeskKept, seen}
 use Rattle.group_commit.specs.Past.{IsPast, shifted}
-use Rattle.group_commit.specs.Vouch.{IsVouched}
+use Rattle.group_commit.specs.Vouch.{IsGiven, IsVouched}
 use Rattle.group_commit.proofs.Inside.{member_in, state_in}
 use Rattle.group_commit.proofs.Landing.{free-first}
 use Rattle.group_commit.proofs.Past.{free_since, follows-take}
 use Rattle.group_commit.proofs.Vouching.{vouched-accepted, accepted-vouched, answer-past}
 use Rattle.group_commit.proofs.desk.Desk.vouch.Goals as goal
-use Rattle.group_commit.proofs.desk.Desk.vouch.Goals.{After-eq}
+use Rattle.group_commit.proofs.desk.Desk.vouch.Goals.{After-is_given}
 
 pub returns-in-Some-clause-yes : goal.returns-in-Some-clause-yes
 returns-in-Some-clause-yes c = λ e.
@@ -44,7 +44,7 @@ core_of-requires-clause-free c =
     (free_since (member_in d) d.base (launched_base (state_in d)) d.inputs.items c.self.invariant.state.all))
 
 -- what a node without room replies, where this is its past
-given : (c : After-eq) (past : List Input) → IsPast (member_in c.self.inside) c.self.inside.base past → c.self.inside.base.inputs ≤ c.stub.inside.number
+given : (c : After-is_given) (past : List Input) → IsPast (member_in c.self.inside) c.self.inside.base past → c.self.inside.base.inputs ≤ c.stub.inside.number
     → c.stub.inside.number - c.self.inside.base.inputs ≤ length c.self.inside.inputs.items
     → ◌≡◌ {A = Answer} (record { reply = c.reply_of.result; number = c.stub.inside.number })
     (answer c.self.inside.node c.self.inside.n 0 fresh (take c.stub.inside.number (past ++ c.self.inside.inputs.items)) c.stub.inside.question)
@@ -66,13 +66,15 @@ returns-in-Ok-clause-yes c = λ e.
     let durable : s.number - d.base.inputs ≤ d.durable = search rules in
     let flown = c.self.invariant.state.counts.durable in
     let all = c.self.invariant.state.counts.flying in
-    let same : c.reply_of.result ≡ s.reply = (same_reply c.reply_of.result s.reply).0 (search rules) in
+    let given_by : IsGiven c.reply_of.result s.reply = search rules in
     subst (λ (v : DeskKept). (past : List Input) → IsPast v.view.member v.opening past → IsVouched v.view.member v.opening.inputs (seen past v).state c.args.stub.now) c.self.view_is (λ past is.
     let first : d.base.inputs ≡ length past = λ i. (is.summed i).inputs in
     subst (λ (a : Answered). IsVouched m d.base.inputs (shifted past state) a) c.stub.view_is (record {
       durable = omega (arith, from, durable, first);
       from = from;
-      gives = inr ((λ i. record { reply = sym same i; number = s.number }) ∙ given (goal.at.returns-in-Ok-clause-yes c).After-eq past is from (omega (arith, durable, flown, all)));
+      gives = (
+          let full = given (goal.at.returns-in-Ok-clause-yes c).After-is_given past is from (omega (arith, durable, flown, all)) in
+          inr (ap (λ (a : Answer). a.number) full, subst (λ (r : Reply). IsGiven r s.reply) (ap (λ (a : Answer). a.reply) full) given_by));
     }))
 
 pub returns-in-Ok-clause-no : goal.returns-in-Ok-clause-no
@@ -89,8 +91,8 @@ returns-in-Ok-clause-no c = λ e.
     let here = subst (λ (a : Answered). IsVouched m d.base.inputs (shifted past state) a) (sym c.stub.view_is) vouched in
     elim here.gives [
       | inl accepted ↦ search rules
-      | inr same ↦ (
-          let told = given (goal.at.returns-in-Ok-clause-no c).After-eq past is from (omega (arith, durable, flown, all)) in
-          let yes = (same_reply c.reply_of.result s.reply).1 (λ i. ((told ∙ sym same) i).reply) in
+      | inr full ↦ (
+          let told = given (goal.at.returns-in-Ok-clause-no c).After-is_given past is from (omega (arith, durable, flown, all)) in
+          let yes : IsGiven c.reply_of.result s.reply = subst (λ (r : Reply). IsGiven r s.reply) (sym (ap (λ (a : Answer). a.reply) told)) full.1 in
           search rules)
     ])
