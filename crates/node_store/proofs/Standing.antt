@@ -1,5 +1,5 @@
 -- What keeps a node and its journal together.
-use Rattle.std.proofs.Common.{◌≡◌, ◌-◌, ◌≤◌, inl, ℕ, Bool, false, List, [], ◌++◌, inl, inr, ⊎_elim, length, take, refl, sym, ◌∙◌, ap, subst, arith, length-append}
+use Rattle.std.proofs.Common.{◌≡◌, ◌⊎◌, ◌-◌, ◌≤◌, ℕ, Bool, true, false, List, [], ◌++◌, inl, inr, ⊎_elim, length, take, refl, sym, ◌∙◌, ap, subst, arith, length-append}
 use Rattle.std.specs.List.{cons_option}
 use Rattle.std.proofs.lemmas.List.{take_all, take-append-le}
 use Rattle.disk_model.specs.declared.device.Device.{Ghosts}
@@ -20,16 +20,22 @@ use Rattle.gated_journal.specs.Areas.{AllReadAs, ReadsAsOneOf}
 use Rattle.gated_journal.specs.Journal.{device_of, member_of, len_of, room_of, layout_of, epoch_of, is_spoiled}
 use Rattle.gated_journal.specs.Reading.{Reading, count_in, fresh_area, used_in}
 use Rattle.node_core.specs.Core.{IsNodeOf}
-use Rattle.group_commit.specs.Desk.{DeskKept, DeskView, core_of, new_desk, seen, IsSubmitted}
+use Rattle.group_commit.specs.Desk.{DeskKept, DeskView, core_of, launched, new_desk, seen, IsSubmitted}
 use Rattle.group_commit.specs.Opening.{IsKnownLawful}
 use Rattle.group_commit.specs.Past.{IsPast}
 use Rattle.group_commit.specs.Ticket.{TicketView}
 use Rattle.group_commit.proofs.Seen.{submitted_seen, lawful_seen}
 use Rattle.node_store.specs.Standing.{ReadsOnce, Stands}
-use Rattle.node_store.specs.State.{Holds, MayBeLeft, durable_held, flown_held}
+use Rattle.node_store.specs.State.{Holds, MayBeLeft, durable_held, flown_held, until}
 use Rattle.node_store.proofs.Left.{may_be_left}
 
 -- ---- what a stop leaves
+
+-- where a flush was refused: nothing was launched, or what was flies for good
+pub left_then : {Same : Type 0} (old new : DeskKept) → ((new ≡ old) × Same) ⊎ (new ≡ record old { view = record (launched old.view) { failed = true } })
+    → (image : List ℕ) → MayBeLeft (until old new) image → MayBeLeft new image
+left_then old new (inl same) image may = subst (λ (d : DeskKept). MayBeLeft (until old d) image → MayBeLeft d image) (sym same.0) (λ m. m) may
+left_then old new (inr gone) image may = subst (λ (d : DeskKept). MayBeLeft (until old d) image → MayBeLeft d image) (sym gone) (λ m. record { read = m.read; left = m.left }) may
 
 module _ {D : Type 0} {g : Ghosts D} (desk : DeskKept) (journal : Journal D g) (stands : Stands desk journal) where
   -- what every image reads as that a stop may leave

@@ -30,6 +30,7 @@ use ring_records::{Input, NodeNo, Refusal, Reply, Request};
 use std::alloc::Global;
 
 mod checkpoints;
+mod flushes;
 mod rounds;
 
 /// A node whose inputs outlive it: a desk, and the journal that makes what it accepts durable.
@@ -159,7 +160,8 @@ impl<D: Device> Node<D> {
     pub fn submit(&mut self, question: Request) -> Result<Ticket, Refusal>
         ensures submitted { IfOk result (λ ticket. IsSubmitted question (desk_of self.old) (desk_of self.new) (shown ticket)) }
         ensures free { OnOk result (objection (desk_of self.old).view question ≡ None) }
-        ensures refusal { IfErr result (λ refusal. (objection (desk_of self.old).view question ≡ Some refusal) ⊎ ((objection (desk_of self.old).view question ≡ None) × (refusal ≡ Refusal.OutOfMemory))) }
+        ensures refusal { IfErr result (λ refusal. (objection (desk_of self.old).view question ≡ Some refusal)
+            ⊎ ((objection (desk_of self.old).view question ≡ None) × (refusal ≡ Refusal.OutOfMemory))) }
         ensures same { OnErr result (desk_of self.new ≡ desk_of self.old) }
         ensures device { device_of self.new ≡ device_of self.old }
     {
@@ -246,43 +248,6 @@ impl<D: Device> Node<D> {
         ensures { result ≡ length (desk_of self.now).view.tickets }
     {
         self.desk.open_tickets()
-    }
-
-    /// Makes the first inputs that wait durable, at most 64, and tells what they let the node release; nothing where
-    /// none waits. Refused as 9 where it has failed, as 15, after which it has failed, and as 8.
-    pub fn flush(&mut self) -> Result<Landed, Refusal>
-        ensures next { OnOk result (desk_of self.new ≡ record (desk_of self.old) { view = landed (launched (desk_of self.old).view) }) }
-        ensures count { IfOk result (λ l. l.count ≡ (launched (desk_of self.old).view).state.flying - (state_of self.old).durable) }
-        ensures packets { IfOk result (λ l. (past : List Input) → IsPast (member_of self.old) (desk_of self.old).opening past
-            → l.packets.items ≡ packets (member_of self.old).node (durable_in (seen past (desk_of self.old)).state) (flying_in (launched (seen past (desk_of self.old))).state)) }
-        ensures notices { IfOk result (λ l. (past : List Input) → IsPast (member_of self.old) (desk_of self.old).opening past
-            → l.notices.items ≡ notices (member_of self.old).node (durable_in (seen past (desk_of self.old)).state) (flying_in (launched (seen past (desk_of self.old))).state)) }
-        ensures durable { OnOk result (AllReadAs (member_of self.old) (D.disk (device_of self.new)) (durable_held (desk_of self.new))) }
-        ensures works { OnOk result ((desk_of self.old).view.failed ≡ false) }
-
-        // Refused as 9 where it had failed, and nowhere else; as 15, the device failed, and the batch flies for good.
-        ensures failed { IfErr result (λ why. (desk_of self.old).view.failed ≡ true → why ≡ Refusal.Failed) }
-        ensures cause { IfErr result (λ why. (desk_of self.old).view.failed ≡ false → IsFault (D.count (device_of self.old)) (D.count (device_of self.new)) why ⊎ (why ≡ Refusal.OutOfMemory)) }
-        ensures fault { IfErr result (λ why. IsFault (D.count (device_of self.old)) (D.count (device_of self.new)) why
-            → desk_of self.new ≡ record (desk_of self.old) { view = record (launched (desk_of self.old).view) { failed = true } }) }
-        ensures same { IfErr result (λ why. (why ≡ Refusal.Failed) ⊎ (why ≡ Refusal.OutOfMemory) → (desk_of self.new ≡ desk_of self.old) × (device_of self.new ≡ device_of self.old)) }
-        ensures in_reach { Reaches (D.reach (device_of self.old)) (device_size (member_of self.old).capacity)
-            → IfErr result (λ why. (why ≡ Refusal.Failed) ⊎ (why ≡ Refusal.OutOfMemory)) }
-
-        // A stop at any moment leaves the inputs that were durable, or also those that flew then.
-        ensures any_moment { LeavesOnly D.clock D.left_since (device_of self.old) (device_of self.new) (MayBeLeft (until (desk_of self.old) (desk_of self.new))) }
-        ensures stays { desk_of self.new ≡ record (desk_of self.old) { view = record (desk_of self.old).view { state = state_of self.new; failed = (desk_of self.new).view.failed } } }
-        ensures device { OnOk result (D.count (device_of self.new) ≡ D.count (device_of self.old)) }
-        ensures reach { D.reach (device_of self.new) ≡ D.reach (device_of self.old) }
-    {
-        match self.desk.launch() {
-            Err(refusal) => Err(refusal),
-            Ok(None) => Ok(Landed::new(self.alloc)),
-            Ok(Some(batch)) => match settle(&mut self.desk, &mut self.journal, Work::Batch(batch)) {
-                Ok(landed) => Ok(landed),
-                Err(failures) => Err(Refusal::Device(failures)),
-            },
-        }
     }
 
     /// The desk and the journal of a node that takes requests and has no open ticket, for threads of their own: the

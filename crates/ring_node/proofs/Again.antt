@@ -11,7 +11,7 @@ use Rattle.ring_records.specs.declared.input.Input.{Input}
 use Rattle.ring_records.specs.declared.input.Input.TheVariants.{Stand, Take, Acked, Retire}
 use Rattle.ring_records.specs.declared.msg.Msg.{Msg}
 use Rattle.ring_records.specs.declared.summary.Summary.{Summary}
-use Rattle.ring_records.specs.Admission.{IsAdmitted, IsInTurn, IsLawful}
+use Rattle.ring_records.specs.Admission.{newest, IsAdmitted, IsInTurn, IsLawful}
 use Rattle.ring_records.specs.States.{NodeState, IsLawfulState, launched_base, opened, left_by}
 use Rattle.ring_records.specs.States as states
 use Rattle.ring_records.specs.Emission.{sent, emit}
@@ -32,7 +32,7 @@ use Rattle.ring_node.specs.Messages.{message_in, carried_in}
 use Rattle.ring_node.specs.Node.{NodeView, launched_as, left, reopened, durable_in, is_credited}
 use Rattle.ring_node.specs.Open.{serial_of}
 use Rattle.ring_node.specs.Held.{HeldView, view_with, IsServed, IsWhole, IsRingNode, MayStop}
-use Rattle.ring_node.proofs.Flights.{inputs_stay, durable_same, lawful_flying, flying_shown, gains, told}
+use Rattle.ring_node.proofs.Flights.{base_same, inputs_stay, durable_same, launched_newest, lawful_flying, flying_shown, gains, told}
 use Rattle.ring_node.proofs.Queue.{serials_shown}
 use Rattle.ring_node.proofs.Ring.{by_name, opens}
 use Rattle.ring_node.proofs.Serving.{reopens_shown, base_stays}
@@ -113,7 +113,8 @@ credit_more me n capacity b h (Acked upto) admitted =
     omega arith
 credit_more me n capacity b h (Retire group floor) admitted = let more = credit-push h (Retire group floor) in omega arith
 
-credit_next : (me n capacity : ℕ) (b : Base) (h : List Input) (x : Input) → IsAdmitted me n capacity b h x → ((k : ℕ) → credit (take k h) ≤ credit h) → (k : ℕ) → credit (take k (h ++ x ∷ [])) ≤ credit (h ++ x ∷ [])
+credit_next : (me n capacity : ℕ) (b : Base) (h : List Input) (x : Input) → IsAdmitted me n capacity b h x → ((k : ℕ) → credit (take k h) ≤ credit h) → (k : ℕ)
+    → credit (take k (h ++ x ∷ [])) ≤ credit (h ++ x ∷ [])
 credit_next me n capacity b h x admitted before k = go (nat_lt (length h) k) refl
   where
     go : (behind : Bool) → nat_lt (length h) k ≡ behind → credit (take k (h ++ x ∷ [])) ≤ credit (h ++ x ∷ [])
@@ -144,6 +145,11 @@ credit_front me n capacity b h lawful = along (IsAdmitted me n capacity b) (λ l
 opened_is : (s : NodeState) (keep : Bool) → left_by keep s ≡ opened (left_by keep s).base (left_by keep s).inputs
 opened_is s true = refl
 opened_is s false = refl
+
+-- the area in use has the newest layout, whichever it is, where that in use has it and the one that flies
+newest_left : (s : NodeState) (keep : Bool) → s.base.layout ≡ newest → (launched_base s).layout ≡ newest → (left_by keep s).base.layout ≡ newest
+newest_left s true here flies = flies
+newest_left s false here flies = here
 
 -- the node was opened again with what a stop left of this state, and this is its past
 pub record IsAgain (m : Member) (s : NodeState) (past : List Input) (desk : DeskKept) : Type 0 where
@@ -197,10 +203,11 @@ module _ (m : Member) (s : NodeState) (past : List Input) (desk : DeskKept) (aga
 
   -- and has no open ticket
   module _ (queue : List HeldView) (spent : queue ≡ []) where
-    pub left_again : (reach : Reach) (messages : List Msg) → is_header m ≡ true → Reaches reach (device_size m.capacity) → messages ≡ sent m.node t.inputs → IsRingNode m past desk reach queue messages
-    left_again reach messages range reaches sends =
+    pub left_again : (reach : Reach) (messages : List Msg) → is_header m ≡ true → t.base.layout ≡ newest → Reaches reach (device_size m.capacity)
+        → messages ≡ sent m.node t.inputs → IsRingNode m past desk reach queue messages
+    left_again reach messages range layout reaches sends =
         by_name m _ _ _ _ past desk reach queue messages left_behind (left_seen ∙ ap (opened_view m again.run) (opened_is s again.keep)) refl spent refl
-        (opens m again.run t.base t.inputs reach messages range (subst (IsLawfulState m) (opened_is s again.keep) lawful_left) reaches sends)
+        (opens m again.run t.base t.inputs reach messages range (subst (IsLawfulState m) (opened_is s again.keep) lawful_left) layout reaches sends)
 
     pub left_shown : (v : NodeView) → v.member ≡ m → view_with (length past) (seen past desk) queue ≡ reopened t v
     left_shown v node_is = (λ i. view_with (past_long i) (left_seen i) (spent i)) ∙ reopens_shown m again.run t v node_is
@@ -231,7 +238,7 @@ module _ (m : Member) (desk : DeskView) (reach : Reach) (queue : List HeldView) 
     -- its durable inputs sent what they sent before
     pub crashed_again : (reach' : Reach) → Reaches reach' (device_size m.capacity) → IsRingNode m past' desk' reach' queue' messages
     crashed_again reach' reaches =
-        left_again m desk.state past' desk' again lawful_here queue' spent reach' messages here.range reaches (here.sends ∙ ap (λ (t : NodeState). sent m.node t.inputs) (sym (either again.keep)))
+        left_again m desk.state past' desk' again lawful_here queue' spent reach' messages here.range (newest_left desk.state again.keep here.served.layout (ap (λ (b : Base). b.layout) (base_stays desk.state here.served.none) ∙ here.served.layout)) reaches (here.sends ∙ ap (λ (t : NodeState). sent m.node t.inputs) (sym (either again.keep)))
 
     pub crashed_shown : (dropped : ℕ) → view_with (length past') (seen past' desk') queue' ≡ reopened (opened (v dropped).base (durable_in (v dropped))) (v dropped)
     crashed_shown dropped = left_shown m desk.state past' desk' again lawful_here queue' spent (v dropped) here.is ∙ ap (λ (t : NodeState). reopened t (v dropped)) (either again.keep)
@@ -241,6 +248,10 @@ module _ (m : Member) (desk : DeskView) (reach : Reach) (queue : List HeldView) 
   module _ (flight : Flight) (past' : List Input) (desk' : DeskKept) (again : IsAgain m (launched_as flight m.node desk.state) past' desk') where
     abbrev s : NodeState
     s = launched_as flight m.node desk.state
+
+    -- the area in use has the newest layout, and the one that flies
+    newest_s : (left_by again.keep s).base.layout ≡ newest
+    newest_s = newest_left s again.keep (ap (λ (b : Base). b.layout) (base_same flight m.node desk.state) ∙ here.served.layout) (launched_newest flight m.node desk.state here.served.none here.served.layout)
 
     lawful_s : IsLawfulState m s
     lawful_s = lawful_flying m desk reach queue messages here flight
@@ -287,9 +298,10 @@ module _ (m : Member) (desk : DeskView) (reach : Reach) (queue : List HeldView) 
     credits_few credited = let few = few_credits credited in let same = ap credit inputs_are in omega arith
 
     module _ (queue' : List HeldView) (spent : queue' ≡ []) where
-      pub stopped_again : (reach' : Reach) (messages' : List Msg) → Reaches reach' (device_size m.capacity) → messages' ≡ sent desk'.view.member.node (seen past' desk').state.inputs → IsRingNode m past' desk' reach' queue' messages'
+      pub stopped_again : (reach' : Reach) (messages' : List Msg) → Reaches reach' (device_size m.capacity) → messages' ≡ sent desk'.view.member.node (seen past' desk').state.inputs
+          → IsRingNode m past' desk' reach' queue' messages'
       stopped_again reach' messages' reaches sends =
-          left_again m s past' desk' again lawful_s queue' spent reach' messages' here.range reaches (sends ∙ λ i. sent (node_is i) (inputs_are i))
+          left_again m s past' desk' again lawful_s queue' spent reach' messages' here.range newest_s reaches (sends ∙ λ i. sent (node_is i) (inputs_are i))
 
       -- its counts tell whether it has what flew
       pub stopped_shown : (dropped : ℕ) (kept : Bool) → MayStop flight (v dropped) → kept ≡ gains (v dropped) (seen past' desk').state
@@ -302,5 +314,6 @@ module _ (m : Member) (desk : DeskView) (reach : Reach) (queue : List HeldView) 
           ∙ (ap (λ (t : NodeState). reopened t u) flew ∙ ap (λ b. reopened (left flight b u) u) (sym same_one))
 
 -- the numbers of the open tickets
-pub lost_serials : (desk : DeskView) (reach : Reach) (queue : List HeldView) → IsServed desk reach queue → filter_map (λ (h : HeldView). h.serial) queue ≡ filter_map serial_of (view_with 0 desk queue).held
+pub lost_serials : (desk : DeskView) (reach : Reach) (queue : List HeldView) → IsServed desk reach queue
+    → filter_map (λ (h : HeldView). h.serial) queue ≡ filter_map serial_of (view_with 0 desk queue).held
 lost_serials desk reach queue here = serials_shown desk.member.node desk.run 0 _ desk.tickets queue here.held

@@ -22,7 +22,8 @@ use Rattle.ring_records.specs.Summary.{summary}
 use Rattle.ring_records.proofs.Lists.{none≢some}
 use Rattle.ring_records.proofs.States.{lawful-launched, lawful-launched_all, lawful-landed}
 use Rattle.gated_journal.specs.Unread.{IsFault}
-use Rattle.group_commit.specs.Desk.{DeskView, DeskKept, known_all, seen, landed, checkpoint_objection}
+use Rattle.group_commit.specs.Desk.{DeskView, DeskKept, known_all, seen, landed, checkpoint_objection, needs_checkpoint}
+use Rattle.group_commit.specs.Opening.{waits_for_area}
 use Rattle.group_commit.specs.Past.{IsPast, moved}
 use Rattle.group_commit.proofs.Seen.{launched_seen, landed_seen, lawful_launched_all}
 use Rattle.node_store.specs.Recovery.{IsUnbegun}
@@ -33,7 +34,8 @@ use Rattle.ring_node.specs.Messages.{carried_in}
 use Rattle.ring_node.specs.Node.{NodeView, state_of, checkpoint_refusal, launched_as, flying, made_durable, left}
 use Rattle.ring_node.proofs.Ring.{me_within}
 use Rattle.ring_node.proofs.Sending.{sent-flying, flying-few, inside-front}
-use Rattle.ring_node.proofs.Serving.{is_idle_state}
+use Rattle.ring_node.proofs.Serving.{base_stays, is_idle_state}
+use Rattle.ring_node.proofs.Waits.{holds_all}
 
 -- ---- the state with what flies
 
@@ -44,6 +46,10 @@ inputs_stay Checkpoint me s = refl
 pub durable_stays : (flight : Flight) (me : ℕ) (s : NodeState) → (launched_as flight me s).durable ≡ s.durable
 durable_stays Batch me s = refl
 durable_stays Checkpoint me s = refl
+
+pub base_same : (flight : Flight) (me : ℕ) (s : NodeState) → (launched_as flight me s).base ≡ s.base
+base_same Batch me s = refl
+base_same Checkpoint me s = refl
 
 pub lawful_flies : (flight : Flight) (m : Member) (s : NodeState) → is_idle s ≡ true → IsLawfulState m s → IsLawfulState m (launched_as flight m.node s)
 lawful_flies Batch m s idle lawful = lawful-launched m s idle lawful
@@ -95,10 +101,20 @@ limit_or_full false false = tt
 pub no_memory : (m : Member) (s : NodeState) → IfSome (checkpoint_refusal m s) (λ why. why ≡ refused.OutOfMemory → ⊥)
 no_memory m s = limit_or_full (nat_lt m.capacity (snapshot_len newest (summary m.node s.inputs))) (nat_le epochs (s.base.epoch + 1))
 
+-- where the area in use is of the newest layout, and no checkpoint flies, none is needed
+plain : (d : DeskKept) → d.view.state.base.layout ≡ newest → d.view.state.checkpoint ≡ None → needs_checkpoint d ≡ false
+plain d layout none =
+    ap (λ (b : Base). waits_for_area b d.view.state.inputs) (base_stays d.view.state none) ∙ holds_all d.view.state.base d.view.state.inputs layout
+
+-- what flies has the newest layout
+pub launched_newest : (flight : Flight) (me : ℕ) (s : NodeState) → s.checkpoint ≡ None → s.base.layout ≡ newest → (launched_base (launched_as flight me s)).layout ≡ newest
+launched_newest Batch me s none layout = ap (λ (b : Base). b.layout) (base_stays s none) ∙ layout
+launched_newest Checkpoint me s none layout = refl
+
 -- a node at work launches what it may begin
 pub may_fly : (flight : Flight) (past : List Input) (d : DeskKept) (reach : Reach) (queue : List HeldView) → IsPast d.view.member d.opening past → IsServed (seen past d) reach queue
     → MayBegin flight d.view.member (state_of (view_with 0 (seen past d) queue)) → MayFly flight d
-may_fly Batch past d reach queue is here may = here.works
+may_fly Batch past d reach queue is here may = (here.works, plain d here.layout (unmoved (length past) d.view.state.checkpoint here.none))
 may_fly Checkpoint past d reach queue is here may = objection_is past d reach queue is here ∙ may
 
 pub may_begin : (flight : Flight) (v : NodeView) → MayStop flight v → MayBegin flight v.member (state_of v)
@@ -174,6 +190,7 @@ module _ (desk : DeskView) (reach : Reach) (queue : List HeldView) (here : IsSer
     idle = refl;
     none = refl;
     lawful = lawful-landed desk.member s lawful_served;
+    layout = launched_newest flight desk.member.node desk.state here.none here.layout;
     held = subst (λ (l : List Input). AreHeld desk.member.node desk.run 0 (length l) desk.tickets queue) (sym (inputs_stay flight desk.member.node desk.state)) here.held;
     reaches = here.reaches;
   }

@@ -22,7 +22,8 @@ held_none node run top = omega arith
 
 module _ (node run : ℕ) where
   -- a ticket more
-  pub held_more : (from to until own : ℕ) (a : Answered) (h : HeldView) (ts : List (ℕ × Answered)) (hs : List HeldView) → h.ticket ≡ ticket_with node run own a → to ≤ a.answer.number → a.answer.number ≤ until
+  pub held_more : (from to until own : ℕ) (a : Answered) (h : HeldView) (ts : List (ℕ × Answered)) (hs : List HeldView) → h.ticket ≡ ticket_with node run own a → to ≤ a.answer.number
+      → a.answer.number ≤ until
       → AreHeld node run from to ts hs → AreHeld node run from until (ts ++ (own, a) ∷ []) (hs ++ h ∷ [])
   unfolding AreHeld
   held_more from to until own a h [] [] is low high held = record { is = is; no_fewer = omega (arith, held, low); others = high }
@@ -90,7 +91,8 @@ module _ (node run : ℕ) where
   as_many from to (t ∷ ts) (h ∷ hs) held = ap (λ k. suc k) (as_many t.1.answer.number to ts hs held.others)
 
   -- the numbers that the ring gave
-  pub serials_shown : (from to : ℕ) (ts : List (ℕ × Answered)) (hs : List HeldView) → AreHeld node run from to ts hs → filter_map (λ (h : HeldView). h.serial) hs ≡ filter_map serial_of (shown_with ts hs)
+  pub serials_shown : (from to : ℕ) (ts : List (ℕ × Answered)) (hs : List HeldView) → AreHeld node run from to ts hs
+      → filter_map (λ (h : HeldView). h.serial) hs ≡ filter_map serial_of (shown_with ts hs)
   unfolding AreHeld shown_with
   serials_shown from to [] [] held = refl
   serials_shown from to [] (h ∷ hs) held = absurd held
@@ -112,7 +114,8 @@ module _ (node run : ℕ) where
       ∙ all_sealed durable t.1.answer.number to ts hs (omega (arith, lt, more)) held.others
 
   -- where the first is not due, none is
-  pub none_due : (durable from to : ℕ) (ts : List (ℕ × Answered)) (hs : List HeldView) → MatchFirst (λ h. durable < h.ticket.number) hs → AreHeld node run from to ts hs → filter (is_due durable) (shown_with ts hs) ≡ []
+  pub none_due : (durable from to : ℕ) (ts : List (ℕ × Answered)) (hs : List HeldView) → MatchFirst (λ h. durable < h.ticket.number) hs → AreHeld node run from to ts hs
+      → filter (is_due durable) (shown_with ts hs) ≡ []
   unfolding AreHeld shown_with
   none_due durable from to [] hs lt held = refl
   none_due durable from to (t ∷ ts) [] lt held = absurd held

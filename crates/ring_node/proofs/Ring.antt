@@ -7,6 +7,7 @@ use Rattle.ring_records.specs.declared.base.Base.{Base}
 use Rattle.ring_records.specs.declared.input.Input.{Input}
 use Rattle.ring_records.specs.declared.msg.Msg.{Msg}
 use Rattle.ring_records.specs.declared.request.Request.{Request}
+use Rattle.ring_records.specs.Admission.{newest}
 use Rattle.ring_records.specs.States.{IsLawfulState, gained_by, opened}
 use Rattle.ring_records.specs.Emission.{sent}
 use Rattle.ring_records.specs.Member.{Member}
@@ -32,19 +33,21 @@ by_name m view reach queue messages past desk reach' queue' messages' behind k r
 }
 
 -- a desk with the same opening has the same past
-pub same_past : (past : List Input) (old new : DeskKept) → new.opening ≡ old.opening → new.view.member ≡ old.view.member → IsPast old.view.member old.opening past → IsPast new.view.member new.opening past
+pub same_past : (past : List Input) (old new : DeskKept) → new.opening ≡ old.opening → new.view.member ≡ old.view.member → IsPast old.view.member old.opening past
+    → IsPast new.view.member new.opening past
 same_past past old new opening member_is is = subst (λ (a : Member × Summary). IsPast a.0 a.1 past) (λ i. (sym member_is i, sym opening i)) is
 
-pub keeps_past : (past : List Input) (old new : DeskKept) (view : DeskView) → new ≡ record old { view = view } → view.member ≡ old.view.member → IsPast old.view.member old.opening past → IsPast new.view.member new.opening past
+pub keeps_past : (past : List Input) (old new : DeskKept) (view : DeskView) → new ≡ record old { view = view } → view.member ≡ old.view.member → IsPast old.view.member old.opening past
+    → IsPast new.view.member new.opening past
 keeps_past past old new view next member_is is = same_past past old new (ap (λ (d : DeskKept). d.opening) next) (ap (λ (d : DeskKept). d.view.member) next ∙ member_is) is
 
 -- a node that is opened with these inputs, all of them durable, and the messages that they sent
-pub opens : (m : Member) (run : ℕ) (base : Base) (inputs : List Input) (reach : Reach) (messages : List Msg) → is_header m ≡ true → IsLawfulState m (opened base inputs) → Reaches reach (device_size m.capacity)
-    → messages ≡ sent m.node inputs → IsWhole m (opened_view m run (opened base inputs)) reach [] messages
-opens m run base inputs reach messages range lawful reaches sends = record {
+pub opens : (m : Member) (run : ℕ) (base : Base) (inputs : List Input) (reach : Reach) (messages : List Msg) → is_header m ≡ true → IsLawfulState m (opened base inputs)
+    → base.layout ≡ newest → Reaches reach (device_size m.capacity) → messages ≡ sent m.node inputs → IsWhole m (opened_view m run (opened base inputs)) reach [] messages
+opens m run base inputs reach messages range lawful layout reaches sends = record {
   range = range;
   is = refl;
-  served = serving.starts m run base inputs reach lawful reaches;
+  served = serving.starts m run base inputs reach lawful layout reaches;
   sends = sends ∙ ap (sent m.node) (sym (take_all (length inputs) inputs (omega arith)));
   inside = subst (AreInside m.n) (sym sends) (inside m.node m.n m.capacity base (me_within m range) inputs lawful.all);
 }

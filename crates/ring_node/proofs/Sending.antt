@@ -117,7 +117,8 @@ module _ (me : ℕ) (s : NodeState) (low : s.durable ≤ s.flying) where
 
 -- ---- candidates
 
-named : (me n : ℕ) (h : List Input) (x : Input) (msg : Msg) → me ≤ n → IsInTurn me n h x → ((candidate_of msg).node ≡ me) ⊎ ((t : Msg) × (message_of x ≡ Some t) × (candidate_of t ≡ candidate_of msg)) → (candidate_of msg).node ≤ n
+named : (me n : ℕ) (h : List Input) (x : Input) (msg : Msg) → me ≤ n → IsInTurn me n h x
+    → ((candidate_of msg).node ≡ me) ⊎ ((t : Msg) × (message_of x ≡ Some t) × (candidate_of t ≡ candidate_of msg)) → (candidate_of msg).node ≤ n
 unfolding IsInTurn message_of
 named me n h x msg le turn (inl own) = omega (arith, own, le)
 named me n h (Stand key bid) msg le turn (inr other) = none≢some other.0 other.1
@@ -151,7 +152,8 @@ unfolding IsLawful
 inside-front me n capacity k b le h lawful = inside me n capacity b le (take k h) (EachAfter-take (IsAdmitted me n capacity b) k h lawful)
 
 -- so is the candidate of the message that is found at this place, if there is one
-pub inside-at : {R : Type 0} (now : R → Msg) (n : ℕ) (messages : List Msg) (at : ℕ) (found : Option R) → is_some found ≡ nat_lt at (length messages) → IfSome found (λ x. now x ≡ get_or messages at (now x)) → AreInside n messages
+pub inside-at : {R : Type 0} (now : R → Msg) (n : ℕ) (messages : List Msg) (at : ℕ) (found : Option R) → is_some found ≡ nat_lt at (length messages)
+    → IfSome found (λ x. now x ≡ get_or messages at (now x)) → AreInside n messages
     → IfSome (option_map now found) (λ msg. (candidate_of msg).node ≤ n)
 inside-at now n messages at None within is all = tt
 inside-at now n messages at (Some x) within is all = all (now x) (at, ltb-true at (length messages) (sym within), sym is)

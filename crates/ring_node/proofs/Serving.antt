@@ -8,7 +8,7 @@ use Rattle.std.proofs.lemmas.Bool.{eq-eqb}
 use Rattle.ring_records.specs.declared.input.Input.{Input}
 use Rattle.ring_records.specs.declared.request.Request.{Request}
 use Rattle.ring_records.specs.declared.base.Base.{Base}
-use Rattle.ring_records.specs.Admission.{fresh, IsLawful}
+use Rattle.ring_records.specs.Admission.{fresh, newest, IsLawful}
 use Rattle.disk_model.specs.Disk.{Reach, Reaches}
 use Rattle.disk_model.specs.FuseDevice.{inner_of, is_idle_device}
 use Rattle.disk_model.specs.MemDevice.{disk_of, limit_of}
@@ -54,14 +54,15 @@ image_within device idle =
     let long = length-take (inner_of device).held.size (inner_of device).held.bytes.items in
     idle_reaches device (inner_of device) _ idle refl (omega arith)
 
-pub starts : (m : Member) (run : ℕ) (base : Base) (inputs : List Input) (reach : Reach) → IsLawfulState m (opened base inputs) → Reaches reach (device_size m.capacity)
+pub starts : (m : Member) (run : ℕ) (base : Base) (inputs : List Input) (reach : Reach) → IsLawfulState m (opened base inputs) → base.layout ≡ newest → Reaches reach (device_size m.capacity)
     → IsServed (opened_view m run (opened base inputs)) reach []
-starts m run base inputs reach lawful reaches = record {
+starts m run base inputs reach lawful layout reaches = record {
   takes = refl;
   works = refl;
   idle = refl;
   none = refl;
   lawful = lawful;
+  layout = layout;
   held = held_none m.node run (length inputs);
   reaches = reaches;
 }
@@ -166,6 +167,7 @@ module _ (desk : DeskView) (reach : Reach) (queue : List HeldView) (here : IsSer
           idle = here.idle;
           none = here.none;
           lawful = lawful-asked m s q here.lawful;
+          layout = here.layout;
           held = held_more m.node desk.run 0 (length s.inputs) (length (s.inputs ++ more)) desk.issued a h desk.tickets queue is (omega arith) (omega arith) here.held;
           reaches = here.reaches;
         }
@@ -199,6 +201,7 @@ module _ (desk : DeskView) (reach : Reach) (queue : List HeldView) (here : IsSer
       idle = here.idle;
       none = here.none;
       lawful = here.lawful;
+      layout = here.layout;
       held = others_held desk 0 (length desk.state.inputs) queue here.held h rest is;
       reaches = here.reaches;
     }

@@ -8,13 +8,14 @@ use Rattle.disk_model.specs.declared.memory.MemDevice.{MemDevice}
 use Rattle.ring_records.specs.declared.msg.Msg.{Msg}
 use Rattle.ring_records.specs.declared.input.Input.{Input}
 use Rattle.ring_records.specs.Answer.{Answered}
+use Rattle.ring_records.specs.Admission.{newest}
 use Rattle.ring_records.specs.States.{NodeState, IsLawfulState, durable_in}
 use Rattle.ring_records.specs.Emission.{sent}
 use Rattle.ring_records.specs.Message.{candidate_of}
 use Rattle.std.specs.List.{Contains}
 use Rattle.ring_records.specs.Member.{Member}
 use Rattle.gated_journal.specs.Reading.{device_size, is_header}
-use Rattle.group_commit.specs.Desk.{DeskView, DeskKept, seen, launched, launched_all, checkpoint_objection}
+use Rattle.group_commit.specs.Desk.{DeskView, DeskKept, seen, launched, launched_all, checkpoint_objection, needs_checkpoint}
 use Rattle.group_commit.specs.Past.{IsPast}
 use Rattle.group_commit.specs.Ticket.{TicketView, ticket_with}
 use Rattle.ring_node.specs.Node.{NodeView, state_of, checkpoint_refusal, launched_as}
@@ -69,14 +70,15 @@ view_with dropped desk queue = record {
 abbrev pub reach_of : FuseDevice MemDevice → Reach
 reach_of device = fuse.reach_of memory.reach_of device
 
--- It takes requests, nothing flies, its state is lawful, its open tickets are these, and its device is reliable to the
--- journal's end: no fuse was armed.
+-- It takes requests, nothing flies, its state is lawful, the area in use is of the newest layout, its open tickets are
+-- these, and its device is reliable to the journal's end: no fuse was armed.
 pub record IsServed (desk : DeskView) (reach : Reach) (queue : List HeldView) : Type 0 where
   pub takes : desk.closed ≡ false
   pub works : desk.failed ≡ false
   pub idle : desk.state.flying ≡ desk.state.durable
   pub none : desk.state.checkpoint ≡ None
   pub lawful : IsLawfulState desk.member desk.state
+  pub layout : desk.state.base.layout ≡ newest
   pub held : AreHeld desk.member.node desk.run 0 (length desk.state.inputs) desk.tickets queue
   pub reaches : Reaches reach (device_size desk.member.capacity)
 
@@ -119,7 +121,7 @@ launched_by Checkpoint desk = launched_all desk
 
 -- want of memory aside the desk launches this
 abbrev pub MayFly : Flight → DeskKept → Type 0
-MayFly Batch desk = desk.view.failed ≡ false
+MayFly Batch desk = (desk.view.failed ≡ false) × (needs_checkpoint desk ≡ false)
 MayFly Checkpoint desk = checkpoint_objection desk ≡ None
 
 -- so does the desk of a node in this state

@@ -2,6 +2,7 @@
 ghost use Rattle.std.specs.Prelude.{◌≡◌, ◌-◌, ◌*◌, ◌≤◌, ℕ, List, true, None, length, IfOk, IfErr, OnOk, OnErr};
 ghost use Rattle.disk_model.specs.Disk.{Reaches};
 ghost use Rattle.ring_records.specs.declared.input.Input.{Input};
+ghost use Rattle.ring_records.specs.Admission.{newest};
 ghost use Rattle.ring_records.specs.Release.{packets};
 ghost use Rattle.ring_records.specs.States.{durable_in, flying_in};
 ghost use Rattle.gated_journal.specs.Reading.{device_size};
@@ -47,10 +48,11 @@ impl RingNode {
     }
 }
 
-// How many inputs of the desk are not durable yet: a thirteenth of its capacity's bytes at most, where no checkpoint flies.
+// How many inputs of the desk are not durable yet: a thirteenth of its capacity's bytes at most, where no checkpoint flies
+// and the area in use is of the newest layout.
 fn waiting(desk: &Desk) -> u64
     ensures value { result ≡ length desk.now.view.state.inputs - desk.now.view.state.durable }
-    ensures few { desk.now.view.state.checkpoint ≡ None → 13 * result ≤ desk.now.view.member.capacity }
+    ensures few { desk.now.view.state.checkpoint ≡ None → desk.now.view.state.base.layout ≡ newest → 13 * result ≤ desk.now.view.member.capacity }
 {
     desk.accepted() - desk.durable()
 }
@@ -63,14 +65,15 @@ pub(crate) fn launch(node: &mut Node<Disk>, flight: Flight) -> Result<Landed, Re
     ensures count { IfOk result (λ l. l.count ≡ (launched_by flight (nodes.desk_of node.old)).state.flying - (nodes.state_of node.old).durable) }
     ensures packets { IfOk result (λ l. (past : List Input) → IsPast (nodes.member_of node.old) (nodes.desk_of node.old).opening past → l.packets.items
         ≡ packets (nodes.member_of node.old).node (durable_in (seen past (nodes.desk_of node.old)).state) (flying_in (launched_as flight (nodes.member_of node.old).node (seen past (nodes.desk_of node.old)).state))) }
-    ensures failed { IfErr result (λ why. (why ≡ Refusal.OutOfMemory → ⊥) → nodes.desk_of node.new ≡ record (nodes.desk_of node.old) { view = record (launched_by flight (nodes.desk_of node.old)) { failed = true } }) }
+    ensures failed { IfErr result (λ why. (why ≡ Refusal.OutOfMemory → ⊥) → nodes.desk_of node.new
+        ≡ record (nodes.desk_of node.old) { view = record (launched_by flight (nodes.desk_of node.old)) { failed = true } }) }
     ensures same { IfErr result (λ why. why ≡ Refusal.OutOfMemory → (nodes.desk_of node.new ≡ nodes.desk_of node.old) × (nodes.device_of node.new ≡ nodes.device_of node.old)) }
     ensures in_reach { Reaches (reach_of (nodes.device_of node.old)) (device_size (nodes.member_of node.old).capacity) → IfErr result (λ why. why ≡ Refusal.OutOfMemory) }
     ensures stays { nodes.desk_of node.new ≡ record (nodes.desk_of node.old) { view = record (nodes.desk_of node.old).view { state = nodes.state_of node.new; failed = (nodes.desk_of node.new).view.failed } } }
     ensures reach { reach_of (nodes.device_of node.new) ≡ reach_of (nodes.device_of node.old) }
 {
     match flight {
-        Flight::Batch => node.flush(),
+        Flight::Batch => node.flush_batch(),
         Flight::Checkpoint => node.checkpoint(),
     }
 }

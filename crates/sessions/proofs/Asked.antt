@@ -1,6 +1,6 @@
 -- A node that is asked, and flushed.
 use Rattle.std.proofs.Common.{ℕ, ◌≡◌, ◌+◌, ◌≤◌, ◌^◌, Bool, true, false, ◌||◌, nat_le, if◌then◌else◌, [], ◌++◌, length, Option, Some, None, inl, inr, refl, sym, ap, ◌∙◌, arith}
-use Rattle.std.specs.Prelude.{is_some}
+use Rattle.std.specs.Prelude.{is_some, ◌&&◌, cond, min, nat_lt}
 use Rattle.std.specs.List.{cons_option}
 use Rattle.std.proofs.lemmas.Bool.{leb-true}
 use Rattle.std.proofs.lemmas.List.{length-append}
@@ -8,10 +8,12 @@ use Rattle.std.proofs.lemmas.Option.{same_Some}
 use Rattle.ring_records.specs.declared.input.Input.{Input}
 use Rattle.ring_records.specs.declared.refusal.Refusal.{Refusal}
 use Rattle.ring_records.specs.declared.refusal.Refusal.TheVariants.{BadNumber, Failed, Limit}
-use Rattle.group_commit.specs.Desk.{DeskKept, kept_at, IsHere, IsSealed}
+use Rattle.group_commit.specs.Desk.{DeskKept, kept_at, landed, launched, launched_all, needs_checkpoint, next_area, IsHere, IsSealed}
 use Rattle.group_commit.specs.Ticket.{TicketView}
 use Rattle.ring_records.specs.Answer.{Answered}
-use Rattle.ring_records.specs.States.{NodeState}
+use Rattle.ring_records.specs.States.{NodeState, is_idle, opened}
+use Rattle.ring_records.proofs.States.{idle-base}
+use Rattle.node_store.specs.State.{next_flight, settled_base}
 
 one_more : (o : Option Input) → length (cons_option o []) ≤ 1
 one_more None = omega arith
@@ -24,6 +26,27 @@ one_waits s t o e durable =
     let inputs = ap (λ v. length v.inputs) e in
     let same = ap (λ v. v.durable) e in
     omega (arith, one, inputs, same, durable, length-append s.inputs (cons_option o []))
+
+-- a flush leaves nothing waiting where one input waits
+pub settles : (desk : DeskKept) → length desk.view.state.inputs ≤ desk.view.state.durable + 1 → is_idle desk.view.state ≡ true → nat_lt desk.view.state.durable (length desk.view.state.inputs) ≡ true
+    → landed (next_flight desk) ≡ record desk.view { state = opened (settled_base desk) desk.view.state.inputs }
+settles desk one idle waits = go (needs_checkpoint desk) (nat_lt desk.view.state.durable (length desk.view.state.inputs)) waits
+  where
+    all : min (desk.view.state.durable + 64) (length desk.view.state.inputs) ≡ length desk.view.state.inputs
+    all = omega (arith, one)
+
+    go : (needs some : Bool) → some ≡ true
+        → landed (cond needs (launched_all desk) (launched desk.view)) ≡ record desk.view { state = opened (cond (some && needs) (next_area desk) desk.view.state.base) desk.view.state.inputs }
+    go needs false e = absurd cc
+    go true true e = refl
+    go false true e = λ i. record desk.view { state = record (opened (idle-base desk.view.state idle i) desk.view.state.inputs) { durable = all i; flying = all i } }
+
+pub inputs_stay : (desk : DeskKept) → (next_flight desk).state.inputs ≡ desk.view.state.inputs
+inputs_stay desk = go (needs_checkpoint desk)
+  where
+    go : (needs : Bool) → (cond needs (launched_all desk) (launched desk.view)).state.inputs ≡ desk.view.state.inputs
+    go true = refl
+    go false = refl
 
 -- no number of a ticket is left
 no_number : (b : Bool) (why : Refusal) → (if b then Some Limit else None) ≡ Some why → (why ≡ Limit) × (b ≡ true)

@@ -37,7 +37,8 @@ begin A s old held = record {
 }
 
 -- a line more that was read
-pub read_more : (old left now : Option (List ℕ)) (lines : List (List ℕ)) (line : List ℕ) → Consumes old left (heard lines) → Consumes left now (line ++ end_of line) → Consumes old now (heard (lines ++ line ∷ []))
+pub read_more : (old left now : Option (List ℕ)) (lines : List (List ℕ)) (line : List ℕ) → Consumes old left (heard lines) → Consumes left now (line ++ end_of line)
+    → Consumes old now (heard (lines ++ line ∷ []))
 read_more old left now lines line before more = subst (Consumes old now) (sym (heard-push lines line)) (Consumes-trans old left now (heard lines) (line ++ end_of line) before more)
 
 -- a line more that was read, and its answer written

@@ -3,9 +3,10 @@ use Rattle.std.specs.Prelude.{◌≡◌, ◌⊎◌, ◌≤◌, ◌^◌, ℕ, Boo
 use Rattle.std.specs.List.{cons_option}
 use Rattle.disk_model.specs.declared.device.Device.{Ghosts}
 use Rattle.gated_journal.specs.Unread.{IsFault}
-use Rattle.group_commit.specs.Desk.{answered, seen}
+use Rattle.group_commit.specs.Desk.{DeskKept, answered, seen}
 use Rattle.group_commit.specs.Past.{IsPast}
 use Rattle.node_store.specs.Node.{desk_of, member_of, state_of, device_of}
+use Rattle.node_store.specs.State.{settled_base}
 use Rattle.node_store.specs.declared.node.Node.{Node}
 use Rattle.ring_records.specs.States.{gained_by, opened}
 use Rattle.ring_records.specs.declared.input.Input.{Input}
@@ -40,6 +41,10 @@ module _ {D : Type 0} {g : Ghosts D} where
   abbrev pub gained_with : List Input → SoloService D g → Request → List Input
   gained_with past s q = gained_by (member_of s.node) (seen past (desk_of s.node)).state q
 
+  -- the desk of its node with these inputs behind what it accepted
+  abbrev pub asked : SoloService D g → List Input → DeskKept
+  asked s more = record (desk_of s.node) { view = record (desk_of s.node).view { state = record (state_of s.node) { inputs = history s ++ more } } }
+
   -- it is the same opening of the same node
   pub record IsSame (s t : SoloService D g) : Type 0 where
     pub member : member_of t.node ≡ member_of s.node
@@ -47,12 +52,12 @@ module _ {D : Type 0} {g : Ghosts D} where
     pub run : (desk_of t.node).view.run ≡ (desk_of s.node).view.run
 
   -- The node's reply, which rests on durable inputs alone: the node accepted what the question asks it to accept, where that
-  -- is admitted, and nothing waits.
+  -- is admitted, and nothing waits. The area in use is that in which its flush left the input.
   pub record IsReplied (s : SoloService D g) (q : Request) (reply : Reply) (t : SoloService D g) : Type 0 where
     pub works : has_failed s ≡ false
     pub more : Option Input
     pub is : (past : List Input) → HasPast s past → (reply ≡ reply_to past s q) × (cons_option more [] ≡ gained_with past s q)
-    pub next : state_of t.node ≡ opened (state_of s.node).base (history s ++ cons_option more [])
+    pub next : state_of t.node ≡ opened (settled_base (asked s (cons_option more []))) (history s ++ cons_option more [])
     pub same : IsSame s t
     pub goes_on : has_failed t ≡ false
 

@@ -6,18 +6,22 @@ use Rattle.ring_node.proofs.Flights.{both_err, short_alone, fault_alone}
 use Rattle.ring_node.proofs.Serving.{no_fault}
 use Rattle.ring_node.proofs.flight.launch.Goals as goal
 
+-- the area in use is of the newest layout, which holds each input
+pub flush_batch-requires : goal.flush_batch-requires
+flush_batch-requires c = record { plain = (subst (λ (f : Flight). MayFly f c.args.node.now.desk) c.in-Batch.is c.requires.free).1 }
+
 -- Within its reach the device does not fail, so it is memory that was missing. Else it failed, and what was launched flies.
 pub returns-in-Batch : goal.returns-in-Batch
 returns-in-Batch c =
     let works = subst (λ (f : Flight). MayFly f c.args.node.now.desk) c.in-Batch.is c.requires.free in
-    let called = c.flush.ensures in
+    let called = c.flush_batch.ensures in
     rw c.in-Batch.is (record {
       next = called.next;
       count = called.count;
       packets = called.packets;
-      failed = both_err c.flush.result _ _ _ (λ why cause fault not_short. ⊎_elim fault (λ short. absurd (not_short short)) (cause works)) called.cause called.fault;
-      same = IfErr-weaker c.flush.result _ _ (λ why same short. same (inr short)) called.same;
-      in_reach = λ reaches. both_err c.flush.result _ _ _ (λ why cause within. ⊎_elim (λ failed. no_fault (cause works) failed) (λ short. short) within) called.cause (called.in_reach reaches);
+      failed = both_err c.flush_batch.result _ _ _ (λ why cause fault not_short. ⊎_elim fault (λ short. absurd (not_short short)) (cause works.0)) called.cause called.fault;
+      same = IfErr-weaker c.flush_batch.result _ _ (λ why same short. same (inr short)) called.same;
+      in_reach = λ reaches. both_err c.flush_batch.result _ _ _ (λ why cause within. ⊎_elim (λ failed. no_fault (cause works.0) failed) (λ short. short) within) called.cause (called.in_reach reaches);
       stays = called.stays;
       reach = called.reach;
     })

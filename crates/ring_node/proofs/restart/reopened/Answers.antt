@@ -13,7 +13,8 @@ use Rattle.ring_node.proofs.restart.reopened.Goals as goal
 use Rattle.ring_node.proofs.restart.reopened.Goals.{After-recover}
 
 -- what is held at the start is held by the device that is opened
-again : (c : After-recover) → (s : NodeState) → Holds (member c.args.me c.args.n c.args.capacity) (disk_of c.args.device) s → Holds (member c.args.me c.args.n c.args.capacity) (disk_of (inner_of c.idle.result)) s
+again : (c : After-recover) → (s : NodeState) → Holds (member c.args.me c.args.n c.args.capacity) (disk_of c.args.device) s
+    → Holds (member c.args.me c.args.n c.args.capacity) (disk_of (inner_of c.idle.result)) s
 again c s holds =
     let same : disk_of (inner_of c.idle.result) ≡ disk_of c.args.device = ap disk_of c.idle.ensures.inner in
     subst (λ (d : Disk). Holds (member c.args.me c.args.n c.args.capacity) d s) (sym same) holds

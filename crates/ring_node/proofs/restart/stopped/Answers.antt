@@ -21,7 +21,8 @@ stays c =
     c.launch-flown.ensures.stays ∙ ap (λ (d : DeskKept). record d { view = record d.view { state = later.state; failed = later.failed } }) c.arm.ensures.desk
 
 -- whether it landed or flies for good, the images read as what is left of the state in which it flies
-reads : (c : After-crash) (past : List Input) (image : List ℕ) → c.launch-flown.new.node.desk ≡ record c.args.node.desk { view = record c.args.node.desk.view { state = c.launch-flown.new.node.desk.view.state; failed = c.launch-flown.new.node.desk.view.failed } }
+reads : (c : After-crash) (past : List Input) (image : List ℕ)
+    → c.launch-flown.new.node.desk ≡ record c.args.node.desk { view = record c.args.node.desk.view { state = c.launch-flown.new.node.desk.view.state; failed = c.launch-flown.new.node.desk.view.failed } }
     → IsPast c.args.node.desk.view.member c.args.node.desk.opening past
     → ((seen past c.launch-flown.new.node.desk).state ≡ (flies c.args.flight (seen past c.args.node.desk)).state) ⊎ ((seen past c.launch-flown.new.node.desk).state ≡ states.landed (flies c.args.flight (seen past c.args.node.desk)).state)
     → MayLeave (disk_of c.crash.new.self) image → ReadsAsLeft c.args.node.desk.view.member (flies c.args.flight (seen past c.args.node.desk)).state image

@@ -23,7 +23,8 @@ returns-in-Ok-Input g c =
     let end = c.in-Ok-Input.ensures.input c.in-Ok-Input.field-0-is in
     ends_input g.S.Service.answers _ _ _ _ _ _ _ _ _ c.loop-answered.invariant.progress end.2 end.0 (line.short, line.plain) end.1 c.loop-answered-test.true
 
-read_fault : {S : Type 0} (A : Asks S) (s t : S) (old left held holds : Option (List ℕ)) (fault : SessionFault) → fault ≡ Read → Unread A s t old left held holds → Serves A s t old left held holds (Err fault)
+read_fault : {S : Type 0} (A : Asks S) (s t : S) (old left held holds : Option (List ℕ)) (fault : SessionFault) → fault ≡ Read → Unread A s t old left held holds
+    → Serves A s t old left held holds (Err fault)
 read_fault A s t old left held holds fault e h = subst (λ f. Serves A s t old left held holds (Err f)) (sym e) h
 
 pub returns-in-Err : goal.returns-in-Err

@@ -13,7 +13,8 @@ use Rattle.ring_node.proofs.Ring.{me_within}
 use Rattle.ring_node.proofs.node.RingNode.crash.Goals as goal
 use Rattle.ring_node.proofs.node.RingNode.crash.Goals.{After-summarised-past}
 
-again : (c : After-summarised-past) → IsAgain (member c.self.inside.me c.self.inside.n c.self.inside.capacity) (seen c.self.inside.past.items c.self.inside.node.desk).state c.summarised-past.result.items c.in_ok-node.node.desk
+again : (c : After-summarised-past)
+    → IsAgain (member c.self.inside.me c.self.inside.n c.self.inside.capacity) (seen c.self.inside.past.items c.self.inside.node.desk).state c.summarised-past.result.items c.in_ok-node.node.desk
 again c =
     let found = c.in_ok-node.ensures.desk (seen c.self.inside.past.items c.self.inside.node.desk).state (lawful_here _ _ _ _ _ c.self.invariant.whole) (subst (λ (k : Member). Holds k (disk_of c.closed-device.result) (seen c.self.inside.past.items c.self.inside.node.desk).state) c.self.invariant.whole.is (c.closed-device.ensures.holds c.self.inside.past.items c.self.invariant.behind)) in
     record { run = _; keep = found.0; found = found.1; is = c.summarised-past.ensures ∙ ap (take c.in_ok-node.node.desk.opening.inputs) c.in_ok-past.ensures }

@@ -1,4 +1,4 @@
-use Rattle.std.proofs.Common.{arith, ◌≡◌, ◌∙◌, [], List, length, ap, sym, subst}
+use Rattle.std.proofs.Common.{arith, ◌≡◌, ◌∙◌, [], List, length, refl, ap, sym, subst}
 use Rattle.ring_records.specs.Member.{Member, member}
 use Rattle.ring_records.specs.declared.input.Input.{Input}
 use Rattle.ring_records.specs.Summary.{empty}
@@ -32,7 +32,7 @@ invariant_of-result c =
     let behind : IsPast desk.view.member desk.opening c.new-in-Ok.result.items =
     subst (IsPast desk.view.member desk.opening) (sym c.new-in-Ok.ensures.items) (no_past desk.view.member desk.opening (ap (λ (d : DeskKept). d.opening) made.desk)) in
     let reaches : Reaches (reach_of c.idle.result) (device_size c.args.capacity) = idle_reaches c.idle.result c.in_ok-device.device _ c.idle.ensures.idle c.idle.ensures.inner (omega arith) in
-    by_name m _ _ _ _ _ _ _ _ _ behind (seen_new m desk c.new-in-Ok.result.items c.new-in-Ok.ensures.items made.desk) same c.new-in-Ok-2.ensures.items c.new-in-Ok-3.ensures.items (opens m 0 fresh [] _ [] c.requires.range (none_lawful c.args.me c.args.n c.args.capacity) reaches (sent-none c.args.me))
+    by_name m _ _ _ _ _ _ _ _ _ behind (seen_new m desk c.new-in-Ok.result.items c.new-in-Ok.ensures.items made.desk) same c.new-in-Ok-2.ensures.items c.new-in-Ok-3.ensures.items (opens m 0 fresh [] _ [] c.requires.range (none_lawful c.args.me c.args.n c.args.capacity) refl reaches (sent-none c.args.me))
 
 pub returns-in-Ok : goal.returns-in-Ok
 returns-in-Ok c =

@@ -16,7 +16,8 @@ use Rattle.ring_node.proofs.Ring.{me_within}
 use Rattle.ring_node.proofs.node.RingNode.stop_within.Goals as goal
 use Rattle.ring_node.proofs.node.RingNode.stop_within.Goals.{After-summarised-past}
 
-again : (c : After-summarised-past) → IsAgain (member c.self.inside.me c.self.inside.n c.self.inside.capacity) (launched_as c.args.flight c.self.inside.me (seen c.self.inside.past.items c.self.inside.node.desk).state) c.summarised-past.result.items c.in_ok-node.node.desk
+again : (c : After-summarised-past)
+    → IsAgain (member c.self.inside.me c.self.inside.n c.self.inside.capacity) (launched_as c.args.flight c.self.inside.me (seen c.self.inside.past.items c.self.inside.node.desk).state) c.summarised-past.result.items c.in_ok-node.node.desk
 again c =
     let s = (seen c.self.inside.past.items c.self.inside.node.desk).state in
     let found = c.in_ok-node.ensures.desk (launched_as c.args.flight c.self.inside.me s) (lawful_flying _ _ _ _ _ c.self.invariant.whole c.args.flight) (held_here _ _ _ _ _ c.self.invariant.whole c.args.flight (disk_of c.in_ok-device.device) (c.in_ok-device.ensures.holds c.self.inside.past.items c.self.invariant.behind c.self.invariant.whole.served.lawful)) in

@@ -4,6 +4,7 @@ use Rattle.ring_records.specs.Answer.{Answered}
 use Rattle.ring_records.specs.States.{opened}
 use Rattle.group_commit.specs.Desk.{DeskKept, IsHere}
 use Rattle.group_commit.specs.Ticket.{TicketView, shown}
+use Rattle.node_store.specs.State.{settled_base}
 use Rattle.sessions.proofs.Asked.{one_waits, no_ticket, still_here, none_of}
 use Rattle.sessions.proofs.solo.SoloService.answer.Goals as goal
 
@@ -57,7 +58,7 @@ returns-in-Ok-settle g c =
       works = works;
       more = told.more;
       is = λ past is. let so = told.answer past is in (reply ∙ ap (λ (a : Answered). a.answer.reply) so.0, so.1);
-      next = ap (λ (d : DeskKept). d.view.state) c.release.ensures.next ∙ ap (λ (d : DeskKept). d.view.state) settled.next ∙ ap (λ (d : DeskKept). opened d.view.state.base d.view.state.inputs) told.next;
+      next = ap (λ (d : DeskKept). d.view.state) c.release.ensures.next ∙ ap (λ (d : DeskKept). d.view.state) settled.next ∙ ap (λ (d : DeskKept). opened (settled_base d) d.view.state.inputs) told.next;
       same = record {
         member = ap (λ (d : DeskKept). d.view.member) c.release.ensures.next ∙ ap (λ (d : DeskKept). d.view.member) settled.next ∙ ap (λ (d : DeskKept). d.view.member) told.next;
         opening = ap (λ (d : DeskKept). d.opening) c.release.ensures.next ∙ ap (λ (d : DeskKept). d.opening) settled.next ∙ ap (λ (d : DeskKept). d.opening) told.next;
