@@ -1,5 +1,5 @@
 -- A batch that a hub launches, and what it lets the node release.
-use Rattle.std.proofs.Common.{◌≡◌, ℕ, ◌-◌, List, ◌++◌, length, append_assoc, Result, Ok, Err, IfOk, sym, ap, ◌∙◌, subst, arith}
+use Rattle.std.proofs.Common.{◌≡◌, ℕ, List, ◌++◌, append_assoc, Result, Ok, Err, IfOk, sym, ap, ◌∙◌, subst}
 use Rattle.ring_records.specs.declared.input.Input.{Input}
 use Rattle.ring_records.specs.declared.packet.Packet.{Packet}
 use Rattle.ring_records.specs.declared.summary.Summary.{Summary}
@@ -10,7 +10,7 @@ use Rattle.ring_records.specs.States as states
 use Rattle.group_commit.specs.declared.landed.Landed.{Landed}
 use Rattle.group_commit.specs.Desk.{DeskKept, landed, seen}
 use Rattle.group_commit.specs.Past.{IsPast, shifted}
-use Rattle.group_commit.proofs.Costs.{flown, flown_count}
+use Rattle.group_commit.proofs.Costs.{flown}
 use Rattle.group_commit.proofs.Past.{durable-shifted, flying-shifted}
 use Rattle.commit_hub.specs.Told.{IsBrought, IsWindow}
 

@@ -138,7 +138,8 @@ lands_batch old new inputs none counts next is =
     ap durable_part next ∙ (λ i. record { base = base_stays s none i; inputs = joined s inputs counts is i })
 
 -- or in the next one
-pub lands_area : (old new : DeskKept) (inputs : List Input) (bytes : ℕ) → Flew old.view.state bytes → IsNextArea old.view.state → IsNodeState old.view.state → new ≡ record old { view = landed old.view }
+pub lands_area : (old new : DeskKept) (inputs : List Input) (bytes : ℕ) → Flew old.view.state bytes → IsNextArea old.view.state → IsNodeState old.view.state
+    → new ≡ record old { view = landed old.view }
     → inputs ≡ flying_in old.view.state → durable_part new ≡ with_area (durable_part old) inputs bytes
 lands_area old new inputs bytes flew area counts next is =
     let s = old.view.state in

@@ -1,9 +1,8 @@
 -- What a hub's tie knows of its desk.
-use Rattle.std.specs.Prelude.{ℕ, ◌+◌, List, [], ◌++◌, length}
+use Rattle.std.specs.Prelude.{ℕ, []}
 use Rattle.std.specs.Coded.{Coded, codes}
 use base.Fml.{Fml, fobs, fauth}
-use Rattle.ring_records.specs.declared.input.Input.{Input}
-use Rattle.ring_records.specs.Admission.{fresh, newest}
+use Rattle.ring_records.specs.Admission.{fresh}
 pub use Rattle.group_commit.specs.Next.{Durable, durable_part, with_area, with_batch}
 
 -- ---- the halves: whoever has both may write, and each alone knows what was written last

@@ -1,5 +1,6 @@
 -- What a hub's calls tell without the state under its lock.
 use Rattle.std.specs.Prelude.{ℕ, ◌≡◌, ◌+◌, ◌⊎◌, Bool, true, false, List, [], ◌++◌, length}
+use Rattle.std.specs.FinMap as fin
 use Rattle.ring_records.specs.declared.input.Input.{Input}
 use Rattle.ring_records.specs.declared.packet.Packet.{Packet}
 use Rattle.ring_records.specs.declared.refusal.Refusal.{Refusal}
@@ -12,7 +13,7 @@ use Rattle.ring_records.specs.Member.{Member}
 use Rattle.ring_records.specs.Message.{is_outside}
 use Rattle.ring_records.specs.Release.{packets, notices, window}
 use Rattle.ring_records.specs.States.{NodeState, IsLawfulState, launched_base, durable_in, shown_in}
-use Rattle.ring_records.specs.Summary.{summary}
+use Rattle.ring_records.specs.Summary.{floors_in, summary}
 use Rattle.group_commit.specs.declared.landed.Landed.{Landed}
 use Rattle.group_commit.specs.Desk.{is_due}
 use Rattle.group_commit.specs.Past.{IsPast, shifted}
@@ -59,8 +60,10 @@ look_of member s is_due is_open = record {
   used = used (launched_base s) s.inputs;
   snapshot = snapshot_len newest (summary member.node s.inputs);
   epoch = s.base.epoch;
+  layout = s.base.layout;
   capacity = member.capacity;
   stands = stands s.inputs;
+  floors = fin.len (floors_in s.inputs);
   is_due = is_due;
   is_open = is_open;
 }

@@ -121,7 +121,8 @@ impl<A: Node> Locked<A> {
     ) -> Result<Ticket, Refusal>
         ensures submitted { IfOk result (λ ticket. IsSubmitted question self.old.shared.desk self.new.shared.desk (shown ticket)) }
         ensures free { OnOk result (objection self.old.shared.desk.view question ≡ None) }
-        ensures refusal { IfErr result (λ refusal. (objection self.old.shared.desk.view question ≡ Some refusal) ⊎ ((objection self.old.shared.desk.view question ≡ None) × (refusal ≡ Refusal.OutOfMemory))) }
+        ensures refusal { IfErr result (λ refusal. (objection self.old.shared.desk.view question ≡ Some refusal)
+            ⊎ ((objection self.old.shared.desk.view question ≡ None) × (refusal ≡ Refusal.OutOfMemory))) }
         ensures same { OnErr result (self.new.shared.desk ≡ self.old.shared.desk) }
 
         // The share counts what the desk accepted.
@@ -294,8 +295,10 @@ impl<A: Node> Locked<A> {
             used: desk.used(),
             snapshot: desk.summary_len(),
             epoch: desk.epoch(),
+            layout: desk.layout(),
             capacity: desk.capacity(),
             stands: desk.stands(),
+            floors: desk.floor_count() as u64,
             is_due: desk.due(),
             is_open: desk.is_open(),
         }

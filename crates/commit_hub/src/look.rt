@@ -12,10 +12,14 @@ pub struct Look {
     pub snapshot: u64,
     /// The epoch of its journal's area in use.
     pub epoch: u64,
+    /// The layout of that area.
+    pub layout: u8,
     /// The bytes that they may take.
     pub capacity: u32,
-    /// How many of its inputs are Stands.
+    /// How many Stands it has taken that are not retired.
     pub stands: u32,
+    /// How many groups have a floor.
+    pub floors: u64,
     /// Whether a checkpoint is due, which makes room: it is the next that the hub has made durable.
     pub is_due: bool,
     /// Whether it takes requests: it is not closed and has not failed.

@@ -32,7 +32,8 @@ pub(crate) fn look_over<V: Device>(ring: &[Found<V>]) -> Result<(), RunFault>
 
 fn look_at_links<V: Device>(ring: &[Found<V>]) -> Result<(), RunFault>
     requires order { IsInOrder found_as ring.now }
-    ensures fit { OnOk result ((pasts : ℕ → List Input) → ArePasts found_as pasts ring.now → (i : ℕ) → 1 ≤ i → i ≤ length ring.now → LinkFits i (history found_as pasts ring.now i) (history found_as pasts ring.now (after (length ring.now) i))) }
+    ensures fit { OnOk result ((pasts : ℕ → List Input) → ArePasts found_as pasts ring.now → (i : ℕ) → 1 ≤ i → i ≤ length ring.now
+        → LinkFits i (history found_as pasts ring.now i) (history found_as pasts ring.now (after (length ring.now) i))) }
     ensures apart { IfErr result (λ fault. (pasts : ℕ → List Input) → ArePasts found_as pasts ring.now → IsCause (length ring.now) (history found_as pasts ring.now) fault) }
 {
     for place in 0..ring.len() {
@@ -55,7 +56,8 @@ fn link_fits(own: &Desk, next: &Desk) -> bool
 /// Each node is compared with those before it.
 fn look_at_leaders<V: Device>(ring: &[Found<V>]) -> Result<(), RunFault>
     requires order { IsInOrder found_as ring.now }
-    ensures fit { OnOk result ((pasts : ℕ → List Input) → ArePasts found_as pasts ring.now → (i j : ℕ) → 1 ≤ i → i ≤ length ring.now → 1 ≤ j → j ≤ length ring.now → LeadersFit i j (history found_as pasts ring.now i) (history found_as pasts ring.now j)) }
+    ensures fit { OnOk result ((pasts : ℕ → List Input) → ArePasts found_as pasts ring.now → (i j : ℕ) → 1 ≤ i → i ≤ length ring.now → 1 ≤ j → j ≤ length ring.now
+        → LeadersFit i j (history found_as pasts ring.now i) (history found_as pasts ring.now j)) }
     ensures apart { IfErr result (λ fault. (pasts : ℕ → List Input) → ArePasts found_as pasts ring.now → IsCause (length ring.now) (history found_as pasts ring.now) fault) }
 {
     for place in 0..ring.len() {

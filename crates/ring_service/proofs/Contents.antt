@@ -14,12 +14,11 @@ use Rattle.ring_records.specs.declared.key.Key.{Key}
 use Rattle.ring_records.specs.declared.notice.Notice.{Notice}
 use Rattle.ring_records.specs.declared.notice.Notice.TheVariants.{Decided, Retired}
 use Rattle.ring_records.specs.Admission.{IsAllowed}
-use Rattle.ring_records.specs.Floors.{floor_keys, floor_of, floored}
-use Rattle.ring_records.specs.History.{floor, is_retired}
-use Rattle.ring_records.specs.KeyOrder.{group_cmp}
-use Rattle.ring_records.specs.Leader.{first_leader, latest, leader, term_of, IsLatest}
+use Rattle.ring_records.specs.Floors.{floor_keys}
+use Rattle.ring_records.specs.History.{floor}
+use Rattle.ring_records.specs.Leader.{first_leader, latest, leader}
 use Rattle.ring_records.specs.Lists.{or_else, EachAfter}
-use Rattle.ring_records.specs.Notices.{decided_all, first_named, floor_by, floor_in, leader_in, leads_in, named_by, term_for, top_term}
+use Rattle.ring_records.specs.Notices.{decided_all, first_named, floor_by, floor_in, leads_in, named_by, term_for, top_term}
 use Rattle.ring_records.specs.Summary.{floors_in}
 use Rattle.ring_records.proofs.DecisionNotices.{all-live, among-told, leaders_content, told-among}
 use Rattle.ring_records.proofs.FloorsInOrder.{each-floor, floor-found, floored-keys}
@@ -27,11 +26,10 @@ use Rattle.ring_records.proofs.FloorsRise.{floor-at_most}
 use Rattle.ring_records.proofs.History.{if_live-same}
 use Rattle.ring_records.proofs.Latest.{latest_is, latest_same, leads_by}
 use Rattle.ring_records.proofs.Leader.{Contains-cons_cases, Contains-nil}
-use Rattle.ring_records.proofs.Lists.{none≢some}
 use Rattle.ring_records.proofs.Notices.{decided-floor, first_named-push, floor_in-push, latest-top, none-floor, top-push}
 use Rattle.ring_records.proofs.Summaries.{floor-known}
-use Rattle.ring_records.proofs.Told.{Tells, tells-leader}
-use Rattle.group_commit.specs.Content.{content_of, retired_all, IsContent}
+use Rattle.ring_records.proofs.Told.{Tells}
+use Rattle.group_commit.specs.Content.{retired_all, IsContent}
 
 -- ---- leaders
 

@@ -28,7 +28,7 @@ takes member opening known len room layout epoch (works.Batch batch) inside has 
 takes member opening known len room layout epoch (works.Checkpoint made) inside has next = (
   next.node,
   next.first ∙ sym has.count,
-  (let short = next.short in omega (arith, short)),
+  next.fits,
   next.sound inside,
   (let more = next.left in let at = has.area in omega (arith, more, at)),
 )

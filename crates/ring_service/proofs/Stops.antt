@@ -38,7 +38,8 @@ module _ {V : Type 0} (clock : V → ℕ) (left_since : V → ℕ → List ℕ �
       (subst (λ (m : Member). LeavesOnly clock left_since old new (ReadsAsOneOf m r (reading_after epoch base inputs r))) is leaves)
 
   -- it was written, or the device failed with it
-  pub written : (old new : V) (of member : Member) (opening : Summary) (known : Durable) (epoch : ℕ) (r : Reading) (inputs : List Input) (base : Option Summary) → of ≡ member → epoch ≡ known.base.epoch
+  pub written : (old new : V) (of member : Member) (opening : Summary) (known : Durable) (epoch : ℕ) (r : Reading) (inputs : List Input) (base : Option Summary) → of ≡ member
+      → epoch ≡ known.base.epoch
       → IsMade member opening known inputs base → LeavesOnly clock left_since old new (ReadsAsOneOf of r (reading_after epoch base inputs r)) → IsStopped clock left_since old new member opening known r
   written old new of member opening known epoch r inputs base is at made leaves = record {
     inputs = inputs;

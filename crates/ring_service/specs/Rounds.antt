@@ -1,5 +1,5 @@
 -- What a round of a flusher does.
-use Rattle.std.specs.Prelude.{ℕ, ◌≡◌, ◌+◌, ◌-◌, ◌^◌, ◌<◌, ◌≤◌, ◌⊎◌, Bool, true, List, ◌++◌, length, Option, Some, None, is_some}
+use Rattle.std.specs.Prelude.{ℕ, ◌≡◌, ◌+◌, ◌-◌, ◌<◌, ◌≤◌, ◌⊎◌, Bool, true, List, ◌++◌, length, Option, Some, None, is_some}
 use Rattle.std.specs.Option.{option_map}
 use Rattle.disk_model.specs.Disk.{Disk, LeavesOnly}
 use Rattle.ring_records.specs.declared.input.Input.{Input}
@@ -7,10 +7,10 @@ use Rattle.ring_records.specs.declared.limits.TheConstants.{BATCH_INPUTS}
 use Rattle.ring_records.specs.declared.refusal.Refusal.{Refusal}
 use Rattle.ring_records.specs.declared.refusal.Refusal.TheVariants as refused
 use Rattle.ring_records.specs.declared.summary.Summary.{Summary}
-use Rattle.ring_records.specs.Admission.{costs_of, newest, used}
+use Rattle.ring_records.specs.Admission.{newest, used}
 use Rattle.ring_records.specs.Known.{after}
 use Rattle.ring_records.specs.Member.{Member}
-use Rattle.ring_records.specs.Snapshot.{IsSound, snapshot_len}
+use Rattle.ring_records.specs.Snapshot.{snapshot_len}
 use Rattle.ring_records.specs.States.{NodeState, opened}
 use Rattle.gated_journal.specs.Areas.{AllReadAs, ReadsAsOneOf}
 use Rattle.gated_journal.specs.Reading.{Reading}

@@ -23,7 +23,8 @@ pub fn opened_board<J: Naming>(
 ) -> Result<Board<J>, Refusal>
     requires history { opened ≡ J.book }
     requires readers { (1 ≤ readers) × (readers ≤ DOORS) }
-    ensures content { IfOk result (λ board. (past : List Input) → IsPast desk.now.view.member desk.now.opening past → IsContent desk.now.view.member.node (durable_in (seen past desk.now).state) (published board)) }
+    ensures content { IfOk result (λ board. (past : List Input) → IsPast desk.now.view.member desk.now.opening past
+        → IsContent desk.now.view.member.node (durable_in (seen past desk.now).state) (published board)) }
     ensures pending { IfOk result (λ board. pending board ≡ []) }
     ensures refusal { IfErr result (λ why. why ≡ Refusal.OutOfMemory) }
 {

@@ -71,7 +71,8 @@ pub fn released_by_a_flusher<V: Device, A: Node>()
     ensures rounds { (device : V) (known : Durable) (before later : List (Round V)) (round : Round V) → IsHeld A.member A.opening (V.disk device) known
         → AreRounds V.disk V.clock V.left_since A.member A.opening device known (before ++ round ∷ later)
         → LeavesOnly V.clock V.left_since round.device (device_behind device (before ++ round ∷ later)) (RestsOn A.member A.opening (known_since known before) round) }
-    ensures cut { (device : V) (known : Durable) (before later : List (Round V)) (round : Round V) (new : V) → AreRounds V.disk V.clock V.left_since A.member A.opening device known (before ++ round ∷ later)
+    ensures cut { (device : V) (known : Durable) (before later : List (Round V)) (round : Round V) (new : V)
+        → AreRounds V.disk V.clock V.left_since A.member A.opening device known (before ++ round ∷ later)
         → IsCut V.disk V.clock V.left_since A.member A.opening (device_behind device (before ++ round ∷ later)) new (known_since known (before ++ round ∷ later))
         → LeavesOnly V.clock V.left_since (device_behind device (before ++ round ∷ later)) new (RestsOn A.member A.opening (known_since known before) round) }
 {}

@@ -36,11 +36,12 @@ journal_data node = object
     (member (codes "durable") (natural (node.shown).durable)
     (member (codes "epoch") (natural node.epoch)
     (member (codes "inputs") (natural (node.shown).inputs)
+    (member (codes "layout") (natural node.layout)
     (member (codes "renewable") (boolean node.renewable)
     (member (codes "snapshot") (natural node.snapshot)
     (member (codes "syncs") (natural node.syncs)
     (member (codes "used") (natural node.used)
-    (member (codes "writing") (natural node.writing) no_members)))))))))))
+    (member (codes "writing") (natural node.writing) no_members))))))))))))
 
 abbrev pub messages_data : NodeStatus → Data
 messages_data node = object
@@ -57,7 +58,10 @@ sessions_data node = object
     (member (codes "refusals") (each refusal_data (node.refusals).items) no_members))))
 
 abbrev pub stands_data : NodeStatus → Data
-stands_data node = object (member (codes "left") (natural node.stands_left) (member (codes "taken") (natural node.stands) no_members))
+stands_data node = object
+    (member (codes "floors") (natural node.floors)
+    (member (codes "left") (natural node.stands_left)
+    (member (codes "taken") (natural node.stands) no_members)))
 
 abbrev pub node_data : NodeStatus → Data
 node_data node = object

@@ -25,11 +25,13 @@ name_text of.Used = codes "cinoweta_journal_used_bytes"
 name_text of.Snapshot = codes "cinoweta_journal_snapshot_bytes"
 name_text of.Renewable = codes "cinoweta_journal_renewable"
 name_text of.Capacity = codes "cinoweta_journal_capacity_bytes"
-name_text of.Stands = codes "cinoweta_stands_total"
+name_text of.Stands = codes "cinoweta_stands"
 name_text of.StandsLeft = codes "cinoweta_stands_left"
+name_text of.Floors = codes "cinoweta_floors"
 name_text of.Batches = codes "cinoweta_batches_total"
 name_text of.Checkpoints = codes "cinoweta_checkpoints_total"
 name_text of.Epoch = codes "cinoweta_journal_epoch"
+name_text of.Layout = codes "cinoweta_journal_layout"
 name_text of.Syncs = codes "cinoweta_syncs_total"
 name_text of.Writing = codes "cinoweta_writing_seconds"
 name_text of.Sessions = codes "cinoweta_sessions_total"
@@ -41,7 +43,7 @@ abbrev pub help_text : Metric → List ℕ
 help_text of.Failed = codes "Whether the node failed."
 help_text of.Hangs = codes "Whether its device has taken ten seconds for a batch or a checkpoint."
 help_text of.Full = codes "Whether the node has no room for a Stand or a message."
-help_text of.AtLimit = codes "Whether the node has taken all Stands that it may."
+help_text of.AtLimit = codes "Whether the node has all Stands that it may take."
 help_text of.Inputs = codes "Inputs that the node accepted."
 help_text of.Durable = codes "Inputs of the node that are durable."
 help_text of.Sent = codes "Messages that the node sent to its successor."
@@ -51,11 +53,13 @@ help_text of.Used = codes "Bytes of its capacity that its last snapshot and the 
 help_text of.Snapshot = codes "Bytes of the snapshot that a checkpoint would write now."
 help_text of.Renewable = codes "Whether another checkpoint can come, with a snapshot of a quarter of the capacity at most."
 help_text of.Capacity = codes "Bytes of a snapshot and of inputs that the node takes."
-help_text of.Stands = codes "Stands that the node took."
+help_text of.Stands = codes "Stands of the node that are not retired."
 help_text of.StandsLeft = codes "Stands that the node may still take."
+help_text of.Floors = codes "Groups with a floor, below which terms are retired."
 help_text of.Batches = codes "Batches that the node wrote since the start."
 help_text of.Checkpoints = codes "Checkpoints that the node made since the start."
 help_text of.Epoch = codes "Epoch of its journal's area in use, which each checkpoint raises by 1."
+help_text of.Layout = codes "Layout of that area."
 help_text of.Syncs = codes "Syncs of its device since the start."
 help_text of.Writing = codes "Seconds for which its device has been busy with one of these."
 help_text of.Sessions = codes "Sessions begun at the node since the start."
@@ -78,11 +82,13 @@ kind_text of.Used = codes "gauge"
 kind_text of.Snapshot = codes "gauge"
 kind_text of.Renewable = codes "gauge"
 kind_text of.Capacity = codes "gauge"
-kind_text of.Stands = codes "counter"
+kind_text of.Stands = codes "gauge"
 kind_text of.StandsLeft = codes "gauge"
+kind_text of.Floors = codes "gauge"
 kind_text of.Batches = codes "counter"
 kind_text of.Checkpoints = codes "counter"
 kind_text of.Epoch = codes "gauge"
+kind_text of.Layout = codes "gauge"
 kind_text of.Syncs = codes "counter"
 kind_text of.Writing = codes "gauge"
 kind_text of.Sessions = codes "counter"
@@ -135,9 +141,11 @@ value_of of.Renewable node = (if node.renewable then 1 else 0)
 value_of of.Capacity node = node.capacity
 value_of of.Stands node = node.stands
 value_of of.StandsLeft node = node.stands_left
+value_of of.Floors node = node.floors
 value_of of.Batches node = node.batches
 value_of of.Checkpoints node = node.checkpoints
 value_of of.Epoch node = node.epoch
+value_of of.Layout node = node.layout
 value_of of.Syncs node = node.syncs
 value_of of.Writing node = node.writing
 value_of of.Sessions node = node.sessions
@@ -150,7 +158,7 @@ unfoldable pub metrics : List Metric
 metrics =
     of.Failed ∷ of.Hangs ∷ of.Full ∷ of.AtLimit ∷ of.Inputs ∷ of.Durable ∷ of.Sent
     ∷ of.Taken ∷ of.Credit ∷ of.Used ∷ of.Snapshot ∷ of.Renewable ∷ of.Capacity ∷ of.Stands ∷ of.StandsLeft
-    ∷ of.Batches ∷ of.Checkpoints ∷ of.Epoch ∷ of.Syncs ∷ of.Writing ∷ of.Sessions ∷ of.Doors ∷ of.BusyDoors ∷ of.Letters ∷ []
+    ∷ of.Floors ∷ of.Batches ∷ of.Checkpoints ∷ of.Epoch ∷ of.Layout ∷ of.Syncs ∷ of.Writing ∷ of.Sessions ∷ of.Doors ∷ of.BusyDoors ∷ of.Letters ∷ []
 
 -- ---- the text
 

@@ -15,7 +15,7 @@ pub struct Holding {
     pub snapshot: u64,
     /// How many bytes of a snapshot and of inputs it takes.
     pub capacity: u64,
-    /// How many Stands it has taken.
+    /// How many Stands it has taken that are not retired.
     pub stands: u64,
     /// Whether a checkpoint is due, which makes room.
     pub is_due: bool,

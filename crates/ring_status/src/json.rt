@@ -49,6 +49,7 @@ fn journal_json(alloc: Global, node: &NodeStatus) -> Result<Value, AllocError>
         "durable": node.shown.durable,
         "epoch": node.epoch,
         "inputs": node.shown.inputs,
+        "layout": node.layout,
         "renewable": node.renewable,
         "snapshot": node.snapshot,
         "syncs": node.syncs,
@@ -83,7 +84,7 @@ fn sessions_json(alloc: Global, node: &NodeStatus) -> Result<Value, AllocError>
 fn stands_json(alloc: Global, node: &NodeStatus) -> Result<Value, AllocError>
     ensures { IfOk result (λ v. view v ≡ stands_data node.now) }
 {
-    json!(in alloc; {"left": node.stands_left, "taken": node.stands})
+    json!(in alloc; {"floors": node.floors, "left": node.stands_left, "taken": node.stands})
 }
 
 fn node_json(alloc: Global, node: &NodeStatus) -> Result<Value, AllocError>

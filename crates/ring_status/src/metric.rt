@@ -22,9 +22,11 @@ pub enum Metric {
     Capacity,
     Stands,
     StandsLeft,
+    Floors,
     Batches,
     Checkpoints,
     Epoch,
+    Layout,
     Syncs,
     Writing,
     Sessions,
@@ -34,7 +36,7 @@ pub enum Metric {
 }
 
 /// All of them, in the order in which they are told.
-const METRICS: [Metric; 24] = [
+const METRICS: [Metric; 26] = [
     Metric::Failed,
     Metric::Hangs,
     Metric::Full,
@@ -50,9 +52,11 @@ const METRICS: [Metric; 24] = [
     Metric::Capacity,
     Metric::Stands,
     Metric::StandsLeft,
+    Metric::Floors,
     Metric::Batches,
     Metric::Checkpoints,
     Metric::Epoch,
+    Metric::Layout,
     Metric::Syncs,
     Metric::Writing,
     Metric::Sessions,
@@ -88,11 +92,13 @@ impl Metric {
             Metric::Snapshot => "cinoweta_journal_snapshot_bytes",
             Metric::Renewable => "cinoweta_journal_renewable",
             Metric::Capacity => "cinoweta_journal_capacity_bytes",
-            Metric::Stands => "cinoweta_stands_total",
+            Metric::Stands => "cinoweta_stands",
             Metric::StandsLeft => "cinoweta_stands_left",
+            Metric::Floors => "cinoweta_floors",
             Metric::Batches => "cinoweta_batches_total",
             Metric::Checkpoints => "cinoweta_checkpoints_total",
             Metric::Epoch => "cinoweta_journal_epoch",
+            Metric::Layout => "cinoweta_journal_layout",
             Metric::Syncs => "cinoweta_syncs_total",
             Metric::Writing => "cinoweta_writing_seconds",
             Metric::Sessions => "cinoweta_sessions_total",
@@ -111,7 +117,7 @@ impl Metric {
             Metric::Hangs =>
                 "Whether its device has taken ten seconds for a batch or a checkpoint.",
             Metric::Full => "Whether the node has no room for a Stand or a message.",
-            Metric::AtLimit => "Whether the node has taken all Stands that it may.",
+            Metric::AtLimit => "Whether the node has all Stands that it may take.",
             Metric::Inputs => "Inputs that the node accepted.",
             Metric::Durable => "Inputs of the node that are durable.",
             Metric::Sent => "Messages that the node sent to its successor.",
@@ -123,12 +129,14 @@ impl Metric {
             Metric::Renewable =>
                 "Whether another checkpoint can come, with a snapshot of a quarter of the capacity at most.",
             Metric::Capacity => "Bytes of a snapshot and of inputs that the node takes.",
-            Metric::Stands => "Stands that the node took.",
+            Metric::Stands => "Stands of the node that are not retired.",
             Metric::StandsLeft => "Stands that the node may still take.",
+            Metric::Floors => "Groups with a floor, below which terms are retired.",
             Metric::Batches => "Batches that the node wrote since the start.",
             Metric::Checkpoints => "Checkpoints that the node made since the start.",
             Metric::Epoch =>
                 "Epoch of its journal's area in use, which each checkpoint raises by 1.",
+            Metric::Layout => "Layout of that area.",
             Metric::Syncs => "Syncs of its device since the start.",
             Metric::Writing => "Seconds for which its device has been busy with one of these.",
             Metric::Sessions => "Sessions begun at the node since the start.",
@@ -148,7 +156,6 @@ impl Metric {
             | Metric::Sent
             | Metric::Taken
             | Metric::Credit
-            | Metric::Stands
             | Metric::Batches
             | Metric::Checkpoints
             | Metric::Syncs
@@ -177,9 +184,11 @@ impl Metric {
             Metric::Capacity => node.capacity,
             Metric::Stands => node.stands,
             Metric::StandsLeft => node.stands_left,
+            Metric::Floors => node.floors,
             Metric::Batches => node.batches,
             Metric::Checkpoints => node.checkpoints,
             Metric::Epoch => node.epoch,
+            Metric::Layout => u64::from(node.layout),
             Metric::Syncs => node.syncs,
             Metric::Writing => node.writing,
             Metric::Sessions => node.sessions,

@@ -41,14 +41,18 @@ pub struct NodeStatus {
     pub renewable: bool,
     /// How many bytes of a snapshot and of inputs it takes.
     pub capacity: u64,
-    /// How many Stands it has taken since its first start.
+    /// How many Stands it has taken that are not retired.
     pub stands: u64,
     /// How many more it may take.
     pub stands_left: u64,
+    /// How many groups have a floor.
+    pub floors: u64,
     /// How many batches it wrote.
     pub batches: u64,
     /// The epoch of its journal's area in use, which each checkpoint raises by 1.
     pub epoch: u64,
+    /// The layout of that area.
+    pub layout: u8,
     /// How many checkpoints it made.
     pub checkpoints: u64,
     /// How many syncs of its device it waited for.

@@ -1,4 +1,4 @@
-use Rattle.std.proofs.Common.{◌+◌, length, below_more, sym, ◌∙◌, arith}
+use Rattle.std.proofs.Common.{◌+◌, length, below_more, sym, arith}
 use Rattle.ring_server.specs.Fits.{found_as, history}
 use Rattle.ring_server.proofs.Leaders.{IsContent-along, fit, apart, all_pairs}
 use Rattle.ring_server.proofs.look_over.look_at_leaders.Goals as goal

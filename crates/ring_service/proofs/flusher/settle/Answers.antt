@@ -1,4 +1,4 @@
-use Rattle.std.proofs.Common.{◌∙◌, ◌≡◌, ◌+◌, ◌-◌, ℕ, None, Some, is_some, refl, sym, ap, subst, arith, length}
+use Rattle.std.proofs.Common.{◌∙◌, ◌≡◌, ◌+◌, ◌-◌, ℕ, None, Some, is_some, refl, sym, ap, subst, length}
 use Rattle.ring_records.specs.Admission.{costs_of, used}
 use Rattle.ring_records.specs.Member.{Member}
 use Rattle.gated_journal.specs.Areas.{AllReadAs}
