@@ -95,7 +95,8 @@ last_some : (xs : List (List ℕ)) (line : List ℕ) → 1 ≤ length (xs ++ (li
 last_some xs line = omega (arith, length-append xs (line ∷ []))
 
 -- a message that is delivered is one that was released
-put_some : (w : State) (delivery : Option (ℕ × Request)) (a b full : Option Refusal) → or_else a (or_else (or_else b (or_else (unknown delivery) (spent w))) full) ≡ None → 1 ≤ length (asked_lines (put w delivery).0)
+put_some : (w : State) (delivery : Option (ℕ × Request)) (a b full : Option Refusal) → or_else a (or_else (or_else b (or_else (unknown delivery) (spent w))) full) ≡ None
+    → 1 ≤ length (asked_lines (put w delivery).0)
 unfolding submitted
 put_some w (Some delivery) a b full free = asked_some _ _
 put_some w None (Some r) b full free = cc

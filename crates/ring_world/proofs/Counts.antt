@@ -17,7 +17,8 @@ with_one : (o : Option ℕ) (l : List ℕ) → length (cons_option o l) ≡ leng
 with_one None l = omega arith
 with_one (Some n) l = omega arith
 
-split_if : (t : Open) (ts passed others : List Open) (b : Bool) → numbered passed + numbered others ≡ numbered ts → numbered (cond b (t ∷ passed) passed) + numbered (cond (not b) (t ∷ others) others) ≡ numbered (t ∷ ts)
+split_if : (t : Open) (ts passed others : List Open) (b : Bool) → numbered passed + numbered others ≡ numbered ts
+    → numbered (cond b (t ∷ passed) passed) + numbered (cond (not b) (t ∷ others) others) ≡ numbered (t ∷ ts)
 split_if t ts passed others true e =
     let one = with_one t.serial (filter_map serial_of passed) in
     let all = with_one t.serial (filter_map serial_of ts) in
@@ -32,7 +33,8 @@ split : (p : Open → Bool) (ts : List Open) → numbered (filter p ts) + number
 split p [] = refl
 split p (t ∷ ts) = split_if t ts (filter p ts) (filter (λ u. not (p u)) ts) (p t) (split p ts)
 
-many_with : (t : Open) (o : Option ℕ) (ts : List Open) → length (filter_map reply_of ts) ≡ length (filter_map serial_of ts) → length (cons_option (with_reply o t.kept.answer.reply) (filter_map reply_of ts)) ≡ length (cons_option o (filter_map serial_of ts))
+many_with : (t : Open) (o : Option ℕ) (ts : List Open) → length (filter_map reply_of ts) ≡ length (filter_map serial_of ts)
+    → length (cons_option (with_reply o t.kept.answer.reply) (filter_map reply_of ts)) ≡ length (cons_option o (filter_map serial_of ts))
 many_with t None ts e = e
 many_with t (Some n) ts e = omega arith
 
@@ -145,7 +147,8 @@ paid_brought serial i q w =
     (paid_then i t (released i t) (drained i) first (paid_rounds (length (node_at (settled i t) i).inputs) i (settled i t))) first
 
 -- so few are told and left open
-pub bounded_brought : (serial : Option ℕ) (i : ℕ) (q : Request) (w : RingView) (t u : ℕ) → t + length (cons_option serial []) ≤ u → IsBounded w t → (length (brought serial i q w).0 ≤ u) × IsBounded (brought serial i q w).1 u
+pub bounded_brought : (serial : Option ℕ) (i : ℕ) (q : Request) (w : RingView) (t u : ℕ) → t + length (cons_option serial []) ≤ u → IsBounded w t
+    → (length (brought serial i q w).0 ≤ u) × IsBounded (brought serial i q w).1 u
 bounded_brought serial i q w t u le b =
     let opens = bounded_asked serial i q (given i q w) t u le (bounded_given i q w t b) in
     let paid = paid_brought serial i q w in
@@ -190,7 +193,8 @@ bounded_one : (i : ℕ) (q : Request) (w : RingView) (t : ℕ) → IsBounded w t
 unfolding swept_one
 bounded_one i q w t b = (bounded_brought None i q w t t (omega arith) b).1
 
-bounded_with : (others : RingView → ℕ × RingView) (w : RingView) (delivery : Option (ℕ × Request)) (t : ℕ) → ((w : RingView) → IsBounded w t → IsBounded (others w).1 t) → IsBounded w t → IsBounded (swept_with others w delivery).1 t
+bounded_with : (others : RingView → ℕ × RingView) (w : RingView) (delivery : Option (ℕ × Request)) (t : ℕ) → ((w : RingView) → IsBounded w t → IsBounded (others w).1 t) → IsBounded w t
+    → IsBounded (swept_with others w delivery).1 t
 bounded_with others w None t more b = b
 bounded_with others w (Some delivery) t more b = bounded_on others (swept_one delivery.0 delivery.1 w) t more (bounded_one delivery.0 delivery.1 w t b)
 

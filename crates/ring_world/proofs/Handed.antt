@@ -122,7 +122,8 @@ unfolding is_msg
 is_msg-same (Token k c) = and_from (is_key k k) (is_candidate c c) (is_key-same k) (is_candidate-same c)
 is_msg-same (Elected k c) = and_from (is_key k k) (is_candidate c c) (is_key-same k) (is_candidate-same c)
 
-pub sent_released : (w : RingView) (from to msg_no : ℕ) (msg : Msg) (size : ℕ) → size ≡ w.size → before size to ≡ from → message w from msg_no ≡ Some msg → is_released w to (ask.Take msg_no msg) ≡ true
+pub sent_released : (w : RingView) (from to msg_no : ℕ) (msg : Msg) (size : ℕ) → size ≡ w.size → before size to ≡ from → message w from msg_no ≡ Some msg
+    → is_released w to (ask.Take msg_no msg) ≡ true
 unfolding is_released
 sent_released w from to msg_no msg size same back sends =
     ap (λ n. is_sent (message w (before n to) msg_no) msg) (sym same) ∙ (ap (λ b. is_sent (message w b msg_no) msg) back ∙ (ap (λ o. is_sent o msg) sends ∙ is_msg-same msg))

@@ -66,7 +66,8 @@ module _ (w : State) (world : IsWorld w) (hs : List (List Input)) (are : hs ≡ 
   pub world_lawful : IsSchedule w.ring.size w.ring.capacity w.ring.events
   world_lawful = subst (IsSchedule w.ring.size w.ring.capacity) (sym world.told) world.lawful
 
-  pub world_whole : IsWhole (histories w.ring.size w.ring.capacity w.ring.events) (committed w.ring.size w.ring.capacity w.ring.events) → IsWhole hs (committed w.ring.size w.ring.capacity w.ring.events)
+  pub world_whole : IsWhole (histories w.ring.size w.ring.capacity w.ring.events) (committed w.ring.size w.ring.capacity w.ring.events)
+      → IsWhole hs (committed w.ring.size w.ring.capacity w.ring.events)
   world_whole whole = subst (λ l. IsWhole l (committed w.ring.size w.ring.capacity w.ring.events)) (sym are) whole
 
   pub world_shape : HasShape hs

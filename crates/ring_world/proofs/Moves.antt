@@ -44,7 +44,8 @@ module _ (n capacity : ℕ) (events : List (ℕ × Action)) (i : ℕ) (a b : Act
       ap (λ es. process n capacity es k) (sym joined)
       ∙ (process-other n capacity (events ++ (i, a) ∷ []) i b k ne ∙ process-other n capacity events i a k ne)
 
-  pub grows_two : IsSchedule n capacity events → MayHappen n capacity events (i, a) → May n capacity (events ++ (i, a) ∷ []) i (act i n capacity (process n capacity events i) a) b → Grows n capacity events ((i, a) ∷ (i, b) ∷ []) i
+  pub grows_two : IsSchedule n capacity events → MayHappen n capacity events (i, a) → May n capacity (events ++ (i, a) ∷ []) i (act i n capacity (process n capacity events i) a) b
+      → Grows n capacity events ((i, a) ∷ (i, b) ∷ []) i
   grows_two schedule may then =
       let one = grows_one n capacity events i a schedule may in
       let here = subst (λ p. May n capacity (events ++ (i, a) ∷ []) i p b) (sym (process-same n capacity events i a)) then in
@@ -71,7 +72,8 @@ module _ (n capacity : ℕ) (events : List (ℕ × Action)) (i : ℕ) (flight : 
   unfolding act
   process_landed = process_two n capacity events i (launch flight) Land ∙ ap (λ p. act i n capacity p Land) (act_launch flight i n capacity (process n capacity events i))
 
-  pub process_left : (keeps_flying : Bool) → process n capacity (events ++ (i, launch flight) ∷ (i, Crash keeps_flying) ∷ []) i ≡ started (left_by keeps_flying (launched_as flight i (process n capacity events i).state))
+  pub process_left : (keeps_flying : Bool)
+      → process n capacity (events ++ (i, launch flight) ∷ (i, Crash keeps_flying) ∷ []) i ≡ started (left_by keeps_flying (launched_as flight i (process n capacity events i).state))
   unfolding act
   process_left keeps_flying = process_two n capacity events i (launch flight) (Crash keeps_flying) ∙ ap (λ p. act i n capacity p (Crash keeps_flying)) (act_launch flight i n capacity (process n capacity events i))
 
@@ -92,7 +94,8 @@ process-releases n capacity i (t ∷ ts) events k =
     ap (λ es. process n capacity es k) (sym (append_assoc events (release_of i t ∷ []) (map (release_of i) ts)))
     ∙ (process-releases n capacity i ts (events ++ release_of i t ∷ []) k ∙ process-release n capacity events i (Replied t.kept) k)
 
-pub release_one : (n capacity : ℕ) (events : List (ℕ × Action)) (i : ℕ) (t : Thing) → IsSchedule n capacity events → 1 ≤ i → i ≤ n → IsReleasable i n capacity (process n capacity events i) t → Stays n capacity events ((i, Release t) ∷ [])
+pub release_one : (n capacity : ℕ) (events : List (ℕ × Action)) (i : ℕ) (t : Thing) → IsSchedule n capacity events → 1 ≤ i → i ≤ n → IsReleasable i n capacity (process n capacity events i) t
+    → Stays n capacity events ((i, Release t) ∷ [])
 unfolding May
 release_one n capacity events i t schedule first last may = record {
   schedule = (grows_one n capacity events i (Release t) schedule (record { first = first; last = last; may = may })).schedule;
@@ -105,7 +108,8 @@ release_none n capacity events schedule = record {
   same = λ k. process-releases n capacity 1 [] events k;
 }
 
-pub release_all : (n capacity i : ℕ) → 1 ≤ i → i ≤ n → (ts : List Open) (events : List (ℕ × Action)) → IsSchedule n capacity events → ((t : Open) → Contains ts t → IsReleasable i n capacity (process n capacity events i) (Replied t.kept))
+pub release_all : (n capacity i : ℕ) → 1 ≤ i → i ≤ n → (ts : List Open) (events : List (ℕ × Action)) → IsSchedule n capacity events
+    → ((t : Open) → Contains ts t → IsReleasable i n capacity (process n capacity events i) (Replied t.kept))
     → Stays n capacity events (map (release_of i) ts)
 release_all n capacity i first last [] events schedule each = release_none n capacity events schedule
 release_all n capacity i first last (t ∷ ts) events schedule each =

@@ -34,7 +34,8 @@ pub announced_is : (events : List (ℕ × Action)) (x : Announced) → Contains 
 announced_is events x p = let r = Contains-filter_map_from announced_by events x p in by_is events r.0 x r.1 r.2
 
 -- with one event more
-pub announced_more : (events : List (ℕ × Action)) (i : ℕ) (e : ℕ × Action) (o : Option Announced) → i < length events → e ≡ get_or events i e → o ≡ announced_by e → filter_map announced_by (take (i + 1) events) ≡ filter_map announced_by (take i events) ++ cons_option o []
+pub announced_more : (events : List (ℕ × Action)) (i : ℕ) (e : ℕ × Action) (o : Option Announced) → i < length events → e ≡ get_or events i e → o ≡ announced_by e
+    → filter_map announced_by (take (i + 1) events) ≡ filter_map announced_by (take i events) ++ cons_option o []
 announced_more events i e o lt is found =
     ap (filter_map announced_by) (take_more events i e lt) ∙ (filter_map-append announced_by (take i events) (get_or events i e ∷ [])
     ∙ (ap (λ y. filter_map announced_by (take i events) ++ cons_option (announced_by y) []) (sym is) ∙ ap (λ y. filter_map announced_by (take i events) ++ cons_option y []) (sym found)))

@@ -32,7 +32,8 @@ idle_left true s v = refl
 idle_left false s v = refl
 
 -- a node that the events do not change
-pub still : (n capacity : ℕ) (events more : List (ℕ × Action)) (k : ℕ) (v : NodeView) → process n capacity (events ++ more) k ≡ process n capacity events k → ShowsNode n capacity events k v → ShowsNode n capacity (events ++ more) k v
+pub still : (n capacity : ℕ) (events more : List (ℕ × Action)) (k : ℕ) (v : NodeView) → process n capacity (events ++ more) k ≡ process n capacity events k → ShowsNode n capacity events k v
+    → ShowsNode n capacity (events ++ more) k v
 still n capacity events more k v same shows = record {
   is = shows.is;
   state = shows.state ∙ ap (λ (p : Process). p.state) (sym same);
@@ -164,7 +165,8 @@ module _ (n capacity : ℕ) (events : List (ℕ × Action)) (nodes : List NodeVi
 
     -- ---- node i loses its memory
 
-    opened_again : (more : List (ℕ × Action)) (keeps_flying : Bool) (s : NodeState) → process n capacity (events ++ more) i ≡ started (left_by keeps_flying s) → ShowsNode n capacity (events ++ more) i (reopened (left_by keeps_flying s) v)
+    opened_again : (more : List (ℕ × Action)) (keeps_flying : Bool) (s : NodeState) → process n capacity (events ++ more) i ≡ started (left_by keeps_flying s)
+        → ShowsNode n capacity (events ++ more) i (reopened (left_by keeps_flying s) v)
     unfolding reopened
     opened_again more keeps_flying s same = record {
       is = mine.is;

@@ -58,7 +58,8 @@ answers-new me n capacity base h q of =
       based = subst (IsBaseOf me base) (sym first) of;
     }
 
-rests-new : (me n capacity : ℕ) (base : Base) (h : List Input) (q : Request) → IsBaseOf me base h → RestsOn me n capacity (grown me n capacity base h q) (answer me n capacity base h q).number (Replied (answered me n capacity base h q))
+rests-new : (me n capacity : ℕ) (base : Base) (h : List Input) (q : Request) → IsBaseOf me base h
+    → RestsOn me n capacity (grown me n capacity base h q) (answer me n capacity base h q).number (Replied (answered me n capacity base h q))
 unfolding Rests
 rests-new me n capacity base h q of = record {
   within = omega arith;

@@ -87,7 +87,8 @@ idle_near most w i e near = record {
   others = near.others;
 }
 
-rounds_if : (most i : ℕ) (w : RingView) → IsNear (most + 1) w i → ((v : RingView) → IsNear most v i → IsAllDurable (rounds most i v).1) → (b : Bool) → waits w i ≡ b → IsAllDurable (cond b (and_then (round Batch i w) (rounds most i)) ([], w)).1
+rounds_if : (most i : ℕ) (w : RingView) → IsNear (most + 1) w i → ((v : RingView) → IsNear most v i → IsAllDurable (rounds most i v).1) → (b : Bool) → waits w i ≡ b
+    → IsAllDurable (cond b (and_then (round Batch i w) (rounds most i)) ([], w)).1
 rounds_if most i w near others true e = others (settled i (landed Batch i w)) (settled_near most (landed Batch i w) i (landed_near most w i e near))
 rounds_if most i w near others false e = none_near w i (idle_near (most + 1) w i e near)
 
@@ -214,11 +215,13 @@ same_brought serial i q w =
 
 -- ---- deliveries
 
-durable_on : (others : RingView → ℕ × RingView) (one : Bool × RingView) → ((w : RingView) → w.eager ≡ true → IsAllDurable w → IsAllDurable (others w).1) → one.1.eager ≡ true → IsAllDurable one.1 → IsAllDurable (swept_on others one).1
+durable_on : (others : RingView → ℕ × RingView) (one : Bool × RingView) → ((w : RingView) → w.eager ≡ true → IsAllDurable w → IsAllDurable (others w).1) → one.1.eager ≡ true → IsAllDurable one.1
+    → IsAllDurable (swept_on others one).1
 durable_on others (true, w) more eager all = more w eager all
 durable_on others (false, w) more eager all = all
 
-durable_with : (others : RingView → ℕ × RingView) (w : RingView) (delivery : Option (ℕ × Request)) → ((w : RingView) → w.eager ≡ true → IsAllDurable w → IsAllDurable (others w).1) → w.eager ≡ true → IsAllDurable w → IsAllDurable (swept_with others w delivery).1
+durable_with : (others : RingView → ℕ × RingView) (w : RingView) (delivery : Option (ℕ × Request)) → ((w : RingView) → w.eager ≡ true → IsAllDurable w → IsAllDurable (others w).1)
+    → w.eager ≡ true → IsAllDurable w → IsAllDurable (swept_with others w delivery).1
 unfolding swept_one
 durable_with others w None more eager all = all
 durable_with others w (Some delivery) more eager all =

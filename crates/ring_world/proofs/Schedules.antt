@@ -53,7 +53,8 @@ carried-kept n run more i (Acked upto) c = rw part-append (taken-kept (part run 
 carried-kept n run more i (Retire group floor) c = tt
 
 -- lawful inputs of one node, each of them carried, go on with a legal run
-legal-more : (n capacity j : ℕ) (base : Base) → 1 ≤ j → j ≤ n → (xs : List Input) (run : List (ℕ × Input)) → IsLegal n run → IsLawful j n capacity base (part run j ++ xs) → ((x : Input) → Contains xs x → IsCarried n run j x)
+legal-more : (n capacity j : ℕ) (base : Base) → 1 ≤ j → j ≤ n → (xs : List Input) (run : List (ℕ × Input)) → IsLegal n run → IsLawful j n capacity base (part run j ++ xs)
+    → ((x : Input) → Contains xs x → IsCarried n run j x)
     → IsLegal n (run ++ map (λ x. (j, x)) xs)
 unfolding IsLegal IsLawful
 legal-more n capacity j base first last [] run legal lawful carried = rw append-nil legal

@@ -49,7 +49,8 @@ module _ (log : Log) (nodes : List NodeView) (s : State) (is : by_log log false 
     told_same : take log.told es ≡ take log.told events
     told_same = ap (take log.told) grown ∙ take-append-le log.told events more sound.0
 
-    becomes : w.size ≡ t.size → w.capacity ≡ t.capacity → w.eager ≡ t.eager → w.failed ≡ t.failed → w.told ≡ t.told → Ties t es vs → All IsSealed vs → (seen es vs ≡ record s { ring = t }) × Stands es vs
+    becomes : w.size ≡ t.size → w.capacity ≡ t.capacity → w.eager ≡ t.eager → w.failed ≡ t.failed → w.told ≡ t.told → Ties t es vs → All IsSealed vs
+        → (seen es vs ≡ record s { ring = t }) × Stands es vs
     becomes sizes capacities eagers fails tells tie none =
         let now : seen es vs ≡ record s { ring = t } = (λ k. record {
           ring = record {

@@ -41,11 +41,13 @@ pub swept_none : (w : RingView) (m k : ℕ) → m ≡ k + 1 → next_delivery w 
 unfolding swept
 swept_none w m k e none = ap (λ j. swept j w) (after_one m k e) ∙ ap (swept_with (swept k) w) none
 
-pub swept_stop : (w t : RingView) (m k : ℕ) (d : ℕ × Request) → m ≡ k + 1 → next_delivery w ≡ Some d → ◌≡◌ {A = Bool × RingView} (false, t) (swept_one d.0 d.1 w) → ◌≡◌ {A = ℕ × RingView} (swept m w) (0, t)
+pub swept_stop : (w t : RingView) (m k : ℕ) (d : ℕ × Request) → m ≡ k + 1 → next_delivery w ≡ Some d → ◌≡◌ {A = Bool × RingView} (false, t) (swept_one d.0 d.1 w)
+    → ◌≡◌ {A = ℕ × RingView} (swept m w) (0, t)
 unfolding swept
 swept_stop w t m k d e some one = ap (λ j. swept j w) (after_one m k e) ∙ (ap (swept_with (swept k) w) some ∙ ap (swept_on (swept k)) (sym one))
 
-pub swept_go : (w t : RingView) (m k : ℕ) (d : ℕ × Request) → m ≡ k + 1 → next_delivery w ≡ Some d → ◌≡◌ {A = Bool × RingView} (true, t) (swept_one d.0 d.1 w) → ◌≡◌ {A = ℕ × RingView} (swept m w) ((swept k t).0 + 1, (swept k t).1)
+pub swept_go : (w t : RingView) (m k : ℕ) (d : ℕ × Request) → m ≡ k + 1 → next_delivery w ≡ Some d → ◌≡◌ {A = Bool × RingView} (true, t) (swept_one d.0 d.1 w)
+    → ◌≡◌ {A = ℕ × RingView} (swept m w) ((swept k t).0 + 1, (swept k t).1)
 unfolding swept
 swept_go w t m k d e some one = ap (λ j. swept j w) (after_one m k e) ∙ (ap (swept_with (swept k) w) some ∙ ap (swept_on (swept k)) (sym one))
 

@@ -13,7 +13,8 @@ pub filter-none : {X : Type 0} (test : X → Bool) (xs : List X) → filter test
 filter-none test [] e = refl
 filter-none test (x ∷ xs) e = asks (test x) e (λ f. filter-none test xs f)
   where
-    asks : (b : Bool) → cond b (x ∷ filter test xs) (filter test xs) ≡ [] → (filter test xs ≡ [] → filter (λ y. not (test y)) xs ≡ xs) → cond (not b) (x ∷ filter (λ y. not (test y)) xs) (filter (λ y. not (test y)) xs) ≡ x ∷ xs
+    asks : (b : Bool) → cond b (x ∷ filter test xs) (filter test xs) ≡ [] → (filter test xs ≡ [] → filter (λ y. not (test y)) xs ≡ xs)
+        → cond (not b) (x ∷ filter (λ y. not (test y)) xs) (filter (λ y. not (test y)) xs) ≡ x ∷ xs
     asks true f rest = absurd cc
     asks false f rest = ap (λ ys. x ∷ ys) (rest f)
 

@@ -94,7 +94,8 @@ module _ (w : RingView) (events : List (ℕ × Action)) (nodes : List NodeView) 
         omega (arith, low, high, inputs, d)
 
     -- once it is asked, its new ticket alone may be due
-    pub asked_few : All IsSealed nodes → (ticket : Option ℕ) (q : Request) (v1 x : NodeView) → v1 ≡ asked_with ticket q v → x ≡ get_or (set nodes (number - 1) v1) (number - 1) x → length (due x.durable x.held) ≤ 1
+    pub asked_few : All IsSealed nodes → (ticket : Option ℕ) (q : Request) (v1 x : NodeView) → v1 ≡ asked_with ticket q v → x ≡ get_or (set nodes (number - 1) v1) (number - 1) x
+        → length (due x.durable x.held) ≤ 1
     asked_few none ticket q v1 x made read =
         let same : x ≡ asked_with ticket q v = read ∙ (get_or-set_same nodes (number - 1) v1 x place_within ∙ made) in
         subst (λ (z : NodeView). length (due z.durable z.held) ≤ 1) (sym same) (one_due ticket q v (subst IsSealed (sym was) (none (number - 1) v place_within)))
@@ -139,7 +140,8 @@ module _ (w : RingView) (events : List (ℕ × Action)) (nodes : List NodeView) 
       held_kept : v.held ≡ v'.held → w.held ≡ map held_of vs
       held_kept e = sym (set-get_or w.held (i - 1) []) ∙ held_set (held_at w i) (sym held_is ∙ e)
 
-      pub asks : (ticket : Option ℕ) (q : Request) → IsDelivered w.size w.events i q → es ≡ events ++ (i, Submit q) ∷ [] → v' ≡ asked_with ticket q v → Ties (asked ticket i q w) es (set nodes (number - 1) v')
+      pub asks : (ticket : Option ℕ) (q : Request) → IsDelivered w.size w.events i q → es ≡ events ++ (i, Submit q) ∷ [] → v' ≡ asked_with ticket q v
+          → Ties (asked ticket i q w) es (set nodes (number - 1) v')
       unfolding asked asked_with
       asks ticket q delivered logged moved = record {
         logged = log _ logged;
@@ -156,7 +158,8 @@ module _ (w : RingView) (events : List (ℕ × Action)) (nodes : List NodeView) 
         held = held_kept (sym (ap held_of moved));
       }
         where
-          shows_if : (b : Bool) → is_launched flight (node_at w i) ≡ b → Shows w.size w.capacity (w.events ++ cond b ((i, launch flight) ∷ (i, Land) ∷ []) []) (set nodes (i - 1) (made_durable flight n))
+          shows_if : (b : Bool) → is_launched flight (node_at w i) ≡ b
+              → Shows w.size w.capacity (w.events ++ cond b ((i, launch flight) ∷ (i, Land) ∷ []) []) (set nodes (i - 1) (made_durable flight n))
           shows_if true e = landed_shows w.size w.capacity w.events nodes ties.shows i low last flight e
           shows_if false e =
               let idle = not_launched flight e in
@@ -180,7 +183,8 @@ module _ (w : RingView) (events : List (ℕ × Action)) (nodes : List NodeView) 
         held = held_set [] (sym (ap held_of moved));
       }
 
-      pub stops : (flight : Flight) (keeps_flying : Bool) → es ≡ events ++ (i, launch flight) ∷ (i, Crash keeps_flying) ∷ [] → v' ≡ reopened (left flight keeps_flying v) v → Ties (stopped flight keeps_flying i w) es (set nodes (number - 1) v')
+      pub stops : (flight : Flight) (keeps_flying : Bool) → es ≡ events ++ (i, launch flight) ∷ (i, Crash keeps_flying) ∷ [] → v' ≡ reopened (left flight keeps_flying v) v
+          → Ties (stopped flight keeps_flying i w) es (set nodes (number - 1) v')
       unfolding stopped reopened
       stops flight keeps_flying logged moved = record {
         logged = log _ logged;

@@ -5,7 +5,7 @@ use Rattle.ring_records.specs.declared.base.Base.{Base}
 use Rattle.ring_records.specs.declared.input.Input.{Input}
 use Rattle.ring_records.specs.declared.reply.Reply.TheVariants as say
 use Rattle.ring_records.specs.declared.request.Request.TheVariants as ask
-use Rattle.ring_records.specs.Admission.{fresh, cost, used, retired, not_yet, already, is_touched, stale, out_of_turn, too_many, no_room, objection, shortage, refusal, newest}
+use Rattle.ring_records.specs.Admission.{fresh, cost, used, retired, is_retire, already, is_touched, stale, out_of_turn, too_many, no_room, objection, shortage, refusal, newest}
 use Rattle.ring_records.specs.Answer.{input_of, gained, reply}
 use Rattle.ring_records.specs.Emission.{is_below, passed_on, emit, sent}
 use Rattle.ring_records.specs.History.{floor_for, floor, is_retired, names, is_named, touched, bid_for, first_stand, stood, message_of, taken, upto_of, credit, is_live_stand, stands}
@@ -66,14 +66,14 @@ made n capacity events = ap (λ (b : Base). joined_after (durable_from b n capac
 -- ---- the schedules
 
 election_durable : joined_after (durable_from counted 3 65536) [] election_events ≡ first_election
-unfolding counted made_durable before after act part item_at found_after first joined_after gained input_of reply refusal objection shortage no_room is_touched already stale out_of_turn too_many latest term_led with_term greater_term used cost retired not_yet floor_for floor is_retired names is_named touched bid_for first_stand stood message_of taken upto_of credit is_live_stand stands is_below is_less is_key is_bid makes_leader first_leader leader passed_on emit sent
+unfolding counted made_durable before after act part item_at found_after first joined_after gained input_of reply refusal objection shortage no_room is_touched already stale out_of_turn too_many latest term_led with_term greater_term used cost retired is_retire floor_for floor is_retired names is_named touched bid_for first_stand stood message_of taken upto_of credit is_live_stand stands is_below is_less is_key is_bid makes_leader first_leader leader passed_on emit sent
 election_durable = refl
 
 pub election_committed : committed 3 65536 election_events ≡ first_election
 election_committed = made 3 65536 election_events ∙ election_durable
 
 election_each : EachAfter (MayFrom counted 3 65536) [] election_events
-unfolding counted EachAfter May IsDelivered IsReleasable Rests before after act part item_at found_after first joined_after gained input_of reply refusal objection shortage no_room is_touched already stale out_of_turn too_many latest term_led with_term greater_term used cost retired not_yet floor_for floor is_retired names is_named touched bid_for first_stand stood message_of taken upto_of credit is_live_stand stands is_below is_less is_key is_bid makes_leader first_leader leader passed_on emit sent
+unfolding counted EachAfter May IsDelivered IsReleasable Rests before after act part item_at found_after first joined_after gained input_of reply refusal objection shortage no_room is_touched already stale out_of_turn too_many latest term_led with_term greater_term used cost retired is_retire floor_for floor is_retired names is_named touched bid_for first_stand stood message_of taken upto_of credit is_live_stand stands is_below is_less is_key is_bid makes_leader first_leader leader passed_on emit sent
 election_each =
     (record { first = lit≤ tt; last = lit≤ tt; may = tt }, (record { first = lit≤ tt; last = lit≤ tt; may = refl }, (record { first = lit≤ tt; last = lit≤ tt; may = refl }, (record { first = lit≤ tt; last = lit≤ tt; may = ((0, lit< tt, refl), lit≤ tt) }, (record { first = lit≤ tt; last = lit≤ tt; may = tt }, (record { first = lit≤ tt; last = lit≤ tt; may = refl }, (record { first = lit≤ tt; last = lit≤ tt; may = refl }, (record { first = lit≤ tt; last = lit≤ tt; may = ((0, lit< tt, refl), lit≤ tt) }, (record { first = lit≤ tt; last = lit≤ tt; may = tt }, (record { first = lit≤ tt; last = lit≤ tt; may = refl }, (record { first = lit≤ tt; last = lit≤ tt; may = refl }, (record { first = lit≤ tt; last = lit≤ tt; may = ((0, lit< tt, refl), lit≤ tt) }, (record { first = lit≤ tt; last = lit≤ tt; may = record { number = 1; durable = lit≤ tt; rests = refl } }, (record { first = lit≤ tt; last = lit≤ tt; may = (12, lit< tt, refl) }, (record { first = lit≤ tt; last = lit≤ tt; may = refl }, (record { first = lit≤ tt; last = lit≤ tt; may = refl }, (record { first = lit≤ tt; last = lit≤ tt; may = ((1, lit< tt, refl), lit≤ tt) }, (record { first = lit≤ tt; last = lit≤ tt; may = record { number = 1; durable = lit≤ tt; rests = refl } }, (record { first = lit≤ tt; last = lit≤ tt; may = (17, lit< tt, refl) }, (record { first = lit≤ tt; last = lit≤ tt; may = refl }, (record { first = lit≤ tt; last = lit≤ tt; may = refl }, (record { first = lit≤ tt; last = lit≤ tt; may = ((1, lit< tt, refl), lit≤ tt) }, (record { first = lit≤ tt; last = lit≤ tt; may = record { number = 1; durable = lit≤ tt; rests = refl } }, (record { first = lit≤ tt; last = lit≤ tt; may = (22, lit< tt, refl) }, (record { first = lit≤ tt; last = lit≤ tt; may = refl }, (record { first = lit≤ tt; last = lit≤ tt; may = refl }, (record { first = lit≤ tt; last = lit≤ tt; may = ((1, lit< tt, refl), lit≤ tt) }, (record { first = lit≤ tt; last = lit≤ tt; may = record { number = 2; durable = lit≤ tt; rests = refl } }, (record { first = lit≤ tt; last = lit≤ tt; may = (27, lit< tt, refl) }, (record { first = lit≤ tt; last = lit≤ tt; may = refl }, (record { first = lit≤ tt; last = lit≤ tt; may = refl }, (record { first = lit≤ tt; last = lit≤ tt; may = ((2, lit< tt, refl), lit≤ tt) }, (record { first = lit≤ tt; last = lit≤ tt; may = record { number = 2; durable = lit≤ tt; rests = refl } }, (record { first = lit≤ tt; last = lit≤ tt; may = (32, lit< tt, refl) }, (record { first = lit≤ tt; last = lit≤ tt; may = refl }, (record { first = lit≤ tt; last = lit≤ tt; may = refl }, (record { first = lit≤ tt; last = lit≤ tt; may = ((2, lit< tt, refl), lit≤ tt) }, (record { first = lit≤ tt; last = lit≤ tt; may = record { number = 3; durable = lit≤ tt; rests = refl } }, (record { first = lit≤ tt; last = lit≤ tt; may = (37, lit< tt, refl) }, (record { first = lit≤ tt; last = lit≤ tt; may = refl }, (record { first = lit≤ tt; last = lit≤ tt; may = refl }, (record { first = lit≤ tt; last = lit≤ tt; may = ((3, lit< tt, refl), lit≤ tt) }, (record { first = lit≤ tt; last = lit≤ tt; may = record { number = 4; durable = lit≤ tt; rests = refl } }, (record { first = lit≤ tt; last = lit≤ tt; may = (42, lit< tt, refl) }, (record { first = lit≤ tt; last = lit≤ tt; may = refl }, (record { first = lit≤ tt; last = lit≤ tt; may = refl }, (record { first = lit≤ tt; last = lit≤ tt; may = ((2, lit< tt, refl), lit≤ tt) }, (record { first = lit≤ tt; last = lit≤ tt; may = record { number = 3; durable = lit≤ tt; rests = refl } }, (record { first = lit≤ tt; last = lit≤ tt; may = (47, lit< tt, refl) }, (record { first = lit≤ tt; last = lit≤ tt; may = refl }, (record { first = lit≤ tt; last = lit≤ tt; may = refl }, (record { first = lit≤ tt; last = lit≤ tt; may = ((3, lit< tt, refl), lit≤ tt) }, (record { first = lit≤ tt; last = lit≤ tt; may = record { number = 4; durable = lit≤ tt; rests = refl } }, (record { first = lit≤ tt; last = lit≤ tt; may = (52, lit< tt, refl) }, (record { first = lit≤ tt; last = lit≤ tt; may = refl }, (record { first = lit≤ tt; last = lit≤ tt; may = refl }, (record { first = lit≤ tt; last = lit≤ tt; may = ((4, lit< tt, refl), lit≤ tt) }, (record { first = lit≤ tt; last = lit≤ tt; may = tt }, (record { first = lit≤ tt; last = lit≤ tt; may = ((4, lit< tt, refl), lit≤ tt) }, (record { first = lit≤ tt; last = lit≤ tt; may = tt }, (record { first = lit≤ tt; last = lit≤ tt; may = ((5, lit< tt, refl), lit≤ tt) }, (record { first = lit≤ tt; last = lit≤ tt; may = tt }, (record { first = lit≤ tt; last = lit≤ tt; may = ((3, lit< tt, refl), lit≤ tt) }, (record { first = lit≤ tt; last = lit≤ tt; may = record { number = 3; durable = lit≤ tt; rests = refl } }, tt))))))))))))))))))))))))))))))))))))))))))))))))))))))))))))))))
 
@@ -86,7 +86,7 @@ election_announced = record { node = 3; thing = Shown red_5 winner; released = (
 
 -- with batches, and with checkpoints
 crash_durable : (flight : Flight) → joined_after (durable_from counted 2 4096) [] (crash_events (launch flight)) ≡ crash_run
-unfolding counted made_durable before after act part item_at found_after first joined_after gained input_of reply refusal objection shortage no_room is_touched already stale out_of_turn too_many latest term_led with_term greater_term used cost retired not_yet floor_for floor is_retired names is_named touched bid_for first_stand stood message_of taken upto_of credit is_live_stand stands is_below is_less is_key is_bid makes_leader first_leader leader passed_on emit sent
+unfolding counted made_durable before after act part item_at found_after first joined_after gained input_of reply refusal objection shortage no_room is_touched already stale out_of_turn too_many latest term_led with_term greater_term used cost retired is_retire floor_for floor is_retired names is_named touched bid_for first_stand stood message_of taken upto_of credit is_live_stand stands is_below is_less is_key is_bid makes_leader first_leader leader passed_on emit sent
 crash_durable Batch = refl
 crash_durable Checkpoint = refl
 
@@ -94,7 +94,7 @@ pub crash_committed : (flight : Flight) → committed 2 4096 (crash_events (laun
 crash_committed flight = made 2 4096 (crash_events (launch flight)) ∙ crash_durable flight
 
 crash_each : (flight : Flight) → EachAfter (MayFrom counted 2 4096) [] (crash_events (launch flight))
-unfolding counted EachAfter May IsDelivered IsReleasable Rests before after act part item_at found_after first joined_after gained input_of reply refusal objection shortage no_room is_touched already stale out_of_turn too_many latest term_led with_term greater_term used cost retired not_yet floor_for floor is_retired names is_named touched bid_for first_stand stood message_of taken upto_of credit is_live_stand stands is_below is_less is_key is_bid makes_leader first_leader leader passed_on emit sent
+unfolding counted EachAfter May IsDelivered IsReleasable Rests before after act part item_at found_after first joined_after gained input_of reply refusal objection shortage no_room is_touched already stale out_of_turn too_many latest term_led with_term greater_term used cost retired is_retire floor_for floor is_retired names is_named touched bid_for first_stand stood message_of taken upto_of credit is_live_stand stands is_below is_less is_key is_bid makes_leader first_leader leader passed_on emit sent
 crash_each Batch = (record { first = lit≤ tt; last = lit≤ tt; may = tt }, (record { first = lit≤ tt; last = lit≤ tt; may = refl }, (record { first = lit≤ tt; last = lit≤ tt; may = refl }, (record { first = lit≤ tt; last = lit≤ tt; may = ((0, lit< tt, refl), lit≤ tt) }, (record { first = lit≤ tt; last = lit≤ tt; may = record { number = 1; durable = lit≤ tt; rests = refl } }, (record { first = lit≤ tt; last = lit≤ tt; may = (4, lit< tt, refl) }, (record { first = lit≤ tt; last = lit≤ tt; may = refl }, (record { first = lit≤ tt; last = lit≤ tt; may = tt }, (record { first = lit≤ tt; last = lit≤ tt; may = (4, lit< tt, refl) }, (record { first = lit≤ tt; last = lit≤ tt; may = refl }, (record { first = lit≤ tt; last = lit≤ tt; may = tt }, (record { first = lit≤ tt; last = lit≤ tt; may = record { number = 1; durable = lit≤ tt; rests = refl } }, (record { first = lit≤ tt; last = lit≤ tt; may = (11, lit< tt, refl) }, (record { first = lit≤ tt; last = lit≤ tt; may = refl }, (record { first = lit≤ tt; last = lit≤ tt; may = refl }, (record { first = lit≤ tt; last = lit≤ tt; may = ((1, lit< tt, refl), lit≤ tt) }, (record { first = lit≤ tt; last = lit≤ tt; may = tt }, (record { first = lit≤ tt; last = lit≤ tt; may = ((2, lit< tt, refl), lit≤ tt) }, tt))))))))))))))))))
 crash_each Checkpoint = (record { first = lit≤ tt; last = lit≤ tt; may = tt }, (record { first = lit≤ tt; last = lit≤ tt; may = refl }, (record { first = lit≤ tt; last = lit≤ tt; may = refl }, (record { first = lit≤ tt; last = lit≤ tt; may = ((0, lit< tt, refl), lit≤ tt) }, (record { first = lit≤ tt; last = lit≤ tt; may = record { number = 1; durable = lit≤ tt; rests = refl } }, (record { first = lit≤ tt; last = lit≤ tt; may = (4, lit< tt, refl) }, (record { first = lit≤ tt; last = lit≤ tt; may = refl }, (record { first = lit≤ tt; last = lit≤ tt; may = tt }, (record { first = lit≤ tt; last = lit≤ tt; may = (4, lit< tt, refl) }, (record { first = lit≤ tt; last = lit≤ tt; may = refl }, (record { first = lit≤ tt; last = lit≤ tt; may = tt }, (record { first = lit≤ tt; last = lit≤ tt; may = record { number = 1; durable = lit≤ tt; rests = refl } }, (record { first = lit≤ tt; last = lit≤ tt; may = (11, lit< tt, refl) }, (record { first = lit≤ tt; last = lit≤ tt; may = refl }, (record { first = lit≤ tt; last = lit≤ tt; may = refl }, (record { first = lit≤ tt; last = lit≤ tt; may = ((1, lit< tt, refl), lit≤ tt) }, (record { first = lit≤ tt; last = lit≤ tt; may = tt }, (record { first = lit≤ tt; last = lit≤ tt; may = ((2, lit< tt, refl), lit≤ tt) }, tt))))))))))))))))))
 

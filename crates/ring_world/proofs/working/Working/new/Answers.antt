@@ -12,7 +12,8 @@ invariant_of-result c = (
   subst (λ es. IsSound c.args.size c.args.capacity es c.fill.new.nodes.items) (sym c.new.ensures.items) (fresh_sound c.args.size c.args.capacity c.fill.new.nodes.items c.requires.range c.in_default.ensures.nodes),
 )
 
-made : (c : After-new) → by_log (record { alloc = c.args.alloc; size = c.args.size; capacity = c.args.capacity; eager = c.args.eager; tickets = 0; events = c.new.result; told = 0 }) false (map held_of c.fill.new.nodes.items) ≡ opened c.args.size c.args.eager c.args.capacity
+made : (c : After-new)
+    → by_log (record { alloc = c.args.alloc; size = c.args.size; capacity = c.args.capacity; eager = c.args.eager; tickets = 0; events = c.new.result; told = 0 }) false (map held_of c.fill.new.nodes.items) ≡ opened c.args.size c.args.eager c.args.capacity
 made c = λ t. record {
   ring = record {
     size = c.args.size;
