@@ -13,6 +13,11 @@
 //       node after the other, each until it is not `none`. Prints for each `election NANOSECONDS LATE POLLS`: the time from the
 //       first byte sent to the last leader read, how many nodes answered `no 4 late`, and how often `latest` was asked. It ends
 //       before a session has had all the lines that a node takes in one.
+//   load years PORT NODES GROUPS TERMS KEEP
+//       GROUPS clients (1 to 16), each in a thread, with a group of its own and sessions with all NODES nodes. Each has TERMS (1 to
+//       1,000,000) elections, one after the other: `stand` at the next node for the next term, `latest` at one node after the other, each
+//       until it tells that term, and at each node `retire` of the terms more than KEEP (0 to 1,000) below. Prints `wall NANOSECONDS`,
+//       and of `election`, without its retiring, and of `retire` the count, and the percentiles of their times as above.
 //
 // Status 1 where a word is wrong, 2 where the system refuses a call or an answer does not come within ten seconds, 3 where an answer is
 // none that is expected, which is printed on standard error.
@@ -226,6 +231,84 @@ static void elections(int port, int nodes, int count) {
     for (int n = 0; n < nodes; n++) bye(s[n]);
 }
 
+typedef struct {
+    int port, nodes, number, terms, keep, s[16], lines[16];
+    pthread_t thread;
+    uint64_t *elections, *retires;
+} Elector;
+
+// The answer of a node, over a session that has lines left.
+static void ask(Elector *me, int node, const char *line, char *answer) {
+    if (me->s[node] && me->lines[node] == SESSION_LINES - 1) {
+        bye(me->s[node]);
+        me->s[node] = 0;
+    }
+    if (!me->s[node]) {
+        me->s[node] = connected(me->port + node);
+        me->lines[node] = 0;
+    }
+    put(me->s[node], line, strlen(line));
+    get(me->s[node], answer);
+    me->lines[node]++;
+}
+
+static void elect(Elector *me, int term) {
+    char line[LINE], answer[ANSWER];
+    int told = 0, polls = 0;
+    struct timespec pause = {.tv_nsec = 1000000};
+    uint64_t start = now();
+    snprintf(line, LINE, "stand years%d %d 10\n", me->number, term);
+    ask(me, term % me->nodes, line, answer);
+    if (strcmp(answer, "stood")) unexpected(line, answer);
+    snprintf(line, LINE, "latest years%d\n", me->number);
+    for (int n = 0; n < me->nodes; n++)
+        while (ask(me, n, line, answer), sscanf(answer, "term %d ", &told) != 1 || told < term) {
+            if (now() - start > SECONDS * 1000000000ull) unexpected(line, "not elected");
+            if (++polls > POLLS) nanosleep(&pause, 0);
+        }
+    me->elections[term - 1] = now() - start;
+}
+
+static void *elector(void *p) {
+    Elector *me = p;
+    char line[LINE], answer[ANSWER];
+    for (int term = 1; term <= me->terms; term++) {
+        elect(me, term);
+        snprintf(line, LINE, "retire years%d %d\n", me->number, term - me->keep);
+        uint64_t start = now();
+        for (int n = 0; n < me->nodes && term > me->keep; n++) {
+            ask(me, n, line, answer);
+            if (strcmp(answer, "retired")) unexpected(line, answer);
+            uint64_t end = now();
+            me->retires[(size_t)(term - 1) * (size_t)me->nodes + (size_t)n] = end - start;
+            start = end;
+        }
+    }
+    for (int n = 0; n < me->nodes; n++) bye(me->s[n]);
+    return p;
+}
+
+static void years(int port, int nodes, int groups, int terms, int keep) {
+    size_t all = (size_t)groups * (size_t)terms, kept = (size_t)groups * (size_t)(keep < terms ? keep : terms);
+    uint64_t *elections = calloc(all, sizeof *elections), *retires = calloc(all * (size_t)nodes, sizeof *retires);
+    Elector list[16];
+    if (!elections || !retires) refused("memory");
+    uint64_t start = now();
+    for (int g = 0; g < groups; g++) {
+        size_t first = (size_t)g * (size_t)terms;
+        list[g] = (Elector){.port = port, .nodes = nodes, .number = g + 1, .terms = terms, .keep = keep,
+            .elections = elections + first, .retires = retires + first * (size_t)nodes};
+        if ((errno = pthread_create(&list[g].thread, 0, elector, &list[g]))) refused("thread");
+    }
+    for (int g = 0; g < groups; g++) pthread_join(list[g].thread, 0);
+    printf("wall %llu\n", (unsigned long long)(now() - start));
+    print_times("election", elections, all);
+    if (all == kept) return;
+    // Those of the first terms, which nothing was retired behind, are 0.
+    qsort(retires, all * (size_t)nodes, sizeof *retires, ascending);
+    print_times("retire", retires + kept * (size_t)nodes, (all - kept) * (size_t)nodes);
+}
+
 int main(int argc, char **argv) {
     if (argc == 5 && !strcmp(argv[1], "bare")) {
         bare(argv[2], number(argv[3], 1, 100000), number(argv[4], 0, 1));
@@ -236,8 +319,12 @@ int main(int argc, char **argv) {
         stands(port, nodes, clients);
     } else if (argc == 5 && !strcmp(argv[1], "elections")) {
         elections(number(argv[2], 1, 65535), number(argv[3], 2, 16), number(argv[4], 1, 1000));
+    } else if (argc == 7 && !strcmp(argv[1], "years")) {
+        int port = number(argv[2], 1, 65535), nodes = number(argv[3], 2, 16), groups = number(argv[4], 1, 16);
+        years(port, nodes, groups, number(argv[5], 1, 1000000), number(argv[6], 0, 1000));
     } else {
-        fprintf(stderr, "usage: load bare FILE COUNT GROWS | stands PORT NODES CLIENTS ROUNDS WHO | elections PORT NODES COUNT\n");
+        fprintf(stderr, "usage: load bare FILE COUNT GROWS | stands PORT NODES CLIENTS ROUNDS WHO | elections PORT NODES COUNT"
+            " | years PORT NODES GROUPS TERMS KEEP\n");
         return 1;
     }
     return 0;

@@ -1,5 +1,6 @@
 #!/usr/bin/env python3
-"""load.py [--ringd PATH] [--folder PATH] [--runs N] [--against PROGRAM] [--capacity C] [--scrape MS]: times `ringd` under load, over sockets, on files.
+"""load.py [--ringd PATH] [--folder PATH] [--runs N] [--against PROGRAM] [--capacity C] [--scrape MS] [--years TERMS]: times `ringd` under load, over
+sockets, on files.
 
 It prints figures and asserts nothing of them. All of it stands in one run: the answers that clients get, an election, and the cost of
 a bare append with a sync in the same folder, to which the ratios are given.
@@ -20,6 +21,10 @@ a bare append with a sync in the same folder, to which the ratios are given.
                      makes one at some 780 elections. The rows at three nodes, with 3,072, want 262,144: in less, nodes get full.
   --scrape MS        `/metrics` is read at the start of each row's run, and every so many milliseconds then, 1 to 60,000. A node has 31
                      doors at most then, and so many clients in place of 32.
+  --years TERMS      in place of all rows one ring, of 65,536 bytes where --capacity says no other, elects so many terms, 11 to 1,000,000,
+                     in each of three groups, side by side, and each client retires at all nodes the terms more than 10 below the one that
+                     it had elected. Printed are the times of elections and of retiring, what the nodes hold then, and by how much the
+                     memory of `ringd` grew for each input. A refusal ends it, as 6 and 7, with status 1.
 
 A row is so many clients at node 1, or at each of three nodes. A client asks in a loop, and waits for each answer: `stand` in a group of
 its own for a greater term each time, or that and `who` in turn. Each run has a new folder, since a node takes 1,024 Stands at most, and
@@ -46,6 +51,7 @@ Status 0; 1 where a program did not do what is expected of it, which is told on 
 compiler. Linux alone: it reads /proc."""
 
 import argparse
+import json
 import os
 import random
 import re
@@ -67,6 +73,8 @@ STANDS = 1024
 CAPACITY = 1 << 20
 COUNTS = (1, 4, 16, 32)
 MOST_SCRAPED = 31
+# Of --years: how many groups there are, how many terms below the last one are kept, and the capacity.
+GROUPS, KEEP, SMALL = 3, 10, 1 << 16
 APPENDS = 300
 ELECTIONS = 20
 SECONDS = 60
@@ -113,6 +121,16 @@ def free_ports() -> int:
     raise Failed("no free ports")
 
 
+def read(port: int, target: str) -> bytes:
+    """What is told at this port by HTTP."""
+    text = b""
+    with socket.create_connection(("127.0.0.1", port), SECONDS) as client:
+        client.sendall(b"GET %s HTTP/1.1\r\nHost: ring\r\n\r\n" % target.encode("ascii"))
+        while piece := client.recv(1 << 16):
+            text += piece
+    return text
+
+
 class Scraper:
     """Reads `/metrics` at a port again and again, until it is ended."""
 
@@ -122,19 +140,10 @@ class Scraper:
         self.thread = threading.Thread(target=self.scrape, daemon=True)
         self.thread.start()
 
-    def read(self) -> bytes:
-        """What is told."""
-        text = b""
-        with socket.create_connection(("127.0.0.1", self.port), SECONDS) as client:
-            client.sendall(b"GET /metrics HTTP/1.1\r\nHost: ring\r\n\r\n")
-            while piece := client.recv(1 << 16):
-                text += piece
-        return text
-
     def scrape(self) -> None:
         """Reads until it is ended, or is not answered."""
         try:
-            while self.read().startswith(b"HTTP/1.1 200 "):
+            while read(self.port, "/metrics").startswith(b"HTTP/1.1 200 "):
                 self.count += 1
                 if self.ends.wait(self.pause):
                     self.is_answered = True
@@ -162,16 +171,16 @@ class Rings:
 
 
 class Server:
-    """A ring of three new nodes in a folder, which serves so many sessions at each and then ends."""
+    """A ring of three new nodes in a folder, which serves so many sessions at each and then ends, or goes on without end."""
 
-    def __init__(self, rings: Rings, sessions: int, doors: int) -> None:
+    def __init__(self, rings: Rings, sessions: int | None, doors: int) -> None:
         ringd, folder = rings.ringd, rings.folder
         self.port = free_ports()
         self.path = tempfile.mkdtemp(prefix="ring-", dir=folder)
         settings = os.path.join(folder, "settings.toml")
         with open(settings, "w", encoding="utf-8") as file:
             file.write(f'nodes = {RING}\ndir = "{self.path}"\nport = {self.port}\ncapacity = {rings.capacity}\n')
-        words = [ringd, "--settings", settings, "--serve", str(sessions)]
+        words = [ringd, "--settings", settings, *(("--serve", str(sessions)) if sessions else ("--always",))]
         if doors > 1:
             words += ["--doors", str(doors)]
         if rings.pause is not None:
@@ -203,6 +212,11 @@ class Server:
         """How many writes it has made by now; what goes to a socket is sent, and does not count."""
         with open(f"/proc/{self.process.pid}/io", encoding="ascii") as file:
             return int(re.search(r"syscw: (\d+)", file.read()).group(1))
+
+    def memory(self) -> int:
+        """The bytes that it holds in memory."""
+        with open(f"/proc/{self.process.pid}/status", encoding="ascii") as file:
+            return 1024 * int(re.search(r"VmRSS:\s*(\d+) kB", file.read()).group(1))
 
     def rest(self) -> tuple[int, float]:
         """Waits until nothing was written for 30 ms. How many writes there were since the start, and when the last one was seen."""
@@ -440,6 +454,45 @@ def busy() -> tuple[float, float]:
     return (user + nice + system + irq + softirq) / os.sysconf("SC_CLK_TCK"), mine
 
 
+def age(rings: Rings, terms: int) -> None:
+    """One ring elects so many terms in each group, and retires them."""
+    load, server = compiled(rings.folder), Server(rings, None, GROUPS)
+    try:
+        before = server.memory()
+        numbers = (server.port, RING, GROUPS, terms, KEEP)
+        lines = [line.split() for line in call([load, "years", *map(str, numbers)], SECONDS + terms).splitlines()]
+        told = {name: [int(figure) for figure in figures] for name, *figures in lines}
+        nodes = json.loads(read(server.port + RING, "/status").partition(b"\r\n\r\n")[2])["nodes"]
+        print_age(rings, terms, told, nodes, server.memory() - before)
+    finally:
+        server.stop()
+
+
+def print_age(rings: Rings, terms: int, told: dict[str, list[int]], nodes: list[dict], grown: int) -> None:
+    """What an aged ring took and holds. Raises where a node refused a client, or is not well."""
+    refusals = {node["node"]: node["sessions"]["refusals"] for node in nodes if node["sessions"]["refusals"]}
+    states = [node["state"] for node in nodes]
+    if refusals or states != ["well"] * RING:
+        raise Failed(f"the nodes are {', '.join(states)}; refused was {refusals or 'nothing'}")
+    seconds, (count, *elections) = told["wall"][0] / 1e9, told["election"]
+    print(
+        f"{terms:,} terms in each of {GROUPS} groups, all but {KEEP} retired, at {rings.capacity:,} bytes: {seconds:,.0f} s,"
+        f" {count / seconds:,.0f} elections a second, and nothing was refused"
+    )
+    for name, times in (("an election", elections), ("a Retire", told["retire"][1:])):
+        print(f"{name}: 50th, 90th and 99th percentile {', '.join(f'{time / 1e3:,.0f}' for time in times)} us")
+    inputs = sum(node["journal"]["inputs"] for node in nodes)
+    for name, values in (
+        ("inputs", [node["journal"]["inputs"] for node in nodes]),
+        ("checkpoints", [node["journal"]["checkpoints"] for node in nodes]),
+        ("bytes used", [node["journal"]["used"] for node in nodes]),
+        ("bytes of a snapshot", [node["journal"]["snapshot"] for node in nodes]),
+        ("Stands left", [node["stands"]["left"] for node in nodes]),
+    ):
+        print(f"{name} of the nodes: {', '.join(f'{value:,}' for value in values)}")
+    print(f"memory grew by {grown / 2**20:,.1f} MiB, {grown / inputs:.0f} bytes an input")
+
+
 def run(words: argparse.Namespace, folder: str) -> None:
     begun, all_before, mine_before = time.monotonic(), *busy()
     pause = words.scrape / 1e3 if words.scrape else None
@@ -482,19 +535,27 @@ def main() -> int:
     parser.add_argument("--folder", default=".")
     parser.add_argument("--runs", type=int, default=9, metavar="N")
     parser.add_argument("--against", metavar="PROGRAM")
-    parser.add_argument("--capacity", type=int, default=CAPACITY, metavar="C")
+    parser.add_argument("--capacity", type=int, metavar="C")
     parser.add_argument("--scrape", type=int, metavar="MS")
+    parser.add_argument("--years", type=int, metavar="TERMS")
     words = parser.parse_args()
     if not 1 <= words.runs <= 100:
         parser.error("--runs is 1 to 100")
+    if words.capacity is None:
+        words.capacity = SMALL if words.years else CAPACITY
     if not 4096 <= words.capacity <= CAPACITY:
         parser.error("--capacity is 4,096 to 1,048,576")
     if words.scrape is not None and not 1 <= words.scrape <= 60_000:
         parser.error("--scrape is 1 to 60,000")
+    if words.years is not None and not KEEP < words.years <= 1_000_000:
+        parser.error("--years is 11 to 1,000,000")
     folder = ""
     try:
         folder = tempfile.mkdtemp(prefix="load-", dir=os.path.abspath(words.folder))
-        run(words, folder)
+        if words.years:
+            age(Rings(os.path.abspath(words.ringd), folder, words.capacity, SECONDS), words.years)
+        else:
+            run(words, folder)
         return 0
     except (Failed, OSError) as error:
         print(f"load.py: {error}", file=sys.stderr)

@@ -61,6 +61,14 @@ done
 awk -v start="$time_0" -v tenth="$time_10000" -v whole="$time_100000" \
     'BEGIN { printf "ten times the inputs: %.1f times as long, %.1f without the start of the program\n", whole / tenth, (whole - start) / (tenth - start) }'
 
+# Each time is less that of the same node that retires nothing.
+echo "bench core retire, the terms of one group that a node knows:"
+for terms in 1000 10000 100000; do
+    known=$(best /dev/null "$work/counts" "$bench" core retire "$terms" 0)
+    whole=$(best /dev/null "$work/counts" "$bench" core retire "$terms" "$terms")
+    awk -v terms="$terms" -v ns=$((whole - known)) 'BEGIN { printf "all but one of %d terms at once: %.2f ms\n", terms, ns / 1e6 }'
+done
+
 # Each time is less that of the same program with no writes, which fills the device.
 echo "bench device, small writes, each with a sync:"
 for work_of in "1048576 10000" "1048576 500000" "1048576 1000000" "1024 1000000"; do
@@ -168,3 +176,11 @@ for load in "1 1024 2" "4 256 8" "16 64 16" "64 16 20"; do
             printf "\n" }' "$work/counts"
     done
 done
+
+# Each time is less that of the same program with no elections.
+echo "bench audit, the histories of three nodes behind many elections:"
+idle=$(best /dev/null "$work/counts" "$bench" audit 0)
+tenth=$(best /dev/null "$work/counts" "$bench" audit 1200)
+whole=$(best /dev/null "$work/counts" "$bench" audit 12000)
+awk -v idle="$idle" -v tenth="$tenth" -v whole="$whole" \
+    '{ printf "12000 elections, %s: %.4f s, %.1f times as long as a tenth of them\n", $0, (whole - idle) / 1e9, (whole - idle) / (tenth - idle) }' "$work/counts"

@@ -1,17 +1,25 @@
-// One node that accepts inputs over many keys, with half of what it sent in its window.
+// One node that accepts inputs over many keys, with half of what it sent in its window; and one that retires terms.
 use crate::fault::Fault;
-use crate::keys::key;
-use crate::words::next_amount;
+use crate::keys::{group, key};
+use crate::words::{amount, next_amount, next_word};
 use node_core::NodeCore;
-use ring_records::{Bid, Candidate, Input, Msg, NodeNo, Refusal};
+use ring_records::{Bid, Candidate, GroupName, Input, Key, Msg, NodeNo, Refusal, Term};
 use std::alloc::Global;
 use std::env::Args;
 use std::io;
 
-/// `INPUTS`: has the node accept so many, and prints its counts.
+/// `INPUTS`: has the node accept so many, and prints its counts. `retire TERMS FLOOR`: has one that knows the leaders of
+/// so many terms of one group retire those below the floor, none where that is 0, and prints the same.
 pub fn run(rt: &HostRuntime, words: &mut Args) -> Result<(), Fault> {
-    let inputs = next_amount(words)?;
-    let (core, decided) = accept_many(rt.alloc(), inputs)?;
+    let work = next_word(words)?;
+    if work.as_str() == "retire" {
+        let terms = next_amount(words)?;
+        let floor = next_amount(words)?;
+        let (core, told) = retire(rt.alloc(), terms, floor)?;
+        print_counts(rt, &core, told)?;
+        return Ok(());
+    }
+    let (core, decided) = accept_many(rt.alloc(), amount(work)?)?;
     print_counts(rt, &core, decided)?;
     Ok(())
 }
@@ -24,6 +32,7 @@ fn print_counts(rt: &HostRuntime, core: &NodeCore, decided: u32) -> io::Result<(
     println!(rt; "sent {}", core.sent())?;
     println!(rt; "credit {}", core.credit())?;
     println!(rt; "window {}", core.window().len())?;
+    println!(rt; "snapshot {}", core.summary_len())?;
     println!(rt; "decided {decided}")
 }
 
@@ -51,23 +60,56 @@ fn input(core: &NodeCore, turn: u32) -> Result<Input, Refusal> {
         return Ok(Input::Stand { key, bid });
     }
     let no = core.taken();
-    let msg = message(no)?;
-    Ok(Input::Take { no, msg })
+    let index = (no / 2 % 1_000_000) as u32;
+    take(no, key(b't', index)?)
 }
 
-fn message(no: u64) -> Result<Msg, Refusal> {
-    let index = (no / 2 % 1_000_000) as u32;
-    let key = key(b't', index)?;
-    let bid = Bid::new(index)?;
+// Message `no` of the predecessor: a token for the key, or where it is odd the Elected.
+fn take(no: u64, key: Key) -> Result<Input, Refusal> {
+    let bid = Bid::new((no / 2 % 1_000_000) as u32)?;
     let node = NodeNo::first();
     let candidate = Candidate { bid, node };
     if no % 2 == 0 {
-        return Ok(Msg::Token { key, candidate });
+        let msg = Msg::Token { key, candidate };
+        return Ok(Input::Take { no, msg });
     }
-    Ok(Msg::Elected { key, candidate })
+    let msg = Msg::Elected { key, candidate };
+    Ok(Input::Take { no, msg })
 }
 
-// How many elections the input decided: 0 or 1.
+// A node that knows the leaders of so many terms of a group, and then retires those below the floor, and how many
+// leaders and floors it told.
+fn retire(alloc: Global, terms: u32, floor: u32) -> Result<(NodeCore, u32), Refusal> {
+    let group = group(b'r', 0)?;
+    let mut core = NodeCore::new(alloc, NodeNo::new(2)?, 3, u32::MAX);
+    let mut told: u32 = 0;
+    for turn in 0..terms {
+        told = told.saturating_add(elect(&mut core, group, turn)?);
+    }
+    if floor > 0 {
+        let floor = Term::new(floor)?;
+        told = told.saturating_add(accept(&mut core, Input::Retire { group, floor })?);
+    }
+    Ok((core, told))
+}
+
+// Takes the token and the Elected of the term behind this one. How many leaders that told: 1.
+fn elect(core: &mut NodeCore, group: GroupName, turn: u32) -> Result<u32, Refusal> {
+    let term = Term::new(turn.wrapping_add(1))?;
+    let key = Key { group, term };
+    let told = hear(core, key)?;
+    Ok(told.saturating_add(hear(core, key)?))
+}
+
+// Takes the next message, which is for the key.
+fn hear(core: &mut NodeCore, key: Key) -> Result<u32, Refusal> {
+    match take(core.taken(), key) {
+        Ok(input) => accept(core, input),
+        Err(refusal) => Err(refusal),
+    }
+}
+
+// How many leaders or floors the input told: 0 or 1.
 fn accept(core: &mut NodeCore, input: Input) -> Result<u32, Refusal> {
     core.admit(&input)?;
     match core.apply(input) {

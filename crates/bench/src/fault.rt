@@ -1,5 +1,6 @@
 // Why a run ends early.
 use disk_model::{DeviceFault, OpenFault};
+use ring_audit::AuditFault;
 use ring_records::Refusal;
 use sessions::SessionFault;
 use std::alloc::AllocError;
@@ -48,6 +49,9 @@ pub enum Fault {
     /// A session did not come to its end.
     #[error("session broke off")]
     Session,
+    /// Histories are not those of a run.
+    #[error("histories are no run")]
+    Histories,
     /// A call of the service was refused.
     #[error("{0}")]
     Refused(Refusal),
@@ -86,6 +90,15 @@ impl From<OpenFault> for Fault {
         match fault {
             OpenFault::Device => Fault::File,
             OpenFault::Memory => Fault::Memory,
+        }
+    }
+}
+
+impl From<AuditFault> for Fault {
+    fn from(fault: AuditFault) -> Fault {
+        match fault {
+            AuditFault::Memory => Fault::Memory,
+            AuditFault::Shape | AuditFault::Stuck { .. } => Fault::Histories,
         }
     }
 }

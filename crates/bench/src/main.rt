@@ -3,6 +3,7 @@
 //! stand where it does is told on standard error, and the status is 2; what else ends a work is told so with status 1.
 #![tactic(auto)]
 
+mod audit_part;
 mod board_part;
 mod core_part;
 mod device_part;

@@ -1,6 +1,9 @@
 // The parts of the service that do works, each in a file of its own.
 use crate::fault::Fault;
-use crate::{board_part, core_part, device_part, hub_part, journal_part, node_part, sessions_part};
+use crate::{
+    audit_part, board_part, core_part, device_part, hub_part, journal_part, node_part,
+    sessions_part,
+};
 use std::env::Args;
 use std::sync::Wait;
 use std::thread::Threads;
@@ -22,11 +25,13 @@ pub enum Part {
     Sessions,
     /// Hubs with appenders and a flusher in threads.
     Hub,
+    /// Histories of a ring that are audited.
+    Audit,
 }
 
 /// Each part with its word, and what it is told to do.
-pub const PARTS: [(Part, &str, &str); 7] = [
-    (Part::Core, "core", "INPUTS"),
+pub const PARTS: [(Part, &str, &str); 8] = [
+    (Part::Core, "core", "INPUTS | retire TERMS FLOOR"),
     (Part::Device, "device", "BYTES WRITES"),
     (
         Part::Journal,
@@ -49,6 +54,7 @@ pub const PARTS: [(Part, &str, &str); 7] = [
         "hub",
         "memory APPENDERS STANDS HUBS | file APPENDERS STANDS HUBS PATH | bare APPENDS PATH",
     ),
+    (Part::Audit, "audit", "ELECTIONS"),
 ];
 
 impl Part {
@@ -77,6 +83,7 @@ impl Part {
             Part::Board => board_part::run(rt, threads, words),
             Part::Sessions => sessions_part::run(rt, words),
             Part::Hub => hub_part::run(rt, threads, words),
+            Part::Audit => audit_part::run(rt, words),
         }
     }
 }

@@ -9,7 +9,11 @@ pub fn next_word(words: &mut Args) -> Result<String, Fault> {
 
 /// The next word as a number, 0 to 2^32 - 1. Refused where there is none, and with the word where it is no such number.
 pub fn next_amount(words: &mut Args) -> Result<u32, Fault> {
-    let word = next_word(words)?;
+    amount(next_word(words)?)
+}
+
+/// The word as a number, 0 to 2^32 - 1. Refused with the word where it is no such number.
+pub fn amount(word: String) -> Result<u32, Fault> {
     match word.parse::<u32>() {
         Ok(amount) => Ok(amount),
         Err(_) => Err(Fault::NoAmount(word)),
