@@ -15,7 +15,7 @@ use std::marker::Brand;
 use std::process::Abort;
 use std::sync::Wait;
 use std::test::*;
-use test_rows::{Ask, Note};
+use test_rows::{Ask, Cause, Note, Say};
 
 const STAND: Ask = Ask::Stand("red", 5, 10);
 
@@ -194,8 +194,10 @@ const THREE: Look = Look {
     used: 42 + 20 + 29 + 16,
     snapshot: 42 + 13,
     epoch: 1,
+    layout: 3,
     capacity: 4096,
     stands: 1,
+    floors: 0,
     is_due: false,
     is_open: true,
 };
@@ -243,8 +245,10 @@ const SECOND: Look = Look {
     used: 65 + 20,
     snapshot: 69 + 13 + 14,
     epoch: 2,
+    layout: 2,
     capacity: 4096,
     stands: 2,
+    floors: 0,
     is_due: false,
     is_open: true,
 };
@@ -286,6 +290,32 @@ const RENEWS: &[Step] = &[
 #[test]
 fn a_checkpoint_that_is_due_is_launched_and_frees_room(rt: HostRuntime) -> Result<(), Fail> {
     ends(&rt, 1, Case::Plays((2, 71, 71)), RENEWS);
+    Ok(())
+}
+
+/// In an area of layout 2 the node wins, and gives up the terms below: that is launched as a checkpoint, whose snapshot has
+/// 42 bytes, a key of 18, two messages of 14 and a floor of 8. What comes after is a batch again.
+const GIVES_UP: &[Step] = &[
+    CommitsAnother,
+    Asks(Ask::Take(0, Note::Token("red", 5, 10, 1)), 2),
+    Flushes,
+    Says(Say::Taken),
+    Asks(Ask::Retire("red", 6), 2),
+    Says(Say::Refused(Cause::Undecided)),
+    Asks(Ask::Retire("red", 5), 3),
+    Renews(1, 96),
+    Says(Say::Retired),
+    Uses(96),
+    Asks(Ask::Who("red", 4), 3),
+    Says(Say::Refused(Cause::Retired(5))),
+    Asks(AGAIN, 4),
+    Flushes,
+    Says(Say::Stood),
+];
+
+#[test]
+fn a_checkpoint_that_is_needed_is_launched(rt: HostRuntime) -> Result<(), Fail> {
+    ends(&rt, 1, Case::GoesOn((3, 4, 3)), GIVES_UP);
     Ok(())
 }
 

@@ -13,7 +13,7 @@ use ring_records::{Input, Refusal};
 use std::alloc::AllocGlobal;
 use std::process::Abort;
 use std::sync::Wait;
-use test_rows::{Ask, Op};
+use test_rows::{Ask, Op, Say};
 
 pub fn asks<A: Node, R: Wait + Abort>(
     rt: &R,
@@ -42,6 +42,15 @@ pub fn refuses<A: Node, R: Wait + Abort>(
 pub fn redeems<A: Node, R: Wait + Abort>(rt: &R, hub: &Hub<A>, ticket: Ticket) {
     match hub.redeem_wait(rt, ticket) {
         Ok((reply, stub)) => assert!(rt; stub.reply() == reply),
+        Err((_ticket, refusal)) => panic!(rt; "{refusal}"),
+    }
+}
+
+/// The ticket is redeemed with this reply.
+pub fn says<A: Node, R: Wait + Abort>(rt: &R, hub: &Hub<A>, ticket: Ticket, say: Say) {
+    let want = say.reply().expect(rt, "a reply");
+    match hub.redeem_wait(rt, ticket) {
+        Ok((reply, stub)) => assert!(rt; reply == want && stub.reply() == want),
         Err((_ticket, refusal)) => panic!(rt; "{refusal}"),
     }
 }
@@ -127,7 +136,7 @@ pub fn lands<A: Node, R: Wait + Abort>(
     }
 }
 
-/// The checkpoint that is due. The node is one of a ring of 3.
+/// The checkpoint that is due or needed. The node is one of a ring of 3.
 pub fn launches_all<A: Node, R: Wait + Abort>(rt: &R, hub: &Hub<A>, tie: &mut Tie<A>) -> Checkpoint
     requires ring { A.member.n ≡ 3 }
     ensures { IsSound 3 (base_by result) }

@@ -11,7 +11,7 @@ use group_commit::{Desk, Ticket};
 use std::alloc::AllocGlobal;
 use std::process::Abort;
 use std::sync::Wait;
-use test_rows::{Ask, Note};
+use test_rows::{Ask, Note, Say};
 
 /// What is done with a hub, and what comes of it. A ticket is the newest one that is open.
 #[derive(Clone, Copy)]
@@ -22,6 +22,8 @@ pub enum Step {
     Refuses(Ask, No),
     /// The ticket is redeemed, and the stub has the reply.
     Redeems,
+    /// The ticket is redeemed with this reply.
+    Says(Say),
     /// The ticket of a hub that has failed is not redeemed, and is forfeited.
     Fails,
     /// The ticket is refused, and ends.
@@ -40,7 +42,7 @@ pub enum Step {
     LandsAnother,
     /// The one input that waits becomes durable.
     Flushes,
-    /// The checkpoint that is due, of so many inputs, is launched and lands. Its snapshot takes so many bytes.
+    /// The checkpoint that is due or needed, of so many inputs, is launched and lands. Its snapshot takes so many bytes.
     Renews(u64, u32),
     /// Another journal's batch, which its device spoiled, is refused and comes back.
     SpoilsAnother,
@@ -136,6 +138,10 @@ impl<A: Node> Station<A> {
             Step::Redeems => {
                 let ticket = self.ticket(rt);
                 redeems(rt, &self.hub, ticket);
+            }
+            Step::Says(say) => {
+                let ticket = self.ticket(rt);
+                says(rt, &self.hub, ticket, say);
             }
             Step::Fails => {
                 let ticket = self.ticket(rt);

@@ -1,4 +1,5 @@
 // Whether the histories of nodes can be told as one run, on worked ones.
+mod growths;
 mod random;
 
 use crate::rows::{input, node};
@@ -40,13 +41,17 @@ fn history(rt: &impl Abort, alloc: Global, ops: &[Op]) -> Result<Vec<Input>, All
 }
 
 /// The histories of these inputs.
-fn histories(rt: &impl Abort, alloc: Global, rows: &[&[Op]]) -> Vec<Vec<Input>> {
+fn built(rt: &impl Abort, alloc: Global, rows: &[&[Op]]) -> Result<Vec<Vec<Input>>, AllocError> {
     let mut all = Vec::new(alloc);
     for ops in rows {
-        let inputs = history(rt, alloc, ops).expect(rt, "ample memory");
-        all.push(inputs).expect(rt, "ample memory");
+        all.push(history(rt, alloc, ops)?)?;
     }
-    all
+    Ok(all)
+}
+
+/// The same, with memory enough.
+fn histories(rt: &impl Abort, alloc: Global, rows: &[&[Op]]) -> Vec<Vec<Input>> {
+    built(rt, alloc, rows).expect(rt, "ample memory")
 }
 
 /// How many steps the run of the histories has, or why there is none.

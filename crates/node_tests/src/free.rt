@@ -5,7 +5,7 @@ use ring_records::{KeyState, Packet, Refusal};
 use std::alloc::Global;
 use std::process::Abort;
 use test_rows::Note::{Elected, Token};
-use test_rows::Op::{self, Acked, Stand, Take};
+use test_rows::Op::{self, Acked, Retire, Stand, Take};
 
 /// Accepts the input, which nothing is said against.
 fn accept(rt: &impl Abort, core: &mut FreeCore, op: Op) -> Effects {
@@ -60,6 +60,9 @@ fn a_core_without_a_capacity_is_copied_and_restored(rt: HostRuntime) {
     let mut copy = core.try_copy().expect(&rt, "ample memory");
     accept(&rt, &mut copy, Acked(2));
     assert_eq!(rt; (copy.credit(), copy.window().len()), (2, 0));
+    let floor = key(&rt, "red", 5).term;
+    accept(&rt, &mut copy, Retire("red", 5));
+    assert_eq!(rt; copy.who(&key(&rt, "red", 4)), Err(Refusal::Retired(floor)));
     has_won(&rt, &core);
     has_won(&rt, &restored(&rt, rt.alloc(), &core));
 }

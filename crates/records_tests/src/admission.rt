@@ -1,7 +1,7 @@
 // What a node admits, and the first cause to refuse.
 use crate::rows::{input, inputs, node};
 use look_back::refusal;
-use ring_records::{Base, Input, Refusal};
+use ring_records::{Base, Input, LAYOUT, Refusal};
 use std::alloc::Global;
 use std::process::Abort;
 use test_rows::Cause;
@@ -154,29 +154,27 @@ const UNDECIDED: Option<Cause> = Some(Cause::Undecided);
 
 const BELOW: Option<Cause> = Some(Cause::Retired(8));
 
-/// A Retire that nothing else is objected to has no room yet.
 static FLOORS: [Row; 9] = [
     ("nobody leads", AMPLE, &[], Retire("red", 1), UNDECIDED),
     ("another leads", AMPLE, &LEADS, Retire("blue", 1), UNDECIDED),
     ("above latest", AMPLE, &LEADS, Retire("red", 10), UNDECIDED),
-    ("latest", AMPLE, &LEADS, Retire("red", 9), Some(Cause::Full)),
+    ("latest", AMPLE, &LEADS, Retire("red", 9), None),
     ("the floor again", AMPLE, &RETIRED, Retire("red", 8), BELOW),
-    (
-        "above the floor",
-        AMPLE,
-        &RETIRED,
-        Retire("red", 9),
-        Some(Cause::Full),
-    ),
+    ("above the floor", AMPLE, &RETIRED, Retire("red", 9), None),
     ("a Stand below", AMPLE, &RETIRED, Stand("red", 7, 5), BELOW),
     ("a Stand at it", AMPLE, &RETIRED, Stand("red", 8, 5), STALE),
     ("another group", AMPLE, &RETIRED, Stand("blue", 7, 5), None),
 ];
 
+const FULL: Option<Cause> = Some(Cause::Full);
+
 /// The capacity is judged last.
-static COSTS: [Row; 3] = [
-    ("one byte too many", 98, &CREDITED, OTHER, Some(Cause::Full)),
+static COSTS: [Row; 6] = [
+    ("one byte too many", 98, &CREDITED, OTHER, FULL),
     ("it just fits", 99, &CREDITED, OTHER, None),
+    ("a floor too many", 135, &LEADS, Retire("red", 9), FULL),
+    ("a floor just fits", 136, &LEADS, Retire("red", 9), None),
+    ("26 before full", 0, &LEADS, Retire("red", 10), UNDECIDED),
     ("full comes last", 0, &[STOOD], STOOD, ALREADY),
 ];
 
@@ -196,7 +194,7 @@ fn a_base_takes_its_bytes(rt: &impl Abort, alloc: Global) {
     for row in &BASES {
         let (name, summarised, capacity, is_full) = *row;
         let base = Base {
-            layout: 2,
+            layout: LAYOUT,
             epoch: 1,
             inputs: summarised,
             bytes: 65,

@@ -5,7 +5,7 @@ use ring_records::Base;
 use std::alloc::Global;
 use std::process::Abort;
 use test_rows::Note::{self, Elected, Token};
-use test_rows::Op::{self, Stand, Take};
+use test_rows::Op::{self, Retire, Stand, Take};
 use test_rows::{Ask, Cause, Say};
 
 /// What is asked, the request, the reply, and how many inputs that rests on.
@@ -91,7 +91,7 @@ fn answers_after_a_stand(rt: HostRuntime) {
 
 static LED: [Op; 2] = [Stand("red", 9, 5), Take(0, Token("red", 9, 5, 1))];
 
-static ONCE_IT_LEADS: [Row; 6] = [
+static ONCE_IT_LEADS: [Row; 8] = [
     ("who leads", Ask::Who("red", 9), Say::Leader(5, 1), 2),
     ("another term", Ask::Who("red", 8), Say::Nobody, 2),
     ("the latest", Ask::Latest("red"), Say::Latest(9, 5, 1), 2),
@@ -108,9 +108,44 @@ static ONCE_IT_LEADS: [Row; 6] = [
         Say::Taken,
         3,
     ),
+    ("a floor", Ask::Retire("red", 9), Say::Retired, 3),
+    (
+        "a floor too high",
+        Ask::Retire("red", 10),
+        Say::Refused(Cause::Undecided),
+        2,
+    ),
 ];
 
 #[test]
 fn answers_once_it_leads(rt: HostRuntime) {
     tells_all(&rt, rt.alloc(), &LED, &ONCE_IT_LEADS);
+}
+
+static GAVE_UP: [Op; 3] = [
+    Stand("red", 9, 5),
+    Take(0, Token("red", 9, 5, 1)),
+    Retire("red", 9),
+];
+
+const BELOW: Say = Say::Refused(Cause::Retired(9));
+
+static BEHIND_A_FLOOR: [Row; 7] = [
+    ("a term below", Ask::Who("red", 8), BELOW, 3),
+    ("the floor", Ask::Who("red", 9), Say::Leader(5, 1), 3),
+    ("the latest", Ask::Latest("red"), Say::Latest(9, 5, 1), 3),
+    ("another group", Ask::Who("blue", 8), Say::Nobody, 3),
+    ("a Stand below", Ask::Stand("red", 8, 5), BELOW, 3),
+    ("the same floor", Ask::Retire("red", 9), BELOW, 3),
+    (
+        "a message below",
+        Ask::Take(1, Token("red", 8, 5, 2)),
+        Say::Taken,
+        4,
+    ),
+];
+
+#[test]
+fn answers_behind_a_floor(rt: HostRuntime) {
+    tells_all(&rt, rt.alloc(), &GAVE_UP, &BEHIND_A_FLOOR);
 }

@@ -48,11 +48,20 @@ const STANDS: Say = Line(b"stand red 6 7\n", b"stood");
 
 const STANDS_AGAIN: Say = Line(b"stand red 6 11\n", b"no 3 already 7");
 
-/// Node 1 had stood, and led. It leads one term more.
-const LATER: &[Say] = &[STOOD, LED, STANDS, LEADS, LATEST, BYE];
+const GIVES_UP: Say = Line(b"retire red 5\n", b"retired");
 
-/// It had stood for both, and led.
-const AGAIN: &[Say] = &[STOOD, LED, STANDS_AGAIN, LEADS, LATEST, BYE];
+const GAVE_UP: Say = Line(b"retire red 5\n", b"no 23 retired 5");
+
+/// The board is told a little later.
+const SOON_BELOW: Say = AtLast(b"who red 4\n", b"no 23 retired 5");
+
+const BELOW: Say = Line(b"who red 4\n", b"no 23 retired 5");
+
+/// Node 1 had stood, and led. It leads one term more, and gives up those below the first.
+const LATER: &[Say] = &[STOOD, LED, STANDS, LEADS, LATEST, GIVES_UP, SOON_BELOW, BYE];
+
+/// It had stood for both, led, and given up terms.
+const AGAIN: &[Say] = &[STOOD, LED, STANDS_AGAIN, LEADS, LATEST, BELOW, GAVE_UP, BYE];
 
 const ASKS: &[Say] = &[LED, LEADS, LATEST, BYE];
 

@@ -57,15 +57,22 @@ const OPEN: &[Say] = &[
     Meanwhile(
         7230,
         Target(
-            "/status",
-            b"\"sessions\":{\"begun\":1,\"busy\":1,\"doors\":2,\"refusals\":[{\"count\":1,\"number\":1},{\"count\":1,\"number\":3},{\"count\":1,\"number\":26}]},\"stands\":{\"left\":1023,\"taken\":1},\"state\":\"well\"},",
+            "/metrics",
+            b"\ncinoweta_journal_layout{node=\"1\"} 3\ncinoweta_journal_layout{node=\"2\"} 3\n",
         ),
     ),
     Meanwhile(
         7230,
         Target(
             "/status",
-            b"\"sessions\":{\"begun\":0,\"busy\":0,\"doors\":2,\"refusals\":[]},\"stands\":{\"left\":1024,\"taken\":0},\"state\":\"well\"}],\"started\":",
+            b"\"sessions\":{\"begun\":1,\"busy\":1,\"doors\":2,\"refusals\":[{\"count\":1,\"number\":1},{\"count\":1,\"number\":3},{\"count\":1,\"number\":26}]},\"stands\":{\"floors\":0,\"left\":1023,\"taken\":1},\"state\":\"well\"},",
+        ),
+    ),
+    Meanwhile(
+        7230,
+        Target(
+            "/status",
+            b"\"sessions\":{\"begun\":0,\"busy\":0,\"doors\":2,\"refusals\":[]},\"stands\":{\"floors\":0,\"left\":1024,\"taken\":0},\"state\":\"well\"}],\"started\":",
         ),
     ),
     Meanwhile(7230, Target("/status", b",\"version\":\"0.1.0\"}")),
@@ -73,7 +80,7 @@ const OPEN: &[Say] = &[
         7230,
         Target(
             "/metrics",
-            b"\ncinoweta_stands_total{node=\"1\"} 1\ncinoweta_stands_total{node=\"2\"} 0\n",
+            b"\ncinoweta_stands{node=\"1\"} 1\ncinoweta_stands{node=\"2\"} 0\n",
         ),
     ),
     Meanwhile(

@@ -85,7 +85,7 @@ pub fn released<A: Node, R: Wait + Abort>(
     }
 }
 
-/// How many inputs a round makes durable, and how many leaders they make known. Where a growth is refused it is tried
+/// How many inputs a round makes durable, and how many leaders and floors they make known. Where a growth is refused it is tried
 /// again.
 pub fn rounds<V: Device, J: Naming, A: Node, R: Wait + Abort, G: Gate>(
     rt: &R,
@@ -104,7 +104,7 @@ pub fn rounds<V: Device, J: Naming, A: Node, R: Wait + Abort, G: Gate>(
     }
 }
 
-/// A round that makes a leader known.
+/// A round that makes a leader or a floor known.
 pub fn leads<V: Device, J: Naming, A: Node, R: Wait + Abort>(
     rt: &R,
     hub: &Hub<A>,

@@ -29,6 +29,10 @@ pub enum Act {
     Frees,
     /// By a service it stands for term 5 of the group twice, reads, and retires.
     StandsTwice(&'static str),
+    /// By a service it gives up the terms of the group below 5, twice, and stands for term 4.
+    GivesUp(&'static str),
+    /// It reads that the term of the group is below this floor.
+    IsBelow(&'static str, u32, u32),
 }
 
 /// A share, a reader, and the stub of the last reply, if there was one.
@@ -81,6 +85,8 @@ impl<J: Naming, A: Node> Client<J, A> {
             Act::AwaitsHold => assert!(rt; await_flag(rt, &flags.held)),
             Act::Frees => flags.freed.store(true, Ordering::SeqCst),
             Act::StandsTwice(name) => return client.stands_twice(rt, hub, name),
+            Act::GivesUp(name) => return client.gives_up(rt, hub, name),
+            Act::IsBelow(name, term, floor) => client.is_below(rt, name, term, floor),
         }
         client
     }
@@ -115,6 +121,30 @@ impl<J: Naming, A: Node> Client<J, A> {
     /// The reader is told that this leads the group in the term.
     pub fn knows(&mut self, rt: &impl Abort, name: &str, term: u32, bid: u32, node: u8) {
         assert!(rt; self.reader.who(&key(rt, name, term)) == leader(rt, bid, node));
+    }
+
+    /// The reader is told that the term of the group is below this floor.
+    pub fn is_below(&mut self, rt: &impl Abort, name: &str, term: u32, floor: u32) {
+        let floor = key(rt, name, floor).term;
+        assert!(rt; self.reader.who(&key(rt, name, term)) == Err(Refusal::Retired(floor)));
+    }
+
+    /// Gives up the terms below 5, of which the group has a leader: a second time, and as it stands for term 4, it is refused.
+    fn gives_up<'a, R: Wait + Abort>(self, rt: &'a R, hub: &'a Hub<A>, name: &str) -> Client<J, A> {
+        let same = reply(rt, Say::Refused(Cause::Retired(5)));
+        let below = reply(rt, Say::Refused(Cause::Retired(5)));
+        let floor = key(rt, name, 5).term;
+        let Client { share, reader, .. } = self;
+        let mut service = HubService::new(rt, hub, share, reader);
+        assert!(rt; service.retire(&group(rt, name), floor) == Ok(reply(rt, Say::Retired)));
+        assert!(rt; service.retire(&group(rt, name), floor) == Ok(same));
+        assert!(rt; service.stand(key(rt, name, 4), bid(rt, 10)) == Ok(below));
+        let (share, reader, last) = service.into_parts();
+        Client {
+            share,
+            reader,
+            last,
+        }
     }
 
     /// Stands twice with bid 10: the second is refused, and no leader is known, so no floor is taken.

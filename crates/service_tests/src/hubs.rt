@@ -9,6 +9,7 @@ ghost use Rattle.commit_hub.specs.Pages.{ForAccepted, ForTie};
 
 use crate::calls::Noted;
 use crate::clients::Client;
+use crate::ring::{Ring, Seat, takes_part};
 use crate::rows::{fills, node};
 use crate::slow::Flags;
 use crate::station::{Station, Step};
@@ -37,6 +38,18 @@ pub enum Play<'a> {
     Filled(&'static [Step]),
     /// What both clients do beside the flusher.
     Together(&'a Flags, Duo),
+    /// The first client has this part in the election of a ring.
+    InRing(&'a Ring, Seat),
+}
+
+impl Play<'_> {
+    /// The number of the node whose hub it is.
+    fn number(self) -> u8 {
+        match self {
+            Play::InRing(_, seat) => seat.number,
+            _ => 1,
+        }
+    }
 }
 
 /// What a hub leaves: its journal, how many rounds the board is owed, and what it was settled with where its clients were
@@ -86,6 +99,19 @@ fn ends<V: Device, J: Naming, A: Node, R: Wait>(rt: &R, flusher: Flusher<V, J, A
     }
 }
 
+/// Ends the flusher, and settles the hub by the shares of both clients.
+fn settled<V: Device, J: Naming, A: Node, R: Wait + Abort + AllocGlobal>(
+    rt: &R,
+    hub: Hub<A>,
+    flusher: Flusher<V, J, A>,
+    first: Client<J, A>,
+    second: Client<J, A>,
+) -> Ended<V> {
+    let mut ended = ends(rt, flusher);
+    ended.settled = Some(settles(rt, hub, first, second));
+    ended
+}
+
 /// Does with a hub what the play says, and ends it.
 fn on_hub<
     V: Device + Drop + Send,
@@ -126,9 +152,11 @@ fn on_hub<
             let both = together(rt, &hub, &mut flusher, first, second, flags, duo);
             let (first, second) = both;
             let second = second.plays(rt, &hub, flags, duo.later);
-            let mut ended = ends(rt, flusher);
-            ended.settled = Some(settles(rt, hub, first, second));
-            Ok(ended)
+            Ok(settled(rt, hub, flusher, first, second))
+        }
+        Play::InRing(ring, seat) => {
+            let first = takes_part(rt, &hub, &mut flusher, first, ring, seat);
+            Ok(settled(rt, hub, flusher, first, second))
         }
     }
 }
@@ -144,7 +172,7 @@ fn begun<V: Device, R: Abort>(
 {
     let mut made = made;
     match play {
-        Play::Alone(_) => {}
+        Play::Alone(_) | Play::InRing(_, _) => {}
         Play::Filled(_) => fills(rt, &mut made),
         Play::Together(flags, _) => flags.armed.store(true, Ordering::SeqCst),
     }
@@ -152,14 +180,15 @@ fn begun<V: Device, R: Abort>(
     made
 }
 
-/// Plays on the hub of node 1 of 3 with this device and capacity.
+/// Plays on the hub of a node of 3, of node 1 outside a ring, with this device and capacity.
 pub fn plays<V: Device + Drop + Send, R: Threads + Wait + Clock + Abort + AllocGlobal + Sync>(
     rt: &R,
     device: V,
     capacity: u32,
     play: Play<'_>,
 ) -> Result<Ended<V>, Refusal> {
-    match node_store::Node::create(rt.alloc(), device, node(rt, 1), 3, capacity, 0) {
+    let me = node(rt, play.number());
+    match node_store::Node::create(rt.alloc(), device, me, 3, capacity, 0) {
         Ok(made) => {
             let (desk, journal) = begun(rt, made, play).split();
             let (opened, blanks) = (Opened::new(), Blanks::new(2));
@@ -169,19 +198,15 @@ pub fn plays<V: Device + Drop + Send, R: Threads + Wait + Clock + Abort + AllocG
     }
 }
 
-/// What both clients do beside the flusher of a hub with this device, of capacity 4,096: what they leave, and what the hub
-/// was settled with. What was held was not late.
-pub fn plays_duo<V: Device + Drop + Send, R: Threads + Wait + Clock + Abort + AllocGlobal + Sync>(
-    rt: &R,
-    device: V,
-    flags: &Flags,
-    duo: Duo,
-) -> (Journal<V>, Settled) {
-    let ended = match plays(rt, device, 4096, Play::Together(flags, duo)) {
+/// Plays on a hub with this device, of capacity 4,096: what it leaves, and what it was settled with.
+pub fn ends_settled<
+    V: Device + Drop + Send,
+    R: Threads + Wait + Clock + Abort + AllocGlobal + Sync,
+>(rt: &R, device: V, play: Play<'_>) -> (Journal<V>, Settled) {
+    let ended = match plays(rt, device, 4096, play) {
         Ok(ended) => ended,
         Err(refusal) => panic!(rt; "{refusal}"),
     };
-    assert!(rt; !flags.late.load(Ordering::SeqCst));
     let Ended {
         journal,
         settled,
@@ -191,4 +216,16 @@ pub fn plays_duo<V: Device + Drop + Send, R: Threads + Wait + Clock + Abort + Al
         Some(settled) => (journal, settled),
         None => panic!(rt; "not settled"),
     }
+}
+
+/// What both clients do beside the flusher of such a hub. What was held was not late.
+pub fn plays_duo<V: Device + Drop + Send, R: Threads + Wait + Clock + Abort + AllocGlobal + Sync>(
+    rt: &R,
+    device: V,
+    flags: &Flags,
+    duo: Duo,
+) -> (Journal<V>, Settled) {
+    let ended = ends_settled(rt, device, Play::Together(flags, duo));
+    assert!(rt; !flags.late.load(Ordering::SeqCst));
+    ended
 }

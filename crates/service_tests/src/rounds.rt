@@ -65,6 +65,31 @@ fn a_round_publishes_what_it_makes_durable(rt: HostRuntime) -> Result<(), Fail> 
     Ok(())
 }
 
+/// A leader and a floor are made known by a round, and a floor by the next.
+const GIVES_UP: &[Step] = &[
+    Submits(RED),
+    Submits(Ask::Retire("red", 4)),
+    Rounds(0, 2, 2),
+    Below("red", 3, 4),
+    Redeems,
+    Redeems,
+    Submits(Ask::Retire("red", 5)),
+    Below("red", 3, 4),
+    Rounds(2, 1, 1),
+    Below("red", 4, 5),
+    Leader("red", 5, 30, 2),
+    Redeems,
+    Closes,
+    RoundsNot,
+];
+
+#[test]
+fn a_round_publishes_floors(rt: HostRuntime) -> Result<(), Fail> {
+    let ended = plays(&rt, empty_device(&rt), 4096, Play::Alone(GIVES_UP));
+    assert!(rt; counts(ended) == Ok((3, false, 0)));
+    Ok(())
+}
+
 /// The device fails with a batch.
 const FAILS: &[Step] = &[Submits(RED), Fails, Reads("red", None)];
 
@@ -75,13 +100,15 @@ fn a_flusher_ends_with_its_device(rt: HostRuntime) -> Result<(), Fail> {
     Ok(())
 }
 
-/// Leaders are made known, a round for each.
+/// Leaders and a floor are made known, a round for each.
 const GROWS: &[Step] = &[
     Leads(RED),
     Leads(BLUE),
+    Leads(Ask::Retire("red", 5)),
     Leads(ELECTED_GREEN),
     Leads(PINK),
     Reads("red", Some((5, 30, 2))),
+    Below("red", 4, 5),
     Reads("blue", Some((1, 30, 2))),
     Reads("green", Some((7, 30, 2))),
 ];
@@ -111,7 +138,7 @@ fn grown_at_last<R: Threads + Wait + Clock + Abort + AllocGlobal + Sync>(
 /// The test passes as it stands, with memory enough. `rt try --test --fail-alloc N` has its growth N refused.
 #[test]
 fn refused_growths(rt: HostRuntime) -> Result<(), Fail> {
-    assert!(rt; grown_at_last(&rt, GROWS) == Ok((4, false, 0)));
+    assert!(rt; grown_at_last(&rt, GROWS) == Ok((5, false, 0)));
     Ok(())
 }
 

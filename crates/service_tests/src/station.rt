@@ -24,13 +24,14 @@ pub enum Step {
     Takes(u64, u64),
     /// The messages 1 to 65 are taken, by which node 2 leads `red` 6 to 70 with bid 30.
     TakesLeaders,
-    /// A round makes inputs durable: so many are before them, so many they are, and so many leaders they make known.
+    /// A round makes inputs durable: so many are before them, so many they are, and so many leaders and floors they make
+    /// known.
     Rounds(u64, u64, usize),
     /// The same. What the board is refused for memory is published by the next round.
     RoundsAtLast(u64, u64, usize),
     /// There is no round any more.
     RoundsNot,
-    /// The request gets a ticket, a round makes a leader known, and the ticket is redeemed.
+    /// The request gets a ticket, a round makes a leader or a floor known, and the ticket is redeemed.
     Leads(Ask),
     /// The device fails within the round of the one ticket that is open.
     Fails,
@@ -40,6 +41,8 @@ pub enum Step {
     Reads(&'static str, Option<Leads>),
     /// A reader is told who leads the group in the term: the bid and the node.
     Leader(&'static str, u32, u32, u8),
+    /// A reader is told that the term of the group is below this floor.
+    Below(&'static str, u32, u32),
     /// Whether all that the board took is published.
     IsPublished(bool),
     /// The epoch of the journal's area in use.
@@ -120,6 +123,7 @@ impl<V: Device, J: Naming, A: Node> Station<V, J, A> {
             Step::Closes => self.hub.close(rt),
             Step::Reads(name, leads) => self.client.reads(rt, name, leads),
             Step::Leader(name, term, bid, node) => self.client.knows(rt, name, term, bid, node),
+            Step::Below(name, term, floor) => self.client.is_below(rt, name, term, floor),
             Step::IsPublished(is) => assert!(rt; self.flusher.is_published() == is),
             Step::Epoch(epoch) => assert!(rt; self.flusher.epoch() == epoch),
             Step::Used(bytes) => assert!(rt; self.hub.look(rt).used == bytes),

@@ -8,6 +8,8 @@ mod fakes;
 #[cfg(test)]
 mod faults;
 #[cfg(test)]
+mod floors;
+#[cfg(test)]
 mod growths;
 #[cfg(test)]
 mod lines;

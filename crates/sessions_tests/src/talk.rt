@@ -1,10 +1,11 @@
 // A session over a service of one node in memory.
-use disk_model::{FuseDevice, MemDevice};
+use disk_model::{Device, FuseDevice, MemDevice};
 use node_store::Node;
 use ring_records::NodeNo;
 use sessions::{SessionFault, SoloService, serve};
 use std::alloc::{AllocGlobal, Global};
 use std::process::Abort;
+use test_rows::Ask;
 
 /// A node in memory.
 pub type Stored = Node<FuseDevice<MemDevice>>;
@@ -35,6 +36,65 @@ pub fn failing_service<R: Abort + AllocGlobal>(rt: &R) -> Solo {
     }
 }
 
+/// The input of the request becomes durable.
+fn lasts(rt: &impl Abort, made: &mut Stored, ask: Ask) {
+    let question = ask.request().expect(rt, "a request");
+    let ticket = made.submit(question).expect(rt, "a ticket");
+    assert!(rt; made.flush().is_ok());
+    match made.redeem(ticket) {
+        Ok((reply, stub)) => assert!(rt; stub.reply() == reply),
+        Err((_ticket, refusal)) => panic!(rt; "{refusal}"),
+    }
+}
+
+/// The device of the node, once the inputs of these requests are durable.
+fn left(rt: &impl Abort, made: Stored, asks: &[Ask]) -> FuseDevice<MemDevice> {
+    let mut made = made;
+    for ask in asks {
+        lasts(rt, &mut made, *ask);
+    }
+    made.close();
+    assert!(rt; !made.is_open());
+    assert!(rt; made.open_tickets() == 0);
+    made.into_device()
+}
+
+/// Node 1 of a ring of `n`, which the device holds.
+fn recovered<R: Abort + AllocGlobal>(rt: &R, device: FuseDevice<MemDevice>, n: u8) -> Stored {
+    assert!(rt; NodeNo::first().number() <= n);
+    match Node::recover(rt.alloc(), device, NodeNo::first(), n, 1) {
+        Ok(made) => made,
+        Err((_device, refusal)) => panic!(rt; "{refusal}"),
+    }
+}
+
+/// A service over it.
+fn served<R: Abort + AllocGlobal>(rt: &R, device: FuseDevice<MemDevice>, n: u8) -> Solo {
+    assert!(rt; NodeNo::first().number() <= n);
+    match Node::recover(rt.alloc(), device, NodeNo::first(), n, 1) {
+        Ok(made) => SoloService::new(made),
+        Err((_device, refusal)) => panic!(rt; "{refusal}"),
+    }
+}
+
+/// A service over node 1 of a ring of 2, which is recovered behind these requests.
+pub fn service_behind<R: Abort + AllocGlobal>(rt: &R, asks: &[Ask]) -> Solo {
+    let device = MemDevice::new(rt.alloc(), 46 + 2 * 4_096).expect(rt, "ample memory");
+    let node = NodeNo::first();
+    match Node::create(rt.alloc(), FuseDevice::idle(device), node, 2, 4_096, 0) {
+        Ok(made) => served(rt, left(rt, made, asks), 2),
+        Err((_device, refusal)) => panic!(rt; "{refusal}"),
+    }
+}
+
+/// The same of a ring of 3, whose journal has this image at first.
+pub fn service_over<R: Abort + AllocGlobal>(rt: &R, image: &[u8], asks: &[Ask]) -> Solo {
+    let mut device = MemDevice::new(rt.alloc(), 46 + 2 * 4_096).expect(rt, "ample memory");
+    assert!(rt; device.write_at(0, image).is_ok());
+    let made = recovered(rt, FuseDevice::idle(device), 3);
+    served(rt, left(rt, made, asks), 3)
+}
+
 /// Ends a service that has answered all questions.
 pub fn ended(rt: &impl Abort, service: Solo) -> Stored {
     match service.into_parts() {
@@ -48,7 +108,16 @@ pub fn spoken<R: Abort + AllocGlobal>(
     rt: &R,
     input: &[u8],
 ) -> (Result<u64, SessionFault>, Vec<u8>, usize) {
-    let mut service = service(rt);
+    spoken_with(rt, service(rt), input)
+}
+
+/// The same of a session over this service.
+fn spoken_with<R: Abort + AllocGlobal>(
+    rt: &R,
+    service: Solo,
+    input: &[u8],
+) -> (Result<u64, SessionFault>, Vec<u8>, usize) {
+    let mut service = service;
     let mut rest = input;
     let mut out = Vec::new(rt.alloc());
     let answer = serve(rt.alloc(), &mut rest, &mut out, &mut service);
@@ -70,4 +139,18 @@ pub fn assert_says<R: Abort + AllocGlobal>(
     let lines = text.bytes().filter(|b| *b == b'\n').count();
     assert_eq!(rt; answer, Ok(lines as u64), "{name}");
     assert_eq!(rt; rest, left, "{name}");
+}
+
+/// Over this service the input, of so many lines, brings this text.
+pub fn assert_answers<R: Abort + AllocGlobal>(
+    rt: &R,
+    service: Solo,
+    input: &[u8],
+    text: &str,
+    lines: u64,
+) {
+    let (answer, out, _) = spoken_with(rt, service, input);
+    let written = str::from_utf8(&out).unwrap_or("bytes that are no text");
+    assert_eq!(rt; written, text);
+    assert_eq!(rt; answer, Ok(lines));
 }

@@ -4,7 +4,7 @@
 ghost use Rattle.ring_records.specs.Snapshot.{IsSound};
 
 use crate::journal::{commit, commits, commits_all, journal_of};
-use crate::rows::{Leads, No, inputs, leads_are, node, reply, request, sends_are};
+use crate::rows::{No, Tells, inputs, node, reply, request, sends_are, tells_are};
 use disk_model::{FuseDevice, MemDevice};
 use gated_journal::{Batch, Journal, Opening, Receipt, Spoiled};
 use group_commit::{Desk, Landed, Stub, Ticket};
@@ -61,9 +61,9 @@ enum Step {
     /// Nothing is launched: for this cause, or since nothing waits.
     LaunchesNone(Option<No>),
     /// What flies, so many inputs, lands and releases these packets. The desk knows these leaders by them.
-    Lands(u64, &'static [Sends], &'static [Leads]),
+    Lands(u64, &'static [Sends], &'static [Tells]),
     /// So many inputs are launched and land so.
-    Settles(u64, &'static [Sends], &'static [Leads]),
+    Settles(u64, &'static [Sends], &'static [Tells]),
     /// A receipt of these inputs of this node, behind those before them, is not taken and comes back, and nothing changes.
     IsForeign(u8, &'static [Op], &'static [Op]),
     /// The receipt of what flies is not taken.
@@ -75,7 +75,7 @@ enum Step {
     /// The device fails with the one input that waits, and so does the desk, and no other desk.
     Spoils,
     /// These leaders are known of the durable inputs, in this order.
-    Decides(&'static [Leads]),
+    Decides(&'static [Tells]),
     /// For the key of the Stand this leader is known, of its bid and node.
     Knows(Option<(u32, u8)>),
 }
@@ -154,6 +154,7 @@ fn comes_back(rt: &impl Abort, desk: &mut Desk, ticket: Ticket, cause: Refusal) 
 
 /// The batch that the desk launches, or why there is none. Something waits.
 fn launched(rt: &impl Abort, desk: &mut Desk) -> Result<Batch, Refusal> {
+    assert!(rt; !desk.needs_checkpoint());
     match desk.launch() {
         Ok(Some(batch)) => Ok(batch),
         Ok(None) => panic!(rt; "nothing waits"),
@@ -163,6 +164,7 @@ fn launched(rt: &impl Abort, desk: &mut Desk) -> Result<Batch, Refusal> {
 
 /// The desk launches nothing: for this cause, or since nothing waits.
 fn launches_none(rt: &impl Abort, desk: &mut Desk, no: Option<No>) {
+    assert!(rt; !desk.needs_checkpoint());
     match desk.launch() {
         Ok(Some(_batch)) => panic!(rt; "a batch"),
         Ok(None) => assert!(rt; no.is_none()),
@@ -174,9 +176,9 @@ fn launches_none(rt: &impl Abort, desk: &mut Desk, no: Option<No>) {
 }
 
 /// The desk has these decisions, in this order.
-fn decides(rt: &impl Abort, desk: &Desk, leads: &[Leads]) {
+fn decides(rt: &impl Abort, desk: &Desk, tells: &[Tells]) {
     let told = desk.decisions().expect(rt, "ample memory");
-    leads_are(rt, &told, leads);
+    tells_are(rt, &told, tells);
 }
 
 /// For the key of the Stand the desk knows this leader, of this bid and node, or none.
@@ -272,17 +274,17 @@ impl Station {
             Step::Launches(count) => self.launches(rt, count),
             Step::LaunchesAtLast(count) => self.launches_at_last(rt, count),
             Step::LaunchesNone(no) => launches_none(rt, &mut self.desk, no),
-            Step::Lands(count, sends, leads) => self.lands(rt, count, sends, leads),
-            Step::Settles(count, sends, leads) => {
+            Step::Lands(count, sends, tells) => self.lands(rt, count, sends, tells),
+            Step::Settles(count, sends, tells) => {
                 self.launches(rt, count as usize);
-                self.lands(rt, count, sends, leads)
+                self.lands(rt, count, sends, tells)
             }
             Step::IsForeign(number, before, ops) => self.is_foreign(rt, number, before, ops),
             Step::LandsNot => self.lands_not(rt),
             Step::IsLost(number, first, count) => self.is_lost(rt, (number, first, count)),
             Step::Fails(op) => self.fails(rt, op),
             Step::Spoils => self.spoils(rt),
-            Step::Decides(leads) => decides(rt, &self.desk, leads),
+            Step::Decides(tells) => decides(rt, &self.desk, tells),
             Step::Knows(leader) => knows(rt, &self.desk, leader),
         }
     }
@@ -414,9 +416,9 @@ impl Station {
         }
     }
 
-    fn lands(&mut self, rt: &impl Abort, count: u64, sends: &[Sends], leads: &[Leads]) {
+    fn lands(&mut self, rt: &impl Abort, count: u64, sends: &[Sends], tells: &[Tells]) {
         let landed = self.landed(rt, count);
         sends_are(rt, &landed.packets, sends);
-        leads_are(rt, &landed.notices, leads);
+        tells_are(rt, &landed.notices, tells);
     }
 }

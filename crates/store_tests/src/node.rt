@@ -2,7 +2,7 @@
 // of a node. All nodes are of a ring of 3, of capacity 4,096, but where a row says otherwise. A test is a script: what is
 // done with a node step by step, and what comes of each step.
 use crate::journal::empty_device;
-use crate::rows::{Leads, No, leads_are, node, reply, request, sends_are};
+use crate::rows::{No, Tells, node, reply, request, sends_are, tells_are};
 use disk_model::{FuseDevice, MemDevice, Tear};
 use group_commit::{Landed, Ticket};
 use node_store::Node;
@@ -15,6 +15,7 @@ use test_rows::{Ask, Cause, Note, Say, Sends};
 mod checkpoints;
 mod earlier;
 mod faults;
+mod floors;
 mod memory;
 mod pieces;
 mod refusals;
@@ -63,9 +64,9 @@ enum Step {
     /// It is closed.
     Closes,
     /// So many inputs become durable, and release these packets. The node knows these leaders by them.
-    Flushes(u64, &'static [Sends], &'static [Leads]),
+    Flushes(u64, &'static [Sends], &'static [Tells]),
     /// The same, at the second call where the first finds no memory, which changes nothing.
-    FlushesAtLast(u64, &'static [Sends], &'static [Leads]),
+    FlushesAtLast(u64, &'static [Sends], &'static [Tells]),
     /// Nothing becomes durable, for this cause.
     Fails(No),
     /// The next checkpoint makes so many inputs durable, and releases these packets. The node knows no leader by them.
@@ -84,9 +85,9 @@ enum Step {
     /// It may send these again.
     Window(&'static [Sends]),
     /// It knows these leaders.
-    Decides(&'static [Leads]),
+    Decides(&'static [Tells]),
     /// It may send these again, and knows these leaders, at the second call of each where the first finds no memory.
-    TellsAtLast(&'static [Sends], &'static [Leads]),
+    TellsAtLast(&'static [Sends], &'static [Tells]),
     /// It is closed, its device crashes with this tear, and it is recovered at its opening 1.
     Stops(Tear),
     /// It is closed, and recovered at its opening 1, at the second call where the first finds no memory.

@@ -1,5 +1,5 @@
 // What desks and nodes are given and give, in plain numbers. All numbers and names of rows are in their ranges.
-use ring_records::{Decision, Input, NodeNo, Notice, Packet, Refusal, Reply, Request};
+use ring_records::{Decision, Input, Key, NodeNo, Notice, Packet, Refusal, Reply, Request};
 use std::alloc::Global;
 use std::process::Abort;
 use test_rows::{Ask, Op, Say, Sends, candidate, key};
@@ -64,16 +64,36 @@ pub fn sends_are(rt: &impl Abort, packets: &[Packet], sends: &[Sends]) {
     }
 }
 
-/// That a candidate leads: the group and the term, and the bid and the node of the candidate.
-pub type Leads = (&'static str, u32, u32, u8);
+/// A notice in plain numbers.
+#[derive(Clone, Copy)]
+pub enum Tells {
+    /// That a candidate leads: the group and the term, and the bid and the node of the candidate.
+    Leads(&'static str, u32, u32, u8),
+    /// The group and its floor.
+    GaveUp(&'static str, u32),
+}
 
-/// The notices tell these decisions, in this order, and nothing else.
-pub fn leads_are(rt: &impl Abort, notices: &[Notice], leads: &[Leads]) {
-    assert_eq!(rt; notices.len(), leads.len());
-    for (place, (group, term, bid, node)) in leads.iter().enumerate() {
-        let key = key(group, *term).expect(rt, "a key");
-        let leader = candidate(*bid, *node).expect(rt, "a candidate");
-        let notice = Notice::Decided(Decision { key, leader });
+impl Tells {
+    fn notice(self, rt: &impl Abort) -> Notice {
+        match self {
+            Tells::Leads(group, term, bid, node) => {
+                let key = key(group, term).expect(rt, "a key");
+                let leader = candidate(bid, node).expect(rt, "a candidate");
+                Notice::Decided(Decision { key, leader })
+            }
+            Tells::GaveUp(group, floor) => {
+                let Key { group, term } = key(group, floor).expect(rt, "a key");
+                Notice::Retired { group, floor: term }
+            }
+        }
+    }
+}
+
+/// The notices are these, in this order, and no others.
+pub fn tells_are(rt: &impl Abort, notices: &[Notice], tells: &[Tells]) {
+    assert_eq!(rt; notices.len(), tells.len());
+    for (place, want) in tells.iter().enumerate() {
+        let notice = want.notice(rt);
         assert_eq!(rt; notices.get(place).copied(), Some(notice), "{place}");
     }
 }

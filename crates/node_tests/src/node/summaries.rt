@@ -2,7 +2,7 @@
 // as the first one, and its snapshot has the same bytes.
 use super::*;
 use crate::rows::{read, written};
-use ring_records::{LAYOUT, Room};
+use ring_records::{EPOCHS, LAYOUT, Room};
 
 /// The snapshot of what the node knows, of the length that it tells.
 fn snapshot(rt: &impl Abort, alloc: Global, core: &NodeCore) -> Vec<u8> {
@@ -14,20 +14,20 @@ fn snapshot(rt: &impl Abort, alloc: Global, core: &NodeCore) -> Vec<u8> {
 
 /// Node 2 of three, with a capacity, as these bytes have it.
 fn restored(rt: &impl Abort, alloc: Global, capacity: u32, bytes: &[u8]) -> NodeCore {
-    let from = read(rt, alloc, bytes);
     let room = Room {
         layout: LAYOUT,
         epoch: 1,
         taken: bytes.len() as u64,
         waits: false,
     };
+    let from = read(rt, alloc, bytes);
     assert!(rt; from.floors.len() <= u32::MAX as usize, "few floors");
     let core = NodeCore::restore(alloc, node(rt, 2), 3, capacity, room, &from);
     core.expect(rt, "ample memory")
 }
 
 /// Inputs at the borders of what the histories below leave.
-static ASKED: [Op; 12] = [
+static ASKED: [Op; 15] = [
     Stand("red", 5, 31),
     Stand("red", 4, 1),
     Stand("red", 6, 1),
@@ -40,6 +40,9 @@ static ASKED: [Op; 12] = [
     Acked(0),
     Acked(2),
     Acked(9),
+    Retire("red", 5),
+    Retire("red", 6),
+    Retire("blue", 1),
 ];
 
 /// Both admit the same, and refuse the rest for the same causes.
@@ -110,21 +113,35 @@ static PASSED_ON: [Op; 6] = [
     Take(2, Token("blue", 1, 7, 1)),
 ];
 
+static GAVE_UP: [Op; 7] = [
+    Stand("red", 4, 30),
+    Stand("blue", 1, 30),
+    Take(0, Elected("red", 5, 10, 1)),
+    Retire("red", 5),
+    Take(1, Token("red", 4, 30, 2)),
+    Take(2, Elected("blue", 1, 40, 1)),
+    Retire("blue", 1),
+];
+
 #[test]
 fn a_restored_node_goes_on_as_the_first_one(rt: HostRuntime) {
     goes_on(&rt, rt.alloc(), &ELECTED);
     goes_on(&rt, rt.alloc(), &PASSED_ON);
+    goes_on(&rt, rt.alloc(), &GAVE_UP);
 }
 
-// 38 bytes of counts. A key takes 5 and its name, 1 for its flags, 4 for a bid and 5 for a leader, a message 11 and its
-// name.
-static LENGTHS: [(Op, u64); 6] = [
+// 42 bytes of counts. A key takes 5 and its name, 1 for its flags, 4 for a bid and 5 for a leader, a message 11 and its
+// name, and a floor 5 and its name.
+static LENGTHS: [(Op, u64); 9] = [
     (Stand("red", 5, 30), 69),
     (Take(0, Token("blue", 1, 7, 1)), 94),
     (Acked(1), 80),
     (Take(1, Token("red", 5, 30, 2)), 99),
     (Take(2, Token("red", 5, 30, 2)), 99),
     (Acked(3), 70),
+    (Retire("red", 5), 78),
+    (Take(3, Elected("red", 7, 40, 3)), 106),
+    (Retire("red", 7), 88),
 ];
 
 #[test]
@@ -152,4 +169,82 @@ fn a_snapshot_takes_its_bytes_of_the_capacity(rt: HostRuntime) {
     takes(&rt, rt.alloc(), 68, &bytes, Some(Refusal::Full));
     takes(&rt, rt.alloc(), 84, &bytes, Some(Refusal::Full));
     takes(&rt, rt.alloc(), 85, &bytes, None);
+}
+
+static WON: [Op; 2] = [Stand("red", 9, 5), Take(0, Token("red", 9, 5, 2))];
+
+/// What is asked, the layout and the number of the area in use, whether a Retire waits, the capacity, an input, and why it
+/// is refused.
+type Case = (&'static str, u8, u64, bool, u32, Op, Option<Cause>);
+
+const LAST: u64 = EPOCHS - 1;
+
+const GIVES_UP: Op = Retire("red", 9);
+
+const TOO_HIGH: Op = Retire("red", 10);
+
+const STANDS: Op = Stand("red", 10, 5);
+
+const FULL: Option<Cause> = Some(Cause::Full);
+
+const LIMIT: Option<Cause> = Some(Cause::Limit);
+
+/// 100 bytes are taken, and the snapshot has 88. A floor of 8 bytes comes to it, or a key of 13 and a message of 14.
+static ROOMS: [Case; 16] = [
+    ("a floor just fits", 2, 1, false, 96, GIVES_UP, None),
+    ("one byte too long", 2, 1, false, 95, GIVES_UP, FULL),
+    ("in layout 1", 1, 0, false, 96, GIVES_UP, None),
+    ("too long in layout 1", 1, 0, false, 95, GIVES_UP, FULL),
+    ("one area is left", 2, LAST - 1, false, 96, GIVES_UP, None),
+    ("no area is left", 2, LAST, false, 96, GIVES_UP, LIMIT),
+    ("6 before 7", 2, LAST, false, 95, GIVES_UP, LIMIT),
+    (
+        "26 before 6",
+        2,
+        LAST,
+        false,
+        95,
+        TOO_HIGH,
+        Some(Cause::Undecided),
+    ),
+    ("a Stand just fits", 2, LAST, false, 120, STANDS, None),
+    ("a Stand too many", 2, 1, false, 119, STANDS, FULL),
+    ("it fits behind one", 2, 1, true, 115, STANDS, None),
+    ("too long behind one", 2, 1, true, 114, STANDS, FULL),
+    ("no area behind one", 2, LAST, true, 120, STANDS, LIMIT),
+    ("a second floor", 1, 0, true, 96, GIVES_UP, None),
+    ("the newest layout", 3, LAST, true, 116, GIVES_UP, None),
+    ("too many for it", 3, 1, true, 115, GIVES_UP, FULL),
+];
+
+/// The node, restored from the snapshot with the room of the case, judges its input so.
+fn has_room(rt: &impl Abort, alloc: Global, bytes: &[u8], case: &Case) {
+    let (name, layout, epoch, waits, capacity, op, cause) = *case;
+    let room = Room {
+        layout,
+        epoch,
+        taken: 100,
+        waits,
+    };
+    let from = read(rt, alloc, bytes);
+    assert!(rt; from.floors.len() <= u32::MAX as usize, "few floors");
+    let core = NodeCore::restore(alloc, node(rt, 2), 3, capacity, room, &from);
+    let core = core.expect(rt, "ample memory");
+    assert_eq!(rt; core.needs_area(), waits && layout < LAYOUT, "{name}");
+    assert_eq!(rt;
+        core.admit(&input(rt, op)).err(),
+        refusal(rt, cause),
+        "{name}"
+    );
+}
+
+// In an area of an earlier layout a Retire, and each input behind one that waits, takes no byte of the capacity: the
+// snapshot behind it has to fit in, and an area has to be left for it.
+#[test]
+fn a_floor_has_room_in_earlier_layouts(rt: HostRuntime) {
+    let rig = Rig::after(&rt, rt.alloc(), 3, 65_536, &WON);
+    let bytes = snapshot(&rt, rt.alloc(), &rig.core);
+    for case in &ROOMS {
+        has_room(&rt, rt.alloc(), &bytes, case);
+    }
 }

@@ -168,6 +168,50 @@ fn checkpoint_and_crash(rt: HostRuntime) {
 }
 
 #[test]
+fn retire_rules(rt: HostRuntime) {
+    const SESSION: &[Line] = &[
+        ("ring 2", &["ring 2"]),
+        ("stand 1 red 9 5", &["1: stood"]),
+        ("deliver all", &["delivered 4"]),
+        ("retire 1 red 10", &["2: no 26 undecided"]),
+        ("retire 1 red 9", &["3: retired"]),
+        ("retire 1 red 9", &["4: no 23 retired 9"]),
+        ("who 1 red 4", &["5: no 23 retired 9"]),
+        ("stand 1 red 8 5", &["6: no 23 retired 9"]),
+        ("latest 1 red", &["7: term 9 leader 1 5"]),
+        ("checkpoint 1", &["checkpointed 0"]),
+        ("crash 1", &["up 1 4"]),
+        ("stand 1 red 4 5", &["8: no 23 retired 9"]),
+        ("who 1 red 9", &["9: leader 1 5"]),
+        (
+            "show 1",
+            &["node 1 inputs 4 durable 4 sent 2 taken 2 credit 0"],
+        ),
+    ];
+    assert_session(&rt, SESSION);
+}
+
+// A retired node passes nothing on, and what the ring holds is one run.
+#[test]
+fn retired_relay(rt: HostRuntime) {
+    const SESSION: &[Line] = &[
+        ("ring 2", &["ring 2"]),
+        ("stand 1 red 9 5", &["1: stood"]),
+        ("deliver 1 0", &["2: taken"]),
+        ("deliver 2 0", &["3: taken"]),
+        ("retire 1 red 9", &["4: retired"]),
+        ("stand 2 red 4 7", &["5: stood"]),
+        ("deliver 2 1", &["6: taken"]),
+        (
+            "show 1",
+            &["node 1 inputs 4 durable 4 sent 2 taken 2 credit 0"],
+        ),
+        ("audit", &["audit ok 6"]),
+    ];
+    assert_session(&rt, SESSION);
+}
+
+#[test]
 fn audits(rt: HostRuntime) {
     const ELECTED: &[Line] = &[
         ("ring 3", &["ring 3"]),

@@ -92,7 +92,7 @@ fn latest_leader_of_a_group(rt: HostRuntime) {
 
 // A floor is at most the latest term of its group with a leader known there.
 #[test]
-fn retire_rules(rt: HostRuntime) {
+fn a_floor_is_decided(rt: HostRuntime) {
     const SESSION: &[Line] = &[
         ("ring 2", &["ring 2"]),
         ("retire 1 red 1", &["1: no 26 undecided"]),
@@ -103,11 +103,14 @@ fn retire_rules(rt: HostRuntime) {
         ("retire 1 red 10", &["6: no 26 undecided"]),
         ("retire 1 blue 1", &["7: no 26 undecided"]),
         ("retire 2 red 9", &["8: no 26 undecided"]),
-        ("who 1 red 9", &["9: leader 1 5"]),
-        ("latest 1 red", &["10: term 9 leader 1 5"]),
+        ("retire 1 red 8", &["9: retired"]),
+        ("who 1 red 9", &["10: leader 1 5"]),
+        ("who 2 red 7", &["11: none"]),
+        ("who 1 red 7", &["12: no 23 retired 8"]),
+        ("who 1 red 8", &["13: none"]),
         (
             "show 1",
-            &["node 1 inputs 2 durable 2 sent 2 taken 1 credit 0"],
+            &["node 1 inputs 3 durable 3 sent 2 taken 1 credit 0"],
         ),
     ];
     assert_session(&rt, SESSION);
@@ -122,9 +125,41 @@ fn a_retire_is_sealed(rt: HostRuntime) {
         ("stand 1 red 5 10", &["2: sealed"]),
         ("retire 1 red 5", &["3: sealed"]),
         ("flush 1", &["flushed 1", "2: stood", "3: no 26 undecided"]),
-        ("stand 1 blue 5 10", &["4: sealed"]),
-        ("retire 1 red 5", &["5: sealed"]),
+        ("deliver all", &["delivered 1"]),
+        ("flush 2", &["flushed 1"]),
+        ("deliver all", &["delivered 1"]),
+        ("retire 1 red 5", &["4: sealed"]),
+        ("who 1 red 4", &["5: sealed"]),
         ("crash 1", &["4: lost", "5: lost", "up 1 1"]),
+        ("deliver all", &["delivered 1"]),
+        ("retire 1 red 5", &["6: sealed"]),
+        ("who 1 red 4", &["7: sealed"]),
+        (
+            "flush 1",
+            &["flushed 2", "6: retired", "7: no 23 retired 5"],
+        ),
+    ];
+    assert_session(&rt, SESSION);
+}
+
+// A message below a floor is taken and credited, told as old when it comes again, and sent on by nobody. Others go on.
+#[test]
+fn links_go_on_below_a_floor(rt: HostRuntime) {
+    const SESSION: &[Line] = &[
+        ("ring 2", &["ring 2"]),
+        ("stand 1 red 9 5", &["1: stood"]),
+        ("deliver 1 0", &["2: taken"]),
+        ("deliver 2 0", &["3: taken"]),
+        ("retire 1 red 9", &["4: retired"]),
+        ("stand 2 red 4 7", &["5: stood"]),
+        ("deliver 2 1", &["6: taken"]),
+        ("credit 1 2", &["7: acked"]),
+        ("crash 1", &["up 1 4"]),
+        ("deliver 2 1", &["8: no 13 old 2"]),
+        ("deliver all", &["delivered 2"]),
+        ("who 2 red 4", &["9: none"]),
+        ("latest 2 red", &["10: term 9 leader 1 5"]),
+        ("who 1 red 4", &["11: no 23 retired 9"]),
     ];
     assert_session(&rt, SESSION);
 }

@@ -1,18 +1,19 @@
 // What leaders the durable inputs made known.
 use super::Step::{Asks, Decides, Knows, Lands, Launches, Redeems};
 use super::*;
+use crate::rows::Tells::{GaveUp, Leads};
 use test_rows::Sends::{Carry, Credit};
 
-const RED: Leads = ("red", 5, 30, 2);
+const RED: Tells = Leads("red", 5, 30, 2);
 
 const FIRST: Op = Op::Take(0, Note::Token("red", 5, 20, 3));
 
 const PASSED: Op = Op::Take(1, Note::Token("red", 5, 30, 2));
 
 /// Its name, the node, what its desk opens with, and the decisions that it has then, in their order.
-type Row = (&'static str, u8, &'static [Op], &'static [Leads]);
+type Row = (&'static str, u8, &'static [Op], &'static [Tells]);
 
-static ROWS: [Row; 6] = [
+static ROWS: [Row; 8] = [
     ("nothing", 1, &[], &[]),
     ("nothing decided", 1, &[STOOD, FIRST, PASSED], &[]),
     (
@@ -48,7 +49,12 @@ static ROWS: [Row; 6] = [
             Op::Take(2, Note::Elected("blue", 12, 1, 2)),
             Op::Take(3, Note::Elected("reds", 1, 4, 3)),
         ],
-        &[("blue", 12, 1, 2), RED, ("red", 9, 7, 3), ("reds", 1, 4, 3)],
+        &[
+            Leads("blue", 12, 1, 2),
+            RED,
+            Leads("red", 9, 7, 3),
+            Leads("reds", 1, 4, 3),
+        ],
     ),
     (
         "first leader of a key",
@@ -59,16 +65,46 @@ static ROWS: [Row; 6] = [
             Op::Take(1, Note::Elected("red", 5, 30, 2)),
             Op::Take(2, Note::Elected("red", 9, 8, 2)),
         ],
-        &[RED, ("red", 9, 7, 3)],
+        &[RED, Leads("red", 9, 7, 3)],
+    ),
+    (
+        "floors behind leaders that are not below them",
+        1,
+        &[
+            STOOD,
+            Op::Take(0, Note::Elected("red", 9, 7, 3)),
+            Op::Take(1, Note::Elected("red", 5, 30, 2)),
+            Op::Take(2, Note::Elected("blue", 12, 1, 2)),
+            Op::Retire("red", 8),
+            Op::Retire("blue", 12),
+        ],
+        &[
+            Leads("blue", 12, 1, 2),
+            Leads("red", 9, 7, 3),
+            GaveUp("blue", 12),
+            GaveUp("red", 8),
+        ],
+    ),
+    (
+        "the last floor of a group",
+        1,
+        &[
+            STOOD,
+            Op::Take(0, Note::Elected("red", 9, 7, 3)),
+            Op::Retire("red", 2),
+            Op::Retire("red", 9),
+            Op::Take(1, Note::Elected("red", 5, 30, 2)),
+        ],
+        &[Leads("red", 9, 7, 3), GaveUp("red", 9)],
     ),
 ];
 
 /// The desk that opens so has these decisions.
 fn opens_with<R: Abort + AllocGlobal>(rt: &R, row: &Row) {
-    let (name, number, before, leads) = *row;
+    let (name, number, before, tells) = *row;
     let desk = opened(rt, number, 0, before);
     assert_eq!(rt; counts(&desk).0, before.len(), "{name}");
-    decides(rt, &desk, leads);
+    decides(rt, &desk, tells);
 }
 
 #[test]

@@ -1,6 +1,7 @@
 // What a desk releases once a batch is durable, over the receipts of real journals.
 use super::Step::{Asks, Closes, Has, Lands, Launches, LaunchesNone, Redeems, Returns, Settles};
 use super::*;
+use crate::rows::Tells::{GaveUp, Leads};
 use test_rows::Sends::{Carry, Credit};
 
 const TOKEN: Note = Note::Token("red", 5, 20, 3);
@@ -91,7 +92,7 @@ static LEADERS: [Step; 11] = [
     Settles(
         4,
         &[Carry(0, OWN), Carry(1, ANNOUNCED), Carry(2, WON), Credit(3)],
-        &[("red", 9, 4, 3), ("red", 5, 10, 1)],
+        &[Leads("red", 9, 4, 3), Leads("red", 5, 10, 1)],
     ),
     Redeems(0, Say::Stood),
     Redeems(0, Say::Taken),
@@ -105,6 +106,36 @@ fn leaders_become_known_in_order(rt: HostRuntime) {
     plays(&rt, 1, &[], &LEADERS);
 }
 
+const BELOW: Say = Say::Refused(Cause::Retired(9));
+
+/// A floor is known once it is durable, and what is below it is refused then. A message below sends nothing on.
+static FLOOR: [Step; 15] = [
+    Asks(Ask::Take(0, ANNOUNCED), 1),
+    Asks(Ask::Retire("red", 9), 2),
+    Asks(Ask::Retire("red", 10), 2),
+    Asks(Ask::Stand("red", 8, 1), 2),
+    Asks(WHO, 2),
+    Asks(Ask::Take(1, TOKEN), 3),
+    Settles(
+        3,
+        &[Carry(0, ANNOUNCED), Credit(2)],
+        &[Leads("red", 9, 4, 3), GaveUp("red", 9)],
+    ),
+    Redeems(0, Say::Taken),
+    Redeems(0, Say::Retired),
+    Redeems(0, Say::Refused(Cause::Undecided)),
+    Redeems(0, BELOW),
+    Redeems(0, BELOW),
+    Redeems(0, Say::Taken),
+    Asks(LATEST, 3),
+    Redeems(0, Say::Latest(9, 4, 3)),
+];
+
+#[test]
+fn a_floor_lands(rt: HostRuntime) {
+    plays(&rt, 1, &[], &FLOOR);
+}
+
 const TOLD: Note = Note::Elected("red", 5, 20, 3);
 
 static WHAT_WAITS: [Step; 10] = [
@@ -116,7 +147,7 @@ static WHAT_WAITS: [Step; 10] = [
     Has(2, 1, 1),
     Redeems(0, Say::Stood),
     Returns(0, No::Early),
-    Settles(1, &[Carry(1, TOLD), Credit(1)], &[("red", 5, 20, 3)]),
+    Settles(1, &[Carry(1, TOLD), Credit(1)], &[Leads("red", 5, 20, 3)]),
     Redeems(0, Say::Taken),
 ];
 
@@ -131,7 +162,7 @@ const NEXT: Note = Note::Elected("red", 5, 30, 2);
 
 static GOES_ON: [Step; 5] = [
     Asks(Ask::Take(1, NEXT), 4),
-    Settles(1, &[Carry(2, NEXT), Credit(2)], &[("red", 5, 30, 2)]),
+    Settles(1, &[Carry(2, NEXT), Credit(2)], &[Leads("red", 5, 30, 2)]),
     Redeems(0, Say::Taken),
     Closes,
     Has(4, 4, 4),

@@ -1,6 +1,7 @@
 // Batch after batch, node after node, and where memory is short.
 use super::Step::{Asks, AsksAtLast, Has, Lands, LaunchesAtLast, Redeems, Returns, Settles};
 use super::*;
+use crate::rows::Tells::Leads;
 use test_rows::Sends::{Carry, Credit};
 
 /// The tokens of the Stands for the terms from 1 to 64, with a bid of 1.
@@ -81,7 +82,7 @@ static GROWTHS: [Step; 7] = [
     Lands(
         2,
         &[Carry(0, OWN), Carry(1, ANNOUNCED), Credit(1)],
-        &[("red", 5, 20, 3)],
+        &[Leads("red", 5, 20, 3)],
     ),
     Redeems(0, Say::Stood),
     Redeems(0, Say::Taken),

@@ -35,6 +35,14 @@ const ALREADY_20: Say = Say::Refused(Cause::Already(20));
 
 const AHEAD: Say = Say::Refused(Cause::AckAhead(0));
 
+const GAVE_UP: Op = Op::Retire("red", 5);
+
+const WHO_BELOW: Ask = Ask::Who("red", 4);
+
+const BELOW: Say = Say::Refused(Cause::Retired(5));
+
+const UNDECIDED: Say = Say::Refused(Cause::Undecided);
+
 /// A stub that another desk of node 1 releases, and whether it is vouched for: the durable inputs of that desk, what it
 /// is asked, how many inputs the reply rests on, and the reply.
 type Row = (&'static [Op], Ask, u64, Say, bool);
@@ -86,7 +94,7 @@ fn vouches<R: Abort + AllocGlobal>(rt: &R, name: &str, desk: &Desk, rows: &[Row]
 /// What is asked, what the desk that is asked opens with, later, and the stubs.
 type Case = (&'static str, &'static [Op], &'static [Row]);
 
-static CASES: [Case; 10] = [
+static CASES: [Case; 11] = [
     (
         "after more inputs",
         &[STOOD, ANNOUNCED],
@@ -216,6 +224,32 @@ static CASES: [Case; 10] = [
             ),
         ],
     ),
+    (
+        "floors",
+        &[STOOD, WON, GAVE_UP],
+        &[
+            (&[STOOD, WON], Ask::Retire("red", 5), 3, Say::Retired, true),
+            (&[STOOD, WON], Ask::Retire("red", 4), 3, Say::Retired, false),
+            (&[STOOD, WON, GAVE_UP], WHO_BELOW, 3, BELOW, true),
+            (
+                &[STOOD, WON, GAVE_UP],
+                Ask::Retire("red", 5),
+                3,
+                BELOW,
+                true,
+            ),
+            (&[STOOD, WON], WHO_BELOW, 2, Say::Nobody, true),
+            (&[STOOD, WON, CREDITED], WHO_BELOW, 3, Say::Nobody, false),
+            (&[STOOD], Ask::Retire("red", 5), 1, UNDECIDED, true),
+            (
+                &[STOOD, RELAYED],
+                Ask::Retire("red", 5),
+                2,
+                UNDECIDED,
+                false,
+            ),
+        ],
+    ),
 ];
 
 #[test]
@@ -293,4 +327,43 @@ fn refused_growths(rt: HostRuntime) {
     let desk = opened(&rt, 1, 0, &[STOOD]);
     let stub = stub_of(&rt, &[STOOD], AGAIN, 1, Say::Refused(Cause::Already(10)));
     vouches_at_last(&rt, &desk, &stub);
+}
+
+/// The desk of node 1 that opens with these inputs in the last area of layout 2, and no journal that holds them.
+fn station_at_last<R: Abort + AllocGlobal>(rt: &R, ops: &[Op]) -> Station {
+    let mut opening = opening_of(rt, ops);
+    opening.layout = 2;
+    opening.epoch = (1 << 40) - 1;
+    let desk = Desk::open(rt.alloc(), node(rt, 1), 3, 4096, 0, opening);
+    Station {
+        desk: desk.expect(rt, "lawful inputs"),
+        journal: journal_of(rt, node(rt, 1)),
+        tickets: Vec::new(rt.alloc()),
+        flown: Vec::new(rt.alloc()),
+    }
+}
+
+/// Asked to give up the terms below 5, the desk finds no area that may be written.
+static NO_AREA: [Step; 1] = [Step::Asks(Ask::Retire("red", 5), 2)];
+
+/// What another desk opens with, in a new area, and whether it vouches for that: its node might have found no room.
+static OTHERS: [(&'static [Op], bool); 5] = [
+    (&[STOOD, WON], true),
+    (&[STOOD, WON, GAVE_UP], true),
+    (&[STOOD, ANNOUNCED], true),
+    (&[STOOD, RELAYED], false),
+    (&[STOOD], false),
+];
+
+#[test]
+fn no_area_is_left(rt: HostRuntime) {
+    let mut station = station_at_last(&rt, &[STOOD, WON]);
+    station.plays(&rt, &NO_AREA);
+    let stub = station.redeems(&rt, 0, Say::Refused(Cause::Limit));
+    assert!(rt; is_vouched(&rt, &station.desk, &stub));
+    station.ends(&rt);
+    for row in &OTHERS {
+        let (ops, wanted) = *row;
+        assert_eq!(rt; is_vouched(&rt, &opened(&rt, 1, 1, ops), &stub), wanted);
+    }
 }

@@ -21,9 +21,12 @@ pub const LAYOUT_2: [u8; 89] = [
 /// The message of that Stand.
 static WINDOW: [Sends; 1] = [SENT];
 
-/// Area B of layout 3 up to its snapshot, in this epoch: 69 bytes follow.
-fn head(epoch: u8) -> [u8; 14] {
-    [1, 3, 0, 0, 0, 0, 0, 0, 0, epoch, 0, 0, 0, 69]
+/// Area B of the device is of layout 3, open, and in this epoch; its snapshot has so many bytes.
+pub fn has_the_newest(rt: &impl Abort, device: &mut FuseDevice<MemDevice>, epoch: u8, length: u8) {
+    let mut found = [0; 14];
+    assert!(rt; device.read_at(4127, &mut found).is_ok());
+    let head = [1, 3, 0, 0, 0, 0, 0, 0, 0, epoch, 0, 0, 0, length];
+    assert_eq!(rt; found, head);
 }
 
 /// A device with these bytes at its front, which are stable, and room for a journal of capacity 4,096.
@@ -43,9 +46,7 @@ fn writes_the_newest<R: Abort + AllocGlobal>(rt: &R, image: &[u8], epoch: u8) ->
     ];
     let rig = Rig::of(rt, recovered(rt, device_of(rt, image), 1), 1);
     let mut device = ended(rt, rig.goes_through(rt, &before).end(rt));
-    let mut found = [0; 14];
-    assert!(rt; device.read_at(4127, &mut found).is_ok());
-    assert_eq!(rt; found, head(epoch));
+    has_the_newest(rt, &mut device, epoch, 69);
     recovered(rt, device, 1)
 }
 

@@ -38,11 +38,12 @@ fn failing_device_call(rt: HostRuntime) {
     }
 }
 
-/// What is made durable: the inputs that wait, or the summary of all.
+/// What is made durable: the inputs that wait, the summary of all, or that since a floor waits.
 #[derive(Clone, Copy)]
 enum Round {
     Batch,
     Checkpoint,
+    Floor,
 }
 
 /// What a node has: the epoch of its journal, how many inputs its summary stands for, how many it has behind that, and how
@@ -64,6 +65,9 @@ enum Area {
     MissingOf1,
     /// The same of layout 2.
     MissingOf2,
+    /// Nobody wrote it, and the node of such a journal leads.
+    LeadsIn1,
+    LeadsIn2,
 }
 
 static OPENS: [Step; 2] = [Lasts(STAND, Say::Stood, 1), Checkpoints(0, &[])];
@@ -72,9 +76,16 @@ static CLOSES: [Step; 3] = [Arms(2), ChecksNot(No::Device), Stops(Tear::Old)];
 
 static WRITES: [Step; 3] = [Arms(4), ChecksNot(No::Device), Stops(Tear::Old)];
 
+static LEADS: [Step; 1] = [Lasts(Ask::Take(0, TOKEN), Say::Taken, 2)];
+
 /// A new node 1 of 3.
 fn fresh<R: Abort + AllocGlobal>(rt: &R) -> Rig {
     Rig::of(rt, created(rt, 1, 3), 1)
+}
+
+/// Node 1 of 3, whose journal has this image.
+fn earlier<R: Abort + AllocGlobal>(rt: &R, image: &[u8]) -> Rig {
+    Rig::of(rt, recovered(rt, device_of(rt, image), 1), 1)
 }
 
 /// Node 1 of 3, whose other area is so.
@@ -84,8 +95,10 @@ fn over<R: Abort + AllocGlobal>(rt: &R, area: Area) -> Rig {
         Area::Open => fresh(rt).goes_through(rt, &OPENS),
         Area::Closed => fresh(rt).goes_through(rt, &OPENS).goes_through(rt, &CLOSES),
         Area::Written => fresh(rt).goes_through(rt, &OPENS).goes_through(rt, &WRITES),
-        Area::MissingOf1 => Rig::of(rt, recovered(rt, device_of(rt, &LAYOUT_1), 1), 1),
-        Area::MissingOf2 => Rig::of(rt, recovered(rt, device_of(rt, &LAYOUT_2), 1), 1),
+        Area::MissingOf1 => earlier(rt, &LAYOUT_1),
+        Area::MissingOf2 => earlier(rt, &LAYOUT_2),
+        Area::LeadsIn1 => earlier(rt, &LAYOUT_1).goes_through(rt, &LEADS),
+        Area::LeadsIn2 => earlier(rt, &LAYOUT_2).goes_through(rt, &LEADS),
     }
 }
 
@@ -135,10 +148,25 @@ fn of_layout(layout: u8, round: Round) -> Course {
         before: (epoch, 0, 1, 1),
         behind: match round {
             Round::Batch => (epoch, 0, 2, 2),
-            Round::Checkpoint => (epoch + 1, 2, 0, 2),
+            _ => (epoch + 1, 2, 0, 2),
         },
     }
 }
+
+/// A floor waits at a node of an earlier layout which leads.
+const FLOOR_IN_1: Course = Course {
+    area: Area::LeadsIn1,
+    round: Round::Floor,
+    before: (0, 0, 2, 2),
+    behind: (1, 3, 0, 3),
+};
+
+const FLOOR_IN_2: Course = Course {
+    area: Area::LeadsIn2,
+    round: Round::Floor,
+    before: (1, 0, 2, 2),
+    behind: (2, 3, 0, 3),
+};
 
 static TEARS: [Option<Tear>; 4] = [
     None,
@@ -183,16 +211,23 @@ static CHECKPOINT_FAILS: [Step; 6] = [
     Forfeits(0),
 ];
 
-const WAITS: Ask = Ask::Stand("blue", 5, 10);
+/// What waits for the round.
+fn waits_for(round: Round) -> Ask {
+    match round {
+        Round::Floor => Ask::Retire("red", 5),
+        _ => Ask::Stand("blue", 5, 10),
+    }
+}
 
 /// The round's call behind so many fails, once or with all later ones.
 fn failed<R: Abort + AllocGlobal>(rt: &R, course: &Course, passed: u64, once: bool) -> Rig {
     let mut rig = over(rt, course.area);
-    rig.asks(rt, WAITS, course.before.3.saturating_add(1));
+    let ask = waits_for(course.round);
+    rig.asks(rt, ask, course.before.3.saturating_add(1));
     rig.made.arm(passed, once);
     match course.round {
-        Round::Batch => rig.goes_through(rt, &BATCH_FAILS),
         Round::Checkpoint => rig.goes_through(rt, &CHECKPOINT_FAILS),
+        _ => rig.goes_through(rt, &BATCH_FAILS),
     }
 }
 
@@ -257,4 +292,10 @@ fn each_call_fails_in_an_earlier_layout(rt: HostRuntime) {
             &CHECKPOINT_IS_THERE,
         );
     }
+}
+
+#[test]
+fn each_call_fails_as_a_floor_becomes_durable(rt: HostRuntime) {
+    fails_at_each_call(&rt, &FLOOR_IN_1, &CHECKPOINT_IS_THERE);
+    fails_at_each_call(&rt, &FLOOR_IN_2, &CHECKPOINT_IS_THERE);
 }

@@ -2,7 +2,9 @@
 use super::Step::{
     AsksAtLast, CheckpointsAtLast, FlushesAtLast, Has, RecoversAtLast, Redeems, TellsAtLast,
 };
+use super::earlier::{LAYOUT_1, device_of};
 use super::*;
+use crate::rows::Tells::{GaveUp, Leads};
 use test_rows::Sends::{Carry, Credit};
 
 static STANDS: [Step; 5] = [
@@ -18,7 +20,7 @@ fn refused_growths(rt: HostRuntime) {
     lives(&rt, 1, &STANDS);
 }
 
-const LEADS: Leads = ("red", 5, 30, 2);
+const LEADS: Tells = Leads("red", 5, 30, 2);
 
 /// The messages of node 3, and of node 2, which stands with the greatest bid.
 const SMALLER: Note = Note::Token("red", 5, 20, 3);
@@ -109,4 +111,30 @@ fn refused_growths_of_a_first_election(rt: HostRuntime) {
     lives(&rt, 1, &FIRST);
     lives(&rt, 2, &SECOND);
     lives(&rt, 3, &THIRD);
+}
+
+const WON: Note = Note::Elected("red", 5, 10, 1);
+
+/// Node 1 of an earlier layout wins, and gives up the terms below by a checkpoint.
+static FLOOR: [Step; 11] = [
+    AsksAtLast(Ask::Take(0, TOKEN), 2),
+    FlushesAtLast(1, &[Carry(1, WON), Credit(1)], &[Leads("red", 5, 10, 1)]),
+    Redeems(0, Say::Taken),
+    AsksAtLast(Ask::Retire("red", 5), 3),
+    FlushesAtLast(1, &[], &[GaveUp("red", 5)]),
+    Redeems(0, Say::Retired),
+    RecoversAtLast,
+    Has(1, 3, 0, 3),
+    AsksAtLast(Ask::Who("red", 4), 3),
+    Redeems(0, Say::Refused(Cause::Retired(5))),
+    TellsAtLast(
+        &[SENT, Carry(1, WON)],
+        &[Leads("red", 5, 10, 1), GaveUp("red", 5)],
+    ),
+];
+
+#[test]
+fn refused_growths_of_a_floor(rt: HostRuntime) {
+    let device = device_of(&rt, &LAYOUT_1);
+    Rig::of(&rt, recovered_at_last(&rt, device, 1), 1).plays(&rt, &FLOOR);
 }

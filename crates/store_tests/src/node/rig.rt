@@ -17,10 +17,10 @@ fn told(made: &Stored) -> (u64, u64, usize, u64) {
 }
 
 /// This is what landed.
-fn landed_are(rt: &impl Abort, landed: &Landed, count: u64, sends: &[Sends], leads: &[Leads]) {
+fn landed_are(rt: &impl Abort, landed: &Landed, count: u64, sends: &[Sends], tells: &[Tells]) {
     assert_eq!(rt; landed.count, count);
     sends_are(rt, &landed.packets, sends);
-    leads_are(rt, &landed.notices, leads);
+    tells_are(rt, &landed.notices, tells);
 }
 
 impl Rig {
@@ -72,9 +72,9 @@ impl Rig {
             Step::StandsFor(from, to, others) => rig.stands_for(rt, from, to, others),
             Step::IsOpen(is_open) => rig.is_open(rt, is_open),
             Step::Closes => rig.closes(),
-            Step::Flushes(count, sends, leads) => rig.flushes(rt, count, sends, leads),
-            Step::FlushesAtLast(count, sends, leads) => rig.flushes_at_last(
-                rt, count, sends, leads,
+            Step::Flushes(count, sends, tells) => rig.flushes(rt, count, sends, tells),
+            Step::FlushesAtLast(count, sends, tells) => rig.flushes_at_last(
+                rt, count, sends, tells,
             ),
             Step::Fails(no) => rig.fails(rt, no),
             Step::Checkpoints(count, sends) => rig.checkpoints(rt, count, sends),
@@ -87,8 +87,8 @@ impl Rig {
             ),
             Step::Passed(sent, taken) => rig.passed(rt, sent, taken),
             Step::Window(sends) => rig.window(rt, sends),
-            Step::Decides(leads) => rig.decides(rt, leads),
-            Step::TellsAtLast(sends, leads) => rig.tells_at_last(rt, sends, leads),
+            Step::Decides(tells) => rig.decides(rt, tells),
+            Step::TellsAtLast(sends, tells) => rig.tells_at_last(rt, sends, tells),
             Step::Stops(tear) => return rig.stops(rt, tear),
             Step::RecoversAtLast => return rig.recovers_at_last(rt),
             Step::IsMadeAnew => return rig.is_made_anew(rt),
@@ -207,19 +207,19 @@ impl Rig {
         assert_eq!(rt; landed.count, count);
     }
 
-    fn flushes(&mut self, rt: &impl Abort, count: u64, sends: &[Sends], leads: &[Leads]) {
+    fn flushes(&mut self, rt: &impl Abort, count: u64, sends: &[Sends], tells: &[Tells]) {
         let landed = self.made.flush().expect(rt, "a device that works");
-        landed_are(rt, &landed, count, sends, leads);
+        landed_are(rt, &landed, count, sends, tells);
     }
 
-    fn flushes_at_last(&mut self, rt: &impl Abort, count: u64, sends: &[Sends], leads: &[Leads]) {
+    fn flushes_at_last(&mut self, rt: &impl Abort, count: u64, sends: &[Sends], tells: &[Tells]) {
         let before = told(&self.made);
         match self.made.flush() {
-            Ok(landed) => landed_are(rt, &landed, count, sends, leads),
+            Ok(landed) => landed_are(rt, &landed, count, sends, tells),
             Err(refusal) => {
                 assert_eq!(rt; refusal, Refusal::OutOfMemory);
                 assert_eq!(rt; told(&self.made), before);
-                self.flushes(rt, count, sends, leads);
+                self.flushes(rt, count, sends, tells);
             }
         }
     }
@@ -269,19 +269,19 @@ impl Rig {
         sends_are(rt, &window, sends);
     }
 
-    fn decides(&self, rt: &impl Abort, leads: &[Leads]) {
+    fn decides(&self, rt: &impl Abort, tells: &[Tells]) {
         let told = self.made.desk().decisions().expect(rt, "ample memory");
-        leads_are(rt, &told, leads);
+        tells_are(rt, &told, tells);
     }
 
-    fn tells_at_last(&self, rt: &impl Abort, sends: &[Sends], leads: &[Leads]) {
+    fn tells_at_last(&self, rt: &impl Abort, sends: &[Sends], tells: &[Tells]) {
         match self.made.desk().window() {
             Ok(window) => sends_are(rt, &window, sends),
             Err(_) => self.window(rt, sends),
         }
         match self.made.desk().decisions() {
-            Ok(told) => leads_are(rt, &told, leads),
-            Err(_) => self.decides(rt, leads),
+            Ok(told) => tells_are(rt, &told, tells),
+            Err(_) => self.decides(rt, tells),
         }
     }
 

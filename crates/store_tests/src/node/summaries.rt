@@ -2,6 +2,7 @@
 use super::Step::{Asks, Flushes, Has, Redeems, Returns, Stops, Window};
 use super::*;
 use crate::journal::{checkpoints, commits_all, journal_of};
+use crate::rows::Tells::Leads;
 use disk_model::Device;
 use test_rows::Op;
 use test_rows::Sends::{Carry, Credit};
@@ -91,7 +92,11 @@ fn goes_on_from_the_summary(rt: HostRuntime) {
 static TAKES: [Step; 7] = [
     Asks(Ask::Take(1, ANNOUNCED), 3),
     Returns(0, No::Early),
-    Flushes(1, &[Carry(2, ANNOUNCED), Credit(2)], &[("red", 5, 30, 2)]),
+    Flushes(
+        1,
+        &[Carry(2, ANNOUNCED), Credit(2)],
+        &[Leads("red", 5, 30, 2)],
+    ),
     Redeems(0, Say::Taken),
     Stops(Tear::Old),
     Has(2, 1, 2, 3),

@@ -1,6 +1,7 @@
 // What nodes tell at the end of the first election.
 use super::Step::{Asks, Decides, Flushes, Redeems, Window};
 use super::*;
+use crate::rows::Tells::Leads;
 use test_rows::Sends::{Carry, Credit};
 
 const SECOND: Note = Note::Token("red", 5, 30, 2);
@@ -9,7 +10,7 @@ const THIRD: Note = Note::Token("red", 5, 20, 3);
 
 const WON: Note = Note::Elected("red", 5, 30, 2);
 
-const LED: [Leads; 1] = [("red", 5, 30, 2)];
+const LED: [Tells; 1] = [Leads("red", 5, 30, 2)];
 
 static AT_NODE_1: [Step; 14] = [
     Asks(STAND, 1),

@@ -1,0 +1,48 @@
+// Audits of which a growth is refused.
+use super::{FIRST, SECOND, THIRD, built, steps};
+use crate::rows::node;
+use ring_audit::AuditFault;
+use ring_records::Input;
+use std::alloc::Global;
+use std::process::Abort;
+use test_rows::Op;
+
+/// The histories of these inputs; where a growth is refused they are made again.
+fn built_at_last(rt: &impl Abort, alloc: Global, rows: &[&[Op]]) -> Vec<Vec<Input>> {
+    match built(rt, alloc, rows) {
+        Ok(histories) => histories,
+        Err(_) => built(rt, alloc, rows).expect(rt, "ample memory"),
+    }
+}
+
+/// The audit says this; where a growth is refused it says so, and the next one says this.
+fn comes_at_last(
+    rt: &impl Abort,
+    alloc: Global,
+    rows: &[&[Op]],
+    expected: Result<usize, AuditFault>,
+) {
+    let histories = built_at_last(rt, alloc, rows);
+    let mut told = steps(alloc, &histories);
+    if told == Err(AuditFault::Memory) {
+        told = steps(alloc, &histories);
+    }
+    assert_eq!(rt; told, expected);
+}
+
+#[test]
+fn refused_growths(rt: HostRuntime) {
+    comes_at_last(&rt, rt.alloc(), &[&FIRST, &SECOND, &THIRD], Ok(12));
+}
+
+#[test]
+fn refused_growths_where_inputs_are_stuck(rt: HostRuntime) {
+    let (node, place) = (node(&rt, 1), 3);
+    let stuck = AuditFault::Stuck { node, place };
+    comes_at_last(&rt, rt.alloc(), &[&FIRST, &SECOND, &THIRD[..2]], Err(stuck));
+}
+
+#[test]
+fn refused_growths_of_one_history(rt: HostRuntime) {
+    comes_at_last(&rt, rt.alloc(), &[&FIRST], Err(AuditFault::Shape));
+}
