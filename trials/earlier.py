@@ -1,17 +1,17 @@
 #!/usr/bin/env python3
 """Kills an earlier ringd at random moments, and has a new one go on in its folder under the same book of answers.
 
-earlier.py --earlier PATH [--ringd PATH] [--rounds N] [--seed S] [--capacity C] [--retire]
+earlier.py --earlier PATH [--ringd PATH] [--rounds N] [--seed S] [--capacity C]
 
 The first PATH is a built ringd of an earlier release, the second one the new one, bin/ringd where none is named; N, 1
 to 1,000, how often each of them is killed, 50 by default; S a number that the choices begin with; C, 4,096 to
-1,048,576, the capacity of all nodes, in place of one of three by chance. With --retire the new one is asked to retire
-terms, as by kill.py. Both are started by words that each release knows: --settings and --serve.
+1,048,576, the capacity of all nodes, in place of one of three by chance. Both are started by words that each release
+knows: --settings and --serve.
 
-A round is one of kill.py, and what is known of a folder is held against the answers of both programs. The earlier one
-has a folder for N rounds, or until a node made half of the Stands that use a folder up; then the new one is asked again
-all that was told, and killed as often as the earlier one was. Started once more, the earlier one is refused, and changes
-nothing. Folders follow until each was killed N times.
+A round is one of kill.py, and what is known of a folder is held against the answers of both programs; the new one alone
+is asked to retire terms. The earlier one has a folder for N rounds, or until a node made half of the Stands that use a
+folder up; then the new one is asked again all that was told, and killed as often as the earlier one was. Started once
+more, the earlier one is refused, and changes nothing. Folders follow until each was killed N times.
 
 The last lines are those of kill.py, behind the layouts of the journals as the earlier one left them and as the new one
 did, with how many were so, and what the earlier one said then. Status 1 also where the new one left a journal in the
@@ -39,8 +39,8 @@ REFUSED = re.compile(r"ringd: node 1: (damaged 16|unformatted)\n")
 class Succession(Trial):
     """Rounds by an earlier ringd, and as many by the new one."""
 
-    def __init__(self, earlier: str, ringd: str, seed: int, capacity: int | None, retires: bool) -> None:
-        super().__init__(ringd, seed, 1, capacity, retires)
+    def __init__(self, earlier: str, ringd: str, seed: int, capacity: int | None) -> None:
+        super().__init__(ringd, seed, 1, capacity)
         self.earlier = earlier
         self.layouts: Counter[tuple[int, int]] = Counter()
         self.said: Counter[str] = Counter()
@@ -50,7 +50,7 @@ class Succession(Trial):
         before = self.rounds
         self.go_on(ring, (rounds + 1) // 2, MANY // 2)
         layouts = layouts_of(ring)
-        ring.ringd, ring.known.retires = self.ringd, self.retires
+        ring.ringd, ring.known.retires = self.ringd, True
         self.look(ring)
         self.go_on(ring, self.rounds - before, 2 * MANY)
         self.look(ring)
@@ -103,9 +103,8 @@ def main() -> int:
     parser.add_argument("--rounds", type=number(1, 1_000), default=50, metavar="N")
     parser.add_argument("--seed", type=number(0, 2**63), default=random.randrange(1_000_000), metavar="S")
     parser.add_argument("--capacity", type=number(4_096, 1_048_576), metavar="C")
-    parser.add_argument("--retire", action="store_true")
     words = parser.parse_args()
-    trial = Succession(words.earlier, words.ringd, words.seed, words.capacity, words.retire)
+    trial = Succession(words.earlier, words.ringd, words.seed, words.capacity)
     return run(trial, 2 * words.rounds)
 
 

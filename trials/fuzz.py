@@ -1,5 +1,5 @@
 #!/usr/bin/env python3
-"""fuzz.py --seconds N --seed S [KIND..] [--ringd PATH] [--ringctl PATH] [--unproved] [--retire]
+"""fuzz.py --seconds N --seed S [KIND..] [--ringd PATH] [--ringctl PATH] [--unproved]
 
 Gives the programs what nobody would give them, and holds what they do against models that share nothing with the proofs. Each KIND is
 tried for N seconds, 10 by default, side by side; all of them where none is named:
@@ -12,12 +12,11 @@ tried for N seconds, 10 by default, side by side; all of them where none is name
   heads     heads of HTTP, whole, cut, repeated, with bytes changed
 
 Besides: no run is ended by a signal, none hangs for ten seconds, none takes 64 MiB, and no start that is refused changes a file.
---unproved is for builds of `rt try`, which are slow: a hang is a minute then, and memory is not looked at. --retire is for programs of
-which a node has room for a Retire: others are held to refuse each with 7.
+--unproved is for builds of `rt try`, which are slow: a hang is a minute then, and memory is not looked at.
 
 S is a number that the cases begin with, but not the moments at which threads run. A difference is told with the smallest case that shows
-it, and ends its kind. The last lines are `KIND cases N` for each, or `KIND differs`. Status 0 where nothing differed; 1 where something
-did; 2 where a word is wrong."""
+it, and ends its kind. The last lines are `KIND cases N parts P` for each, a part of a script being a line, or `KIND differs`. Status 0
+where nothing differed; 1 where something did; 2 where a word is wrong."""
 
 import argparse
 import multiprocessing
@@ -29,7 +28,6 @@ import time
 
 HERE = os.path.dirname(os.path.abspath(__file__))
 sys.path[:0] = [HERE, os.path.join(HERE, "kinds"), os.path.join(HERE, "..", "pictures")]
-from bounded import retire
 from files import Files
 from heads import Heads
 from programs import Kind, Programs
@@ -78,8 +76,6 @@ def trial(name: str, words: argparse.Namespace, counts: multiprocessing.Queue) -
     """Tries one kind. Puts how many cases it tried, none where one differed."""
     signal.signal(signal.SIGTERM, lambda *_: sys.exit(1))
     programs = Programs(os.path.abspath(words.ringd), os.path.abspath(words.ringctl), words.unproved)
-    if words.retire:
-        retire()
     try:
         kind = KINDS[name](programs)
         try:
@@ -93,9 +89,9 @@ def trial(name: str, words: argparse.Namespace, counts: multiprocessing.Queue) -
         programs.close()
 
 
-def cases(kind: Kind, words: argparse.Namespace) -> int | None:
-    """Tries cases until the time is over. How many, None where one differed."""
-    until, count = time.monotonic() + words.seconds, 0
+def cases(kind: Kind, words: argparse.Namespace) -> tuple[int, int] | None:
+    """Tries cases until the time is over. How many, and of how many parts, None where one differed."""
+    until, count, parts = time.monotonic() + words.seconds, 0, 0
     while time.monotonic() < until:
         seed = f"{words.seed} {kind.name} {count}"
         case = kind.case(random.Random(seed))
@@ -103,8 +99,8 @@ def cases(kind: Kind, words: argparse.Namespace) -> int | None:
         if why:
             tell(kind, seed, case, why)
             return None
-        count += 1
-    return count
+        count, parts = count + 1, parts + len(case)
+    return count, parts
 
 
 def main() -> int:
@@ -113,7 +109,6 @@ def main() -> int:
     parser.add_argument("--seconds", type=int, default=10, metavar="N")
     parser.add_argument("--seed", type=int, default=random.randrange(1_000_000), metavar="S")
     parser.add_argument("--unproved", action="store_true")
-    parser.add_argument("--retire", action="store_true")
     for name in ("ringd", "ringctl"):
         parser.add_argument(f"--{name}", default=os.path.join(os.path.dirname(HERE), "bin", name), metavar="PATH")
     words = parser.parse_args()
@@ -134,7 +129,7 @@ def main() -> int:
         work.join()
     told = dict(counts.get() for _ in range(sum(not work.exitcode for work in works)))
     for name in names:
-        print(f"{name} cases {told[name]}" if told.get(name) else f"{name} differs")
+        print("{} cases {} parts {}".format(name, *told[name]) if told.get(name) else f"{name} differs")
     return 0 if all(told.get(name) for name in names) else 1
 
 

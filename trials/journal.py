@@ -95,9 +95,27 @@ def records(data: bytes) -> Iterator[Input]:
             at += 1
 
 
-def keys(snapshot: bytes) -> Iterator[Known]:
+def keys(snapshot: bytes) -> list[Known]:
     """What a snapshot has of its keys."""
-    at = COUNTS
+    return keys_and_end(snapshot)[0]
+
+
+def floors(snapshot: bytes) -> Iterator[tuple[str, int]]:
+    """The groups with a floor, and their floors, of a snapshot of layout 3."""
+    at = keys_and_end(snapshot)[1]
+    for _ in range(number(snapshot, 24, 8) - number(snapshot, 16, 8)):
+        # A message has a term, a bid and a node behind its name.
+        at = name_at(snapshot, at + 1)[1] + 9
+    count, at = number(snapshot, at, 4), at + 4
+    for _ in range(count):
+        group, at = name_at(snapshot, at)
+        yield group, number(snapshot, at, 4)
+        at += 4
+
+
+def keys_and_end(snapshot: bytes) -> tuple[list[Known], int]:
+    """What a snapshot has of its keys, and where they end."""
+    at, found = COUNTS, []
     for _ in range(number(snapshot, COUNTS - 4, 4)):
         group, at = name_at(snapshot, at)
         term, flags, at = number(snapshot, at, 4), snapshot[at + 4], at + 5
@@ -106,7 +124,8 @@ def keys(snapshot: bytes) -> Iterator[Known]:
             stood, at = number(snapshot, at, 4), at + 4
         if flags & 2:
             leader, at = (number(snapshot, at, 4), snapshot[at + 4]), at + 5
-        yield Known(group, term, stood, leader)
+        found.append(Known(group, term, stood, leader))
+    return found, at
 
 
 def read(data: bytes) -> State:

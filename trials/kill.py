@@ -1,24 +1,23 @@
 #!/usr/bin/env python3
 """Kills ringd at random moments, starts it again on the same folder, and holds it to all that it ever told a client.
 
-kill.py [--ringd PATH] [--rounds N] [--seed S] [--doors D] [--capacity C] [--retire]
+kill.py [--ringd PATH] [--rounds N] [--seed S] [--doors D] [--capacity C]
 
 PATH is a built ringd, bin/ringd where none is named; N, 1 to 100,000, how often it is killed, 100 by default; S a
 number that the choices begin with, but not the moments at which threads run; D, 1 to 32, how many doors a node has and
 how many clients it is asked by at a time, 1 by default, which gives ringd no word for it; C, 4,096 to 1,048,576, the
 capacity of all nodes, in place of one of three by chance. With 8,192 or less a trial without a checkpoint says so, and
-its status is 1: it did not try them. With --retire a tenth of the new questions ask for a floor, for a ringd that retires
-terms; where none of them was answered so, a trial says so too.
+its status is 1: it did not try them.
 
 A round starts ringd, asks again what is known, in random order, has a client in a thread for each door of each node ask
-`stand`, `who`, `latest` and `retire`, and kills ringd with signal 9: while it opens its nodes, while it is asked again, or later.
-Some rounds share a folder; what is known is of a folder, and the last of its rounds is followed by one more start at
-which all of it is asked again. What is checked of each answer stands in known.py. A fault is printed in full, for the
-first ten; it ends its folder, and the folder of the first one is kept.
+`stand`, `who`, `latest` and, once in ten times, `retire`, and kills ringd with signal 9: while it opens its nodes, while
+it is asked again, or later. Some rounds share a folder; what is known is of a folder, and the last of its rounds is
+followed by one more start at which all of it is asked again. What is checked of each answer stands in known.py. A fault
+is printed in full, for the first ten; it ends its folder, and the folder of the first one is kept.
 
 The last line is `rounds N answers A stands S leaders L retires R faults F`: the kills, the answers that came, those that
 were `stood`, the groups and terms of which a leader was named, the answers `retired`, and the faults. Status 1 where
-there was a fault, or no Stand or no leader in all rounds; 2 for other arguments.
+there was a fault, or no Stand, leader or `retired` in all rounds; 2 for other arguments.
 """
 import argparse
 import os
@@ -52,7 +51,7 @@ class Ring:
     """A folder, the settings of a ring that lies in it, and what is known of it."""
 
     def __init__(self, ringd: str, folder: str, doors: int, capacity: int | None, rng: random.Random,
-                 nodes: int | None = None, retires: bool = False) -> None:
+                 nodes: int | None = None) -> None:
         self.ringd, self.folder, self.doors = ringd, folder, doors
         self.nodes = rng.choice([2, 3, 3, 3, 5])
         if nodes is not None:
@@ -60,9 +59,8 @@ class Ring:
         self.capacity = rng.choice([8_192, 65_536, 1_048_576, 1_048_576])
         if capacity is not None:
             self.capacity = capacity
-        # A small node that retires nothing is soon full for good.
-        self.rounds = rng.randint(3, 10) if self.capacity > 8_192 or retires else rng.randint(1, 3)
-        self.known = Known(self.nodes, doors == 1, retires)
+        self.rounds = rng.randint(3, 10)
+        self.known = Known(self.nodes, doors == 1)
         self.port = 0
         # The program that ringd is run by, and its words.
         self.tracer: list[str] = []
@@ -117,8 +115,8 @@ class Ring:
 class Trial:
     """Rounds, and what came of them."""
 
-    def __init__(self, ringd: str, seed: int, doors: int, capacity: int | None, retires: bool = False) -> None:
-        self.ringd, self.seed, self.doors, self.capacity, self.retires = ringd, seed, doors, capacity, retires
+    def __init__(self, ringd: str, seed: int, doors: int, capacity: int | None) -> None:
+        self.ringd, self.seed, self.doors, self.capacity = ringd, seed, doors, capacity
         self.rng = random.Random(seed)
         self.kills = {"opening": 0, "asked again": 0, "asked": 0}
         self.rounds = self.answers = self.stands = self.leaders = self.unanswered = self.faults = self.checkpoints = 0
@@ -208,7 +206,7 @@ class Trial:
         """So many rounds at most, over a folder of their own."""
         folder, is_kept = tempfile.mkdtemp(prefix="ringd-kill-"), False
         try:
-            ring = Ring(self.ringd, folder, self.doors, self.capacity, self.rng, retires=self.retires)
+            ring = Ring(self.ringd, folder, self.doors, self.capacity, self.rng)
             known = ring.known
             self.course(ring, rounds)
             self.checkpoints += ring.checkpoints()
@@ -245,7 +243,7 @@ class Trial:
         is_small = self.capacity is not None and self.capacity <= 8_192
         if is_small and not self.checkpoints:
             return "no checkpoint was made"
-        return "no term was retired" if self.retires and not self.retired else ""
+        return "" if self.retired else "no term was retired"
 
 
 def number(low: int, high: int):
@@ -277,11 +275,10 @@ def main() -> int:
     parser.add_argument("--seed", type=number(0, 2**63), default=random.randrange(1_000_000), metavar="S")
     parser.add_argument("--doors", type=number(1, 32), default=1, metavar="D")
     parser.add_argument("--capacity", type=number(4_096, 1_048_576), metavar="C")
-    parser.add_argument("--retire", action="store_true")
     words = parser.parse_args()
     if not os.access(words.ringd, os.X_OK):
         parser.error(f"{words.ringd} is not there; make ringd builds bin/ringd")
-    trial = Trial(os.path.abspath(words.ringd), words.seed, words.doors, words.capacity, words.retire)
+    trial = Trial(os.path.abspath(words.ringd), words.seed, words.doors, words.capacity)
     return run(trial, words.rounds)
 
 

@@ -76,10 +76,10 @@ class Session:
 
 class Known:
     """What was told by a ring of so many nodes since its folder was made. `is_single`: each node has one door; `retires`:
-    it is asked to retire terms too."""
+    it is asked to retire terms too, which an earlier ringd does not know."""
 
-    def __init__(self, nodes: int, is_single: bool, retires: bool = False) -> None:
-        self.nodes, self.is_single, self.retires = nodes, is_single, retires
+    def __init__(self, nodes: int, is_single: bool) -> None:
+        self.nodes, self.is_single, self.retires = nodes, is_single, True
         self.lock = threading.RLock()
         self.starts = 1
         self.answers = self.unanswered = 0

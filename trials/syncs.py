@@ -13,8 +13,8 @@ other's end stands behind it. What was written is stable once a sync that began 
   that was closed before the snapshot, and a gate before all that follows, and a file that is opened is synced first;
 - a new file and its name are stable before it is written to, all that it holds before it gets its own name, and all
   names before `ring.made` and before the first answer;
-- of an answer, the Stand, the leader or the message that it tells of is in a batch or a checkpoint whose gate is stable
-  when it is sent, and which this start wrote, for the file may read what the disk never had.
+- of an answer, the Stand, the leader, the message or the floor that it tells of is in a batch or a checkpoint whose gate
+  is stable when it is sent, and which this start wrote, for the file may read what the disk never had.
 
 The last line is `answers A batches B checkpoints C, not as they should be: answers A batches B checkpoints C starts S`,
 behind the first of each kind that is not. Status 1 where there is one, or there was no answer, batch or checkpoint, or
@@ -100,8 +100,12 @@ class Told:
         self.seen: set[Key] = set()
         self.stood: dict[Key, int] = {}
         self.leaders: dict[Key, tuple[int, int]] = {}
+        self.floors: dict[str, int] = {}
 
     def take_input(self, taken: journal.Input) -> None:
+        if taken.kind == journal.RETIRE:
+            self.floors[taken.group] = taken.term
+            return
         key = (taken.group, taken.term)
         self.seen.add(key)
         if taken.kind == journal.STAND:
@@ -130,6 +134,10 @@ class Told:
                 return (group, term) in self.seen
             case "no", ["5"]:
                 return (group, numbers[1]) in self.leaders
+            case "no", ["23"]:
+                return self.floors.get(group, 0) >= numbers[1]
+            case "retired", _:
+                return self.floors.get(group, 0) >= term
             case "leader", _:
                 return self.leaders.get((group, term)) == (numbers[1], numbers[0])
             case "term", _:
@@ -187,8 +195,10 @@ class Journal(File):
             for taken in journal.records(text[journal.FRAME - 1:-1]):
                 self.told.take_input(taken)
         elif text:
-            for known in journal.keys(text[journal.HEAD - 1:-1]):
+            snapshot = text[journal.HEAD - 1:-1]
+            for known in journal.keys(snapshot):
                 self.told.take_key(known)
+            self.told.floors.update(journal.floors(snapshot))
 
 
 class Start:

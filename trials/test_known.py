@@ -121,7 +121,7 @@ def asked(words: str) -> tuple[int, Question]:
 
 def read(text: str, is_single: bool = True) -> list[list[str]]:
     """The faults of a book: those of each of its lines."""
-    known, sessions, told = Known(NODES, is_single, True), {}, []
+    known, sessions, told = Known(NODES, is_single), {}, []
     for line in filter(None, text.splitlines()):
         count = len(known.faults)
         if line == "start":
@@ -154,7 +154,7 @@ class BookTest(unittest.TestCase):
                     self.assertEqual((sum(map(len, before)), len(last)), (0, 1))
 
     def test_what_a_used_up_folder_is(self) -> None:
-        known, session = Known(NODES, True, True), Session()
+        known, session = Known(NODES, True), Session()
         for term in range(1, 11):
             known.answered(1, question := Question("stand", "red", term, 5), known.sending(1, question, session), session, "stood")
         self.assertTrue(known.is_used_up(10))
@@ -324,7 +324,7 @@ class Asker(Client):
 def play(kind: type[Ring], seed: int, doors: int = 1, starts: int = 6) -> Known:
     """What is known once a ring was asked by a client for each door of each node, and killed, so often."""
     rng = random.Random(seed)
-    known, ring = Known(NODES, doors == 1, True), kind(rng)
+    known, ring = Known(NODES, doors == 1), kind(rng)
     for _ in range(starts):
         again = [known.questions(node, rng) for node in range(1, NODES + 1)]
         askers = [Asker(known, node + 1, ring, again[node][door::doors], rng) for node in range(NODES) for door in range(doors)]
@@ -362,7 +362,7 @@ class PlayedTest(unittest.TestCase):
 
     def test_a_token_that_is_passed_on_below_a_floor_is_told(self) -> None:
         for kind, last in ((Ring, "none"), (PassesOn, "leader 2 5")):
-            known, ring, answer = Known(NODES, True, True), kind(random.Random(0)), ""
+            known, ring, answer = Known(NODES, True), kind(random.Random(0)), ""
             sessions = {node: Session() for node in range(1, NODES + 1)}
             for words in COURSE.split("\n")[1:-1]:
                 if words.isdigit():

@@ -8,14 +8,6 @@ from nodes import Acked, Input, Node, Retire, Stand, Take
 STANDS = 1_024
 # What the snapshot of a node without inputs takes.
 FRESH = 42
-# Whether a node has room for a Retire.
-retires = False
-
-
-def retire() -> None:
-    """From now on nodes have room for a Retire. Others have none, however little they hold."""
-    global retires
-    retires = True
 
 
 def cost(asked: Input) -> int:
@@ -50,8 +42,6 @@ class Bounded(Node):
         told = super().refusal(asked)
         if told is None and isinstance(asked, Stand) and len(self.stood) >= STANDS:
             return "no 6 limit"
-        if told is None and isinstance(asked, Retire) and not retires:
-            return "no 7 full"
         return "no 7 full" if told is None and self.used() + cost(asked) > self.capacity else told
 
     def snapshot(self) -> int:

@@ -5,7 +5,6 @@ import shutil
 import threading
 from typing import NamedTuple
 
-import bounded
 import journals
 from journals import Input, Refused, State
 from programs import Kind, Programs, Server
@@ -51,7 +50,7 @@ class Files(Kind):
             first = 40 * len(older)
             texts = [b"".join(b"stand %s %d %d\n" % (rng.choice(GROUPS), first + rng.randint(1, 30), rng.randrange(9))
                               for _ in range(rng.randint(1, 40))) for _ in range(NODES)]
-            if older and bounded.retires:
+            if older:
                 # Of what was elected before it was killed.
                 texts = [b"retire %s %d\n" % (rng.choice(GROUPS), rng.randint(1, 30)) * rng.randint(0, 2) + text for text in texts]
             clients = [threading.Thread(target=server.exchange, args=(server.port + node, [text])) for node, text in enumerate(texts)]

@@ -2,8 +2,6 @@
 import re
 from typing import NamedTuple
 
-import bounded
-
 MARK, OLD_MARK, NAME = b"CRJRNL02", b"CRJRNL01", re.compile(rb"[a-z][a-z0-9-]*")
 HEAD, LEAST, GREATEST, BID = 16, 4_096, 1_048_576, 999_999_999
 STANDS, INPUTS, EPOCHS, COUNT, FULLEST = 1_024, 2**56, 2**40, 64, 2**21 + 2**12
@@ -117,8 +115,7 @@ class State:
             is_new = asked.key not in self.touched and not self.is_retired(asked.key)
             is_right = is_new and self.latest(asked.key[0]) <= asked.key[1] and self.stands < STANDS
         elif asked.kind == "retire":
-            # A node that retires no terms has room for none.
-            is_right = self.floors.get(asked.key[0], 0) < asked.key[1] <= self.latest(asked.key[0]) and bounded.retires
+            is_right = self.floors.get(asked.key[0], 0) < asked.key[1] <= self.latest(asked.key[0])
         elif asked.kind == "take":
             is_right = asked.message.candidate[1] <= self.nodes and asked.number == self.taken
         else:

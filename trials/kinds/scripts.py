@@ -170,19 +170,21 @@ def years(rng: random.Random, nodes: int, count: int, is_lazy: bool) -> list[byt
                 case.append(b"retire %d %s %d\n" % (each, group, max(1, term - kept)))
             if rng.random() < 0.5:
                 case.append(b"checkpoint %d\n" % each)
+            if rng.random() < 0.3:
+                case.append(line(rng, nodes, max(0, term - 3)) + b"\n")
     return case
 
 
-def line(rng: random.Random, nodes: int) -> bytes:
-    """A line of a script: mostly a command, sometimes with a word or a byte changed."""
-    node, group, term = rng.randint(1, nodes), rng.choice(GROUPS), rng.randint(1, 4)
+def line(rng: random.Random, nodes: int, behind: int = 0) -> bytes:
+    """A line of a script: mostly a command, for one of the first terms behind this one, sometimes with a word or a byte changed."""
+    node, group, term = rng.randint(1, nodes), rng.choice(GROUPS), behind + rng.randint(1, 4)
     tear = rng.choice([b"old", b"new", b"fill 1", b"fill 0", b"fill 165", b"fill 01"])
     words = rng.choice([
         b"stand %d %s %d %d" % (node, group, term, rng.randrange(6)), b"stand %d %s %d %d" % (node, group, term, rng.randrange(6)),
-        b"who %d %s %d" % (node, group, term), b"latest %d %s" % (node, group), b"deliver %d %d" % (node, rng.randrange(8)),
-        b"deliver %d %d" % (node, rng.randrange(3)), b"credit %d %d" % (node, rng.randrange(6)), b"deliver all", b"deliver all",
+        b"who %d %s %d" % (node, group, term), b"latest %d %s" % (node, group), b"deliver %d %d" % (node, 2 * behind + rng.randrange(8)),
+        b"deliver %d %d" % (node, rng.randrange(3)), b"credit %d %d" % (node, 2 * behind + rng.randrange(6)), b"deliver all", b"deliver all",
         b"flush %d" % node, b"flush %d" % node, b"crash %d" % node, b"checkpoint %d" % node, b"show %d" % node, b"audit",
-        b"retire %d %s %d" % (node, group, term), b"retire %d %s %d" % (node, group, rng.randint(1, 2)),
+        b"retire %d %s %d" % (node, group, term), b"retire %d %s %d" % (node, group, behind + rng.randint(1, 2)),
         b"stop %d %d %s" % (node, rng.randint(1, 4), tear), b"stop %d checkpoint %d %s" % (node, rng.randint(1, 6), tear),
     ]).split(b" ")
     kind = rng.random()

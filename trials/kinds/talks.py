@@ -1,5 +1,4 @@
 """What docs/SESSIONS.md says that a ring answers, over nodes as docs/PROTOCOL.md has them."""
-import bounded
 import lines
 from bounded import STANDS
 from nodes import Candidate, Key, Node, Retire, Stand, Take
@@ -78,9 +77,9 @@ class Ring:
 
     def retires(self, node: Node, asked: Retire) -> set[str]:
         """A term that is on its way may be decided or not."""
-        refusal, told = node.refusal(asked), "retired" if bounded.retires else "no 7 full"
+        refusal = node.refusal(asked)
         is_near = refusal == "no 26 undecided" and any(key.group == asked.group and key.term >= asked.floor for key in self.pending)
-        return {refusal or told} | ({told} if is_near else set())
+        return {refusal or "retired"} | ({"retired"} if is_near else set())
 
     def latest(self, node: Node, group: str) -> set[str]:
         """That at rest, or a greater one that is on its way."""

@@ -59,7 +59,6 @@ class MoveTest(unittest.TestCase):
         old, new = self.serve(4_096), self.serve()
         lockers = Lockers(old.ports)
         self.addCleanup(lockers.end)
-        # Past its last checkpoint such a ring is full by some ninety terms.
         lockers.await_terms(60)
         here, there = old.first, new.first
         old.kill()
