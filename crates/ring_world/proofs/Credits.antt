@@ -1,10 +1,10 @@
 -- No more messages of a node are credited than its durable inputs sent.
-use Rattle.std.proofs.Common.{ℕ, ◌≡◌, ◌⊎◌, ◌≤◌, ◌<◌, ◌+◌, List, [], ◌∷◌, ◌++◌, length, take, drop, slice_get, Option, Some, None, refl, sym, ap, ◌∙◌, subst, inl, inr, arith, append-nil}
+use Rattle.std.proofs.Common.{ℕ, suc, ◌≡◌, ◌⊎◌, ◌≤◌, ◌<◌, ◌+◌, List, [], ◌∷◌, ◌++◌, length, take, drop, slice_get, Option, Some, None, refl, sym, ap, ◌∙◌, subst, inl, inr, arith, append-nil}
 use Rattle.std.specs.List.{cons_option, filter_map, fold, Contains}
 use Rattle.std.proofs.lemmas.Bool.Decides.{nat_tests}
 use Rattle.std.proofs.lemmas.List.{length-append, take-append-drop}
 use Rattle.std.proofs.lemmas.List.Elements.{Contains-push, Contains-append_left}
-use Rattle.std.proofs.lemmas.Option.{same_Some, slice_get_within}
+use Rattle.std.proofs.lemmas.Option.{same_Some}
 use Rattle.ring_records.specs.declared.base.Base.{Base}
 use Rattle.ring_records.specs.declared.input.Input.{Input}
 use Rattle.ring_records.specs.declared.input.Input.TheVariants.{Stand, Take, Acked, Retire}
@@ -16,6 +16,7 @@ use Rattle.ring_records.specs.History.{upto_of, message_of, taken, credit}
 use Rattle.ring_records.specs.Place.{after, before}
 use Rattle.ring_records.specs.Ring.{part, IsCarried}
 use Rattle.ring_records.specs.States.{NodeState, launched_base, durable_in}
+use Rattle.ring_records.proofs.Growth.{slice_get-push}
 use Rattle.ring_records.proofs.History.{taken-push}
 use Rattle.ring_records.proofs.Leader.{Contains-here, Contains-later, Contains-filter_map_from}
 use Rattle.ring_records.proofs.Lists.{along, none≢some}
@@ -48,49 +49,48 @@ credit_from h = elim (last_of 0 (filter_map upto_of h)) [
   | inr there ↦ inr (let from = Contains-filter_map_from upto_of h (credit h) there in acked h from.0 (credit h) from.1 from.2)
 ]
 
--- the last message that was taken
-record LastTake (h : List Input) : Type 0 where
-  msg_no : ℕ
-  msg : Msg
-  count : length (taken h) ≡ msg_no + 1
-  there : Contains h (Take msg_no msg)
-
-abbrev Taken : List Input → Type 0
-Taken h = (length (taken h) ≡ 0) ⊎ LastTake h
+-- each message that was taken stands in a Take, whose number is its place
+abbrev AreNumbered : List Input → Type 0
+AreNumbered h = (place : ℕ) (msg : Msg) → slice_get (taken h) place ≡ Some msg → Contains h (Take place msg)
 
 -- no message is taken with the input
-stays : (h : List Input) (x : Input) → message_of x ≡ None → Taken h → Taken (h ++ x ∷ [])
-stays h x none earlier =
+stays : (h : List Input) (x : Input) → message_of x ≡ None → AreNumbered h → AreNumbered (h ++ x ∷ [])
+stays h x none earlier place msg e =
     let same : taken (h ++ x ∷ []) ≡ taken h = taken-push h x ∙ (ap (λ (o : Option Msg). taken h ++ cons_option o []) none ∙ append-nil (taken h)) in
-    elim earlier [
-      | inl e ↦ inl (ap length same ∙ e)
-      | inr last ↦ inr (record { msg_no = last.msg_no; msg = last.msg; count = ap length same ∙ last.count; there = Contains-append_left h (x ∷ []) (Take last.msg_no last.msg) last.there })
-    ]
+    Contains-append_left h (x ∷ []) (Take place msg) (earlier place msg (ap (λ (l : List Msg). slice_get l place) (sym same) ∙ e))
 
-next : (me n capacity : ℕ) (base : Base) (h : List Input) (x : Input) → IsAdmitted me n capacity base h x → Taken h → Taken (h ++ x ∷ [])
+next : (me n capacity : ℕ) (base : Base) (h : List Input) (x : Input) → IsAdmitted me n capacity base h x → AreNumbered h → AreNumbered (h ++ x ∷ [])
 unfolding IsInTurn message_of
 next me n capacity base h (Stand key bid) admitted earlier = stays h (Stand key bid) refl earlier
 next me n capacity base h (Acked upto) admitted earlier = stays h (Acked upto) refl earlier
 next me n capacity base h (Retire group floor) admitted earlier = stays h (Retire group floor) refl earlier
-next me n capacity base h (Take msg_no msg) admitted earlier =
-    let more = ap length (taken-push h (Take msg_no msg)) in
-    let sum = length-append (taken h) (msg ∷ []) in
+next me n capacity base h (Take msg_no taking) admitted earlier = λ place msg e.
+    let more : taken (h ++ Take msg_no taking ∷ []) ≡ taken h ++ taking ∷ [] = taken-push h (Take msg_no taking) in
     let at : msg_no ≡ length (taken h) = admitted.allowed.in_turn.next in
-    inr (record { msg_no = msg_no; msg = msg; count = omega arith; there = Contains-push h (Take msg_no msg) })
+    elim (slice_get-push (taken h) taking msg place (ap (λ (l : List Msg). slice_get l place) (sym more) ∙ e)) [
+      | inl there ↦ Contains-append_left h (Take msg_no taking ∷ []) (Take place msg) (earlier place msg there)
+      | inr last ↦ subst (λ (x : Input). Contains (h ++ Take msg_no taking ∷ []) x) (λ i. Take ((at ∙ sym last.0) i) (last.1 i)) (Contains-push h (Take msg_no taking))
+    ]
 
-none_taken : Taken []
+numbered_none : AreNumbered []
 unfolding taken
-none_taken = inl refl
+numbered_none place msg e = none≢some msg e
 
-last_take : (me n capacity : ℕ) (base : Base) (h : List Input) → IsLawful me n capacity base h → Taken h
+are_numbered : (me n capacity : ℕ) (base : Base) (h : List Input) → IsLawful me n capacity base h → AreNumbered h
 unfolding IsLawful
-last_take me n capacity base h lawful = along (IsAdmitted me n capacity base) Taken (next me n capacity base) [] h lawful none_taken
+are_numbered me n capacity base h lawful = along (IsAdmitted me n capacity base) AreNumbered (next me n capacity base) [] h lawful numbered_none
 
 -- ---- in a ring
 
 before_after : (n i : ℕ) → 1 ≤ i → i ≤ n → before n (after n i) ≡ i
 unfolding after before
 before_after n i low high = grind (arith, nat_tests)
+
+-- a list whose items stand at their places in another one is no longer than that
+all_within : {A : Type 0} (xs ys : List A) → ((k : ℕ) (x : A) → slice_get xs k ≡ Some x → slice_get ys k ≡ Some x) → length xs ≤ length ys
+all_within [] ys there = omega arith
+all_within (x ∷ xs) [] there = none≢some x (there 0 x refl)
+all_within (x ∷ xs) (y ∷ ys) there = let rest = all_within xs ys (λ k z e. there (suc k) z e) in omega arith
 
 front : {A : Type 0} (k : ℕ) (l : List A) (x : A) → Contains (take k l) x → Contains l x
 front k l x there = subst (λ ys. Contains ys x) (take-append-drop k l) (Contains-append_left (take k l) (drop k l) x there)
@@ -105,27 +105,24 @@ module _ (n capacity : ℕ) (events : List (ℕ × Action)) (schedule : IsSchedu
   durable_is : (k : ℕ) → part run k ≡ durable_in (at k)
   durable_is = (schedule_holds n capacity events schedule).parts
 
-  -- what a message was carried by
-  carried_one : (msg_no : ℕ) (msg : Msg) → IsCarried n run (after n i) (Take msg_no msg) → msg_no < length (sent i (part run i))
+  -- what was carried was sent
+  carried_one : (place : ℕ) (msg : Msg) → IsCarried n run (after n i) (Take place msg) → slice_get (sent i (part run i)) place ≡ Some msg
   unfolding IsCarried
-  carried_one msg_no msg e =
-      let here : before n (after n i) ≡ i = before_after n i first last in
-      slice_get_within (sent i (part run i)) msg_no msg (subst (λ k. slice_get (sent k (part run k)) msg_no ≡ Some msg) here e)
+  carried_one place msg e = subst (λ k. slice_get (sent k (part run k)) place ≡ Some msg) (before_after n i first last) e
 
-  -- node i sent all that its successor took
-  taken_sent : length (taken (part run (after n i))) ≤ length (sent i (part run i))
-  taken_sent =
+  -- node i sent each message that its successor took
+  taken_sent : (place : ℕ) (msg : Msg) → slice_get (taken (part run (after n i))) place ≡ Some msg → slice_get (sent i (part run i)) place ≡ Some msg
+  taken_sent place msg e =
       let b = after n i in
       let holds = schedule_holds n capacity events schedule in
       let base = launched_base (at b) in
       let lawful = lawful-first b n capacity base (at b).durable (at b).inputs (holds.sound b).lawful.all in
-      elim (last_take b n capacity base (part run b) (subst (IsLawful b n capacity base) (sym (durable_is b)) lawful)) [
-        | inl e ↦ omega arith
-        | inr t ↦ let there = front (at b).durable (at b).inputs (Take t.msg_no t.msg) (subst (λ l. Contains l (Take t.msg_no t.msg)) (durable_is b) t.there) in
-            let low = carried_one t.msg_no t.msg (holds.carried b (Take t.msg_no t.msg) there) in
-            let count = t.count in
-            omega arith
-      ]
+      let there = are_numbered b n capacity base (durable_in (at b)) lawful place msg (ap (λ (h : List Input). slice_get (taken h) place) (sym (durable_is b)) ∙ e) in
+      carried_one place msg (holds.carried b (Take place msg) (front (at b).durable (at b).inputs (Take place msg) there))
+
+  -- and so as many
+  taken_few : length (taken (part run (after n i))) ≤ length (sent i (part run i))
+  taken_few = all_within (taken (part run (after n i))) (sent i (part run i)) taken_sent
 
   carried_credit : (upto : ℕ) → IsCarried n run i (Acked upto) → upto ≤ length (taken (part run (after n i)))
   unfolding IsCarried
@@ -139,23 +136,26 @@ module _ (n capacity : ℕ) (events : List (ℕ × Action)) (schedule : IsSchedu
   ]
 
   -- the link from node i fits
-  pub link_fits : LinkFits i (durable_in (at i)) (durable_in (at (after n i)))
+  pub link_fits : LinkFits (λ place. Unit {0}) i (durable_in (at i)) (durable_in (at (after n i)))
   link_fits =
       let holds = schedule_holds n capacity events schedule in
       let own = durable_is i in
       let next = durable_is (after n i) in
-      let all = taken_sent in
       let few = credited_taken (durable_in (at i)) (λ x there. holds.carried i x (front (at i).durable (at i).inputs x there)) in
       record {
-        credited = subst (λ (h : List Input). credit (durable_in (at i)) ≤ length (taken h)) next few;
-        sent = subst (λ (h : List Input). length (taken h) ≤ length (sent i (durable_in (at i)))) next (subst (λ (h : List Input). length (taken (part run (after n i))) ≤ length (sent i h)) own all);
+        counts = record {
+          credited = subst (λ (h : List Input). credit (durable_in (at i)) ≤ length (taken h)) next few;
+          sent = subst (λ (h : List Input). length (taken h) ≤ length (sent i (durable_in (at i)))) next (subst (λ (h : List Input). length (taken (part run (after n i))) ≤ length (sent i h)) own taken_few);
+        };
+        same = λ place msg known took.
+            subst (λ (h : List Input). slice_get (sent i h) place ≡ Some msg) own (taken_sent place msg (ap (λ (h : List Input). slice_get (taken h) place) next ∙ took));
       }
 
   -- no more messages of node i are credited to it than its durable inputs sent
   pub credited : credit (at i).inputs ≤ length (sent i (durable_in (at i)))
   credited =
       let holds = schedule_holds n capacity events schedule in
-      let all = taken_sent in
+      let all = taken_few in
       let same = ap (λ l. length (sent i l)) (durable_is i) in
       elim (credit_from (at i).inputs) [
         | inl e ↦ omega arith

@@ -109,7 +109,7 @@ pub committed_parts : (n capacity : ℕ) (events : List (ℕ × Action)) (i : �
 committed_parts n capacity events i s = (schedule_holds n capacity events s).parts i
 
 -- what is durable in a schedule fits
-pub ring_fits : (n capacity : ℕ) (events : List (ℕ × Action)) → IsSchedule n capacity events → RingFits n (λ i. durable_in (state_after n capacity events i))
+pub ring_fits : (n capacity : ℕ) (events : List (ℕ × Action)) → IsSchedule n capacity events → RingFits n (λ i place. Unit {0}) (λ i. durable_in (state_after n capacity events i))
 ring_fits n capacity events s =
     let shown : (i : ℕ) (key : Key) (c : Candidate) → leader i (durable_in (state_after n capacity events i)) key ≡ Some c → IsShown (committed n capacity events) key c =
     λ i key c leads. shown_by (committed n capacity events) key c i (durable_in (state_after n capacity events i)) [] (append-nil _ ∙ sym (committed_parts n capacity events i s))

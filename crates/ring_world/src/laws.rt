@@ -57,10 +57,10 @@ pub fn whole_histories()
 {}
 
 /// In every schedule the durable histories of all nodes fit, and so do those with which they are opened again: for each
-/// link as many messages at most are credited as were taken, and taken as were sent, and no two nodes know different
-/// leaders for a key.
+/// link as many messages at most are credited as were taken, what was taken is what was sent, message by message, and no
+/// two nodes know different leaders for a key.
 pub fn ring_fits()
-    ensures fits { (n capacity : ℕ) (events : List (ℕ × Action)) → IsSchedule n capacity events → RingFits n (λ i. durable_in (state_after n capacity events i)) }
+    ensures fits { (n capacity : ℕ) (events : List (ℕ × Action)) → IsSchedule n capacity events → RingFits n (λ i place. Unit {0}) (λ i. durable_in (state_after n capacity events i)) }
 {}
 
 /// In every schedule all answers that were ever released for one key name one leader. It stands among the inputs that
