@@ -12,5 +12,6 @@ pub mod Costs
 pub mod Flies
 pub mod Landing
 pub mod Leaders
+pub mod Messages
 pub mod New
 pub mod Vouching

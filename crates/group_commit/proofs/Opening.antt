@@ -99,6 +99,10 @@ pub on_ok : {T E : Type 0} {P : Type 0} (r : Result T E) → is_ok r ≡ true �
 on_ok (Ok x) e p = p
 on_ok (Err x) e p = absurd cc
 
+pub map_ok : {T E P Q : Type 0} (r : Result T E) → (P → Q) → OnOk r P → OnOk r Q
+map_ok (Ok x) f p = f p
+map_ok (Err e) f p = tt
+
 pub on_err : {T E : Type 0} {P : Type 0} (r : Result T E) → is_err r ≡ true → OnErr r P → P
 on_err (Ok x) e p = absurd cc
 on_err (Err x) e p = p

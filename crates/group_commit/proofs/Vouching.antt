@@ -1,5 +1,5 @@
 -- What a history gives to a request, where no room is left.
-use Rattle.std.proofs.Common.{◌≡◌, ℕ, true, suc, ◌+◌, ◌-◌, ◌<◌, ◌≤◌, List, [], ◌∷◌, ◌++◌, length, get_or, take, Option, Some, None, inl, inr, refl, sym, ◌∙◌, ap, append-nil, subst, arith}
+use Rattle.std.proofs.Common.{◌≡◌, ℕ, true, ◌+◌, ◌-◌, ◌<◌, ◌≤◌, List, [], ◌++◌, length, get_or, take, Option, Some, None, inl, inr, refl, sym, ◌∙◌, ap, append-nil, subst, arith}
 use Rattle.std.specs.Prelude.{slice_get}
 use Rattle.std.proofs.lemmas.List.{length-append, length-take-le}
 use Rattle.std.proofs.lemmas.Option.{same_Some, slice_get_read, get_or_from_slice_get}
@@ -21,6 +21,7 @@ use Rattle.ring_records.specs.Lists.{or_else}
 use Rattle.ring_records.specs.Member.{Member}
 use Rattle.ring_records.specs.States.{NodeState}
 use Rattle.ring_records.specs.Summary.{summary}
+use Rattle.ring_records.proofs.Growth.{slice_get-behind}
 use Rattle.ring_records.proofs.Known.{leader-known, objects-known}
 use Rattle.ring_records.proofs.Latest.{latest_is, latest_same, one_latest}
 use Rattle.ring_records.proofs.Lists.{none≢some}
@@ -104,12 +105,6 @@ no_acceptance me n h (ask.Who key) a x accepts e = none≢some x accepts.asked
 no_acceptance me n h (ask.Latest group) a x accepts e = none≢some x accepts.asked
 
 -- ---- inputs behind a past
-
-slice_get-behind : {A : Type 0} (xs ys : List A) (k : ℕ) → slice_get (xs ++ ys) (length xs + k) ≡ slice_get ys k
-slice_get-behind [] ys k = let same : 0 + k ≡ k = omega arith in ap (slice_get ys) same
-slice_get-behind (x ∷ xs) ys k =
-    let more : length (x ∷ xs) + k ≡ suc (length xs + k) = omega arith in
-    ap (slice_get (x ∷ (xs ++ ys))) more ∙ slice_get-behind xs ys k
 
 -- where the reply accepts this input, it is the one with that number
 accepts_one : (q : Request) (reply : Reply) (x y : Input) → Accepts q reply x → Accepts q reply y → x ≡ y

@@ -353,6 +353,7 @@ fn count_with(inputs: &[Input], input: &Option<Input>) -> u64
 mod counts;
 mod decisions;
 mod flight;
+mod messages;
 mod next;
 mod parts;
 mod vouch;
