@@ -23,9 +23,9 @@ module _ (i j : ℕ) (h : ℕ → List Input) (told : List Notice) (known : IsCo
   pub fit : Agrees i (h i) told → LeadersFit i j (h i) (h j)
   fit agrees key c d here there = agrees (record { key = key; leader = d }) c (leads-told j (h j) told (record { key = key; leader = d }) known there) here
 
-  pub apart : (n m : ℕ) → j ≡ m → (1 ≤ i) × (i ≤ n) → (1 ≤ j) × (j ≤ n) → Differs i (h i) told → IsApart n h i m
-  apart n m number one other found =
-      subst (IsApart n h i) number (record {
+  pub apart : (n m : ℕ) (known_no : ℕ → ℕ → Type 0) → j ≡ m → (1 ≤ i) × (i ≤ n) → (1 ≤ j) × (j ≤ n) → Differs i (h i) told → IsApart n known_no h i m
+  apart n m known_no number one other found =
+      subst (IsApart n known_no h i) number (record {
         one = one;
         other = other;
         why = inr (record {

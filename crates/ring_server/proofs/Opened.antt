@@ -5,9 +5,10 @@ use Rattle.ring_records.specs.declared.input.Input.{Input}
 use Rattle.ring_records.specs.declared.summary.Summary.{Summary}
 use Rattle.ring_records.specs.Fitting.{RingFits}
 use Rattle.ring_records.specs.Member.{Member}
+use Rattle.ring_records.specs.Place.{after}
 use Rattle.group_commit.specs.Desk.{DeskKept}
 use Rattle.group_commit.specs.Past.{IsPast}
-use Rattle.ring_server.specs.Fits.{IsInOrder, inputs_there, ArePasts, Fits}
+use Rattle.ring_server.specs.Fits.{IsInOrder, inputs_there, opening_there, opening_of, history, IsKnown, IsKnownTo, ArePasts, Fits}
 use Rattle.ring_server.specs.Written.{GoesOn}
 
 -- one more of both
@@ -69,6 +70,13 @@ module _ {A B : Type 0} (f : A → DeskKept) (g : B → DeskKept) where
   same_inputs (a ∷ xs) (b ∷ ys) h zero = sym h.0.inputs
   same_inputs (a ∷ xs) (b ∷ ys) h (suc k) = same_inputs xs ys h.1 k
 
+  same_openings : (xs : List A) (ys : List B) → GoOn xs ys → (k : ℕ) → opening_there f (slice_get xs k) ≡ opening_there g (slice_get ys k)
+  same_openings [] [] h k = refl
+  same_openings [] (b ∷ ys) h k = absurd h
+  same_openings (a ∷ xs) [] h k = absurd h
+  same_openings (a ∷ xs) (b ∷ ys) h zero = sym h.0.opening
+  same_openings (a ∷ xs) (b ∷ ys) h (suc k) = same_openings xs ys h.1 k
+
   pub in_order : (xs : List A) (ys : List B) → GoOn xs ys → IsInOrder f xs → IsInOrder g ys
   in_order xs ys h order k y e =
       let o = before (λ x y. GoesOn (f x) (g y)) xs ys h k y e in
@@ -82,4 +90,6 @@ module _ {A B : Type 0} (f : A → DeskKept) (g : B → DeskKept) where
 
   pub fits : (n : ℕ) (xs : List A) (ys : List B) → GoOn xs ys → Fits f n xs → Fits g n ys
   fits n xs ys h fit pasts are =
-      subst (RingFits n) (λ i k. pasts k ++ same_inputs xs ys h (k - 1) i) (fit pasts (pasts_before pasts xs ys h are))
+      let openings : (k : ℕ) → opening_of f xs k ≡ opening_of g ys k = λ k. same_openings xs ys h (k - 1) in
+      subst (λ (o : ℕ → Summary). RingFits n (λ i. IsKnownTo (o i) (o (after n i))) (history g pasts ys)) (λ i k. openings k i)
+      (subst (RingFits n (IsKnown f n xs)) (λ i k. pasts k ++ same_inputs xs ys h (k - 1) i) (fit pasts (pasts_before pasts xs ys h are)))

@@ -8,9 +8,11 @@ use Rattle.ring_records.specs.declared.input.Input.{Input}
 use Rattle.ring_records.specs.declared.key.Key.{Key}
 use Rattle.ring_records.specs.declared.notice.Notice.{Notice}
 use Rattle.ring_records.specs.declared.notice.Notice.TheVariants.{Decided}
+use Rattle.ring_records.specs.declared.summary.Summary.{Summary}
 use Rattle.ring_records.specs.Fitting.{LinkFits, RingFits}
 use Rattle.ring_records.specs.Leader.{leader}
 use Rattle.ring_records.specs.Place.{after}
+use Rattle.ring_records.specs.Summary.{empty}
 use Rattle.group_commit.specs.Desk.{DeskKept}
 use Rattle.group_commit.specs.Past.{IsPast}
 use Rattle.node_store.specs.Node.{desk_of}
@@ -35,6 +37,10 @@ module _ {D : Type 0} {g : Ghosts D} where
   found_as (found.There opened) = kept_by opened
   found_as (found.New new) = new.desk
 
+-- a message of this number was not credited yet when its sender was opened, nor taken when the node behind it was
+abbrev pub IsKnownTo : Summary → Summary → ℕ → Type 0
+IsKnownTo own next place = (own.credit ≤ place) × (next.taken ≤ place)
+
 -- a ring of which each node has a desk
 module _ {A : Type 0} (desk_in : A → DeskKept) where
   -- they are nodes 1, 2, 3 and so on
@@ -49,6 +55,18 @@ module _ {A : Type 0} (desk_in : A → DeskKept) where
   abbrev pub since : List A → ℕ → List Input
   since ring i = inputs_there (slice_get ring (i - 1))
 
+  abbrev pub opening_there : Option A → Summary
+  opening_there None = empty
+  opening_there (Some node) = (desk_in node).opening
+
+  -- what node i was opened with
+  abbrev pub opening_of : List A → ℕ → Summary
+  opening_of ring i = opening_there (slice_get ring (i - 1))
+
+  -- of the messages from node i in a ring of n those that are known at both its ends have these numbers
+  abbrev pub IsKnown : ℕ → List A → ℕ → ℕ → Type 0
+  IsKnown n ring i = IsKnownTo (opening_of ring i) (opening_of ring (after n i))
+
   -- the opening of each node is the summary of its past: that of node i is pasts i
   abbrev pub ArePasts : (ℕ → List Input) → List A → Type 0
   ArePasts pasts ring = (k : ℕ) (node : A) → slice_get ring k ≡ Some node → IsPast (desk_in node).view.member (desk_in node).opening (pasts (k + 1))
@@ -59,7 +77,7 @@ module _ {A : Type 0} (desk_in : A → DeskKept) where
 
   -- Ring fits, whatever pasts its openings are summaries of.
   abbrev pub Fits : ℕ → List A → Type 0
-  Fits n ring = (pasts : ℕ → List Input) → ArePasts pasts ring → RingFits n (history pasts ring)
+  Fits n ring = (pasts : ℕ → List Input) → ArePasts pasts ring → RingFits n (IsKnown n ring) (history pasts ring)
 
 -- ---- leaders beside what is told
 
@@ -78,9 +96,9 @@ pub record Differs (i : ℕ) (h : List Input) (list : List Notice) : Type 0 wher
 -- ---- two nodes that do not fit
 
 -- node i sends to node j in a ring of n, and that link does not fit
-pub record IsLinkApart (n i j : ℕ) (own next : List Input) : Type 0 where
+pub record IsLinkApart (n : ℕ) (known : ℕ → Type 0) (i j : ℕ) (own next : List Input) : Type 0 where
   pub behind : j ≡ after n i
-  pub unfit : LinkFits i own next → ⊥
+  pub unfit : LinkFits known i own next → ⊥
 
 -- nodes i and j know different leaders for a key
 pub record KnowTwo (i j : ℕ) (own other : List Input) : Type 0 where
@@ -92,16 +110,16 @@ pub record KnowTwo (i j : ℕ) (own other : List Input) : Type 0 where
   pub differ : one ≢ two
 
 -- i and j are nodes of a ring of n that do not fit
-pub record IsApart (n : ℕ) (history : ℕ → List Input) (i j : ℕ) : Type 0 where
+pub record IsApart (n : ℕ) (known : ℕ → ℕ → Type 0) (history : ℕ → List Input) (i j : ℕ) : Type 0 where
   pub one : (1 ≤ i) × (i ≤ n)
   pub other : (1 ≤ j) × (j ≤ n)
-  pub why : IsLinkApart n i j (history i) (history j) ⊎ KnowTwo i j (history i) (history j)
+  pub why : IsLinkApart n (known i) i j (history i) (history j) ⊎ KnowTwo i j (history i) (history j)
 
 -- it names two nodes that do not fit, or tells that memory was wanting
-abbrev pub IsCause : ℕ → (ℕ → List Input) → RunFault → Type 0
-IsCause n history (fault.Apart i j) = IsApart n history i j
-IsCause n history (fault.Memory why) = Unit {0}
-IsCause n history other = ⊥
+abbrev pub IsCause : ℕ → (ℕ → ℕ → Type 0) → (ℕ → List Input) → RunFault → Type 0
+IsCause n known history (fault.Apart i j) = IsApart n known history i j
+IsCause n known history (fault.Memory why) = Unit {0}
+IsCause n known history other = ⊥
 
 -- memory was wanting
 abbrev pub IsMemory : RunFault → Type 0

@@ -3,7 +3,7 @@ use Rattle.std.proofs.lemmas.Option.{slice_get-get_or}
 use Rattle.std.proofs.Math.Seq.{take-append-add, take-length}
 use Rattle.group_commit.specs.Desk.{DeskKept}
 use Rattle.group_commit.specs.Past.{IsPast}
-use Rattle.ring_server.specs.Fits.{found_as, inputs_there}
+use Rattle.ring_server.specs.Fits.{found_as, inputs_there, opening_there}
 use Rattle.ring_server.proofs.look_over.desk_at.Goals as goal
 
 pub returns-clause-number : goal.returns-clause-number
@@ -26,3 +26,9 @@ pub returns-clause-durable : goal.returns-clause-durable
 returns-clause-durable g c past =
     let s = c.desk.result.now.view.state in
     take-append-add past s.inputs s.durable ∙ ap (λ l. past ++ l) (ap (λ k. take k s.inputs) c.desk.ensures.durable ∙ (take-length s.inputs ∙ returns-clause-inputs g c))
+
+pub returns-clause-opening : goal.returns-clause-opening
+returns-clause-opening g c =
+    let same : c.args.place + 1 - 1 ≡ c.args.place = omega arith in
+    let there = slice_get-get_or c.args.ring.now c.args.place _ c.requires.inside ∙ ap Some (sym c.index-ring-place.is) in
+    ap (λ (d : DeskKept). d.opening) c.desk.ensures.desk ∙ sym (ap (opening_there found_as) (ap (λ k. slice_get c.args.ring.now k) same ∙ there))

@@ -10,7 +10,7 @@ returns-in-Some-clause-apart g c pasts are =
     let past = pasts (place + 1) in
     let known = IsContent-along _ _ _ _ _ _ own.number (own.durable past) (sym c.deref.ensures.value) (c.in-Ok.ensures past (own.past pasts are)) in
     let found = c.in-Some.ensures.some in
-    apart _ (place + 1) (history found_as pasts c.args.ring.now) _ known (length c.args.ring.now) _ (sym c.number_at.ensures)
+    apart _ (place + 1) (history found_as pasts c.args.ring.now) _ known (length c.args.ring.now) _ _ (sym c.number_at.ensures)
     (found.0, omega arith) (omega arith, omega arith) (found.2 pasts are)
 
 pub loop-place-preserved : goal.loop-place-preserved

@@ -1,6 +1,7 @@
 use Rattle.std.proofs.Common.{length}
-use Rattle.ring_server.specs.Fits.{found_as, history}
-use Rattle.ring_server.proofs.Fits.{map_ok, map_err, memory_alone}
+use Rattle.ring_server.specs.Fits.{found_as, history, IsKnown}
+use Rattle.group_commit.proofs.Opening.{map_ok}
+use Rattle.ring_server.proofs.Fits.{map_err, memory_alone}
 use Rattle.ring_server.proofs.look_over.look_over.Goals as goal
 
 pub returns-in-Ok-clause-fits : goal.returns-in-Ok-clause-fits
@@ -9,7 +10,7 @@ returns-in-Ok-clause-fits g c =
 
 pub returns-in-Ok-clause-memory : goal.returns-in-Ok-clause-memory
 returns-in-Ok-clause-memory g c pasts are fits =
-    map_err c.look_at_leaders.result (λ fault cause. memory_alone (length c.args.ring.now) (history found_as pasts c.args.ring.now) fault fits (cause pasts are)) c.look_at_leaders.ensures.apart
+    map_err c.look_at_leaders.result (λ fault cause. memory_alone (length c.args.ring.now) (IsKnown found_as (length c.args.ring.now) c.args.ring.now) (history found_as pasts c.args.ring.now) fault fits (cause pasts are)) c.look_at_leaders.ensures.apart
 
 pub returns-in-Err-clause-memory : goal.returns-in-Err-clause-memory
-returns-in-Err-clause-memory g c pasts are fits = memory_alone (length c.args.ring.now) (history found_as pasts c.args.ring.now) _ fits (c.in-Err.ensures.apart pasts are)
+returns-in-Err-clause-memory g c pasts are fits = memory_alone (length c.args.ring.now) (IsKnown found_as (length c.args.ring.now) c.args.ring.now) (history found_as pasts c.args.ring.now) _ fits (c.in-Err.ensures.apart pasts are)
