@@ -18,7 +18,7 @@ ringd \- a ring of durable nodes on 127.0.0.1 that elect a leader for each group
 .RB [ \-\-settings " \fIPATH\fR]"
 .RB [ \-\-existing ]
 .RB [ \-\-fail\-stop ]
-.RB [ \-\-serve " \fIK\fR | " \-\-always " | " \-\-make ]
+.RB [ \-\-serve " \fIK\fR | " \-\-always " | " \-\-make " | " \-\-check ]
 .RB [ \-\-doors " \fIS\fR]"
 .RB [ \-\-idle " \fISECONDS\fR]"
 .RB [ \-\-status " \fIPORT\fR]"

@@ -3,6 +3,7 @@
 //! `start` is the program `ringd` over readers and writers. docs/ARCHITECTURE.md tells who waits for whom.
 #![tactic(auto)]
 
+mod check;
 mod clerk;
 mod credits;
 mod door;

@@ -4,6 +4,7 @@ ghost use Rattle.ring_records.specs.declared.limits.TheConstants.{DOORS};
 ghost use Rattle.ring_service.specs.Words.{IsIn};
 ghost use Rattle.ring_server.specs.Fits.{found_as, IsInOrder, Fits};
 
+use crate::check::tell_ring;
 use crate::folder::{Folder, Made};
 use crate::found::Found;
 use crate::opening::{find_ring, open_ring};
@@ -103,11 +104,12 @@ where
     if print_settings(out, &settings).is_err() {
         return Err(RunFault::Output);
     }
-    let end = match (words.make, words.always, words.serve) {
-        (true, _, _) => make(rt, alloc, &settings, err),
-        (false, true, _) => serve(rt, alloc, &settings, words, None, out, err),
-        (false, false, Some(count)) => serve(rt, alloc, &settings, words, Some(count), out, err),
-        (false, false, None) => return Ok(0),
+    let end = match (words.always, words.serve) {
+        _ if words.make => make(rt, alloc, &settings, err),
+        _ if words.check => check(rt, alloc, &settings, out),
+        (true, _) => serve(rt, alloc, &settings, words, None, out, err),
+        (false, Some(count)) => serve(rt, alloc, &settings, words, Some(count), out, err),
+        (false, None) => return Ok(0),
     };
     match end {
         Ok(status) => Ok(status),
@@ -208,6 +210,18 @@ fn open_folder<'a, R: Files<File = File>>(
         Ok(folder) => Ok(folder),
         Err(why) => Err(RunFault::Node(NodeNo::first(), why)),
     }
+}
+
+/// Looks at the nodes, each of which has to be there, and tells what an audit says of them. Nothing is changed.
+fn check<R: Files<File = File>, O: Write>(
+    rt: &R,
+    alloc: Global,
+    settings: &Settings,
+    out: &mut O,
+) -> Result<u8, RunFault> {
+    let folder = open_folder(rt, settings)?;
+    let found = find_ring(rt, alloc, &folder, settings, true)?;
+    tell_ring(alloc, &found, out)
 }
 
 /// Makes the nodes that are not there, as a start does, and serves nothing. Where it is refused, what it made is gone.

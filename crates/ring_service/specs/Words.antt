@@ -28,6 +28,10 @@ always_rule = record (flag_rule (codes "always")) { is_free = false }
 abbrev pub make_rule : Rule
 make_rule = record (flag_rule (codes "make")) { is_free = false }
 
+-- `--check`, a flag that may not stand beside `--make`, `--serve` or `--always`
+abbrev pub check_rule : Rule
+check_rule = record (flag_rule (codes "check")) { is_free = false }
+
 -- the same with a version, so that `--version` and `-V` are words too
 abbrev pub with_version : App → App
 with_version app = record app { top = record app.top { has_version = true } }
@@ -37,7 +41,7 @@ abbrev pub ringd_app : App
 ringd_app =
     let served = with_rule (with_rule (with_version (new_app (codes "ringd"))) settings_rule) (number_rule (codes "serve") 1 1000) in
     let flags = with_rule (with_rule (with_rule served always_rule) (flag_rule (codes "existing"))) (flag_rule (codes "fail-stop")) in
-    let numbers = with_rule (with_rule (with_rule flags make_rule) (number_rule (codes "doors") 1 DOORS)) (number_rule (codes "idle") 0 86400) in
+    let numbers = with_rule (with_rule (with_rule (with_rule flags make_rule) check_rule) (number_rule (codes "doors") 1 DOORS)) (number_rule (codes "idle") 0 86400) in
     with_rule numbers (number_rule (codes "status") 1 65535)
 
 abbrev pub IsIn : ℕ → ℕ → ℕ → Type 0
@@ -69,6 +73,7 @@ pub record AreTold (words : List (List ℕ)) (told : Words) : Type 0 where
   pub sessions : IsMatched 1 1000 (one_text (found_of matches) (codes "serve")) told.serve
   pub endless : Flag (one_text (found_of matches) (codes "always")) told.always
   pub makes : Flag (one_text (found_of matches) (codes "make")) told.make
+  pub checks : Flag (one_text (found_of matches) (codes "check")) told.check
   pub existing : Flag (one_text (found_of matches) (codes "existing")) told.existing
   pub fail_stop : Flag (one_text (found_of matches) (codes "fail-stop")) told.fail_stop
   pub side_by_side : IsSaid 1 DOORS 1 (one_text (found_of matches) (codes "doors")) told.doors

@@ -3,7 +3,7 @@ ghost use Rattle.std.specs.Prelude.{◌≡◌, ◌<◌, ◌≤◌, ◌||◌, fal
 ghost use Rattle.ring_records.specs.declared.limits.TheConstants.{DOORS};
 ghost use Rattle.clap.specs.Words.{app_of, first_value, found_of, one_text, rule_of, with_rule};
 ghost use Rattle.ring_service.specs.Words.{AreTold, Flag, IsIn, IsMatched, IsSaid};
-ghost use Rattle.ring_service.specs.Words.{always_rule, flag_rule, make_rule, number_rule, ringd_app, settings_rule};
+ghost use Rattle.ring_service.specs.Words.{always_rule, check_rule, flag_rule, make_rule, number_rule, ringd_app, settings_rule};
 
 use clap::error::ErrorKind;
 use clap::{Arg, ArgAction, ArgMatches, Command, Error, value_parser};
@@ -25,6 +25,9 @@ pub struct Words<'a> {
     /// Whether the nodes are made that are not there, and nothing is served. No words say this and `serve`, `always` or
     /// `existing`.
     pub make: bool,
+    /// Whether the nodes are looked at alone, and nothing is made or served. No words say this and `serve`, `always` or
+    /// `make`.
+    pub check: bool,
     /// Whether each node has to be there: none is made.
     pub existing: bool,
     /// Whether the program ends where a node fails.
@@ -38,8 +41,9 @@ pub struct Words<'a> {
     pub status: Option<u16>,
 }
 
-/// Reads words, of which the first is the program's name: `[--settings PATH] [--serve K | --always | --make]
-/// [--existing] [--fail-stop] [--doors S] [--idle SECONDS] [--status PORT]`. Refused with what is to be printed, and the status.
+/// Reads words, of which the first is the program's name: `[--settings PATH] [--serve K | --always | --make
+/// | --check] [--existing] [--fail-stop] [--doors S] [--idle SECONDS] [--status PORT]`. Refused with what is to be printed,
+/// and the status.
 pub fn read_words<'a>(alloc: Global, words: &'a [&'a str]) -> Result<Words<'a>, Error>
     ensures told { IfOk result (λ w. AreTold (map (λ word. word.now) words.now) w) }
     ensures range { IfOk result (λ w. IfSome w.serve (IsIn 1 1000)) }
@@ -135,6 +139,21 @@ fn make_arg<'a>(alloc: Global) -> Result<Arg<'a>, AllocError>
         .conflicts_with("always")
 }
 
+/// `--check`
+fn check_arg<'a>(alloc: Global) -> Result<Arg<'a>, AllocError>
+    ensures rule { IfOk result (λ arg. rule_of arg ≡ check_rule) }
+    ensures local { IfOk result (λ arg. arg.global ≡ false) }
+{
+    Arg::new(alloc, "check")
+        .long("check")
+        .help_heading("Ring")
+        .help("Looks at the nodes of a ring that is stopped, changes nothing, and ends")
+        .action(ArgAction::SetTrue)
+        .conflicts_with("make")?
+        .conflicts_with("serve")?
+        .conflicts_with("always")
+}
+
 /// `--doors S`
 fn doors_arg<'a>(alloc: Global) -> Arg<'a>
     ensures rule { rule_of result ≡ number_rule (codes "doors") 1 DOORS }
@@ -201,6 +220,7 @@ fn command<'a>(alloc: Global) -> Result<Command<'a>, AllocError>
     let command = with_arg(command, existing_arg(alloc))?;
     let command = with_arg(command, fail_stop_arg(alloc))?;
     let command = with_arg(command, make_arg(alloc)?)?;
+    let command = with_arg(command, check_arg(alloc)?)?;
     let command = with_arg(command, doors_arg(alloc))?;
     let command = with_arg(command, idle_arg(alloc))?;
     with_arg(command, status_arg(alloc))
@@ -247,6 +267,7 @@ fn words_of<'a>(matches: &ArgMatches<'a>) -> Result<Words<'a>, ErrorKind>
     ensures serve { IfOk result (λ w. IsMatched 1 1000 (one_text (found_of matches.now) (codes "serve")) w.serve) }
     ensures always { IfOk result (λ w. Flag (one_text (found_of matches.now) (codes "always")) w.always) }
     ensures make { IfOk result (λ w. Flag (one_text (found_of matches.now) (codes "make")) w.make) }
+    ensures check { IfOk result (λ w. Flag (one_text (found_of matches.now) (codes "check")) w.check) }
     ensures existing { IfOk result (λ w. Flag (one_text (found_of matches.now) (codes "existing")) w.existing) }
     ensures fail_stop { IfOk result (λ w. Flag (one_text (found_of matches.now) (codes "fail-stop")) w.fail_stop) }
     ensures doors { IfOk result (λ w. IsSaid 1 DOORS 1 (one_text (found_of matches.now) (codes "doors")) w.doors) }
@@ -273,6 +294,7 @@ fn words_of<'a>(matches: &ArgMatches<'a>) -> Result<Words<'a>, ErrorKind>
         serve,
         always: matches.get_flag("always"),
         make: matches.get_flag("make"),
+        check: matches.get_flag("check"),
         existing: matches.get_flag("existing"),
         fail_stop: matches.get_flag("fail-stop"),
         doors,

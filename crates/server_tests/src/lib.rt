@@ -20,6 +20,8 @@ mod folders;
 #[cfg(test)]
 mod http;
 #[cfg(test)]
+mod looks;
+#[cfg(test)]
 mod news;
 #[cfg(test)]
 mod programs;

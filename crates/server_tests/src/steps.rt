@@ -16,6 +16,9 @@ use std::time::Clock;
 /// The words by which each node serves one session.
 pub const SERVE: &[&str] = &["ringd", "--serve", "1"];
 
+/// The words by which a ring is looked at.
+pub const CHECK: &[&str] = &["ringd", "--check"];
+
 /// What is done with files and folders, or is found there.
 #[derive(Clone, Copy)]
 pub enum Change {
@@ -29,6 +32,8 @@ pub enum Change {
     Copies(&'static str, &'static str),
     Renames(&'static str, &'static str),
     Removes(&'static str),
+    /// The first bytes of the file that are the first ones become the others.
+    Alters(&'static str, &'static [u8], &'static [u8]),
     /// Whether there is such a file.
     Has(&'static str, bool),
     Holds(&'static str, &'static [u8]),
@@ -52,6 +57,8 @@ pub enum Step {
     Serves(&'static [u8], u16, &'static [u8], &'static [u8]),
     /// A ring of two serves one session each. Clients of node 1, at this port, and of node 2 say this beside each other.
     Elects(&'static [u8], u16, &'static [Say], &'static [Say]),
+    /// It looks at the ring, and ends with this status. Its last line begins so.
+    Looks(&'static [u8], u8, &'static [u8]),
     /// It ends with this status.
     Ends(&'static [&'static str], &'static [u8], u8, &'static [u8]),
     /// It ends with 1 where this file or folder is locked.
@@ -108,10 +115,31 @@ fn is_copy<R: Abort + AllocGlobal + Files<File = File>>(rt: &R, path: &str, othe
     holds(rt, path, &bytes);
 }
 
+/// The first bytes of the file that are these become the others.
+fn alters<R: Abort + AllocGlobal + Files<File = File>>(
+    rt: &R,
+    path: &str,
+    these: &[u8],
+    others: &[u8],
+) {
+    let mut bytes = fs::read(rt, path).expect(rt, "a file");
+    for at in 0..bytes.len() {
+        if bytes[at..].starts_with(these) {
+            let rest = &mut bytes[at..];
+            assert!(rt; others.len() <= rest.len());
+            rest[..others.len()].copy_from_slice(others);
+            fs::write(rt, path, &bytes).expect(rt, "a file that can be written");
+            return;
+        }
+    }
+    panic!(rt; "no such bytes");
+}
+
 /// It is found so, or done.
 fn changes<R: Abort + AllocGlobal + Files<File = File> + Copy>(rt: &R, change: Change) {
     let done = match change {
         Change::Anew(path) => return anew(rt, path),
+        Change::Alters(path, these, others) => return alters(rt, path, these, others),
         Change::Has(path, is_there) => return has(rt, path, is_there),
         Change::Holds(path, bytes) => return holds(rt, path, bytes),
         Change::IsEmpty(path) => return is_empty(rt, path),
@@ -207,6 +235,33 @@ where
     assert_eq!(rt; ended.err.as_slice(), text);
 }
 
+/// It looks at the ring, and ends so. Its last line begins so.
+fn looks<R>(rt: &R, settings: &[u8], status: u8, text: &[u8])
+where
+    R: Threads
+        + Wait
+        + Sync
+        + Send
+        + Copy
+        + 'static
+        + Clock
+        + Abort
+        + AllocGlobal
+        + Files<File = File>
+        + Net<Listener = TcpListener, Stream = TcpStream>,
+{
+    let ended = run(rt, CHECK, settings);
+    assert_eq!(rt; ended.status, status);
+    assert!(rt; ended.err.is_empty());
+    let mut last: &[u8] = b"";
+    for line in ended.out.split(|byte| *byte == b'\n') {
+        if !line.is_empty() {
+            last = line;
+        }
+    }
+    assert!(rt; last.starts_with(text));
+}
+
 /// It ends so where this file or folder is locked.
 fn ends_beside_lock<R>(rt: &R, path: &str, settings: &[u8], text: &[u8])
 where
@@ -270,6 +325,7 @@ where
         Step::Runs(scenario) => runs(rt, scenario),
         Step::Serves(settings, port, line, text) => serves(rt, settings, port, line, text),
         Step::Elects(settings, port, first, second) => elects(rt, settings, port, first, second),
+        Step::Looks(settings, status, text) => looks(rt, settings, status, text),
         Step::Ends(words, settings, status, text) => ends(rt, words, settings, status, text),
         Step::EndsBesideLock(path, settings, text) => ends_beside_lock(rt, path, settings, text),
         Step::EndsBesidePort(port, words, settings, text) => {

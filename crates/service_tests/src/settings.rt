@@ -99,6 +99,7 @@ const ALONE: Words<'static> = Words {
     serve: None,
     always: false,
     make: false,
+    check: false,
     existing: false,
     fail_stop: false,
     doors: 1,
@@ -107,7 +108,7 @@ const ALONE: Words<'static> = Words {
 };
 
 /// Words that are taken, and what they ask.
-static TAKEN: [(&[&str], Words<'static>); 6] = [
+static TAKEN: [(&[&str], Words<'static>); 7] = [
     (&["ringd"], ALONE),
     (
         &["ringd", "--serve", "7", "--settings=x"],
@@ -150,6 +151,14 @@ static TAKEN: [(&[&str], Words<'static>); 6] = [
         },
     ),
     (
+        &["ringd", "--check", "--existing"],
+        Words {
+            check: true,
+            existing: true,
+            ..ALONE
+        },
+    ),
+    (
         &["ringd", "--status", "65535", "--doors=31"],
         Words {
             doors: 31,
@@ -160,7 +169,7 @@ static TAKEN: [(&[&str], Words<'static>); 6] = [
 ];
 
 /// Words that are wrong.
-static WRONG: [&[&str]; 19] = [
+static WRONG: [&[&str]; 22] = [
     &["ringd", "--serve=0"],
     &["ringd", "--serve=1001"],
     &["ringd", "--serve=5000"],
@@ -179,6 +188,9 @@ static WRONG: [&[&str]; 19] = [
     &["ringd", "--make", "--serve=1"],
     &["ringd", "--make", "--always"],
     &["ringd", "--make", "--existing"],
+    &["ringd", "--check", "--serve=1"],
+    &["ringd", "--check", "--always"],
+    &["ringd", "--check", "--make"],
     &["ringd", "--status=1", "--doors=32"],
 ];
 

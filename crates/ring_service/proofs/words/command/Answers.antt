@@ -2,7 +2,7 @@ use Rattle.std.proofs.Common.{◌∙◌, ap, refl, codes}
 use Rattle.ring_records.specs.declared.limits.TheConstants.{DOORS}
 use Rattle.clap.specs.Simple.{app_of_fields}
 use Rattle.clap.specs.Words.{app_of, new_app, rule_of}
-use Rattle.ring_service.specs.Words.{always_rule, flag_rule, make_rule, number_rule, settings_rule, with_version}
+use Rattle.ring_service.specs.Words.{always_rule, check_rule, flag_rule, make_rule, number_rule, settings_rule, with_version}
 use Rattle.ring_service.proofs.Commands.{adds, adds_last}
 use Rattle.ring_service.proofs.words.command.Goals as goal
 
@@ -15,6 +15,7 @@ returns c =
     let four = adds _ (app_of c.in_ok-command-3.command) _ (rule_of c.existing_arg.result) (flag_rule (codes "existing")) c.in_ok-command-4.ensures three c.existing_arg.ensures.rule in
     let five = adds _ (app_of c.in_ok-command-4.command) _ (rule_of c.fail_stop_arg.result) (flag_rule (codes "fail-stop")) c.in_ok-command-5.ensures four c.fail_stop_arg.ensures.rule in
     let six = adds _ (app_of c.in_ok-command-5.command) _ (rule_of c.in_ok-make_arg.field-0) make_rule c.in_ok-command-6.ensures five c.in_ok-make_arg.ensures.rule in
-    let seven = adds _ (app_of c.in_ok-command-6.command) _ (rule_of c.doors_arg.result) (number_rule (codes "doors") 1 DOORS) c.in_ok-command-7.ensures six c.doors_arg.ensures.rule in
-    let eight = adds _ (app_of c.in_ok-command-7.command) _ (rule_of c.idle_arg.result) (number_rule (codes "idle") 0 86400) c.in_ok-command-8.ensures seven c.idle_arg.ensures.rule in
-    adds_last c.in_ok-command-8.command _ c.status_arg.result (number_rule (codes "status") 1 65535) c.with_arg-9.result c.with_arg-9.ensures eight c.status_arg.ensures.rule refl
+    let seven = adds _ (app_of c.in_ok-command-6.command) _ (rule_of c.in_ok-check_arg.field-0) check_rule c.in_ok-command-7.ensures six c.in_ok-check_arg.ensures.rule in
+    let eight = adds _ (app_of c.in_ok-command-7.command) _ (rule_of c.doors_arg.result) (number_rule (codes "doors") 1 DOORS) c.in_ok-command-8.ensures seven c.doors_arg.ensures.rule in
+    let nine = adds _ (app_of c.in_ok-command-8.command) _ (rule_of c.idle_arg.result) (number_rule (codes "idle") 0 86400) c.in_ok-command-9.ensures eight c.idle_arg.ensures.rule in
+    adds_last c.in_ok-command-9.command _ c.status_arg.result (number_rule (codes "status") 1 65535) c.with_arg-10.result c.with_arg-10.ensures nine c.status_arg.ensures.rule refl

@@ -11,6 +11,7 @@ returns-in-Ok-clause-told c = record {
   sessions = rw c.in-Ok.is at c.words_of.ensures.serve;
   endless = rw c.in-Ok.is at c.words_of.ensures.always;
   makes = rw c.in-Ok.is at c.words_of.ensures.make;
+  checks = rw c.in-Ok.is at c.words_of.ensures.check;
   existing = rw c.in-Ok.is at c.words_of.ensures.existing;
   fail_stop = rw c.in-Ok.is at c.words_of.ensures.fail_stop;
   side_by_side = rw c.in-Ok.is at c.words_of.ensures.doors;

@@ -1,0 +1,120 @@
+//! What an operator is told of a ring that is stopped.
+ghost use Rattle.std.specs.Prelude.{ℕ, ◌≡◌, ◌≤◌, ◌+◌, length, IfOk, IfSome, IfNone};
+ghost use Rattle.ring_audit.specs.Placement.{lists};
+ghost use Rattle.ring_server.specs.Checks.{histories, AreWhole, IsVerdict, IsFirstDropped};
+ghost use Rattle.ring_server.specs.Fits.{found_as, IsInOrder};
+
+use crate::found::Found;
+use crate::look_over::{desk_at, number_at};
+use crate::run_fault::RunFault;
+use disk_model::Device;
+use ring_audit::{AuditFault, audit};
+use ring_records::{Input, NodeNo};
+use std::alloc::{AllocError, Global};
+use std::io;
+use std::io::Write;
+
+/// What an audit says of the nodes of a ring.
+#[derive(Clone, Copy, Debug, PartialEq, Eq)]
+pub(crate) enum Verdict {
+    /// All that they hold can be told as one run of so many inputs.
+    Whole(u64),
+    /// It cannot: of this node, the lowest such, so many inputs can be placed, and not all.
+    Stuck(NodeNo, u64),
+    /// It is not audited, since the file of this node, the lowest such, begins behind a checkpoint.
+    Dropped(NodeNo),
+}
+
+/// Prints a line of each node, with how many inputs it accepted and how many of them its snapshot stands for, and one of
+/// what an audit says; then the status to end with. Refused with what was not printed, and where memory was wanting.
+pub(crate) fn tell_ring<V: Device, O: Write>(
+    alloc: Global,
+    ring: &[Found<V>],
+    out: &mut O,
+) -> Result<u8, RunFault>
+    requires order { IsInOrder found_as ring.now }
+    requires shape { (2 ≤ length ring.now) × (length ring.now ≤ 16) }
+{
+    let verdict = audit_ring(alloc, ring)?;
+    if print_ring(ring, &verdict, out).is_err() {
+        return Err(RunFault::Output);
+    }
+    match &verdict {
+        Verdict::Stuck(..) => Ok(1),
+        Verdict::Whole(_) | Verdict::Dropped(_) => Ok(0),
+    }
+}
+
+fn print_ring<V: Device, O: Write>(
+    ring: &[Found<V>],
+    verdict: &Verdict,
+    out: &mut O,
+) -> io::Result<()> {
+    for node in ring {
+        let number = node.number();
+        let desk = node.desk();
+        let (inputs, behind) = (desk.accepted(), desk.first());
+        writeln!(out, "node {number} inputs {inputs} behind {behind}")?;
+    }
+    match verdict {
+        Verdict::Whole(count) => writeln!(out, "audit ok {count}")?,
+        Verdict::Stuck(node, place) => writeln!(out, "audit stuck {node} {place}")?,
+        Verdict::Dropped(node) => writeln!(out, "dropped {node}")?,
+    }
+    out.flush()
+}
+
+/// Audits what the nodes hold. The error is that of the allocator.
+fn audit_ring<V: Device>(alloc: Global, ring: &[Found<V>]) -> Result<Verdict, AllocError>
+    requires order { IsInOrder found_as ring.now }
+    requires shape { (2 ≤ length ring.now) × (length ring.now ≤ 16) }
+    ensures { IfOk result (λ verdict. IsVerdict found_as ring.now verdict) }
+{
+    if let Some(node) = first_dropped(ring) {
+        return Ok(Verdict::Dropped(node));
+    }
+    let held = histories_of(alloc, ring)?;
+    match audit(alloc, &held) {
+        Ok(run) => Ok(Verdict::Whole(run.len() as u64)),
+        Err(fault) => stuck_by(&fault),
+    }
+}
+
+/// What a fault of an audit of a ring's histories tells. The error is that of the allocator.
+fn stuck_by(fault: &AuditFault) -> Result<Verdict, AllocError>
+    requires shape { fault.now ≡ AuditFault.Shape → ⊥ }
+    ensures { IfOk result (λ verdict. (node : ℕ) × (place : ℕ) × (fault.now ≡ AuditFault.Stuck node place) × (verdict ≡ Verdict.Stuck node place)) }
+{
+    match fault {
+        AuditFault::Stuck { node, place } => Ok(Verdict::Stuck(*node, *place)),
+        AuditFault::Memory => Err(AllocError),
+        AuditFault::Shape => unreachable!(),
+    }
+}
+
+/// The first node whose file begins behind a checkpoint.
+fn first_dropped<V: Device>(ring: &[Found<V>]) -> Option<NodeNo>
+    requires { IsInOrder found_as ring.now }
+    ensures none { IfNone result (AreWhole found_as ring.now (length ring.now + 1)) }
+    ensures some { IfSome result (λ i. IsFirstDropped found_as ring.now i) }
+{
+    for place in 0..ring.len() {
+        if desk_at(ring, place).first() > 0 {
+            return Some(number_at(ring, place));
+        }
+    }
+    None
+}
+
+/// The inputs of each node since its opening.
+fn histories_of<V: Device>(alloc: Global, ring: &[Found<V>]) -> Result<Vec<Vec<Input>>, AllocError>
+    ensures { IfOk result (λ held. lists held.items ≡ histories found_as ring.now) }
+{
+    let mut held = Vec::new(alloc);
+    for node in ring {
+        let mut inputs = Vec::new(alloc);
+        inputs.extend_from_slice(node.desk().history())?;
+        held.push(inputs)?;
+    }
+    Ok(held)
+}

@@ -1,0 +1,85 @@
+// Rings that are looked at, and messages that two files have differently.
+use crate::steps::Change::{Alters, Anew, Clears, Copies, Has, IsCopy, Renames};
+use crate::steps::Step::{Changes, Elects, Ends, Looks};
+use crate::steps::{CHECK, SERVE, Step, plays};
+use crate::visits::Say;
+use crate::visits::Say::{AtLast, Line};
+use std::test::*;
+
+const LOOKED: &[u8] = b"nodes = 2\ndir = \"looked\"\nport = 7331\n";
+
+const APART: &[u8] = b"ringd: nodes 1 and 2 do not fit\n";
+
+const UNFORMATTED: &[u8] = b"ringd: node 2: unformatted\n";
+
+const BYE: Say = Line(b"bye\n", b"bye");
+
+const LEADS_5: Say = AtLast(b"who red 5\n", b"leader 1 10");
+
+const LEADS_6: Say = AtLast(b"who red 6\n", b"leader 1 10");
+
+const LEADS_7: Say = AtLast(b"who red 7\n", b"leader 1 10");
+
+/// Two elections.
+const TWO: &[Say] = &[
+    Line(b"stand red 5 10\n", b"stood"),
+    LEADS_5,
+    Line(b"stand red 6 10\n", b"stood"),
+    LEADS_6,
+    BYE,
+];
+
+const ASKS_TWO: &[Say] = &[LEADS_5, LEADS_6, BYE];
+
+/// One more.
+const THIRD: &[Say] = &[Line(b"stand red 7 10\n", b"stood"), LEADS_7, BYE];
+
+const ASKS_THIRD: &[Say] = &[LEADS_7, BYE];
+
+/// A token, number 0 and number 4 of those that node 1 sent, as node 2 took it, and with another bid.
+const TAKE_0: &[u8] =
+    b"\x02\x00\x00\x00\x00\x00\x00\x00\x00\x03red\x00\x00\x00\x05\x00\x00\x00\x0a\x01";
+
+const OTHER_0: &[u8] =
+    b"\x02\x00\x00\x00\x00\x00\x00\x00\x00\x03red\x00\x00\x00\x05\x00\x00\x00\x0b\x01";
+
+const TAKE_4: &[u8] =
+    b"\x02\x00\x00\x00\x00\x00\x00\x00\x04\x03red\x00\x00\x00\x07\x00\x00\x00\x0a\x01";
+
+const OTHER_4: &[u8] =
+    b"\x02\x00\x00\x00\x00\x00\x00\x00\x04\x03red\x00\x00\x00\x07\x00\x00\x00\x0b\x01";
+
+const FIRST: &str = "looked/node-1.crj";
+
+const SECOND: &str = "looked/node-2.crj";
+
+const HELD: &str = "looked/held";
+
+static RING: [Step; 18] = [
+    Changes(&[Anew("looked")]),
+    Ends(CHECK, LOOKED, 1, b"ringd: node 1: unformatted\n"),
+    Changes(&[Has("looked/ring.made", false)]),
+    Elects(LOOKED, 7331, TWO, ASKS_TWO),
+    Changes(&[Copies(FIRST, "looked/first"), Copies(SECOND, HELD)]),
+    Looks(LOOKED, 0, b"audit ok "),
+    Changes(&[IsCopy(FIRST, "looked/first"), IsCopy(SECOND, HELD)]),
+    // a message that node 1 sent, as node 2 took it
+    Changes(&[Alters(SECOND, TAKE_0, OTHER_0)]),
+    Ends(CHECK, LOOKED, 1, APART),
+    Ends(SERVE, LOOKED, 1, APART),
+    // and behind a checkpoint
+    Changes(&[IsCopy(FIRST, "looked/first"), Renames(HELD, SECOND)]),
+    Elects(LOOKED, 7331, THIRD, ASKS_THIRD),
+    Looks(LOOKED, 0, b"dropped 1"),
+    Changes(&[Copies(SECOND, HELD), Alters(SECOND, TAKE_4, OTHER_4)]),
+    Ends(CHECK, LOOKED, 1, APART),
+    // a file that is gone
+    Changes(&[Renames(SECOND, "looked/other")]),
+    Ends(CHECK, LOOKED, 1, UNFORMATTED),
+    Changes(&[Has(SECOND, false), Clears("looked")]),
+];
+
+#[test]
+fn a_look_at_a_ring(rt: HostRuntime) {
+    plays(&rt, &RING);
+}
