@@ -105,7 +105,7 @@ faults: bin/ringd
 	@trials/faults.py
 
 growths: bin/ringctl bin/ringd
-	@for crate in board_tests journal_tests node_tests records_tests service_tests sessions_tests store_tests; do (cd crates/$$crate && rt test > /dev/null) || exit 1; done
+	@for crate in board_tests journal_tests node_tests records_tests ring_tests service_tests sessions_tests store_tests; do (cd crates/$$crate && rt test > /dev/null) || exit 1; done
 	@trials/growths.py
 
 load: bin/ringd
