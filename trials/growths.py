@@ -35,7 +35,7 @@ HERE = os.path.dirname(os.path.abspath(__file__))
 ROOT = os.path.dirname(HERE)
 TEST = re.compile(r"(?:\w+::)*(?:refused_growths|a_refused_growth)\w*")
 # What a ring may say that lacked memory.
-SAID = re.compile(r"|".join([r"", r"ringd: out of memory\n", r"ringd: node [1-3]: memory\n", r"(ringd: node [1-3] failed\n)+",
+SAID = re.compile(r"|".join([r"", r"ringd: out of memory\n", r"ringd: node [1-3]: memory\n", r"(ringd: node [1-3] (failed|memory)\n)+",
                              r"ringd: no thread can be started\n"]))
 SECONDS = 10
 # The crates whose tests call again after a refusal.
