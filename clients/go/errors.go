@@ -1,6 +1,7 @@
 package cinoweta
 
 import (
+	"context"
 	"errors"
 	"fmt"
 	"strconv"
@@ -165,6 +166,14 @@ type WrongRingError struct {
 
 func (e *WrongRingError) Error() string {
 	return "cinoweta: " + e.Text
+}
+
+// noAnswer says that nobody answered at an address, for this error or that of the context.
+func noAnswer(ctx context.Context, address string, err error) *NoAnswerError {
+	if over := ended(ctx); over != nil {
+		err = over
+	}
+	return &NoAnswerError{address, err}
 }
 
 // isNoAnswer tells whether nobody answered.

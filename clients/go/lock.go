@@ -118,7 +118,7 @@ func (l *Lock) IsLost(ctx context.Context) (bool, error) {
 	}
 	known, isKnown, err := l.looks.Latest(ctx, l.group, AnyNode)
 	l.looks.release(ctx)
-	if ctx.Err() == nil && (isNoAnswer(err) || errors.Is(err, ErrOutOfMemory)) {
+	if ended(ctx) == nil && (isNoAnswer(err) || errors.Is(err, ErrOutOfMemory)) {
 		err = nil
 	}
 	l.mutex.Lock()
@@ -222,7 +222,7 @@ func (l *Lock) awaitEnd(ctx, waits context.Context, known Led, pause *pause) err
 	l.ring.release(ctx)
 	bid := known.Leader.Bid
 	if !isThere(ctx, bid, l.how.Patience) {
-		return ctx.Err()
+		return ended(ctx)
 	}
 	holder, isTold := holderOf(ctx, known, l.how.Patience)
 	if !isTold {
@@ -230,11 +230,11 @@ func (l *Lock) awaitEnd(ctx, waits context.Context, known Led, pause *pause) err
 	}
 	l.tell("waits for " + holder.String())
 	for pause.take(waits, l.ring) {
-		if !isThere(ctx, bid, l.how.Patience) && ctx.Err() == nil {
+		if !isThere(ctx, bid, l.how.Patience) && ended(ctx) == nil {
 			return nil
 		}
 	}
-	return &LockTakenError{l.group, holder, ctx.Err()}
+	return &LockTakenError{l.group, holder, ended(ctx)}
 }
 
 // awaitLoss looks whether the lock is lost until it is, or the context is over.
@@ -274,7 +274,10 @@ func (r *Ring) Holder(ctx context.Context, group string, patience time.Duration)
 		patience = DefaultPatience
 	}
 	holder, isTold := holderOf(ctx, known, patience)
-	return holder, isTold, ctx.Err()
+	if isTold {
+		return holder, true, nil
+	}
+	return Holder{}, false, ended(ctx)
 }
 
 // holderOf gives who leads so, where it holds a lock and answers within so long.

@@ -43,6 +43,15 @@ func sleep(ctx context.Context, length time.Duration) {
 	}
 }
 
+// ended gives the error of a context that is over, nil else. Its timer may be a moment late, where a connection that has
+// its deadline is not.
+func ended(ctx context.Context) error {
+	if deadline, hasOne := ctx.Deadline(); hasOne && !time.Now().Before(deadline) {
+		<-ctx.Done()
+	}
+	return ctx.Err()
+}
+
 // atMost is the shorter one.
 func atMost(limit, length time.Duration) time.Duration {
 	if length > limit {

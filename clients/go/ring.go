@@ -178,7 +178,7 @@ func (r *Ring) ask(ctx context.Context, line string, node int) (string, error) {
 		return "", errors.New("cinoweta: a question is one line, to a node of the ring")
 	}
 	if !r.take(ctx) {
-		return "", &NoAnswerError{address(r.first), ctx.Err()}
+		return "", noAnswer(ctx, address(r.first), nil)
 	}
 	defer r.give()
 	answer, err := r.askAgain(ctx, line, node)
@@ -208,13 +208,12 @@ func (r *Ring) askAgain(ctx context.Context, line string, node int) (string, err
 		if node == AnyNode {
 			r.place = place%r.nodes + 1
 		}
-		if ctx.Err() == nil && !time.Now().Add(pause).After(until) {
+		isLast := time.Now().Add(pause).After(until)
+		if !isLast {
 			sleep(ctx, pause)
-		} else if ctx.Err() == nil {
-			return "", &NoAnswerError{address(r.port(place)), err}
 		}
-		if ctx.Err() != nil {
-			return "", &NoAnswerError{address(r.port(place)), ctx.Err()}
+		if isLast || ended(ctx) != nil {
+			return "", noAnswer(ctx, address(r.port(place)), err)
 		}
 	}
 }

@@ -160,9 +160,9 @@ func getJSON(ctx context.Context, port int, path string, told any) error {
 
 // get gives the status and the text of an answer.
 func get(ctx context.Context, port int, path string) (int, []byte, error) {
-	ctx, cancel := context.WithTimeout(ctx, statusLimit)
+	limited, cancel := context.WithTimeout(ctx, statusLimit)
 	defer cancel()
-	request, err := http.NewRequestWithContext(ctx, http.MethodGet, "http://"+address(port)+path, nil)
+	request, err := http.NewRequestWithContext(limited, http.MethodGet, "http://"+address(port)+path, nil)
 	if err != nil {
 		return 0, nil, fmt.Errorf("cinoweta: %w", err)
 	}
@@ -170,12 +170,12 @@ func get(ctx context.Context, port int, path string) (int, []byte, error) {
 	transport := &http.Transport{DisableKeepAlives: true}
 	answer, err := transport.RoundTrip(request)
 	if err != nil {
-		return 0, nil, &NoAnswerError{address(port) + path, err}
+		return 0, nil, noAnswer(ctx, address(port)+path, err)
 	}
 	defer answer.Body.Close()
 	text, err := io.ReadAll(io.LimitReader(answer.Body, longestPage))
 	if err != nil {
-		return 0, nil, &NoAnswerError{address(port) + path, err}
+		return 0, nil, noAnswer(ctx, address(port)+path, err)
 	}
 	return answer.StatusCode, text, nil
 }

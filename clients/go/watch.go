@@ -29,8 +29,8 @@ func (w *Watch) Next(ctx context.Context) (Led, error) {
 			continue
 		}
 		w.ring.release(ctx)
-		if ctx.Err() != nil {
-			return Led{}, ctx.Err()
+		if over := ended(ctx); over != nil {
+			return Led{}, over
 		}
 		return Led{}, err
 	}
