@@ -61,6 +61,8 @@ fencing:
 clients:
 	@python3 -m unittest discover -s examples
 	@python3 -m unittest discover -s clients/python/tests -t clients/python
+	@if command -v go > /dev/null; then cd clients/go && go vet && $(if $(RINGD),RINGD="$(abspath $(RINGD))") go test; \
+	else echo "make clients: go is not there: the tests of clients/go are skipped"; fi
 
 picture:
 	@pictures/draw.sh "$(SCRIPT)" $(if $(SVG),"$(SVG)")
