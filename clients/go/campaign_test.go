@@ -59,29 +59,40 @@ func TestOneBidAtOneNodeDoesNotMakeTwoLeaders(t *testing.T) {
 	same(t, election.IsMine, false)
 }
 
+// refuses answers so to each Stand, and knows no leader.
+func refuses(told string) answer {
+	return func(line string) (string, bool) {
+		if strings.HasPrefix(line, "stand") {
+			return told, true
+		}
+		return "none", true
+	}
+}
+
 func TestACampaignStopsWhereNoStandIsTaken(t *testing.T) {
-	for told, cause := range map[string]Refusal{"no 7 full": ErrFull, "no 9 failed": ErrNodeFailed, "no 6 limit": ErrLimitReached,
-		"no 15 device 1": ErrDeviceFailed, "no 8 memory": ErrOutOfMemory} {
-		ring, nodes := beside(t, first("none", told), deaf)
-		_, err := ring.Campaign(background(t), "red", short(CampaignOptions{}))
+	for told, cause := range map[string]Refusal{"no 7 full": ErrFull, "no 9 failed": ErrNodeFailed, "no 15 device 1": ErrDeviceFailed,
+		"no 8 memory": ErrOutOfMemory, "no 1 name": ErrBadName, "no 99 new": 99} {
+		ring, nodes := beside(t, refuses(told), refuses(told))
+		_, err := ring.Campaign(background(t), "red", CampaignOptions{})
 		is(t, err, cause)
-		same(t, []int{len(nodes[0].lines("stand")), len(nodes[1].lines("stand"))}, []int{1, 0})
+		same(t, len(nodes[0].lines("stand"))+len(nodes[1].lines("stand")), 1)
 	}
 }
 
 func TestACampaignGoesToAnotherNodeAtItsLimit(t *testing.T) {
-	used := func(line string) (string, bool) {
-		if strings.HasPrefix(line, "stand") {
-			return "no 6 limit", true
-		}
-		return "none", true
-	}
-	ring, nodes := beside(t, used, used, used)
-	_, err := ring.Campaign(background(t), "red", CampaignOptions{})
+	ring, nodes := beside(t, refuses("no 6 limit"), refuses("no 6 limit"), refuses("no 6 limit"))
+	_, err := ring.Campaign(background(t), "red", short(CampaignOptions{}))
 	is(t, err, ErrLimitReached)
-	for _, node := range nodes {
-		same(t, len(node.lines("stand")), 1)
-	}
+	same(t, []int{len(nodes[0].lines("stand")), len(nodes[1].lines("stand"))}, []int{1, 0})
+	_, err = ring.Campaign(background(t), "red", CampaignOptions{})
+	is(t, err, ErrLimitReached)
+	same(t, []int{len(nodes[0].lines("stand")), len(nodes[1].lines("stand")), len(nodes[2].lines("stand"))}, []int{2, 1, 1})
+	votes := newVotes()
+	ring, _ = beside(t, refuses("no 6 limit"), votes.at(2), refuses("no 6 limit"))
+	ring.place = 2
+	election, err := ring.Campaign(background(t), "red", CampaignOptions{})
+	must(t, err)
+	same(t, election, Election{Led{1, Leader{2, votes.bid(1)}}, true})
 }
 
 func TestTheSameTermsAreStoodForAgain(t *testing.T) {
