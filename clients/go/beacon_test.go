@@ -52,6 +52,16 @@ func TestABeaconThatIsSilentIsNotThere(t *testing.T) {
 	same(t, took >= 200*time.Millisecond && took < time.Second, true)
 }
 
+func TestAnotherServerIsNoBeacon(t *testing.T) {
+	for _, told := range []string{"none", "HTTP/1.1 400", "5 7 text", "holder"} {
+		_, nodes := beside(t, always(told), deaf)
+		bid := nodes[0].listener.Addr().(*net.TCPAddr).Port * bidSpread
+		same(t, isThere(background(t), bid, time.Second), false)
+		_, isTold := holderOf(background(t), Led{1, Leader{1, bid}}, time.Second)
+		same(t, isTold, false)
+	}
+}
+
 func TestAClientThatIsSilentDoesNotKeepABeacon(t *testing.T) {
 	leavesNone(t)
 	beacon, err := newBeacon(0, "")

@@ -257,6 +257,17 @@ func TestWatch(t *testing.T) {
 	as[*NoAnswerError](t, err)
 }
 
+func TestWhoWaitsGivesTheDoorBack(t *testing.T) {
+	ring, nodes := beside(t, always("none"), deaf)
+	ctx, cancel := context.WithTimeout(background(t), time.Second)
+	defer cancel()
+	_, err := ring.Watch("red", 0).Next(ctx)
+	is(t, err, context.DeadlineExceeded)
+	nodes[0].mutex.Lock()
+	defer nodes[0].mutex.Unlock()
+	same(t, len(nodes[0].conns) > 1, true)
+}
+
 func TestAWatchEndsWithItsContext(t *testing.T) {
 	ring, nodes := beside(t, deaf, deaf)
 	watch := ring.Watch("red", 0)

@@ -127,7 +127,11 @@ func TestALockIsTakenOnceTheHolderResigns(t *testing.T) {
 	holder, told := lockOf(t, ring, LockOptions{}), tells{}
 	must(t, holder.Acquire(background(t)))
 	time.AfterFunc(300*time.Millisecond, holder.Resign)
-	second := lockOf(t, ring, LockOptions{Tell: told.tell})
+	second := lockOf(t, ring, LockOptions{Tell: func(text string) {
+		told.tell(text)
+		// Who waits holds no door.
+		same(t, ring.session == nil, true)
+	}})
 	must(t, second.Acquire(background(t)))
 	same(t, second.Term(), 2)
 	wanted := fmt.Sprintf(`^waits for process %d, which leads at node \d in term 1$`, os.Getpid())

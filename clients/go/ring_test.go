@@ -138,10 +138,12 @@ func TestAnswersThatAreNone(t *testing.T) {
 		_, _, err := ring.Latest(background(t), "red", AnyNode)
 		as[*WrongRingError](t, err)
 	}
-	ring, _ := beside(t, always(strings.Repeat("x", 10_000_000)), always("none\nnone"))
-	ring.Timeout = 300 * time.Millisecond
-	_, _, err := ring.Latest(background(t), "red", AnyNode)
-	as[*NoAnswerError](t, err)
+	for _, told := range []string{strings.Repeat("x", 10_000_000), strings.Repeat("x", 256), "none\nnone"} {
+		ring, _ := beside(t, always(told), always(told))
+		ring.Timeout = 300 * time.Millisecond
+		_, _, err := ring.Latest(background(t), "red", AnyNode)
+		as[*NoAnswerError](t, err)
+	}
 }
 
 func TestWho(t *testing.T) {
@@ -204,6 +206,9 @@ func TestEachRefusalIsOfItsKind(t *testing.T) {
 		same(t, *as[*RefusedError](t, err), RefusedError{Refusal(number), "some text"})
 		same(t, err, "cinoweta: "+told)
 	}
+	for _, fault := range []*RefusedError{{ErrStale, "stale 9"}, {ErrStale, "retired 9"}, {ErrRetired, "retired"}, {ErrRetired, "retired x"}} {
+		same(t, fault.Floor(), 0)
+	}
 	for _, none := range []string{"none", "no 5", "no x stale", "no -5 stale", "nope 5 stale"} {
 		same(t, refusal(none) == nil, true)
 	}
@@ -243,8 +248,8 @@ func TestLinesThatAreNone(t *testing.T) {
 		t.Fatal("two lines are asked")
 	}
 	for _, node := range []int{-1, AnyNode, 3} {
-		if ring.Stand(background(t), "red", 1, 1, node) == nil {
-			t.Fatalf("node %d stands", node)
+		if err := ring.Stand(background(t), "red", 1, 1, node); err == nil || isNoAnswer(err) {
+			t.Fatalf("node %d is asked", node)
 		}
 	}
 	same(t, len(nodes[0].lines("")), 0)

@@ -21,7 +21,8 @@ type pages map[string]page
 func status(t *testing.T, told pages) int {
 	server := httptest.NewServer(http.HandlerFunc(func(writer http.ResponseWriter, request *http.Request) {
 		answer, isThere := told[request.URL.RequestURI()]
-		if !isThere {
+		// ringd answers once.
+		if !isThere || !request.Close {
 			answer.code = http.StatusNotFound
 		}
 		writer.WriteHeader(answer.code)
@@ -56,7 +57,8 @@ func TestStatusIsRead(t *testing.T) {
 	node := NodeStatus{Node: 1, Port: 7101, State: "failed", Journal: JournalStatus{Inputs: 21, Renewable: true},
 		Stands: StandsStatus{Left: 1000}, Sessions: SessionsStatus{Refusals: []RefusalCount{{ErrDeviceFailed, 4}}}}
 	same(t, told, RingStatus{"0.1.0", "ring-state", 1700000000, []NodeStatus{node}})
-	for _, wrong := range []page{{200, "[]"}, {200, "well"}, {404, "{}"}, {200, `{"nodes": 3}`}, {200, `{"nodes": [1]}`}, {200, "{}"}} {
+	for _, wrong := range []page{{200, "[]"}, {200, "well"}, {404, "{}"}, {200, `{"nodes": 3}`}, {200, `{"nodes": [1]}`}, {200, "{}"},
+		{404, `{"nodes": []}`}} {
 		_, err := Status(background(t), status(t, pages{"/status": wrong}))
 		as[*WrongRingError](t, err)
 	}
