@@ -27,9 +27,9 @@ func portOf(bid int) int {
 	return bid % bidRank / bidSpread
 }
 
-// A beacon answers at a port of 127.0.0.1 while this process runs, and is neither paused nor killed: to its bid with its
-// bid, and to `holder` and its bid with the process and the text too. So others see whether who leads is still there,
-// which the ring does not tell; they are on one host.
+// A beacon answers at a port of 127.0.0.1 while this process runs, and is neither paused nor killed: to its bid with
+// its bid, and to `holder` and its bid with the process and the text too. So others see whether who leads is still
+// there, which the ring does not tell; they are on one host.
 type beacon struct {
 	bid      int
 	listener net.Listener

@@ -8,7 +8,8 @@ import (
 )
 
 func TestWhatABeaconMayTell(t *testing.T) {
-	for rank, text := range map[int]string{-1: "", 10: "", 0: "a\nb", 1: strings.Repeat("x", 201), 2: strings.Repeat("ä", 101), 3: "\xff"} {
+	wide, long := strings.Repeat("ä", 101), strings.Repeat("x", 201)
+	for rank, text := range map[int]string{-1: "", 10: "", 0: "a\nb", 1: long, 2: wide, 3: "\xff"} {
 		if _, err := newBeacon(rank, text); err == nil {
 			t.Fatalf("%d %q is taken", rank, text)
 		}

@@ -70,8 +70,8 @@ func refuses(told string) answer {
 }
 
 func TestACampaignStopsWhereNoStandIsTaken(t *testing.T) {
-	for told, cause := range map[string]Refusal{"no 7 full": ErrFull, "no 9 failed": ErrNodeFailed, "no 15 device 1": ErrDeviceFailed,
-		"no 8 memory": ErrOutOfMemory, "no 1 name": ErrBadName, "no 99 new": 99} {
+	for told, cause := range map[string]Refusal{"no 7 full": ErrFull, "no 9 failed": ErrNodeFailed, "no 8 memory": ErrOutOfMemory,
+		"no 15 device 1": ErrDeviceFailed, "no 1 name": ErrBadName, "no 99 new": 99} {
 		ring, nodes := beside(t, refuses(told), refuses(told))
 		_, err := ring.Campaign(background(t), "red", CampaignOptions{})
 		is(t, err, cause)
@@ -114,12 +114,13 @@ func TestWhoIsNotWellIsToldWhereNobodyComesToLead(t *testing.T) {
 	votes := newVotes()
 	votes.deposed = true
 	ring, _ := beside(t, votes.answer, votes.answer)
+	failed, well := page{http.StatusServiceUnavailable, "node 2 failed\nnode 3 full\n"}, page{http.StatusOK, "well\n"}
 	for _, row := range []struct {
 		port   int
 		faults string
 	}{
-		{status(t, pages{"/health": {http.StatusServiceUnavailable, "node 2 failed\nnode 3 full\n"}}), ": node 2 failed, node 3 full"},
-		{status(t, pages{"/health": {http.StatusOK, "well\n"}}), ""},
+		{status(t, pages{"/health": failed}), ": node 2 failed, node 3 full"},
+		{status(t, pages{"/health": well}), ""},
 		{1, ""},
 		{0, ""},
 	} {
@@ -177,7 +178,8 @@ func TestWhoDoesNotLeadOrKeepsAllTermsRetiresNone(t *testing.T) {
 		must(t, err)
 	}
 	same(t, len(nodes[0].lines("retire"))+len(nodes[1].lines("retire")), 0)
-	for _, how := range []CampaignOptions{{Keep: -1}, {Gone: -1}, {Terms: -1}, {Wait: -1}, {Node: 3}, {Node: -1}, {Rank: 1_000}, {Rank: -1}} {
+	for _, how := range []CampaignOptions{{Keep: -1}, {Gone: -1}, {Terms: -1}, {Wait: -1}, {Node: 3}, {Node: -1},
+		{Rank: 1_000}, {Rank: -1}} {
 		if _, err := ring.Campaign(background(t), "red", how); err == nil {
 			t.Fatalf("%+v is taken", how)
 		}
@@ -244,7 +246,8 @@ func TestACampaignEndsWithItsContext(t *testing.T) {
 }
 
 func TestWatch(t *testing.T) {
-	ring, _ := beside(t, first("none", "term 2 leader 1 5", "term 2 leader 1 5", "term 1 leader 1 4", "term 4 leader 3 9"), deaf)
+	told := first("none", "term 2 leader 1 5", "term 2 leader 1 5", "term 1 leader 1 4", "term 4 leader 3 9")
+	ring, _ := beside(t, told, deaf)
 	watch := ring.Watch("red", 1)
 	for _, wanted := range []Led{{2, Leader{1, 5}}, {4, Leader{3, 9}}} {
 		led, err := watch.Next(background(t))

@@ -8,8 +8,8 @@ import (
 	"strings"
 )
 
-// A Refusal is the cause for which a node refuses, by its number. docs/SESSIONS.md says what each one means, and what to
-// do. errors.Is finds it in a [RefusedError].
+// A Refusal is the cause for which a node refuses, by its number. docs/SESSIONS.md says what each one means, and what
+// to do. errors.Is finds it in a [RefusedError].
 type Refusal int
 
 const (
@@ -61,7 +61,8 @@ func (e *RefusedError) Unwrap() error {
 	return e.Refusal
 }
 
-// Floor is the term below which the node gave up the group's terms; 0 where its answer, as `no 23 retired 9`, tells none.
+// Floor is the term below which the node gave up the group's terms; 0 where its answer, as `no 23 retired 9`, tells
+// none.
 func (e *RefusedError) Floor() int {
 	text := strings.TrimPrefix(e.Text, "retired ")
 	if e.Refusal != ErrRetired || text == e.Text {

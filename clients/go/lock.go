@@ -135,8 +135,8 @@ func (l *Lock) Resign() {
 	l.ResignAbove(0)
 }
 
-// ResignAbove gives the lock back. Where this one takes it again its term is above this number, as the one that turned a
-// write away.
+// ResignAbove gives the lock back. Where this one takes it again its term is above this number, as the one that turned
+// a write away.
 func (l *Lock) ResignAbove(term int) {
 	l.mutex.Lock()
 	defer l.mutex.Unlock()

@@ -245,7 +245,8 @@ func TestALockIsLostOnceAGreaterTermIsKnown(t *testing.T) {
 	lock := lockOf(t, ring, LockOptions{})
 	must(t, lock.Acquire(background(t)))
 	lock.every = 0
-	for _, answers := range [][]answer{{deaf, deaf}, {always("no 8 memory"), always("no 8 memory")}, {votes.at(1), votes.at(2)}} {
+	memory := always("no 8 memory")
+	for _, answers := range [][]answer{{deaf, deaf}, {memory, memory}, {votes.at(1), votes.at(2)}} {
 		nodes[0].is(answers[0])
 		nodes[1].is(answers[1])
 		same(t, holds(t, lock), true)

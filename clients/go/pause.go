@@ -43,8 +43,8 @@ func sleep(ctx context.Context, length time.Duration) {
 	}
 }
 
-// ended gives the error of a context that is over, nil else. Its timer may be a moment late, where a connection that has
-// its deadline is not.
+// ended gives the error of a context that is over, nil else. Its timer may be a moment late, where a connection that
+// has its deadline is not.
 func ended(ctx context.Context) error {
 	if deadline, hasOne := ctx.Deadline(); hasOne && !time.Now().Before(deadline) {
 		<-ctx.Done()

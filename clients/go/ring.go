@@ -56,7 +56,11 @@ func NewRing(first, last int) (*Ring, error) {
 	if first < 1 || first >= last || last > 65_535 || last-first > 15 {
 		return nil, &WrongRingError{fmt.Sprintf("%d-%d: the ports of 2 to 16 nodes are 1 to 65,535", first, last)}
 	}
-	return &Ring{first: first, nodes: last - first + 1, turn: make(chan struct{}, 1), place: 1}, nil
+	return newRing(first, last-first+1), nil
+}
+
+func newRing(first, nodes int) *Ring {
+	return &Ring{first: first, nodes: nodes, turn: make(chan struct{}, 1), place: 1}
 }
 
 // ParseRing gives the ring of a text as 7101-7103.
@@ -117,8 +121,8 @@ func (r *Ring) Who(ctx context.Context, group string, term, node int) (Leader, b
 	return Leader{told[0], told[1]}, true, nil
 }
 
-// Latest tells the greatest term of the group that has a leader, as far as a node knows, and that leader; false where it
-// knows none.
+// Latest tells the greatest term of the group that has a leader, as far as a node knows, and that leader; false where
+// it knows none.
 func (r *Ring) Latest(ctx context.Context, group string, node int) (Led, bool, error) {
 	told, isKnown, err := r.tell(ctx, latestText, "latest "+group, node)
 	if !isKnown {
@@ -276,7 +280,9 @@ func (r *Ring) closeSession() {
 
 // within gives the same ring, over sessions of its own, and so that an answer is not waited for longer than that.
 func (r *Ring) within(limit time.Duration) *Ring {
-	return &Ring{Timeout: atMost(limit, r.timeout()), first: r.first, nodes: r.nodes, turn: make(chan struct{}, 1), place: 1}
+	ring := newRing(r.first, r.nodes)
+	ring.Timeout = atMost(limit, r.timeout())
+	return ring
 }
 
 func (r *Ring) timeout() time.Duration {

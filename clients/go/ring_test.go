@@ -61,7 +61,9 @@ func TestWhatIsRememberedIsBounded(t *testing.T) {
 		known.add(stood{1, fmt.Sprint(term)})
 	}
 	same(t, len(known.stands), 1_024)
-	same(t, []bool{known.has(stood{1, "75"}), known.has(stood{1, "76"}), known.has(stood{2, "76"})}, []bool{false, true, false})
+	for sent, isKnown := range map[stood]bool{{1, "75"}: false, {1, "76"}: true, {2, "76"}: false} {
+		same(t, known.has(sent), isKnown)
+	}
 }
 
 func TestALateAnswerIsNotThatOfAnotherLine(t *testing.T) {
@@ -206,7 +208,7 @@ func TestEachRefusalIsOfItsKind(t *testing.T) {
 		same(t, *as[*RefusedError](t, err), RefusedError{Refusal(number), "some text"})
 		same(t, err, "cinoweta: "+told)
 	}
-	for _, fault := range []*RefusedError{{ErrStale, "stale 9"}, {ErrStale, "retired 9"}, {ErrRetired, "retired"}, {ErrRetired, "retired x"}} {
+	for _, fault := range []*RefusedError{{ErrStale, "retired 9"}, {ErrRetired, "retired"}, {ErrRetired, "retired x"}} {
 		same(t, fault.Floor(), 0)
 	}
 	for _, none := range []string{"none", "no 5", "no x stale", "no -5 stale", "nope 5 stale"} {

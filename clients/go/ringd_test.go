@@ -262,7 +262,8 @@ func TestWhoWaitsForALockWaitsForARingThatIsDown(t *testing.T) {
 func TestLocksOfPythonAndOfGoExcludeEachOther(t *testing.T) {
 	served := serve(t, usual)
 	ring := served.ring(t)
-	script := []string{"lock", "--patience", "1", "--text", "a job in Python", "red", "--", "sh", "-c", "echo term $CINOWETA_TERM; exec sleep 60"}
+	script := []string{"lock", "--patience", "1", "--text", "a job in Python", "red", "--", "sh", "-c",
+		"echo term $CINOWETA_TERM; exec sleep 60"}
 	python := served.python(t, script...)
 	python.tells(t, "term 1")
 	holder, isHeld, err := ring.Holder(background(t), "red", 0)
@@ -283,9 +284,10 @@ func TestLocksOfPythonAndOfGoExcludeEachOther(t *testing.T) {
 	same(t, lock.Term(), 3)
 	told := served.python(t, "holder", "red").tells(t, "term 3")
 	same(t, strings.HasSuffix(told, fmt.Sprintf("process %d a job in Go", os.Getpid())), true)
-	served.python(t, "lock", "--wait", "0", "red", "--", "true").tells(t, fmt.Sprintf("cinoweta: red: held by process %d (a job in Go)", os.Getpid()))
+	own := fmt.Sprintf("process %d (a job in Go)", os.Getpid())
+	served.python(t, "lock", "--wait", "0", "red", "--", "true").tells(t, "cinoweta: red: held by "+own)
 	python = served.python(t, script...)
-	python.tells(t, fmt.Sprintf("cinoweta: red: waits for process %d (a job in Go)", os.Getpid()))
+	python.tells(t, "cinoweta: red: waits for "+own)
 	python.isSilent(t, 1_500*time.Millisecond)
 	same(t, holds(t, lock), true)
 	lock.Resign()

@@ -107,7 +107,8 @@ func (s *served) start() error {
 	if err := os.WriteFile(settings, []byte(text), 0o600); err != nil {
 		return err
 	}
-	s.process = exec.Command(ringd(), "--settings", settings, "--always", "--doors", "4", "--status", fmt.Sprint(s.status()))
+	status := fmt.Sprint(s.status())
+	s.process = exec.Command(ringd(), "--settings", settings, "--always", "--doors", "4", "--status", status)
 	out, err := s.process.StdoutPipe()
 	if err != nil {
 		return err
