@@ -55,7 +55,7 @@ type Lock struct {
 
 // NewLock gives the lock of the group, which is not held yet.
 func NewLock(ring *Ring, group string, how LockOptions) *Lock {
-	if how.Patience == 0 {
+	if how.Patience <= 0 {
 		how.Patience = DefaultPatience
 	}
 	return &Lock{ring: ring, group: group, how: how, looks: ring.within(lookEvery), every: lookEvery, wait: DefaultWait}
@@ -270,7 +270,7 @@ func (r *Ring) Holder(ctx context.Context, group string, patience time.Duration)
 	if !isKnown {
 		return Holder{}, false, err
 	}
-	if patience == 0 {
+	if patience <= 0 {
 		patience = DefaultPatience
 	}
 	holder, isTold := holderOf(ctx, known, patience)

@@ -84,6 +84,17 @@ func TestALockIsHeldWhileItsWorkRuns(t *testing.T) {
 	same(t, ring.session == nil, true)
 }
 
+func TestPatienceIsAboveZero(t *testing.T) {
+	ring, _, _ := elected(t)
+	must(t, lockOf(t, ring, LockOptions{}).Acquire(background(t)))
+	for _, patience := range []time.Duration{0, -1} {
+		as[*LockTakenError](t, NewLock(ring, "red", LockOptions{Patience: patience}).TryAcquire(background(t)))
+		_, isHeld, err := ring.Holder(background(t), "red", patience)
+		must(t, err)
+		same(t, isHeld, true)
+	}
+}
+
 func TestNobodyHoldsALock(t *testing.T) {
 	ring, _, votes := elected(t)
 	for _, bid := range []int{-1, 10, 0, 99_999_999, 999_999_999} {

@@ -286,7 +286,7 @@ func (r *Ring) within(limit time.Duration) *Ring {
 }
 
 func (r *Ring) timeout() time.Duration {
-	if r.Timeout == 0 {
+	if r.Timeout <= 0 {
 		return DefaultTimeout
 	}
 	return r.Timeout
