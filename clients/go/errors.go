@@ -52,6 +52,7 @@ type RefusedError struct {
 	Text    string
 }
 
+// Error gives the node's answer, as `no 5 stale 9`.
 func (e *RefusedError) Error() string {
 	return fmt.Sprintf("cinoweta: no %d %s", int(e.Refusal), e.Text)
 }
@@ -97,6 +98,7 @@ type NoAnswerError struct {
 	Err error
 }
 
+// Error says where was asked, and what went wrong.
 func (e *NoAnswerError) Error() string {
 	return fmt.Sprintf("cinoweta: no answer of %s: %v", e.Address, e.Err)
 }
@@ -116,6 +118,7 @@ type NoLeaderError struct {
 	Faults []string
 }
 
+// Error says in which terms, and which nodes are not well.
 func (e *NoLeaderError) Error() string {
 	text := fmt.Sprintf("cinoweta: %s: no leader in %d terms above %d", e.Group, e.Terms, e.Gone)
 	if len(e.Faults) > 0 {
@@ -132,6 +135,7 @@ type LockTakenError struct {
 	Err error
 }
 
+// Error says who holds the lock.
 func (e *LockTakenError) Error() string {
 	return fmt.Sprintf("cinoweta: %s: held by %v", e.Group, e.Holder)
 }
@@ -150,6 +154,7 @@ type LockLostError struct {
 	Err error
 }
 
+// Error says which term is over.
 func (e *LockLostError) Error() string {
 	return fmt.Sprintf("cinoweta: %s: the lock of term %d is lost", e.Group, e.Term)
 }
@@ -165,6 +170,7 @@ type WrongRingError struct {
 	Text string
 }
 
+// Error says what was found.
 func (e *WrongRingError) Error() string {
 	return "cinoweta: " + e.Text
 }

@@ -17,7 +17,7 @@ const (
 	statusLimit = 5 * time.Second
 )
 
-// A RingStatus is what `ringd --status` tells of a ring.
+// A RingStatus is what `ringd --status` tells of a ring, its start in Unix time.
 type RingStatus struct {
 	Version string       `json:"version"`
 	Dir     string       `json:"dir"`
