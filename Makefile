@@ -15,9 +15,10 @@
 # fuzz: both programs, given what nobody would give them; FUZZ has words of trials/fuzz.py.
 # hangs: one sync of bin/ringd takes 14 seconds, and the status port says so.
 # faults, growths: each call of the system that a ring makes fails in turn, and each growth of the programs is refused.
+# flips: each byte of the files of a ring by bin/ringd is changed, one at a time: whether a start refuses it, or what is answered then.
 # load: bin/ringd under load; LOAD has further words of bench/load.py.
 .PHONY: run test wrong_bodies bench clean always
-.PHONY: ringd install serve fencing clients picture pictures kills earlier load short threads scrapes writeback syncs fuzz faults growths hangs
+.PHONY: ringd install serve fencing clients picture pictures kills earlier load short threads scrapes writeback syncs fuzz faults growths hangs flips
 
 run:
 	@bench/try.sh examples/first_election.ring
@@ -61,6 +62,8 @@ fencing:
 clients:
 	@python3 -m unittest discover -s examples
 	@python3 -m unittest discover -s clients/python/tests -t clients/python
+	@if command -v go > /dev/null; then cd clients/go && go vet && $(if $(RINGD),RINGD="$(abspath $(RINGD))") go test; \
+	else echo "make clients: go is not there: the tests of clients/go are skipped"; fi
 
 picture:
 	@pictures/draw.sh "$(SCRIPT)" $(if $(SVG),"$(SVG)")
@@ -105,8 +108,11 @@ faults: bin/ringd
 	@trials/faults.py
 
 growths: bin/ringctl bin/ringd
-	@for crate in board_tests journal_tests node_tests records_tests service_tests sessions_tests store_tests; do (cd crates/$$crate && rt test > /dev/null) || exit 1; done
+	@for crate in board_tests journal_tests node_tests records_tests ring_tests service_tests sessions_tests store_tests; do (cd crates/$$crate && rt test > /dev/null) || exit 1; done
 	@trials/growths.py
+
+flips: bin/ringd
+	@trials/flips.py
 
 load: bin/ringd
 	@bench/load.py --ringd bin/ringd $(LOAD)

@@ -58,7 +58,7 @@ class Trial:
     def __init__(self, ringd: str, folder: str, most: int) -> None:
         self.ringd, self.folder, self.most = ringd, folder, most
         self.refuser = Refuser(folder)
-        self.base = filled(ringd, self.refuser, folder, 20)
+        self.base = filled(ringd, folder, 20)
         self.runs = self.faults = 0
 
     def sweep(self, name: str, way: str, for_good: bool, base: str | None) -> int:
@@ -66,7 +66,7 @@ class Trial:
         count = spared = 0
         for at in range(1, self.most + 1):
             refusal = Refusal(name, at, WAYS[way], for_good)
-            end = Ring(self.ringd, self.refuser, self.folder, base).play(refusal, ELECTIONS)
+            end = Ring(self.ringd, self.folder, base).play(self.refuser, refusal, ELECTIONS)
             self.runs += 1
             for fault in faults(refusal, end):
                 self.faults += 1

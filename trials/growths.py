@@ -35,7 +35,7 @@ HERE = os.path.dirname(os.path.abspath(__file__))
 ROOT = os.path.dirname(HERE)
 TEST = re.compile(r"(?:\w+::)*(?:refused_growths|a_refused_growth)\w*")
 # What a ring may say that lacked memory.
-SAID = re.compile(r"|".join([r"", r"ringd: out of memory\n", r"ringd: node [1-3]: memory\n", r"(ringd: node [1-3] failed\n)+",
+SAID = re.compile(r"|".join([r"", r"ringd: out of memory\n", r"ringd: node [1-3]: memory\n", r"(ringd: node [1-3] (failed|memory)\n)+",
                              r"ringd: no thread can be started\n"]))
 SECONDS = 10
 # The crates whose tests call again after a refusal.
@@ -90,7 +90,7 @@ class Trial:
 
     def ringd(self) -> None:
         ringd = os.path.join(self.words.programs, "ringd")
-        base = filled(ringd, self.refuser, self.folder, 20)
+        base = filled(ringd, self.folder, 20)
         for folder in (None, base):
             for for_good in (False, True):
                 self.ring(ringd, folder, for_good)
@@ -100,7 +100,7 @@ class Trial:
         at, count, spared, said = 1, 0, 0, Counter()
         place = f"{'on a folder' if base else 'in an empty folder'}, {'for good' if for_good else 'alone'}"
         while spared < SPARED:
-            end = Ring(ringd, self.refuser, self.folder, base).play(Refusal("memory", at, errno.ENOMEM, for_good), ELECTIONS)
+            end = Ring(ringd, self.folder, base).play(self.refuser, Refusal("memory", at, errno.ENOMEM, for_good), ELECTIONS)
             spared = 0 if end.refused else spared + 1
             if not SAID.fullmatch(end.said) or end.status not in (0, 1, None) or end.said == "" and end.status == 1:
                 self.fault(f"growth {at} of ringd {place}: it ended with {end.status} and said {end.said!r}")

@@ -7,11 +7,10 @@ OLD_MARK, LAYOUTS = b"CRJRNL01", (b"\2", b"\3")
 AREA_A = 16
 # The bytes of an area before its snapshot: gate, layout, epoch, and the snapshot's size.
 HEAD = 14
-# The bytes of a snapshot before its keys.
-COUNTS = 38
 # What an input takes of the capacity beside its record.
 FRAME = 7
 STAND, TOKEN, ELECTED, ACKED, RETIRE = 1, 2, 3, 4, 5
+KINDS = {STAND: "Stand", TOKEN: "Token", ELECTED: "Elected", ACKED: "Acked", RETIRE: "Retire"}
 
 
 class Input(NamedTuple):
@@ -30,6 +29,17 @@ class Known(NamedTuple):
     term: int
     stood: int | None
     leader: tuple[int, int] | None
+
+
+class Snapshot(NamedTuple):
+    """Its counts, its keys, and the messages of its window, which have no numbers."""
+    inputs: int
+    taken: int
+    credit: int
+    sent: int
+    stands: int
+    keys: list[Known]
+    window: list[Input]
 
 
 class State(NamedTuple):
@@ -63,79 +73,141 @@ def first_epoch(data: bytes) -> int:
 
 def layout(data: bytes) -> int:
     """That of the area in use, 1 where no area counts."""
-    counting = epochs(data)
-    return data[max(counting, key=counting.__getitem__) + 1] if counting else 1
+    return data[in_use(data) + 1] if epochs(data) else 1
 
 
-def name_at(data: bytes, at: int) -> tuple[str, int]:
-    end = at + 1 + data[at]
-    return data[at + 1:end].decode("ascii"), end
+class Reader:
+    """Reads bytes from the left, and keeps by their offsets what they belong to: a field of what is read."""
+
+    def __init__(self, data: bytes, at: int = 0) -> None:
+        self.data, self.at = data, at
+        self.owner, self.fields = "header", dict[int, str]()
+
+    def number(self, length: int, field: str) -> int:
+        value = number(self.data, self.at, length)
+        self.fields |= dict.fromkeys(range(self.at, self.at + length), f"{self.owner}: {field}")
+        self.at += length
+        return value
+
+    def name(self) -> str:
+        length = self.number(1, "length")
+        return self.number(length, "name").to_bytes(length, "big").decode("ascii")
+
+    def key(self) -> tuple[str, int]:
+        return self.name(), self.number(4, "term")
+
+    def candidate(self) -> tuple[int, int]:
+        return self.number(4, "bid"), self.number(1, "node")
+
+    def record(self) -> Input:
+        self.owner = KINDS.get(self.data[self.at], "record")
+        kind = self.number(1, "kind")
+        counted = 0 if kind in (STAND, RETIRE) else self.number(8, "number")
+        if kind == ACKED:
+            return Input(kind, counted)
+        key = self.key()
+        if kind == RETIRE:
+            return Input(kind, 0, *key)
+        if kind == STAND:
+            return Input(kind, 0, *key, self.number(4, "bid"))
+        return Input(kind, counted, *key, *self.candidate())
+
+    def known(self) -> Known:
+        """A key of a snapshot."""
+        self.owner = "key"
+        key, flags = self.key(), self.number(1, "flags")
+        stood = self.number(4, "own bid") if flags & 1 else None
+        return Known(*key, stood, self.candidate() if flags & 2 else None)
+
+    def message(self) -> Input:
+        """A message of a window, without its number."""
+        self.owner = "message"
+        kind = self.number(1, "kind")
+        return Input(kind, 0, *self.key(), *self.candidate())
+
+    def snapshot(self) -> Snapshot:
+        """One of layout 2, or what one of layout 3 has before its floors."""
+        self.owner = "snapshot"
+        inputs, taken, credit, sent = (self.number(8, field) for field in ("inputs", "taken", "credit", "sent"))
+        stands, count = self.number(2, "stands"), self.number(4, "keys")
+        keys = [self.known() for _ in range(count)]
+        return Snapshot(inputs, taken, credit, sent, stands, keys, [self.message() for _ in range(sent - credit)])
+
+    def floors(self) -> Iterator[tuple[str, int]]:
+        self.owner = "floors"
+        count, self.owner = self.number(4, "count"), "floor"
+        for _ in range(count):
+            yield self.key()
+
+    def header(self) -> None:
+        self.owner = "header"
+        for length, field in ((8, "mark"), (1, "node"), (1, "ring"), (4, "capacity"), (2, "zeros")):
+            self.number(length, field)
+
+    def head(self, start: int, owner: str) -> tuple[int, int, int]:
+        """Of the area that begins there: its layout, its epoch, and where its snapshot ends."""
+        self.at, self.owner = start, owner
+        _, layout, epoch, length = (self.number(*it) for it in ((1, "gate"), (1, "layout"), (8, "epoch"), (4, "length")))
+        return layout, epoch, self.at + length
+
+    def frames(self) -> Iterator[list[Input]]:
+        """The inputs of each frame that stands here, up to the closed gate, before which it then stands."""
+        while self.data[self.at] == 1:
+            self.owner = "frame"
+            self.number(1, "gate")
+            count = self.number(2, "count")
+            self.number(4, "length")
+            yield [self.record() for _ in range(count)]
 
 
 def records(data: bytes) -> Iterator[Input]:
     """The inputs of these records."""
-    at = 0
-    while at < len(data):
-        kind, counted, at = data[at], 0, at + 1
-        if kind not in (STAND, RETIRE):
-            counted, at = number(data, at, 8), at + 8
-        if kind == ACKED:
-            yield Input(kind, counted)
-            continue
-        group, at = name_at(data, at)
-        if kind == RETIRE:
-            yield Input(kind, 0, group, number(data, at, 4))
-            at += 4
-            continue
-        term, bid, at = number(data, at, 4), number(data, at + 4, 4), at + 8
-        if kind == STAND:
-            yield Input(kind, 0, group, term, bid)
-        else:
-            yield Input(kind, counted, group, term, bid, data[at])
-            at += 1
+    reader = Reader(data)
+    while reader.at < len(data):
+        yield reader.record()
 
 
 def keys(snapshot: bytes) -> list[Known]:
     """What a snapshot has of its keys."""
-    return keys_and_end(snapshot)[0]
+    return Reader(snapshot).snapshot().keys
 
 
 def floors(snapshot: bytes) -> Iterator[tuple[str, int]]:
     """The groups with a floor, and their floors, of a snapshot of layout 3."""
-    at = keys_and_end(snapshot)[1]
-    for _ in range(number(snapshot, 24, 8) - number(snapshot, 16, 8)):
-        # A message has a term, a bid and a node behind its name.
-        at = name_at(snapshot, at + 1)[1] + 9
-    count, at = number(snapshot, at, 4), at + 4
-    for _ in range(count):
-        group, at = name_at(snapshot, at)
-        yield group, number(snapshot, at, 4)
-        at += 4
+    reader = Reader(snapshot)
+    reader.snapshot()
+    return reader.floors()
 
 
-def keys_and_end(snapshot: bytes) -> tuple[list[Known], int]:
-    """What a snapshot has of its keys, and where they end."""
-    at, found = COUNTS, []
-    for _ in range(number(snapshot, COUNTS - 4, 4)):
-        group, at = name_at(snapshot, at)
-        term, flags, at = number(snapshot, at, 4), snapshot[at + 4], at + 5
-        stood = leader = None
-        if flags & 1:
-            stood, at = number(snapshot, at, 4), at + 4
-        if flags & 2:
-            leader, at = (number(snapshot, at, 4), snapshot[at + 4]), at + 5
-        found.append(Known(group, term, stood, leader))
-    return found, at
+def in_use(data: bytes) -> int:
+    """Where the area begins that is in use."""
+    counting = epochs(data)
+    return max(counting, key=counting.__getitem__)
 
 
 def read(data: bytes) -> State:
     """What a journal holds."""
-    epoch, start = max((epoch, start) for start, epoch in epochs(data).items())
-    offset = start + HEAD + number(data, start + 10, 4)
-    snapshot, inputs, gate, taken = data[start + HEAD:offset], [], offset, offset - start - HEAD
-    while data[gate] == 1:
-        end = gate + FRAME + number(data, gate + 3, 4)
-        inputs += records(data[gate + FRAME:end])
-        taken += end - gate - FRAME + FRAME * number(data, gate + 1, 2)
-        gate = end
-    return State(start, epoch, snapshot, inputs, gate, taken)
+    reader, start = Reader(data), in_use(data)
+    _, epoch, reader.at = reader.head(start, "area")
+    snapshot, frames = data[start + HEAD:reader.at], list(reader.frames())
+    inputs = [taken for frame in frames for taken in frame]
+    taken = reader.at - start - HEAD + FRAME * (len(inputs) - len(frames))
+    return State(start, epoch, snapshot, inputs, reader.at, taken)
+
+
+def fields(data: bytes) -> dict[int, str]:
+    """What each byte belongs to, by its offset: of the header, of the area in use up to its closed gate, and of the head
+    of the other area."""
+    reader, start = Reader(data), in_use(data)
+    reader.header()
+    for other in set(areas(number(data, 10, 4))) - {start}:
+        reader.head(other, "other area")
+    layout, _, end = reader.head(start, "area")
+    reader.snapshot()
+    if layout > 2:
+        list(reader.floors())
+    assert reader.at == end
+    list(reader.frames())
+    reader.owner = "frame"
+    reader.number(1, "closed gate")
+    return reader.fields

@@ -68,8 +68,8 @@ class End(NamedTuple):
 class Ring:
     """A folder with a ring of three nodes, and what it told. `base` is a folder that it begins with, or None."""
 
-    def __init__(self, ringd: str, refuser: Refuser, folder: str, base: str | None) -> None:
-        self.ringd, self.refuser, self.folder = ringd, refuser, folder
+    def __init__(self, ringd: str, folder: str, base: str | None) -> None:
+        self.ringd, self.folder = ringd, folder
         self.dir = os.path.join(folder, "ring")
         shutil.rmtree(self.dir, ignore_errors=True)
         shutil.copytree(base, self.dir) if base else os.mkdir(self.dir)
@@ -115,12 +115,12 @@ class Ring:
         finally:
             self.process.stdout.close()
 
-    def play(self, refusal: Refusal, questions: list[tuple[int, Question]]) -> End:
+    def play(self, refuser: Refuser, refusal: Refusal, questions: list[tuple[int, Question]]) -> End:
         """A start, these questions, each node by one session, and the end; then a start with nothing refused, which is asked again."""
         if refusal.name == "memory":
             self.patience = SHORT
         is_answered = is_whole = False
-        if self.start(self.refuser.environment(refusal), ["--serve", "1"]):
+        if self.start(refuser.environment(refusal), ["--serve", "1"]):
             try:
                 is_whole = self.ask(questions)
                 is_answered = True
@@ -129,7 +129,7 @@ class Ring:
             status = self.ends(SECONDS if is_whole else self.patience)
         else:
             status = self.process.returncode
-        refused, said = self.refuser.refused(), self.said()
+        refused, said = refuser.refused(), self.said()
         self.known.process_ended()
         self.look()
         return End(status, said, refused, is_answered, is_whole and status == 0, self.known.faults)
@@ -213,9 +213,9 @@ ELECTIONS = [(place % NODES + 1, question) for term in (101, 102) for place, que
              [(term, Question("stand", "abcdefghijklmnop", term, 5)), *((node, Question("who", "abcdefghijklmnop", term)) for node in range(NODES))]]
 
 
-def filled(ringd: str, refuser: Refuser, folder: str, terms: int) -> str:
+def filled(ringd: str, folder: str, terms: int) -> str:
     """A folder of a ring that had so many elections, after which the next one makes a checkpoint."""
-    ring = Ring(ringd, refuser, folder, None)
+    ring = Ring(ringd, folder, None)
     if not ring.start(dict(os.environ), ["--serve", "1"]):
         raise SystemExit(f"ringd does not serve: {ring.said()}")
     ring.ask([(node, question) for term in range(1, terms + 1)

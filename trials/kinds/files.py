@@ -137,7 +137,8 @@ class Files(Kind):
 def apart(states: list[State]) -> str | None:
     """The first two nodes that are not of one time: by their links, and then by the leaders that they know."""
     for own, to in zip(states, states[1:] + states[:1]):
-        if not own.credit <= to.taken <= own.sent:
+        is_other = any(own.was_sent.get(number, message) != message for number, message in to.was_taken.items())
+        if not own.credit <= to.taken <= own.sent or is_other:
             return f"nodes {own.me} and {to.me} do not fit"
     for place, own in enumerate(states):
         for other in states[:place]:

@@ -86,6 +86,9 @@ class State:
         # The messages from number `credit` on.
         self.window = [Message(text.number(1, 2, 3) == 2, text.key(), (text.number(4, 0, BID), text.number(1, 1, nodes)))
                        for _ in range(min(self.sent - self.credit, len(snapshot)))]
+        # What its file has of both links: those that it sent from then on and took behind it, by their numbers.
+        self.was_sent = dict(enumerate(self.window, self.credit))
+        self.was_taken: dict[int, Message] = {}
         count = text.number(4) if layout > 2 else 0
         floors = [text.key() for _ in range(min(count, len(snapshot)))]
         self.floors = dict(floors)
@@ -146,6 +149,7 @@ class State:
             self.stands -= self.stood.pop(key, None) is not None
 
     def take(self, message: Message) -> None:
+        self.was_taken[self.taken] = message
         self.taken += 1
         is_token, key, candidate = message
         if self.is_retired(key):
@@ -161,6 +165,7 @@ class State:
             self.send(Message(False, key, candidate))
 
     def send(self, message: Message) -> None:
+        self.was_sent[self.sent] = message
         self.sent += 1
         self.window.append(message)
 

@@ -74,6 +74,7 @@ fn status<A: Node, R: Wait + Clock>(
         layout: look.layout,
         checkpoints: tally.checkpoints(),
         syncs: tally.syncs(),
+        refused_rounds: tally.refused_rounds(),
         writing: held.writing,
         refusals: tally.refusals(alloc)?,
         sessions: tally.sessions(),

@@ -9,7 +9,10 @@ use ring_records::Refusal;
 use ring_service::{Flusher, Gate};
 use ring_watch::Tally;
 use std::sync::Wait;
-use std::time::{Clock, Duration};
+use std::time::{Clock, Duration, Instant};
+
+/// After how many seconds of refused rounds it is told that memory is wanting.
+const STARVES: u64 = 1;
 
 /// Tells the tally when the device is given something to write.
 #[derive(Drop)]
@@ -45,6 +48,21 @@ fn release<R: Wait>(rt: &R, landed: &Landed, links: &Links<'_>) {
     links.send_all(rt, &landed.packets);
 }
 
+/// A round was refused for want of memory, as were all since then: counts it, has that told where it lasts, and waits a
+/// little. Since when they are refused.
+fn starve<R: Wait + Clock>(rt: &R, links: &Links<'_>, since: Option<Instant>) -> Option<Instant> {
+    links.tally.count_refused_round();
+    let now = Instant::now(rt).ok();
+    let since = since.or(now);
+    if let (Some(since), Some(now)) = (since, now) {
+        if now.saturating_duration_since(since) >= Duration::from_secs(STARVES) {
+            links.starve(rt);
+        }
+    }
+    rt.sleep(Duration::from_millis(1));
+    since
+}
+
 /// Flushes until the hub is closed and nothing waits, and sends what that releases. Where a growth is refused it tries
 /// again; whatever else is refused fails the node, which is told, so that nobody waits for ever. Whether it came to its end.
 pub(crate) fn flush_all<V: Device, J: Naming, A: Node, R: Wait + Clock>(
@@ -53,11 +71,15 @@ pub(crate) fn flush_all<V: Device, J: Naming, A: Node, R: Wait + Clock>(
     flusher: &mut Flusher<V, J, A>,
     links: &Links<'_>,
 ) -> bool {
+    let mut since = None;
     for _ in rt.forever() {
         match flush_once(rt, hub, flusher, links.tally) {
-            Ok(Some(landed)) => release(rt, &landed, links),
+            Ok(Some(landed)) => {
+                since = None;
+                release(rt, &landed, links);
+            }
             Ok(None) => return true,
-            Err(Refusal::OutOfMemory) => rt.sleep(Duration::from_millis(1)),
+            Err(Refusal::OutOfMemory) => since = starve(rt, links, since),
             Err(_) => break,
         }
     }

@@ -139,6 +139,11 @@ impl<'a> Links<'a> {
         self.watch.fill(rt, self.node);
     }
 
+    /// The node's rounds have been refused for a while for want of memory.
+    pub(crate) fn starve<R: Wait>(&self, rt: &R) {
+        self.watch.starve(rt, self.node);
+    }
+
     /// The node's door is done.
     pub(crate) fn leave<R: Wait>(&self, rt: &R) {
         self.post.leave(rt);

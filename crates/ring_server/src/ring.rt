@@ -134,8 +134,8 @@ fn let_go<R: Threads + Wait + Clock + Send + Copy + 'static, O: Write>(
     outcome
 }
 
-/// Tells of nodes that fail or are full, until no node runs any more. Whether it is to end before: at the first node
-/// that fails, where that is asked for.
+/// Tells of nodes that fail, are full or find no memory, until no node runs any more. Whether it is to end before: at the
+/// first node that fails, where that is asked for.
 fn tell_of_nodes<R: Wait, E: Write>(rt: &R, watch: &Watch, fail_stop: bool, err: &mut E) -> bool {
     for _ in rt.forever() {
         match watch.next(rt) {
@@ -147,6 +147,9 @@ fn tell_of_nodes<R: Wait, E: Write>(rt: &R, watch: &Watch, fail_stop: bool, err:
             }
             News::Full(node) => {
                 let _ = writeln!(err, "ringd: node {node} full");
+            }
+            News::Starves(node) => {
+                let _ = writeln!(err, "ringd: node {node} memory");
             }
             News::Ended => break,
         }
@@ -192,10 +195,10 @@ fn tell_end<O: Write, E: Write>(out: &mut O, err: &mut E, ends: Ends) -> u8 {
 
 /// Serves with all nodes of a ring until the last door is done, and gives the status: 0, or 1 where a node failed, or
 /// `out` does not take what is printed at the end. Prints `serving` first, and at the end for each node in order what it
-/// holds, to `out`; that a node has failed or is full once it is, to `err`. Meanwhile it tells of the ring at its status
-/// port, where there is one: the nodes have clerks then. With `fail_stop` it ends with the first node that fails, and
-/// leaves the threads of the ring to the end of the program. Refused where memory or a thread is wanting, or `out` does
-/// not take `serving`: nothing was served then, and no thread of a node or of the port goes on.
+/// holds, to `out`; that a node has failed, is full or finds no memory once it is so, to `err`. Meanwhile it tells of the
+/// ring at its status port, where there is one: the nodes have clerks then. With `fail_stop` it ends with the first node
+/// that fails, and leaves the threads of the ring to the end of the program. Refused where memory or a thread is wanting,
+/// or `out` does not take `serving`: nothing was served then, and no thread of a node or of the port goes on.
 pub fn serve_ring<
     V: Device + Send + Drop + 'static,
     R: Threads + Wait + Clock + Sync + Send + Copy + 'static,

@@ -9,6 +9,8 @@ pub(crate) enum News {
     Failed(NodeNo),
     /// This node refused a message for want of room.
     Full(NodeNo),
+    /// This node's rounds have been refused for a while for want of memory.
+    Starves(NodeNo),
     /// No node runs any more.
     Ended,
 }
@@ -43,6 +45,7 @@ impl Word {
 struct Book {
     failed: [Word; 16],
     full: [Word; 16],
+    starves: [Word; 16],
     has_ended: bool,
 }
 
@@ -54,6 +57,9 @@ impl Book {
         }
         if let Some(node) = first_due(&mut self.full) {
             return Some(News::Full(node));
+        }
+        if let Some(node) = first_due(&mut self.starves) {
+            return Some(News::Starves(node));
         }
         if self.has_ended {
             Some(News::Ended)
@@ -88,6 +94,7 @@ impl Watch {
         let book = Book {
             failed: [Word::Silent; 16],
             full: [Word::Silent; 16],
+            starves: [Word::Silent; 16],
             has_ended: false,
         };
         Watch {
@@ -107,6 +114,14 @@ impl Watch {
     /// The node refused a message for want of room.
     pub(crate) fn fill<R: Wait>(&self, rt: &R, node: NodeNo) {
         if let Some(word) = self.book.lock(rt).full.get_mut(place(node)) {
+            word.ask();
+        }
+        self.bell.notify_all();
+    }
+
+    /// The node's rounds have been refused for a while for want of memory.
+    pub(crate) fn starve<R: Wait>(&self, rt: &R, node: NodeNo) {
+        if let Some(word) = self.book.lock(rt).starves.get_mut(place(node)) {
             word.ask();
         }
         self.bell.notify_all();

@@ -37,11 +37,12 @@ journal_data node = object
     (member (codes "epoch") (natural node.epoch)
     (member (codes "inputs") (natural (node.shown).inputs)
     (member (codes "layout") (natural node.layout)
+    (member (codes "refused") (natural node.refused_rounds)
     (member (codes "renewable") (boolean node.renewable)
     (member (codes "snapshot") (natural node.snapshot)
     (member (codes "syncs") (natural node.syncs)
     (member (codes "used") (natural node.used)
-    (member (codes "writing") (natural node.writing) no_members))))))))))))
+    (member (codes "writing") (natural node.writing) no_members)))))))))))))
 
 abbrev pub messages_data : NodeStatus → Data
 messages_data node = object

@@ -34,6 +34,7 @@ name_text of.Epoch = codes "cinoweta_journal_epoch"
 name_text of.Layout = codes "cinoweta_journal_layout"
 name_text of.Syncs = codes "cinoweta_syncs_total"
 name_text of.Writing = codes "cinoweta_writing_seconds"
+name_text of.RefusedRounds = codes "cinoweta_refused_rounds_total"
 name_text of.Sessions = codes "cinoweta_sessions_total"
 name_text of.Doors = codes "cinoweta_doors"
 name_text of.BusyDoors = codes "cinoweta_doors_busy"
@@ -62,6 +63,7 @@ help_text of.Epoch = codes "Epoch of its journal's area in use, which each check
 help_text of.Layout = codes "Layout of that area."
 help_text of.Syncs = codes "Syncs of its device since the start."
 help_text of.Writing = codes "Seconds for which its device has been busy with one of these."
+help_text of.RefusedRounds = codes "Rounds refused for want of memory since the start."
 help_text of.Sessions = codes "Sessions begun at the node since the start."
 help_text of.Doors = codes "Doors of the node."
 help_text of.BusyDoors = codes "Doors of the node that serve a session."
@@ -91,6 +93,7 @@ kind_text of.Epoch = codes "gauge"
 kind_text of.Layout = codes "gauge"
 kind_text of.Syncs = codes "counter"
 kind_text of.Writing = codes "gauge"
+kind_text of.RefusedRounds = codes "counter"
 kind_text of.Sessions = codes "counter"
 kind_text of.Doors = codes "gauge"
 kind_text of.BusyDoors = codes "gauge"
@@ -148,6 +151,7 @@ value_of of.Epoch node = node.epoch
 value_of of.Layout node = node.layout
 value_of of.Syncs node = node.syncs
 value_of of.Writing node = node.writing
+value_of of.RefusedRounds node = node.refused_rounds
 value_of of.Sessions node = node.sessions
 value_of of.Doors node = node.doors
 value_of of.BusyDoors node = node.busy
@@ -158,7 +162,7 @@ unfoldable pub metrics : List Metric
 metrics =
     of.Failed ∷ of.Hangs ∷ of.Full ∷ of.AtLimit ∷ of.Inputs ∷ of.Durable ∷ of.Sent
     ∷ of.Taken ∷ of.Credit ∷ of.Used ∷ of.Snapshot ∷ of.Renewable ∷ of.Capacity ∷ of.Stands ∷ of.StandsLeft
-    ∷ of.Floors ∷ of.Batches ∷ of.Checkpoints ∷ of.Epoch ∷ of.Layout ∷ of.Syncs ∷ of.Writing ∷ of.Sessions ∷ of.Doors ∷ of.BusyDoors ∷ of.Letters ∷ []
+    ∷ of.Floors ∷ of.Batches ∷ of.Checkpoints ∷ of.Epoch ∷ of.Layout ∷ of.Syncs ∷ of.Writing ∷ of.RefusedRounds ∷ of.Sessions ∷ of.Doors ∷ of.BusyDoors ∷ of.Letters ∷ []
 
 -- ---- the text
 

@@ -50,6 +50,7 @@ fn journal_json(alloc: Global, node: &NodeStatus) -> Result<Value, AllocError>
         "epoch": node.epoch,
         "inputs": node.shown.inputs,
         "layout": node.layout,
+        "refused": node.refused_rounds,
         "renewable": node.renewable,
         "snapshot": node.snapshot,
         "syncs": node.syncs,

@@ -29,6 +29,7 @@ pub enum Metric {
     Layout,
     Syncs,
     Writing,
+    RefusedRounds,
     Sessions,
     Doors,
     BusyDoors,
@@ -36,7 +37,7 @@ pub enum Metric {
 }
 
 /// All of them, in the order in which they are told.
-const METRICS: [Metric; 26] = [
+const METRICS: [Metric; 27] = [
     Metric::Failed,
     Metric::Hangs,
     Metric::Full,
@@ -59,6 +60,7 @@ const METRICS: [Metric; 26] = [
     Metric::Layout,
     Metric::Syncs,
     Metric::Writing,
+    Metric::RefusedRounds,
     Metric::Sessions,
     Metric::Doors,
     Metric::BusyDoors,
@@ -101,6 +103,7 @@ impl Metric {
             Metric::Layout => "cinoweta_journal_layout",
             Metric::Syncs => "cinoweta_syncs_total",
             Metric::Writing => "cinoweta_writing_seconds",
+            Metric::RefusedRounds => "cinoweta_refused_rounds_total",
             Metric::Sessions => "cinoweta_sessions_total",
             Metric::Doors => "cinoweta_doors",
             Metric::BusyDoors => "cinoweta_doors_busy",
@@ -139,6 +142,7 @@ impl Metric {
             Metric::Layout => "Layout of that area.",
             Metric::Syncs => "Syncs of its device since the start.",
             Metric::Writing => "Seconds for which its device has been busy with one of these.",
+            Metric::RefusedRounds => "Rounds refused for want of memory since the start.",
             Metric::Sessions => "Sessions begun at the node since the start.",
             Metric::Doors => "Doors of the node.",
             Metric::BusyDoors => "Doors of the node that serve a session.",
@@ -159,6 +163,7 @@ impl Metric {
             | Metric::Batches
             | Metric::Checkpoints
             | Metric::Syncs
+            | Metric::RefusedRounds
             | Metric::Sessions => "counter",
             _ => "gauge",
         }
@@ -191,6 +196,7 @@ impl Metric {
             Metric::Layout => u64::from(node.layout),
             Metric::Syncs => node.syncs,
             Metric::Writing => node.writing,
+            Metric::RefusedRounds => node.refused_rounds,
             Metric::Sessions => node.sessions,
             Metric::Doors => node.doors,
             Metric::BusyDoors => node.busy,

@@ -57,6 +57,8 @@ pub struct NodeStatus {
     pub checkpoints: u64,
     /// How many syncs of its device it waited for.
     pub syncs: u64,
+    /// How many rounds were refused for want of memory, each of which it tried again.
+    pub refused_rounds: u64,
     /// For how many seconds its device has been busy with the batch or the checkpoint that it writes, 0 where it writes none.
     pub writing: u64,
     /// The refusals that its clients were told.

@@ -9,6 +9,8 @@ mod console;
 #[cfg(test)]
 mod crashes;
 #[cfg(test)]
+mod growths;
+#[cfg(test)]
 mod histories;
 #[cfg(test)]
 mod nodes;

@@ -13,6 +13,7 @@ pub struct Tally {
     batches: AtomicU64,
     checkpoints: AtomicU64,
     syncs: AtomicU64,
+    refused_rounds: AtomicU64,
     sessions: AtomicU64,
     busy: AtomicU64,
     // when its device was given what it writes
@@ -32,6 +33,7 @@ impl Tally {
             batches: AtomicU64::new(0),
             checkpoints: AtomicU64::new(0),
             syncs: AtomicU64::new(0),
+            refused_rounds: AtomicU64::new(0),
             sessions: AtomicU64::new(0),
             busy: AtomicU64::new(0),
             since: Mutex::new(None),
@@ -68,6 +70,11 @@ impl Tally {
         self.syncs.fetch_add(syncs, Ordering::SeqCst);
     }
 
+    /// A round was refused for want of memory.
+    pub fn count_refused_round(&self) {
+        self.refused_rounds.fetch_add(1, Ordering::SeqCst);
+    }
+
     /// A session begins at one of the doors.
     pub fn begin_session(&self) {
         self.sessions.fetch_add(1, Ordering::SeqCst);
@@ -100,6 +107,11 @@ impl Tally {
     /// How many syncs all of these took.
     pub fn syncs(&self) -> u64 {
         self.syncs.load(Ordering::SeqCst)
+    }
+
+    /// How many rounds were refused for want of memory.
+    pub fn refused_rounds(&self) -> u64 {
+        self.refused_rounds.load(Ordering::SeqCst)
     }
 
     /// How many sessions were begun.

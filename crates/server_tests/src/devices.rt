@@ -243,7 +243,26 @@ pub fn serve_three<
     }
 }
 
-/// Stands for one term after the other until the node has failed. Whether it is told so, and asks on.
+/// Whether node 2, whose client this is, stands for this term and leads it, before it fails.
+fn leads_or_fails<R: AllocGlobal + Clock>(rt: &R, stream: &TcpStream, term: u32) -> bool {
+    let mut stand = Vec::new(rt.alloc());
+    let mut who = Vec::new(rt.alloc());
+    if writeln!(stand, "stand red {term} 10").is_err() || writeln!(who, "who red {term}").is_err() {
+        return false;
+    }
+    for _ in 0..5_000 {
+        if answers(stream, &stand, b"no 9 failed") {
+            return false;
+        }
+        if answers(stream, &who, b"leader 2 10") {
+            return true;
+        }
+        rt.sleep(std::time::Duration::from_millis(1));
+    }
+    false
+}
+
+/// Has node 2 elected for one term after the other until it has failed. Whether it is told so, and asks on.
 pub fn stands_until_it_fails<R: AllocGlobal + Clock + Net<Stream = TcpStream>>(
     rt: &R,
     port: u16,
@@ -252,16 +271,13 @@ pub fn stands_until_it_fails<R: AllocGlobal + Clock + Net<Stream = TcpStream>>(
         return false;
     };
     for term in 1..=99u32 {
-        let Ok(line) = format!(in rt.alloc(); "stand red {term} 10\n") else {
-            return false;
-        };
-        if answers(&stream, line.as_bytes(), b"no 9 failed") {
-            return answers(&stream, b"stand blue 1 1\n", b"no 9 failed")
-                && answers(&stream, b"latest green\n", b"none")
-                && answers(&stream, b"bye\n", b"bye");
+        if !leads_or_fails(rt, &stream, term) {
+            break;
         }
     }
-    false
+    answers(&stream, b"stand blue 1 1\n", b"no 9 failed")
+        && answers(&stream, b"latest green\n", b"none")
+        && answers(&stream, b"bye\n", b"bye")
 }
 
 /// Waits until so many bytes are seen, at most five seconds.

@@ -38,7 +38,10 @@ const OPEN: &[Say] = &[
     // a checkpoint would write 42 bytes of counts, 18 of the key, where it stood and leads, and 28 of two messages
     Meanwhile(
         7230,
-        Target("/status", b",\"renewable\":true,\"snapshot\":88,\"syncs\":"),
+        Target(
+            "/status",
+            b",\"refused\":0,\"renewable\":true,\"snapshot\":88,\"syncs\":",
+        ),
     ),
     Meanwhile(
         7230,

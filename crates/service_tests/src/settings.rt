@@ -1,6 +1,6 @@
 // Settings and words, well told and badly.
-use ring_service::{Setting, StartFault, Words, read_settings, read_words};
-use std::alloc::AllocGlobal;
+use ring_service::{Setting, Settings, StartFault, Words, read_settings, read_words};
+use std::alloc::{AllocGlobal, Global};
 use std::process::Abort;
 use std::test::*;
 
@@ -217,4 +217,41 @@ fn words(rt: HostRuntime) {
     for asks in ["--help", "--version"] {
         refuses(&rt, &["ringd", asks], 0, false);
     }
+}
+
+/// These settings, at the second call where the first finds no memory.
+fn settings_at_last(rt: &impl Abort, alloc: Global, text: &str) -> Settings {
+    match read_settings(alloc, text) {
+        Ok(read) => read,
+        Err(fault) => {
+            assert_eq!(rt; fault, StartFault::Memory);
+            read_settings(alloc, text).expect(rt, "ample memory")
+        }
+    }
+}
+
+/// These words ask this, at the second call where the first finds no memory.
+fn asks_at_last(
+    rt: &impl Abort,
+    alloc: Global,
+    words: &'static [&'static str],
+    asked: Words<'static>,
+) {
+    match read_words(alloc, words) {
+        Ok(read) => assert_eq!(rt; read, asked),
+        Err(_) => match read_words(alloc, words) {
+            Ok(read) => assert_eq!(rt; read, asked),
+            Err(_) => panic!(rt; "ample memory"),
+        },
+    }
+}
+
+#[test]
+fn refused_growths(rt: HostRuntime) {
+    let (text, numbers, dir) = READ[0];
+    let read = settings_at_last(&rt, rt.alloc(), text);
+    assert_eq!(rt; (read.nodes, read.port, read.capacity), numbers);
+    assert_eq!(rt; read.dir.as_str(), dir);
+    let (words, asked) = TAKEN[1];
+    asks_at_last(&rt, rt.alloc(), words, asked);
 }

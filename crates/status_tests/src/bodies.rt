@@ -57,7 +57,7 @@ fn status(rt: HostRuntime) -> Result<(), Fail> {
     assert_eq!(rt;
         status_json(rt.alloc(), &ring)?.as_str(),
         "{\"dir\":\"a\\\"b\",\"nodes\":[{\"journal\":{\"batches\":5,\"capacity\":65536,\"checkpoints\":13,\"durable\":29,\
-         \"epoch\":14,\"inputs\":30,\"layout\":3,\"renewable\":true,\"snapshot\":345,\"syncs\":6,\"used\":1234,\"writing\":12},\"messages\":{\"credit\":10,\"sent\":12,\"taken\":11,\
+         \"epoch\":14,\"inputs\":30,\"layout\":3,\"refused\":16,\"renewable\":true,\"snapshot\":345,\"syncs\":6,\"used\":1234,\"writing\":12},\"messages\":{\"credit\":10,\"sent\":12,\"taken\":11,\
          \"waiting\":9},\"node\":2,\"port\":7102,\"sessions\":{\"begun\":8,\"busy\":3,\"doors\":4,\"refusals\":[{\"count\":2,\"number\":4},\
          {\"count\":1,\"number\":25}]},\"stands\":{\"floors\":15,\"left\":1017,\"taken\":7},\"state\":\"limit\"}],\
          \"started\":1700000000,\"version\":\"0.1.0\"}"
@@ -98,8 +98,8 @@ fn metrics(rt: HostRuntime) -> Result<(), Fail> {
         nodes: &nodes,
     };
     let text = metrics_text(rt.alloc(), &ring)?;
-    // 28 families of two lines each, a line for each node in 26 of them, two of them with two refusals, and the start
-    assert_eq!(rt; text.as_str().lines().count(), 28 * 2 + 26 * 2 + 2 * 2 + 1);
+    // 29 families of two lines each, a line for each node in 27 of them, two of them with two refusals, and the start
+    assert_eq!(rt; text.as_str().lines().count(), 29 * 2 + 27 * 2 + 2 * 2 + 1);
     for part in [
         "# HELP cinoweta_start_time_seconds When the program was started, in Unix time.\n# TYPE \
          cinoweta_start_time_seconds gauge\ncinoweta_start_time_seconds 1700000000\n",
@@ -107,6 +107,8 @@ fn metrics(rt: HostRuntime) -> Result<(), Fail> {
          gauge\ncinoweta_node_full{node=\"1\"} 0\ncinoweta_node_full{node=\"2\"} 1\n",
         "# HELP cinoweta_writing_seconds Seconds for which its device has been busy with one of these.\n# TYPE \
          cinoweta_writing_seconds gauge\ncinoweta_writing_seconds{node=\"1\"} 12\n",
+        "# HELP cinoweta_refused_rounds_total Rounds refused for want of memory since the start.\n# TYPE \
+         cinoweta_refused_rounds_total counter\ncinoweta_refused_rounds_total{node=\"1\"} 16\n",
         "# HELP cinoweta_floors Groups with a floor, below which terms are retired.\n# TYPE cinoweta_floors \
          gauge\ncinoweta_floors{node=\"1\"} 15\ncinoweta_floors{node=\"2\"} 15\n",
         "# TYPE cinoweta_stands gauge\ncinoweta_stands{node=\"1\"} 7\n",

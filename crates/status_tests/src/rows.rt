@@ -44,6 +44,7 @@ pub fn node(
         layout: 3,
         checkpoints: 13,
         syncs: 6,
+        refused_rounds: 16,
         writing: 12,
         refusals,
         sessions: 8,

@@ -5,7 +5,7 @@ use super::pieces::one_area;
 use super::*;
 
 /// Changes of row `fresh_journal`.
-static CHANGED: [Row; 8] = [
+static CHANGED: [Row; 11] = [
     (&[], Reads(0, 1)),
     // The gate and the layout of the area.
     (&[(16, 0)], Damaged(16)),
@@ -18,6 +18,10 @@ static CHANGED: [Row; 8] = [
     (&[(29, 43)], Damaged(16)),
     // An open gate with nothing behind it.
     (&[(72, 1)], Damaged(72)),
+    // The mark of a journal that began without areas: area A counts, or its gate is closed, or it is of no layout.
+    (&[(7, b'1')], Reads(0, 1)),
+    (&[(7, b'1'), (16, 0)], Reads(0, 0)),
+    (&[(7, b'1'), (17, 1)], Damaged(16)),
 ];
 
 /// This image is read so by node 1, and so by any other.

@@ -11,13 +11,25 @@ use ring_records::Refusal::Damaged;
 /// How many inputs are read of an area, those that are summarised among them, and the offset of the closed gate.
 pub type Answer = Result<(u64, u64), Refusal>;
 
+/// What the reader makes of the next bytes, at the second call where the first finds no memory.
+fn feeds_at_last(reader: &mut AreaReader, piece: &[u8]) -> Result<Fed, Refusal>
+    requires room { reader.old.offset + (length reader.old.bytes + length piece.now) < 2 ^ 64 }
+    ensures offset { reader.new.offset ≡ reader.old.offset }
+    ensures size { length reader.new.bytes ≤ length reader.old.bytes + length piece.now }
+{
+    match reader.feed(piece) {
+        Err(Refusal::OutOfMemory) => reader.feed(piece),
+        told => told,
+    }
+}
+
 /// Whether it asks for more behind the next bytes: then it keeps 2,246 bytes at most, and else none.
 fn goes_on(rt: &impl Abort, reader: &mut AreaReader, piece: &[u8]) -> bool
     requires room { reader.old.offset + (length reader.old.bytes + length piece.now) < 2 ^ 64 }
     ensures offset { reader.new.offset ≡ reader.old.offset }
     ensures size { length reader.new.bytes ≤ length reader.old.bytes + length piece.now }
 {
-    let told = reader.feed(piece);
+    let told = feeds_at_last(reader, piece);
     assert!(rt; told != Err(Refusal::OutOfMemory));
     let goes_on = told == Ok(Fed::More);
     let most = if goes_on { 2246 } else { 0 };
@@ -64,6 +76,14 @@ fn one_commit_in_pieces(rt: HostRuntime) {
         let (area, _) = fed(&rt, LAYOUT, 16, &COMMITTED[16..], &[size]);
         assert_eq!(rt; area, Ok((1, 92)), "{size}");
     }
+}
+
+#[test]
+fn refused_growths(rt: HostRuntime) {
+    let (area, _) = fed(&rt, LAYOUT, 16, &COMMITTED[16..], &[7]);
+    assert_eq!(rt; area, Ok((1, 92)));
+    let (area, _) = fed(&rt, LAYOUT, AREA_B, &SECOND, &[7]);
+    assert_eq!(rt; area, Ok((1, AREA_B + 83)));
 }
 
 /// Changes of area A of row `one_commit` with sevens behind it, behind how many of its bytes more is asked for, and what is

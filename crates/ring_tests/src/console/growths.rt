@@ -1,5 +1,5 @@
 // A script of which a growth is refused.
-use crate::console::session::{Line, Session};
+use crate::console::session::{FIRST_ELECTION, Line, Session};
 use script_run::{RunFault, run};
 use std::alloc::{AllocGlobal, Global};
 use std::process::Abort;
@@ -16,10 +16,10 @@ const AUDITED: &[Line] = &[
 ];
 
 // The session; where a growth is refused it is made again.
-fn session<R: Abort + AllocGlobal>(rt: &R) -> Session {
-    match Session::of(rt.alloc(), AUDITED) {
+fn session<R: Abort + AllocGlobal>(rt: &R, lines: &[Line]) -> Session {
+    match Session::of(rt.alloc(), lines) {
         Ok(session) => session,
-        Err(_) => Session::of(rt.alloc(), AUDITED).expect(rt, "ample memory"),
+        Err(_) => Session::of(rt.alloc(), lines).expect(rt, "ample memory"),
     }
 }
 
@@ -47,12 +47,22 @@ fn prints<R: Abort + AllocGlobal>(rt: &R, session: &Session) -> Result<u64, RunF
     answer
 }
 
+// The script prints its text, at the second run where the first is refused a growth, and has so many lines.
+fn prints_at_last<R: Abort + AllocGlobal>(rt: &R, lines: &[Line], count: u64) {
+    let session = session(rt, lines);
+    let mut answer = prints(rt, &session);
+    if answer == Err(RunFault::Memory) {
+        answer = prints(rt, &session);
+    }
+    assert_eq!(rt; answer, Ok(count));
+}
+
 #[test]
 fn refused_growths(rt: HostRuntime) {
-    let session = session(&rt);
-    let mut answer = prints(&rt, &session);
-    if answer == Err(RunFault::Memory) {
-        answer = prints(&rt, &session);
-    }
-    assert_eq!(rt; answer, Ok(7));
+    prints_at_last(&rt, AUDITED, 7);
+}
+
+#[test]
+fn refused_growths_of_a_first_election(rt: HostRuntime) {
+    prints_at_last(&rt, FIRST_ELECTION, 8);
 }

@@ -1,4 +1,4 @@
-use Rattle.std.proofs.Common.{◌≡◌, ◌+◌, ◌++◌, List, length, below_more, arith}
+use Rattle.std.proofs.Common.{◌+◌, ◌++◌, List, length, below_more, arith}
 use Rattle.ring_records.specs.declared.input.Input.{Input}
 use Rattle.group_commit.specs.Desk.{DeskKept}
 use Rattle.ring_server.specs.Fits.{found_as, opening_of, history}

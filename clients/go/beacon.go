@@ -1,0 +1,129 @@
+package cinoweta
+
+import (
+	"context"
+	"errors"
+	"fmt"
+	"net"
+	"os"
+	"strconv"
+	"strings"
+	"time"
+	"unicode"
+	"unicode/utf8"
+)
+
+const (
+	// A bid is rank * bidRank + port * bidSpread + a random number below bidSpread.
+	bidRank, bidSpread = 100_000_000, 1_525
+	// The lines that a beacon takes, and what it tells of its holder, are no longer, in bytes.
+	longestQuestion, longestText = 32, 200
+	// So long a beacon waits for one client.
+	beaconLimit = 500 * time.Millisecond
+)
+
+// portOf is the port that a bid names, which may be none.
+func portOf(bid int) int {
+	return bid % bidRank / bidSpread
+}
+
+// A beacon answers at a port of 127.0.0.1 while this process runs, and is neither paused nor killed: to its bid with
+// its bid, and to `holder` and its bid with the process and the text too. So others see whether who leads is still
+// there, which the ring does not tell; they are on one host.
+type beacon struct {
+	bid      int
+	listener net.Listener
+	answers  map[string]string
+}
+
+func newBeacon(rank int, text string) (*beacon, error) {
+	if rank < 0 || rank > 9 {
+		return nil, errors.New("cinoweta: a lock's rank is 0 to 9")
+	}
+	if !isLine(text) || len(text) > longestText {
+		return nil, errors.New("cinoweta: a holder's text is one printable line of 200 bytes at most")
+	}
+	number, err := randomBelow(bidSpread)
+	if err != nil {
+		return nil, err
+	}
+	listener, err := net.Listen("tcp", address(0))
+	if err != nil {
+		return nil, fmt.Errorf("cinoweta: %w", err)
+	}
+	bid := rank*bidRank + listener.Addr().(*net.TCPAddr).Port*bidSpread + number
+	own := strconv.Itoa(bid)
+	answers := map[string]string{own: own, "holder " + own: fmt.Sprintf("%s %d %s", own, os.Getpid(), text)}
+	made := &beacon{bid, listener, answers}
+	go made.serve()
+	return made, nil
+}
+
+// serve answers until the beacon is closed.
+func (b *beacon) serve() {
+	for {
+		conn, err := b.listener.Accept()
+		if errors.Is(err, net.ErrClosed) {
+			return
+		}
+		if err != nil {
+			// Descriptors are wanting, say.
+			time.Sleep(shortestPause)
+			continue
+		}
+		b.answer(conn)
+	}
+}
+
+func (b *beacon) answer(conn net.Conn) {
+	defer conn.Close()
+	conn.SetDeadline(time.Now().Add(beaconLimit))
+	asked := make([]byte, longestQuestion)
+	count, _ := conn.Read(asked)
+	line := strings.TrimSuffix(string(asked[:count]), "\n")
+	if answer, isKnown := b.answers[line]; isKnown && len(line) < count {
+		conn.Write([]byte(answer + "\n"))
+	}
+}
+
+// close ends the beacon, and its goroutine with it.
+func (b *beacon) close() {
+	b.listener.Close()
+}
+
+// isLine tells whether a text may be printed on one line.
+func isLine(text string) bool {
+	for _, letter := range text {
+		if !unicode.IsPrint(letter) {
+			return false
+		}
+	}
+	return utf8.ValidString(text)
+}
+
+// askBeacon gives what the beacon of this bid answers to a line within so long; nothing where it does not.
+func askBeacon(ctx context.Context, bid int, line string, limit time.Duration) string {
+	ctx, cancel := context.WithTimeout(ctx, limit)
+	defer cancel()
+	conn, err := dial(ctx, portOf(bid), limit)
+	if err != nil {
+		return ""
+	}
+	defer conn.Close()
+	// Where nobody listens, the system may join a connection to itself, which would answer all that is sent.
+	if conn.LocalAddr().String() == conn.RemoteAddr().String() {
+		return ""
+	}
+	defer endWith(ctx, conn)()
+	answer, err := exchange(conn, line+"\n", longestQuestion+longestText)
+	if err != nil {
+		return ""
+	}
+	return answer
+}
+
+// isThere tells whether who stood with this bid answers within so long. Where the context is over, nobody knows.
+func isThere(ctx context.Context, bid int, limit time.Duration) bool {
+	line := strconv.Itoa(bid)
+	return askBeacon(ctx, bid, line, limit) == line
+}

@@ -1,0 +1,198 @@
+package cinoweta
+
+import (
+	"context"
+	"errors"
+	"fmt"
+	"time"
+)
+
+const (
+	// DefaultTerms is for how many terms a campaign stands at most.
+	DefaultTerms = 3
+	// DefaultWait is how long it waits in each.
+	DefaultWait = 5 * time.Second
+	// DefaultKeep is how many terms below its own who leads keeps.
+	DefaultKeep = 10
+
+	// So long who leads waits for a node that is to retire the others.
+	retireLimit = time.Second
+)
+
+// CampaignOptions are how to campaign. The zero value stands at any node, where no leader is known.
+type CampaignOptions struct {
+	// Gone is the term of the leader that is taken for gone, 0 for none. A later one is never put aside.
+	Gone int
+	// Rank, 0 to 999, is the upper digits of the bid: of who stands at once the greatest leads.
+	Rank int
+	// Node is where it stands, or AnyNode.
+	Node int
+	// Terms is for how many terms it stands at most; DefaultTerms where it is 0.
+	Terms int
+	// Wait is how long it waits in each; DefaultWait where it is 0.
+	Wait time.Duration
+	// Keep is how many terms below its own are kept; DefaultKeep where it is 0.
+	Keep int
+}
+
+// Campaign gives the leader of the first term above the one that is gone which comes to have one. Who calls stands for
+// it where he may, with a bid of this call alone. Where no leader comes to be known in time, a [NoLeaderError]; a
+// [RefusedError] where no Stand is taken any more. Who leads has all nodes that do retire the terms that are not kept.
+func (r *Ring) Campaign(ctx context.Context, group string, how CampaignOptions) (Election, error) {
+	bid, err := randomBid(how.Rank)
+	if err != nil {
+		return Election{}, err
+	}
+	campaign, err := newCampaign(r, group, bid, how)
+	if err != nil {
+		return Election{}, err
+	}
+	defer r.release(ctx)
+	return campaign.run(ctx)
+}
+
+// A campaign stands for one term after the other, each with one bid, until one above the one that is gone has a leader.
+type campaign struct {
+	ring  *Ring
+	group string
+	bid   int
+	how   CampaignOptions
+	// The nodes at which it may stand, the first of them first.
+	places []int
+	stood  map[Led]bool
+}
+
+func newCampaign(ring *Ring, group string, bid int, how CampaignOptions) (*campaign, error) {
+	if how.Node < 0 || how.Node > ring.nodes {
+		return nil, errors.New("cinoweta: who campaigns stands at a node of the ring")
+	}
+	if how.Gone < 0 || how.Terms < 0 || how.Wait < 0 || how.Keep < 0 {
+		return nil, errors.New("cinoweta: no number of a campaign is negative")
+	}
+	places, err := placesOf(ring, how.Node)
+	return &campaign{ring, group, bid, how.whole(), places, map[Led]bool{}}, err
+}
+
+// whole has the defaults in place of each 0.
+func (o CampaignOptions) whole() CampaignOptions {
+	if o.Terms == 0 {
+		o.Terms = DefaultTerms
+	}
+	if o.Wait == 0 {
+		o.Wait = DefaultWait
+	}
+	if o.Keep == 0 {
+		o.Keep = DefaultKeep
+	}
+	return o
+}
+
+// placesOf gives this node, or all of them from a random one on.
+func placesOf(ring *Ring, node int) ([]int, error) {
+	if node != AnyNode {
+		return []int{node}, nil
+	}
+	first, err := randomBelow(int64(ring.nodes))
+	places := make([]int, ring.nodes)
+	for step := range places {
+		places[step] = (first+step)%ring.nodes + 1
+	}
+	return places, err
+}
+
+func (c *campaign) run(ctx context.Context) (Election, error) {
+	known, isKnown, err := c.known(ctx)
+	for step := 1; step <= c.how.Terms && !isKnown && err == nil; step++ {
+		if err = c.stand(ctx, c.how.Gone+step); err == nil {
+			known, isKnown, err = c.await(ctx)
+		}
+	}
+	if err != nil {
+		return Election{}, err
+	}
+	if !isKnown {
+		return Election{}, &NoLeaderError{c.group, c.how.Terms, c.how.Gone, c.faults(ctx)}
+	}
+	return c.end(ctx, known)
+}
+
+// end judges who leads, and retires terms where that is who calls.
+func (c *campaign) end(ctx context.Context, known Led) (Election, error) {
+	if c.stood[known] {
+		c.retire(ctx, known.Term-c.how.Keep)
+		return Election{known, true}, nil
+	}
+	for own := range c.stood {
+		if own.Term == known.Term && own.Leader.Bid == known.Leader.Bid {
+			const text = "who stood at node %d leads at node %d: give all ports"
+			return Election{}, &WrongRingError{fmt.Sprintf(text, own.Leader.Node, known.Leader.Node)}
+		}
+	}
+	return Election{known, false}, nil
+}
+
+// retire has each node retire the terms below the floor, but those that refuse or are away. Who leads does so all the
+// same, and they are asked again in a later term.
+func (c *campaign) retire(ctx context.Context, floor int) {
+	// Below term 1 there is none.
+	if floor <= 1 {
+		return
+	}
+	// A session holds one of its node's doors, of which there may be one.
+	c.ring.release(ctx)
+	ring := c.ring.within(retireLimit)
+	defer ring.release(ctx)
+	for node := 1; node <= ring.nodes; node++ {
+		_, _ = ring.Retire(ctx, c.group, floor, node)
+	}
+}
+
+// stand stands for the term where it may. Not where somebody else does, or leads in a greater term, who comes to be
+// known then. A node that stood as often as it may is passed by, where another one may be taken.
+func (c *campaign) stand(ctx context.Context, term int) error {
+	var err error
+	for _, place := range c.places {
+		err = c.ring.Stand(ctx, c.group, term, c.bid, place)
+		if err == nil || isNoAnswer(err) {
+			// Without an answer it may have been accepted, and nobody else has the bid.
+			c.stood[Led{term, Leader{place, c.bid}}] = true
+		}
+		if !errors.Is(err, ErrLimitReached) {
+			break
+		}
+	}
+	for _, cause := range []Refusal{ErrAlreadyStands, ErrLate, ErrStale, ErrRetired} {
+		if errors.Is(err, cause) {
+			return nil
+		}
+	}
+	return err
+}
+
+// await waits until a leader is known, or the time is over.
+func (c *campaign) await(ctx context.Context) (Led, bool, error) {
+	until, cancel := context.WithTimeout(ctx, c.how.Wait)
+	defer cancel()
+	var pause pause
+	for {
+		known, isKnown, err := c.known(ctx)
+		if isKnown || err != nil || !pause.take(until, c.ring) {
+			return known, isKnown, err
+		}
+	}
+}
+
+// known gives the latest leader; false where its term is not above the one that is gone.
+func (c *campaign) known(ctx context.Context) (Led, bool, error) {
+	known, isKnown, err := c.ring.Latest(ctx, c.group, AnyNode)
+	return known, isKnown && known.Term > c.how.Gone, err
+}
+
+// faults tells which nodes are not well, as `node 3 full`, where the ring's status port is known and tells.
+func (c *campaign) faults(ctx context.Context) []string {
+	if c.ring.Status == 0 {
+		return nil
+	}
+	faults, _ := Health(ctx, c.ring.Status)
+	return faults
+}

@@ -1,0 +1,290 @@
+package cinoweta
+
+import (
+	"context"
+	"net/http"
+	"strings"
+	"testing"
+	"time"
+)
+
+// short has a campaign stand at node 1, and wait no longer than it has to.
+func short(how CampaignOptions) CampaignOptions {
+	how.Node, how.Wait = 1, 100*time.Millisecond
+	return how
+}
+
+// elects is a campaign that ends with this election.
+func elects(t *testing.T, ring *Ring, how CampaignOptions, wanted Election) {
+	t.Helper()
+	election, err := ring.Campaign(background(t), "red", short(how))
+	must(t, err)
+	same(t, election, wanted)
+}
+
+func TestACampaignLeads(t *testing.T) {
+	votes := newVotes()
+	ring, _ := beside(t, votes.answer, votes.answer)
+	election, err := ring.Campaign(background(t), "red", short(CampaignOptions{Rank: 3}))
+	must(t, err)
+	same(t, election, Election{Led{1, Leader{1, votes.bid(1)}}, true})
+	same(t, votes.bid(1)/1_000_000, 3)
+	same(t, ring.session == nil, true)
+}
+
+func TestALaterLeaderIsNotPutAside(t *testing.T) {
+	votes := newVotes().lead(4, 2, 30)
+	ring, nodes := beside(t, votes.answer, votes.answer)
+	elects(t, ring, CampaignOptions{Gone: 3}, Election{Led{4, Leader{2, 30}}, false})
+	same(t, len(nodes[0].lines("stand")), 0)
+	election, err := ring.Campaign(background(t), "red", short(CampaignOptions{Gone: 4}))
+	must(t, err)
+	same(t, election.IsMine, true)
+}
+
+func TestOneBidAtOneNodeDoesNotMakeTwoLeaders(t *testing.T) {
+	votes := newVotes()
+	votes.deposed, votes.stood[1] = true, 10
+	ring, _ := beside(t, func(line string) (string, bool) {
+		told, isTold := votes.answer(line)
+		if strings.HasPrefix(line, "stand") {
+			votes.lead(1, 1, 10)
+		}
+		return told, isTold
+	}, votes.answer)
+	campaign, err := newCampaign(ring, "red", 10, short(CampaignOptions{}))
+	must(t, err)
+	election, err := campaign.run(background(t))
+	must(t, err)
+	same(t, election.IsMine, false)
+}
+
+// refuses answers so to each Stand, and knows no leader.
+func refuses(told string) answer {
+	return func(line string) (string, bool) {
+		if strings.HasPrefix(line, "stand") {
+			return told, true
+		}
+		return "none", true
+	}
+}
+
+func TestACampaignStopsWhereNoStandIsTaken(t *testing.T) {
+	for told, cause := range map[string]Refusal{"no 7 full": ErrFull, "no 9 failed": ErrNodeFailed, "no 8 memory": ErrOutOfMemory,
+		"no 15 device 1": ErrDeviceFailed, "no 1 name": ErrBadName, "no 99 new": 99} {
+		ring, nodes := beside(t, refuses(told), refuses(told))
+		_, err := ring.Campaign(background(t), "red", CampaignOptions{})
+		is(t, err, cause)
+		same(t, len(nodes[0].lines("stand"))+len(nodes[1].lines("stand")), 1)
+	}
+}
+
+func TestACampaignGoesToAnotherNodeAtItsLimit(t *testing.T) {
+	ring, nodes := beside(t, refuses("no 6 limit"), refuses("no 6 limit"), refuses("no 6 limit"))
+	_, err := ring.Campaign(background(t), "red", short(CampaignOptions{}))
+	is(t, err, ErrLimitReached)
+	same(t, []int{len(nodes[0].lines("stand")), len(nodes[1].lines("stand"))}, []int{1, 0})
+	_, err = ring.Campaign(background(t), "red", CampaignOptions{})
+	is(t, err, ErrLimitReached)
+	same(t, []int{len(nodes[0].lines("stand")), len(nodes[1].lines("stand")), len(nodes[2].lines("stand"))}, []int{2, 1, 1})
+	votes := newVotes()
+	ring, _ = beside(t, refuses("no 6 limit"), votes.at(2), refuses("no 6 limit"))
+	ring.place = 2
+	election, err := ring.Campaign(background(t), "red", CampaignOptions{})
+	must(t, err)
+	same(t, election, Election{Led{1, Leader{2, votes.bid(1)}}, true})
+}
+
+func TestTheSameTermsAreStoodForAgain(t *testing.T) {
+	votes := newVotes()
+	votes.deposed = true
+	ring, nodes := beside(t, votes.answer, votes.answer)
+	for range make([]struct{}, 2) {
+		_, err := ring.Campaign(background(t), "red", short(CampaignOptions{Gone: 6, Terms: 2}))
+		as[*NoLeaderError](t, err)
+	}
+	terms := []string{}
+	for _, line := range nodes[0].lines("stand") {
+		terms = append(terms, strings.Fields(line)[2])
+	}
+	same(t, terms, []string{"7", "8", "7", "8"})
+}
+
+func TestWhoIsNotWellIsToldWhereNobodyComesToLead(t *testing.T) {
+	votes := newVotes()
+	votes.deposed = true
+	ring, _ := beside(t, votes.answer, votes.answer)
+	failed, well := page{http.StatusServiceUnavailable, "node 2 failed\nnode 3 full\n"}, page{http.StatusOK, "well\n"}
+	for _, row := range []struct {
+		port   int
+		faults string
+	}{
+		{status(t, pages{"/health": failed}), ": node 2 failed, node 3 full"},
+		{status(t, pages{"/health": well}), ""},
+		{1, ""},
+		{0, ""},
+	} {
+		ring.Status = row.port
+		_, err := ring.Campaign(background(t), "red", short(CampaignOptions{}))
+		same(t, as[*NoLeaderError](t, err), "cinoweta: red: no leader in 3 terms above 0"+row.faults)
+	}
+}
+
+func TestWhoMayNotStandFollows(t *testing.T) {
+	for _, told := range []string{"no 3 already 30", "no 4 late", "no 5 stale 9", "no 23 retired 8"} {
+		ring, nodes := beside(t, first("none", told, "none", "term 9 leader 2 30"), deaf)
+		elects(t, ring, CampaignOptions{}, Election{Led{9, Leader{2, 30}}, false})
+		same(t, len(nodes[0].lines("stand")), 1)
+	}
+}
+
+func TestWhoLeadsRetiresTheTermsFarBelow(t *testing.T) {
+	all := []*votes{newVotes().lead(14, 1, 30), newVotes().lead(14, 1, 30), newVotes().lead(14, 1, 30)}
+	ring, nodes := beside(t, all[0].answer, all[1].answer, all[2].answer)
+	floors := func() []int { return []int{all[0].floor, all[1].floor, all[2].floor} }
+	// The others have not heard yet who leads in term 15, but know enough.
+	election, err := ring.Campaign(background(t), "red", short(CampaignOptions{Gone: 14}))
+	must(t, err)
+	same(t, election.IsMine, true)
+	for _, node := range nodes {
+		same(t, node.lines("retire"), []string{"retire red 5"})
+	}
+	same(t, floors(), []int{5, 5, 5})
+	_, err = ring.Campaign(background(t), "red", short(CampaignOptions{Gone: 15, Keep: 1}))
+	must(t, err)
+	same(t, floors(), []int{15, 5, 5})
+}
+
+func TestWhoLeadsHoldsNoDoorWhileNodesRetire(t *testing.T) {
+	votes, held := newVotes(), make(chan bool, 2)
+	var ring *Ring
+	answer := func(line string) (string, bool) {
+		if strings.HasPrefix(line, "retire") {
+			held <- ring.session != nil
+		}
+		return votes.answer(line)
+	}
+	ring, _ = beside(t, answer, answer)
+	_, err := ring.Campaign(background(t), "red", short(CampaignOptions{Gone: 20}))
+	must(t, err)
+	same(t, []bool{<-held, <-held}, []bool{false, false})
+}
+
+func TestWhoDoesNotLeadOrKeepsAllTermsRetiresNone(t *testing.T) {
+	votes := newVotes()
+	ring, nodes := beside(t, votes.answer, votes.answer)
+	for _, how := range []CampaignOptions{{Gone: 10}, {Gone: 900, Keep: 900}, {Gone: 20}} {
+		_, err := ring.Campaign(background(t), "red", short(how))
+		must(t, err)
+	}
+	same(t, len(nodes[0].lines("retire"))+len(nodes[1].lines("retire")), 0)
+	for _, how := range []CampaignOptions{{Keep: -1}, {Gone: -1}, {Terms: -1}, {Wait: -1}, {Node: 3}, {Node: -1},
+		{Rank: 1_000}, {Rank: -1}} {
+		if _, err := ring.Campaign(background(t), "red", how); err == nil {
+			t.Fatalf("%+v is taken", how)
+		}
+	}
+}
+
+func TestWhoLeadsDoesSoWhereNodesDoNotRetire(t *testing.T) {
+	votes, told := newVotes(), first("no 25 line", "no 9 failed", "none", "")
+	answer := func(line string) (string, bool) {
+		if strings.HasPrefix(line, "retire") {
+			return told(line)
+		}
+		return votes.answer(line)
+	}
+	ring, nodes := beside(t, answer, answer, answer, answer)
+	election, err := ring.Campaign(background(t), "red", short(CampaignOptions{Gone: 20}))
+	must(t, err)
+	same(t, election.IsMine, true)
+	for _, node := range nodes[:3] {
+		same(t, node.lines("retire"), []string{"retire red 11"})
+	}
+	same(t, len(nodes[3].lines("retire")) > 0, true)
+	same(t, ring.session == nil, true)
+}
+
+func TestAStandWithoutAnAnswerMayLead(t *testing.T) {
+	votes := newVotes()
+	ring, _ := beside(t, func(line string) (string, bool) {
+		told, _ := votes.answer(line)
+		return told, !strings.HasPrefix(line, "stand")
+	}, votes.answer)
+	ring.Timeout = 500 * time.Millisecond
+	campaign, err := newCampaign(ring, "red", 10, short(CampaignOptions{}))
+	must(t, err)
+	_, err = campaign.run(background(t))
+	as[*NoAnswerError](t, err)
+	election, err := campaign.run(background(t))
+	must(t, err)
+	same(t, election, Election{Led{1, Leader{1, 10}}, true})
+}
+
+func TestPortsThatDoNotBeginWithNode1AreSeen(t *testing.T) {
+	votes := newVotes()
+	second := func(line string) (string, bool) {
+		told, _ := votes.answer(line)
+		return strings.Replace(told, "leader 1", "leader 2", 1), true
+	}
+	ring, _ := beside(t, second, second)
+	_, err := ring.Campaign(background(t), "red", short(CampaignOptions{}))
+	as[*WrongRingError](t, err)
+}
+
+func TestACampaignEndsWithItsContext(t *testing.T) {
+	votes := newVotes()
+	votes.deposed = true
+	ring, _ := beside(t, votes.answer, votes.answer)
+	ctx, cancel := context.WithCancel(background(t))
+	time.AfterFunc(300*time.Millisecond, cancel)
+	before := time.Now()
+	_, err := ring.Campaign(ctx, "red", CampaignOptions{})
+	is(t, err, context.Canceled)
+	same(t, time.Since(before) < 3*time.Second, true)
+	same(t, ring.session == nil, true)
+}
+
+func TestWatch(t *testing.T) {
+	told := first("none", "term 2 leader 1 5", "term 2 leader 1 5", "term 1 leader 1 4", "term 4 leader 3 9")
+	ring, _ := beside(t, told, deaf)
+	watch := ring.Watch("red", 1)
+	for _, wanted := range []Led{{2, Leader{1, 5}}, {4, Leader{3, 9}}} {
+		led, err := watch.Next(background(t))
+		must(t, err)
+		same(t, led, wanted)
+	}
+	ring, _ = beside(t, deaf, deaf)
+	ring.Timeout = 500 * time.Millisecond
+	_, err := ring.Watch("red", 0).Next(background(t))
+	as[*NoAnswerError](t, err)
+}
+
+func TestWhoWaitsGivesTheDoorBack(t *testing.T) {
+	ring, nodes := beside(t, always("none"), deaf)
+	ctx, cancel := context.WithTimeout(background(t), time.Second)
+	defer cancel()
+	_, err := ring.Watch("red", 0).Next(ctx)
+	is(t, err, context.DeadlineExceeded)
+	nodes[0].mutex.Lock()
+	defer nodes[0].mutex.Unlock()
+	same(t, len(nodes[0].conns) > 1, true)
+}
+
+func TestAWatchEndsWithItsContext(t *testing.T) {
+	ring, nodes := beside(t, deaf, deaf)
+	watch := ring.Watch("red", 0)
+	for _, answer := range []answer{always("none"), deaf, never(t)} {
+		nodes[0].is(answer)
+		nodes[1].is(answer)
+		for _, length := range []time.Duration{0, 10 * time.Millisecond, 300 * time.Millisecond} {
+			ctx, cancel := context.WithTimeout(background(t), length)
+			before := time.Now()
+			_, err := watch.Next(ctx)
+			cancel()
+			same(t, err, context.DeadlineExceeded)
+			same(t, time.Since(before) < 2*time.Second, true)
+			same(t, ring.session == nil, true)
+		}
+	}
+}

@@ -1,0 +1,3 @@
+module cinoweta
+
+go 1.19

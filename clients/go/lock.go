@@ -1,0 +1,296 @@
+package cinoweta
+
+import (
+	"context"
+	"errors"
+	"fmt"
+	"strconv"
+	"strings"
+	"sync"
+	"time"
+)
+
+const (
+	// DefaultPatience is how long a holder of a lock may be silent before it is taken for gone.
+	DefaultPatience = 5 * time.Second
+
+	// How often is asked whether a lock is lost.
+	lookEvery = time.Second
+)
+
+// LockOptions are how to hold a lock. The zero value will do.
+type LockOptions struct {
+	// Rank is 0 to 9: of who stands at once the greatest leads.
+	Rank int
+	// Patience is after how long a holder that does not answer is gone, as one that is paused; DefaultPatience where
+	// it is 0.
+	Patience time.Duration
+	// Text is what others are told of this holder: a printable line of 200 bytes at most.
+	Text string
+	// Keep is how many terms below its own are kept; DefaultKeep where it is 0.
+	Keep int
+	// Tell, if any, is told for whom is waited.
+	Tell func(text string)
+}
+
+// A Lock is that of a group: who leads holds it, in a term of its own, until it resigns, its process ends, or did not
+// answer for some time. Goroutines may share a Lock, and one of them acquires it.
+type Lock struct {
+	ring  *Ring
+	group string
+	how   LockOptions
+	// What looks whether the lock is lost waits for no other question, and is not waited for long.
+	looks *Ring
+	every time.Duration
+	// How long a campaign waits in a term.
+	wait time.Duration
+
+	mutex  sync.Mutex
+	beacon *beacon
+	isHeld bool
+	// The term in which it leads or led, the greatest one that is over for it, and when the ring was asked.
+	term, gone int
+	asked      time.Time
+}
+
+// NewLock gives the lock of the group, which is not held yet.
+func NewLock(ring *Ring, group string, how LockOptions) *Lock {
+	if how.Patience <= 0 {
+		how.Patience = DefaultPatience
+	}
+	return &Lock{ring: ring, group: group, how: how, looks: ring.within(lookEvery), every: lookEvery, wait: DefaultWait}
+}
+
+// Acquire waits until this process leads, or the context is over: then a [LockTakenError] where another process holds
+// the lock. A ring that is away, and answered before, is waited for just so: then a [NoAnswerError].
+func (l *Lock) Acquire(ctx context.Context) error {
+	return l.acquire(ctx, ctx)
+}
+
+// TryAcquire acquires the lock, unless another process holds it: a [LockTakenError].
+func (l *Lock) TryAcquire(ctx context.Context) error {
+	never, cancel := context.WithCancel(ctx)
+	cancel()
+	return l.acquire(ctx, never)
+}
+
+// Run acquires the lock, has work done with the term in which it is held, and resigns. The context of the work ends
+// within some two seconds once the lock is lost: a [LockLostError] then.
+func (l *Lock) Run(ctx context.Context, work func(ctx context.Context, term int) error) error {
+	if err := l.Acquire(ctx); err != nil {
+		return err
+	}
+	defer l.Resign()
+	held, cancel := context.WithCancel(ctx)
+	defer cancel()
+	ended := make(chan error, 1)
+	go func() {
+		defer cancel()
+		ended <- l.awaitLoss(held)
+	}()
+	err := work(held, l.Term())
+	cancel()
+	fault := <-ended
+	if lost, isLost := fault.(*LockLostError); isLost {
+		lost.Err = err
+	}
+	if fault != nil {
+		return fault
+	}
+	return err
+}
+
+// Term is the one in which this process holds the lock, or held it last: a fencing number.
+func (l *Lock) Term() int {
+	l.mutex.Lock()
+	defer l.mutex.Unlock()
+	return l.term
+}
+
+// IsLost tells whether this process does not hold the lock any more: it resigned, or a greater term is known. The ring
+// is asked once a second at most. Where no node answers, or one finds no memory to, nothing is known to be lost.
+func (l *Lock) IsLost(ctx context.Context) (bool, error) {
+	l.mutex.Lock()
+	isHeld, isFresh := l.isHeld, time.Since(l.asked) < l.every
+	l.mutex.Unlock()
+	if !isHeld || isFresh {
+		return !isHeld, nil
+	}
+	known, isKnown, err := l.looks.Latest(ctx, l.group, AnyNode)
+	l.looks.release(ctx)
+	if ended(ctx) == nil && (isNoAnswer(err) || errors.Is(err, ErrOutOfMemory)) {
+		err = nil
+	}
+	l.mutex.Lock()
+	defer l.mutex.Unlock()
+	l.asked = time.Now()
+	if isKnown && known.Term > l.term {
+		l.resign(0)
+	}
+	return !l.isHeld, err
+}
+
+// Resign gives the lock back, if it is held: who waits sees it at once.
+func (l *Lock) Resign() {
+	l.ResignAbove(0)
+}
+
+// ResignAbove gives the lock back. Where this one takes it again its term is above this number, as the one that turned
+// a write away.
+func (l *Lock) ResignAbove(term int) {
+	l.mutex.Lock()
+	defer l.mutex.Unlock()
+	l.resign(term)
+}
+
+func (l *Lock) resign(above int) {
+	for _, over := range []int{l.term, above} {
+		if over > l.gone {
+			l.gone = over
+		}
+	}
+	if l.isHeld {
+		l.isHeld = false
+		l.beacon.close()
+		l.beacon = nil
+	}
+}
+
+// acquire gives up waiting for others once the second context is over.
+func (l *Lock) acquire(ctx, waits context.Context) error {
+	campaign, err := l.begin()
+	if err != nil {
+		return err
+	}
+	defer l.ring.release(ctx)
+	term, err := l.contend(ctx, waits, campaign)
+	l.mutex.Lock()
+	defer l.mutex.Unlock()
+	if err != nil {
+		l.beacon.close()
+		l.beacon = nil
+		return err
+	}
+	l.isHeld, l.term, l.asked = true, term, time.Now()
+	return nil
+}
+
+// begin lights the beacon, for whose bid the campaign is.
+func (l *Lock) begin() (*campaign, error) {
+	l.mutex.Lock()
+	defer l.mutex.Unlock()
+	if l.beacon != nil {
+		return nil, fmt.Errorf("cinoweta: %s: the lock is held, or waited for", l.group)
+	}
+	beacon, err := newBeacon(l.how.Rank, l.how.Text)
+	if err != nil {
+		return nil, err
+	}
+	how := CampaignOptions{Gone: l.gone, Wait: l.wait, Keep: l.how.Keep}
+	campaign, err := newCampaign(l.ring, l.group, beacon.bid, how)
+	if err != nil {
+		beacon.close()
+		return nil, err
+	}
+	l.beacon = beacon
+	return campaign, nil
+}
+
+// contend stands for the term above that of each holder that is gone, until it leads itself, and gives that term.
+func (l *Lock) contend(ctx, waits context.Context, campaign *campaign) (int, error) {
+	var pause pause
+	for {
+		election, err := campaign.run(ctx)
+		switch {
+		case err == nil && election.IsMine:
+			return election.Term, nil
+		case err == nil:
+			if err := l.awaitEnd(ctx, waits, election.Led, &pause); err != nil {
+				return 0, err
+			}
+			campaign.how.Gone = election.Term
+		case isNoAnswer(err) && l.ring.hasAnswered.Load() && pause.take(waits, l.ring):
+			l.tell("waits for the ring: " + err.Error())
+		default:
+			return 0, err
+		}
+	}
+}
+
+// awaitEnd waits until who leads so is gone.
+func (l *Lock) awaitEnd(ctx, waits context.Context, known Led, pause *pause) error {
+	l.ring.release(ctx)
+	bid := known.Leader.Bid
+	if !isThere(ctx, bid, l.how.Patience) {
+		return ended(ctx)
+	}
+	holder, isTold := holderOf(ctx, known, l.how.Patience)
+	if !isTold {
+		holder = Holder{Led: known}
+	}
+	l.tell("waits for " + holder.String())
+	for pause.take(waits, l.ring) {
+		if !isThere(ctx, bid, l.how.Patience) && ended(ctx) == nil {
+			return nil
+		}
+	}
+	return &LockTakenError{l.group, holder, ended(ctx)}
+}
+
+// awaitLoss looks whether the lock is lost until it is, or the context is over.
+func (l *Lock) awaitLoss(ctx context.Context) error {
+	ticker := time.NewTicker(l.every)
+	defer ticker.Stop()
+	for {
+		select {
+		case <-ctx.Done():
+			return nil
+		case <-ticker.C:
+		}
+		isLost, err := l.IsLost(ctx)
+		if isLost {
+			return &LockLostError{Group: l.group, Term: l.Term()}
+		}
+		if err != nil && ctx.Err() == nil {
+			return err
+		}
+	}
+}
+
+func (l *Lock) tell(text string) {
+	if l.how.Tell != nil {
+		l.how.Tell(text)
+	}
+}
+
+// Holder tells who holds the lock of the group and answers within the patience, DefaultPatience where that is 0; false
+// where nobody does.
+func (r *Ring) Holder(ctx context.Context, group string, patience time.Duration) (Holder, bool, error) {
+	known, isKnown, err := r.Latest(ctx, group, AnyNode)
+	if !isKnown {
+		return Holder{}, false, err
+	}
+	if patience <= 0 {
+		patience = DefaultPatience
+	}
+	holder, isTold := holderOf(ctx, known, patience)
+	if isTold {
+		return holder, true, nil
+	}
+	return Holder{}, false, ended(ctx)
+}
+
+// holderOf gives who leads so, where it holds a lock and answers within so long.
+func holderOf(ctx context.Context, known Led, limit time.Duration) (Holder, bool) {
+	own := strconv.Itoa(known.Leader.Bid)
+	answer := strings.ToValidUTF8(askBeacon(ctx, known.Leader.Bid, "holder "+own, limit), "\uFFFD")
+	words := strings.SplitN(answer, " ", 3)
+	if len(words) < 3 || words[0] != own {
+		return Holder{}, false
+	}
+	process, err := strconv.ParseUint(words[1], 10, 31)
+	if err != nil {
+		return Holder{}, false
+	}
+	return Holder{known, int(process), words[2]}, true
+}

@@ -1,0 +1,350 @@
+package cinoweta
+
+import (
+	"context"
+	"errors"
+	"fmt"
+	"os"
+	"regexp"
+	"strings"
+	"sync"
+	"sync/atomic"
+	"testing"
+	"time"
+)
+
+// lockOf gives a lock of `red`, which is given back at the end of the test.
+func lockOf(t *testing.T, ring *Ring, how LockOptions) *Lock {
+	t.Helper()
+	if how.Patience == 0 {
+		how.Patience = 500 * time.Millisecond
+	}
+	lock := NewLock(ring, "red", how)
+	t.Cleanup(lock.Resign)
+	return lock
+}
+
+// holds tells whether the lock is held.
+func holds(t *testing.T, lock *Lock) bool {
+	t.Helper()
+	isLost, err := lock.IsLost(background(t))
+	must(t, err)
+	return !isLost
+}
+
+// elected gives a ring of two nodes that know the same.
+func elected(t *testing.T) (*Ring, []*node, *votes) {
+	votes := newVotes()
+	ring, nodes := beside(t, votes.at(1), votes.at(2))
+	return ring, nodes, votes
+}
+
+// tells collects what a lock tells of whom it waits for.
+type tells struct {
+	mutex sync.Mutex
+	texts []string
+}
+
+func (s *tells) tell(text string) {
+	s.mutex.Lock()
+	defer s.mutex.Unlock()
+	s.texts = append(s.texts, text)
+}
+
+func (s *tells) all() string {
+	s.mutex.Lock()
+	defer s.mutex.Unlock()
+	return strings.Join(s.texts, "\n")
+}
+
+func TestALockIsHeldWhileItsWorkRuns(t *testing.T) {
+	ring, _, votes := elected(t)
+	lock := lockOf(t, ring, LockOptions{Text: "a worker"})
+	same(t, holds(t, lock), false)
+	must(t, lock.Run(background(t), func(ctx context.Context, term int) error {
+		same(t, []int{term, lock.Term()}, []int{1, 1})
+		same(t, []bool{holds(t, lock), isThere(ctx, votes.bid(1), time.Second)}, []bool{true, true})
+		holder, isHeld, err := ring.Holder(ctx, "red", time.Second)
+		must(t, err)
+		same(t, isHeld, true)
+		same(t, []any{holder.Term, holder.Leader.Bid, holder.PID, holder.Text}, []any{1, votes.bid(1), os.Getpid(), "a worker"})
+		if lock.Acquire(ctx) == nil {
+			t.Error("it is acquired twice")
+		}
+		return nil
+	}))
+	_, isHeld, err := ring.Holder(background(t), "red", time.Second)
+	must(t, err)
+	same(t, []bool{holds(t, lock), isThere(background(t), votes.bid(1), time.Second), isHeld}, []bool{false, false, false})
+	failed := errors.New("the work failed")
+	same(t, lock.Run(background(t), func(_ context.Context, term int) error {
+		same(t, term, 2)
+		return failed
+	}), failed)
+	same(t, ring.session == nil, true)
+}
+
+func TestPatienceIsAboveZero(t *testing.T) {
+	ring, _, _ := elected(t)
+	must(t, lockOf(t, ring, LockOptions{}).Acquire(background(t)))
+	for _, patience := range []time.Duration{0, -1} {
+		as[*LockTakenError](t, NewLock(ring, "red", LockOptions{Patience: patience}).TryAcquire(background(t)))
+		_, isHeld, err := ring.Holder(background(t), "red", patience)
+		must(t, err)
+		same(t, isHeld, true)
+	}
+}
+
+func TestNobodyHoldsALock(t *testing.T) {
+	ring, _, votes := elected(t)
+	for _, bid := range []int{-1, 10, 0, 99_999_999, 999_999_999} {
+		if bid >= 0 {
+			votes.lead(bid+1, 1, bid)
+		}
+		_, isHeld, err := ring.Holder(background(t), "red", 0)
+		must(t, err)
+		same(t, isHeld, false)
+	}
+}
+
+func TestWhoHoldsALockIsToldInTime(t *testing.T) {
+	ring, _, votes := elected(t)
+	must(t, lockOf(t, ring, LockOptions{Text: "nightly"}).Acquire(background(t)))
+	other := lockOf(t, ring, LockOptions{})
+	acquires := map[time.Duration]func(context.Context) error{0: other.TryAcquire, 300 * time.Millisecond: other.Acquire}
+	for wait, acquire := range acquires {
+		ctx, cancel := context.WithTimeout(background(t), wait)
+		if wait == 0 {
+			ctx = background(t)
+		}
+		before := time.Now()
+		err := acquire(ctx)
+		cancel()
+		taken := as[*LockTakenError](t, err)
+		same(t, []any{taken.Group, taken.Holder.PID, taken.Holder.Term}, []any{"red", os.Getpid(), 1})
+		wanted := fmt.Sprintf(`^cinoweta: red: held by process %d \(nightly\), which leads at node \d in term 1$`, os.Getpid())
+		same(t, regexp.MustCompile(wanted).MatchString(err.Error()), true)
+		same(t, errors.Is(err, context.DeadlineExceeded), wait > 0)
+		same(t, errors.Is(err, context.Canceled), false)
+		took := time.Since(before)
+		same(t, took >= wait && took < wait+time.Second, true)
+	}
+	same(t, len(votes.stood), 1)
+	same(t, holds(t, other), false)
+}
+
+func TestALockIsTakenOnceTheHolderResigns(t *testing.T) {
+	ring, _, _ := elected(t)
+	holder, told := lockOf(t, ring, LockOptions{}), tells{}
+	must(t, holder.Acquire(background(t)))
+	time.AfterFunc(300*time.Millisecond, holder.Resign)
+	second := lockOf(t, ring, LockOptions{Tell: func(text string) {
+		told.tell(text)
+		// Who waits holds no door.
+		same(t, ring.session == nil, true)
+	}})
+	must(t, second.Acquire(background(t)))
+	same(t, second.Term(), 2)
+	wanted := fmt.Sprintf(`^waits for process %d, which leads at node \d in term 1$`, os.Getpid())
+	same(t, regexp.MustCompile(wanted).MatchString(told.all()), true)
+}
+
+func TestALeaderThatHoldsNoLockIsGone(t *testing.T) {
+	ring, _, votes := elected(t)
+	// Nobody is at the port of this bid.
+	votes.lead(20, 2, 0)
+	lock := lockOf(t, ring, LockOptions{Keep: 3})
+	must(t, lock.Acquire(background(t)))
+	same(t, []int{lock.Term(), votes.floor}, []int{21, 18})
+}
+
+func TestALockIsHeldWhereNodesDoNotRetire(t *testing.T) {
+	votes := newVotes().lead(20, 2, 0)
+	answer := func(line string) (string, bool) {
+		if strings.HasPrefix(line, "retire") {
+			return "no 7 full", true
+		}
+		return votes.answer(line)
+	}
+	ring, _ := beside(t, answer, func(line string) (string, bool) {
+		if strings.HasPrefix(line, "retire") {
+			return answer(line)
+		}
+		return votes.at(2)(line)
+	})
+	lock := lockOf(t, ring, LockOptions{})
+	must(t, lock.Acquire(background(t)))
+	same(t, []any{lock.Term(), holds(t, lock), votes.floor}, []any{21, true, 0})
+}
+
+func TestARingThatIsAwayIsWaitedFor(t *testing.T) {
+	// The first line asks who leads, the second one stands, the third one asks again.
+	for _, from := range []int{2, 3} {
+		from := from
+		ring, nodes, votes := elected(t)
+		ring.Timeout = 100 * time.Millisecond
+		var lines atomic.Int32
+		for place, node := range nodes {
+			own := votes.at(place + 1)
+			node.is(func(line string) (string, bool) {
+				told, _ := own(line)
+				number := int(lines.Add(1))
+				return told, number < from || number >= 12
+			})
+		}
+		told := tells{}
+		lock := lockOf(t, ring, LockOptions{Tell: told.tell})
+		must(t, lock.Acquire(background(t)))
+		same(t, []any{lock.Term(), holds(t, lock), len(votes.stood)}, []any{1, true, 1})
+		same(t, strings.HasPrefix(told.all(), "waits for the ring"), true)
+	}
+}
+
+func TestARingThatNeverAnsweredIsNotWaitedFor(t *testing.T) {
+	ring, _ := beside(t, deaf, deaf)
+	ring.Timeout = 100 * time.Millisecond
+	lock := lockOf(t, ring, LockOptions{})
+	as[*NoAnswerError](t, lock.Acquire(background(t)))
+	same(t, lock.beacon == nil, true)
+}
+
+func TestWhoTakesALockAgainWaitsForARingThatIsAway(t *testing.T) {
+	ring, nodes, votes := elected(t)
+	ring.Timeout = 100 * time.Millisecond
+	lock := lockOf(t, ring, LockOptions{})
+	must(t, lock.Acquire(background(t)))
+	lock.Resign()
+	for _, node := range nodes {
+		node.is(deaf)
+	}
+	time.AfterFunc(500*time.Millisecond, func() {
+		for place, node := range nodes {
+			node.is(votes.at(place + 1))
+		}
+	})
+	must(t, lock.Acquire(background(t)))
+	same(t, lock.Term(), 2)
+}
+
+func TestARingThatIsAwayIsWaitedForSoLong(t *testing.T) {
+	ring, _ := beside(t, first("none"), deaf)
+	ring.Timeout = 100 * time.Millisecond
+	lock := lockOf(t, ring, LockOptions{})
+	before := time.Now()
+	as[*NoAnswerError](t, lock.TryAcquire(background(t)))
+	same(t, time.Since(before) < time.Second, true)
+	ctx, cancel := context.WithTimeout(background(t), 500*time.Millisecond)
+	defer cancel()
+	before = time.Now()
+	as[*NoAnswerError](t, lock.Acquire(ctx))
+	took := time.Since(before)
+	same(t, took >= 400*time.Millisecond && took < 2*time.Second, true)
+}
+
+func TestARingThatElectsNobodyEndsALock(t *testing.T) {
+	ring, _, votes := elected(t)
+	votes.deposed = true
+	lock := lockOf(t, ring, LockOptions{})
+	lock.wait = 50 * time.Millisecond
+	as[*NoLeaderError](t, lock.Acquire(background(t)))
+	same(t, lock.beacon == nil, true)
+}
+
+func TestALockIsLostOnceAGreaterTermIsKnown(t *testing.T) {
+	ring, nodes, votes := elected(t)
+	ring.Timeout = 500 * time.Millisecond
+	lock := lockOf(t, ring, LockOptions{})
+	must(t, lock.Acquire(background(t)))
+	lock.every = 0
+	memory := always("no 8 memory")
+	for _, answers := range [][]answer{{deaf, deaf}, {memory, memory}, {votes.at(1), votes.at(2)}} {
+		nodes[0].is(answers[0])
+		nodes[1].is(answers[1])
+		same(t, holds(t, lock), true)
+	}
+	votes.lead(2, 2, 5)
+	same(t, holds(t, lock), false)
+	// Another node may not know it yet.
+	nodes[0].is(always("none"))
+	nodes[1].is(always("none"))
+	same(t, holds(t, lock), false)
+	nodes[0].is(votes.at(1))
+	nodes[1].is(votes.at(2))
+	must(t, lock.Acquire(background(t)))
+	same(t, lock.Term(), 3)
+	nodes[0].is(always("HTTP/1.1 400"))
+	nodes[1].is(always("HTTP/1.1 400"))
+	_, err := lock.IsLost(background(t))
+	as[*WrongRingError](t, err)
+}
+
+func TestALookEndsWithItsContext(t *testing.T) {
+	ring, nodes, _ := elected(t)
+	lock := lockOf(t, ring, LockOptions{})
+	must(t, lock.Acquire(background(t)))
+	lock.every = 0
+	nodes[0].is(deaf)
+	nodes[1].is(deaf)
+	ctx, cancel := context.WithTimeout(background(t), 50*time.Millisecond)
+	defer cancel()
+	isLost, err := lock.IsLost(ctx)
+	is(t, err, context.DeadlineExceeded)
+	same(t, isLost, false)
+}
+
+func TestTheRingIsAskedOnceASecond(t *testing.T) {
+	ring, nodes, _ := elected(t)
+	lock := lockOf(t, ring, LockOptions{})
+	must(t, lock.Acquire(background(t)))
+	before := len(nodes[0].lines("")) + len(nodes[1].lines(""))
+	for range make([]struct{}, 1_000) {
+		same(t, holds(t, lock), true)
+	}
+	same(t, len(nodes[0].lines(""))+len(nodes[1].lines("")) <= before+1, true)
+}
+
+func TestTheNextTermIsAboveTheNumberThatTurnedAWriteAway(t *testing.T) {
+	ring, _, _ := elected(t)
+	lock := lockOf(t, ring, LockOptions{})
+	must(t, lock.Acquire(background(t)))
+	lock.ResignAbove(41)
+	same(t, holds(t, lock), false)
+	must(t, lock.Acquire(background(t)))
+	same(t, lock.Term(), 42)
+}
+
+func TestWorkEndsOnceTheLockIsLost(t *testing.T) {
+	ring, nodes, votes := elected(t)
+	lock := lockOf(t, ring, LockOptions{})
+	lock.every = 50 * time.Millisecond
+	work := func(change func()) error {
+		return lock.Run(background(t), func(ctx context.Context, term int) error {
+			change()
+			<-ctx.Done()
+			return ctx.Err()
+		})
+	}
+	err := work(func() { votes.lead(9, 2, 5) })
+	lost := as[*LockLostError](t, err)
+	same(t, []any{lost.Group, lost.Term, lost.Err}, []any{"red", 1, context.Canceled})
+	same(t, err, "cinoweta: red: the lock of term 1 is lost")
+	same(t, as[*LockLostError](t, work(func() { lock.ResignAbove(20) })).Term, 10)
+	as[*WrongRingError](t, work(func() {
+		nodes[0].is(always("HTTP/1.1 400"))
+		nodes[1].is(always("HTTP/1.1 400"))
+	}))
+	same(t, lock.Term(), 21)
+}
+
+func TestWorkEndsWithTheContextOfItsCaller(t *testing.T) {
+	ring, _, votes := elected(t)
+	lock := lockOf(t, ring, LockOptions{})
+	ctx, cancel := context.WithCancel(background(t))
+	err := lock.Run(ctx, func(ctx context.Context, _ int) error {
+		cancel()
+		<-ctx.Done()
+		return ctx.Err()
+	})
+	is(t, err, context.Canceled)
+	same(t, isThere(background(t), votes.bid(1), time.Second), false)
+}

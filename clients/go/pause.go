@@ -1,0 +1,61 @@
+package cinoweta
+
+import (
+	"context"
+	"time"
+)
+
+const (
+	shortestPause, longestPause = 20 * time.Millisecond, time.Second
+	// From this pause on the ring's session is ended first: it holds one of the node's doors, of which there may be one.
+	heldPause = 100 * time.Millisecond
+)
+
+// A pause is one between two looks, twice as long as the one before.
+type pause struct {
+	next time.Duration
+}
+
+// take pauses once, or until the context is over. False, without a pause, once it is.
+func (p *pause) take(ctx context.Context, ring *Ring) bool {
+	if ctx.Err() != nil {
+		return false
+	}
+	p.next = atMost(longestPause, p.next)
+	if p.next < shortestPause {
+		p.next = shortestPause
+	}
+	if p.next >= heldPause {
+		ring.release(ctx)
+	}
+	sleep(ctx, p.next)
+	p.next *= 2
+	return true
+}
+
+// sleep waits so long, or until the context is over.
+func sleep(ctx context.Context, length time.Duration) {
+	timer := time.NewTimer(length)
+	defer timer.Stop()
+	select {
+	case <-timer.C:
+	case <-ctx.Done():
+	}
+}
+
+// ended gives the error of a context that is over, nil else. Its timer may be a moment late, where a connection that
+// has its deadline is not.
+func ended(ctx context.Context) error {
+	if deadline, hasOne := ctx.Deadline(); hasOne && !time.Now().Before(deadline) {
+		<-ctx.Done()
+	}
+	return ctx.Err()
+}
+
+// atMost is the shorter one.
+func atMost(limit, length time.Duration) time.Duration {
+	if length > limit {
+		return limit
+	}
+	return length
+}

@@ -1,0 +1,319 @@
+package cinoweta
+
+import (
+	"context"
+	"errors"
+	"fmt"
+	"os"
+	"regexp"
+	"strconv"
+	"strings"
+	"sync/atomic"
+	"time"
+)
+
+const (
+	// AnyNode stands for whichever node of a ring answers.
+	AnyNode = 0
+	// DefaultTimeout is how long a question is asked.
+	DefaultTimeout = 10 * time.Second
+
+	// An answer is waited for so long before another node is asked.
+	patience = 3 * time.Second
+	// The first pause before that.
+	againPause = 50 * time.Millisecond
+)
+
+var (
+	portsText  = regexp.MustCompile(`^([0-9]{1,5})-([0-9]{1,5})$`)
+	whoText    = regexp.MustCompile(`^leader ([0-9]+) ([0-9]+)$`)
+	latestText = regexp.MustCompile(`^term ([0-9]+) leader ([0-9]+) ([0-9]+)$`)
+)
+
+// A Ring is one of 127.0.0.1, whose nodes listen at ports side by side. Questions are asked of any node, over one
+// session at a time; where one breaks off, of the next node, until Timeout is over: then a [NoAnswerError]. A Stand
+// stays with its node. Goroutines may share a Ring; one waits for the other.
+type Ring struct {
+	// Timeout is how long a question is asked; DefaultTimeout where it is 0.
+	Timeout time.Duration
+	// Status is the port where `ringd --status` tells of the ring, or 0: then a [NoLeaderError] says which node is not
+	// well.
+	Status int
+
+	first, nodes int
+	// Has one place, taken by who asks: the node that is asked next and the session are his.
+	turn    chan struct{}
+	place   int
+	session *session
+
+	// Whether any question was answered, so that there is such a ring.
+	hasAnswered atomic.Bool
+	unanswered  unanswered
+}
+
+// NewRing gives the ring whose node 1 listens at the port first, and the last one at last. Nobody is asked yet.
+func NewRing(first, last int) (*Ring, error) {
+	if first < 1 || first >= last || last > 65_535 || last-first > 15 {
+		return nil, &WrongRingError{fmt.Sprintf("%d-%d: the ports of 2 to 16 nodes are 1 to 65,535", first, last)}
+	}
+	return newRing(first, last-first+1), nil
+}
+
+func newRing(first, nodes int) *Ring {
+	return &Ring{first: first, nodes: nodes, turn: make(chan struct{}, 1), place: 1}
+}
+
+// ParseRing gives the ring of a text as 7101-7103.
+func ParseRing(text string) (*Ring, error) {
+	ports, isSo := numbers(portsText, text)
+	if !isSo {
+		return nil, &WrongRingError{fmt.Sprintf("%q: ports are told as 7101-7103", text)}
+	}
+	return NewRing(ports[0], ports[1])
+}
+
+// RingFromEnv gives the ring of CINOWETA_RING, a text as 7101-7103, with the status port of CINOWETA_STATUS, which may
+// be left out.
+func RingFromEnv() (*Ring, error) {
+	ring, err := ParseRing(os.Getenv("CINOWETA_RING"))
+	if err != nil {
+		return nil, fmt.Errorf("CINOWETA_RING: %w", err)
+	}
+	text := os.Getenv("CINOWETA_STATUS")
+	if text == "" {
+		return ring, nil
+	}
+	port, err := strconv.ParseUint(text, 10, 16)
+	if err != nil {
+		return nil, fmt.Errorf("CINOWETA_STATUS: %w", &WrongRingError{fmt.Sprintf("%q is no port", text)})
+	}
+	ring.Status = int(port)
+	return ring, nil
+}
+
+// Nodes is how many nodes the ring has.
+func (r *Ring) Nodes() int {
+	return r.nodes
+}
+
+// Stand has the node stand for the group and term with this bid, for who asks. Else a [RefusedError]: ErrAlreadyStands,
+// with the same bid too, is of another process, unless this Ring asked before and got no answer.
+func (r *Ring) Stand(ctx context.Context, group string, term, bid, node int) error {
+	line := fmt.Sprintf("stand %s %d %d", group, term, bid)
+	answer, err := r.askNode(ctx, line, node)
+	var refused *RefusedError
+	if errors.As(err, &refused) && refused.Refusal == ErrAlreadyStands &&
+		refused.Text == fmt.Sprintf("already %d", bid) && r.unanswered.has(stood{node, line}) {
+		return nil
+	}
+	if err == nil && answer != "stood" {
+		err = r.wrong(ctx, answer)
+	}
+	return err
+}
+
+// Who tells who leads for the group and term, as far as a node knows; false where it knows nobody.
+func (r *Ring) Who(ctx context.Context, group string, term, node int) (Leader, bool, error) {
+	told, isKnown, err := r.tell(ctx, whoText, fmt.Sprintf("who %s %d", group, term), node)
+	if !isKnown {
+		return Leader{}, false, err
+	}
+	return Leader{told[0], told[1]}, true, nil
+}
+
+// Latest tells the greatest term of the group that has a leader, as far as a node knows, and that leader; false where
+// it knows none.
+func (r *Ring) Latest(ctx context.Context, group string, node int) (Led, bool, error) {
+	told, isKnown, err := r.tell(ctx, latestText, "latest "+group, node)
+	if !isKnown {
+		return Led{}, false, err
+	}
+	return Led{told[0], Leader{told[1], told[2]}}, true, nil
+}
+
+// Retire has the node give up the group's terms below the floor, so that it has room again. It gives its floor from
+// then on: that one, or a greater one that it has already. Else a [RefusedError]: ErrUndecided where the node knows no
+// leader of that term or above.
+func (r *Ring) Retire(ctx context.Context, group string, floor, node int) (int, error) {
+	answer, err := r.askNode(ctx, fmt.Sprintf("retire %s %d", group, floor), node)
+	var refused *RefusedError
+	if errors.As(err, &refused) && refused.Floor() > 0 && refused.Floor() >= floor {
+		return refused.Floor(), nil
+	}
+	if err == nil && answer != "retired" {
+		err = r.wrong(ctx, answer)
+	}
+	if err != nil {
+		return 0, err
+	}
+	return floor, nil
+}
+
+// Close ends the session, if one is open. The next question opens another one.
+func (r *Ring) Close() error {
+	r.release(context.Background())
+	return nil
+}
+
+// tell gives the numbers of an answer of this form; false where it is none.
+func (r *Ring) tell(ctx context.Context, form *regexp.Regexp, line string, node int) ([]int, bool, error) {
+	answer, err := r.ask(ctx, line, node)
+	if err != nil || answer == "none" {
+		return nil, false, err
+	}
+	told, isSo := numbers(form, answer)
+	if !isSo {
+		return nil, false, r.wrong(ctx, answer)
+	}
+	return told, true, nil
+}
+
+// askNode asks a node that is named.
+func (r *Ring) askNode(ctx context.Context, line string, node int) (string, error) {
+	if node == AnyNode {
+		return "", errors.New("cinoweta: which node is asked has to be said")
+	}
+	return r.ask(ctx, line, node)
+}
+
+// ask gives the answer to a line, or the refusal that it is.
+func (r *Ring) ask(ctx context.Context, line string, node int) (string, error) {
+	if strings.Contains(line, "\n") || node < 0 || node > r.nodes {
+		return "", errors.New("cinoweta: a question is one line, to a node of the ring")
+	}
+	if !r.take(ctx) {
+		return "", noAnswer(ctx, address(r.first), nil)
+	}
+	defer r.give()
+	answer, err := r.askAgain(ctx, line, node)
+	if err != nil {
+		return "", err
+	}
+	if refused := refusal(answer); refused != nil {
+		return "", refused
+	}
+	return answer, nil
+}
+
+// askAgain asks this node, or one behind the other, until an answer comes or the time is over.
+func (r *Ring) askAgain(ctx context.Context, line string, node int) (string, error) {
+	until := time.Now().Add(r.timeout())
+	for pause := againPause; ; pause = atMost(longestPause, 2*pause) {
+		place := node
+		if node == AnyNode {
+			place = r.place
+		}
+		answer, err := r.askOnce(ctx, line, place)
+		if err == nil {
+			r.hasAnswered.Store(true)
+			return answer, nil
+		}
+		r.closeSession()
+		if node == AnyNode {
+			r.place = place%r.nodes + 1
+		}
+		isLast := time.Now().Add(pause).After(until)
+		if !isLast {
+			sleep(ctx, pause)
+		}
+		if isLast || ended(ctx) != nil {
+			return "", noAnswer(ctx, address(r.port(place)), err)
+		}
+	}
+}
+
+// askOnce gives the answer of this node, over the session that is open with it, or over a new one.
+func (r *Ring) askOnce(ctx context.Context, line string, place int) (string, error) {
+	limit := atMost(patience, r.timeout())
+	if r.session != nil && r.session.port != r.port(place) {
+		r.closeSession()
+	}
+	if r.session == nil {
+		session, err := openSession(ctx, r.port(place), limit)
+		if err != nil {
+			return "", err
+		}
+		r.session = session
+	}
+	answer, err := r.session.ask(ctx, line, limit)
+	if err != nil && strings.HasPrefix(line, "stand ") {
+		r.unanswered.add(stood{place, line})
+	}
+	return answer, err
+}
+
+// take waits for the turn of who calls. False where the context is over before.
+func (r *Ring) take(ctx context.Context) bool {
+	// Of two that are ready, select takes either.
+	select {
+	case r.turn <- struct{}{}:
+		return true
+	default:
+	}
+	select {
+	case r.turn <- struct{}{}:
+		return true
+	case <-ctx.Done():
+		return false
+	}
+}
+
+func (r *Ring) give() {
+	<-r.turn
+}
+
+// release ends the session, unless somebody asks over it until the context is over.
+func (r *Ring) release(ctx context.Context) {
+	if r.take(ctx) {
+		r.closeSession()
+		r.give()
+	}
+}
+
+// closeSession is called by whose turn it is.
+func (r *Ring) closeSession() {
+	if r.session != nil {
+		r.session.close()
+		r.session = nil
+	}
+}
+
+// within gives the same ring, over sessions of its own, and so that an answer is not waited for longer than that.
+func (r *Ring) within(limit time.Duration) *Ring {
+	ring := newRing(r.first, r.nodes)
+	ring.Timeout = atMost(limit, r.timeout())
+	return ring
+}
+
+func (r *Ring) timeout() time.Duration {
+	if r.Timeout <= 0 {
+		return DefaultTimeout
+	}
+	return r.Timeout
+}
+
+func (r *Ring) port(place int) int {
+	return r.first + place - 1
+}
+
+func (r *Ring) wrong(ctx context.Context, answer string) error {
+	r.release(ctx)
+	return &WrongRingError{fmt.Sprintf("%q is no answer of a node", answer)}
+}
+
+// numbers gives those of a text of this form; false where it is none.
+func numbers(form *regexp.Regexp, text string) ([]int, bool) {
+	words := form.FindStringSubmatch(text)
+	if words == nil {
+		return nil, false
+	}
+	told := make([]int, 0, len(words)-1)
+	for _, word := range words[1:] {
+		number, err := strconv.ParseUint(word, 10, 31)
+		if err != nil {
+			return nil, false
+		}
+		told = append(told, int(number))
+	}
+	return told, true
+}

@@ -1,0 +1,295 @@
+package cinoweta
+
+import (
+	"context"
+	"encoding/json"
+	"fmt"
+	"os"
+	"strings"
+	"syscall"
+	"testing"
+	"time"
+)
+
+// usual is the capacity of a ring where none is said.
+const usual = 65_536
+
+// latest waits until the node knows a leader of the term, and gives it.
+func latest(t *testing.T, ring *Ring, term, node int) Led {
+	t.Helper()
+	var known Led
+	until(t, "the leader", func() bool {
+		var err error
+		known, _, err = ring.Latest(background(t), "red", node)
+		must(t, err)
+		return known.Term >= term
+	})
+	return known
+}
+
+func TestRingdIsAsked(t *testing.T) {
+	ring := serve(t, usual).ring(t)
+	must(t, ring.Stand(background(t), "red", 5, 10, 1))
+	for node := 1; node <= ring.Nodes(); node++ {
+		same(t, latest(t, ring, 5, node), Led{5, Leader{1, 10}})
+		leader, isKnown, err := ring.Who(background(t), "red", 5, node)
+		must(t, err)
+		same(t, []any{leader, isKnown}, []any{Leader{1, 10}, true})
+	}
+	for _, row := range []struct {
+		group           string
+		term, bid, node int
+		cause           Refusal
+	}{{"RED", 5, 10, 1, ErrBadName}, {"red", 0, 10, 1, ErrBadNumber}, {"red", 5, 10, 1, ErrAlreadyStands},
+		{"red", 5, 10, 2, ErrLate}, {"red", 4, 10, 3, ErrStale}, {"red red", 5, 10, 3, ErrBadLine}} {
+		is(t, ring.Stand(background(t), row.group, row.term, row.bid, row.node), row.cause)
+	}
+	_, err := ring.Retire(background(t), "red", 6, 1)
+	is(t, err, ErrUndecided)
+	floor, err := ring.Retire(background(t), "red", 5, 1)
+	must(t, err)
+	same(t, floor, 5)
+	is(t, ring.Stand(background(t), "red", 4, 10, 1), ErrRetired)
+}
+
+func TestRingdTellsOfItself(t *testing.T) {
+	served := serve(t, usual)
+	ring := served.ring(t)
+	is(t, ring.Stand(background(t), "RED", 5, 10, 1), ErrBadName)
+	must(t, ring.Stand(background(t), "red", 5, 10, 1))
+	same(t, latest(t, ring, 5, 3).Term, 5)
+	faults, err := Health(background(t), ring.Status)
+	must(t, err)
+	same(t, len(faults), 0)
+	told, err := Status(background(t), ring.Status)
+	must(t, err)
+	same(t, []any{told.Dir, len(told.Nodes)}, []any{served.dir(), 3})
+	first := told.Nodes[0]
+	same(t, []any{first.Node, first.Port, first.State, first.Stands.Taken}, []any{1, served.first, "well", 1})
+	same(t, first.Sessions.Refusals, []RefusalCount{{ErrBadName, 1}})
+	led, err := Leaders(background(t), ring.Status, 3)
+	must(t, err)
+	same(t, led, []GroupLed{{"red", Led{5, Leader{1, 10}}}})
+	// The types have all that is told.
+	_, text, err := get(background(t), ring.Status, "/status")
+	must(t, err)
+	decoder := json.NewDecoder(strings.NewReader(string(text)))
+	decoder.DisallowUnknownFields()
+	must(t, decoder.Decode(&RingStatus{}))
+}
+
+func TestOfManyThatCampaignAtOnceOneLeads(t *testing.T) {
+	served := serve(t, usual)
+	type ended struct {
+		election Election
+		err      error
+	}
+	for gone := 0; gone < 5; gone++ {
+		all, leads := make(chan ended), map[Led]int{}
+		for range make([]struct{}, 6) {
+			ring := served.ring(t)
+			go func(how CampaignOptions) {
+				election, err := ring.Campaign(context.Background(), "red", how)
+				all <- ended{election, err}
+			}(CampaignOptions{Gone: gone})
+		}
+		mine := 0
+		for range make([]struct{}, 6) {
+			one := <-all
+			must(t, one.err)
+			leads[one.election.Led]++
+			if one.election.IsMine {
+				mine++
+			}
+		}
+		same(t, []int{len(leads), mine}, []int{1, 1})
+	}
+}
+
+func TestAKillOfRingdIsOutlived(t *testing.T) {
+	served := serve(t, usual)
+	ring := served.ring(t)
+	election, err := ring.Campaign(background(t), "red", CampaignOptions{})
+	must(t, err)
+	served.kill()
+	started := make(chan error)
+	time.AfterFunc(500*time.Millisecond, func() { started <- served.start() })
+	// Another node may answer first, and hear of it only now.
+	_, _, err = ring.Latest(background(t), "red", AnyNode)
+	must(t, err)
+	must(t, <-started)
+	same(t, latest(t, ring, 1, 1), election.Led)
+	again, err := ring.Campaign(background(t), "red", CampaignOptions{})
+	must(t, err)
+	same(t, again, Election{election.Led, false})
+}
+
+func TestLeadersAreWatched(t *testing.T) {
+	served := serve(t, usual)
+	ring, watch := served.ring(t), served.ring(t).Watch("red", 0)
+	for gone := 0; gone < 3; gone++ {
+		election, err := ring.Campaign(background(t), "red", CampaignOptions{Gone: gone})
+		must(t, err)
+		led, err := watch.Next(background(t))
+		must(t, err)
+		same(t, led, election.Led)
+	}
+}
+
+// A ring of 4,096 bytes is full by some ninety terms, unless some are retired.
+const small = 4_096
+
+func TestAFullRingIsTold(t *testing.T) {
+	ring := serve(t, small).ring(t)
+	var err error
+	for gone := 0; gone < 200 && err == nil; gone++ {
+		_, err = ring.Campaign(background(t), "red", CampaignOptions{Gone: gone, Node: 1, Keep: 1_000})
+	}
+	is(t, err, ErrFull)
+}
+
+func TestARingThatRetiresIsNeverFull(t *testing.T) {
+	ring := serve(t, small).ring(t)
+	for gone := 0; gone < 200; gone++ {
+		election, err := ring.Campaign(background(t), "red", CampaignOptions{Gone: gone, Node: gone%3 + 1})
+		must(t, err)
+		same(t, election.IsMine, true)
+	}
+	for node := 1; node <= ring.Nodes(); node++ {
+		same(t, latest(t, ring, 200, node).Term, 200)
+		until(t, "a floor", func() bool {
+			floor, err := ring.Retire(background(t), "red", 190, node)
+			return err == nil && floor == 190
+		})
+	}
+}
+
+func TestLocksAreHeldOneBehindTheOther(t *testing.T) {
+	served := serve(t, usual)
+	turns, ended := make(chan int, 8), make(chan error)
+	for range make([]struct{}, 4) {
+		lock := NewLock(served.ring(t), "red", LockOptions{})
+		go func() {
+			ended <- lock.Run(context.Background(), func(_ context.Context, term int) error {
+				turns <- term
+				time.Sleep(300 * time.Millisecond)
+				turns <- -term
+				return nil
+			})
+		}()
+	}
+	for range make([]struct{}, 4) {
+		must(t, <-ended)
+	}
+	before := 0
+	for range make([]struct{}, 4) {
+		term := <-turns
+		same(t, []any{term > before, <-turns}, []any{true, -term})
+		before = term
+	}
+}
+
+func TestWhoIsPausedLosesTheLock(t *testing.T) {
+	served := serve(t, usual)
+	first := served.locker(t)
+	first.tells(t, "term 1")
+	second := served.locker(t)
+	second.tells(t, fmt.Sprintf("waits for process %d (a Go program)", first.command.Process.Pid))
+	second.isSilent(t, 1_500*time.Millisecond)
+	first.signal(t, syscall.SIGSTOP)
+	second.tells(t, "term 2")
+	first.signal(t, syscall.SIGCONT)
+	first.tells(t, "lost 1")
+	second.isSilent(t, 100*time.Millisecond)
+}
+
+func TestWhoIsKilledLosesTheLockAtOnce(t *testing.T) {
+	served := serve(t, usual)
+	first := served.locker(t)
+	first.tells(t, "term 1")
+	lock := NewLock(served.ring(t), "red", LockOptions{Patience: time.Minute})
+	time.AfterFunc(300*time.Millisecond, func() { first.command.Process.Kill() })
+	must(t, lock.Acquire(background(t)))
+	defer lock.Resign()
+	same(t, lock.Term(), 2)
+}
+
+func TestWhoEndsGivesTheLockBack(t *testing.T) {
+	served := serve(t, usual)
+	first := served.locker(t)
+	first.tells(t, "term 1")
+	second := served.locker(t)
+	second.tells(t, "waits for process")
+	first.signal(t, syscall.SIGTERM)
+	first.tells(t, "ended")
+	second.tells(t, "term 2")
+}
+
+func TestARingThatIsDownEndsNoLock(t *testing.T) {
+	served := serve(t, usual)
+	first := served.locker(t)
+	first.tells(t, "term 1")
+	served.kill()
+	first.isSilent(t, 4*time.Second)
+	must(t, served.start())
+	first.isSilent(t, 2*time.Second)
+	holder, isHeld, err := served.ring(t).Holder(background(t), "red", 0)
+	must(t, err)
+	same(t, []any{isHeld, holder.Term, holder.PID}, []any{true, 1, first.command.Process.Pid})
+}
+
+func TestWhoWaitsForALockWaitsForARingThatIsDown(t *testing.T) {
+	served := serve(t, usual)
+	first := served.locker(t)
+	first.tells(t, "term 1")
+	ring, told := served.ring(t), make(chan string, 100)
+	ring.Timeout = 500 * time.Millisecond
+	lock, ended := NewLock(ring, "red", LockOptions{Tell: func(text string) { told <- text }}), make(chan error)
+	go func() { ended <- lock.Acquire(context.Background()) }()
+	same(t, strings.HasPrefix(<-told, "waits for process"), true)
+	served.kill()
+	first.command.Process.Kill()
+	for range make([]struct{}, 3) {
+		same(t, strings.HasPrefix(<-told, "waits for the ring"), true)
+	}
+	must(t, served.start())
+	must(t, <-ended)
+	defer lock.Resign()
+	same(t, lock.Term(), 2)
+}
+
+// The Python package and this one hold the same locks.
+func TestLocksOfPythonAndOfGoExcludeEachOther(t *testing.T) {
+	served := serve(t, usual)
+	ring := served.ring(t)
+	script := []string{"lock", "--patience", "1", "--text", "a job in Python", "red", "--", "sh", "-c",
+		"echo term $CINOWETA_TERM; exec sleep 60"}
+	python := served.python(t, script...)
+	python.tells(t, "term 1")
+	holder, isHeld, err := ring.Holder(background(t), "red", 0)
+	must(t, err)
+	same(t, []any{isHeld, holder.PID, holder.Text}, []any{true, python.command.Process.Pid, "a job in Python"})
+	lock := NewLock(ring, "red", LockOptions{Patience: time.Second, Text: "a job in Go"})
+	same(t, as[*LockTakenError](t, lock.TryAcquire(background(t))).Holder, holder)
+	locker := served.locker(t)
+	locker.tells(t, fmt.Sprintf("waits for process %d (a job in Python)", holder.PID))
+	locker.isSilent(t, 1_500*time.Millisecond)
+	python.signal(t, syscall.SIGSTOP)
+	locker.tells(t, "term 2")
+	python.signal(t, syscall.SIGCONT)
+	python.tells(t, "cinoweta: red: term 1 is over")
+
+	locker.signal(t, syscall.SIGKILL)
+	must(t, lock.Acquire(background(t)))
+	same(t, lock.Term(), 3)
+	told := served.python(t, "holder", "red").tells(t, "term 3")
+	same(t, strings.HasSuffix(told, fmt.Sprintf("process %d a job in Go", os.Getpid())), true)
+	own := fmt.Sprintf("process %d (a job in Go)", os.Getpid())
+	served.python(t, "lock", "--wait", "0", "red", "--", "true").tells(t, "cinoweta: red: held by "+own)
+	python = served.python(t, script...)
+	python.tells(t, "cinoweta: red: waits for "+own)
+	python.isSilent(t, 1_500*time.Millisecond)
+	same(t, holds(t, lock), true)
+	lock.Resign()
+	python.tells(t, "term 4")
+}

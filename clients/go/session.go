@@ -1,0 +1,99 @@
+package cinoweta
+
+import (
+	"context"
+	"errors"
+	"net"
+	"strconv"
+	"strings"
+	"time"
+)
+
+// longestAnswer is more, in bytes, than any answer of a node has.
+const longestAnswer = 256
+
+// A session sends a line to a node, and one line is its answer. What fails ends the session, so that a late answer is
+// never read as that of another line.
+type session struct {
+	port int
+	conn net.Conn
+}
+
+func openSession(ctx context.Context, port int, limit time.Duration) (*session, error) {
+	conn, err := dial(ctx, port, limit)
+	if err != nil {
+		return nil, err
+	}
+	return &session{port, conn}, nil
+}
+
+// ask gives the answer to a line, for which it waits so long.
+func (s *session) ask(ctx context.Context, line string, limit time.Duration) (string, error) {
+	ctx, cancel := context.WithTimeout(ctx, limit)
+	defer cancel()
+	defer endWith(ctx, s.conn)()
+	answer, err := exchange(s.conn, line+"\n", longestAnswer)
+	if err != nil {
+		s.close()
+		return "", err
+	}
+	if strings.Contains(answer, "\n") {
+		s.close()
+		return "", errors.New("more than one line was answered")
+	}
+	return answer, nil
+}
+
+// close ends the session, which gives the node's door back.
+func (s *session) close() {
+	s.conn.Close()
+}
+
+// address is that of a port of this host.
+func address(port int) string {
+	return net.JoinHostPort("127.0.0.1", strconv.Itoa(port))
+}
+
+func dial(ctx context.Context, port int, limit time.Duration) (net.Conn, error) {
+	dialer := net.Dialer{Timeout: limit}
+	return dialer.DialContext(ctx, "tcp", address(port))
+}
+
+// exchange sends what is asked, and gives what is answered up to a last line feed, without it.
+func exchange(conn net.Conn, asked string, longest int) (string, error) {
+	if _, err := conn.Write([]byte(asked)); err != nil {
+		return "", err
+	}
+	answer, part := []byte{}, make([]byte, longest)
+	for {
+		count, err := conn.Read(part)
+		answer = append(answer, part[:count]...)
+		if len(answer) > longest {
+			return "", errors.New("the answer is too long")
+		}
+		if text := string(answer); strings.HasSuffix(text, "\n") {
+			return strings.TrimSuffix(text, "\n"), nil
+		}
+		if err != nil {
+			return "", err
+		}
+	}
+}
+
+// endWith has the reads and writes of a connection end with the context, until the function that it gives is called.
+func endWith(ctx context.Context, conn net.Conn) (release func()) {
+	released, ended := make(chan struct{}), make(chan struct{})
+	go func() {
+		defer close(ended)
+		select {
+		case <-ctx.Done():
+			conn.SetDeadline(time.Unix(1, 0))
+		case <-released:
+		}
+	}()
+	return func() {
+		close(released)
+		<-ended
+		conn.SetDeadline(time.Time{})
+	}
+}

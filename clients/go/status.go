@@ -1,0 +1,186 @@
+package cinoweta
+
+import (
+	"context"
+	"encoding/json"
+	"fmt"
+	"io"
+	"net/http"
+	"strings"
+	"time"
+)
+
+const (
+	// More is read of no answer, in bytes.
+	longestPage = 1 << 20
+	// So long an answer of the status port is waited for.
+	statusLimit = 5 * time.Second
+)
+
+// A RingStatus is what `ringd --status` tells of a ring, its start in Unix time.
+type RingStatus struct {
+	Version string       `json:"version"`
+	Dir     string       `json:"dir"`
+	Started int64        `json:"started"`
+	Nodes   []NodeStatus `json:"nodes"`
+}
+
+// A NodeStatus is what is told of a node. Its state is `well`, or what is not: `limit`, `full`, `hangs` or `failed`.
+type NodeStatus struct {
+	Node     int            `json:"node"`
+	Port     int            `json:"port"`
+	State    string         `json:"state"`
+	Journal  JournalStatus  `json:"journal"`
+	Messages MessagesStatus `json:"messages"`
+	Stands   StandsStatus   `json:"stands"`
+	Sessions SessionsStatus `json:"sessions"`
+}
+
+// A JournalStatus is what a node's journal comes to. docs/OPERATING.md says what the numbers mean, here and below.
+type JournalStatus struct {
+	Batches     int64 `json:"batches"`
+	Capacity    int64 `json:"capacity"`
+	Checkpoints int64 `json:"checkpoints"`
+	Durable     int64 `json:"durable"`
+	Epoch       int64 `json:"epoch"`
+	Inputs      int64 `json:"inputs"`
+	Layout      int64 `json:"layout"`
+	Refused     int64 `json:"refused"`
+	Renewable   bool  `json:"renewable"`
+	Snapshot    int64 `json:"snapshot"`
+	Syncs       int64 `json:"syncs"`
+	Used        int64 `json:"used"`
+	Writing     int64 `json:"writing"`
+}
+
+// A MessagesStatus is what a node's messages come to.
+type MessagesStatus struct {
+	Credit  int64 `json:"credit"`
+	Sent    int64 `json:"sent"`
+	Taken   int64 `json:"taken"`
+	Waiting int64 `json:"waiting"`
+}
+
+// A StandsStatus is what a node's Stands come to.
+type StandsStatus struct {
+	Floors int64 `json:"floors"`
+	Left   int64 `json:"left"`
+	Taken  int64 `json:"taken"`
+}
+
+// A SessionsStatus is what a node's sessions come to.
+type SessionsStatus struct {
+	Begun    int64          `json:"begun"`
+	Busy     int64          `json:"busy"`
+	Doors    int64          `json:"doors"`
+	Refusals []RefusalCount `json:"refusals"`
+}
+
+// A RefusalCount is how often clients were told a refusal.
+type RefusalCount struct {
+	Number Refusal `json:"number"`
+	Count  int64   `json:"count"`
+}
+
+// A GroupLed is a group, its latest term and the leader of that.
+type GroupLed struct {
+	Group string
+	Led
+}
+
+// Health gives a line for each node that is not well, as `node 3 full`, by what `ringd --status` tells at this port;
+// none where all are.
+func Health(ctx context.Context, port int) ([]string, error) {
+	code, text, err := get(ctx, port, "/health")
+	switch {
+	case err != nil:
+		return nil, err
+	case code == http.StatusOK:
+		return nil, nil
+	case code == http.StatusServiceUnavailable:
+		return strings.FieldsFunc(string(text), func(letter rune) bool { return letter == '\n' }), nil
+	default:
+		return nil, noStatus(port, "/health", code)
+	}
+}
+
+// Status gives what is told at this port of the ring and of each node.
+func Status(ctx context.Context, port int) (RingStatus, error) {
+	var told RingStatus
+	err := getJSON(ctx, port, "/status", &told)
+	if err == nil && told.Nodes == nil {
+		err = noStatus(port, "/status", http.StatusOK)
+	}
+	return told, err
+}
+
+// A leadersPage is one of /leaders.
+type leadersPage struct {
+	Leaders []struct {
+		Group           string
+		Term, Node, Bid int
+	}
+	More bool
+}
+
+// Leaders gives each group that a node knows a leader of, in order of name, by what is told at this port.
+func Leaders(ctx context.Context, port, node int) ([]GroupLed, error) {
+	led := []GroupLed{}
+	for path := fmt.Sprintf("/leaders?node=%d", node); ; {
+		var page leadersPage
+		if err := getJSON(ctx, port, path, &page); err != nil {
+			return nil, err
+		}
+		for _, row := range page.Leaders {
+			if row.Group == "" || row.Term == 0 {
+				return nil, noStatus(port, path, http.StatusOK)
+			}
+			led = append(led, GroupLed{row.Group, Led{row.Term, Leader{row.Node, row.Bid}}})
+		}
+		if page.Leaders == nil {
+			return nil, noStatus(port, path, http.StatusOK)
+		}
+		if !page.More || len(page.Leaders) == 0 {
+			return led, nil
+		}
+		path = fmt.Sprintf("/leaders?node=%d&after=%s", node, led[len(led)-1].Group)
+	}
+}
+
+// getJSON reads an answer in JSON.
+func getJSON(ctx context.Context, port int, path string, told any) error {
+	code, text, err := get(ctx, port, path)
+	if err != nil {
+		return err
+	}
+	if code != http.StatusOK || json.Unmarshal(text, told) != nil {
+		return noStatus(port, path, code)
+	}
+	return nil
+}
+
+// get gives the status and the text of an answer.
+func get(ctx context.Context, port int, path string) (int, []byte, error) {
+	limited, cancel := context.WithTimeout(ctx, statusLimit)
+	defer cancel()
+	request, err := http.NewRequestWithContext(limited, http.MethodGet, "http://"+address(port)+path, nil)
+	if err != nil {
+		return 0, nil, fmt.Errorf("cinoweta: %w", err)
+	}
+	// No proxy is asked, and nothing is left open.
+	transport := &http.Transport{DisableKeepAlives: true}
+	answer, err := transport.RoundTrip(request)
+	if err != nil {
+		return 0, nil, noAnswer(ctx, address(port)+path, err)
+	}
+	defer answer.Body.Close()
+	text, err := io.ReadAll(io.LimitReader(answer.Body, longestPage))
+	if err != nil {
+		return 0, nil, noAnswer(ctx, address(port)+path, err)
+	}
+	return answer.StatusCode, text, nil
+}
+
+func noStatus(port int, path string, code int) error {
+	return &WrongRingError{fmt.Sprintf("%s%s answers %d: is it that of ringd --status?", address(port), path, code)}
+}
