@@ -161,15 +161,14 @@ fn stepped(
     is_eager: bool,
     moved: Move,
 ) -> Result<Outcome, Refusal> {
-    let event = moved.event(rt);
     let before = shown(rt, world);
-    match world.step(event) {
-        Err(Refusal::OutOfMemory) if !is_eager && moved.is_request() => {
-            assert!(rt; shown(rt, world) == before);
-            world.step(event)
-        }
-        stepped => stepped,
+    let first = world.step(moved.event(rt));
+    let again = !is_eager && moved.is_request() && matches!(first, Err(Refusal::OutOfMemory));
+    if !again {
+        return first;
     }
+    assert!(rt; shown(rt, world) == before);
+    world.step(moved.event(rt))
 }
 
 /// Whether it happens and brings this, or memory is wanting.
