@@ -2,6 +2,7 @@
 use disk_model::{DeviceFault, OpenFault};
 use ring_audit::AuditFault;
 use ring_records::Refusal;
+use script_run::RunFault;
 use sessions::SessionFault;
 use std::alloc::AllocError;
 use std::io;
@@ -49,6 +50,9 @@ pub enum Fault {
     /// A session did not come to its end.
     #[error("session broke off")]
     Session,
+    /// A script did not come to its end.
+    #[error("{0}")]
+    Script(RunFault),
     /// Histories are not those of a run.
     #[error("histories are no run")]
     Histories,
@@ -100,6 +104,12 @@ impl From<AuditFault> for Fault {
             AuditFault::Memory => Fault::Memory,
             AuditFault::Shape | AuditFault::Stuck { .. } => Fault::Histories,
         }
+    }
+}
+
+impl From<RunFault> for Fault {
+    fn from(fault: RunFault) -> Fault {
+        Fault::Script(fault)
     }
 }
 

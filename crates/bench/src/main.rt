@@ -16,6 +16,7 @@ mod locked;
 mod node_part;
 mod part;
 mod race;
+mod script_part;
 mod sessions_part;
 mod words;
 

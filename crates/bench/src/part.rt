@@ -1,7 +1,7 @@
 // The parts of the service that do works, each in a file of its own.
 use crate::fault::Fault;
 use crate::{
-    audit_part, board_part, core_part, device_part, hub_part, journal_part, node_part,
+    audit_part, board_part, core_part, device_part, hub_part, journal_part, node_part, script_part,
     sessions_part,
 };
 use std::env::Args;
@@ -27,10 +27,12 @@ pub enum Part {
     Hub,
     /// Histories of a ring that are audited.
     Audit,
+    /// A script of random lines.
+    Script,
 }
 
 /// Each part with its word, and what it is told to do.
-pub const PARTS: [(Part, &str, &str); 8] = [
+pub const PARTS: [(Part, &str, &str); 9] = [
     (Part::Core, "core", "INPUTS | retire TERMS FLOOR"),
     (Part::Device, "device", "BYTES WRITES"),
     (
@@ -55,6 +57,7 @@ pub const PARTS: [(Part, &str, &str); 8] = [
         "memory APPENDERS STANDS HUBS | file APPENDERS STANDS HUBS PATH | bare APPENDS PATH",
     ),
     (Part::Audit, "audit", "ELECTIONS"),
+    (Part::Script, "script", "SEED LINES"),
 ];
 
 impl Part {
@@ -84,6 +87,7 @@ impl Part {
             Part::Sessions => sessions_part::run(rt, words),
             Part::Hub => hub_part::run(rt, threads, words),
             Part::Audit => audit_part::run(rt, words),
+            Part::Script => script_part::run(rt, words),
         }
     }
 }

@@ -8,6 +8,12 @@ use Rattle.ring_server.specs.declared.check.Verdict.{Verdict}
 use Rattle.ring_server.specs.declared.check.Verdict.TheVariants as says
 use Rattle.ring_server.specs.Fits.{opening_of}
 
+-- what a look at a ring ends with
+abbrev pub status_of : Verdict → ℕ
+status_of (says.Stuck node place) = 1
+status_of (says.Whole count) = 0
+status_of (says.Dropped node) = 0
+
 module _ {A : Type 0} (desk_in : A → DeskKept) where
   -- the inputs of each node since its opening
   abbrev pub histories : List A → List (List Input)

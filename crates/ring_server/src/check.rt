@@ -1,7 +1,7 @@
 //! What an operator is told of a ring that is stopped.
-ghost use Rattle.std.specs.Prelude.{ℕ, ◌≡◌, ◌≤◌, ◌+◌, length, IfOk, IfSome, IfNone};
+ghost use Rattle.std.specs.Prelude.{ℕ, ◌≡◌, ◌≤◌, ◌+◌, length, IfOk, IfSome, IfNone, OnErr};
 ghost use Rattle.ring_audit.specs.Placement.{lists};
-ghost use Rattle.ring_server.specs.Checks.{histories, AreWhole, IsVerdict, IsFirstDropped};
+ghost use Rattle.ring_server.specs.Checks.{histories, AreWhole, IsVerdict, IsFirstDropped, status_of};
 ghost use Rattle.ring_server.specs.Fits.{found_as, IsInOrder};
 
 use crate::found::Found;
@@ -25,6 +25,18 @@ pub(crate) enum Verdict {
     Dropped(NodeNo),
 }
 
+impl Verdict {
+    /// What `ringd --check` ends with: 1 where the ring is stuck, else 0.
+    fn status(&self) -> u8
+        ensures { result ≡ status_of self.now }
+    {
+        match self {
+            Verdict::Stuck(..) => 1,
+            Verdict::Whole(_) | Verdict::Dropped(_) => 0,
+        }
+    }
+}
+
 /// Prints a line of each node, with how many inputs it accepted and how many of them its snapshot stands for, and one of
 /// what an audit says; then the status to end with. Refused with what was not printed, and where memory was wanting.
 pub(crate) fn tell_ring<V: Device, O: Write>(
@@ -34,15 +46,13 @@ pub(crate) fn tell_ring<V: Device, O: Write>(
 ) -> Result<u8, RunFault>
     requires order { IsInOrder found_as ring.now }
     requires shape { (2 ≤ length ring.now) × (length ring.now ≤ 16) }
+    ensures { IfOk result (λ status. (verdict : Verdict) × IsVerdict found_as ring.now verdict × (status ≡ status_of verdict)) }
 {
     let verdict = audit_ring(alloc, ring)?;
     if print_ring(ring, &verdict, out).is_err() {
         return Err(RunFault::Output);
     }
-    match &verdict {
-        Verdict::Stuck(..) => Ok(1),
-        Verdict::Whole(_) | Verdict::Dropped(_) => Ok(0),
-    }
+    Ok(verdict.status())
 }
 
 fn print_ring<V: Device, O: Write>(
@@ -83,7 +93,8 @@ fn audit_ring<V: Device>(alloc: Global, ring: &[Found<V>]) -> Result<Verdict, Al
 /// What a fault of an audit of a ring's histories tells. The error is that of the allocator.
 fn stuck_by(fault: &AuditFault) -> Result<Verdict, AllocError>
     requires shape { fault.now ≡ AuditFault.Shape → ⊥ }
-    ensures { IfOk result (λ verdict. (node : ℕ) × (place : ℕ) × (fault.now ≡ AuditFault.Stuck node place) × (verdict ≡ Verdict.Stuck node place)) }
+    ensures stuck { IfOk result (λ verdict. (node : ℕ) × (place : ℕ) × (fault.now ≡ AuditFault.Stuck node place) × (verdict ≡ Verdict.Stuck node place)) }
+    ensures memory { OnErr result (fault.now ≡ AuditFault.Memory) }
 {
     match fault {
         AuditFault::Stuck { node, place } => Ok(Verdict::Stuck(*node, *place)),
