@@ -12,7 +12,7 @@ import sys
 PAGE = pathlib.Path(__file__).resolve().parent / "OPERATING.md"
 HEAD = r""".TH RINGD 8
 .SH NAME
-ringd \- a ring of durable nodes on 127.0.0.1 that elect a leader for each group and term
+ringd \- a ring of durable nodes that elect a leader for each group and term
 .SH SYNOPSIS
 .B ringd
 .RB [ \-\-settings " \fIPATH\fR]"
@@ -22,6 +22,7 @@ ringd \- a ring of durable nodes on 127.0.0.1 that elect a leader for each group
 .RB [ \-\-doors " \fIS\fR]"
 .RB [ \-\-idle " \fISECONDS\fR]"
 .RB [ \-\-status " \fIPORT\fR]"
+.RB [ \-\-listen " \fIADDRESS\fR]"
 .br
 .BR "ringd \-\-help" " | " \-\-version
 .SH DESCRIPTION"""

@@ -17,7 +17,7 @@ PARTS = [
     (rb"\r?\n", rb"\r?"),
 ]
 FIELD = (rb"%s+:[\t -~\x80-\xff]*\r?\n" % TOKEN, rb"%s+(?::[\t -~\x80-\xff]*\r?)?|\r?" % TOKEN)
-PAGES = (b"/health", b"/status", b"/metrics")
+PAGES = (b"/live", b"/health", b"/status", b"/metrics")
 
 
 def request(head: bytes) -> int | tuple[bytes, bytes] | None:

@@ -11,6 +11,9 @@ NO_TOML = b"ringd: settings are not TOML\n"
 # What is TOML 1.1, which ringd takes, and may be none to tomllib, which takes 1.0 and Python's dates.
 NEWER = re.compile(rb"\\[xe]|\{[^}]*[,\n]\s*\}|\{[^}]*\n|\d\d:\d\d|0000-|^\xef\xbb\xbf")
 
+MAY_BE = {"nodes": "a number from 2 to 16", "dir": "a path of 1 to 200 printed ASCII characters, none of them a space",
+          "port": "a number from 1 to 65535, as is the port of the last node", "capacity": "a number from 4096 to 1048576"}
+
 
 def holds(value: object, is_bad) -> bool:
     """Whether some value within it is bad."""
@@ -54,10 +57,10 @@ def told(text: bytes) -> tuple[int, bytes, bytes]:
                           ("port", is_within(table.get("port"), 1, last)),
                           ("capacity", is_within(table.get("capacity"), 4_096, 1_048_576))):
         if not is_right:
-            fault = "wrong" if key in table else "missing"
-            return 2, b"", f"ringd: setting {key} is {fault}\n".encode()
+            told = f"wrong\nringd: {key} is {MAY_BE[key]}" if key in table else "missing"
+            return 2, b"", f"ringd: setting {key} is {told}\n".encode()
     if set(table) != {"nodes", "dir", "port", "capacity"}:
-        return 2, b"", b"ringd: a setting is unknown\n"
+        return 2, b"", b"ringd: a setting is unknown\nringd: settings are nodes, dir, port and capacity\n"
     return 0, "".join(f"{key} {table[key]}\n" for key in ("nodes", "dir", "port", "capacity")).encode(), b""
 
 

@@ -5,7 +5,9 @@ import re
 from programs import Kind
 
 NUMBERS = {b"serve": (1, 1_000), b"doors": (1, 32), b"idle": (0, 86_400), b"status": (1, 65_535)}
-FLAGS = {b"always", b"existing", b"fail-stop", b"make"}
+FLAGS = {b"always", b"existing", b"fail-stop", b"make", b"check"}
+TEXTS = {b"settings", b"listen"}
+BYTE = rb"(?:25[0-5]|2[0-4]\d|1\d\d|[1-9]?\d)"
 WRONG, HELP, VERSION, TAKEN = "wrong", "help", "version", "taken"
 
 
@@ -13,6 +15,11 @@ def is_number(value: bytes, low: int, high: int) -> bool:
     """As Rust reads one: digits, behind a plus where there is one."""
     digits = value.removeprefix(b"+")
     return digits.isdigit() and int(digits) < 2**32 and low <= int(digits) <= high
+
+
+def is_address(value: bytes) -> bool:
+    """Four numbers to 255, parted by dots, without leading zeros."""
+    return re.fullmatch(rb"%s(\.%s){3}" % (BYTE, BYTE), value) is not None
 
 
 def outcome(words: list[bytes]) -> str:
@@ -31,7 +38,7 @@ def outcome(words: list[bytes]) -> str:
             if at < len(words):
                 return WRONG
             break
-        if not word.startswith(b"--") or name in said or name not in FLAGS | {b"settings"} | set(NUMBERS):
+        if not word.startswith(b"--") or name in said or name not in FLAGS | TEXTS | set(NUMBERS):
             return WRONG
         if name in FLAGS:
             if equals:
@@ -43,7 +50,11 @@ def outcome(words: list[bytes]) -> str:
         if name in NUMBERS and not is_number(value, *NUMBERS[name]):
             return WRONG
         said[name] = value
-    if b"make" in said and said.keys() & {b"serve", b"always", b"existing"}:
+    if b"make" in said and said.keys() & {b"serve", b"always", b"existing", b"check"}:
+        return WRONG
+    if b"check" in said and said.keys() & {b"serve", b"always"}:
+        return WRONG
+    if not is_address(said.get(b"listen", b"127.0.0.1")):
         return WRONG
     if b"always" in said and b"serve" in said or b"status" in said and int(said.get(b"doors", b"1")) > 31:
         return WRONG
@@ -58,7 +69,7 @@ class Words(Kind):
     def case(self, rng: random.Random) -> list[bytes]:
         case: list[bytes] = []
         for _ in range(rng.choice([0, 1, 2, 2, 3, 3, 4, 6])):
-            name = rng.choice([*NUMBERS, *FLAGS, b"settings", rng.choice([b"help", b"version", b"door", b"Serve", b"", b"fail_stop"])])
+            name = rng.choice([*NUMBERS, *FLAGS, *TEXTS, rng.choice([b"help", b"version", b"door", b"Serve", b"", b"fail_stop"])])
             value = rng.choice(VALUES) if rng.random() < 0.5 else b"%d" % rng.choice(NUMBERS.get(name, (1, 2)))
             if name in FLAGS or name in (b"help", b"version"):
                 case.append(b"--" + name + (b"=" + value if rng.random() < 0.03 else b""))
@@ -95,4 +106,5 @@ class Words(Kind):
 
 
 VALUES = [b"0", b"1", b"32", b"33", b"31", b"1000", b"1001", b"86400", b"86401", b"65535", b"65536", b"4294967296", b"4294967297", b"+5", b"-5", b"05",
-          b"5.0", b" 5", b"", b"x", b"-", b"--", b"1_0", b"0x1", "٣".encode(), b"00000000000000000000001", b"18446744073709551617", b"no/such/file"]
+          b"5.0", b" 5", b"", b"x", b"-", b"--", b"1_0", b"0x1", "٣".encode(), b"00000000000000000000001", b"18446744073709551617", b"no/such/file",
+          b"10.0.0.255", b"0.0.0.0", b"256.1.1.1", b"01.2.3.4", b"1.2.3", b"1.2.3.4.5"]

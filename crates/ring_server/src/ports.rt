@@ -17,15 +17,16 @@ pub(crate) struct Ports {
 }
 
 impl Ports {
-    /// All of them. Refused with the first that is not to be had.
+    /// All of them, at this address. Refused with the first that is not to be had.
     pub(crate) fn listen<R: Clock + Net<Listener = TcpListener, Stream = TcpStream>>(
         rt: &R,
         alloc: Global,
         settings: &Settings,
+        address: Ipv4Addr,
         status: Option<u16>,
     ) -> Result<Ports, RunFault> {
-        let listeners = listen(rt, alloc, settings)?;
-        let (status, clerks) = listen_for_questions(rt, alloc, settings, status)?;
+        let listeners = listen(rt, alloc, settings, address)?;
+        let (status, clerks) = listen_for_questions(rt, alloc, settings, address, status)?;
         Ok(Ports {
             listeners,
             status,
@@ -34,19 +35,29 @@ impl Ports {
     }
 }
 
+/// A listener at this port.
+fn listen_at<R: Net<Listener = TcpListener, Stream = TcpStream>>(
+    rt: &R,
+    address: Ipv4Addr,
+    port: u16,
+) -> Result<TcpListener, RunFault> {
+    match TcpListener::bind(rt, (address, port)) {
+        Ok(listener) => Ok(listener),
+        Err(error) => Err(RunFault::Port(address, port, error.kind())),
+    }
+}
+
 /// Each node listens at a port of its own, the first one at the port that is set.
 fn listen<R: Net<Listener = TcpListener, Stream = TcpStream>>(
     rt: &R,
     alloc: Global,
     settings: &Settings,
+    address: Ipv4Addr,
 ) -> Result<Vec<TcpListener>, RunFault> {
     let mut listeners = Vec::new(alloc);
     for place in 0..settings.nodes {
         let port = settings.port + u16::from(place);
-        match TcpListener::bind(rt, (Ipv4Addr::LOCALHOST, port)) {
-            Ok(listener) => listeners.push(listener)?,
-            Err(_) => return Err(RunFault::Port(port)),
-        }
+        listeners.push(listen_at(rt, address, port)?)?;
     }
     Ok(listeners)
 }
@@ -57,14 +68,13 @@ fn listen_for_questions<R: Clock + Net<Listener = TcpListener, Stream = TcpStrea
     rt: &R,
     alloc: Global,
     settings: &Settings,
+    address: Ipv4Addr,
     port: Option<u16>,
 ) -> Result<(Option<StatusPort>, Vec<Receiver<Inquiry>>), RunFault> {
     let Some(port) = port else {
         return Ok((None, Vec::new(alloc)));
     };
-    let Ok(listener) = TcpListener::bind(rt, (Ipv4Addr::LOCALHOST, port)) else {
-        return Err(RunFault::Port(port));
-    };
+    let listener = listen_at(rt, address, port)?;
     let facts = Facts {
         version: VERSION,
         dir: String::from_str(alloc, settings.dir.as_str())?,

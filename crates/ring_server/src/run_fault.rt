@@ -1,10 +1,11 @@
 //! What ends a run of `ringd` before its end.
 use crate::unopened::Unopened;
 use ring_records::NodeNo;
-use ring_service::StartFault;
+use ring_service::{Setting, StartFault};
 use std::alloc::AllocError;
 use std::io;
-use std::io::Write;
+use std::io::{ErrorKind, Write};
+use std::net::Ipv4Addr;
 use thiserror::Error;
 
 /// Why a run ended early, displayed without the program's name.
@@ -22,9 +23,9 @@ pub enum RunFault {
     /// The histories of two nodes are not of one time.
     #[error("nodes {0} and {1} do not fit")]
     Apart(NodeNo, NodeNo),
-    /// A node's port is in use, or not to be had.
-    #[error("port {0} cannot be used")]
-    Port(u16),
+    /// A node's port at this address is in use, or not to be had, for a cause of this kind.
+    #[error("port {1} cannot be used")]
+    Port(Ipv4Addr, u16, ErrorKind),
     /// A line was not printed.
     #[error("output cannot be written")]
     Output,
@@ -37,10 +38,24 @@ pub enum RunFault {
 }
 
 impl RunFault {
-    /// A line of what the system answered, where a node of this folder was not opened for that.
+    /// A line of what the system answered, where a node of this folder was not opened for that, or a port not had.
     pub(crate) fn print_answer<E: Write>(&self, err: &mut E, dir: &str) -> io::Result<()> {
         match self {
             RunFault::Node(node, why) => why.print(err, dir, *node),
+            RunFault::Port(address, port, kind) => writeln!(err, "ringd: {address}:{port}: {kind}"),
+            _ => Ok(()),
+        }
+    }
+
+    /// A line of what a setting may be, where one is wrong or unknown.
+    pub(crate) fn print_rule<E: Write>(&self, err: &mut E) -> io::Result<()> {
+        match self {
+            RunFault::Start(StartFault::Wrong(setting)) => {
+                writeln!(err, "ringd: {setting} is {}", values_of(*setting))
+            }
+            RunFault::Start(StartFault::Unknown) => {
+                writeln!(err, "ringd: settings are nodes, dir, port and capacity")
+            }
             _ => Ok(()),
         }
     }
@@ -52,5 +67,15 @@ impl RunFault {
             RunFault::Settings | RunFault::Start(_) => 2,
             _ => 1,
         }
+    }
+}
+
+/// What the setting may be.
+fn values_of(setting: Setting) -> &'static str {
+    match setting {
+        Setting::Nodes => "a number from 2 to 16",
+        Setting::Dir => "a path of 1 to 200 printed ASCII characters, none of them a space",
+        Setting::Port => "a number from 1 to 65535, as is the port of the last node",
+        Setting::Capacity => "a number from 4096 to 1048576",
     }
 }

@@ -1,6 +1,8 @@
 -- The words of ringd.
 use Rattle.std.specs.Prelude.{ℕ, Bool, true, false, ◌≡◌, ◌≤◌, List, [], ◌∷◌, Option, Some, None, IsSomeAnd, pos, unwrap_or, codes}
+use Rattle.std.specs.Net.Grammar.{IsIpv4Text}
 use Rattle.std.specs.Str.Parse.{IsNumeral, digits_value, without_leading_plus}
+use Rattle.std.specs.declared.net.ipv4_addr.Ipv4Addr.{Ipv4Addr}
 use Rattle.ring_records.specs.declared.limits.TheConstants.{DOORS}
 use Rattle.clap.specs.Words.{App, HasMatchesOf, Rule, first_value, found_of, new_app, new_rule, one_text, with_rule}
 use Rattle.clap.specs.declared.builder.action.ArgAction.TheVariants.{SetTrue}
@@ -11,6 +13,10 @@ use Rattle.ring_service.specs.declared.words.Words.{Words}
 -- `--settings PATH`, which is `-` where it is not given
 abbrev pub settings_rule : Rule
 settings_rule = record (new_rule (codes "settings")) { long = Some (codes "settings"); value_names = 1; defaults = codes "-" ∷ [] }
+
+-- `--listen ADDRESS`, which is 127.0.0.1 where it is not given
+abbrev pub listen_rule : Rule
+listen_rule = record (new_rule (codes "listen")) { long = Some (codes "listen"); value_names = 1; defaults = codes "127.0.0.1" ∷ [] }
 
 -- `--NAME N`, of the numbers of this range
 abbrev pub number_rule : List ℕ → ℕ → ℕ → Rule
@@ -42,7 +48,7 @@ ringd_app =
     let served = with_rule (with_rule (with_version (new_app (codes "ringd"))) settings_rule) (number_rule (codes "serve") 1 1000) in
     let flags = with_rule (with_rule (with_rule served always_rule) (flag_rule (codes "existing"))) (flag_rule (codes "fail-stop")) in
     let numbers = with_rule (with_rule (with_rule (with_rule flags make_rule) check_rule) (number_rule (codes "doors") 1 DOORS)) (number_rule (codes "idle") 0 86400) in
-    with_rule numbers (number_rule (codes "status") 1 65535)
+    with_rule (with_rule numbers (number_rule (codes "status") 1 65535)) listen_rule
 
 abbrev pub IsIn : ℕ → ℕ → ℕ → Type 0
 IsIn low high n = (low ≤ n) × (n ≤ high)
@@ -65,6 +71,10 @@ IsSaid low high else_this (Some text) n = IsNumber low high text n
 abbrev pub Flag : Option (List ℕ) → Bool → Type 0
 Flag text flag = (text ≡ None → flag ≡ false) × ((text ≡ Some (codes "false") → flag ≡ false) × (text ≡ Some (codes "true") → flag ≡ true))
 
+-- the text spells this IPv4 address
+abbrev pub IsAddress : List ℕ → Ipv4Addr → Type 0
+IsAddress text address = IsIpv4Text text address
+
 -- what clap matches to the words
 pub record AreTold (words : List (List ℕ)) (told : Words) : Type 0 where
   pub matches : ArgMatches
@@ -79,3 +89,4 @@ pub record AreTold (words : List (List ℕ)) (told : Words) : Type 0 where
   pub side_by_side : IsSaid 1 DOORS 1 (one_text (found_of matches) (codes "doors")) told.doors
   pub silence : IsSaid 0 86400 0 (one_text (found_of matches) (codes "idle")) told.idle
   pub told_at : IsMatched 1 65535 (one_text (found_of matches) (codes "status")) told.status
+  pub listens_at : IsAddress (unwrap_or (first_value (found_of matches) (codes "listen")) (codes "127.0.0.1")) told.listen

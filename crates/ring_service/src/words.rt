@@ -2,13 +2,14 @@
 ghost use Rattle.std.specs.Prelude.{◌≡◌, ◌<◌, ◌≤◌, ◌||◌, false, nat_lt, is_none, Option, Some, None, IfOk, IfSome, map, codes, unwrap_or};
 ghost use Rattle.ring_records.specs.declared.limits.TheConstants.{DOORS};
 ghost use Rattle.clap.specs.Words.{app_of, first_value, found_of, one_text, rule_of, with_rule};
-ghost use Rattle.ring_service.specs.Words.{AreTold, Flag, IsIn, IsMatched, IsSaid};
-ghost use Rattle.ring_service.specs.Words.{always_rule, check_rule, flag_rule, make_rule, number_rule, ringd_app, settings_rule};
+ghost use Rattle.ring_service.specs.Words.{AreTold, Flag, IsAddress, IsIn, IsMatched, IsSaid};
+ghost use Rattle.ring_service.specs.Words.{always_rule, check_rule, flag_rule, listen_rule, make_rule, number_rule, ringd_app, settings_rule};
 
 use clap::error::ErrorKind;
 use clap::{Arg, ArgAction, ArgMatches, Command, Error, value_parser};
 use ring_records::DOORS;
 use std::alloc::{AllocError, Global};
+use std::net::Ipv4Addr;
 
 /// The version of the program.
 pub const VERSION: &str = "0.1.0";
@@ -36,14 +37,16 @@ pub struct Words<'a> {
     pub doors: u32,
     /// How many seconds a session may go without a whole line or a whole answer, up to 86,400; 0 is for ever.
     pub idle: u32,
-    /// The port of 127.0.0.1 at which an operator is told of the ring, 1 to 65,535. It takes the place of a door: there
-    /// are at most 31 beside it.
+    /// The port at which an operator is told of the ring, 1 to 65,535. It takes the place of a door: there are at most 31
+    /// beside it.
     pub status: Option<u16>,
+    /// The address of this host at which all of them listen.
+    pub listen: Ipv4Addr,
 }
 
 /// Reads words, of which the first is the program's name: `[--settings PATH] [--serve K | --always | --make
-/// | --check] [--existing] [--fail-stop] [--doors S] [--idle SECONDS] [--status PORT]`. Refused with what is to be printed,
-/// and the status.
+/// | --check] [--existing] [--fail-stop] [--doors S] [--idle SECONDS] [--status PORT] [--listen ADDRESS]`. Refused with what
+/// is to be printed, and the status.
 pub fn read_words<'a>(alloc: Global, words: &'a [&'a str]) -> Result<Words<'a>, Error>
     ensures told { IfOk result (λ w. AreTold (map (λ word. word.now) words.now) w) }
     ensures range { IfOk result (λ w. IfSome w.serve (IsIn 1 1000)) }
@@ -54,7 +57,15 @@ pub fn read_words<'a>(alloc: Global, words: &'a [&'a str]) -> Result<Words<'a>, 
     let matches = command.try_get_matches_from_mut(words)?;
     match words_of(&matches) {
         Ok(told) => Ok(told),
-        Err(kind) => Err(command.error(kind, "a number is out of its range")?),
+        Err(kind) => Err(command.error(kind, objection(kind))?),
+    }
+}
+
+/// What is told of words that `clap` takes, and that are refused so.
+fn objection(kind: ErrorKind) -> &'static str {
+    match kind {
+        ErrorKind::InvalidValue => "--listen takes an IPv4 address, as 127.0.0.1",
+        _ => "--doors takes 1 to 31 beside --status",
     }
 }
 
@@ -193,10 +204,23 @@ fn status_arg<'a>(alloc: Global) -> Arg<'a>
         .value_name("PORT")
         .help_heading("Status")
         .help(
-            "Tells of the ring by HTTP at this port of 127.0.0.1, 1 to 65535: /health, /status, /metrics, /leaders; \
-             with 31 doors at most",
+            "Tells of the ring by HTTP at this port, 1 to 65535: /live, /health, /status, /metrics, /leaders; with 31 \
+             doors at most",
         )
         .value_parser(value_parser!(u32).range(1..=65_535))
+}
+
+/// `--listen ADDRESS`
+fn listen_arg<'a>(alloc: Global) -> Arg<'a>
+    ensures rule { rule_of result ≡ listen_rule }
+    ensures local { result.global ≡ false }
+{
+    Arg::new(alloc, "listen")
+        .long("listen")
+        .value_name("ADDRESS")
+        .help_heading("Ring")
+        .help("Listens at this IPv4 address of the host; who reaches it may ask all, and nothing is encrypted")
+        .default_value("127.0.0.1")
 }
 
 /// The command with one more argument.
@@ -212,7 +236,7 @@ fn command<'a>(alloc: Global) -> Result<Command<'a>, AllocError>
     ensures { IfOk result (λ command. app_of command ≡ ringd_app) }
 {
     let named = Command::new(alloc, "ringd").version(VERSION).about(
-        "A ring of durable nodes on 127.0.0.1 that elect a leader for each group and term",
+        "A ring of durable nodes that elect a leader for each group and term",
     );
     let command = with_arg(named, settings_arg(alloc))?;
     let command = with_arg(command, serve_arg(alloc))?;
@@ -223,7 +247,8 @@ fn command<'a>(alloc: Global) -> Result<Command<'a>, AllocError>
     let command = with_arg(command, check_arg(alloc)?)?;
     let command = with_arg(command, doors_arg(alloc))?;
     let command = with_arg(command, idle_arg(alloc))?;
-    with_arg(command, status_arg(alloc))
+    let command = with_arg(command, status_arg(alloc))?;
+    with_arg(command, listen_arg(alloc))
 }
 
 /// The number that is matched to a word. Refused where what is matched is no number in this range, which the word's
@@ -254,6 +279,20 @@ fn port(matches: &ArgMatches<'_>) -> Result<Option<u16>, ErrorKind>
     }
 }
 
+/// The address that is matched to `--listen`.
+fn address(matches: &ArgMatches<'_>) -> Result<Ipv4Addr, ErrorKind>
+    ensures { IfOk result (IsAddress (unwrap_or (first_value (found_of matches.now) (codes "listen")) (codes "127.0.0.1"))) }
+{
+    let text = match matches.get_str("listen") {
+        Some(text) => text,
+        None => "127.0.0.1",
+    };
+    match text.parse::<Ipv4Addr>() {
+        Ok(address) => Ok(address),
+        Err(_) => Err(ErrorKind::InvalidValue),
+    }
+}
+
 /// Whether the doors leave a place for who tells of the ring, where that is asked for.
 fn have_place(doors: u32, status: Option<u16>) -> bool
     ensures { result ≡ (is_none status || nat_lt doors DOORS) }
@@ -276,6 +315,7 @@ fn words_of<'a>(matches: &ArgMatches<'a>) -> Result<Words<'a>, ErrorKind>
     ensures side_by_side { IfOk result (λ w. IsIn 1 DOORS w.doors) }
     ensures status { IfOk result (λ w. IsMatched 1 65535 (one_text (found_of matches.now) (codes "status")) w.status) }
     ensures port { IfOk result (λ w. IfSome w.status (λ port. (1 ≤ port) × (w.doors < DOORS))) }
+    ensures listen { IfOk result (λ w. IsAddress (unwrap_or (first_value (found_of matches.now) (codes "listen")) (codes "127.0.0.1")) w.listen) }
 {
     let settings = match matches.get_str("settings") {
         Some(path) => path,
@@ -289,6 +329,7 @@ fn words_of<'a>(matches: &ArgMatches<'a>) -> Result<Words<'a>, ErrorKind>
     if !have_place(doors, status) {
         return Err(ErrorKind::ValueValidation);
     }
+    let listen = address(matches)?;
     Ok(Words {
         settings,
         serve,
@@ -300,5 +341,6 @@ fn words_of<'a>(matches: &ArgMatches<'a>) -> Result<Words<'a>, ErrorKind>
         doors,
         idle: idle.unwrap_or(0),
         status,
+        listen,
     })
 }

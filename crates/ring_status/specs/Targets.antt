@@ -74,7 +74,8 @@ group_page (Some name) query = ok_or (leader_of name query) status.BadRequest
 
 abbrev pub at_path : List ℕ × Option (List ℕ) → Result Target Status
 at_path (path, query) =
-    if bytes_eq path (codes "/health") then Ok ask.Health
+    if bytes_eq path (codes "/live") then Ok ask.Live
+    else if bytes_eq path (codes "/health") then Ok ask.Health
     else if bytes_eq path (codes "/status") then Ok ask.Status
     else if bytes_eq path (codes "/metrics") then Ok ask.Metrics
     else if bytes_eq path (codes "/leaders") then ok_or (page_of query) status.BadRequest

@@ -9,6 +9,8 @@ use ring_records::{GroupName, NodeNo};
 /// What is asked.
 #[derive(Clone, Copy, Debug, PartialEq, Eq)]
 pub enum Target {
+    /// Whether the process answers.
+    Live,
     /// Whether each node takes Stands and messages.
     Health,
     /// The ring and its nodes, as JSON.
@@ -132,13 +134,16 @@ fn or_bad(page: Option<Target>) -> Result<Target, Status>
 }
 
 #[tactic(auto, unfolding(crate::specs::Targets::target_of))]
-/// What a target asks: `/health`, `/status` and `/metrics`, whose query is not read; `/leaders`, with `node=I` or
+/// What a target asks: `/live`, `/health`, `/status` and `/metrics`, whose query is not read; `/leaders`, with `node=I` or
 /// `after=GROUP` or both, in this order and parted by `&`; `/leaders/GROUP`, with `node=I` or nothing. Node 1 is asked
 /// where none is named. Refused as 404 where there is no such page, and else as 400 by its name or its query.
 pub fn read_target(target: &[u8]) -> Result<Target, Status>
     ensures { result ≡ target_of target.now }
 {
     let (path, query) = cut_at(target, b'?');
+    if path == b"/live".as_slice() {
+        return Ok(Target::Live);
+    }
     if path == b"/health".as_slice() {
         return Ok(Target::Health);
     }

@@ -19,6 +19,9 @@ pub(crate) struct Body {
     pub(crate) text: String,
 }
 
+/// What is told where the process answers, whatever its nodes do.
+const LIVE: &str = "live\n";
+
 /// A text where memory was had for it.
 fn had(text: Result<String, AllocError>) -> Result<String, Status> {
     text.map_err(|_| Status::Unavailable)
@@ -128,6 +131,7 @@ pub(crate) fn body_of<R: Wait + Clock>(
     deadline: Deadline,
 ) -> Result<Body, Status> {
     match target {
+        Target::Live => found(Content::Text, String::from_str(alloc, LIVE)),
         Target::Health => health(alloc, &statuses(rt, alloc, reception, deadline)?),
         Target::Status => {
             let nodes = statuses(rt, alloc, reception, deadline)?;

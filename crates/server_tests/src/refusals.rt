@@ -26,24 +26,32 @@ static SETTINGS: [(&[u8], &[u8]); 10] = [
     (b"nodes = ", b"ringd: settings are not TOML\n"),
     (b"\xff", UNREAD),
     (b"", b"ringd: setting nodes is missing\n"),
-    (b"nodes = 17", b"ringd: setting nodes is wrong\n"),
+    (
+        b"nodes = 17",
+        b"ringd: setting nodes is wrong\nringd: nodes is a number from 2 to 16\n",
+    ),
     (b"nodes = 3", b"ringd: setting dir is missing\n"),
-    (b"nodes = 3\ndir = 1", b"ringd: setting dir is wrong\n"),
+    (
+        b"nodes = 3\ndir = 1",
+        b"ringd: setting dir is wrong\n\
+          ringd: dir is a path of 1 to 200 printed ASCII characters, none of them a space\n",
+    ),
     (
         b"nodes = 3\ndir = \"a\"",
         b"ringd: setting port is missing\n",
     ),
     (
         b"nodes = 3\ndir = \"a\"\nport = 65534\n",
-        b"ringd: setting port is wrong\n",
+        b"ringd: setting port is wrong\n\
+          ringd: port is a number from 1 to 65535, as is the port of the last node\n",
     ),
     (
         b"nodes = 3\ndir = \"a\"\nport = 1\ncapacity = 4095\nx = 1\n",
-        b"ringd: setting capacity is wrong\n",
+        b"ringd: setting capacity is wrong\nringd: capacity is a number from 4096 to 1048576\n",
     ),
     (
         b"nodes = 3\ndir = \"a\"\nport = 1\nx = 1\n",
-        b"ringd: a setting is unknown\n",
+        b"ringd: a setting is unknown\nringd: settings are nodes, dir, port and capacity\n",
     ),
 ];
 
@@ -126,7 +134,7 @@ where
 }
 
 /// Words, and the status that they end with.
-static WORDS: [(&[&str], u8); 8] = [
+static WORDS: [(&[&str], u8); 9] = [
     (&["ringd", "--help"], 0),
     (&["ringd", "--always", "--status", "1", "--doors", "32"], 2),
     (&["ringd", "--serve", "0"], 2),
@@ -135,6 +143,7 @@ static WORDS: [(&[&str], u8); 8] = [
     (&["ringd", "--always", "--serve", "1"], 2),
     (&["ringd", "--make", "--always"], 2),
     (&["ringd", "red"], 2),
+    (&["ringd", "--listen", "localhost"], 2),
 ];
 
 #[test]
@@ -155,7 +164,12 @@ const IN_USE: &[u8] = b"nodes = 2\ndir = \"in-use\"\nport = 7143\n";
 static NOT_THERE: [Step; 4] = [
     Ends(SERVE, NO_FOLDER, 1, NOT_FOUND),
     Changes(&[Anew("in-use")]),
-    EndsBesidePort(7144, SERVE, IN_USE, b"ringd: port 7144 cannot be used\n"),
+    EndsBesidePort(
+        7144,
+        SERVE,
+        IN_USE,
+        b"ringd: port 7144 cannot be used\nringd: 127.0.0.1:7144: address in use\n",
+    ),
     Changes(&[Clears("in-use")]),
 ];
 

@@ -118,6 +118,7 @@ const OPEN: &[Say] = &[
             b"{\"by\":1,\"leader\":{\"bid\":10,\"group\":\"red\",\"node\":1,\"term\":5}}",
         ),
     ),
+    Meanwhile(7230, Target("/live", b"live\n")),
     Meanwhile(7230, Whole(b"GET /health HTTP/1.1\r\n\r\n", WELL)),
     Meanwhile(7230, Whole(b"HEAD /health HTTP/1.1\r\n\r\n", HEAD_OF_WELL)),
     Line(b"bye\n", b"bye"),
@@ -415,13 +416,13 @@ static PORTS_IN_USE: [Step; 4] = [
         7251,
         &["ringd", "--serve", "1", "--status", "7251"],
         IN_USE,
-        b"ringd: port 7251 cannot be used\n",
+        b"ringd: port 7251 cannot be used\nringd: 127.0.0.1:7251: address in use\n",
     ),
     Ends(
         &["ringd", "--serve", "1", "--status", "7252"],
         IN_USE,
         1,
-        b"ringd: port 7252 cannot be used\n",
+        b"ringd: port 7252 cannot be used\nringd: 127.0.0.1:7252: address in use\n",
     ),
     Changes(&[Clears("port")]),
 ];

@@ -1,6 +1,7 @@
 // Settings and words, well told and badly.
 use ring_service::{Setting, Settings, StartFault, Words, read_settings, read_words};
 use std::alloc::{AllocGlobal, Global};
+use std::net::Ipv4Addr;
 use std::process::Abort;
 use std::test::*;
 
@@ -105,10 +106,11 @@ const ALONE: Words<'static> = Words {
     doors: 1,
     idle: 0,
     status: None,
+    listen: Ipv4Addr::LOCALHOST,
 };
 
 /// Words that are taken, and what they ask.
-static TAKEN: [(&[&str], Words<'static>); 7] = [
+static TAKEN: [(&[&str], Words<'static>); 8] = [
     (&["ringd"], ALONE),
     (
         &["ringd", "--serve", "7", "--settings=x"],
@@ -166,10 +168,17 @@ static TAKEN: [(&[&str], Words<'static>); 7] = [
             ..ALONE
         },
     ),
+    (
+        &["ringd", "--listen", "10.0.0.255"],
+        Words {
+            listen: Ipv4Addr::new(10, 0, 0, 255),
+            ..ALONE
+        },
+    ),
 ];
 
 /// Words that are wrong.
-static WRONG: [&[&str]; 22] = [
+static WRONG: [&[&str]; 25] = [
     &["ringd", "--serve=0"],
     &["ringd", "--serve=1001"],
     &["ringd", "--serve=5000"],
@@ -192,6 +201,9 @@ static WRONG: [&[&str]; 22] = [
     &["ringd", "--check", "--always"],
     &["ringd", "--check", "--make"],
     &["ringd", "--status=1", "--doors=32"],
+    &["ringd", "--listen", "localhost"],
+    &["ringd", "--listen=10.0.0.256"],
+    &["ringd", "--listen=::1"],
 ];
 
 /// The words are refused with this status, and a text for standard error or for standard output.

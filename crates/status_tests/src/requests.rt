@@ -87,7 +87,7 @@ fn targets(rt: HostRuntime) {
     let red = GroupName::read(b"red").expect(&rt, "a group");
     let first = node(&rt, 1);
     let second = node(&rt, 2);
-    let table: [(&str, Target); 9] = [
+    let table: [(&str, Target); 10] = [
         ("/leaders", Target::Leaders(first, None)),
         ("/leaders?node=2", Target::Leaders(second, None)),
         ("/leaders?node=16", Target::Leaders(node(&rt, 16), None)),
@@ -98,6 +98,7 @@ fn targets(rt: HostRuntime) {
         ),
         ("/leaders/red", Target::LeaderOf(first, red)),
         ("/leaders/red?node=02", Target::LeaderOf(second, red)),
+        ("/live", Target::Live),
         ("/health?", Target::Health),
         ("/status?a=b&c", Target::Status),
     ];
@@ -106,7 +107,7 @@ fn targets(rt: HostRuntime) {
     }
 }
 
-static NO_TARGETS: [(&str, Status); 15] = [
+static NO_TARGETS: [(&str, Status); 16] = [
     ("/leaders?", Status::BadRequest),
     ("/leaders?node=0", Status::BadRequest),
     ("/leaders?node=17", Status::BadRequest),
@@ -120,6 +121,7 @@ static NO_TARGETS: [(&str, Status); 15] = [
     ("/leaders/red?after=red", Status::BadRequest),
     ("*", Status::NotFound),
     ("/health/", Status::NotFound),
+    ("/lives", Status::NotFound),
     ("/leader", Status::NotFound),
     ("health", Status::NotFound),
 ];

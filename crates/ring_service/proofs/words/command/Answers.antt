@@ -2,7 +2,7 @@ use Rattle.std.proofs.Common.{◌∙◌, ap, refl, codes}
 use Rattle.ring_records.specs.declared.limits.TheConstants.{DOORS}
 use Rattle.clap.specs.Simple.{app_of_fields}
 use Rattle.clap.specs.Words.{app_of, new_app, rule_of}
-use Rattle.ring_service.specs.Words.{always_rule, check_rule, flag_rule, make_rule, number_rule, settings_rule, with_version}
+use Rattle.ring_service.specs.Words.{always_rule, check_rule, flag_rule, listen_rule, make_rule, number_rule, settings_rule, with_version}
 use Rattle.ring_service.proofs.Commands.{adds, adds_last}
 use Rattle.ring_service.proofs.words.command.Goals as goal
 
@@ -18,4 +18,5 @@ returns c =
     let seven = adds _ (app_of c.in_ok-command-6.command) _ (rule_of c.in_ok-check_arg.field-0) check_rule c.in_ok-command-7.ensures six c.in_ok-check_arg.ensures.rule in
     let eight = adds _ (app_of c.in_ok-command-7.command) _ (rule_of c.doors_arg.result) (number_rule (codes "doors") 1 DOORS) c.in_ok-command-8.ensures seven c.doors_arg.ensures.rule in
     let nine = adds _ (app_of c.in_ok-command-8.command) _ (rule_of c.idle_arg.result) (number_rule (codes "idle") 0 86400) c.in_ok-command-9.ensures eight c.idle_arg.ensures.rule in
-    adds_last c.in_ok-command-9.command _ c.status_arg.result (number_rule (codes "status") 1 65535) c.with_arg-10.result c.with_arg-10.ensures nine c.status_arg.ensures.rule refl
+    let ten = adds _ (app_of c.in_ok-command-9.command) _ (rule_of c.status_arg.result) (number_rule (codes "status") 1 65535) c.in_ok-command-10.ensures nine c.status_arg.ensures.rule in
+    adds_last c.in_ok-command-10.command _ c.listen_arg.result listen_rule c.with_arg-11.result c.with_arg-11.ensures ten c.listen_arg.ensures.rule refl
