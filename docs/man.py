@@ -22,6 +22,7 @@ ringd \- a ring of durable nodes that elect a leader for each group and term
 .RB [ \-\-doors " \fIS\fR]"
 .RB [ \-\-idle " \fISECONDS\fR]"
 .RB [ \-\-status " \fIPORT\fR]"
+.RB [ \-\-watchers " \fIW\fR]"
 .RB [ \-\-listen " \fIADDRESS\fR]"
 .br
 .BR "ringd \-\-help" " | " \-\-version

@@ -59,6 +59,29 @@ def node_of(parameter: bytes) -> int | None:
     return int(word) if is_right else None
 
 
+def number_of(parameter: bytes, front: bytes, high: int) -> int | None:
+    word = parameter.removeprefix(front)
+    return int(word) if word != parameter and lines.NUMBER.fullmatch(word) and int(word) <= high else None
+
+
+def next_of(query: bytes) -> tuple[int, int, int] | None:
+    """The node, the term and the seconds of a query that waits for a leader above that term."""
+    first, _, rest = query.partition(b"&")
+    node = node_of(first)
+    if node:
+        first, _, rest = rest.partition(b"&")
+    above, wait = number_of(first, b"above=", 999_999_999), number_of(rest, b"wait=", 60)
+    return None if above is None or wait is None else (node or 1, above, wait)
+
+
+def waited(sent: bytes) -> int:
+    """For how many seconds an answer may be waited for."""
+    asked = request(sent[:MOST])
+    path, _, query = asked[1].partition(b"?") if isinstance(asked, tuple) else (b"", b"", b"")
+    coming = next_of(query) if path.startswith(b"/leaders/") else None
+    return coming[2] if coming else 0
+
+
 def status_of(target: bytes) -> int:
     """How a target is answered: its query is read where it is one of leaders."""
     path, mark, query = target.partition(b"?")
@@ -75,6 +98,10 @@ def status_of(target: bytes) -> int:
         return 200 if (node or 1) <= NODES else 404
     if not path.startswith(b"/leaders/"):
         return 404
+    coming = next_of(query)
+    if coming and lines.NAME.fullmatch(path[9:]):
+        node, above, _ = coming
+        return 404 if node > NODES else 200 if path[9:] == b"red" and above < 1 else 204
     node = node_of(query) if mark else 1
     if not lines.NAME.fullmatch(path[9:]) or node is None:
         return 400
@@ -128,6 +155,8 @@ class Heads(Kind):
 
     def differs(self, case: list[bytes]) -> str | None:
         sent = b"".join(case)
+        if waited(sent) > 1:
+            return None
         right = right_status(sent)
         cut = len(sent) // 2 if len(sent) % 3 == 0 else 0
         try:
@@ -152,7 +181,7 @@ def fault(answer: bytes, right: int | None, sent: bytes) -> str | None:
         return f"{first!r}, and not {right}"
     values = dict(field.split(b": ", 1) for field in fields)
     asked = request(sent[:MOST])
-    whole = int(values[b"Content-Length"])
+    whole = int(values.get(b"Content-Length", b"0"))
     may_be = {0 if asked[0] == b"HEAD" else whole} if isinstance(asked, tuple) else {0, whole}
     if len(body) not in may_be:
         return f"{len(body)} bytes of a body, with {head!r}"
@@ -167,7 +196,8 @@ NAMES = [b"Host", b"accept", b"X-1", b"Content-Length", b"Transfer-Encoding", b"
 SPACES = [b" ", b"", b"\t", b"  "]
 VALUES = [b"127.0.0.1", b"", b"5", b"chunked", b"\x80\xff", b"a\tb", b"*/*", b"x" * 100]
 QUERIES = [b"", b"node=1", b"node=3", b"node=4", b"node=0", b"node=16", b"node=17", b"node=0000000002", b"node=00000000002", b"node=1&after=red",
-           b"after=red", b"after=Red", b"after=red&node=1", b"node=1&node=2", b"node=", b"x=1", b"node=1&", b"after=", b"?", b"node=2&after=zz"]
+           b"after=red", b"after=Red", b"after=red&node=1", b"node=1&node=2", b"node=", b"x=1", b"node=1&", b"after=", b"?", b"node=2&after=zz",
+           b"above=0&wait=1", b"above=0&wait=0", b"node=2&above=1&wait=0", b"node=4&above=0&wait=0", b"above=7", b"above=0&wait=61", b"wait=0&above=0"]
 
 
 def target(rng: random.Random) -> bytes:

@@ -4,7 +4,7 @@ import re
 
 from programs import Kind
 
-NUMBERS = {b"serve": (1, 1_000), b"doors": (1, 32), b"idle": (0, 86_400), b"status": (1, 65_535)}
+NUMBERS = {b"serve": (1, 1_000), b"doors": (1, 32), b"idle": (0, 86_400), b"status": (1, 65_535), b"watchers": (0, 64)}
 FLAGS = {b"always", b"existing", b"fail-stop", b"make", b"check"}
 TEXTS = {b"settings", b"listen"}
 BYTE = rb"(?:25[0-5]|2[0-4]\d|1\d\d|[1-9]?\d)"

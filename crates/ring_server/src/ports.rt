@@ -1,7 +1,7 @@
 //! The ports of a ring.
 use crate::run_fault::RunFault;
 use crossbeam_channel::Receiver;
-use ring_service::{Settings, VERSION};
+use ring_service::{Settings, VERSION, Words};
 use ring_watch::{Facts, Inquiry, Reception, StatusPort};
 use std::alloc::Global;
 use std::net::{Ipv4Addr, Net, TcpListener, TcpStream};
@@ -17,16 +17,15 @@ pub(crate) struct Ports {
 }
 
 impl Ports {
-    /// All of them, at this address. Refused with the first that is not to be had.
+    /// All of them, as the words say. Refused with the first that is not to be had.
     pub(crate) fn listen<R: Clock + Net<Listener = TcpListener, Stream = TcpStream>>(
         rt: &R,
         alloc: Global,
         settings: &Settings,
-        address: Ipv4Addr,
-        status: Option<u16>,
+        words: &Words<'_>,
     ) -> Result<Ports, RunFault> {
-        let listeners = listen(rt, alloc, settings, address)?;
-        let (status, clerks) = listen_for_questions(rt, alloc, settings, address, status)?;
+        let listeners = listen(rt, alloc, settings, words.listen)?;
+        let (status, clerks) = listen_for_questions(rt, alloc, settings, words)?;
         Ok(Ports {
             listeners,
             status,
@@ -68,13 +67,12 @@ fn listen_for_questions<R: Clock + Net<Listener = TcpListener, Stream = TcpStrea
     rt: &R,
     alloc: Global,
     settings: &Settings,
-    address: Ipv4Addr,
-    port: Option<u16>,
+    words: &Words<'_>,
 ) -> Result<(Option<StatusPort>, Vec<Receiver<Inquiry>>), RunFault> {
-    let Some(port) = port else {
+    let Some(port) = words.status else {
         return Ok((None, Vec::new(alloc)));
     };
-    let listener = listen_at(rt, address, port)?;
+    let listener = listen_at(rt, words.listen, port)?;
     let facts = Facts {
         version: VERSION,
         dir: String::from_str(alloc, settings.dir.as_str())?,
@@ -84,5 +82,7 @@ fn listen_for_questions<R: Clock + Net<Listener = TcpListener, Stream = TcpStrea
         },
     };
     let (reception, clerks) = Reception::new(alloc, settings.nodes)?;
-    Ok((Some(StatusPort::new(listener, facts, reception)), clerks))
+    let watchers = words.watchers as usize;
+    let status = StatusPort::new(listener, facts, reception, watchers);
+    Ok((Some(status), clerks))
 }

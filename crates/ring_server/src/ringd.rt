@@ -284,7 +284,7 @@ where
     let existing = basis.is_made || words.existing;
     let found = find_ring(rt, alloc, &folder, settings, existing)?;
     let serving = Serving {
-        ports: Ports::listen(rt, alloc, settings, words.listen, words.status)?,
+        ports: Ports::listen(rt, alloc, settings, words)?,
         doors: Doors::new(words.doors, sessions, words.idle),
         fail_stop: words.fail_stop,
     };

@@ -40,18 +40,21 @@ pub struct Words<'a> {
     /// The port at which an operator is told of the ring, 1 to 65,535. It takes the place of a door: there are at most 31
     /// beside it.
     pub status: Option<u16>,
+    /// How many clients of that port may wait for a leader, up to 64.
+    pub watchers: u32,
     /// The address of this host at which all of them listen.
     pub listen: Ipv4Addr,
 }
 
 /// Reads words, of which the first is the program's name: `[--settings PATH] [--serve K | --always | --make
-/// | --check] [--existing] [--fail-stop] [--doors S] [--idle SECONDS] [--status PORT] [--listen ADDRESS]`. Refused with what
-/// is to be printed, and the status.
+/// | --check] [--existing] [--fail-stop] [--doors S] [--idle SECONDS] [--status PORT] [--watchers W] [--listen ADDRESS]`.
+/// Refused with what is to be printed, and the status.
 pub fn read_words<'a>(alloc: Global, words: &'a [&'a str]) -> Result<Words<'a>, Error>
     ensures told { IfOk result (λ w. AreTold (map (λ word. word.now) words.now) w) }
     ensures range { IfOk result (λ w. IfSome w.serve (IsIn 1 1000)) }
     ensures doors { IfOk result (λ w. IsIn 1 DOORS w.doors) }
     ensures port { IfOk result (λ w. IfSome w.status (λ port. (1 ≤ port) × (w.doors < DOORS))) }
+    ensures places { IfOk result (λ w. IsIn 0 64 w.watchers) }
 {
     let mut command = command(alloc)?;
     let matches = command.try_get_matches_from_mut(words)?;
@@ -210,6 +213,19 @@ fn status_arg<'a>(alloc: Global) -> Arg<'a>
         .value_parser(value_parser!(u32).range(1..=65_535))
 }
 
+/// `--watchers W`
+fn watchers_arg<'a>(alloc: Global) -> Arg<'a>
+    ensures rule { rule_of result ≡ number_rule (codes "watchers") 0 64 }
+    ensures local { result.global ≡ false }
+{
+    Arg::new(alloc, "watchers")
+        .long("watchers")
+        .value_name("W")
+        .help_heading("Status")
+        .help("Lets W clients wait for a leader there, 0 to 64; 16 where it is not said")
+        .value_parser(value_parser!(u32).range(0..=64))
+}
+
 /// `--listen ADDRESS`
 fn listen_arg<'a>(alloc: Global) -> Arg<'a>
     ensures rule { rule_of result ≡ listen_rule }
@@ -248,6 +264,7 @@ fn command<'a>(alloc: Global) -> Result<Command<'a>, AllocError>
     let command = with_arg(command, doors_arg(alloc))?;
     let command = with_arg(command, idle_arg(alloc))?;
     let command = with_arg(command, status_arg(alloc))?;
+    let command = with_arg(command, watchers_arg(alloc))?;
     with_arg(command, listen_arg(alloc))
 }
 
@@ -315,6 +332,8 @@ fn words_of<'a>(matches: &ArgMatches<'a>) -> Result<Words<'a>, ErrorKind>
     ensures side_by_side { IfOk result (λ w. IsIn 1 DOORS w.doors) }
     ensures status { IfOk result (λ w. IsMatched 1 65535 (one_text (found_of matches.now) (codes "status")) w.status) }
     ensures port { IfOk result (λ w. IfSome w.status (λ port. (1 ≤ port) × (w.doors < DOORS))) }
+    ensures watchers { IfOk result (λ w. IsSaid 0 64 16 (one_text (found_of matches.now) (codes "watchers")) w.watchers) }
+    ensures places { IfOk result (λ w. IsIn 0 64 w.watchers) }
     ensures listen { IfOk result (λ w. IsAddress (unwrap_or (first_value (found_of matches.now) (codes "listen")) (codes "127.0.0.1")) w.listen) }
 {
     let settings = match matches.get_str("settings") {
@@ -325,6 +344,7 @@ fn words_of<'a>(matches: &ArgMatches<'a>) -> Result<Words<'a>, ErrorKind>
     let doors = number(matches, "doors", 1, DOORS)?;
     let idle = number(matches, "idle", 0, 86_400)?;
     let status = port(matches)?;
+    let watchers = number(matches, "watchers", 0, 64)?;
     let doors = doors.unwrap_or(1);
     if !have_place(doors, status) {
         return Err(ErrorKind::ValueValidation);
@@ -341,6 +361,7 @@ fn words_of<'a>(matches: &ArgMatches<'a>) -> Result<Words<'a>, ErrorKind>
         doors,
         idle: idle.unwrap_or(0),
         status,
+        watchers: watchers.unwrap_or(16),
         listen,
     })
 }

@@ -10,6 +10,7 @@ use Rattle.ring_status.specs.declared.status.Status.TheVariants as status
 
 abbrev pub status_line : Status → List ℕ
 status_line status.Found = codes "200 OK"
+status_line status.NoContent = codes "204 No Content"
 status_line status.BadRequest = codes "400 Bad Request"
 status_line status.NotFound = codes "404 Not Found"
 status_line status.NotAllowed = codes "405 Method Not Allowed"
@@ -21,9 +22,20 @@ content_text Text = codes "text/plain; charset=utf-8"
 content_text Json = codes "application/json"
 content_text Metrics = codes "text/plain; version=0.0.4; charset=utf-8"
 
+-- how long the body is, where the status has one
+abbrev pub length_field : Status → ℕ → List ℕ
+length_field status.NoContent bytes = []
+length_field status.Found bytes = codes "Content-Length: " ++ decimal bytes ++ codes "\r\n"
+length_field status.BadRequest bytes = codes "Content-Length: " ++ decimal bytes ++ codes "\r\n"
+length_field status.NotFound bytes = codes "Content-Length: " ++ decimal bytes ++ codes "\r\n"
+length_field status.NotAllowed bytes = codes "Content-Length: " ++ decimal bytes ++ codes "\r\n"
+length_field status.TooLarge bytes = codes "Content-Length: " ++ decimal bytes ++ codes "\r\n"
+length_field status.Unavailable bytes = codes "Content-Length: " ++ decimal bytes ++ codes "\r\n"
+
 -- the field that a status has to have
 abbrev pub field_of : Status → List ℕ
 field_of status.Found = []
+field_of status.NoContent = []
 field_of status.BadRequest = []
 field_of status.NotFound = []
 field_of status.NotAllowed = codes "Allow: GET, HEAD\r\n"
@@ -34,7 +46,7 @@ unfoldable pub start_of : Status → Content → List ℕ
 start_of status content = codes "HTTP/1.1 " ++ status_line status ++ codes "\r\nContent-Type: " ++ content_text content ++ codes "\r\n"
 
 unfoldable pub fields_of : Status → ℕ → List ℕ
-fields_of status bytes = codes "Content-Length: " ++ decimal bytes ++ codes "\r\n" ++ field_of status
+fields_of status bytes = length_field status bytes ++ field_of status
 
 unfoldable pub last_fields : List ℕ
 last_fields = codes "Cache-Control: no-store\r\nConnection: close\r\n\r\n"

@@ -35,6 +35,18 @@ group_word word = found (name_word word)
 abbrev pub node_in : List ℕ → Option ℕ
 node_in parameter = option_and_then node_word (behind (codes "node=") parameter)
 
+-- a number from low to high behind this front
+abbrev pub number_in : List ℕ → ℕ → ℕ → List ℕ → Option ℕ
+number_in front low high parameter = option_and_then (λ word. found (number_word low high word)) (behind front parameter)
+
+-- `above=T`
+abbrev pub above_in : List ℕ → Option ℕ
+above_in parameter = number_in (codes "above=") 0 999999999 parameter
+
+-- `wait=S`
+abbrev pub wait_in : List ℕ → Option ℕ
+wait_in parameter = number_in (codes "wait=") 0 60 parameter
+
 -- `after=GROUP`
 abbrev pub after_in : List ℕ → Option (List ℕ)
 after_in parameter = option_and_then group_word (behind (codes "after=") parameter)
@@ -60,13 +72,33 @@ abbrev pub page_of : Option (List ℕ) → Option Target
 page_of None = Some (ask.Leaders 1 None)
 page_of (Some query) = page_by (cut_at 38 query)
 
--- the node that is asked: that of a query, else the first
-abbrev pub node_asked : Option (List ℕ) → Option ℕ
-node_asked None = Some 1
-node_asked (Some query) = node_in query
+-- the next leader of the group by the node, of `above=T` and `wait=S`
+abbrev pub next_of : List ℕ → ℕ → List ℕ → List ℕ → Option Target
+next_of group node first second = option_and_then (λ above. option_and_then (λ wait. Some (ask.NextOf node group above wait)) (wait_in second)) (above_in first)
+
+-- the same of a query without its node
+abbrev pub next_in : List ℕ → ℕ → List ℕ × Option (List ℕ) → Option Target
+next_in group node (only, None) = None
+next_in group node (first, Some second) = next_of group node first second
+
+-- of a query of two parameters or more, the first of which may name the node
+abbrev pub next_by : List ℕ → List ℕ → List ℕ → Option Target
+next_by group first rest = by (node_in first) where
+  by : Option ℕ → Option Target
+  by (Some node) = next_in group node (cut_at 38 rest)
+  by None = next_of group 1 first rest
+
+abbrev pub leader_by : List ℕ → List ℕ × Option (List ℕ) → Option Target
+leader_by group (only, None) = option_and_then (λ node. Some (ask.LeaderOf node group)) (node_in only)
+leader_by group (first, Some rest) = next_by group first rest
+
+-- what is asked of a group by a query, if there is one
+abbrev pub asked_of : List ℕ → Option (List ℕ) → Option Target
+asked_of group None = Some (ask.LeaderOf 1 group)
+asked_of group (Some query) = leader_by group (cut_at 38 query)
 
 abbrev pub leader_of : List ℕ → Option (List ℕ) → Option Target
-leader_of name query = option_and_then (λ group. option_and_then (λ node. Some (ask.LeaderOf node group)) (node_asked query)) (group_word name)
+leader_of name query = option_and_then (λ group. asked_of group query) (group_word name)
 
 abbrev pub group_page : Option (List ℕ) → Option (List ℕ) → Result Target Status
 group_page None query = Err status.NotFound

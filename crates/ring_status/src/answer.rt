@@ -1,6 +1,6 @@
 // The bytes of an answer.
 ghost use Rattle.std.specs.Prelude.{◌≡◌, ◌++◌, IfOk, OnOk, length, string_bytes};
-ghost use Rattle.ring_status.specs.Answers.{answer, content_text, field_of, fields_of, head_text, last_fields, start_of};
+ghost use Rattle.ring_status.specs.Answers.{answer, content_text, field_of, fields_of, head_text, last_fields, length_field, start_of};
 
 use crate::request::Method;
 use crate::status::Status;
@@ -49,12 +49,22 @@ fn print_start(out: &mut String, status: Status, content: Content) -> Result<(),
     write!(out, "HTTP/1.1 {line}\r\nContent-Type: {content}\r\n")
 }
 
-#[tactic(auto, unfolding(crate::specs::Answers::fields_of))]
+// Adds how long the body is, where the status has one.
+fn print_length(out: &mut String, status: Status, bytes: usize) -> Result<(), AllocError>
+    ensures { OnOk result (string_bytes out.new ≡ string_bytes out.old ++ length_field status bytes) }
+{
+    match status {
+        Status::NoContent => Ok(()),
+        _ => write!(out, "Content-Length: {bytes}\r\n"),
+    }
+}
+
+#[tactic(auto, unfolding(crate::specs::Answers::fields_of), using(crate::proofs::Appends::two))]
 fn print_fields(out: &mut String, status: Status, bytes: usize) -> Result<(), AllocError>
     ensures { OnOk result (string_bytes out.new ≡ string_bytes out.old ++ fields_of status bytes) }
 {
-    let field = field_of(status);
-    write!(out, "Content-Length: {bytes}\r\n{field}")
+    print_length(out, status, bytes)?;
+    out.push_str(field_of(status))
 }
 
 #[tactic(auto, unfolding(crate::specs::Answers::last_fields))]

@@ -7,6 +7,8 @@ ghost use Rattle.ring_status.specs.Answers.{status_line};
 pub enum Status {
     /// 200: with what was asked.
     Found,
+    /// 204: nothing came in the time that was asked for.
+    NoContent,
     /// 400: it is no request, or what it names is no node or group.
     BadRequest,
     /// 404: there is nothing of that name.
@@ -26,6 +28,7 @@ impl Status {
     {
         match self {
             Status::Found => "200 OK",
+            Status::NoContent => "204 No Content",
             Status::BadRequest => "400 Bad Request",
             Status::NotFound => "404 Not Found",
             Status::NotAllowed => "405 Method Not Allowed",

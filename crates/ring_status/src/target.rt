@@ -1,6 +1,7 @@
 // What a target asks.
 ghost use Rattle.std.specs.Prelude.{◌≡◌, ◌==◌, ok_or, option_map, position};
-ghost use Rattle.ring_status.specs.Targets.{after_in, behind, cut_at, group_word, leader_of, node_in, node_word, page_by_one, page_by_two, page_of, target_of};
+ghost use Rattle.ring_status.specs.Targets.{above_in, after_in, asked_of, behind, cut_at, group_word, leader_of, next_by, next_of, node_in, node_word};
+ghost use Rattle.ring_status.specs.Targets.{number_in, page_by_one, page_by_two, page_of, target_of, wait_in};
 
 use crate::status::Status;
 use line_words::{read_group, read_number};
@@ -21,6 +22,9 @@ pub enum Target {
     Leaders(NodeNo, Option<GroupName>),
     /// The latest leader of a group, by the board of a node.
     LeaderOf(NodeNo, GroupName),
+    /// The latest leader of a group in a term above this one, by the board of a node, which is waited for so many seconds,
+    /// at most 60.
+    NextOf(NodeNo, GroupName, u32, u32),
 }
 
 // The place of the first such byte.
@@ -74,6 +78,29 @@ fn node_in(parameter: &[u8]) -> Option<NodeNo>
     node_word(behind(parameter, b"node=")?)
 }
 
+// The number from low to high behind this front.
+fn number_in(front: &[u8], low: u32, high: u32, parameter: &[u8]) -> Option<u32>
+    ensures { result ≡ number_in front.now low high parameter.now }
+{
+    let word = behind(parameter, front)?;
+    let number = read_number(word, u64::from(low), u64::from(high)).ok()?;
+    Some(number as u32)
+}
+
+// The term of `above=T`.
+fn above_in(parameter: &[u8]) -> Option<u32>
+    ensures { result ≡ above_in parameter.now }
+{
+    number_in(b"above=", 0, 999_999_999, parameter)
+}
+
+// The seconds of `wait=S`.
+fn wait_in(parameter: &[u8]) -> Option<u32>
+    ensures { result ≡ wait_in parameter.now }
+{
+    number_in(b"wait=", 0, 60, parameter)
+}
+
 // The group of `after=GROUP`.
 fn after_in(parameter: &[u8]) -> Option<GroupName>
     ensures { result ≡ after_in parameter.now }
@@ -111,16 +138,45 @@ fn page_of(query: Option<&[u8]>) -> Option<Target>
     }
 }
 
+// The next leader that `above=T` and `wait=S` ask for.
+fn next_of(group: GroupName, node: NodeNo, first: &[u8], second: &[u8]) -> Option<Target>
+    ensures { result ≡ next_of group node first.now second.now }
+{
+    let above = above_in(first)?;
+    Some(Target::NextOf(node, group, above, wait_in(second)?))
+}
+
+// The next leader that two parameters ask for, or three, of which the first names the node.
+fn next_by(group: GroupName, first: &[u8], rest: &[u8]) -> Option<Target>
+    ensures { result ≡ next_by group first.now rest.now }
+{
+    match node_in(first) {
+        Some(node) => match cut_at(rest, b'&') {
+            (_, None) => None,
+            (second, Some(third)) => next_of(group, node, second, third),
+        },
+        None => next_of(group, NodeNo::first(), first, rest),
+    }
+}
+
+// What a query asks of the group.
+fn asked_of(group: GroupName, query: Option<&[u8]>) -> Option<Target>
+    ensures { result ≡ asked_of group (option_map (λ q. q.now) query.entry) }
+{
+    match query {
+        None => Some(Target::LeaderOf(NodeNo::first(), group)),
+        Some(query) => match cut_at(query, b'&') {
+            (only, None) => Some(Target::LeaderOf(node_in(only)?, group)),
+            (first, Some(rest)) => next_by(group, first, rest),
+        },
+    }
+}
+
 // The leader that a name and a query ask for.
 fn leader_of(name: &[u8], query: Option<&[u8]>) -> Option<Target>
     ensures { result ≡ leader_of name.now (option_map (λ q. q.now) query.entry) }
 {
-    let group = group_word(name)?;
-    let node = match query {
-        None => NodeNo::first(),
-        Some(query) => node_in(query)?,
-    };
-    Some(Target::LeaderOf(node, group))
+    asked_of(group_word(name)?, query)
 }
 
 // A page, where there is one.
@@ -135,8 +191,8 @@ fn or_bad(page: Option<Target>) -> Result<Target, Status>
 
 #[tactic(auto, unfolding(crate::specs::Targets::target_of))]
 /// What a target asks: `/live`, `/health`, `/status` and `/metrics`, whose query is not read; `/leaders`, with `node=I` or
-/// `after=GROUP` or both, in this order and parted by `&`; `/leaders/GROUP`, with `node=I` or nothing. Node 1 is asked
-/// where none is named. Refused as 404 where there is no such page, and else as 400 by its name or its query.
+/// `after=GROUP` or both, in this order and parted by `&`; `/leaders/GROUP`, with `node=I` or nothing, and behind either
+/// with `above=T&wait=S`. Node 1 is asked where none is named. Refused as 404 where there is no such page, and else as 400 by its name or its query.
 pub fn read_target(target: &[u8]) -> Result<Target, Status>
     ensures { result ≡ target_of target.now }
 {

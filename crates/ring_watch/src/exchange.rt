@@ -2,9 +2,11 @@
 use crate::pages::{Body, body_of};
 use crate::status_port::StatusPort;
 use crate::visitor::{Asked, Caller};
+use crate::watchers::Watcher;
 use client_stream::{Deadline, part, send_all};
-use ring_status::{Content, Method, Request, Status, answer_text};
+use ring_status::{Content, Method, Request, Status, Target, answer_text};
 use std::alloc::{AllocError, Global};
+use std::net::TcpStream;
 use std::sync::Wait;
 use std::time::Clock;
 
@@ -27,7 +29,17 @@ fn answer<R: Wait + Clock>(
         Ok(request) => request,
         Err((method, status)) => return refusal(alloc, method, status),
     };
-    match body_of(rt, alloc, &port.facts, &port.reception, target, deadline) {
+    let body = body_of(rt, alloc, &port.facts, &port.reception, target, deadline);
+    told(alloc, method, body)
+}
+
+/// The answer of this body.
+fn told(
+    alloc: Global,
+    method: Method,
+    body: Result<Body, Status>,
+) -> Result<String, AllocError> {
+    match body {
         Ok(
             Body {
                 status,
@@ -39,6 +51,64 @@ fn answer<R: Wait + Clock>(
     }
 }
 
+/// Answers a client that waited, if there is something to be told or its time is over: else it waits on.
+pub(crate) fn answer_watcher<R: Wait + Clock>(
+    rt: &R,
+    alloc: Global,
+    port: &StatusPort,
+    watcher: Watcher,
+) -> Option<Watcher> {
+    let deadline = watcher.deadline(rt)?;
+    let Request { method, target } = watcher.request;
+    let body = body_of(rt, alloc, &port.facts, &port.reception, target, deadline);
+    let is_told = !matches!(body, Ok(Body { status: Status::NoContent, .. }));
+    if !is_told && !watcher.is_over(rt) {
+        return Some(watcher);
+    }
+    if let Ok(text) = told(alloc, method, body) {
+        let _ = send_all(rt, &watcher.stream, deadline, text.as_bytes());
+    }
+    None
+}
+
+/// What is asked, and for how many seconds it is waited for, where it is.
+fn waits(asked: &Asked) -> Option<(Request, u32)> {
+    match asked {
+        Ok(request) => match request.target {
+            Target::NextOf(_, _, _, seconds) if seconds > 0 => Some((*request, seconds)),
+            _ => None,
+        },
+        Err(_) => None,
+    }
+}
+
+/// Answers a client where there is something to be told, and else leaves it with those that wait. Refused as 503 where there
+/// is no place for it.
+fn wait<R: Wait + Clock>(
+    rt: &R,
+    alloc: Global,
+    port: &StatusPort,
+    stream: TcpStream,
+    request: Request,
+    seconds: u32,
+) {
+    let Some(watcher) = Watcher::new(rt, stream, request, seconds) else {
+        return;
+    };
+    let Some(watcher) = answer_watcher(rt, alloc, port, watcher) else {
+        return;
+    };
+    let Some(watcher) = port.watchers.enter(rt, watcher) else {
+        return;
+    };
+    let Ok(text) = refusal(alloc, request.method, Status::Unavailable) else {
+        return;
+    };
+    if let Some(deadline) = watcher.deadline(rt) {
+        let _ = send_all(rt, &watcher.stream, deadline, text.as_bytes());
+    }
+}
+
 /// Answers a client, within its time. It is not lingered with where each other thread of the port is away too.
 pub(crate) fn exchange<R: Wait + Clock>(rt: &R, alloc: Global, port: &StatusPort, caller: Caller) {
     let Caller {
@@ -47,6 +117,9 @@ pub(crate) fn exchange<R: Wait + Clock>(rt: &R, alloc: Global, port: &StatusPort
         deadline,
     } = caller;
     let _ = stream.set_nodelay(true);
+    if let Some((request, seconds)) = waits(&asked) {
+        return wait(rt, alloc, port, stream, request, seconds);
+    }
     let Ok(text) = answer(rt, alloc, port, asked, deadline) else {
         return;
     };

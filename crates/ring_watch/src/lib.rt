@@ -12,6 +12,7 @@ mod status_port;
 mod tally;
 mod tally_writer;
 mod visitor;
+mod watchers;
 
 pub use reception::{Inquiry, Page, Reception};
 pub use status_port::{Facts, StatusPort};

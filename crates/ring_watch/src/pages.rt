@@ -115,6 +115,29 @@ fn latest<R: Wait + Clock>(
     }
 }
 
+/// The latest leader of the group in a term above this one, or that there is none.
+fn next<R: Wait + Clock>(
+    rt: &R,
+    alloc: Global,
+    reception: &Reception,
+    node: NodeNo,
+    group: GroupName,
+    above: u32,
+    deadline: Deadline,
+) -> Result<Body, Status> {
+    match reception.latest(rt, alloc, node, group, deadline) {
+        Some(Some(lead)) if lead.key.term.number() > above => {
+            found(Content::Json, latest_json(alloc, node, &lead))
+        }
+        Some(_) => Ok(Body {
+            status: Status::NoContent,
+            content: Content::Json,
+            text: String::new(alloc),
+        }),
+        None => Err(Status::Unavailable),
+    }
+}
+
 /// Whether the ring has the node.
 fn has(reception: &Reception, node: NodeNo) -> bool {
     usize::from(node.number()) <= reception.nodes()
@@ -146,6 +169,9 @@ pub(crate) fn body_of<R: Wait + Clock>(
         }
         Target::LeaderOf(node, group) if has(reception, node) => {
             latest(rt, alloc, reception, node, group, deadline)
+        }
+        Target::NextOf(node, group, above, _) if has(reception, node) => {
+            next(rt, alloc, reception, node, group, above, deadline)
         }
         _ => Err(Status::NotFound),
     }

@@ -2,6 +2,7 @@
 use crate::exchange::exchange;
 use crate::lobby::Lobby;
 use crate::reception::Reception;
+use crate::watchers::{Watchers, attend};
 use libc::net::{SHUT_RDWR, listen, shutdown};
 use std::alloc::{AllocError, Global};
 use std::net::TcpListener;
@@ -30,14 +31,16 @@ pub struct Facts {
 }
 
 /// The port at which an operator is told of a ring: one request a connection. One of its eight threads waits for all
-/// clients that have not asked yet, answers the first that asks, and leaves the others to the next thread.
+/// clients that have not asked yet, answers the first that asks, and leaves the others to the next thread. A ninth is with
+/// those that wait for a leader.
 #[derive(Drop)]
 pub struct StatusPort {
     listener: TcpListener,
     lobby: Mutex<Lobby>,
     /// How many threads answer a client.
     away: AtomicUsize,
-    is_over: AtomicBool,
+    pub(crate) is_over: AtomicBool,
+    pub(crate) watchers: Watchers,
     /// How many threads are not at their end, and whether one more is.
     threads: Mutex<usize>,
     ended: Condvar,
@@ -46,13 +49,19 @@ pub struct StatusPort {
 }
 
 impl StatusPort {
-    /// At this listener, where nobody is served yet.
-    pub fn new(listener: TcpListener, facts: Facts, reception: Reception) -> StatusPort {
+    /// At this listener, where nobody is served yet. So many clients may wait for a leader, 64 at most.
+    pub fn new(
+        listener: TcpListener,
+        facts: Facts,
+        reception: Reception,
+        watchers: usize,
+    ) -> StatusPort {
         StatusPort {
             listener,
             lobby: Mutex::new(Lobby::new()),
             away: AtomicUsize::new(0),
             is_over: AtomicBool::new(false),
+            watchers: Watchers::new(watchers),
             threads: Mutex::new(0),
             ended: Condvar::new(),
             facts,
@@ -80,10 +89,10 @@ impl StatusPort {
             return Ok(false);
         }
         listen(port.listener.as_raw_fd(), BACKLOG);
-        for _ in 0..THREADS {
+        for number in 0..THREADS + 1 {
             let (own, theirs) = (*rt, Arc::try_clone(port)?);
             port.enter(rt);
-            if thread::spawn(rt, move || serve(&own, alloc, &theirs)).is_err() {
+            if thread::spawn(rt, move || work(&own, alloc, &theirs, number < THREADS)).is_err() {
                 port.leave(rt);
                 return Ok(false);
             }
@@ -109,9 +118,20 @@ impl StatusPort {
     pub fn end<R: Wait>(&self, rt: &R) {
         self.is_over.store(true, Ordering::SeqCst);
         shutdown(self.listener.as_raw_fd(), SHUT_RDWR);
+        self.watchers.end(rt);
         let threads = self.threads.lock(rt);
         let _ended = self.ended.wait_while(rt, threads, |threads| *threads > 0);
     }
+}
+
+/// Serves who comes, or answers who waits, until the end.
+fn work<R: Wait + Clock>(rt: &R, alloc: Global, port: &StatusPort, serves: bool) {
+    if serves {
+        serve(rt, alloc, port);
+    } else {
+        attend(rt, alloc, port);
+    }
+    port.leave(rt);
 }
 
 /// Serves one client after the other, until the end.
@@ -128,5 +148,4 @@ fn serve<R: Wait + Clock>(rt: &R, alloc: Global, port: &StatusPort) {
         exchange(rt, alloc, port, caller);
         port.away.fetch_sub(1, Ordering::SeqCst);
     }
-    port.leave(rt);
 }

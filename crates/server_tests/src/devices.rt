@@ -191,7 +191,7 @@ fn port_of<R: AllocGlobal + Net<Listener = TcpListener, Stream = TcpStream>>(
         dir: String::new(rt.alloc()),
         started: 0,
     };
-    Some(StatusPort::new(listener, facts, reception))
+    Some(StatusPort::new(listener, facts, reception, 0))
 }
 
 /// Serves the three nodes to their end. How long standard error is stands in `len` meanwhile.

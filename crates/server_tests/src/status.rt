@@ -153,7 +153,7 @@ const BAD_REQUEST: &[u8] = b"\r\n\r\n400 Bad Request\n";
 
 const ASKED: Scenario = Scenario {
     ring: Ring::Program(
-        &["ringd", "--serve", "1", "--status", "7235"],
+        &["ringd", "--serve", "1", "--status", "7235", "--watchers", "0"],
         b"nodes = 2\ndir = \"asked\"\nport = 7236\n",
     ),
     visits: [
@@ -205,6 +205,23 @@ const ASKED: Scenario = Scenario {
                     b"\r\nConnection: close\r\n\r\n",
                 ),
             ),
+            // nobody may wait here
+            Visit::Operator(
+                7235,
+                Status(
+                    b"GET /leaders/red?above=0&wait=1 HTTP/1.1\r\n\r\n",
+                    b"503 ",
+                    b"\r\n\r\n503 Service Unavailable\n",
+                ),
+            ),
+            Visit::Operator(
+                7235,
+                Status(
+                    b"GET /leaders/red?above=0&wait=0 HTTP/1.1\r\n\r\n",
+                    b"204 No Content\r\n",
+                    b"\r\nConnection: close\r\n\r\n",
+                ),
+            ),
             Visit::MeasuresHeads(7235),
             Visit::Asks(7236, b"who blue 4\n", b"none"),
             Visit::Asks(7237, b"who blue 4\n", b"none"),
@@ -220,6 +237,45 @@ const ASKED: Scenario = Scenario {
 #[test]
 fn requests_that_are_refused(rt: HostRuntime) {
     runs_anew(&rt, "asked", &ASKED);
+}
+
+/// Node 1 of two stands while an operator waits for the leader, by the board of node 2; behind that nobody follows in the
+/// time that is waited.
+const WATCHED: Scenario = Scenario {
+    ring: Ring::Program(
+        &["ringd", "--serve", "1", "--status", "7265"],
+        b"nodes = 2\ndir = \"watched\"\nport = 7266\n",
+    ),
+    visits: [
+        &[
+            Visit::Operator(
+                7265,
+                Target(
+                    "/leaders/red?node=2&above=4&wait=60",
+                    b"\r\n\r\n{\"by\":2,\"leader\":{\"bid\":10,\"group\":\"red\",\"node\":1,\"term\":5}}",
+                ),
+            ),
+            Visit::Operator(
+                7265,
+                Status(
+                    b"GET /leaders/red?above=5&wait=1 HTTP/1.1\r\n\r\n",
+                    b"204 No Content\r\n",
+                    b"\r\nConnection: close\r\n\r\n",
+                ),
+            ),
+            Visit::Asks(7267, b"who red 5\n", b"leader 1 10"),
+        ],
+        &[Visit::Asks(7266, b"stand red 5 10\n", b"stood")],
+        &[],
+    ],
+    status: 0,
+    out: b"",
+    err: Some(b""),
+};
+
+#[test]
+fn a_leader_is_waited_for(rt: HostRuntime) {
+    runs_anew(&rt, "watched", &WATCHED);
 }
 
 /// A head of so many bytes.

@@ -106,6 +106,7 @@ const ALONE: Words<'static> = Words {
     doors: 1,
     idle: 0,
     status: None,
+    watchers: 16,
     listen: Ipv4Addr::LOCALHOST,
 };
 
@@ -169,8 +170,9 @@ static TAKEN: [(&[&str], Words<'static>); 8] = [
         },
     ),
     (
-        &["ringd", "--listen", "10.0.0.255"],
+        &["ringd", "--listen", "10.0.0.255", "--watchers=0"],
         Words {
+            watchers: 0,
             listen: Ipv4Addr::new(10, 0, 0, 255),
             ..ALONE
         },
@@ -178,7 +180,7 @@ static TAKEN: [(&[&str], Words<'static>); 8] = [
 ];
 
 /// Words that are wrong.
-static WRONG: [&[&str]; 25] = [
+static WRONG: [&[&str]; 26] = [
     &["ringd", "--serve=0"],
     &["ringd", "--serve=1001"],
     &["ringd", "--serve=5000"],
@@ -201,6 +203,7 @@ static WRONG: [&[&str]; 25] = [
     &["ringd", "--check", "--always"],
     &["ringd", "--check", "--make"],
     &["ringd", "--status=1", "--doors=32"],
+    &["ringd", "--watchers=65"],
     &["ringd", "--listen", "localhost"],
     &["ringd", "--listen=10.0.0.256"],
     &["ringd", "--listen=::1"],

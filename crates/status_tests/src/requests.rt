@@ -87,7 +87,7 @@ fn targets(rt: HostRuntime) {
     let red = GroupName::read(b"red").expect(&rt, "a group");
     let first = node(&rt, 1);
     let second = node(&rt, 2);
-    let table: [(&str, Target); 10] = [
+    let table: [(&str, Target); 12] = [
         ("/leaders", Target::Leaders(first, None)),
         ("/leaders?node=2", Target::Leaders(second, None)),
         ("/leaders?node=16", Target::Leaders(node(&rt, 16), None)),
@@ -98,6 +98,14 @@ fn targets(rt: HostRuntime) {
         ),
         ("/leaders/red", Target::LeaderOf(first, red)),
         ("/leaders/red?node=02", Target::LeaderOf(second, red)),
+        (
+            "/leaders/red?above=0&wait=60",
+            Target::NextOf(first, red, 0, 60),
+        ),
+        (
+            "/leaders/red?node=2&above=999999999&wait=0",
+            Target::NextOf(second, red, 999_999_999, 0),
+        ),
         ("/live", Target::Live),
         ("/health?", Target::Health),
         ("/status?a=b&c", Target::Status),
@@ -107,7 +115,7 @@ fn targets(rt: HostRuntime) {
     }
 }
 
-static NO_TARGETS: [(&str, Status); 16] = [
+static NO_TARGETS: [(&str, Status); 22] = [
     ("/leaders?", Status::BadRequest),
     ("/leaders?node=0", Status::BadRequest),
     ("/leaders?node=17", Status::BadRequest),
@@ -119,6 +127,12 @@ static NO_TARGETS: [(&str, Status); 16] = [
     ("/leaders/a-name-of-17-byte", Status::BadRequest),
     ("/leaders/red/", Status::BadRequest),
     ("/leaders/red?after=red", Status::BadRequest),
+    ("/leaders/red?above=4", Status::BadRequest),
+    ("/leaders/red?above=4&wait=61", Status::BadRequest),
+    ("/leaders/red?above=1000000000&wait=1", Status::BadRequest),
+    ("/leaders/red?wait=1&above=4", Status::BadRequest),
+    ("/leaders/red?above=4&wait=1&node=2", Status::BadRequest),
+    ("/leaders/red?node=2&above=4", Status::BadRequest),
     ("*", Status::NotFound),
     ("/health/", Status::NotFound),
     ("/lives", Status::NotFound),

@@ -19,4 +19,5 @@ returns c =
     let eight = adds _ (app_of c.in_ok-command-7.command) _ (rule_of c.doors_arg.result) (number_rule (codes "doors") 1 DOORS) c.in_ok-command-8.ensures seven c.doors_arg.ensures.rule in
     let nine = adds _ (app_of c.in_ok-command-8.command) _ (rule_of c.idle_arg.result) (number_rule (codes "idle") 0 86400) c.in_ok-command-9.ensures eight c.idle_arg.ensures.rule in
     let ten = adds _ (app_of c.in_ok-command-9.command) _ (rule_of c.status_arg.result) (number_rule (codes "status") 1 65535) c.in_ok-command-10.ensures nine c.status_arg.ensures.rule in
-    adds_last c.in_ok-command-10.command _ c.listen_arg.result listen_rule c.with_arg-11.result c.with_arg-11.ensures ten c.listen_arg.ensures.rule refl
+    let eleven = adds _ (app_of c.in_ok-command-10.command) _ (rule_of c.watchers_arg.result) (number_rule (codes "watchers") 0 64) c.in_ok-command-11.ensures ten c.watchers_arg.ensures.rule in
+    adds_last c.in_ok-command-11.command _ c.listen_arg.result listen_rule c.with_arg-12.result c.with_arg-12.ensures eleven c.listen_arg.ensures.rule refl

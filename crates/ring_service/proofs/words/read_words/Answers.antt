@@ -17,5 +17,6 @@ returns-in-Ok-clause-told c = record {
   side_by_side = rw c.in-Ok.is at c.words_of.ensures.doors;
   silence = rw c.in-Ok.is at c.words_of.ensures.idle;
   told_at = rw c.in-Ok.is at c.words_of.ensures.status;
+  waits = rw c.in-Ok.is at c.words_of.ensures.watchers;
   listens_at = rw c.in-Ok.is at c.words_of.ensures.listen;
 }
