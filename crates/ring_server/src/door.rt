@@ -1,4 +1,5 @@
 //! A node's doors.
+use crate::enrolled::EnrolledService;
 use crate::links::Links;
 use crate::site::Doors;
 use crate::start_latch::StartLatch;
@@ -15,9 +16,10 @@ use std::sync::Wait;
 use std::sync::atomic::{AtomicU64, Ordering};
 use std::time::{Clock, Duration};
 
-/// What a door serves by: its share of the hub, and its reader of the board.
+/// What a door serves by: its number, counted from 0, its share of the hub, and its reader of the board.
 #[derive(Drop)]
 pub(crate) struct Seat<J: Naming, A: Node> {
+    number: u32,
     share: Share<A>,
     reader: BoardReader<J>,
 }
@@ -31,11 +33,16 @@ pub(crate) fn take_seats<J: Naming, A: Node, R: Wait>(
     count: u32,
 ) -> Option<Vec<Seat<J, A>>> {
     let mut seats = Vec::with_capacity(alloc, count as usize).ok()?;
-    for _ in 0..count {
+    for number in 0..count {
         let (Ok(share), Ok(reader)) = (hub.enter(rt), board.reader()) else {
             return None;
         };
-        seats.push(Seat { share, reader }).ok()?;
+        let seat = Seat {
+            number,
+            share,
+            reader,
+        };
+        seats.push(seat).ok()?;
     }
     Some(seats)
 }
@@ -141,20 +148,27 @@ pub(crate) fn serve_door<'a, J: Naming, A: Node, R: Wait + Clock>(
     hub: &'a Hub<A>,
     seat: Seat<J, A>,
     front: &Front,
-    links: &Links<'_>,
+    links: &Links<'a>,
     latch: &StartLatch,
 ) -> Share<A> {
-    let Seat { share, reader } = seat;
+    let Seat {
+        number,
+        share,
+        reader,
+    } = seat;
     if !latch.wait(rt) {
         return share;
     }
-    let mut service = HubService::new(rt, hub, share, reader);
+    let service = HubService::new(rt, hub, share, reader);
+    let mut service = EnrolledService::new(rt, *links, number, service);
     for _ in rt.forever() {
-        if !serve_next(rt, alloc, hub, front, links, &mut service) {
+        let was_served = serve_next(rt, alloc, hub, front, links, &mut service);
+        service.withdraw();
+        if !was_served {
             break;
         }
     }
-    let (share, _reader, _last) = service.into_parts();
+    let (share, _reader, _last) = service.into_service().into_parts();
     if front.closes() {
         links.leave(rt);
     }

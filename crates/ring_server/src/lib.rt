@@ -7,6 +7,7 @@ mod check;
 mod clerk;
 mod credits;
 mod door;
+mod enrolled;
 mod flush;
 mod folder;
 mod found;

@@ -23,6 +23,6 @@ pub page_has_none : (node : ℕ) (leads : List Decision) (more : Bool) → has_f
 unfolding leaders_data
 page_has_none node leads more = ap (λ (b : Bool). b || false) (each_has_none lead_data (λ lead. refl) leads)
 
-pub one_has_none : (node : ℕ) (lead : Decision) → has_float (latest_data node lead) ≡ false
+pub one_has_none : (node : ℕ) (lead : Decision) (present : Bool) → has_float (latest_data node lead present) ≡ false
 unfolding latest_data
-one_has_none node lead = refl
+one_has_none node lead present = refl

@@ -99,5 +99,5 @@ leaders_data node leads more = object
     (member (codes "leaders") (each lead_data leads)
     (member (codes "more") (boolean more) no_members)))
 
-unfoldable pub latest_data : ℕ → Decision → Data
-latest_data node lead = object (member (codes "by") (natural node) (member (codes "leader") (lead_data lead) no_members))
+unfoldable pub latest_data : ℕ → Decision → Bool → Data
+latest_data node lead present = object (member (codes "by") (natural node) (member (codes "leader") (lead_data lead) (member (codes "present") (boolean present) no_members)))

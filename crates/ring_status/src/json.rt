@@ -175,11 +175,16 @@ fn page_json(
 }
 
 #[tactic(auto, unfolding(crate::specs::Data::latest_data))]
-fn leader_json(alloc: Global, node: NodeNo, lead: &Decision) -> Result<Value, AllocError>
-    ensures { IfOk result (λ v. view v ≡ latest_data node lead.now) }
+fn leader_json(
+    alloc: Global,
+    node: NodeNo,
+    lead: &Decision,
+    present: bool,
+) -> Result<Value, AllocError>
+    ensures { IfOk result (λ v. view v ≡ latest_data node lead.now present) }
 {
     let lead = lead_json(alloc, lead)?;
-    json!(in alloc; {"by": node.number(), "leader": lead})
+    json!(in alloc; {"by": node.number(), "leader": lead, "present": present})
 }
 
 // The text of a value in which no number has a fraction.
@@ -215,10 +220,16 @@ pub fn leaders_json(
 }
 
 #[tactic(auto, using(crate::proofs::Floats::one_has_none))]
-/// The latest leader of a group by the board of a node. Refused for want of memory alone.
-pub fn latest_json(alloc: Global, node: NodeNo, lead: &Decision) -> Result<String, AllocError>
-    ensures { IfOk result (λ text. string_bytes text ≡ compact_text (latest_data node lead.now)) }
+/// The latest leader of a group by the board of a node, and whether a session is open that stood for it. Refused for want of
+/// memory alone.
+pub fn latest_json(
+    alloc: Global,
+    node: NodeNo,
+    lead: &Decision,
+    present: bool,
+) -> Result<String, AllocError>
+    ensures { IfOk result (λ text. string_bytes text ≡ compact_text (latest_data node lead.now present)) }
 {
-    let value = leader_json(alloc, node, lead)?;
+    let value = leader_json(alloc, node, lead, present)?;
     text_of(alloc, &value)
 }

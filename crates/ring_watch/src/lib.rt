@@ -8,6 +8,7 @@ mod exchange;
 mod lobby;
 mod pages;
 mod reception;
+mod roll;
 mod status_port;
 mod tally;
 mod tally_writer;

@@ -2,7 +2,7 @@
 use crate::reception::{Page, Reception};
 use crate::status_port::Facts;
 use client_stream::Deadline;
-use ring_records::{GroupName, NodeNo};
+use ring_records::{Decision, GroupName, NodeNo};
 use ring_status::{
     Content, NodeStatus, RingStatus, Status, Target, are_well, health_text, latest_json,
     leaders_json, metrics_text, status_json,
@@ -99,6 +99,18 @@ fn page<R: Wait + Clock>(
     }
 }
 
+/// This leader by the node's board, and whether a session is open that stood for it.
+fn leader<R: Wait>(
+    rt: &R,
+    alloc: Global,
+    reception: &Reception,
+    node: NodeNo,
+    lead: &Decision,
+) -> Result<Body, Status> {
+    let present = reception.is_present(rt, lead.leader.node, &lead.key);
+    found(Content::Json, latest_json(alloc, node, lead, present))
+}
+
 /// The latest leader of the group.
 fn latest<R: Wait + Clock>(
     rt: &R,
@@ -109,7 +121,7 @@ fn latest<R: Wait + Clock>(
     deadline: Deadline,
 ) -> Result<Body, Status> {
     match reception.latest(rt, alloc, node, group, deadline) {
-        Some(Some(lead)) => found(Content::Json, latest_json(alloc, node, &lead)),
+        Some(Some(lead)) => leader(rt, alloc, reception, node, &lead),
         Some(None) => Err(Status::NotFound),
         None => Err(Status::Unavailable),
     }
@@ -127,7 +139,7 @@ fn next<R: Wait + Clock>(
 ) -> Result<Body, Status> {
     match reception.latest(rt, alloc, node, group, deadline) {
         Some(Some(lead)) if lead.key.term.number() > above => {
-            found(Content::Json, latest_json(alloc, node, &lead))
+            leader(rt, alloc, reception, node, &lead)
         }
         Some(_) => Ok(Body {
             status: Status::NoContent,

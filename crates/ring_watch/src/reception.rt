@@ -1,7 +1,8 @@
 //! Where the clerks of a ring's nodes are asked.
+use crate::roll::Roll;
 use client_stream::Deadline;
 use crossbeam_channel::{Receiver, Sender, bounded, unbounded};
-use ring_records::{Decision, GroupName, NodeNo};
+use ring_records::{Decision, GroupName, Key, NodeNo};
 use ring_status::NodeStatus;
 use std::alloc::{AllocError, Global};
 use std::sync::{Mutex, Wait};
@@ -25,10 +26,12 @@ pub enum Inquiry {
     Latest(GroupName, Sender<Option<Decision>>),
 }
 
-/// Where the clerks of a ring's nodes are asked, until each of them is dismissed.
+/// Where the clerks of a ring's nodes are asked, until each of them is dismissed, and where it is known for what the sessions
+/// stood that are open.
 #[derive(Drop)]
 pub struct Reception {
     clerks: Vec<Mutex<Option<Sender<Inquiry>>>>,
+    rolls: Vec<Roll>,
 }
 
 impl Reception {
@@ -38,13 +41,15 @@ impl Reception {
         nodes: u8,
     ) -> Result<(Reception, Vec<Receiver<Inquiry>>), AllocError> {
         let mut clerks = Vec::with_capacity(alloc, usize::from(nodes))?;
+        let mut rolls = Vec::with_capacity(alloc, usize::from(nodes))?;
         let mut asked = Vec::with_capacity(alloc, usize::from(nodes))?;
         for _ in 0..nodes {
             let (sender, receiver) = unbounded(alloc)?;
             clerks.push(Mutex::new(Some(sender)))?;
+            rolls.push(Roll::new(alloc)?)?;
             asked.push(receiver)?;
         }
-        Ok((Reception { clerks }, asked))
+        Ok((Reception { clerks, rolls }, asked))
     }
 
     /// How many nodes the ring has.
@@ -54,6 +59,32 @@ impl Reception {
 
     fn clerk(&self, node: NodeNo) -> Option<&Mutex<Option<Sender<Inquiry>>>> {
         self.clerks.get(usize::from(node.number()) - 1)
+    }
+
+    fn roll(&self, node: NodeNo) -> Option<&Roll> {
+        self.rolls.get(usize::from(node.number()) - 1)
+    }
+
+    /// The session at this door of the node, counted from 0, stood for the key.
+    pub fn enrol<R: Wait>(&self, rt: &R, node: NodeNo, door: u32, key: Key) {
+        if let Some(roll) = self.roll(node) {
+            roll.enrol(rt, door, key);
+        }
+    }
+
+    /// The session at this door of the node has ended.
+    pub fn withdraw<R: Wait>(&self, rt: &R, node: NodeNo, door: u32) {
+        if let Some(roll) = self.roll(node) {
+            roll.withdraw(rt, door);
+        }
+    }
+
+    /// Whether a session is open at the node that stood for the key. Of a session the last eight groups are known.
+    pub fn is_present<R: Wait>(&self, rt: &R, node: NodeNo, key: &Key) -> bool {
+        match self.roll(node) {
+            Some(roll) => roll.has(rt, key),
+            None => false,
+        }
     }
 
     /// Whether the inquiry was left with the node's clerk.

@@ -14,6 +14,8 @@ pub enum Question {
     Status(&'static [u8], &'static [u8], &'static [u8]),
     /// This target is answered with 200 and a text in which that stands.
     Target(&'static str, &'static [u8]),
+    /// So it is at last; it is asked at most 5,000 times.
+    AtLast(&'static str, &'static [u8]),
     /// This is told at last of what is not well; it is asked at most 5,000 times.
     NotWell(&'static [u8]),
 }
@@ -90,6 +92,22 @@ fn is_told<R: Net<Stream = TcpStream> + Clock + AllocGlobal>(
     }
 }
 
+/// Whether a target is answered so at last; it is asked at most 5,000 times.
+fn is_answered_at_last<R: Net<Stream = TcpStream> + Clock + AllocGlobal>(
+    rt: &R,
+    port: u16,
+    target: &str,
+    text: &[u8],
+) -> bool {
+    for _ in 0..5_000 {
+        if is_told(rt, port, target, text) {
+            return true;
+        }
+        rt.sleep(Duration::from_millis(1));
+    }
+    false
+}
+
 /// Whether this is told at last of what is not well; it is asked at most 5,000 times.
 pub fn is_told_at_last<R: Net<Stream = TcpStream> + Clock + AllocGlobal>(
     rt: &R,
@@ -115,6 +133,7 @@ pub fn is_answered<R: Net<Stream = TcpStream> + Clock + AllocGlobal>(
         Question::Whole(head, answer) => is_whole(rt, port, head, answer),
         Question::Status(head, status, end) => has_status(rt, port, head, status, end),
         Question::Target(target, text) => is_told(rt, port, target, text),
+        Question::AtLast(target, text) => is_answered_at_last(rt, port, target, text),
         Question::NotWell(text) => is_told_at_last(rt, port, text),
     }
 }

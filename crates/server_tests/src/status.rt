@@ -1,7 +1,7 @@
 // What an operator is told of a ring while it serves.
 use crate::clients::connect;
 use crate::devices::Served;
-use crate::http::Question::{NotWell, Status, Target, Whole};
+use crate::http::Question::{AtLast as Told, NotWell, Status, Target, Whole};
 use crate::http::{has_status, is_told_at_last, is_whole};
 use crate::programs::{Ring, Scenario, runs};
 use crate::steps::Change::{Anew, Clears};
@@ -115,7 +115,7 @@ const OPEN: &[Say] = &[
         7230,
         Target(
             "/leaders/red",
-            b"{\"by\":1,\"leader\":{\"bid\":10,\"group\":\"red\",\"node\":1,\"term\":5}}",
+            b"{\"by\":1,\"leader\":{\"bid\":10,\"group\":\"red\",\"node\":1,\"term\":5},\"present\":true}",
         ),
     ),
     Meanwhile(7230, Target("/live", b"live\n")),
@@ -132,6 +132,11 @@ const TOLD: Scenario = Scenario {
     visits: [
         &[
             Visit::Says(7231, OPEN),
+            // the session is over, by any node's word
+            Visit::Operator(
+                7230,
+                Told("/leaders/red?node=2", b"\"term\":5},\"present\":false}"),
+            ),
             Visit::Asks(7232, b"who blue 4\n", b"none"),
         ],
         &[],
@@ -252,7 +257,7 @@ const WATCHED: Scenario = Scenario {
                 7265,
                 Target(
                     "/leaders/red?node=2&above=4&wait=60",
-                    b"\r\n\r\n{\"by\":2,\"leader\":{\"bid\":10,\"group\":\"red\",\"node\":1,\"term\":5}}",
+                    b"\r\n\r\n{\"by\":2,\"leader\":{\"bid\":10,\"group\":\"red\",\"node\":1,\"term\":5},",
                 ),
             ),
             Visit::Operator(

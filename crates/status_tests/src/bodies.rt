@@ -80,8 +80,12 @@ fn leaders(rt: HostRuntime) -> Result<(), Fail> {
         "{\"by\":1,\"leaders\":[],\"more\":false}"
     );
     assert_eq!(rt;
-        latest_json(rt.alloc(), node, &second)?.as_str(),
-        "{\"by\":1,\"leader\":{\"bid\":10,\"group\":\"red\",\"node\":1,\"term\":5}}"
+        latest_json(rt.alloc(), node, &second, true)?.as_str(),
+        "{\"by\":1,\"leader\":{\"bid\":10,\"group\":\"red\",\"node\":1,\"term\":5},\"present\":true}"
+    );
+    assert_eq!(rt;
+        latest_json(rt.alloc(), node, &first, false)?.as_str(),
+        "{\"by\":1,\"leader\":{\"bid\":3,\"group\":\"blue\",\"node\":2,\"term\":7},\"present\":false}"
     );
     Ok(())
 }

@@ -1,0 +1,79 @@
+//! A service whose client is known to be there.
+ghost use Rattle.std.specs.Prelude.{⊤};
+
+use crate::links::Links;
+use ring_records::{Bid, GroupName, Key, Refusal, Reply, Term};
+use sessions::Service;
+use std::sync::Wait;
+
+/// A service at this door of a node, which tells where an operator is answered for what its client stood, until the session
+/// ends.
+#[derive(Drop)]
+pub(crate) struct EnrolledService<'a, R, S: Service> {
+    rt: &'a R,
+    links: Links<'a>,
+    door: u32,
+    service: S,
+}
+
+impl<'a, R: Wait, S: Service> EnrolledService<'a, R, S> {
+    /// In front of this one.
+    pub(crate) fn new(
+        rt: &'a R,
+        links: Links<'a>,
+        door: u32,
+        service: S,
+    ) -> EnrolledService<'a, R, S> {
+        EnrolledService {
+            rt,
+            links,
+            door,
+            service,
+        }
+    }
+
+    /// The session has ended.
+    pub(crate) fn withdraw(&self) {
+        if let Some(reception) = self.links.reception {
+            reception.withdraw(self.rt, self.links.node, self.door);
+        }
+    }
+
+    /// What it stood in front of.
+    pub(crate) fn into_service(self) -> S {
+        self.service
+    }
+}
+
+/// Whether the answer says that its node stands with this bid.
+fn is_own(answer: &Result<Reply, Refusal>, bid: Bid) -> bool {
+    match answer {
+        Ok(Reply::Stood) => true,
+        Ok(Reply::Refused(Refusal::Already(other))) => *other == bid,
+        _ => false,
+    }
+}
+
+impl<R: Wait, S: Service> Service for EnrolledService<'_, R, S> {
+    ghost answers = { λ _ _ _ _. ⊤ };
+
+    fn stand(&mut self, key: Key, bid: Bid) -> Result<Reply, Refusal> {
+        let answer = self.service.stand(key, bid);
+        if let (Some(reception), true) = (self.links.reception, is_own(&answer, bid)) {
+            reception.enrol(self.rt, self.links.node, self.door, key);
+        }
+        answer
+    }
+
+    fn retire(&mut self, group: &GroupName, floor: Term) -> Result<Reply, Refusal> {
+        self.service.retire(group, floor)
+    }
+
+    fn who(&mut self, key: &Key) -> Result<Reply, Refusal> {
+        self.service.who(key)
+    }
+
+    fn latest(&mut self, group: &GroupName) -> Result<Reply, Refusal> {
+        self.service.latest(group)
+    }
+}
