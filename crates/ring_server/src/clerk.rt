@@ -81,6 +81,8 @@ fn status<A: Node, R: Wait + Clock>(
         doors: u64::from(doors),
         busy: tally.busy(),
         letters: links.post.waiting(links.node),
+        refused_messages: tally.refused_messages(),
+        elections: tally.elections(),
     })
 }
 

@@ -5,7 +5,7 @@ use commit_hub::{Hub, Node};
 use decision_board::Naming;
 use disk_model::Device;
 use group_commit::Landed;
-use ring_records::Refusal;
+use ring_records::{Notice, Refusal};
 use ring_service::{Flusher, Gate};
 use ring_watch::Tally;
 use std::sync::Wait;
@@ -40,11 +40,20 @@ fn flush_once<V: Device, J: Naming, A: Node, R: Wait + Clock>(
     landed
 }
 
+/// How many leaders the notices tell.
+fn leaders_in(notices: &[Notice]) -> u64 {
+    let leaders = notices
+        .iter()
+        .filter(|notice| matches!(notice, Notice::Decided(_)));
+    leaders.count() as u64
+}
+
 /// Counts what landed, and sends what that releases.
 fn release<R: Wait>(rt: &R, landed: &Landed, links: &Links<'_>) {
     links
         .tally
         .count_landed(landed.is_checkpoint, landed.syncs());
+    links.tally.count_elections(leaders_in(&landed.notices));
     links.send_all(rt, &landed.packets);
 }
 

@@ -241,6 +241,9 @@ fn lacks_room(reply: &Option<Reply>) -> bool {
 /// A message has its reply. One that was taken before is answered with a credit again. Where one was refused for want of room,
 /// it is said that the node is full, if it is: there may be room again, or a checkpoint be due, which makes some.
 fn end_message<R: Wait>(rt: &R, reply: Option<Reply>, links: &Links<'_>, is_full: bool) {
+    if lacks_room(&reply) {
+        links.tally.count_refused_message();
+    }
     match reply {
         Some(Reply::Refused(Refusal::Old(upto))) => links.send(rt, Packet::Credit { upto }),
         Some(Reply::Refused(Refusal::Full)) if is_full => links.fill(rt),

@@ -47,9 +47,10 @@ journal_data node = object
 abbrev pub messages_data : NodeStatus → Data
 messages_data node = object
     (member (codes "credit") (natural (node.shown).credit)
+    (member (codes "refused") (natural node.refused_messages)
     (member (codes "sent") (natural (node.shown).sent)
     (member (codes "taken") (natural (node.shown).taken)
-    (member (codes "waiting") (natural node.letters) no_members))))
+    (member (codes "waiting") (natural node.letters) no_members)))))
 
 abbrev pub sessions_data : NodeStatus → Data
 sessions_data node = object
@@ -66,13 +67,14 @@ stands_data node = object
 
 abbrev pub node_data : NodeStatus → Data
 node_data node = object
+    (member (codes "elections") (natural node.elections)
     (member (codes "journal") (journal_data node)
     (member (codes "messages") (messages_data node)
     (member (codes "node") (natural node.node)
     (member (codes "port") (natural node.port)
     (member (codes "sessions") (sessions_data node)
     (member (codes "stands") (stands_data node)
-    (member (codes "state") (string (condition_text node.condition)) no_members)))))))
+    (member (codes "state") (string (condition_text node.condition)) no_members))))))))
 
 -- ---- the ring
 

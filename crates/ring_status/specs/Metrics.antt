@@ -21,6 +21,8 @@ name_text of.Durable = codes "cinoweta_durable_inputs_total"
 name_text of.Sent = codes "cinoweta_messages_sent_total"
 name_text of.Taken = codes "cinoweta_messages_taken_total"
 name_text of.Credit = codes "cinoweta_messages_credited_total"
+name_text of.RefusedMessages = codes "cinoweta_messages_refused_total"
+name_text of.Elections = codes "cinoweta_elections_total"
 name_text of.Used = codes "cinoweta_journal_used_bytes"
 name_text of.Snapshot = codes "cinoweta_journal_snapshot_bytes"
 name_text of.Renewable = codes "cinoweta_journal_renewable"
@@ -50,6 +52,8 @@ help_text of.Durable = codes "Inputs of the node that are durable."
 help_text of.Sent = codes "Messages that the node sent to its successor."
 help_text of.Taken = codes "Messages of its predecessor that the node took."
 help_text of.Credit = codes "Messages that the successor credited."
+help_text of.RefusedMessages = codes "Messages that the node refused for want of room since the start."
+help_text of.Elections = codes "Leaders that became known to the node since the start."
 help_text of.Used = codes "Bytes of its capacity that its last snapshot and the inputs since take."
 help_text of.Snapshot = codes "Bytes of the snapshot that a checkpoint would write now."
 help_text of.Renewable = codes "Whether another checkpoint can come, with a snapshot of a quarter of the capacity at most."
@@ -80,6 +84,8 @@ kind_text of.Durable = codes "counter"
 kind_text of.Sent = codes "counter"
 kind_text of.Taken = codes "counter"
 kind_text of.Credit = codes "counter"
+kind_text of.RefusedMessages = codes "counter"
+kind_text of.Elections = codes "counter"
 kind_text of.Used = codes "gauge"
 kind_text of.Snapshot = codes "gauge"
 kind_text of.Renewable = codes "gauge"
@@ -138,6 +144,8 @@ value_of of.Durable node = (node.shown).durable
 value_of of.Sent node = (node.shown).sent
 value_of of.Taken node = (node.shown).taken
 value_of of.Credit node = (node.shown).credit
+value_of of.RefusedMessages node = node.refused_messages
+value_of of.Elections node = node.elections
 value_of of.Used node = node.used
 value_of of.Snapshot node = node.snapshot
 value_of of.Renewable node = (if node.renewable then 1 else 0)
@@ -161,7 +169,7 @@ value_of of.Letters node = node.letters
 unfoldable pub metrics : List Metric
 metrics =
     of.Failed ∷ of.Hangs ∷ of.Full ∷ of.AtLimit ∷ of.Inputs ∷ of.Durable ∷ of.Sent
-    ∷ of.Taken ∷ of.Credit ∷ of.Used ∷ of.Snapshot ∷ of.Renewable ∷ of.Capacity ∷ of.Stands ∷ of.StandsLeft
+    ∷ of.Taken ∷ of.Credit ∷ of.RefusedMessages ∷ of.Elections ∷ of.Used ∷ of.Snapshot ∷ of.Renewable ∷ of.Capacity ∷ of.Stands ∷ of.StandsLeft
     ∷ of.Floors ∷ of.Batches ∷ of.Checkpoints ∷ of.Epoch ∷ of.Layout ∷ of.Syncs ∷ of.Writing ∷ of.RefusedRounds ∷ of.Sessions ∷ of.Doors ∷ of.BusyDoors ∷ of.Letters ∷ []
 
 -- ---- the text
@@ -195,6 +203,15 @@ started_family started =
     head_of (codes "cinoweta_start_time_seconds") (codes "When the program was started, in Unix time.") (codes "gauge")
     ++ codes "cinoweta_start_time_seconds" ++ codes " " ++ decimal started ++ codes "\n"
 
--- when the ring was started, what is measured, and the refusals
-unfoldable pub metrics_body : ℕ → List NodeStatus → List ℕ
-metrics_body started nodes = started_family started ++ flat_map (family_of nodes) metrics ++ refusals_head ++ flat_map refusal_samples nodes
+unfoldable pub version_family : List ℕ → List ℕ
+version_family version =
+    head_of (codes "cinoweta_build_info") (codes "1, with the version of the program.") (codes "gauge")
+    ++ codes "cinoweta_build_info" ++ codes "{version=\"" ++ version ++ codes "\"} 1\n"
+
+-- what is told of the program
+abbrev pub program_families : List ℕ → ℕ → List ℕ
+program_families version started = version_family version ++ started_family started
+
+-- the version, when the ring was started, what is measured, and the refusals
+unfoldable pub metrics_body : List ℕ → ℕ → List NodeStatus → List ℕ
+metrics_body version started nodes = program_families version started ++ flat_map (family_of nodes) metrics ++ refusals_head ++ flat_map refusal_samples nodes

@@ -64,6 +64,7 @@ fn messages_json(alloc: Global, node: &NodeStatus) -> Result<Value, AllocError>
 {
     json!(in alloc; {
         "credit": node.shown.credit,
+        "refused": node.refused_messages,
         "sent": node.shown.sent,
         "taken": node.shown.taken,
         "waiting": node.letters
@@ -96,6 +97,7 @@ fn node_json(alloc: Global, node: &NodeStatus) -> Result<Value, AllocError>
     let sessions = sessions_json(alloc, node)?;
     let stands = stands_json(alloc, node)?;
     json!(in alloc; {
+        "elections": node.elections,
         "journal": journal,
         "messages": messages,
         "node": node.node.number(),

@@ -16,6 +16,8 @@ pub enum Metric {
     Sent,
     Taken,
     Credit,
+    RefusedMessages,
+    Elections,
     Used,
     Snapshot,
     Renewable,
@@ -37,7 +39,7 @@ pub enum Metric {
 }
 
 /// All of them, in the order in which they are told.
-const METRICS: [Metric; 27] = [
+const METRICS: [Metric; 29] = [
     Metric::Failed,
     Metric::Hangs,
     Metric::Full,
@@ -47,6 +49,8 @@ const METRICS: [Metric; 27] = [
     Metric::Sent,
     Metric::Taken,
     Metric::Credit,
+    Metric::RefusedMessages,
+    Metric::Elections,
     Metric::Used,
     Metric::Snapshot,
     Metric::Renewable,
@@ -90,6 +94,8 @@ impl Metric {
             Metric::Sent => "cinoweta_messages_sent_total",
             Metric::Taken => "cinoweta_messages_taken_total",
             Metric::Credit => "cinoweta_messages_credited_total",
+            Metric::RefusedMessages => "cinoweta_messages_refused_total",
+            Metric::Elections => "cinoweta_elections_total",
             Metric::Used => "cinoweta_journal_used_bytes",
             Metric::Snapshot => "cinoweta_journal_snapshot_bytes",
             Metric::Renewable => "cinoweta_journal_renewable",
@@ -126,6 +132,9 @@ impl Metric {
             Metric::Sent => "Messages that the node sent to its successor.",
             Metric::Taken => "Messages of its predecessor that the node took.",
             Metric::Credit => "Messages that the successor credited.",
+            Metric::RefusedMessages =>
+                "Messages that the node refused for want of room since the start.",
+            Metric::Elections => "Leaders that became known to the node since the start.",
             Metric::Used =>
                 "Bytes of its capacity that its last snapshot and the inputs since take.",
             Metric::Snapshot => "Bytes of the snapshot that a checkpoint would write now.",
@@ -160,6 +169,8 @@ impl Metric {
             | Metric::Sent
             | Metric::Taken
             | Metric::Credit
+            | Metric::RefusedMessages
+            | Metric::Elections
             | Metric::Batches
             | Metric::Checkpoints
             | Metric::Syncs
@@ -183,6 +194,8 @@ impl Metric {
             Metric::Sent => node.shown.sent,
             Metric::Taken => node.shown.taken,
             Metric::Credit => node.shown.credit,
+            Metric::RefusedMessages => node.refused_messages,
+            Metric::Elections => node.elections,
             Metric::Used => node.used,
             Metric::Snapshot => node.snapshot,
             Metric::Renewable => u64::from(node.renewable),

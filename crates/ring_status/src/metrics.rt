@@ -1,7 +1,7 @@
 // The text for Prometheus.
 ghost use Rattle.std.specs.Prelude.{◌≡◌, ◌++◌, IfOk, OnOk, string_bytes};
 ghost use Rattle.std.specs.List.{flat_map};
-ghost use Rattle.ring_status.specs.Metrics.{family_of, head_of, metrics_body, refusal_sample, refusal_samples, refusals_head, sample, started_family};
+ghost use Rattle.ring_status.specs.Metrics.{family_of, head_of, metrics_body, program_families, refusal_sample, refusal_samples, refusals_head, sample, started_family, version_family};
 
 use crate::metric::Metric;
 use crate::values::{NodeStatus, RefusalCount, RingStatus};
@@ -100,6 +100,26 @@ fn print_started(out: &mut String, started: u64) -> Result<(), AllocError>
     )
 }
 
+#[tactic(auto, unfolding(crate::specs::Metrics::version_family))]
+fn print_version(out: &mut String, version: &str) -> Result<(), AllocError>
+    ensures { OnOk result (string_bytes out.new ≡ string_bytes out.old ++ version_family version.now) }
+{
+    let name = "cinoweta_build_info";
+    let help = "1, with the version of the program.";
+    writeln!(
+        out,
+        "# HELP {name} {help}\n# TYPE {name} gauge\n{name}{{version=\"{version}\"}} 1"
+    )
+}
+
+#[tactic(auto, using(crate::proofs::Appends::two))]
+fn print_program(out: &mut String, ring: &RingStatus<'_>) -> Result<(), AllocError>
+    ensures { OnOk result (string_bytes out.new ≡ string_bytes out.old ++ program_families (ring.now.version).now ring.now.started) }
+{
+    print_version(out, ring.version)?;
+    print_started(out, ring.started)
+}
+
 #[tactic(auto, unfolding(crate::specs::Metrics::refusals_head))]
 fn print_refusals_head(out: &mut String) -> Result<(), AllocError>
     ensures { OnOk result (string_bytes out.new ≡ string_bytes out.old ++ refusals_head) }
@@ -114,9 +134,9 @@ fn print_refusals_head(out: &mut String) -> Result<(), AllocError>
 
 #[tactic(auto, using(crate::proofs::Appends::four), unfolding(crate::specs::Metrics::metrics_body))]
 fn print_all(out: &mut String, ring: &RingStatus<'_>) -> Result<(), AllocError>
-    ensures { OnOk result (string_bytes out.new ≡ string_bytes out.old ++ metrics_body ring.now.started ring.now.nodes.now) }
+    ensures { OnOk result (string_bytes out.new ≡ string_bytes out.old ++ metrics_body (ring.now.version).now ring.now.started ring.now.nodes.now) }
 {
-    print_started(out, ring.started)?;
+    print_program(out, ring)?;
     print_families(out, Metric::all(), ring.nodes)?;
     print_refusals_head(out)?;
     print_all_refusals(out, ring.nodes)
@@ -124,7 +144,7 @@ fn print_all(out: &mut String, ring: &RingStatus<'_>) -> Result<(), AllocError>
 
 /// The numbers of a ring in the text format of Prometheus, version 0.0.4. Refused for want of memory alone.
 pub fn metrics_text(alloc: Global, ring: &RingStatus<'_>) -> Result<String, AllocError>
-    ensures { IfOk result (λ text. string_bytes text ≡ metrics_body ring.now.started ring.now.nodes.now) }
+    ensures { IfOk result (λ text. string_bytes text ≡ metrics_body (ring.now.version).now ring.now.started ring.now.nodes.now) }
 {
     let mut out = String::new(alloc);
     print_all(&mut out, ring)?;

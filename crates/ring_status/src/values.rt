@@ -71,6 +71,10 @@ pub struct NodeStatus {
     pub busy: u64,
     /// How many messages wait in its letterbox.
     pub letters: u64,
+    /// How many messages it refused for want of room.
+    pub refused_messages: u64,
+    /// How many leaders became known to it.
+    pub elections: u64,
 }
 
 /// What is told of a ring.

@@ -14,6 +14,8 @@ pub struct Tally {
     checkpoints: AtomicU64,
     syncs: AtomicU64,
     refused_rounds: AtomicU64,
+    refused_messages: AtomicU64,
+    elections: AtomicU64,
     sessions: AtomicU64,
     busy: AtomicU64,
     // when its device was given what it writes
@@ -34,6 +36,8 @@ impl Tally {
             checkpoints: AtomicU64::new(0),
             syncs: AtomicU64::new(0),
             refused_rounds: AtomicU64::new(0),
+            refused_messages: AtomicU64::new(0),
+            elections: AtomicU64::new(0),
             sessions: AtomicU64::new(0),
             busy: AtomicU64::new(0),
             since: Mutex::new(None),
@@ -75,6 +79,16 @@ impl Tally {
         self.refused_rounds.fetch_add(1, Ordering::SeqCst);
     }
 
+    /// A message was refused for want of room.
+    pub fn count_refused_message(&self) {
+        self.refused_messages.fetch_add(1, Ordering::SeqCst);
+    }
+
+    /// So many leaders became known.
+    pub fn count_elections(&self, count: u64) {
+        self.elections.fetch_add(count, Ordering::SeqCst);
+    }
+
     /// A session begins at one of the doors.
     pub fn begin_session(&self) {
         self.sessions.fetch_add(1, Ordering::SeqCst);
@@ -114,6 +128,16 @@ impl Tally {
         self.refused_rounds.load(Ordering::SeqCst)
     }
 
+    /// How many messages were refused for want of room.
+    pub fn refused_messages(&self) -> u64 {
+        self.refused_messages.load(Ordering::SeqCst)
+    }
+
+    /// How many leaders became known.
+    pub fn elections(&self) -> u64 {
+        self.elections.load(Ordering::SeqCst)
+    }
+
     /// How many sessions were begun.
     pub fn sessions(&self) -> u64 {
         self.sessions.load(Ordering::SeqCst)
@@ -124,14 +148,15 @@ impl Tally {
         self.busy.load(Ordering::SeqCst)
     }
 
-    /// The refusals that clients were told, in order of their numbers; those that none was told are left out.
+    /// The refusals that clients were told, in order of their numbers. Those that none was told are left out, but those from
+    /// 3 to 9 are told from the start on, so that a rate shows the first one.
     pub fn refusals(&self, alloc: Global) -> Result<Vec<RefusalCount>, AllocError> {
         let mut told = Vec::new(alloc);
         let mut number = 0u8;
         for count in &self.refusals {
             number = number.saturating_add(1);
             let count = count.load(Ordering::SeqCst);
-            if count > 0 {
+            if count > 0 || (3..=9).contains(&number) {
                 told.push(RefusalCount { number, count })?;
             }
         }

@@ -32,7 +32,7 @@ const OPEN: &[Say] = &[
         7230,
         Target(
             "/status",
-            b"{\"dir\":\"told\",\"nodes\":[{\"journal\":{\"batches\":",
+            b"{\"dir\":\"told\",\"nodes\":[{\"elections\":",
         ),
     ),
     // a checkpoint would write 42 bytes of counts, 18 of the key, where it stood and leads, and 28 of two messages
@@ -68,14 +68,14 @@ const OPEN: &[Say] = &[
         7230,
         Target(
             "/status",
-            b"\"sessions\":{\"begun\":1,\"busy\":1,\"doors\":2,\"refusals\":[{\"count\":1,\"number\":1},{\"count\":1,\"number\":3},{\"count\":1,\"number\":26}]},\"stands\":{\"floors\":0,\"left\":1023,\"taken\":1},\"state\":\"well\"},",
+            b"\"sessions\":{\"begun\":1,\"busy\":1,\"doors\":2,\"refusals\":[{\"count\":1,\"number\":1},{\"count\":1,\"number\":3},{\"count\":0,\"number\":4},{\"count\":0,\"number\":5},{\"count\":0,\"number\":6},{\"count\":0,\"number\":7},{\"count\":0,\"number\":8},{\"count\":0,\"number\":9},{\"count\":1,\"number\":26}]},\"stands\":{\"floors\":0,\"left\":1023,\"taken\":1},\"state\":\"well\"},",
         ),
     ),
     Meanwhile(
         7230,
         Target(
             "/status",
-            b"\"sessions\":{\"begun\":0,\"busy\":0,\"doors\":2,\"refusals\":[]},\"stands\":{\"floors\":0,\"left\":1024,\"taken\":0},\"state\":\"well\"}],\"started\":",
+            b"\"sessions\":{\"begun\":0,\"busy\":0,\"doors\":2,\"refusals\":[{\"count\":0,\"number\":3},{\"count\":0,\"number\":4},{\"count\":0,\"number\":5},{\"count\":0,\"number\":6},{\"count\":0,\"number\":7},{\"count\":0,\"number\":8},{\"count\":0,\"number\":9}]},\"stands\":{\"floors\":0,\"left\":1024,\"taken\":0},\"state\":\"well\"}],\"started\":",
         ),
     ),
     Meanwhile(7230, Target("/status", b",\"version\":\"0.1.0\"}")),
@@ -94,7 +94,7 @@ const OPEN: &[Say] = &[
         7230,
         Target(
             "/metrics",
-            b"\ncinoweta_refusals_total{node=\"1\",number=\"1\"} 1\ncinoweta_refusals_total{node=\"1\",number=\"3\"} 1\ncinoweta_refusals_total{node=\"1\",number=\"26\"} 1\n",
+            b"\ncinoweta_refusals_total{node=\"1\",number=\"1\"} 1\ncinoweta_refusals_total{node=\"1\",number=\"3\"} 1\ncinoweta_refusals_total{node=\"1\",number=\"4\"} 0\n",
         ),
     ),
     Meanwhile(
@@ -117,6 +117,10 @@ const OPEN: &[Say] = &[
             "/leaders/red",
             b"{\"by\":1,\"leader\":{\"bid\":10,\"group\":\"red\",\"node\":1,\"term\":5},\"present\":true}",
         ),
+    ),
+    Meanwhile(
+        7230,
+        Told("/metrics", b"\ncinoweta_elections_total{node=\"1\"} 1\n"),
     ),
     Meanwhile(7230, Target("/live", b"live\n")),
     Meanwhile(7230, Whole(b"GET /health HTTP/1.1\r\n\r\n", WELL)),

@@ -56,8 +56,8 @@ fn status(rt: HostRuntime) -> Result<(), Fail> {
     };
     assert_eq!(rt;
         status_json(rt.alloc(), &ring)?.as_str(),
-        "{\"dir\":\"a\\\"b\",\"nodes\":[{\"journal\":{\"batches\":5,\"capacity\":65536,\"checkpoints\":13,\"durable\":29,\
-         \"epoch\":14,\"inputs\":30,\"layout\":3,\"refused\":16,\"renewable\":true,\"snapshot\":345,\"syncs\":6,\"used\":1234,\"writing\":12},\"messages\":{\"credit\":10,\"sent\":12,\"taken\":11,\
+        "{\"dir\":\"a\\\"b\",\"nodes\":[{\"elections\":18,\"journal\":{\"batches\":5,\"capacity\":65536,\"checkpoints\":13,\"durable\":29,\
+         \"epoch\":14,\"inputs\":30,\"layout\":3,\"refused\":16,\"renewable\":true,\"snapshot\":345,\"syncs\":6,\"used\":1234,\"writing\":12},\"messages\":{\"credit\":10,\"refused\":17,\"sent\":12,\"taken\":11,\
          \"waiting\":9},\"node\":2,\"port\":7102,\"sessions\":{\"begun\":8,\"busy\":3,\"doors\":4,\"refusals\":[{\"count\":2,\"number\":4},\
          {\"count\":1,\"number\":25}]},\"stands\":{\"floors\":15,\"left\":1017,\"taken\":7},\"state\":\"limit\"}],\
          \"started\":1700000000,\"version\":\"0.1.0\"}"
@@ -102,9 +102,15 @@ fn metrics(rt: HostRuntime) -> Result<(), Fail> {
         nodes: &nodes,
     };
     let text = metrics_text(rt.alloc(), &ring)?;
-    // 29 families of two lines each, a line for each node in 27 of them, two of them with two refusals, and the start
-    assert_eq!(rt; text.as_str().lines().count(), 29 * 2 + 27 * 2 + 2 * 2 + 1);
+    // 32 families of two lines each, a line for each node in 29 of them, two of them with two refusals, version and start
+    assert_eq!(rt; text.as_str().lines().count(), 32 * 2 + 29 * 2 + 2 * 2 + 2);
     for part in [
+        "# HELP cinoweta_build_info 1, with the version of the program.\n# TYPE cinoweta_build_info \
+         gauge\ncinoweta_build_info{version=\"0.1.0\"} 1\n",
+        "# HELP cinoweta_messages_refused_total Messages that the node refused for want of room since the start.\n# TYPE \
+         cinoweta_messages_refused_total counter\ncinoweta_messages_refused_total{node=\"1\"} 17\n",
+        "# HELP cinoweta_elections_total Leaders that became known to the node since the start.\n# TYPE \
+         cinoweta_elections_total counter\ncinoweta_elections_total{node=\"1\"} 18\n",
         "# HELP cinoweta_start_time_seconds When the program was started, in Unix time.\n# TYPE \
          cinoweta_start_time_seconds gauge\ncinoweta_start_time_seconds 1700000000\n",
         "# HELP cinoweta_node_full Whether the node has no room for a Stand or a message.\n# TYPE cinoweta_node_full \

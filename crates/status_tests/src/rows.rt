@@ -51,6 +51,8 @@ pub fn node(
         doors: 4,
         busy: 3,
         letters: 9,
+        refused_messages: 17,
+        elections: 18,
     })
 }
 
