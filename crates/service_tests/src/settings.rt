@@ -170,10 +170,10 @@ static TAKEN: [(&[&str], Words<'static>); 8] = [
         },
     ),
     (
-        &["ringd", "--listen", "10.0.0.255", "--watchers=0"],
+        &["ringd", "--listen", "0.0.0.0", "--watchers=0"],
         Words {
             watchers: 0,
-            listen: Ipv4Addr::new(10, 0, 0, 255),
+            listen: Ipv4Addr::UNSPECIFIED,
             ..ALONE
         },
     ),
