@@ -20,7 +20,7 @@ class LockTaken(CinowetaError):
 
 
 class WrongRing(CinowetaError):
-    """The ports are not those of a ring, from its node 1 on."""
+    """The ports are not those of a ring, from its node 1 on, or the host is none."""
 
 
 class Refused(CinowetaError):
