@@ -20,6 +20,11 @@ def require(host: str) -> str:
     return host
 
 
+def is_own(host: str) -> bool:
+    """Whether it is an address of this host alone, one of 127.0.0.0/8."""
+    return host.startswith("127.") and ADDRESS.fullmatch(host) is not None
+
+
 def place(text: str, host: str) -> tuple[str, int]:
     """The host and the port of a text as `10.0.0.5:7100`; a port alone is one of this host. Else `WrongRing`."""
     words = re.fullmatch(r"(?:([^:]*):)?(\d{1,5})", text, re.ASCII)
