@@ -6,6 +6,7 @@ import (
 	"net/netip"
 	"regexp"
 	"strconv"
+	"strings"
 )
 
 const (
@@ -39,6 +40,15 @@ func requireHost(host string) error {
 		return nil
 	}
 	return &WrongRingError{fmt.Sprintf("%q is no IPv4 address and no name of a host", host)}
+}
+
+// requireOwn gives a [WrongRingError] where a ring is one of another host: there its holders would be seen.
+func requireOwn(host string) error {
+	if host == "" || isAddress(host) && strings.HasPrefix(host, "127.") {
+		return nil
+	}
+	const text = "%s: a lock is for clients of the ring's own host, at 127.0.0.1, where a holder is seen"
+	return &WrongRingError{fmt.Sprintf(text, host)}
 }
 
 // address is that of a port of the host, of this one where none is told.

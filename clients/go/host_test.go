@@ -7,8 +7,10 @@ import (
 	"time"
 )
 
-// otherHost stands for one with a ring.
-const otherHost = "127.0.0.2"
+const (
+	// otherHost stands for one with a ring, silentHost for one that nothing may be sent to.
+	otherHost, silentHost = "127.0.0.2", "10.0.0.5"
+)
 
 // parts are of a name that may have two bytes more.
 var parts = strings.Repeat(strings.Repeat("a", 63)+".", 3) + strings.Repeat("b", 59)
@@ -97,4 +99,32 @@ func TestTheStatusOfAnotherHostIsAskedThere(t *testing.T) {
 	same(t, strings.HasPrefix(as[*WrongRingError](t, err).Text, otherHost+":"), true)
 	_, err = Health(background(t), "", ring.Status)
 	as[*NoAnswerError](t, err)
+}
+
+func TestALockWithARingOfAnotherHostIsRefusedBeforeAnythingIsSent(t *testing.T) {
+	leavesNone(t)
+	for _, host := range []string{silentHost, "127.example", "localhost", "128.0.0.1", "0.0.0.0"} {
+		ring, err := NewRing(7101, 7103)
+		must(t, err)
+		ring.Host = host
+		wanted := "cinoweta: " + host + ": a lock is for clients of the ring's own host, at 127.0.0.1, where a holder is seen"
+		before, lock := time.Now(), lockOf(t, ring, LockOptions{})
+		_, _, held := ring.Holder(background(t), "red", 0)
+		for _, err := range []error{lock.Acquire(background(t)), lock.TryAcquire(background(t)), held} {
+			same(t, as[*WrongRingError](t, err), wanted)
+		}
+		same(t, []any{lock.beacon == nil, ring.session == nil, time.Since(before) < 100*time.Millisecond}, []any{true, true, true})
+	}
+}
+
+func TestALockIsHeldWithARingOfEachOwnAddress(t *testing.T) {
+	votes := newVotes()
+	ring, _ := besideAt(t, otherHost, votes.at(1), votes.at(2))
+	lock := lockOf(t, ring, LockOptions{})
+	must(t, lock.Acquire(background(t)))
+	lock.every = 0
+	same(t, holds(t, lock), true)
+	holder, isHeld, err := ring.Holder(background(t), "red", 0)
+	must(t, err)
+	same(t, []any{isHeld, holder.Term}, []any{true, 1})
 }
