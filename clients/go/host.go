@@ -42,7 +42,8 @@ func requireHost(host string) error {
 	return &WrongRingError{fmt.Sprintf("%q is no IPv4 address and no name of a host", host)}
 }
 
-// requireOwn gives a [WrongRingError] where a ring is one of another host: there its holders would be seen.
+// requireOwn gives a [WrongRingError] where a ring is one of another host, whose clients may be where nobody sees a
+// holder.
 func requireOwn(host string) error {
 	if host == "" || isAddress(host) && strings.HasPrefix(host, "127.") {
 		return nil

@@ -34,8 +34,8 @@ var (
 // a time; where one breaks off, of the next node, until Timeout is over: then a [NoAnswerError]. A Stand stays with its
 // node. Goroutines may share a Ring; one waits for the other.
 type Ring struct {
-	// Host is the IPv4 address or the name of the host; 127.0.0.1 where it is "". What is none is refused where it is
-	// asked: a [WrongRingError].
+	// Host is the IPv4 address or the name of the host; 127.0.0.1 where it is "". Else whatever is asked gives a
+	// [WrongRingError].
 	Host string
 	// Timeout is how long a question is asked; DefaultTimeout where it is 0.
 	Timeout time.Duration

@@ -1,7 +1,8 @@
 """A lock: who leads for a group holds it, in a term of its own.
 
-Whoever waits for the lock has to see whether the leader is still there. The ring does not tell. So who leads listens at
-a port of 127.0.0.1, which its bid names, and answers there with its bid. It is seen on the ring's own host alone.
+Whoever waits for the lock has to see whether the leader is still there. The ring does not tell; but all clients of a
+lock are on the ring's host. So who leads listens at a port of 127.0.0.1, which its bid names, and answers there with its
+bid.
 """
 import time
 from collections.abc import Callable
@@ -37,7 +38,7 @@ def holder_of(known: Led, seconds: float) -> Holder | None:
 
 
 def require_own(ring: Ring) -> None:
-    """`WrongRing` where the ring is one of another host: there its holders would be seen."""
+    """`WrongRing` where the ring is one of another host, whose clients may be where nobody sees a holder."""
     if not is_own(ring.host):
         raise WrongRing(f"{ring.host}: a lock is for clients of the ring's own host, at 127.0.0.1, where a holder is seen")
 
