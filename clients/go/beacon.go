@@ -47,7 +47,7 @@ func newBeacon(rank int, text string) (*beacon, error) {
 	if err != nil {
 		return nil, err
 	}
-	listener, err := net.Listen("tcp", address(0))
+	listener, err := net.Listen("tcp", address(ownHost, 0))
 	if err != nil {
 		return nil, fmt.Errorf("cinoweta: %w", err)
 	}
@@ -105,7 +105,7 @@ func isLine(text string) bool {
 func askBeacon(ctx context.Context, bid int, line string, limit time.Duration) string {
 	ctx, cancel := context.WithTimeout(ctx, limit)
 	defer cancel()
-	conn, err := dial(ctx, portOf(bid), limit)
+	conn, err := dial(ctx, address(ownHost, portOf(bid)), limit)
 	if err != nil {
 		return ""
 	}

@@ -43,7 +43,7 @@ func TestABeaconAnswersToItsOwnBidAlone(t *testing.T) {
 
 func TestABeaconThatIsSilentIsNotThere(t *testing.T) {
 	leavesNone(t)
-	listener, err := net.Listen("tcp", address(0))
+	listener, err := net.Listen("tcp", address("", 0))
 	must(t, err)
 	defer listener.Close()
 	before := time.Now()

@@ -193,6 +193,6 @@ func (c *campaign) faults(ctx context.Context) []string {
 	if c.ring.Status == 0 {
 		return nil
 	}
-	faults, _ := Health(ctx, c.ring.Status)
+	faults, _ := Health(ctx, c.ring.Host, c.ring.Status)
 	return faults
 }

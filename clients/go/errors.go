@@ -164,7 +164,8 @@ func (e *LockLostError) Unwrap() error {
 	return e.Err
 }
 
-// A WrongRingError says that the ports are not those of a ring, from its node 1 on, or not that of its status.
+// A WrongRingError says that the ports are not those of a ring, from its node 1 on, or not that of its status; or that
+// the host is none, or for a lock another one.
 type WrongRingError struct {
 	// Text says what was found.
 	Text string

@@ -28,8 +28,8 @@ type node struct {
 	conns  []net.Conn
 }
 
-func newNode(port int, answer answer) (*node, error) {
-	listener, err := net.Listen("tcp", address(port))
+func newNode(address string, answer answer) (*node, error) {
+	listener, err := net.Listen("tcp", address)
 	if err != nil {
 		return nil, err
 	}
@@ -105,11 +105,17 @@ func (n *node) end() {
 // beside gives a ring of nodes that answer so, at ports that lie side by side.
 func beside(t *testing.T, answers ...answer) (*Ring, []*node) {
 	t.Helper()
+	return besideAt(t, "", answers...)
+}
+
+// besideAt gives one at this host.
+func besideAt(t *testing.T, host string, answers ...answer) (*Ring, []*node) {
+	t.Helper()
 	leavesNone(t)
 	for range make([]struct{}, 100) {
 		first, nodes := 20_000+rand.Intn(12_000), []*node{}
 		for place, answer := range answers {
-			if made, err := newNode(first+place, answer); err == nil {
+			if made, err := newNode(address(host, first+place), answer); err == nil {
 				nodes = append(nodes, made)
 			}
 		}
@@ -124,7 +130,7 @@ func beside(t *testing.T, answers ...answer) (*Ring, []*node) {
 		}
 		ring, err := NewRing(first, first+len(answers)-1)
 		must(t, err)
-		ring.Timeout = 3 * time.Second
+		ring.Host, ring.Timeout = host, 3*time.Second
 		t.Cleanup(end)
 		t.Cleanup(func() { ring.Close() })
 		return ring, nodes

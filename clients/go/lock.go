@@ -62,7 +62,8 @@ func NewLock(ring *Ring, group string, how LockOptions) *Lock {
 }
 
 // Acquire waits until this process leads, or the context is over: then a [LockTakenError] where another process holds
-// the lock. A ring that is away, and answered before, is waited for just so: then a [NoAnswerError].
+// the lock. A ring that is away, and answered before, is waited for just so: then a [NoAnswerError]. One of another host
+// is a [WrongRingError]: a holder is seen at a port of 127.0.0.1.
 func (l *Lock) Acquire(ctx context.Context) error {
 	return l.acquire(ctx, ctx)
 }
@@ -177,6 +178,9 @@ func (l *Lock) acquire(ctx, waits context.Context) error {
 
 // begin lights the beacon, for whose bid the campaign is.
 func (l *Lock) begin() (*campaign, error) {
+	if err := requireOwn(l.ring.Host); err != nil {
+		return nil, err
+	}
 	l.mutex.Lock()
 	defer l.mutex.Unlock()
 	if l.beacon != nil {
@@ -264,8 +268,11 @@ func (l *Lock) tell(text string) {
 }
 
 // Holder tells who holds the lock of the group and answers within the patience, DefaultPatience where that is 0; false
-// where nobody does.
+// where nobody does. Of a ring of another host that is a [WrongRingError].
 func (r *Ring) Holder(ctx context.Context, group string, patience time.Duration) (Holder, bool, error) {
+	if err := requireOwn(r.Host); err != nil {
+		return Holder{}, false, err
+	}
 	known, isKnown, err := r.Latest(ctx, group, AnyNode)
 	if !isKnown {
 		return Holder{}, false, err

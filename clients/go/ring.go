@@ -30,14 +30,17 @@ var (
 	latestText = regexp.MustCompile(`^term ([0-9]+) leader ([0-9]+) ([0-9]+)$`)
 )
 
-// A Ring is one of 127.0.0.1, whose nodes listen at ports side by side. Questions are asked of any node, over one
-// session at a time; where one breaks off, of the next node, until Timeout is over: then a [NoAnswerError]. A Stand
-// stays with its node. Goroutines may share a Ring; one waits for the other.
+// A Ring is one whose nodes listen at ports of a host side by side. Questions are asked of any node, over one session at
+// a time; where one breaks off, of the next node, until Timeout is over: then a [NoAnswerError]. A Stand stays with its
+// node. Goroutines may share a Ring; one waits for the other.
 type Ring struct {
+	// Host is the IPv4 address or the name of the host; 127.0.0.1 where it is "". Else whatever is asked gives a
+	// [WrongRingError].
+	Host string
 	// Timeout is how long a question is asked; DefaultTimeout where it is 0.
 	Timeout time.Duration
-	// Status is the port where `ringd --status` tells of the ring, or 0: then a [NoLeaderError] says which node is not
-	// well.
+	// Status is the port of the host where `ringd --status` tells of the ring, or 0: then a [NoLeaderError] says which
+	// node is not well.
 	Status int
 
 	first, nodes int
@@ -63,16 +66,28 @@ func newRing(first, nodes int) *Ring {
 	return &Ring{first: first, nodes: nodes, turn: make(chan struct{}, 1), place: 1}
 }
 
-// ParseRing gives the ring of a text as 7101-7103.
+// ParseRing gives the ring of a text as 7101-7103, or as 10.0.0.5:7101-7103 where it is one of another host.
 func ParseRing(text string) (*Ring, error) {
-	ports, isSo := numbers(portsText, text)
-	if !isSo {
-		return nil, &WrongRingError{fmt.Sprintf("%q: ports are told as 7101-7103", text)}
+	host, behind, hasHost := strings.Cut(text, ":")
+	if !hasHost {
+		host, behind = ownHost, text
 	}
-	return NewRing(ports[0], ports[1])
+	ports, isSo := numbers(portsText, behind)
+	if !isSo || host == "" {
+		return nil, &WrongRingError{fmt.Sprintf("%q: a ring is told as 7101-7103, or as 10.0.0.5:7101-7103", text)}
+	}
+	ring, err := NewRing(ports[0], ports[1])
+	if err == nil {
+		err = requireHost(host)
+	}
+	if err != nil {
+		return nil, err
+	}
+	ring.Host = host
+	return ring, nil
 }
 
-// RingFromEnv gives the ring of CINOWETA_RING, a text as 7101-7103, with the status port of CINOWETA_STATUS, which may
+// RingFromEnv gives the ring of CINOWETA_RING, as [ParseRing] does, with the status port of CINOWETA_STATUS, which may
 // be left out.
 func RingFromEnv() (*Ring, error) {
 	ring, err := ParseRing(os.Getenv("CINOWETA_RING"))
@@ -181,8 +196,11 @@ func (r *Ring) ask(ctx context.Context, line string, node int) (string, error) {
 	if strings.Contains(line, "\n") || node < 0 || node > r.nodes {
 		return "", errors.New("cinoweta: a question is one line, to a node of the ring")
 	}
+	if err := requireHost(r.Host); err != nil {
+		return "", err
+	}
 	if !r.take(ctx) {
-		return "", noAnswer(ctx, address(r.first), nil)
+		return "", noAnswer(ctx, r.address(1), nil)
 	}
 	defer r.give()
 	answer, err := r.askAgain(ctx, line, node)
@@ -217,7 +235,7 @@ func (r *Ring) askAgain(ctx context.Context, line string, node int) (string, err
 			sleep(ctx, pause)
 		}
 		if isLast || ended(ctx) != nil {
-			return "", noAnswer(ctx, address(r.port(place)), err)
+			return "", noAnswer(ctx, r.address(place), err)
 		}
 	}
 }
@@ -225,11 +243,11 @@ func (r *Ring) askAgain(ctx context.Context, line string, node int) (string, err
 // askOnce gives the answer of this node, over the session that is open with it, or over a new one.
 func (r *Ring) askOnce(ctx context.Context, line string, place int) (string, error) {
 	limit := atMost(patience, r.timeout())
-	if r.session != nil && r.session.port != r.port(place) {
+	if r.session != nil && r.session.address != r.address(place) {
 		r.closeSession()
 	}
 	if r.session == nil {
-		session, err := openSession(ctx, r.port(place), limit)
+		session, err := openSession(ctx, r.address(place), limit)
 		if err != nil {
 			return "", err
 		}
@@ -281,7 +299,7 @@ func (r *Ring) closeSession() {
 // within gives the same ring, over sessions of its own, and so that an answer is not waited for longer than that.
 func (r *Ring) within(limit time.Duration) *Ring {
 	ring := newRing(r.first, r.nodes)
-	ring.Timeout = atMost(limit, r.timeout())
+	ring.Host, ring.Timeout = r.Host, atMost(limit, r.timeout())
 	return ring
 }
 
@@ -292,8 +310,9 @@ func (r *Ring) timeout() time.Duration {
 	return r.Timeout
 }
 
-func (r *Ring) port(place int) int {
-	return r.first + place - 1
+// address is that of a node.
+func (r *Ring) address(place int) string {
+	return address(r.Host, r.first+place-1)
 }
 
 func (r *Ring) wrong(ctx context.Context, answer string) error {

@@ -58,24 +58,37 @@ func TestRingdTellsOfItself(t *testing.T) {
 	is(t, ring.Stand(background(t), "RED", 5, 10, 1), ErrBadName)
 	must(t, ring.Stand(background(t), "red", 5, 10, 1))
 	same(t, latest(t, ring, 5, 3).Term, 5)
-	faults, err := Health(background(t), ring.Status)
+	faults, err := Health(background(t), ring.Host, ring.Status)
 	must(t, err)
 	same(t, len(faults), 0)
-	told, err := Status(background(t), ring.Status)
+	told, err := Status(background(t), ring.Host, ring.Status)
 	must(t, err)
 	same(t, []any{told.Dir, len(told.Nodes)}, []any{served.dir(), 3})
 	first := told.Nodes[0]
 	same(t, []any{first.Node, first.Port, first.State, first.Stands.Taken}, []any{1, served.first, "well", 1})
 	same(t, first.Sessions.Refusals, []RefusalCount{{ErrBadName, 1}})
-	led, err := Leaders(background(t), ring.Status, 3)
+	led, err := Leaders(background(t), ring.Host, ring.Status, 3)
 	must(t, err)
 	same(t, led, []GroupLed{{"red", Led{5, Leader{1, 10}}}})
 	// The types have all that is told.
-	_, text, err := get(background(t), ring.Status, "/status")
+	_, text, err := get(background(t), ring.Host, ring.Status, "/status")
 	must(t, err)
 	decoder := json.NewDecoder(strings.NewReader(string(text)))
 	decoder.DisallowUnknownFields()
 	must(t, decoder.Decode(&RingStatus{}))
+}
+
+func TestRingdOfAnotherHostIsAsked(t *testing.T) {
+	ring := serveAt(t, otherHost, usual).ring(t)
+	election, err := ring.Campaign(background(t), "red", CampaignOptions{})
+	must(t, err)
+	same(t, []any{ring.Host, election.IsMine}, []any{otherHost, true})
+	_, err = Health(background(t), ring.Host, ring.Status)
+	must(t, err)
+	must(t, ring.Stand(background(t), "blue", 1, 10, 1))
+	// Nobody listens at 127.0.0.1.
+	ring.Host, ring.Timeout = "", 100*time.Millisecond
+	as[*NoAnswerError](t, ring.Stand(background(t), "blue", 2, 10, 1))
 }
 
 func TestOfManyThatCampaignAtOnceOneLeads(t *testing.T) {

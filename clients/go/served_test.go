@@ -76,7 +76,7 @@ func noRingd() string {
 // A served ring is one of three nodes of a real ringd. Killed, it may be started again at the same ports and with what
 // it held.
 type served struct {
-	folder          string
+	folder, host    string
 	first, capacity int
 	process         *exec.Cmd
 }
@@ -84,10 +84,16 @@ type served struct {
 // serve serves a new ring until the end of the test.
 func serve(t *testing.T, capacity int) *served {
 	t.Helper()
+	return serveAt(t, ownHost, capacity)
+}
+
+// serveAt serves one at this host.
+func serveAt(t *testing.T, host string, capacity int) *served {
+	t.Helper()
 	if fault := noRingd(); fault != "" {
 		t.Skip(fault)
 	}
-	made := &served{folder: t.TempDir(), capacity: capacity}
+	made := &served{folder: t.TempDir(), host: host, capacity: capacity}
 	must(t, os.Mkdir(made.dir(), 0o700))
 	t.Cleanup(func() { made.kill() })
 	for range make([]struct{}, 20) {
@@ -108,7 +114,11 @@ func (s *served) start() error {
 		return err
 	}
 	status := fmt.Sprint(s.status())
-	s.process = exec.Command(ringd(), "--settings", settings, "--always", "--doors", "4", "--status", status)
+	words := []string{"--settings", settings, "--always", "--doors", "4", "--status", status}
+	if s.host != ownHost {
+		words = append(words, "--listen", s.host)
+	}
+	s.process = exec.Command(ringd(), words...)
 	out, err := s.process.StdoutPipe()
 	if err != nil {
 		return err
@@ -141,7 +151,7 @@ func (s *served) status() int {
 }
 
 func (s *served) ports() string {
-	return fmt.Sprintf("%d-%d", s.first, s.first+2)
+	return fmt.Sprintf("%s:%d-%d", s.host, s.first, s.first+2)
 }
 
 // ring is a client of its own.

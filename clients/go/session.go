@@ -4,7 +4,6 @@ import (
 	"context"
 	"errors"
 	"net"
-	"strconv"
 	"strings"
 	"time"
 )
@@ -15,16 +14,16 @@ const longestAnswer = 256
 // A session sends a line to a node, and one line is its answer. What fails ends the session, so that a late answer is
 // never read as that of another line.
 type session struct {
-	port int
-	conn net.Conn
+	address string
+	conn    net.Conn
 }
 
-func openSession(ctx context.Context, port int, limit time.Duration) (*session, error) {
-	conn, err := dial(ctx, port, limit)
+func openSession(ctx context.Context, address string, limit time.Duration) (*session, error) {
+	conn, err := dial(ctx, address, limit)
 	if err != nil {
 		return nil, err
 	}
-	return &session{port, conn}, nil
+	return &session{address, conn}, nil
 }
 
 // ask gives the answer to a line, for which it waits so long.
@@ -49,14 +48,9 @@ func (s *session) close() {
 	s.conn.Close()
 }
 
-// address is that of a port of this host.
-func address(port int) string {
-	return net.JoinHostPort("127.0.0.1", strconv.Itoa(port))
-}
-
-func dial(ctx context.Context, port int, limit time.Duration) (net.Conn, error) {
+func dial(ctx context.Context, address string, limit time.Duration) (net.Conn, error) {
 	dialer := net.Dialer{Timeout: limit}
-	return dialer.DialContext(ctx, "tcp", address(port))
+	return dialer.DialContext(ctx, "tcp", address)
 }
 
 // exchange sends what is asked, and gives what is answered up to a last line feed, without it.

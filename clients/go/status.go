@@ -88,10 +88,10 @@ type GroupLed struct {
 	Led
 }
 
-// Health gives a line for each node that is not well, as `node 3 full`, by what `ringd --status` tells at this port;
-// none where all are.
-func Health(ctx context.Context, port int) ([]string, error) {
-	code, text, err := get(ctx, port, "/health")
+// Health gives a line for each node that is not well, as `node 3 full`, by what `ringd --status` tells at this port of
+// the host, which is 127.0.0.1 where it is ""; none where all are.
+func Health(ctx context.Context, host string, port int) ([]string, error) {
+	code, text, err := get(ctx, host, port, "/health")
 	switch {
 	case err != nil:
 		return nil, err
@@ -100,16 +100,16 @@ func Health(ctx context.Context, port int) ([]string, error) {
 	case code == http.StatusServiceUnavailable:
 		return strings.FieldsFunc(string(text), func(letter rune) bool { return letter == '\n' }), nil
 	default:
-		return nil, noStatus(port, "/health", code)
+		return nil, noStatus(host, port, "/health", code)
 	}
 }
 
-// Status gives what is told at this port of the ring and of each node.
-func Status(ctx context.Context, port int) (RingStatus, error) {
+// Status gives what is told there of the ring and of each node.
+func Status(ctx context.Context, host string, port int) (RingStatus, error) {
 	var told RingStatus
-	err := getJSON(ctx, port, "/status", &told)
+	err := getJSON(ctx, host, port, "/status", &told)
 	if err == nil && told.Nodes == nil {
-		err = noStatus(port, "/status", http.StatusOK)
+		err = noStatus(host, port, "/status", http.StatusOK)
 	}
 	return told, err
 }
@@ -123,22 +123,22 @@ type leadersPage struct {
 	More bool
 }
 
-// Leaders gives each group that a node knows a leader of, in order of name, by what is told at this port.
-func Leaders(ctx context.Context, port, node int) ([]GroupLed, error) {
+// Leaders gives each group that a node knows a leader of, in order of name, by what is told there.
+func Leaders(ctx context.Context, host string, port, node int) ([]GroupLed, error) {
 	led := []GroupLed{}
 	for path := fmt.Sprintf("/leaders?node=%d", node); ; {
 		var page leadersPage
-		if err := getJSON(ctx, port, path, &page); err != nil {
+		if err := getJSON(ctx, host, port, path, &page); err != nil {
 			return nil, err
 		}
 		for _, row := range page.Leaders {
 			if row.Group == "" || row.Term == 0 {
-				return nil, noStatus(port, path, http.StatusOK)
+				return nil, noStatus(host, port, path, http.StatusOK)
 			}
 			led = append(led, GroupLed{row.Group, Led{row.Term, Leader{row.Node, row.Bid}}})
 		}
 		if page.Leaders == nil {
-			return nil, noStatus(port, path, http.StatusOK)
+			return nil, noStatus(host, port, path, http.StatusOK)
 		}
 		if !page.More || len(page.Leaders) == 0 {
 			return led, nil
@@ -148,22 +148,25 @@ func Leaders(ctx context.Context, port, node int) ([]GroupLed, error) {
 }
 
 // getJSON reads an answer in JSON.
-func getJSON(ctx context.Context, port int, path string, told any) error {
-	code, text, err := get(ctx, port, path)
+func getJSON(ctx context.Context, host string, port int, path string, told any) error {
+	code, text, err := get(ctx, host, port, path)
 	if err != nil {
 		return err
 	}
 	if code != http.StatusOK || json.Unmarshal(text, told) != nil {
-		return noStatus(port, path, code)
+		return noStatus(host, port, path, code)
 	}
 	return nil
 }
 
 // get gives the status and the text of an answer.
-func get(ctx context.Context, port int, path string) (int, []byte, error) {
+func get(ctx context.Context, host string, port int, path string) (int, []byte, error) {
+	if err := requireHost(host); err != nil {
+		return 0, nil, err
+	}
 	limited, cancel := context.WithTimeout(ctx, statusLimit)
 	defer cancel()
-	request, err := http.NewRequestWithContext(limited, http.MethodGet, "http://"+address(port)+path, nil)
+	request, err := http.NewRequestWithContext(limited, http.MethodGet, "http://"+address(host, port)+path, nil)
 	if err != nil {
 		return 0, nil, fmt.Errorf("cinoweta: %w", err)
 	}
@@ -171,16 +174,16 @@ func get(ctx context.Context, port int, path string) (int, []byte, error) {
 	transport := &http.Transport{DisableKeepAlives: true}
 	answer, err := transport.RoundTrip(request)
 	if err != nil {
-		return 0, nil, noAnswer(ctx, address(port)+path, err)
+		return 0, nil, noAnswer(ctx, address(host, port)+path, err)
 	}
 	defer answer.Body.Close()
 	text, err := io.ReadAll(io.LimitReader(answer.Body, longestPage))
 	if err != nil {
-		return 0, nil, noAnswer(ctx, address(port)+path, err)
+		return 0, nil, noAnswer(ctx, address(host, port)+path, err)
 	}
 	return answer.StatusCode, text, nil
 }
 
-func noStatus(port int, path string, code int) error {
-	return &WrongRingError{fmt.Sprintf("%s%s answers %d: is it that of ringd --status?", address(port), path, code)}
+func noStatus(host string, port int, path string, code int) error {
+	return &WrongRingError{fmt.Sprintf("%s%s answers %d: is it that of ringd --status?", address(host, port), path, code)}
 }

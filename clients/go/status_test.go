@@ -17,40 +17,52 @@ type page struct {
 
 type pages map[string]page
 
+// ServeHTTP answers once, as ringd does.
+func (p pages) ServeHTTP(writer http.ResponseWriter, request *http.Request) {
+	answer, isThere := p[request.URL.RequestURI()]
+	if !isThere || !request.Close {
+		answer.code = http.StatusNotFound
+	}
+	writer.WriteHeader(answer.code)
+	writer.Write([]byte(answer.text))
+}
+
 // status gives the port of a server that answers as `ringd --status` does.
 func status(t *testing.T, told pages) int {
-	server := httptest.NewServer(http.HandlerFunc(func(writer http.ResponseWriter, request *http.Request) {
-		answer, isThere := told[request.URL.RequestURI()]
-		// ringd answers once.
-		if !isThere || !request.Close {
-			answer.code = http.StatusNotFound
-		}
-		writer.WriteHeader(answer.code)
-		writer.Write([]byte(answer.text))
-	}))
+	t.Helper()
+	return statusAt(t, "", told)
+}
+
+// statusAt gives that of one at this host.
+func statusAt(t *testing.T, host string, told pages) int {
+	t.Helper()
+	listener, err := net.Listen("tcp", address(host, 0))
+	must(t, err)
+	server := httptest.Server{Listener: listener, Config: &http.Server{Handler: told}}
+	server.Start()
 	t.Cleanup(server.Close)
-	return server.Listener.Addr().(*net.TCPAddr).Port
+	return listener.Addr().(*net.TCPAddr).Port
 }
 
 func TestHealth(t *testing.T) {
 	leavesNone(t)
-	faults, err := Health(background(t), status(t, pages{"/health": {http.StatusOK, "well\n"}}))
+	faults, err := Health(background(t), "", status(t, pages{"/health": {http.StatusOK, "well\n"}}))
 	must(t, err)
 	same(t, len(faults), 0)
 	for _, text := range []string{"node 2 failed\nnode 3 full\n", "node 2 failed\nnode 3 full"} {
-		faults, err := Health(background(t), status(t, pages{"/health": {http.StatusServiceUnavailable, text}}))
+		faults, err := Health(background(t), "", status(t, pages{"/health": {http.StatusServiceUnavailable, text}}))
 		must(t, err)
 		same(t, faults, []string{"node 2 failed", "node 3 full"})
 	}
-	_, err = Health(background(t), status(t, pages{}))
+	_, err = Health(background(t), "", status(t, pages{}))
 	as[*WrongRingError](t, err)
-	_, err = Health(background(t), 1)
+	_, err = Health(background(t), "", 1)
 	as[*NoAnswerError](t, err)
 }
 
 func TestStatusIsRead(t *testing.T) {
 	leavesNone(t)
-	told, err := Status(background(t), status(t, pages{"/status": {http.StatusOK, `{"version": "0.1.0", "dir": "ring-state",
+	told, err := Status(background(t), "", status(t, pages{"/status": {http.StatusOK, `{"version": "0.1.0", "dir": "ring-state",
 		"started": 1700000000, "nodes": [{"node": 1, "port": 7101, "state": "failed", "journal": {"inputs": 21, "renewable": true},
 		"stands": {"left": 1000}, "sessions": {"refusals": [{"count": 4, "number": 15}]}, "new": 5}]}`}}))
 	must(t, err)
@@ -59,10 +71,10 @@ func TestStatusIsRead(t *testing.T) {
 	same(t, told, RingStatus{"0.1.0", "ring-state", 1700000000, []NodeStatus{node}})
 	for _, wrong := range []page{{200, "[]"}, {200, "well"}, {404, "{}"}, {200, `{"nodes": 3}`}, {200, `{"nodes": [1]}`}, {200, "{}"},
 		{404, `{"nodes": []}`}} {
-		_, err := Status(background(t), status(t, pages{"/status": wrong}))
+		_, err := Status(background(t), "", status(t, pages{"/status": wrong}))
 		as[*WrongRingError](t, err)
 	}
-	_, err = Status(background(t), 1)
+	_, err = Status(background(t), "", 1)
 	as[*NoAnswerError](t, err)
 }
 
@@ -74,23 +86,23 @@ func TestLeaders(t *testing.T) {
 		"/leaders?node=2&after=b":   {200, `{"by": 2, "leaders": [{"bid": 9, "group": "c-d", "node": 2, "term": 5}], "more": true}`},
 		"/leaders?node=2&after=c-d": {200, `{"by": 2, "leaders": [], "more": false}`},
 	})
-	led, err := Leaders(background(t), port, 2)
+	led, err := Leaders(background(t), "", port, 2)
 	must(t, err)
 	same(t, led, []GroupLed{{"a", Led{5, Leader{3, 7}}}, {"b", Led{6, Leader{1, 8}}}, {"c-d", Led{5, Leader{2, 9}}}})
 	for _, text := range []string{"{}", `{"leaders": [1]}`, `{"leaders": [{"group": "a"}]}`, `{"leaders": [{"group": 1, "term": 1}]}`} {
-		_, err := Leaders(background(t), status(t, pages{"/leaders?node=1": {200, text}}), 1)
+		_, err := Leaders(background(t), "", status(t, pages{"/leaders?node=1": {200, text}}), 1)
 		as[*WrongRingError](t, err)
 	}
 }
 
 func TestAStatusThatIsNotAnsweredEndsWithItsContext(t *testing.T) {
 	leavesNone(t)
-	listener, err := net.Listen("tcp", address(0))
+	listener, err := net.Listen("tcp", address("", 0))
 	must(t, err)
 	defer listener.Close()
 	ctx, cancel := context.WithTimeout(background(t), 100*time.Millisecond)
 	defer cancel()
-	_, err = Health(ctx, listener.Addr().(*net.TCPAddr).Port)
+	_, err = Health(ctx, "", listener.Addr().(*net.TCPAddr).Port)
 	as[*NoAnswerError](t, err)
 	is(t, err, context.DeadlineExceeded)
 }

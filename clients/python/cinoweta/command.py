@@ -10,6 +10,7 @@ from typing import Any
 from . import move as moving
 from . import status
 from .errors import CinowetaError, LockTaken, NoAnswer, NoLeader, Refused
+from .host import OWN, place
 from .lock import Lock
 from .lock import holder as holder_of
 from .ring import Ring
@@ -47,6 +48,11 @@ def ring_of(told: argparse.Namespace) -> Ring:
     if not told.ring:
         raise ValueError("no ring: tell its ports by --ring or CINOWETA_RING, as 7101-7103")
     return Ring.parse(told.ring, timeout=told.timeout, status=getattr(told, "status", None))
+
+
+def status_of(told: argparse.Namespace, text: str) -> tuple[str, int]:
+    """The host and the port of `ringd --status`. A port alone is one of the ring's host, where a ring is told."""
+    return place(text, Ring.parse(told.ring).host if told.ring else OWN)
 
 
 def show(told: argparse.Namespace, text: str, /, **values: Any) -> None:
@@ -137,10 +143,10 @@ def watch(told: argparse.Namespace) -> int:
 
 
 def show_status(told: argparse.Namespace) -> int:
-    if told.port is None:
+    if not told.port:
         raise ValueError("no port: tell that of ringd --status by --port or CINOWETA_STATUS")
-    port = int(told.port)
-    faults, ring = status.health(port, told.timeout), status.status(port, told.timeout)
+    host, port = status_of(told, told.port)
+    faults, ring = status.health(port, told.timeout, host=host), status.status(port, told.timeout, host=host)
     show(told, "\n".join([*(faults or ["well"]), status.table(ring)]), **{"health": faults, **ring})
     return NONE if faults else 0
 
@@ -173,8 +179,9 @@ def holder(told: argparse.Namespace) -> int:
 
 def move(told: argparse.Namespace) -> int:
     count = 0
+    host, port = status_of(told, told.old)
     with ring_of(told) as ring:
-        for count, (group, known) in enumerate(moving.move(told.old, ring), 1):
+        for count, (group, known) in enumerate(moving.move(port, ring, host=host), 1):
             text = f"{group} term {known.term} leader {known.leader.node} {known.leader.bid}"
             show(told, text, group=group, term=known.term, leader=known.leader._asdict())
     show(told, f"moved {count}", moved=count)

@@ -112,7 +112,7 @@ class Campaign:
     def fault(self) -> str:
         """Which nodes are not well, as `: node 3 full`, where the ring's status port is known and tells."""
         try:
-            faults = [] if self.ring.status is None else status.health(self.ring.status)
+            faults = [] if self.ring.status is None else status.health(self.ring.status, host=self.ring.host)
         except CinowetaError:
             faults = []
         return f": {', '.join(faults)}" if faults else ""

@@ -20,7 +20,7 @@ class LockTaken(CinowetaError):
 
 
 class WrongRing(CinowetaError):
-    """The ports are not those of a ring, from its node 1 on."""
+    """The ports are not those of a ring, from its node 1 on; the host is none, or for a lock another one."""
 
 
 class Refused(CinowetaError):

@@ -1,7 +1,8 @@
 """A lock: who leads for a group holds it, in a term of its own.
 
-Whoever waits for the lock has to see whether the leader is still there. The ring does not tell; but all its clients are
-on one host. So who leads listens at a port of 127.0.0.1, which its bid names, and answers there with its bid.
+Whoever waits for the lock has to see whether the leader is still there. The ring does not tell; but all clients of a
+lock are on the ring's host. So who leads listens at a port of 127.0.0.1, which its bid names, and answers there with its
+bid.
 """
 import time
 from collections.abc import Callable
@@ -9,7 +10,8 @@ from typing import NamedTuple
 
 from .beacon import Beacon, ask, is_there
 from .election import KEEP, Campaign, Leader, Led
-from .errors import LockTaken, NoAnswer, OutOfMemory
+from .errors import LockTaken, NoAnswer, OutOfMemory, WrongRing
+from .host import is_own
 from .pause import Pause
 from .process import EVERY, run
 from .ring import Ring
@@ -35,8 +37,16 @@ def holder_of(known: Led, seconds: float) -> Holder | None:
     return Holder(known.term, known.leader, int(words[1]), words[2])
 
 
+def require_own(ring: Ring) -> None:
+    """`WrongRing` where the ring is one of another host, whose clients may be where nobody sees a holder."""
+    if not is_own(ring.host):
+        raise WrongRing(f"{ring.host}: a lock is for clients of the ring's own host, at 127.0.0.1, where a holder is seen")
+
+
 def holder(ring: Ring, group: str, patience: float = 5.0) -> Holder | None:
-    """Who holds the lock of the group and answers within `patience` seconds, or None."""
+    """Who holds the lock of the group and answers within `patience` seconds, or None. `WrongRing` where the ring is one
+    of another host."""
+    require_own(ring)
     known = ring.latest(group)
     return None if known is None else holder_of(known, patience)
 
@@ -45,11 +55,12 @@ class Lock:
     """The lock of a group: `with Lock(ring, "jobs") as held:` waits until this process leads, in `held.term`, which it
     sends with each write as a fencing number, and resigns at the end. A holder is gone once its process has ended, or
     did not answer for `patience` seconds, as a paused one. Waited is for `wait` seconds, or for ever: then `LockTaken`;
-    0 tries once. A ring that answered before is waited for just so; then `NoAnswer`. Others are told `text`. The terms
-    more than `keep` below its own are retired."""
+    0 tries once. A ring that answered before is waited for just so; then `NoAnswer`. One of another host is `WrongRing`.
+    Others are told `text`. The terms more than `keep` below its own are retired."""
 
     def __init__(self, ring: Ring, group: str, rank: int = 0, patience: float = 5.0, wait: float | None = None,
                  text: str = "", keep: int = KEEP) -> None:
+        require_own(ring)
         self.ring, self.group, self.rank, self.patience, self.text = ring, group, rank, patience, text
         self.keep = keep
         self.wait = float("inf") if wait is None else wait

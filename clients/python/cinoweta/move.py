@@ -6,6 +6,7 @@ from . import status
 from .beacon import SPREAD
 from .election import Led
 from .errors import NoLeader, WrongRing
+from .host import OWN
 from .pause import Pause
 from .ring import Ring
 
@@ -13,29 +14,30 @@ from .ring import Ring
 SECONDS = 15.0
 
 
-def terms(port: int, seconds: float) -> dict[str, int]:
+def terms(port: int, seconds: float, *, host: str = OWN) -> dict[str, int]:
     """Each group of the ring that tells of itself at this port, with the greatest term that any of its nodes knows."""
     known: dict[str, int] = {}
-    for node in range(1, len(status.status(port, seconds)["nodes"]) + 1):
-        for group, term in status.leaders(port, node, seconds):
+    for node in range(1, len(status.status(port, seconds, host=host)["nodes"]) + 1):
+        for group, term in status.leaders(port, node, seconds, host=host):
             known[group] = max(term, known.get(group, 0))
     return known
 
 
-def move(port: int, ring: Ring) -> Iterator[tuple[str, Led]]:
+def move(port: int, ring: Ring, *, host: str = OWN) -> Iterator[tuple[str, Led]]:
     """Each group of the ring that tells of itself at this port, and its leader in the new one, once each node there
     knows one in a greater term: where none does, who calls stands for the next term, and for nothing else. So no term of
     the old ring is led again, and what was moved stays so where this is broken off and begun again. The clients have to
     be away from both rings; `WrongRing` where a group of the old one has a new term behind it all."""
-    if {node.get("port") for node in status.status(port, ring.timeout)["nodes"]} & {*ring.ports}:
-        raise WrongRing(f"127.0.0.1:{port} tells of the new ring itself")
-    moved = terms(port, ring.timeout)
+    ports = {node.get("port") for node in status.status(port, ring.timeout, host=host)["nodes"]}
+    if host == ring.host and ports & {*ring.ports}:
+        raise WrongRing(f"{host}:{port} tells of the new ring itself")
+    moved = terms(port, ring.timeout, host=host)
     for group, term in sorted(moved.items()):
         # Whoever waits for a lock looks for this leader at port 0, where nobody is. A new ring has no terms to retire.
         election = ring.campaign_with(secrets.randbelow(SPREAD), group, term, terms=1, seconds=SECONDS, keep=term)
         await_all(ring, group, term)
         yield group, Led(election.term, election.leader)
-    for group, term in terms(port, ring.timeout).items():
+    for group, term in terms(port, ring.timeout, host=host).items():
         if term > moved.get(group, 0):
             raise WrongRing(f"{group}: the old ring elects on, in term {term} now: end its clients, and move again")
 

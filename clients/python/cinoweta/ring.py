@@ -9,6 +9,7 @@ from typing import NoReturn
 from . import election
 from .election import KEEP, Campaign, Election, Leader, Led
 from .errors import AlreadyStands, NoAnswer, Retired, WrongRing, refusal
+from .host import OWN, require
 from .session import Session
 
 # A node takes so many Stands. No more of them that got no answer are remembered.
@@ -20,14 +21,17 @@ LATEST = re.compile(r"term (\d+) leader (\d+) (\d+)")
 
 
 class Ring:
-    """A ring of 127.0.0.1: node 1 listens at the port `first`, the last one at `last`. Questions are asked of any node,
-    over one session at a time; where one breaks off, of the next node, until `timeout` seconds are over: `NoAnswer`.
-    A Stand stays with its node. At the port `status`, if any, `ringd --status` tells of the ring: then `NoLeader` says
-    which node is not well. Threads may share it; one waits for the other."""
+    """A ring: node 1 listens at the port `first` of `host`, an IPv4 address or a name, the last one at `last`. Questions
+    are asked of any node, over one session at a time; where one breaks off, of the next node, until `timeout` seconds
+    are over: `NoAnswer`. How long a name is looked up is the system's to say. A Stand stays with its node. At the port
+    `status` of the host, if any, `ringd --status` tells of the ring: then `NoLeader` says which node is not well.
+    Threads may share it; one waits for the other."""
 
-    def __init__(self, first: int, last: int, *, timeout: float = 10.0, status: int | None = None) -> None:
+    def __init__(self, first: int, last: int, *, host: str = OWN, timeout: float = 10.0,
+                 status: int | None = None) -> None:
         if not 1 <= first < last <= 65_535 or last - first > 15:
             raise WrongRing(f"{first}-{last}: the ports of 2 to 16 nodes are 1 to 65,535")
+        self.host = require(host)
         self.first, self.nodes, self.timeout, self.status = first, last - first + 1, timeout, status
         self.ports = range(first, last + 1)
         self.place = 1
@@ -40,11 +44,12 @@ class Ring:
 
     @classmethod
     def parse(cls, text: str, *, timeout: float = 10.0, status: int | None = None) -> "Ring":
-        """The ring of a text as `7101-7103`."""
-        ports = re.fullmatch(r"(\d{1,5})-(\d{1,5})", text, re.ASCII)
-        if ports is None:
-            raise WrongRing(f"{text}: ports are told as 7101-7103")
-        return cls(int(ports[1]), int(ports[2]), timeout=timeout, status=status)
+        """The ring of a text as `7101-7103`, or as `10.0.0.5:7101-7103` where it is one of another host."""
+        words = re.fullmatch(r"(?:([^:]*):)?(\d{1,5})-(\d{1,5})", text, re.ASCII)
+        if words is None:
+            raise WrongRing(f"{text}: a ring is told as 7101-7103, or as 10.0.0.5:7101-7103")
+        host = OWN if words[1] is None else words[1]
+        return cls(int(words[2]), int(words[3]), host=host, timeout=timeout, status=status)
 
     def stand(self, group: str, term: int, bid: int, node: int = 1) -> None:
         """The node stands for the group and term with this bid, for who asked. Else `Refused`: `AlreadyStands`, with
@@ -125,7 +130,8 @@ class Ring:
                     if node is None:
                         self.place = place % self.nodes + 1
                     if time.monotonic() + pause > until:
-                        raise NoAnswer(f"127.0.0.1:{self.first + place - 1}: {fault or type(fault).__name__}") from None
+                        where = f"{self.host}:{self.first + place - 1}"
+                        raise NoAnswer(f"{where}: {fault or type(fault).__name__}") from None
                 time.sleep(pause)
                 pause = min(2 * pause, 1.0)
         refused = refusal(answer)
@@ -139,7 +145,7 @@ class Ring:
         if self.session is not None and (self.session.port != port or not self.session.is_usable()):
             self.close()
         if self.session is None:
-            self.session = Session(port, seconds)
+            self.session = Session(self.host, port, seconds)
         try:
             return self.session.ask(line, seconds)
         except BaseException:
@@ -151,7 +157,7 @@ class Ring:
 
     def within(self, seconds: float) -> "Ring":
         """The same ring, over sessions of its own, and so that an answer is not waited for longer than that."""
-        return Ring(self.first, self.ports[-1], timeout=min(self.timeout, seconds))
+        return Ring(self.first, self.ports[-1], host=self.host, timeout=min(self.timeout, seconds))
 
     def wrong(self, answer: str) -> NoReturn:
         self.close()

@@ -11,10 +11,10 @@ class Session:
     """A line is sent, and one line is its answer. What fails ends the session, so that a late answer is never read as
     that of another line; so does another process that has it by a fork."""
 
-    def __init__(self, port: int, seconds: float) -> None:
+    def __init__(self, host: str, port: int, seconds: float) -> None:
         self.port = port
         self.process = os.getpid()
-        self.connection = socket.create_connection(("127.0.0.1", port), seconds)
+        self.connection = socket.create_connection((host, port), seconds)
         self.connection.setsockopt(socket.IPPROTO_TCP, socket.TCP_NODELAY, 1)
 
     def ask(self, line: str, seconds: float) -> str:

@@ -6,6 +6,7 @@ from collections.abc import Iterator
 from typing import Any
 
 from .errors import NoAnswer, WrongRing
+from .host import OWN, require
 
 # More is read of no answer, in bytes.
 LONGEST = 1 << 20
@@ -15,54 +16,54 @@ FIRST = ["node", "port", "state"]
 REFUSALS = "refusals."
 
 
-def ask(port: int, path: str, seconds: float) -> tuple[int, str]:
+def ask(host: str, port: int, path: str, seconds: float) -> tuple[int, str]:
     """The status and the text of an answer."""
-    connection = http.client.HTTPConnection("127.0.0.1", port, timeout=seconds)
+    connection = http.client.HTTPConnection(require(host), port, timeout=seconds)
     try:
         connection.request("GET", path, headers={"Connection": "close"})
         answer = connection.getresponse()
         return answer.status, answer.read(LONGEST).decode("utf-8", "replace")
     except (OSError, http.client.HTTPException) as fault:
-        raise NoAnswer(f"127.0.0.1:{port}{path}: {fault or type(fault).__name__}") from None
+        raise NoAnswer(f"{host}:{port}{path}: {fault or type(fault).__name__}") from None
     finally:
         connection.close()
 
 
-def health(port: int, seconds: float = 5.0) -> list[str]:
+def health(port: int, seconds: float = 5.0, *, host: str = OWN) -> list[str]:
     """A line for each node that is not well, as `node 3 full`; none where all are."""
-    status, text = ask(port, "/health", seconds)
+    status, text = ask(host, port, "/health", seconds)
     if status not in (200, 503):
-        raise WrongRing(f"127.0.0.1:{port}/health answers {status}: is it that of ringd --status?")
+        raise WrongRing(f"{host}:{port}/health answers {status}: is it that of ringd --status?")
     return text.splitlines() if status == 503 else []
 
 
-def status(port: int, seconds: float = 5.0) -> dict[str, Any]:
+def status(port: int, seconds: float = 5.0, *, host: str = OWN) -> dict[str, Any]:
     """What is told of the ring and of each node."""
-    return ask_rows(port, "/status", "nodes", seconds)
+    return ask_rows(host, port, "/status", "nodes", seconds)
 
 
-def leaders(port: int, node: int, seconds: float = 5.0) -> Iterator[tuple[str, int]]:
+def leaders(port: int, node: int, seconds: float = 5.0, *, host: str = OWN) -> Iterator[tuple[str, int]]:
     """Each group that a node knows a leader of, in order of name, and its latest term."""
     path: str | None = f"/leaders?node={node}"
     while path is not None:
-        told = ask_rows(port, path, "leaders", seconds)
+        told = ask_rows(host, port, path, "leaders", seconds)
         rows = [(row.get("group"), row.get("term")) for row in told["leaders"]]
         if not all(isinstance(group, str) and isinstance(term, int) for group, term in rows):
-            raise WrongRing(f"127.0.0.1:{port}{path} tells no leaders")
+            raise WrongRing(f"{host}:{port}{path} tells no leaders")
         yield from rows
         path = f"/leaders?node={node}&after={rows[-1][0]}" if told.get("more") and rows else None
 
 
-def ask_rows(port: int, path: str, name: str, seconds: float) -> dict[str, Any]:
+def ask_rows(host: str, port: int, path: str, name: str, seconds: float) -> dict[str, Any]:
     """An answer in JSON that has a list of objects of this name."""
-    code, text = ask(port, path, seconds)
+    code, text = ask(host, port, path, seconds)
     try:
         told = json.loads(text)
     except ValueError:
         told = None
     rows = told.get(name) if isinstance(told, dict) else None
     if code != 200 or not isinstance(rows, list) or not all(isinstance(row, dict) for row in rows):
-        raise WrongRing(f"127.0.0.1:{port}{path} answers {code}: is it that of ringd --status?")
+        raise WrongRing(f"{host}:{port}{path} answers {code}: is it that of ringd --status?")
     return told
 
 

@@ -41,17 +41,20 @@ def arguments() -> argparse.ArgumentParser:
     watch.add_argument("--after", type=int, default=0, metavar="TERM")
     watch.add_argument("--count", type=int, default=0, metavar="N", help="ends after so many; 0 for never")
     asked = command("status", "what ringd --status PORT tells")
-    asked.add_argument("--port", type=int, default=os.environ.get("CINOWETA_STATUS"), help="or CINOWETA_STATUS")
+    asked.add_argument("--port", default=os.environ.get("CINOWETA_STATUS"),
+                       help="of the ring's host, or HOST:PORT; CINOWETA_STATUS where it is left out")
     add_lock(command("lock", "runs the COMMAND behind -- while it leads", "group"))
     add_patience(command("holder", "who holds a lock", "group"))
     move = command("move", "stands in the ring, which is a new one, one term above in each group of another one")
-    move.add_argument("--from", type=int, required=True, metavar="PORT", dest="old", help="that of its ringd --status")
+    move.add_argument("--from", required=True, metavar="PORT", dest="old",
+                      help="that of its ringd --status, of the new ring's host, or HOST:PORT")
     return parser
 
 
 def add_common(parser: argparse.ArgumentParser, ring: str | None, json: bool | str, timeout: float | str) -> None:
     parser.add_argument("--ring", metavar="PORTS", default=ring,
-                        help="the ports of all nodes, as 7101-7103; CINOWETA_RING where it is left out")
+                        help="the ports of all nodes, as 7101-7103, or of another host 10.0.0.5:7101-7103; "
+                             "CINOWETA_RING where it is left out")
     parser.add_argument("--json", action="store_true", default=json, help="prints an object a line")
     parser.add_argument("--timeout", type=float, default=timeout, metavar="SECONDS",
                         help="how long an answer is waited for")

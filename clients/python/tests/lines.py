@@ -10,10 +10,10 @@ class Node(socketserver.ThreadingTCPServer):
     daemon_threads = True
     allow_reuse_address = True
 
-    def __init__(self, answer: Callable[[str], str | None], port: int = 0) -> None:
+    def __init__(self, answer: Callable[[str], str | None], port: int = 0, host: str = "127.0.0.1") -> None:
         self.answer = answer
         self.lines: list[str] = []
-        super().__init__(("127.0.0.1", port), Session)
+        super().__init__((host, port), Session)
         threading.Thread(target=self.serve_forever, args=(0.01,), daemon=True).start()
 
     def stands(self) -> list[str]:
@@ -37,13 +37,13 @@ class Session(socketserver.StreamRequestHandler):
             self.wfile.write(answer.encode() + b"\n")
 
 
-def serve(*answers: Callable[[str], str | None]) -> list[Node]:
+def serve(*answers: Callable[[str], str | None], host: str = "127.0.0.1") -> list[Node]:
     """A node for each of these, at ports that lie side by side."""
     for _ in range(100):
         first, nodes = random.randrange(20_000, 32_000), []
         try:
             for place, answer in enumerate(answers):
-                nodes.append(Node(answer, first + place))
+                nodes.append(Node(answer, first + place, host))
             return nodes
         except OSError:
             for node in nodes:

@@ -22,9 +22,10 @@ def deaf(_line: str) -> None:
 
 
 class Beside(unittest.TestCase):
-    def ring(self, *answers: Callable[[str], str | None], timeout: float = 3.0) -> tuple[Ring, list[Node]]:
-        nodes = serve(*answers)
-        ring = Ring(nodes[0].server_address[1], nodes[-1].server_address[1], timeout=timeout)
+    def ring(self, *answers: Callable[[str], str | None], timeout: float = 3.0,
+             host: str = "127.0.0.1") -> tuple[Ring, list[Node]]:
+        nodes = serve(*answers, host=host)
+        ring = Ring(nodes[0].server_address[1], nodes[-1].server_address[1], host=host, timeout=timeout)
         self.addCleanup(ring.close)
         for node in nodes:
             self.addCleanup(node.end)

@@ -101,6 +101,21 @@ class RingTest(ServedTest):
                 self.until(lambda: ring.who("red", 289, node) is None, "a leader below the floor")
 
 
+class OtherHostTest(unittest.TestCase):
+    def test_a_ring_of_another_host(self) -> None:
+        served = Served("--doors", "4", "--listen", "127.0.0.2")
+        self.addCleanup(served.end)
+        words = ["--ring", f"127.0.0.2:{served.ports}"]
+        with Ring.parse(words[1]) as ring:
+            election = ring.campaign("red")
+        self.assertTrue(election.is_mine)
+        told = served.run(*words, "campaign", "red")
+        self.assertEqual((told.returncode, told.stdout), (1, "term 1 leader {} {}\n".format(*election.leader)))
+        self.assertEqual(served.run(*words, "status", "--port", str(served.status)).returncode, 0)
+        # Nobody listens at 127.0.0.1.
+        self.assertEqual(served.run("--timeout", "0.2", "latest", "red").returncode, 3)
+
+
 class CommandTest(ServedTest):
     def told(self, *words: str) -> tuple[int, str]:
         """The exit status of the command and what it printed, on both streams."""

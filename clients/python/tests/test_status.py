@@ -24,15 +24,17 @@ class Answers(http.server.BaseHTTPRequestHandler):
         """Nothing is told."""
 
 
-class StatusTest(unittest.TestCase):
-    def serve(self, answers: dict[str, tuple[int, str]]) -> int:
-        server = http.server.ThreadingHTTPServer(("127.0.0.1", 0), Answers)
+class BesideStatus(unittest.TestCase):
+    def serve(self, answers: dict[str, tuple[int, str]], host: str = "127.0.0.1") -> int:
+        server = http.server.ThreadingHTTPServer((host, 0), Answers)
         server.answers = answers
         threading.Thread(target=server.serve_forever, args=(0.01,), daemon=True).start()
         self.addCleanup(server.server_close)
         self.addCleanup(server.shutdown)
         return server.server_address[1]
 
+
+class StatusTest(BesideStatus):
     def test_health(self) -> None:
         self.assertEqual(status.health(self.serve({"/health": (200, "well\n")})), [])
         for text in ("node 2 failed\nnode 3 full\n", "node 2 failed\nnode 3 full"):

@@ -1,0 +1,130 @@
+package cinoweta
+
+import (
+	"net/http"
+	"strings"
+	"testing"
+	"time"
+)
+
+const (
+	// otherHost stands for one with a ring, silentHost for one that nothing may be sent to.
+	otherHost, silentHost = "127.0.0.2", "10.0.0.5"
+)
+
+// parts are of a name that may have two bytes more.
+var parts = strings.Repeat(strings.Repeat("a", 63)+".", 3) + strings.Repeat("b", 59)
+
+func TestWhatIsAHost(t *testing.T) {
+	for _, host := range []string{"10.0.0.5", "0.0.0.0", "255.255.255.255", "localhost", "ring", "R", "ring-1.example", "1.a",
+		"ring.example.", "4a", strings.Repeat("a", 63), parts + "cc"} {
+		ring, err := ParseRing(host + ":7101-7103")
+		must(t, err)
+		same(t, []any{ring.Host, ring.first, ring.Nodes()}, []any{host, 7101, 3})
+	}
+	for _, host := range []string{"", ".", "-", "10.0.0", "10.0.0.256", "10.0.0.05", "10.0.0.5.", "10.0.0.5.6", "10", "a.5", "a..b",
+		".a", "a-", "-a.b", "a_b", "a b", "ä", "1.٢.3.4", "a\n", "[::1]", "::1", "10.0.0.5/8", "a@b", strings.Repeat("a", 64),
+		parts + "ccc"} {
+		_, err := ParseRing(host + ":7101-7103")
+		as[*WrongRingError](t, err)
+		if host == "" {
+			continue
+		}
+		ring, err := NewRing(7101, 7103)
+		must(t, err)
+		ring.Host = host
+		_, _, err = ring.Latest(background(t), "red", AnyNode)
+		as[*WrongRingError](t, err)
+		_, err = Health(background(t), host, 7100)
+		as[*WrongRingError](t, err)
+	}
+	_, err := ParseRing("10.0.0.256:7101-7103")
+	same(t, err, `cinoweta: "10.0.0.256" is no IPv4 address and no name of a host`)
+}
+
+func TestARingIsOfThisHostWhereNoneIsTold(t *testing.T) {
+	ring, err := NewRing(7101, 7103)
+	must(t, err)
+	same(t, ring.address(3), "127.0.0.1:7103")
+	ring, err = ParseRing("7101-7103")
+	must(t, err)
+	same(t, ring.address(1), "127.0.0.1:7101")
+	t.Setenv("CINOWETA_RING", "10.0.0.5:7101-7103")
+	ring, err = RingFromEnv()
+	must(t, err)
+	same(t, ring.address(2), "10.0.0.5:7102")
+}
+
+func TestARingOfAnotherHostIsAskedThere(t *testing.T) {
+	votes := newVotes().lead(20, 2, 30)
+	ring, _ := besideAt(t, otherHost, votes.answer, votes.answer)
+	// The terms far below are retired over sessions of a copy.
+	elects(t, ring, CampaignOptions{Gone: 19}, Election{Led{20, Leader{2, 30}}, false})
+	election, err := ring.Campaign(background(t), "red", short(CampaignOptions{Gone: 20}))
+	must(t, err)
+	same(t, []any{election.IsMine, votes.floor, ring.within(time.Second).Host}, []any{true, 11, otherHost})
+	led, err := ring.Watch("red", 20).Next(background(t))
+	must(t, err)
+	same(t, led, election.Led)
+}
+
+func TestWhereNobodyAnswersIsTold(t *testing.T) {
+	ring, _ := besideAt(t, otherHost, deaf, deaf)
+	ring.Timeout = time.Millisecond
+	_, _, err := ring.Latest(background(t), "red", 1)
+	same(t, as[*NoAnswerError](t, err).Address, ring.address(1))
+	same(t, strings.HasPrefix(ring.address(1), otherHost), true)
+	_, err = Health(background(t), otherHost, 1)
+	same(t, as[*NoAnswerError](t, err).Address, otherHost+":1/health")
+}
+
+func TestTheStatusOfAnotherHostIsAskedThere(t *testing.T) {
+	votes := newVotes()
+	votes.deposed = true
+	ring, _ := besideAt(t, otherHost, votes.answer, votes.answer)
+	ring.Status = statusAt(t, otherHost, pages{
+		"/health":         {http.StatusServiceUnavailable, "node 2 failed\n"},
+		"/status":         {http.StatusOK, `{"nodes": [{"node": 1}]}`},
+		"/leaders?node=1": {http.StatusOK, `{"leaders": [{"bid": 7, "group": "a", "node": 3, "term": 5}]}`},
+	})
+	_, err := ring.Campaign(background(t), "red", short(CampaignOptions{Terms: 1}))
+	same(t, as[*NoLeaderError](t, err).Faults, []string{"node 2 failed"})
+	told, err := Status(background(t), otherHost, ring.Status)
+	must(t, err)
+	same(t, len(told.Nodes), 1)
+	led, err := Leaders(background(t), otherHost, ring.Status, 1)
+	must(t, err)
+	same(t, led, []GroupLed{{"a", Led{5, Leader{3, 7}}}})
+	_, err = Leaders(background(t), otherHost, ring.Status, 2)
+	same(t, strings.HasPrefix(as[*WrongRingError](t, err).Text, otherHost+":"), true)
+	_, err = Health(background(t), "", ring.Status)
+	as[*NoAnswerError](t, err)
+}
+
+func TestALockWithARingOfAnotherHostIsRefusedBeforeAnythingIsSent(t *testing.T) {
+	leavesNone(t)
+	for _, host := range []string{silentHost, "127.example", "localhost", "128.0.0.1", "0.0.0.0"} {
+		ring, err := NewRing(7101, 7103)
+		must(t, err)
+		ring.Host = host
+		wanted := "cinoweta: " + host + ": a lock is for clients of the ring's own host, at 127.0.0.1, where a holder is seen"
+		before, lock := time.Now(), lockOf(t, ring, LockOptions{})
+		_, _, held := ring.Holder(background(t), "red", 0)
+		for _, err := range []error{lock.Acquire(background(t)), lock.TryAcquire(background(t)), held} {
+			same(t, as[*WrongRingError](t, err), wanted)
+		}
+		same(t, []any{lock.beacon == nil, ring.session == nil, time.Since(before) < 100*time.Millisecond}, []any{true, true, true})
+	}
+}
+
+func TestALockIsHeldWithARingOfEachOwnAddress(t *testing.T) {
+	votes := newVotes()
+	ring, _ := besideAt(t, otherHost, votes.at(1), votes.at(2))
+	lock := lockOf(t, ring, LockOptions{})
+	must(t, lock.Acquire(background(t)))
+	lock.every = 0
+	same(t, holds(t, lock), true)
+	holder, isHeld, err := ring.Holder(background(t), "red", 0)
+	must(t, err)
+	same(t, []any{isHeld, holder.Term}, []any{true, 1})
+}

@@ -1,0 +1,135 @@
+"""Rings of other hosts: 127.0.0.2 stands for one with a ring, 10.0.0.5 for one that nothing may be sent to."""
+import contextlib
+import io
+import json
+import unittest
+from unittest import mock
+
+from cinoweta import Lock, NoAnswer, NoLeader, Ring, WrongRing, holder, status
+from cinoweta.command import main
+from cinoweta.host import place
+
+from .lines import Votes
+from .test_ring import Beside, deaf
+from .test_status import TOLD, BesideStatus
+
+OTHER, SILENT = "127.0.0.2", "10.0.0.5:7101-7103"
+HOSTS = ["10.0.0.5", "0.0.0.0", "255.255.255.255", "localhost", "ring", "R", "ring-1.example", "1.a", "ring.example.", "4a",
+         "a" * 63, ".".join(["a" * 63] * 3 + ["b" * 61])]
+NONE = ["", ".", "-", "10.0.0", "10.0.0.256", "10.0.0.05", "10.0.0.5.", "10.0.0.5.6", "10", "a.5", "a..b", ".a", "a-", "-a.b",
+        "a_b", "a b", "ä", "1.٢.3.4", "a\n", "[::1]", "10.0.0.5/8", "a@b", "a" * 64, ".".join(["a" * 63] * 3 + ["b" * 62])]
+
+
+def told(*words: str) -> tuple[int, str, str]:
+    """The exit status of the command, and what it prints on either stream."""
+    with contextlib.redirect_stdout(io.StringIO()) as out, contextlib.redirect_stderr(io.StringIO()) as err:
+        code = main(["--timeout", "0.2", *words])
+    return code, out.getvalue(), err.getvalue()
+
+
+class HostTest(Beside, BesideStatus):
+    def test_what_is_a_host(self) -> None:
+        for host in HOSTS:
+            ring = Ring.parse(f"{host}:7101-7103", status=7100)
+            self.assertEqual((ring.host, ring.first, ring.nodes, ring.status), (host, 7101, 3, 7100))
+            self.assertEqual(place(f"{host}:7100", "a"), (host, 7100))
+        for host in NONE:
+            for refused in (lambda: Ring.parse(f"{host}:7101-7103"), lambda: Ring(7101, 7103, host=host),
+                            lambda: status.health(7100, host=host), lambda: place(f"{host}:7100", "a")):
+                with self.assertRaises(WrongRing, msg=host):
+                    refused()
+        with self.assertRaisesRegex(WrongRing, "'10.0.0.256' is no IPv4 address"):
+            Ring.parse("10.0.0.256:7101-7103")
+
+    def test_what_is_left_out(self) -> None:
+        self.assertEqual([Ring(7101, 7103).host, Ring.parse("7101-7103").host], ["127.0.0.1"] * 2)
+        self.assertEqual(place("7100", "ring.example"), ("ring.example", 7100))
+        for text in ("", "0", "65536", "a", "7100 ", "10.0.0.5", "10.0.0.5:", "10.0.0.5:x", "::7100"):
+            with self.assertRaises(WrongRing, msg=text):
+                place(text, "127.0.0.1")
+        # A third one by its place is none.
+        with self.assertRaises(TypeError):
+            Ring(7101, 7103, OTHER)
+
+    def test_it_is_asked_there(self) -> None:
+        votes = Votes()
+        votes.leaders[20] = (2, 30)
+        ring, nodes = self.ring(votes, votes, host=OTHER)
+        self.assertTrue(ring.campaign("red", 20, node=1).is_mine)
+        # The terms far below were retired over sessions of a copy.
+        self.assertEqual((votes.floor, ring.within(1.0).host), (11, OTHER))
+        self.assertEqual(next(ring.watch("red")).term, 21)
+        words = ["--ring", f"{OTHER}:{ring.first}-{ring.ports[-1]}", "who", "red", "21"]
+        self.assertEqual(told(*words), (0, f"leader 1 {votes.stood[21]}\n", ""))
+        with mock.patch.dict("os.environ", CINOWETA_RING=words[1]):
+            self.assertEqual(told("who", "red", "20"), (0, "leader 2 30\n", ""))
+
+    def test_who_does_not_answer_is_told(self) -> None:
+        ring, _ = self.ring(deaf, deaf, host=OTHER, timeout=0.0)
+        with self.assertRaisesRegex(NoAnswer, rf"\A{OTHER}:{ring.first}: "):
+            ring.latest("red")
+        with self.assertRaisesRegex(NoAnswer, rf"\A{OTHER}:1/health: "):
+            status.health(1, host=OTHER)
+
+    def test_its_status_is_asked_there(self) -> None:
+        failed = {"/health": (503, "node 2 failed\n"), "/status": (200, json.dumps(TOLD))}
+        port = self.serve(failed, OTHER)
+        self.assertEqual(status.health(port, host=OTHER), ["node 2 failed"])
+        self.assertEqual(status.status(port, host=OTHER), TOLD)
+        with self.assertRaisesRegex(WrongRing, rf"\A{OTHER}:{port}/leaders\?node=1 answers 404"):
+            next(status.leaders(port, 1, host=OTHER))
+        for words in (["--port", f"{OTHER}:{port}"], ["--port", str(port), "--ring", f"{OTHER}:7101-7103"]):
+            code, out, _ = told("status", *words)
+            self.assertEqual((code, out.splitlines()[0]), (1, "node 2 failed"), words)
+        with mock.patch.dict("os.environ", CINOWETA_RING=f"{OTHER}:7101-7103", CINOWETA_STATUS=str(port)):
+            self.assertEqual(told("status")[0], 1)
+        self.assertEqual(told("status", "--port", str(port))[0], 3)
+        self.assertEqual(told("status", "--port", "70000")[0], 2)
+        votes = Votes(elects=False)
+        ring, _ = self.ring(votes, votes, host=OTHER)
+        ring.status = port
+        with self.assertRaisesRegex(NoLeader, ": node 2 failed"):
+            ring.campaign("red", terms=1, seconds=0.0)
+
+    def test_a_lock_is_refused_before_anything_is_sent(self) -> None:
+        ring, words = Ring.parse(SILENT), ["--ring", SILENT]
+        said = "10.0.0.5: a lock is for clients of the ring's own host, at 127.0.0.1, where a holder is seen"
+        with mock.patch("socket.create_connection") as connect:
+            for refused in (lambda: Lock(ring, "red"), lambda: holder(ring, "red")):
+                with self.assertRaises(WrongRing) as caught:
+                    refused()
+                self.assertEqual(str(caught.exception), said)
+            self.assertEqual(told(*words, "lock", "red", "--", "true"), (2, "", f"cinoweta: {said}\n"))
+            self.assertEqual(told(*words, "holder", "red"), (2, "", f"cinoweta: {said}\n"))
+        connect.assert_not_called()
+        for host in ("127.example", "localhost", "128.0.0.1", "0.0.0.0"):
+            with self.assertRaises(WrongRing, msg=host):
+                Lock(Ring(7101, 7103, host=host), "red")
+
+    def test_a_lock_is_held_with_a_ring_of_each_own_address(self) -> None:
+        votes = Votes()
+        ring, _ = self.ring(votes, votes, host=OTHER)
+        with mock.patch("cinoweta.election.secrets.randbelow", return_value=0), \
+                mock.patch("cinoweta.lock.EVERY", 0.0), Lock(ring, "red") as held:
+            self.assertEqual((held.term, held.is_lost(), holder(ring, "red").term), (1, False, 1))
+
+    def test_the_groups_of_a_ring_of_another_host_go_on(self) -> None:
+        votes = Votes()
+        ring, _ = self.ring(votes, votes)
+        leaders = {"leaders": [{"group": "red", "term": 5}], "more": False}
+        # Both rings have the same ports.
+        nodes = {"nodes": [{"port": port} for port in ring.ports]}
+        pages = {"/status": (200, json.dumps(nodes)), **{f"/leaders?node={node}": (200, json.dumps(leaders))
+                                                       for node in (1, 2)}}
+        words = ["--ring", f"{ring.first}-{ring.ports[-1]}", "move", "--from"]
+        code, out, err = told(*words, str(self.serve(pages)))
+        self.assertEqual((code, out), (2, ""))
+        self.assertIn("tells of the new ring itself", err)
+        with mock.patch("cinoweta.election.secrets.randbelow", return_value=0):
+            code, out, err = told(*words, f"{OTHER}:{self.serve(pages, OTHER)}")
+        self.assertEqual((code, out.splitlines()[-1], err), (0, "moved 1", ""))
+        self.assertEqual([*votes.stood], [6])
+
+
+if __name__ == "__main__":
+    unittest.main()
