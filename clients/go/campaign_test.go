@@ -260,6 +260,24 @@ func TestWatch(t *testing.T) {
 	as[*NoAnswerError](t, err)
 }
 
+func TestAWatchByTheStatusPort(t *testing.T) {
+	ring, _ := beside(t, first("term 4 leader 3 9"), deaf)
+	ring.Status = status(t, pages{
+		"/leaders/red?above=1&wait=30": {http.StatusOK, `{"by":1,"leader":{"bid":5,"group":"red","node":1,"term":2},"present":true}`},
+		"/leaders/red?above=2&wait=30": {http.StatusServiceUnavailable, "503 Service Unavailable\n"},
+		"/leaders/red?above=4&wait=30": {http.StatusOK, `{"by":1,"leader":{"bid":8,"group":"red","node":2,"term":6},"present":false}`},
+	})
+	watch := ring.Watch("red", 1)
+	for _, wanted := range []Led{{2, Leader{1, 5}}, {4, Leader{3, 9}}, {6, Leader{2, 8}}} {
+		led, err := watch.Next(background(t))
+		must(t, err)
+		same(t, led, wanted)
+	}
+	_, isLed, err := coming(background(t), "", status(t, pages{"/leaders/red?above=6&wait=0": {http.StatusNoContent, ""}}), "red", 6, 0)
+	must(t, err)
+	same(t, isLed, false)
+}
+
 func TestWhoWaitsGivesTheDoorBack(t *testing.T) {
 	ring, nodes := beside(t, always("none"), deaf)
 	ctx, cancel := context.WithTimeout(background(t), time.Second)

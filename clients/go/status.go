@@ -6,6 +6,7 @@ import (
 	"fmt"
 	"io"
 	"net/http"
+	"net/url"
 	"strings"
 	"time"
 )
@@ -147,6 +148,23 @@ func Leaders(ctx context.Context, host string, port, node int) ([]GroupLed, erro
 	}
 }
 
+// coming gives the group's latest leader in a term above this one, for which the port waits so many seconds, 60 at most,
+// and whether there was one.
+func coming(ctx context.Context, host string, port int, group string, above, seconds int) (Led, bool, error) {
+	path := fmt.Sprintf("/leaders/%s?above=%d&wait=%d", url.PathEscape(group), above, seconds)
+	code, text, err := getWithin(ctx, host, port, path, time.Duration(seconds)*time.Second+statusLimit)
+	if err != nil || code == http.StatusNoContent {
+		return Led{}, false, err
+	}
+	var told struct {
+		Leader struct{ Term, Node, Bid int }
+	}
+	if code != http.StatusOK || json.Unmarshal(text, &told) != nil || told.Leader.Term <= above {
+		return Led{}, false, noStatus(host, port, path, code)
+	}
+	return Led{told.Leader.Term, Leader{told.Leader.Node, told.Leader.Bid}}, true, nil
+}
+
 // getJSON reads an answer in JSON.
 func getJSON(ctx context.Context, host string, port int, path string, told any) error {
 	code, text, err := get(ctx, host, port, path)
@@ -161,10 +179,15 @@ func getJSON(ctx context.Context, host string, port int, path string, told any) 
 
 // get gives the status and the text of an answer.
 func get(ctx context.Context, host string, port int, path string) (int, []byte, error) {
+	return getWithin(ctx, host, port, path, statusLimit)
+}
+
+// getWithin gives the same of one that comes within this time.
+func getWithin(ctx context.Context, host string, port int, path string, limit time.Duration) (int, []byte, error) {
 	if err := requireHost(host); err != nil {
 		return 0, nil, err
 	}
-	limited, cancel := context.WithTimeout(ctx, statusLimit)
+	limited, cancel := context.WithTimeout(ctx, limit)
 	defer cancel()
 	request, err := http.NewRequestWithContext(limited, http.MethodGet, "http://"+address(host, port)+path, nil)
 	if err != nil {

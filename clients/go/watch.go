@@ -14,18 +14,21 @@ func (r *Ring) Watch(group string, after int) *Watch {
 	return &Watch{r, group, after}
 }
 
-// Next waits for a leader in a greater term than the one before. It looks again and again, at most a second apart; of
-// the terms between two looks it tells the last. Once the context is over it gives the error of that; a [NoAnswerError]
-// where no node answers any more.
+// waitSeconds is how long the status port waits for a leader at once.
+const waitSeconds = 30
+
+// Next waits for a leader in a greater term than the one before. Where the ring's Status is told, that port tells of it
+// at once; else it looks again and again, at most a second apart. Of several terms it tells the last. Once the context is
+// over it gives the error of that; a [NoAnswerError] where no node answers any more.
 func (w *Watch) Next(ctx context.Context) (Led, error) {
 	var pause pause
 	for {
-		known, isKnown, err := w.ring.Latest(ctx, w.group, AnyNode)
+		known, isKnown, wasWaited, err := w.look(ctx)
 		if isKnown && known.Term > w.after {
 			w.after = known.Term
 			return known, nil
 		}
-		if err == nil && pause.take(ctx, w.ring) {
+		if err == nil && (wasWaited || pause.take(ctx, w.ring)) {
 			continue
 		}
 		w.ring.release(ctx)
@@ -34,4 +37,18 @@ func (w *Watch) Next(ctx context.Context) (Led, error) {
 		}
 		return Led{}, err
 	}
+}
+
+// look gives the latest leader, if there is one, and whether the status port waited for one in a greater term.
+func (w *Watch) look(ctx context.Context) (known Led, isKnown, wasWaited bool, err error) {
+	if w.ring.Status != 0 {
+		// A session that is kept open while it waits holds a door.
+		w.ring.release(ctx)
+		known, isKnown, err = coming(ctx, w.ring.Host, w.ring.Status, w.group, w.after, waitSeconds)
+		if err == nil || ended(ctx) != nil {
+			return known, isKnown, true, err
+		}
+	}
+	known, isKnown, err = w.ring.Latest(ctx, w.group, AnyNode)
+	return known, isKnown, false, err
 }

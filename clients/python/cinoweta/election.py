@@ -15,6 +15,8 @@ if TYPE_CHECKING:
 # So many terms below its own who leads keeps by default, and so long it waits for a node that is to retire the others,
 # in seconds.
 KEEP, SECONDS = 10, 1.0
+# So long the status port waits for a leader at once, in seconds.
+WAIT = 30
 
 
 class Leader(NamedTuple):
@@ -127,10 +129,23 @@ def watch(ring: "Ring", group: str, after: int) -> Iterator[Led]:
     """Each new latest leader of the group, with rising terms above `after`."""
     pause = Pause(ring)
     while True:
-        known = ring.latest(group)
+        was_waited, known = look(ring, group, after)
         if known is not None and known.term > after:
             after = known.term
             yield known
             pause = Pause(ring)
-        else:
+        elif not was_waited:
             pause.take()
+
+
+def look(ring: "Ring", group: str, above: int) -> tuple[bool, Led | None]:
+    """The latest leader of the group, and whether the status port waited for one in a term above this one."""
+    if ring.status is not None:
+        # A session that is kept open while it waits holds a door.
+        ring.close()
+        try:
+            led = status.coming(ring.status, group, above, WAIT, host=ring.host)
+            return True, led and Led(led[0], Leader(*led[1:]))
+        except CinowetaError:
+            pass
+    return False, ring.latest(group)

@@ -54,6 +54,23 @@ def leaders(port: int, node: int, seconds: float = 5.0, *, host: str = OWN) -> I
         path = f"/leaders?node={node}&after={rows[-1][0]}" if told.get("more") and rows else None
 
 
+def coming(port: int, group: str, above: int, seconds: int, *, host: str = OWN) -> tuple[int, int, int] | None:
+    """The term, the node and the bid of the group's latest leader in a term above this one, for which the port waits so many seconds,
+    60 at most; None where there was none."""
+    path = f"/leaders/{group}?above={above}&wait={seconds}"
+    code, text = ask(host, port, path, seconds + 5.0)
+    if code == 204:
+        return None
+    try:
+        leader = json.loads(text)["leader"]
+        led = leader["term"], leader["node"], leader["bid"]
+    except (ValueError, LookupError, TypeError):
+        led = None
+    if code != 200 or led is None or not all(isinstance(number, int) for number in led):
+        raise WrongRing(f"{host}:{port}{path} answers {code}: is it that of ringd --status?")
+    return led
+
+
 def ask_rows(host: str, port: int, path: str, name: str, seconds: float) -> dict[str, Any]:
     """An answer in JSON that has a list of objects of this name."""
     code, text = ask(host, port, path, seconds)

@@ -304,6 +304,16 @@ class CampaignTest(Beside):
         with self.assertRaises(NoAnswer):
             next(ring.watch("red"))
 
+    def test_watch_by_the_status_port(self) -> None:
+        ring, nodes = self.ring(first("term 4 leader 3 9"), deaf, timeout=0.2)
+        ring.status = 7100
+        told = [None, (2, 1, 5), WrongRing("no place"), (6, 2, 8)]
+        with mock.patch("cinoweta.status.coming", side_effect=told) as coming:
+            seen = ring.watch("red", after=1)
+            self.assertEqual([next(seen) for _ in range(3)], [Led(2, Leader(1, 5)), Led(4, Leader(3, 9)), Led(6, Leader(2, 8))])
+        self.assertEqual([call.args[2] for call in coming.call_args_list], [1, 1, 2, 4])
+        self.assertEqual(nodes[0].lines, ["latest red"])
+
 
 class RetireTest(Beside):
     """The command `cinoweta retire`."""

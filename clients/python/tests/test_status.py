@@ -50,6 +50,16 @@ class StatusTest(BesideStatus):
         with self.assertRaises(NoAnswer):
             status.status(1)
 
+    def test_a_leader_that_comes(self) -> None:
+        leader = {"bid": 5, "group": "red", "node": 2, "term": 7}
+        port = self.serve({"/leaders/red?above=6&wait=2": (200, json.dumps({"by": 1, "leader": leader, "present": True})),
+                           "/leaders/red?above=7&wait=0": (204, "")})
+        self.assertEqual(status.coming(port, "red", 6, 2), (7, 2, 5))
+        self.assertIsNone(status.coming(port, "red", 7, 0))
+        for code, text in ((503, "503 Service Unavailable\n"), (200, "{}"), (200, '{"leader": {"term": "7"}}'), (200, "[]")):
+            with self.assertRaises(WrongRing):
+                status.coming(self.serve({"/leaders/red?above=6&wait=1": (code, text)}), "red", 6, 1)
+
     def test_leaders(self) -> None:
         def page(more: bool, *groups: str) -> tuple[int, str]:
             return 200, json.dumps({"by": 2, "leaders": [{"group": group, "term": 5} for group in groups], "more": more})
