@@ -50,7 +50,7 @@ fn look_for_nodes<R: Files<File = File>>(
         match folder.has_node(rt, alloc, node) {
             Ok(true) => {}
             Ok(false) => {
-                return Err(RunFault::Node(node, Unopened::new(Refusal::NotFormatted)));
+                return Err(RunFault::Node(node, Unopened::gone()));
             }
             Err(why) => return Err(RunFault::Node(node, why)),
         }

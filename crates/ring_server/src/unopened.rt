@@ -91,6 +91,14 @@ impl Unopened {
         }
     }
 
+    /// There is no file of the node, where there has to be one.
+    pub fn gone() -> Unopened {
+        Unopened {
+            refusal: Refusal::NotFormatted,
+            told: Some((Place::Journal, Answer::Error(ErrorKind::NotFound))),
+        }
+    }
+
     /// The system refused this file or folder so.
     pub fn at(place: Place, answer: Answer) -> Unopened {
         Unopened {

@@ -64,7 +64,12 @@ static REFUSALS: [Step; 18] = [
     EndsBesideLock("refused/node-2.crj", REFUSED, LOCKED_FILE),
     EndsBesideLock("refused", REFUSED, LOCKED_FOLDER),
     // another ring's, and another node's
-    Ends(SERVE, REFUSED_3, 1, b"ringd: node 3: unformatted\n"),
+    Ends(
+        SERVE,
+        REFUSED_3,
+        1,
+        b"ringd: node 3: unformatted\nringd: refused/node-3.crj: entity not found\n",
+    ),
     Changes(&[Removes("refused/ring.made")]),
     Ends(SERVE, REFUSED_3, 1, b"ringd: node 1: wrongnode\n"),
     Changes(&[
@@ -93,17 +98,23 @@ fn journals_that_are_refused(rt: HostRuntime) {
 
 const GONE: &[u8] = b"nodes = 2\ndir = \"gone\"\nport = 7221\n";
 
+const GONE_1: &[u8] =
+    b"ringd: node 1: unformatted\nringd: gone/node-1.crj: entity not found\n";
+
+const GONE_2: &[u8] =
+    b"ringd: node 2: unformatted\nringd: gone/node-2.crj: entity not found\n";
+
 static ONE_GONE: [Step; 9] = [
     Changes(&[Anew("gone")]),
     Serves(GONE, 7221, b"stand red 5 10\n", b"stood"),
     Changes(&[Renames("gone/node-2.crj", "gone/held")]),
-    Ends(SERVE, GONE, 1, b"ringd: node 2: unformatted\n"),
+    Ends(SERVE, GONE, 1, GONE_2),
     Changes(&[
         Has("gone/node-2.crj", false),
         Has("gone/node-2.crj.new", false),
         Renames("gone/node-1.crj", "gone/other"),
     ]),
-    Ends(SERVE, GONE, 1, b"ringd: node 1: unformatted\n"),
+    Ends(SERVE, GONE, 1, GONE_1),
     Changes(&[
         Has("gone/node-1.crj", false),
         Renames("gone/other", "gone/node-1.crj"),
@@ -135,7 +146,12 @@ static MADE: [Step; 9] = [
     Serves(MAKING, 7257, b"stand red 5 10\n", b"no 3 already 10"),
     // nor makes it a node anew that is gone
     Changes(&[Removes("making/node-2.crj")]),
-    Ends(MAKE, MAKING, 1, b"ringd: node 2: unformatted\n"),
+    Ends(
+        MAKE,
+        MAKING,
+        1,
+        b"ringd: node 2: unformatted\nringd: making/node-2.crj: entity not found\n",
+    ),
     Changes(&[Has("making/node-2.crj", false), Clears("making")]),
 ];
 
@@ -150,14 +166,24 @@ const ALL_EXISTING: &[&str] = &["ringd", "--existing", "--serve", "1"];
 
 static NOT_THERE: [Step; 7] = [
     Changes(&[Anew("existing")]),
-    Ends(ALL_EXISTING, EXISTING, 1, b"ringd: node 1: unformatted\n"),
+    Ends(
+        ALL_EXISTING,
+        EXISTING,
+        1,
+        b"ringd: node 1: unformatted\nringd: existing/node-1.crj: entity not found\n",
+    ),
     Changes(&[IsEmpty("existing")]),
     Serves(EXISTING, 7223, b"stand red 5 10\n", b"stood"),
     Changes(&[
         Removes("existing/ring.made"),
         Removes("existing/node-2.crj"),
     ]),
-    Ends(ALL_EXISTING, EXISTING, 1, b"ringd: node 2: unformatted\n"),
+    Ends(
+        ALL_EXISTING,
+        EXISTING,
+        1,
+        b"ringd: node 2: unformatted\nringd: existing/node-2.crj: entity not found\n",
+    ),
     Changes(&[
         Has("existing/node-2.crj", false),
         Has("existing/ring.made", false),
@@ -193,7 +219,12 @@ static SYSTEM: [Step; 9] = [
         RemovesFolder("answers/node-1.crj.new"),
         MakesFolder("answers/ring.made"),
     ]),
-    Ends(SERVE, ANSWERS, 1, b"ringd: node 1: unformatted\n"),
+    Ends(
+        SERVE,
+        ANSWERS,
+        1,
+        b"ringd: node 1: unformatted\nringd: answers/node-1.crj: entity not found\n",
+    ),
     // a file in place of the folder
     Changes(&[Clears("answers"), Writes("answers", b"")]),
     Ends(SERVE, ANSWERS, 1, NO_FOLDER),

@@ -10,7 +10,11 @@ const LOOKED: &[u8] = b"nodes = 2\ndir = \"looked\"\nport = 7331\n";
 
 const APART: &[u8] = b"ringd: nodes 1 and 2 do not fit\n";
 
-const UNFORMATTED: &[u8] = b"ringd: node 2: unformatted\n";
+const NO_FIRST: &[u8] =
+    b"ringd: node 1: unformatted\nringd: looked/node-1.crj: entity not found\n";
+
+const NO_SECOND: &[u8] =
+    b"ringd: node 2: unformatted\nringd: looked/node-2.crj: entity not found\n";
 
 const BYE: Say = Line(b"bye\n", b"bye");
 
@@ -57,7 +61,7 @@ const HELD: &str = "looked/held";
 
 static RING: [Step; 18] = [
     Changes(&[Anew("looked")]),
-    Ends(CHECK, LOOKED, 1, b"ringd: node 1: unformatted\n"),
+    Ends(CHECK, LOOKED, 1, NO_FIRST),
     Changes(&[Has("looked/ring.made", false)]),
     Elects(LOOKED, 7331, TWO, ASKS_TWO),
     Changes(&[Copies(FIRST, "looked/first"), Copies(SECOND, HELD)]),
@@ -75,7 +79,7 @@ static RING: [Step; 18] = [
     Ends(CHECK, LOOKED, 1, APART),
     // a file that is gone
     Changes(&[Renames(SECOND, "looked/other")]),
-    Ends(CHECK, LOOKED, 1, UNFORMATTED),
+    Ends(CHECK, LOOKED, 1, NO_SECOND),
     Changes(&[Has(SECOND, false), Clears("looked")]),
 ];
 
