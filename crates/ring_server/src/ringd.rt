@@ -240,6 +240,7 @@ fn make<R: Files<File = File>, E: Write>(
         is_made: is_made(rt, alloc, &folder)?,
     };
     let found = find_ring(rt, alloc, &folder, settings, basis.is_made)?;
+    tell_capacities(err, settings, &found);
     let mut made = Made::new(alloc);
     match make_ready(rt, &basis, found, &mut made, err) {
         Ok(_) => Ok(0),
@@ -283,6 +284,7 @@ where
     };
     let existing = basis.is_made || words.existing;
     let found = find_ring(rt, alloc, &folder, settings, existing)?;
+    tell_capacities(err, settings, &found);
     let serving = Serving {
         ports: Ports::listen(rt, alloc, settings, words)?,
         doors: Doors::new(words.doors, sessions, words.idle),
@@ -368,6 +370,16 @@ fn make_ready<R: Files<File = File>, E: Write>(
         }
     }
     Ok(ready)
+}
+
+/// Names each node that has another capacity than the settings say, which it keeps.
+fn tell_capacities<E: Write>(err: &mut E, settings: &Settings, ring: &[Found<FileDevice>]) {
+    for node in ring {
+        let (number, capacity) = (node.number(), node.desk().capacity());
+        if capacity != settings.capacity {
+            let _ = writeln!(err, "ringd: node {number} keeps its capacity of {capacity}");
+        }
+    }
 }
 
 /// Names each node of which no checkpoint could be made.

@@ -133,7 +133,12 @@ const MAKING: &[u8] = b"nodes = 2\ndir = \"making\"\nport = 7257\n";
 
 const MAKE: &[&str] = &["ringd", "--make"];
 
-static MADE: [Step; 9] = [
+const MAKING_MORE: &[u8] = b"nodes = 2\ndir = \"making\"\nport = 7257\ncapacity = 131072\n";
+
+const KEEPS: &[u8] =
+    b"ringd: node 1 keeps its capacity of 65536\nringd: node 2 keeps its capacity of 65536\n";
+
+static MADE: [Step; 10] = [
     Changes(&[Anew("making")]),
     Ends(MAKE, MAKING, 0, b""),
     Changes(&[
@@ -143,6 +148,7 @@ static MADE: [Step; 9] = [
     // it does no harm where a ring is
     Serves(MAKING, 7257, b"stand red 5 10\n", b"stood"),
     Ends(MAKE, MAKING, 0, b""),
+    Ends(MAKE, MAKING_MORE, 0, KEEPS),
     Serves(MAKING, 7257, b"stand red 5 10\n", b"no 3 already 10"),
     // nor makes it a node anew that is gone
     Changes(&[Removes("making/node-2.crj")]),
