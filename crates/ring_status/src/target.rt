@@ -24,7 +24,7 @@ pub enum Target {
     LeaderOf(NodeNo, GroupName),
     /// The latest leader of a group in a term above this one, by the board of a node, which is waited for so many seconds,
     /// at most 60.
-    NextOf(NodeNo, GroupName, u32, u32),
+    NextOf(NodeNo, GroupName, u64, u64),
 }
 
 // The place of the first such byte.
@@ -79,23 +79,21 @@ fn node_in(parameter: &[u8]) -> Option<NodeNo>
 }
 
 // The number from low to high behind this front.
-fn number_in(front: &[u8], low: u32, high: u32, parameter: &[u8]) -> Option<u32>
+fn number_in(front: &[u8], low: u64, high: u64, parameter: &[u8]) -> Option<u64>
     ensures { result ≡ number_in front.now low high parameter.now }
 {
-    let word = behind(parameter, front)?;
-    let number = read_number(word, u64::from(low), u64::from(high)).ok()?;
-    Some(number as u32)
+    read_number(behind(parameter, front)?, low, high).ok()
 }
 
 // The term of `above=T`.
-fn above_in(parameter: &[u8]) -> Option<u32>
+fn above_in(parameter: &[u8]) -> Option<u64>
     ensures { result ≡ above_in parameter.now }
 {
     number_in(b"above=", 0, 999_999_999, parameter)
 }
 
 // The seconds of `wait=S`.
-fn wait_in(parameter: &[u8]) -> Option<u32>
+fn wait_in(parameter: &[u8]) -> Option<u64>
     ensures { result ≡ wait_in parameter.now }
 {
     number_in(b"wait=", 0, 60, parameter)

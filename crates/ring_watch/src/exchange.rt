@@ -72,7 +72,7 @@ pub(crate) fn answer_watcher<R: Wait + Clock>(
 }
 
 /// What is asked, and for how many seconds it is waited for, where it is.
-fn waits(asked: &Asked) -> Option<(Request, u32)> {
+fn waits(asked: &Asked) -> Option<(Request, u64)> {
     match asked {
         Ok(request) => match request.target {
             Target::NextOf(_, _, _, seconds) if seconds > 0 => Some((*request, seconds)),
@@ -90,7 +90,7 @@ fn wait<R: Wait + Clock>(
     port: &StatusPort,
     stream: TcpStream,
     request: Request,
-    seconds: u32,
+    seconds: u64,
 ) {
     let Some(watcher) = Watcher::new(rt, stream, request, seconds) else {
         return;

@@ -134,11 +134,11 @@ fn next<R: Wait + Clock>(
     reception: &Reception,
     node: NodeNo,
     group: GroupName,
-    above: u32,
+    above: u64,
     deadline: Deadline,
 ) -> Result<Body, Status> {
     match reception.latest(rt, alloc, node, group, deadline) {
-        Some(Some(lead)) if lead.key.term.number() > above => {
+        Some(Some(lead)) if u64::from(lead.key.term.number()) > above => {
             leader(rt, alloc, reception, node, &lead)
         }
         Some(_) => Ok(Body {

@@ -1,6 +1,7 @@
 //! For what the sessions of a node stood.
-use ring_records::{DOORS, Key};
+use ring_records::{DOORS, GroupName, Key};
 use std::alloc::{AllocError, Global};
+use std::mem::replace;
 use std::sync::{Mutex, Wait};
 
 /// Of how many groups a session is known to have stood for one.
@@ -15,16 +16,24 @@ pub(crate) struct Roll {
     doors: Vec<Mutex<Stood>>,
 }
 
-/// The key comes last, in place of that of its group, or else of the first.
-fn enter(stood: &mut Stood, key: Key) {
-    let place = stood
-        .iter()
-        .position(|one| matches!(one, Some(other) if other.group == key.group))
-        .unwrap_or(0);
-    if let Some(behind) = stood.get_mut(place..) {
-        behind.rotate_left(1);
+/// Whether it is of the group.
+fn is_of(key: &Option<Key>, group: &GroupName) -> bool {
+    match key {
+        Some(key) => key.group == *group,
+        None => false,
     }
-    stood[GROUPS - 1] = Some(key);
+}
+
+/// The key comes last, and those behind that of its group, or else all, move one place to the front.
+fn enter(stood: &mut Stood, key: Key) {
+    let mut moved = Some(key);
+    for place in stood.iter_mut().rev() {
+        let before = replace(place, moved);
+        if is_of(&before, &key.group) {
+            break;
+        }
+        moved = before;
+    }
 }
 
 impl Roll {

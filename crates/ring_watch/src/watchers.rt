@@ -35,11 +35,11 @@ impl Watcher {
         rt: &R,
         stream: TcpStream,
         request: Request,
-        seconds: u32,
+        seconds: u64,
     ) -> Option<Watcher> {
         let until = Instant::now(rt)
             .ok()?
-            .checked_add(Duration::from_secs(u64::from(seconds)))?;
+            .checked_add(Duration::from_secs(seconds))?;
         Some(Watcher {
             stream,
             request,
