@@ -235,7 +235,9 @@ fn listen_arg<'a>(alloc: Global) -> Arg<'a>
         .long("listen")
         .value_name("ADDRESS")
         .help_heading("Ring")
-        .help("Listens at this IPv4 address of the host; who reaches it may ask all, and nothing is encrypted")
+        .help(
+            "Listens at this IPv4 address of the host; who reaches it may ask all, and nothing is encrypted",
+        )
         .default_value("127.0.0.1")
 }
 

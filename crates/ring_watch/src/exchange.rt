@@ -34,11 +34,7 @@ fn answer<R: Wait + Clock>(
 }
 
 /// The answer of this body.
-fn told(
-    alloc: Global,
-    method: Method,
-    body: Result<Body, Status>,
-) -> Result<String, AllocError> {
+fn told(alloc: Global, method: Method, body: Result<Body, Status>) -> Result<String, AllocError> {
     match body {
         Ok(
             Body {
@@ -61,7 +57,13 @@ pub(crate) fn answer_watcher<R: Wait + Clock>(
     let deadline = watcher.deadline(rt)?;
     let Request { method, target } = watcher.request;
     let body = body_of(rt, alloc, &port.facts, &port.reception, target, deadline);
-    let is_told = !matches!(body, Ok(Body { status: Status::NoContent, .. }));
+    let is_told = !matches!(
+        body,
+        Ok(Body {
+            status: Status::NoContent,
+            ..
+        })
+    );
     if !is_told && !watcher.is_over(rt) {
         return Some(watcher);
     }

@@ -98,11 +98,9 @@ fn journals_that_are_refused(rt: HostRuntime) {
 
 const GONE: &[u8] = b"nodes = 2\ndir = \"gone\"\nport = 7221\n";
 
-const GONE_1: &[u8] =
-    b"ringd: node 1: unformatted\nringd: gone/node-1.crj: entity not found\n";
+const GONE_1: &[u8] = b"ringd: node 1: unformatted\nringd: gone/node-1.crj: entity not found\n";
 
-const GONE_2: &[u8] =
-    b"ringd: node 2: unformatted\nringd: gone/node-2.crj: entity not found\n";
+const GONE_2: &[u8] = b"ringd: node 2: unformatted\nringd: gone/node-2.crj: entity not found\n";
 
 static ONE_GONE: [Step; 9] = [
     Changes(&[Anew("gone")]),

@@ -10,8 +10,7 @@ const LOOKED: &[u8] = b"nodes = 2\ndir = \"looked\"\nport = 7331\n";
 
 const APART: &[u8] = b"ringd: nodes 1 and 2 do not fit\n";
 
-const NO_FIRST: &[u8] =
-    b"ringd: node 1: unformatted\nringd: looked/node-1.crj: entity not found\n";
+const NO_FIRST: &[u8] = b"ringd: node 1: unformatted\nringd: looked/node-1.crj: entity not found\n";
 
 const NO_SECOND: &[u8] =
     b"ringd: node 2: unformatted\nringd: looked/node-2.crj: entity not found\n";

@@ -174,7 +174,8 @@ const TAKEN_STATUS: &[&str] = &["ringd", "--serve", "1", "--status", "7313"];
 
 const NO_DOOR: &[u8] = b"ringd: port 7312 cannot be used\nringd: 127.0.0.1:7312: address in use\n";
 
-const NO_STATUS: &[u8] = b"ringd: port 7313 cannot be used\nringd: 127.0.0.1:7313: address in use\n";
+const NO_STATUS: &[u8] =
+    b"ringd: port 7313 cannot be used\nringd: 127.0.0.1:7313: address in use\n";
 
 static TAKEN_PORTS: [Step; 10] = [
     // of a new ring nothing is made

@@ -30,10 +30,7 @@ const OPEN: &[Say] = &[
     Line(b"retire red 6\n", b"no 26 undecided"),
     Meanwhile(
         7230,
-        Target(
-            "/status",
-            b"{\"dir\":\"told\",\"nodes\":[{\"elections\":",
-        ),
+        Target("/status", b"{\"dir\":\"told\",\"nodes\":[{\"elections\":"),
     ),
     // a checkpoint would write 42 bytes of counts, 18 of the key, where it stood and leads, and 28 of two messages
     Meanwhile(
@@ -162,7 +159,15 @@ const BAD_REQUEST: &[u8] = b"\r\n\r\n400 Bad Request\n";
 
 const ASKED: Scenario = Scenario {
     ring: Ring::Program(
-        &["ringd", "--serve", "1", "--status", "7235", "--watchers", "0"],
+        &[
+            "ringd",
+            "--serve",
+            "1",
+            "--status",
+            "7235",
+            "--watchers",
+            "0",
+        ],
         b"nodes = 2\ndir = \"asked\"\nport = 7236\n",
     ),
     visits: [
