@@ -110,7 +110,8 @@ class Ring:
 
     def watch(self, group: str, after: int = 0) -> Iterator[Led]:
         """Each new leader of the group, with rising terms above `after`, for ever. Where the port `status` is told, that
-        tells each at once; else it looks again and again, at most a second apart. Of several terms it tells the last. `NoAnswer` where no node answers any more."""
+        tells each at once; else it looks again and again, at most a second apart. Of several terms it tells the last.
+        `NoAnswer` where no node answers any more."""
         return election.watch(self, group, after)
 
     def ask(self, line: str, node: int | None = None) -> str:
