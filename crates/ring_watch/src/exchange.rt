@@ -6,7 +6,6 @@ use crate::watchers::Watcher;
 use client_stream::{Deadline, part, send_all};
 use ring_status::{Content, Method, Request, Status, Target, answer_text};
 use std::alloc::{AllocError, Global};
-use std::net::TcpStream;
 use std::sync::Wait;
 use std::time::Clock;
 
@@ -54,23 +53,31 @@ pub(crate) fn answer_watcher<R: Wait + Clock>(
     port: &StatusPort,
     watcher: Watcher,
 ) -> Option<Watcher> {
+    let request = watcher.request();
     let deadline = watcher.deadline(rt)?;
-    let Request { method, target } = watcher.request;
-    let body = body_of(rt, alloc, &port.facts, &port.reception, target, deadline);
-    let is_told = !matches!(
-        body,
-        Ok(Body {
-            status: Status::NoContent,
-            ..
-        })
+    let body = body_of(
+        rt,
+        alloc,
+        &port.facts,
+        &port.reception,
+        request.target,
+        deadline,
     );
-    if !is_told && !watcher.is_over(rt) {
+    if is_nothing(&body) && !watcher.is_over(rt) {
         return Some(watcher);
     }
-    if let Ok(text) = told(alloc, method, body) {
-        let _ = send_all(rt, &watcher.stream, deadline, text.as_bytes());
+    if let Ok(text) = told(alloc, request.method, body) {
+        watcher.send(rt, &text);
     }
     None
+}
+
+/// Whether nothing has come.
+fn is_nothing(body: &Result<Body, Status>) -> bool {
+    match body {
+        Ok(body) => body.status == Status::NoContent,
+        Err(_) => false,
+    }
 }
 
 /// What is asked, and for how many seconds it is waited for, where it is.
@@ -84,30 +91,20 @@ fn waits(asked: &Asked) -> Option<(Request, u64)> {
     }
 }
 
-/// Answers a client where there is something to be told, and else leaves it with those that wait. Refused as 503 where there
-/// is no place for it.
-fn wait<R: Wait + Clock>(
-    rt: &R,
-    alloc: Global,
-    port: &StatusPort,
-    stream: TcpStream,
-    request: Request,
-    seconds: u64,
-) {
-    let Some(watcher) = Watcher::new(rt, stream, request, seconds) else {
-        return;
-    };
-    let Some(watcher) = answer_watcher(rt, alloc, port, watcher) else {
-        return;
-    };
-    let Some(watcher) = port.watchers.enter(rt, watcher) else {
-        return;
-    };
-    let Ok(text) = refusal(alloc, request.method, Status::Unavailable) else {
-        return;
-    };
-    if let Some(deadline) = watcher.deadline(rt) {
-        let _ = send_all(rt, &watcher.stream, deadline, text.as_bytes());
+/// Answers a client where there is something to be told, and else leaves it with those that wait.
+fn wait<R: Wait + Clock>(rt: &R, alloc: Global, port: &StatusPort, watcher: Watcher) {
+    if let Some(watcher) = answer_watcher(rt, alloc, port, watcher) {
+        seat(rt, alloc, port, watcher);
+    }
+}
+
+/// Leaves a client with those that wait. Refused as 503 where there is no place for it.
+fn seat<R: Wait + Clock>(rt: &R, alloc: Global, port: &StatusPort, watcher: Watcher) {
+    let request = watcher.request();
+    if let Some(watcher) = port.watchers.enter(rt, watcher) {
+        if let Ok(text) = refusal(alloc, request.method, Status::Unavailable) {
+            watcher.send(rt, &text);
+        }
     }
 }
 
@@ -120,7 +117,10 @@ pub(crate) fn exchange<R: Wait + Clock>(rt: &R, alloc: Global, port: &StatusPort
     } = caller;
     let _ = stream.set_nodelay(true);
     if let Some((request, seconds)) = waits(&asked) {
-        return wait(rt, alloc, port, stream, request, seconds);
+        if let Some(watcher) = Watcher::new(rt, stream, request, seconds) {
+            wait(rt, alloc, port, watcher);
+        }
+        return;
     }
     let Ok(text) = answer(rt, alloc, port, asked, deadline) else {
         return;

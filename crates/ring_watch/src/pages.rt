@@ -137,16 +137,37 @@ fn next<R: Wait + Clock>(
     above: u64,
     deadline: Deadline,
 ) -> Result<Body, Status> {
-    match reception.latest(rt, alloc, node, group, deadline) {
-        Some(Some(lead)) if u64::from(lead.key.term.number()) > above => {
-            leader(rt, alloc, reception, node, &lead)
-        }
-        Some(_) => Ok(Body {
-            status: Status::NoContent,
-            content: Content::Json,
-            text: String::new(alloc),
-        }),
-        None => Err(Status::Unavailable),
+    let Some(known) = reception.latest(rt, alloc, node, group, deadline) else {
+        return Err(Status::Unavailable);
+    };
+    match known {
+        Some(lead) => leader_above(rt, alloc, reception, node, &lead, above),
+        None => Ok(nothing(alloc)),
+    }
+}
+
+/// That nothing has come.
+fn nothing(alloc: Global) -> Body {
+    Body {
+        status: Status::NoContent,
+        content: Content::Json,
+        text: String::new(alloc),
+    }
+}
+
+/// This leader where its term is above that one, or that there is none.
+fn leader_above<R: Wait>(
+    rt: &R,
+    alloc: Global,
+    reception: &Reception,
+    node: NodeNo,
+    lead: &Decision,
+    above: u64,
+) -> Result<Body, Status> {
+    if u64::from(lead.key.term.number()) > above {
+        leader(rt, alloc, reception, node, lead)
+    } else {
+        Ok(nothing(alloc))
     }
 }
 

@@ -1,7 +1,7 @@
 //! The clients of the status port that wait for a leader.
 use crate::exchange::answer_watcher;
 use crate::status_port::StatusPort;
-use client_stream::Deadline;
+use client_stream::{Deadline, send_all};
 use libc::net::{POLLIN, poll};
 use libc::types::pollfd;
 use ring_status::Request;
@@ -24,8 +24,8 @@ const ANSWER: u64 = 5;
 /// A client that waits for what it asked, and until when.
 #[derive(Drop)]
 pub(crate) struct Watcher {
-    pub(crate) stream: TcpStream,
-    pub(crate) request: Request,
+    stream: TcpStream,
+    request: Request,
     until: Instant,
 }
 
@@ -47,9 +47,21 @@ impl Watcher {
         })
     }
 
+    /// What it asked.
+    pub(crate) fn request(&self) -> Request {
+        self.request
+    }
+
     /// Until when an answer that is asked for now is waited for.
     pub(crate) fn deadline<R: Clock>(&self, rt: &R) -> Option<Deadline> {
         Deadline::after(rt, Some(Duration::from_secs(ANSWER))).ok()
+    }
+
+    /// Sends it an answer.
+    pub(crate) fn send<R: Wait + Clock>(&self, rt: &R, text: &str) {
+        if let Some(deadline) = self.deadline(rt) {
+            let _ = send_all(rt, &self.stream, deadline, text.as_bytes());
+        }
     }
 
     /// Whether its time is over, or there is no clock.
