@@ -31,6 +31,8 @@ class Ring:
                  status: int | None = None) -> None:
         if not 1 <= first < last <= 65_535 or last - first > 15:
             raise WrongRing(f"{first}-{last}: the ports of 2 to 16 nodes are 1 to 65,535")
+        if status is not None and not 1 <= status <= 65_535:
+            raise WrongRing(f"{status}: the port of ringd --status is 1 to 65,535")
         self.host = require(host)
         self.first, self.nodes, self.timeout, self.status = first, last - first + 1, timeout, status
         self.ports = range(first, last + 1)

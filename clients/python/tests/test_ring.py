@@ -142,6 +142,9 @@ class RingTest(Beside):
         for ports in ("7101", "7103-7101", "7101-7101", "7101-7117", "0-2", "65535-65536", "a-b", "", "7101-7103 "):
             with self.assertRaises(WrongRing, msg=ports):
                 Ring.parse(ports)
+        for port in (0, 65_536):
+            with self.assertRaises(WrongRing, msg=port):
+                Ring(7101, 7103, status=port)
         # A third port is no time to wait.
         with self.assertRaises(TypeError):
             Ring(7101, 7102, 7103)
