@@ -160,7 +160,7 @@ pub(crate) fn serve_door<'a, J: Naming, A: Node, R: Wait + Clock>(
         return share;
     }
     let service = HubService::new(rt, hub, share, reader);
-    let mut service = EnrolledService::new(rt, *links, number, service);
+    let mut service = EnrolledService::new(rt, links.reception, links.node, number, service);
     for _ in rt.forever() {
         let was_served = serve_next(rt, alloc, hub, front, links, &mut service);
         service.withdraw();
@@ -168,7 +168,8 @@ pub(crate) fn serve_door<'a, J: Naming, A: Node, R: Wait + Clock>(
             break;
         }
     }
-    let (share, _reader, _last) = service.into_service().into_parts();
+    let service = service.into_service();
+    let (share, _reader, _last) = service.into_parts();
     if front.closes() {
         links.leave(rt);
     }

@@ -1,8 +1,8 @@
 //! A service whose client is known to be there.
 ghost use Rattle.std.specs.Prelude.{⊤};
 
-use crate::links::Links;
-use ring_records::{Bid, GroupName, Key, Refusal, Reply, Term};
+use ring_records::{Bid, GroupName, Key, NodeNo, Refusal, Reply, Term};
+use ring_watch::Reception;
 use sessions::Service;
 use std::sync::Wait;
 
@@ -11,7 +11,8 @@ use std::sync::Wait;
 #[derive(Drop)]
 pub(crate) struct EnrolledService<'a, R, S: Service> {
     rt: &'a R,
-    links: Links<'a>,
+    reception: Option<&'a Reception>,
+    node: NodeNo,
     door: u32,
     service: S,
 }
@@ -20,22 +21,31 @@ impl<'a, R: Wait, S: Service> EnrolledService<'a, R, S> {
     /// In front of this one.
     pub(crate) fn new(
         rt: &'a R,
-        links: Links<'a>,
+        reception: Option<&'a Reception>,
+        node: NodeNo,
         door: u32,
         service: S,
     ) -> EnrolledService<'a, R, S> {
         EnrolledService {
             rt,
-            links,
+            reception,
+            node,
             door,
             service,
         }
     }
 
+    /// The node stands for its client.
+    fn enrol(&self, key: &Key) {
+        if let Some(reception) = self.reception {
+            reception.enrol(self.rt, self.node, self.door, *key);
+        }
+    }
+
     /// The session has ended.
     pub(crate) fn withdraw(&self) {
-        if let Some(reception) = self.links.reception {
-            reception.withdraw(self.rt, self.links.node, self.door);
+        if let Some(reception) = self.reception {
+            reception.withdraw(self.rt, self.node, self.door);
         }
     }
 
@@ -59,8 +69,8 @@ impl<R: Wait, S: Service> Service for EnrolledService<'_, R, S> {
 
     fn stand(&mut self, key: Key, bid: Bid) -> Result<Reply, Refusal> {
         let answer = self.service.stand(key, bid);
-        if let (Some(reception), true) = (self.links.reception, is_own(&answer, bid)) {
-            reception.enrol(self.rt, self.links.node, self.door, key);
+        if is_own(&answer, bid) {
+            self.enrol(&key);
         }
         answer
     }

@@ -42,7 +42,7 @@ fn listen_at<R: Net<Listener = TcpListener, Stream = TcpStream>>(
 ) -> Result<TcpListener, RunFault> {
     match TcpListener::bind(rt, (address, port)) {
         Ok(listener) => Ok(listener),
-        Err(error) => Err(RunFault::Port(address, port, error.kind())),
+        Err(error) => Err(RunFault::Port(port, error.kind())),
     }
 }
 

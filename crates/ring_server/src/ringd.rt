@@ -116,7 +116,7 @@ where
         Ok(status) => Ok(status),
         Err(fault) => {
             let _ = writeln!(err, "ringd: {fault}");
-            let _ = fault.print_answer(err, settings.dir.as_str());
+            let _ = fault.print_answer(err, settings.dir.as_str(), words.listen);
             Ok(fault.status())
         }
     }

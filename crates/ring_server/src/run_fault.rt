@@ -23,9 +23,9 @@ pub enum RunFault {
     /// The histories of two nodes are not of one time.
     #[error("nodes {0} and {1} do not fit")]
     Apart(NodeNo, NodeNo),
-    /// A node's port at this address is in use, or not to be had, for a cause of this kind.
-    #[error("port {1} cannot be used")]
-    Port(Ipv4Addr, u16, ErrorKind),
+    /// A port is in use, or not to be had, for a cause of this kind.
+    #[error("port {0} cannot be used")]
+    Port(u16, ErrorKind),
     /// A line was not printed.
     #[error("output cannot be written")]
     Output,
@@ -38,11 +38,17 @@ pub enum RunFault {
 }
 
 impl RunFault {
-    /// A line of what the system answered, where a node of this folder was not opened for that, or a port not had.
-    pub(crate) fn print_answer<E: Write>(&self, err: &mut E, dir: &str) -> io::Result<()> {
+    /// A line of what the system answered, where a node of this folder was not opened for that, or a port of this address
+    /// not had.
+    pub(crate) fn print_answer<E: Write>(
+        &self,
+        err: &mut E,
+        dir: &str,
+        address: Ipv4Addr,
+    ) -> io::Result<()> {
         match self {
             RunFault::Node(node, why) => why.print(err, dir, *node),
-            RunFault::Port(address, port, kind) => writeln!(err, "ringd: {address}:{port}: {kind}"),
+            RunFault::Port(port, kind) => writeln!(err, "ringd: {address}:{port}: {kind}"),
             _ => Ok(()),
         }
     }

@@ -23,12 +23,13 @@ pub(crate) struct StartLatch {
 impl StartLatch {
     /// Of so many nodes that have told nothing yet.
     pub(crate) fn new(nodes: usize) -> StartLatch {
+        let stage = Stage {
+            awaited: nodes,
+            fault: None,
+            serves: None,
+        };
         StartLatch {
-            stage: Mutex::new(Stage {
-                awaited: nodes,
-                fault: None,
-                serves: None,
-            }),
+            stage: Mutex::new(stage),
             told: Condvar::new(),
             opened: Condvar::new(),
         }
