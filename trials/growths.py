@@ -1,5 +1,5 @@
 #!/usr/bin/env python3
-"""growths.py [--programs FOLDER] [--tests FOLDER] [--every N] [PART..]
+"""growths.py [--programs FOLDER] [--tests FOLDER] [--every N] [--first N] [PART..]
 
 Refuses a growth of the programs, by trials/refuse.c: growth 1, 2, 3 and so on, until a run has none that is refused. The PARTs, all of
 them where none is named:
@@ -14,6 +14,7 @@ them where none is named:
   --programs FOLDER   where ringctl and ringd are, `bin` by default.
   --tests FOLDER      where the crates with their out/ are, `crates` by default.
   --every N           only each Nth growth of a ring.
+  --first N           of a ring, from growth N on, so that runs side by side may share them.
 
 It prints a line for each test, script and ring with how many growths were refused, and each fault. The last line is `growths N faults F`.
 Status 0 where there was no fault; 1 where there was one; 2 where a word is wrong, or a program or a compiler is missing."""
@@ -97,7 +98,7 @@ class Trial:
 
     def ring(self, ringd: str, base: str | None, for_good: bool) -> None:
         """Each growth of a ring."""
-        at, count, spared, said = 1, 0, 0, Counter()
+        at, count, spared, said = self.words.first, 0, 0, Counter()
         place = f"{'on a folder' if base else 'in an empty folder'}, {'for good' if for_good else 'alone'}"
         while spared < SPARED:
             end = Ring(ringd, self.folder, base).play(self.refuser, Refusal("memory", at, errno.ENOMEM, for_good), ELECTIONS)
@@ -145,6 +146,7 @@ def main() -> int:
     parser.add_argument("--programs", default=os.path.join(ROOT, "bin"))
     parser.add_argument("--tests", default=os.path.join(ROOT, "crates"))
     parser.add_argument("--every", type=int, default=1, metavar="N")
+    parser.add_argument("--first", type=int, default=1, metavar="N")
     words = parser.parse_args()
     words.programs, words.tests = os.path.abspath(words.programs), os.path.abspath(words.tests)
     for part in words.parts:
