@@ -54,8 +54,8 @@ fn write_line<R: Rng>(text: &mut String, rng: &mut R, term: u32) -> Result<(), F
         4 => writeln!(text, "retire {node} {group} {term}")?,
         5 => writeln!(text, "who {node} {group} {term}")?,
         6 => writeln!(text, "latest {node} {group}")?,
-        7 => writeln!(text, "deliver {node} {}", rng.next_u32() % (1 + term))?,
-        8 => writeln!(text, "credit {node} {}", rng.next_u32() % (1 + term))?,
+        7 => writeln!(text, "deliver {node} {}", rng.next_u32() % 100)?,
+        8 => writeln!(text, "credit {node} {}", rng.next_u32() % 100)?,
         _ => write_course(text, rng, node)?,
     }
     Ok(())
