@@ -12,8 +12,8 @@ WRONG, HELP, VERSION, TAKEN = "wrong", "help", "version", "taken"
 
 
 def is_number(value: bytes, low: int, high: int) -> bool:
-    """As Rust reads one: digits, behind a plus where there is one."""
-    digits = value.removeprefix(b"+")
+    """As Rust reads a signed one that may not be below 0: digits, behind a plus where there is one; and `-0` is 0."""
+    digits = value.removeprefix(b"+") if value.strip(b"0") != b"-" else value[1:]
     return digits.isdigit() and int(digits) < 2**32 and low <= int(digits) <= high
 
 
