@@ -28,13 +28,14 @@ type RingStatus struct {
 
 // A NodeStatus is what is told of a node. Its state is `well`, or what is not: `limit`, `full`, `hangs` or `failed`.
 type NodeStatus struct {
-	Node     int            `json:"node"`
-	Port     int            `json:"port"`
-	State    string         `json:"state"`
-	Journal  JournalStatus  `json:"journal"`
-	Messages MessagesStatus `json:"messages"`
-	Stands   StandsStatus   `json:"stands"`
-	Sessions SessionsStatus `json:"sessions"`
+	Node      int            `json:"node"`
+	Port      int            `json:"port"`
+	State     string         `json:"state"`
+	Elections int64          `json:"elections"`
+	Journal   JournalStatus  `json:"journal"`
+	Messages  MessagesStatus `json:"messages"`
+	Stands    StandsStatus   `json:"stands"`
+	Sessions  SessionsStatus `json:"sessions"`
 }
 
 // A JournalStatus is what a node's journal comes to. docs/OPERATING.md says what the numbers mean, here and below.
@@ -57,6 +58,7 @@ type JournalStatus struct {
 // A MessagesStatus is what a node's messages come to.
 type MessagesStatus struct {
 	Credit  int64 `json:"credit"`
+	Refused int64 `json:"refused"`
 	Sent    int64 `json:"sent"`
 	Taken   int64 `json:"taken"`
 	Waiting int64 `json:"waiting"`
