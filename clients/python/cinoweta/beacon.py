@@ -12,6 +12,11 @@ RANK, SPREAD = 100_000_000, 1_525
 LONGEST, LONGEST_TEXT = 32, 200
 
 
+def require_rank(rank: int) -> None:
+    if not 0 <= rank <= 9:
+        raise ValueError("a lock's rank is 0 to 9")
+
+
 def port_of(bid: int) -> int:
     return bid % RANK // SPREAD
 
@@ -21,8 +26,7 @@ class Beacon:
     bid, and to `holder` and its bid with the process and the text too."""
 
     def __init__(self, rank: int, text: str) -> None:
-        if not 0 <= rank <= 9:
-            raise ValueError("a lock's rank is 0 to 9")
+        require_rank(rank)
         if not text.isprintable() or len(text.encode()) > LONGEST_TEXT:
             raise ValueError("a holder's text is one printable line of 200 bytes at most")
         self.server = socket.create_server(("127.0.0.1", 0))

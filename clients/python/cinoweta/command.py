@@ -155,7 +155,8 @@ def lock(told: argparse.Namespace) -> int:
     if shutil.which(told.run[0]) is None:
         print(f"cinoweta: {told.run[0]}: no such program", file=sys.stderr)
         return NO_PROGRAM
-    held = Lock(ring_of(told), told.group, told.rank, told.patience, told.wait, told.text, told.keep)
+    held = Lock(ring_of(told), told.group, told.rank, told.patience, told.wait, told.text, told.keep,
+                across_hosts=told.across_hosts)
     try:
         held.acquire(lambda text: print(f"cinoweta: {told.group}: {text}", file=sys.stderr, flush=True))
         code = held.run(told.run, told.grace)
@@ -168,11 +169,12 @@ def lock(told: argparse.Namespace) -> int:
 
 def holder(told: argparse.Namespace) -> int:
     with ring_of(told) as ring:
-        known = holder_of(ring, told.group, told.patience)
+        known = holder_of(ring, told.group, told.patience, across_hosts=told.across_hosts)
     if known is None:
         show(told, "none", group=told.group, term=None, leader=None, pid=None, text=None)
         return NONE
-    text = f"term {known.term} leader {known.leader.node} {known.leader.bid} process {known.pid} {known.text}".rstrip()
+    process = "" if known.pid is None else f" process {known.pid} {known.text}"
+    text = f"term {known.term} leader {known.leader.node} {known.leader.bid}{process}".rstrip()
     show(told, text, group=told.group, term=known.term, leader=known.leader._asdict(), pid=known.pid, text=known.text)
     return 0
 

@@ -1,4 +1,5 @@
 """One session with a node."""
+import contextlib
 import os
 import socket
 import time
@@ -40,6 +41,11 @@ class Session:
     def is_usable(self) -> bool:
         """Whether another line may be asked: by this process, and behind no fault."""
         return self.connection.fileno() >= 0 and self.process == os.getpid()
+
+    def end(self) -> None:
+        """Ends the session, in which another thread may wait for an answer: it gets none, and closes it."""
+        with contextlib.suppress(OSError):
+            self.connection.shutdown(socket.SHUT_RDWR)
 
     def close(self) -> None:
         """Ends the session, which gives the node's door back."""

@@ -57,18 +57,30 @@ def leaders(port: int, node: int, seconds: float = 5.0, *, host: str = OWN) -> I
 def coming(port: int, group: str, above: int, seconds: int, *, host: str = OWN) -> tuple[int, int, int] | None:
     """The term, the node and the bid of the group's latest leader in a term above this one, for which the port waits so many seconds,
     60 at most; None where there was none."""
-    path = f"/leaders/{group}?above={above}&wait={seconds}"
-    code, text = ask(host, port, path, seconds + 5.0)
-    if code == 204:
+    told = ask_leader(host, port, f"/leaders/{group}?above={above}&wait={seconds}", seconds + 5.0, 204)
+    return None if told is None else told[:3]
+
+
+def leader(port: int, group: str, node: int, seconds: float = 5.0, *, host: str = OWN) -> tuple[int, int, int, bool] | None:
+    """The term, the node and the bid of the group's latest leader, and whether who stood so is present, by what this node knows;
+    None where it knows none. Nothing rests on presence: docs/OPERATING.md says what it tells."""
+    return ask_leader(host, port, f"/leaders/{group}?node={node}", seconds, 404)
+
+
+def ask_leader(host: str, port: int, path: str, seconds: float, none: int) -> tuple[int, int, int, bool] | None:
+    """A leader and whether it is present; None where the status of the answer says that there is none."""
+    code, text = ask(host, port, path, seconds)
+    if code == none:
         return None
     try:
-        leader = json.loads(text)["leader"]
-        led = leader["term"], leader["node"], leader["bid"]
+        told = json.loads(text)
+        row, is_present = told["leader"], told["present"]
+        term, node, bid = row["term"], row["node"], row["bid"]
     except (ValueError, LookupError, TypeError):
-        led = None
-    if code != 200 or led is None or not all(isinstance(number, int) for number in led):
+        term = node = bid = is_present = None
+    if code != 200 or not all(isinstance(number, int) for number in (term, node, bid)) or not isinstance(is_present, bool):
         raise WrongRing(f"{host}:{port}{path} answers {code}: is it that of ringd --status?")
-    return led
+    return term, node, bid, is_present
 
 
 def ask_rows(host: str, port: int, path: str, name: str, seconds: float) -> dict[str, Any]:

@@ -44,7 +44,9 @@ def arguments() -> argparse.ArgumentParser:
     asked.add_argument("--port", default=os.environ.get("CINOWETA_STATUS"),
                        help="of the ring's host, or HOST:PORT; CINOWETA_STATUS where it is left out")
     add_lock(command("lock", "runs the COMMAND behind -- while it leads", "group"))
-    add_patience(command("holder", "who holds a lock", "group"))
+    holder = command("holder", "who holds a lock", "group")
+    add_sight(holder)
+    add_status(holder)
     move = command("move", "stands in the ring, which is a new one, one term above in each group of another one")
     move.add_argument("--from", required=True, metavar="PORT", dest="old",
                       help="that of its ringd --status, of the new ring's host, or HOST:PORT")
@@ -72,7 +74,7 @@ def add_campaign(parser: argparse.ArgumentParser) -> None:
 def add_lock(parser: argparse.ArgumentParser) -> None:
     parser.usage = "cinoweta lock [OPTION..] GROUP -- COMMAND"
     parser.add_argument("--rank", type=int, default=0, help="0 to 9")
-    add_patience(parser)
+    add_sight(parser)
     parser.add_argument("--wait", type=float, metavar="SECONDS",
                         help="how long it waits for who holds the lock; 0 tries once; for ever where it is left out")
     parser.add_argument("--grace", type=float, default=10.0, metavar="SECONDS", help="from TERM to KILL")
@@ -81,9 +83,11 @@ def add_lock(parser: argparse.ArgumentParser) -> None:
     add_status(parser)
 
 
-def add_patience(parser: argparse.ArgumentParser) -> None:
+def add_sight(parser: argparse.ArgumentParser) -> None:
     parser.add_argument("--patience", type=float, default=5.0, metavar="SECONDS",
                         help="a holder that does not answer for so long is gone, as one that is paused")
+    parser.add_argument("--across-hosts", action="store_true", default=None,
+                        help="holders are seen by ringd --status, from other hosts too, as with a ring of another host")
 
 
 def add_keep(parser: argparse.ArgumentParser) -> None:
@@ -93,4 +97,5 @@ def add_keep(parser: argparse.ArgumentParser) -> None:
 
 def add_status(parser: argparse.ArgumentParser) -> None:
     parser.add_argument("--status", type=int, metavar="PORT", default=os.environ.get("CINOWETA_STATUS"),
-                        help="that of ringd --status, or CINOWETA_STATUS: where nobody comes to lead, it is asked why")
+                        help="that of ringd --status, or CINOWETA_STATUS: where nobody comes to lead, it is asked why, and "
+                             "across hosts who holds a lock")

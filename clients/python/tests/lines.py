@@ -13,6 +13,8 @@ class Node(socketserver.ThreadingTCPServer):
     def __init__(self, answer: Callable[[str], str | None], port: int = 0, host: str = "127.0.0.1") -> None:
         self.answer = answer
         self.lines: list[str] = []
+        # The open sessions in which something stood.
+        self.present: set[Session] = set()
         super().__init__((host, port), Session)
         threading.Thread(target=self.serve_forever, args=(0.01,), daemon=True).start()
 
@@ -29,12 +31,17 @@ class Node(socketserver.ThreadingTCPServer):
 
 class Session(socketserver.StreamRequestHandler):
     def handle(self) -> None:
-        while line := self.rfile.readline(300).decode().rstrip("\n"):
-            self.server.lines.append(line)
-            answer = self.server.answer(line)
-            if answer is None:
-                return
-            self.wfile.write(answer.encode() + b"\n")
+        try:
+            while line := self.rfile.readline(300).decode().rstrip("\n"):
+                self.server.lines.append(line)
+                answer = self.server.answer(line)
+                if answer is None:
+                    return
+                if line.startswith("stand "):
+                    self.server.present.add(self)
+                self.wfile.write(answer.encode() + b"\n")
+        finally:
+            self.server.present.discard(self)
 
 
 def serve(*answers: Callable[[str], str | None], host: str = "127.0.0.1") -> list[Node]:

@@ -1,4 +1,4 @@
-"""Rings of other hosts: 127.0.0.2 stands for one with a ring, 10.0.0.5 for one that nothing may be sent to."""
+"""Rings of other hosts, for which 127.0.0.2 stands."""
 import contextlib
 import io
 import json
@@ -13,7 +13,7 @@ from .lines import Votes
 from .test_ring import Beside, deaf
 from .test_status import TOLD, BesideStatus
 
-OTHER, SILENT = "127.0.0.2", "10.0.0.5:7101-7103"
+OTHER = "127.0.0.2"
 HOSTS = ["10.0.0.5", "0.0.0.0", "255.255.255.255", "localhost", "ring", "R", "ring-1.example", "1.a", "ring.example.", "4a",
          "a" * 63, ".".join(["a" * 63] * 3 + ["b" * 61])]
 NONE = ["", ".", "-", "10.0.0", "10.0.0.256", "10.0.0.05", "10.0.0.5.", "10.0.0.5.6", "10", "a.5", "a..b", ".a", "a-", "-a.b",
@@ -90,21 +90,6 @@ class HostTest(Beside, BesideStatus):
         ring.status = port
         with self.assertRaisesRegex(NoLeader, ": node 2 failed"):
             ring.campaign("red", terms=1, seconds=0.0)
-
-    def test_a_lock_is_refused_before_anything_is_sent(self) -> None:
-        ring, words = Ring.parse(SILENT), ["--ring", SILENT]
-        said = "10.0.0.5: a lock is for clients of the ring's own host, at 127.0.0.1, where a holder is seen"
-        with mock.patch("socket.create_connection") as connect:
-            for refused in (lambda: Lock(ring, "red"), lambda: holder(ring, "red")):
-                with self.assertRaises(WrongRing) as caught:
-                    refused()
-                self.assertEqual(str(caught.exception), said)
-            self.assertEqual(told(*words, "lock", "red", "--", "true"), (2, "", f"cinoweta: {said}\n"))
-            self.assertEqual(told(*words, "holder", "red"), (2, "", f"cinoweta: {said}\n"))
-        connect.assert_not_called()
-        for host in ("127.example", "localhost", "128.0.0.1", "0.0.0.0"):
-            with self.assertRaises(WrongRing, msg=host):
-                Lock(Ring(7101, 7103, host=host), "red")
 
     def test_a_lock_is_held_with_a_ring_of_each_own_address(self) -> None:
         votes = Votes()

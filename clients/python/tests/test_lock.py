@@ -91,7 +91,7 @@ class LockTest(Beside):
         lock = self.lock(ring)
         with self.assertRaises(NoAnswer):
             lock.acquire()
-        self.assertIsNone(lock.beacon)
+        self.assertIsNone(lock.sign)
 
     def test_who_takes_it_again_waits_for_a_ring_that_is_away(self) -> None:
         ring, nodes = self.votes_ring(timeout=0.1)

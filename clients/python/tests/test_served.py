@@ -175,7 +175,9 @@ class CommandTest(ServedTest):
         self.served.start()
 
 
-class LockTest(ServedTest):
+class LockerTest(ServedTest):
+    """Lockers as processes of their own."""
+
     def setUp(self) -> None:
         super().setUp()
         self.lockers: list[subprocess.Popen[str]] = []
@@ -197,6 +199,8 @@ class LockTest(ServedTest):
         self.lockers.append(locker)
         return locker
 
+
+class LockTest(LockerTest):
     def test_the_status_is_that_of_the_command(self) -> None:
         for script, status in (("exit 0", 0), ("exit 7", 7), ("kill -9 $$", 137)):
             self.assertEqual(self.served.run("lock", "red", "--", "sh", "-c", script).returncode, status)
@@ -280,6 +284,64 @@ class LockTest(ServedTest):
         self.assertLess(time.monotonic() - before, 3.0)
         first.kill()
         self.assertEqual(self.served.run("holder", "red").stdout, "none\n")
+
+
+class AcrossHostsTest(LockerTest):
+    """Lockers that see each other by the status port alone."""
+
+    def setUp(self) -> None:
+        super().setUp()
+        self.served.end()
+        self.served = Served("--doors", "4", "--idle", "2")
+        self.addCleanup(self.served.end)
+        self.words = ["--across-hosts", "--status", str(self.served.status)]
+
+    def run_holder(self) -> str:
+        return self.served.run("holder", "red", *self.words).stdout
+
+    def test_one_runs_behind_the_other(self) -> None:
+        script = f"echo $CINOWETA_TERM >> {self.served.folder}/terms; echo in; sleep 0.3; echo out"
+        lockers = [self.lock(script, *self.words) for _ in range(3)]
+        for locker in lockers:
+            self.assertEqual((locker.stdout.read(), locker.wait()), ("in\nout\n", 0))
+        with open(f"{self.served.folder}/terms", encoding="ascii") as file:
+            terms = [int(line) for line in file]
+        self.assertEqual((len(terms), terms), (3, sorted(set(terms))))
+
+    def test_who_is_killed_or_paused_loses_it(self) -> None:
+        script = "echo $CINOWETA_TERM; exec sleep 60"
+        first = self.lock(script, *self.words)
+        self.assertEqual(first.stdout.readline(), "1\n")
+        self.assertRegex(self.run_holder(), r"\Aterm 1 leader \d \d+\n\Z")
+        second = self.lock(script, *self.words)
+        time.sleep(2.5)
+        self.assertIsNone(second.poll())
+        first.kill()
+        self.assertEqual(second.stdout.readline(), "2\n")
+        third = self.lock(script, *self.words)
+        time.sleep(2.5)
+        second.send_signal(signal.SIGSTOP)
+        self.assertEqual(third.stdout.readline(), "3\n")
+        second.send_signal(signal.SIGCONT)
+        self.assertEqual(second.wait(10), 5)
+        self.assertIsNone(third.poll())
+        third.terminate()
+        third.wait(10)
+        self.assertEqual(self.run_holder(), "none\n")
+
+    def test_it_outlives_a_start_of_the_ring(self) -> None:
+        first = self.lock("echo in; exec sleep 60", *self.words)
+        self.assertEqual(first.stdout.readline(), "in\n")
+        second = self.lock("echo in", "--timeout", "0.5", *self.words)
+        self.assertIn("waits for node", second.stdout.readline())
+        for _ in range(3):
+            self.served.kill()
+            self.assertIn("waits for the ring", second.stdout.readline())
+            self.served.start()
+            time.sleep(4.0)
+            self.assertIsNone(second.poll())
+            self.assertRegex(self.run_holder(), r"\Aterm 1 ")
+        self.assertIsNone(first.poll())
 
 
 if __name__ == "__main__":

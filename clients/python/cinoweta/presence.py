@@ -1,0 +1,91 @@
+"""A holder of a lock that clients of other hosts see: while it is there, a session of its is open with the node where it
+leads, of which `ringd --status` tells as `present`."""
+import secrets
+import threading
+import time
+from typing import TYPE_CHECKING
+
+from . import status
+from .beacon import RANK, require_rank
+from .errors import CinowetaError, NoAnswer, WrongRing, refusal
+from .session import Session
+
+if TYPE_CHECKING:
+    from .election import Led
+    from .ring import Ring
+
+# So often the session is asked over, so that it is not silent, and so long an answer is waited for, in seconds.
+EVERY, SECONDS = 0.5, 3.0
+# Who is not present for so long is gone, in seconds: a session that broke off is opened anew before, also behind a start
+# of ringd. So often is looked meanwhile.
+ABSENT, LOOKS = 2.0, 0.1
+
+
+class Presence:
+    """Keeps a session open from `show` until `close`, by a thread of its own, which asks over it, and opens another one
+    where it breaks off. It holds one of the node's doors."""
+
+    def __init__(self, ring: "Ring", group: str, rank: int) -> None:
+        require_rank(rank)
+        self.ring, self.group = ring, group
+        self.bid = rank * RANK + secrets.randbelow(RANK)
+        self.term, self.port = 0, 0
+        self.session: Session | None = None
+        self.over = threading.Event()
+
+    def show(self, term: int, node: int) -> None:
+        """Shows that it is there, where it leads. `NoAnswer` where the node does not answer, `Refused` where it does not
+        stand any more."""
+        self.term, self.port = term, self.ring.first + node - 1
+        try:
+            self.session = self.open()
+        except OSError as fault:
+            raise NoAnswer(f"{self.ring.host}:{self.port}: {fault or type(fault).__name__}") from None
+        threading.Thread(target=self.keep, daemon=True).start()
+
+    def open(self) -> Session:
+        """A session whose node said that it stands with this bid."""
+        session = Session(self.ring.host, self.port, SECONDS)
+        try:
+            answer = session.ask(f"stand {self.group} {self.term} {self.bid}", SECONDS)
+            if answer not in ("stood", f"no 3 already {self.bid}"):
+                raise refusal(answer) or WrongRing(f"{answer!r} is no answer of a node")
+        except BaseException:
+            session.close()
+            raise
+        return session
+
+    def keep(self) -> None:
+        while not self.over.wait(EVERY):
+            try:
+                if self.session is None:
+                    self.session = self.open()
+                self.session.ask(f"latest {self.group}", SECONDS)
+            except (OSError, CinowetaError):
+                self.session = None
+        if self.session is not None:
+            self.session.close()
+
+    def close(self) -> None:
+        """Ends the session, which others see as soon as they look."""
+        self.over.set()
+        session = self.session
+        if session is not None:
+            session.end()
+
+
+def is_there(ring: "Ring", group: str, known: "Led", seconds: float) -> bool:
+    """Whether who leads so is present within so many seconds. `NoAnswer` where the status port does not answer,
+    `WrongRing` where it does not come to know the leader."""
+    until = time.monotonic() + seconds
+    while True:
+        told = status.leader(ring.status or 0, group, known.leader.node, host=ring.host)
+        term, is_present = (0, False) if told is None else (told[0], told[3])
+        if term > known.term or term == known.term and is_present:
+            return term == known.term
+        left = until - time.monotonic()
+        if left <= 0 and term < known.term:
+            raise WrongRing(f"{ring.host}:{ring.status} tells of no leader of {group} in term {known.term}: is it this ring's?")
+        if left <= 0:
+            return False
+        time.sleep(min(LOOKS, left))

@@ -1,0 +1,197 @@
+"""Locks across hosts, beside servers of lines and of the status port that answer as they are told."""
+import json
+import threading
+import time
+from unittest import mock
+
+from cinoweta import Holder, Leader, Led, Lock, LockTaken, NoAnswer, Refused, Ring, WrongRing, holder, status
+from cinoweta.presence import is_there
+
+from .lines import Node, Votes
+from .test_host import OTHER, told
+from .test_ring import Beside, deaf
+from .test_status import BesideStatus
+
+
+class Told(dict[str, tuple[int, str]]):
+    """What the status port tells of `red`: the latest leader that the votes know, present where a session of node 1 is
+    open in which something stood."""
+
+    def __init__(self, votes: Votes, node: Node) -> None:
+        super().__init__()
+        self.votes, self.node, self.lines = votes, node, []
+
+    def get(self, path: str, none: tuple[int, str] | None = None) -> tuple[int, str] | None:
+        self.lines.append(path)
+        if path != "/leaders/red?node=1" or not self.votes.leaders:
+            return none
+        term = max(self.votes.leaders)
+        node, bid = self.votes.leaders[term]
+        leader = {"bid": bid, "group": "red", "node": node, "term": term}
+        return 200, json.dumps({"by": 1, "leader": leader, "present": bool(self.node.present)})
+
+
+class PresenceTest(Beside, BesideStatus):
+    def setUp(self) -> None:
+        self.votes = Votes()
+        self.held: list[Lock] = []
+        self.addCleanup(lambda: [lock.resign() for lock in self.held])
+        for what, value in (("election.secrets.randbelow", mock.Mock(return_value=0)), ("presence.EVERY", 0.02),
+                            ("lock.ABSENT", 0.3), ("presence.LOOKS", 0.01)):
+            patch = mock.patch(f"cinoweta.{what}", value)
+            patch.start()
+            self.addCleanup(patch.stop)
+
+    def votes_ring(self, host: str = OTHER) -> tuple[Ring, list[Node]]:
+        """Nodes that know the same, elect who stands at node 1, and are told of."""
+        ring, nodes = self.ring(self.votes, self.votes, timeout=0.2, host=host)
+        ring.status = self.serve(Told(self.votes, nodes[0]), host)
+        return ring, nodes
+
+    def lock(self, ring: Ring, **words: object) -> Lock:
+        self.held.append(Lock(ring, "red", **{"across_hosts": True, **words}))
+        return self.held[-1]
+
+    def until(self, is_so: object) -> None:
+        until = time.monotonic() + 5.0
+        while not is_so():
+            self.assertLess(time.monotonic(), until)
+            time.sleep(0.005)
+
+    def test_it_is_held_within_with(self) -> None:
+        ring, nodes = self.votes_ring()
+        with self.lock(ring, rank=3) as held:
+            bid = self.votes.stood[1]
+            self.assertEqual((bid // 100_000_000, held.term, held.is_lost(), len(nodes[0].present)), (3, 1, False, 1))
+            self.assertEqual(holder(ring, "red", across_hosts=True), Holder(1, Leader(1, bid), None, ""))
+            # Its session is not silent.
+            before = nodes[0].lines.count("latest red")
+            self.until(lambda: nodes[0].lines.count("latest red") > before + 3)
+        self.until(lambda: not nodes[0].present)
+        self.assertEqual((held.is_lost(), holder(ring, "red", across_hosts=True)), (True, None))
+        with held:
+            self.assertEqual(held.term, 2)
+
+    def test_who_holds_it_is_told_in_time(self) -> None:
+        ring, _ = self.votes_ring()
+        with self.lock(ring):
+            for wait in (0.0, 0.3):
+                before = time.monotonic()
+                with self.assertRaises(LockTaken) as caught, self.lock(ring, wait=wait):
+                    pass
+                self.assertEqual(str(caught.exception), "red: held by node 1 in term 1")
+                self.assertTrue(wait <= time.monotonic() - before < wait + 1.0)
+        self.assertEqual(len(self.votes.stood), 1)
+
+    def test_it_is_taken_once_the_holder_is_not_present(self) -> None:
+        ring, _ = self.votes_ring()
+        first, said = self.lock(ring), []
+        first.acquire()
+        threading.Timer(0.3, first.resign).start()
+        before = time.monotonic()
+        with self.lock(ring) as second:
+            self.assertGreater(time.monotonic() - before, 0.5)
+            self.assertEqual(second.term, 2)
+        with self.lock(ring, patience=0.0) as third:
+            self.assertEqual((third.term, said), (3, []))
+
+    def test_a_session_that_breaks_off_is_opened_anew(self) -> None:
+        ring, nodes = self.votes_ring()
+        with self.lock(ring):
+            for answer in (deaf, lambda _line: "no 8 memory"):
+                nodes[0].answer = answer
+                self.until(lambda: not nodes[0].present or answer is not deaf)
+                nodes[0].answer = self.votes
+                self.until(lambda: nodes[0].present)
+            stands = len(nodes[0].stands())
+            self.assertGreater(stands, 2)
+            with self.assertRaises(LockTaken), self.lock(ring, wait=0.0):
+                pass
+
+    def test_a_lock_that_can_not_be_shown_is_not_held(self) -> None:
+        ring, nodes = self.votes_ring()
+        answers = iter(["stood", None, None])
+        # The node stands, and is away behind that.
+        def falters(line: str) -> str | None:
+            told = self.votes(line)
+            return next(answers, "no 9 failed") if line.startswith("stand ") else told
+
+        nodes[0].answer = nodes[1].answer = falters
+        lock = self.lock(ring)
+        with self.assertRaises(Refused) as caught:
+            lock.acquire()
+        self.assertEqual((str(caught.exception), lock.sign, lock.term), ("no 9 failed", None, 0))
+
+    def test_a_status_port_that_is_away_is_waited_for(self) -> None:
+        ring, nodes = self.votes_ring()
+        with self.lock(ring):
+            port, ring.status = ring.status, 1
+            said: list[str] = []
+            with self.assertRaisesRegex(NoAnswer, rf"\A{OTHER}:1/leaders/red"):
+                self.lock(ring, wait=0.3).acquire(said.append)
+            self.assertIn("waits for the ring", said[0])
+            with self.assertRaises(NoAnswer):
+                holder(ring, "red", across_hosts=True)
+            ring.status = port
+
+    def test_what_the_status_port_tells(self) -> None:
+        ring, nodes = self.votes_ring()
+        known = Led(5, Leader(1, 7))
+        # It comes to know the leader.
+        threading.Timer(0.1, lambda: self.votes.leaders.update({5: (1, 7)})).start()
+        nodes[0].present.add(None)
+        self.assertTrue(is_there(ring, "red", known, 1.0))
+        nodes[0].present.clear()
+        self.assertFalse(is_there(ring, "red", known, 0.0))
+        # A greater term is over at once.
+        nodes[0].present.add(None)
+        self.votes.leaders[6] = (1, 8)
+        self.assertFalse(is_there(ring, "red", known, 9.0))
+        with self.assertRaisesRegex(WrongRing, rf"\A{OTHER}:{ring.status} tells of no leader of red in term 7"):
+            is_there(ring, "red", Led(7, Leader(1, 7)), 0.1)
+        nodes[0].present.clear()
+
+    def test_a_leader_of_a_node(self) -> None:
+        leader = {"bid": 5, "group": "red", "node": 2, "term": 7}
+        port = self.serve({"/leaders/red?node=2": (200, json.dumps({"by": 2, "leader": leader, "present": True}))})
+        self.assertEqual(status.leader(port, "red", 2), (7, 2, 5, True))
+        self.assertIsNone(status.leader(port, "red", 1))
+        for code, text in ((200, json.dumps({"leader": leader})), (200, json.dumps({"leader": leader, "present": 1})),
+                           (200, "[]"), (503, "")):
+            with self.assertRaises(WrongRing):
+                status.leader(self.serve({"/leaders/red?node=1": (code, text)}), "red", 1)
+
+    def test_it_is_said_where_the_ring_seems_near(self) -> None:
+        # As behind a tunnel.
+        ring, _ = self.votes_ring("127.0.0.1")
+        words = ["--ring", f"{ring.first}-{ring.ports[-1]}"]
+        status_words = ["--status", str(ring.status), "--across-hosts"]
+        with self.lock(ring) as held:
+            bid = self.votes.stood[1]
+            self.assertEqual(told(*words, "holder", "red", *status_words), (0, f"term 1 leader 1 {bid}\n", ""))
+            code, out, _ = told(*words, "--json", "holder", "red", *status_words)
+            self.assertEqual((code, json.loads(out)["pid"], json.loads(out)["term"]), (0, None, 1))
+            code, _, err = told(*words, "lock", "--wait", "0", "red", *status_words, "--", "true")
+            self.assertEqual((code, err), (6, "cinoweta: red: waits for node 1 in term 1\ncinoweta: red: held by node 1 in term 1\n"))
+            self.assertFalse(held.is_lost())
+        self.assertEqual(told(*words, "lock", "red", *status_words, "--", "true")[0], 0)
+        self.assertEqual(told(*words, "holder", "red", *status_words)[0], 1)
+
+    def test_what_is_refused_before_anything_is_sent(self) -> None:
+        silent = Ring.parse("10.0.0.5:7101-7103")
+        said = "10.0.0.5: who holds a lock across hosts is seen by ringd --status: tell its port"
+        with mock.patch("socket.create_connection") as connect:
+            for refused in (lambda: Lock(silent, "red"), lambda: holder(silent, "red"),
+                            lambda: Lock(Ring(7101, 7103), "red", across_hosts=True)):
+                with self.assertRaisesRegex(WrongRing, "is seen by ringd --status"):
+                    refused()
+            for words in (["lock", "red", "--", "true"], ["holder", "red"]):
+                self.assertEqual(told("--ring", "10.0.0.5:7101-7103", *words), (2, "", f"cinoweta: {said}\n"))
+            silent.status = 7100
+            for host in ("127.example", "localhost", "128.0.0.1", "0.0.0.0", "10.0.0.5"):
+                with self.assertRaisesRegex(WrongRing, "a port of 127.0.0.1, or across hosts", msg=host):
+                    Lock(Ring(7101, 7103, host=host, status=7100), "red", across_hosts=False)
+            for words in ({"text": "a worker"}, {"rank": 10}, {"rank": -1}):
+                with self.assertRaises(ValueError):
+                    Lock(silent, "red", **words).acquire()
+        connect.assert_not_called()
