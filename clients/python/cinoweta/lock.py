@@ -11,7 +11,7 @@ from typing import NamedTuple
 from . import presence
 from .beacon import Beacon, ask, is_there
 from .election import KEEP, Campaign, Election, Leader, Led
-from .errors import LockTaken, NoAnswer, OutOfMemory, WrongRing
+from .errors import Late, LockTaken, NoAnswer, OutOfMemory, Retired, Stale, WrongRing
 from .host import is_own
 from .pause import Pause
 from .presence import ABSENT, Presence
@@ -73,7 +73,8 @@ class Lock:
 
     `across_hosts`, which is so with a ring of another host where it is not said, its clients may be on several hosts: all
     of them have to say so. The ring's `status` is needed, and a door of the node where the holder leads; no `text` is
-    told. A holder is gone once it was not present for two seconds, or `patience` where that is less."""
+    told. A holder is gone once it was not present for two seconds, or `patience` where that is less: one that is paused,
+    or cut off, once `ringd --idle` has ended its session."""
 
     def __init__(self, ring: Ring, group: str, rank: int = 0, patience: float = 5.0, wait: float | None = None,
                  text: str = "", keep: int = KEEP, *, across_hosts: bool | None = None) -> None:
@@ -106,11 +107,11 @@ class Lock:
         while True:
             try:
                 election = campaign.run(TERMS, SECONDS)
-                if election.is_mine:
-                    self.show(election)
+                if election.is_mine and self.show(election):
                     self.term, self.asked = election.term, time.monotonic()
                     return
-                self.await_end(Led(election.term, election.leader), pause, tell)
+                if not election.is_mine:
+                    self.await_end(Led(election.term, election.leader), pause, tell)
                 campaign.gone = election.term
             except NoAnswer as fault:
                 if not self.ring.has_answered or not pause.take():
@@ -119,12 +120,16 @@ class Lock:
             finally:
                 self.ring.close()
 
-    def show(self, election: Election) -> None:
-        """Others see from now on that it is there. A beacon answers already."""
+    def show(self, election: Election) -> bool:
+        """Whether others see from now on that it is there, or the term is over already. A beacon answers already."""
         if isinstance(self.sign, Presence):
             # A session holds one of its node's doors, of which there may be one.
             self.ring.close()
-            self.sign.show(election.term, election.leader.node)
+            try:
+                self.sign.show(election.term, election.leader.node)
+            except (Late, Stale, Retired):
+                return False
+        return True
 
     def await_end(self, known: Led, pause: Pause, tell: Callable[[str], object]) -> None:
         """Waits until who leads so is gone. `LockTaken` where the time is over before."""
@@ -176,7 +181,7 @@ class Lock:
             self.resign()
 
     def resign(self, above: int = 0) -> None:
-        """Gives the lock back: who waits sees it at once. Where this one takes it again its term is above this number,
+        """Gives the lock back: who waits sees it at once, across hosts after some two seconds. Where this one takes it again its term is above this number,
         as the one that turned a write away."""
         self.gone = max(self.gone, self.term, above)
         if self.sign is not None:

@@ -14,11 +14,14 @@ if TYPE_CHECKING:
     from .election import Led
     from .ring import Ring
 
-# So often the session is asked over, so that it is not silent, and so long an answer is waited for, in seconds.
-EVERY, SECONDS = 0.5, 3.0
+# So often the session is asked over, so that it is not silent, and so long an answer is waited for, in seconds. So long a
+# connection is tried: the system tries again each second then, also where the host was away.
+EVERY, SECONDS, CONNECTS = 0.5, 3.0, 1.5
 # Who is not present for so long is gone, in seconds: a session that broke off is opened anew before, also behind a start
 # of ringd. So often is looked meanwhile.
 ABSENT, LOOKS = 2.0, 0.1
+# What is told of a leader where none is known.
+NOBODY = 0, 0, 0, False
 
 
 class Presence:
@@ -38,15 +41,18 @@ class Presence:
         stand any more."""
         self.term, self.port = term, self.ring.first + node - 1
         try:
-            self.session = self.open()
+            self.open()
         except OSError as fault:
             raise NoAnswer(f"{self.ring.host}:{self.port}: {fault or type(fault).__name__}") from None
         threading.Thread(target=self.keep, daemon=True).start()
 
     def open(self) -> Session:
-        """A session whose node said that it stands with this bid."""
-        session = Session(self.ring.host, self.port, SECONDS)
+        """Opens a session whose node says that it stands with this bid."""
+        # Who closes finds it from here on, or is found.
+        self.session = session = Session(self.ring.host, self.port, min(CONNECTS, self.ring.timeout))
         try:
+            if self.over.is_set():
+                raise ConnectionError("it is over")
             answer = session.ask(f"stand {self.group} {self.term} {self.bid}", SECONDS)
             if answer not in ("stood", f"no 3 already {self.bid}"):
                 raise refusal(answer) or WrongRing(f"{answer!r} is no answer of a node")
@@ -56,15 +62,17 @@ class Presence:
         return session
 
     def keep(self) -> None:
+        """Asks over the session, and opens another one where it breaks off, until it is over."""
+        session = self.session
         while not self.over.wait(EVERY):
             try:
-                if self.session is None:
-                    self.session = self.open()
-                self.session.ask(f"latest {self.group}", SECONDS)
+                if session is None or not session.is_usable():
+                    session = self.open()
+                session.ask(f"latest {self.group}", SECONDS)
             except (OSError, CinowetaError):
-                self.session = None
-        if self.session is not None:
-            self.session.close()
+                session = None
+        if session is not None:
+            session.close()
 
     def close(self) -> None:
         """Ends the session, which others see as soon as they look."""
@@ -76,16 +84,17 @@ class Presence:
 
 def is_there(ring: "Ring", group: str, known: "Led", seconds: float) -> bool:
     """Whether who leads so is present within so many seconds. `NoAnswer` where the status port does not answer,
-    `WrongRing` where it does not come to know the leader."""
+    `WrongRing` where it does not come to know this leader."""
     until = time.monotonic() + seconds
     while True:
-        told = status.leader(ring.status or 0, group, known.leader.node, host=ring.host)
-        term, is_present = (0, False) if told is None else (told[0], told[3])
-        if term > known.term or term == known.term and is_present:
-            return term == known.term
+        term, node, bid, is_present = status.leader(ring.status or 0, group, known.leader.node, host=ring.host) or NOBODY
+        is_known = (term, node, bid) == (known.term, *known.leader)
+        if term > known.term or is_known and is_present:
+            return is_known
         left = until - time.monotonic()
-        if left <= 0 and term < known.term:
-            raise WrongRing(f"{ring.host}:{ring.status} tells of no leader of {group} in term {known.term}: is it this ring's?")
+        if left <= 0 and not is_known:
+            where = f"{ring.host}:{ring.status}"
+            raise WrongRing(f"{where} tells of another leader of {group} in term {known.term}, or none: is it this ring's?")
         if left <= 0:
             return False
         time.sleep(min(LOOKS, left))

@@ -68,10 +68,13 @@ def leader(port: int, group: str, node: int, seconds: float = 5.0, *, host: str 
 
 
 def ask_leader(host: str, port: int, path: str, seconds: float, none: int) -> tuple[int, int, int, bool] | None:
-    """A leader and whether it is present; None where the status of the answer says that there is none."""
+    """A leader and whether it is present; None where the status of the answer says that there is none. `NoAnswer` also where
+    no place is free for who waits, or memory is wanting."""
     code, text = ask(host, port, path, seconds)
     if code == none:
         return None
+    if code == 503:
+        raise NoAnswer(f"{host}:{port}{path}: 503")
     try:
         told = json.loads(text)
         row, is_present = told["leader"], told["present"]

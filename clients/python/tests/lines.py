@@ -37,7 +37,8 @@ class Session(socketserver.StreamRequestHandler):
                 answer = self.server.answer(line)
                 if answer is None:
                     return
-                if line.startswith("stand "):
+                words = line.split()
+                if words[0] == "stand" and answer in ("stood", f"no 3 already {words[3]}"):
                     self.server.present.add(self)
                 self.wfile.write(answer.encode() + b"\n")
         finally:

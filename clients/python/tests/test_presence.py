@@ -98,13 +98,16 @@ class PresenceTest(Beside, BesideStatus):
     def test_a_session_that_breaks_off_is_opened_anew(self) -> None:
         ring, nodes = self.votes_ring()
         with self.lock(ring):
-            for answer in (deaf, lambda _line: "no 8 memory"):
-                nodes[0].answer = answer
-                self.until(lambda: not nodes[0].present or answer is not deaf)
+            for refused in (None, "no 8 memory"):
+                # The session breaks off, and is not opened while its Stand gets this.
+                nodes[0].answer = deaf
+                self.until(lambda: not nodes[0].present)
+                before = len(nodes[0].stands())
+                nodes[0].answer = lambda line: refused if line.startswith("stand ") else self.votes(line)
+                self.until(lambda: len(nodes[0].stands()) > before + 3)
+                self.assertFalse(nodes[0].present)
                 nodes[0].answer = self.votes
                 self.until(lambda: nodes[0].present)
-            stands = len(nodes[0].stands())
-            self.assertGreater(stands, 2)
             with self.assertRaises(LockTaken), self.lock(ring, wait=0.0):
                 pass
 
@@ -121,6 +124,42 @@ class PresenceTest(Beside, BesideStatus):
         with self.assertRaises(Refused) as caught:
             lock.acquire()
         self.assertEqual((str(caught.exception), lock.sign, lock.term), ("no 9 failed", None, 0))
+
+    def test_a_lock_whose_term_is_over_before_it_is_shown_is_taken_again(self) -> None:
+        ring, nodes = self.votes_ring()
+        answers = iter(["stood", "no 5 stale 2", "stood"])
+
+        def answer(line: str) -> str:
+            told = self.votes(line)
+            if not line.startswith("stand "):
+                return told
+            return next(answers, told)
+
+        nodes[0].answer = nodes[1].answer = answer
+        with self.lock(ring) as held:
+            self.assertEqual((held.term, len(nodes[0].present)), (2, 1))
+
+    def test_it_is_not_present_once_it_resigned_meanwhile(self) -> None:
+        ring, nodes = self.votes_ring()
+        begins, ends = threading.Event(), threading.Event()
+
+        def slow(line: str) -> str:
+            if line.startswith("stand "):
+                begins.set()
+                ends.wait(5.0)
+            return self.votes(line)
+
+        with self.lock(ring):
+            nodes[0].answer = deaf
+            self.until(lambda: not nodes[0].present)
+            nodes[0].answer = slow
+            self.assertTrue(begins.wait(5.0))
+        # It ends the session in which it waits for an answer.
+        ends.set()
+        before = threading.active_count()
+        self.until(lambda: threading.active_count() < before or not nodes[0].present)
+        time.sleep(0.1)
+        self.assertFalse(nodes[0].present)
 
     def test_a_status_port_that_is_away_is_waited_for(self) -> None:
         ring, nodes = self.votes_ring()
@@ -147,8 +186,10 @@ class PresenceTest(Beside, BesideStatus):
         nodes[0].present.add(None)
         self.votes.leaders[6] = (1, 8)
         self.assertFalse(is_there(ring, "red", known, 9.0))
-        with self.assertRaisesRegex(WrongRing, rf"\A{OTHER}:{ring.status} tells of no leader of red in term 7"):
+        with self.assertRaisesRegex(WrongRing, rf"\A{OTHER}:{ring.status} tells of another leader of red in term 7, or none"):
             is_there(ring, "red", Led(7, Leader(1, 7)), 0.1)
+        with self.assertRaises(WrongRing):
+            is_there(ring, "red", Led(6, Leader(2, 8)), 0.1)
         nodes[0].present.clear()
 
     def test_a_leader_of_a_node(self) -> None:
@@ -157,9 +198,11 @@ class PresenceTest(Beside, BesideStatus):
         self.assertEqual(status.leader(port, "red", 2), (7, 2, 5, True))
         self.assertIsNone(status.leader(port, "red", 1))
         for code, text in ((200, json.dumps({"leader": leader})), (200, json.dumps({"leader": leader, "present": 1})),
-                           (200, "[]"), (503, "")):
+                           (200, "[]"), (500, "")):
             with self.assertRaises(WrongRing):
                 status.leader(self.serve({"/leaders/red?node=1": (code, text)}), "red", 1)
+        with self.assertRaises(NoAnswer):
+            status.leader(self.serve({"/leaders/red?node=1": (503, "")}), "red", 1)
 
     def test_it_is_said_where_the_ring_seems_near(self) -> None:
         # As behind a tunnel.

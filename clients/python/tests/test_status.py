@@ -56,7 +56,9 @@ class StatusTest(BesideStatus):
                            "/leaders/red?above=7&wait=0": (204, "")})
         self.assertEqual(status.coming(port, "red", 6, 2), (7, 2, 5))
         self.assertIsNone(status.coming(port, "red", 7, 0))
-        for code, text in ((503, "503 Service Unavailable\n"), (200, "{}"), (200, '{"leader": {"term": "7"}}'), (200, "[]")):
+        with self.assertRaises(NoAnswer):
+            status.coming(self.serve({"/leaders/red?above=6&wait=1": (503, "503 Service Unavailable\n")}), "red", 6, 1)
+        for code, text in ((404, ""), (200, "{}"), (200, '{"leader": {"term": "7"}}'), (200, "[]")):
             with self.assertRaises(WrongRing):
                 status.coming(self.serve({"/leaders/red?above=6&wait=1": (code, text)}), "red", 6, 1)
 
