@@ -113,11 +113,11 @@ func TestWhoHoldsALockIsToldInTime(t *testing.T) {
 	other := lockOf(t, ring, LockOptions{})
 	acquires := map[time.Duration]func(context.Context) error{0: other.TryAcquire, 300 * time.Millisecond: other.Acquire}
 	for wait, acquire := range acquires {
+		before := time.Now()
 		ctx, cancel := context.WithTimeout(background(t), wait)
 		if wait == 0 {
 			ctx = background(t)
 		}
-		before := time.Now()
 		err := acquire(ctx)
 		cancel()
 		taken := as[*LockTakenError](t, err)

@@ -66,7 +66,12 @@ func TestRingdTellsOfItself(t *testing.T) {
 	same(t, []any{told.Dir, len(told.Nodes)}, []any{served.dir(), 3})
 	first := told.Nodes[0]
 	same(t, []any{first.Node, first.Port, first.State, first.Stands.Taken}, []any{1, served.first, "well", 1})
-	same(t, first.Sessions.Refusals, []RefusalCount{{ErrBadName, 1}})
+	// Those from 3 to 9 are told before they come.
+	refusals := []RefusalCount{{ErrBadName, 1}}
+	for number := ErrAlreadyStands; number <= ErrNodeFailed; number++ {
+		refusals = append(refusals, RefusalCount{number, 0})
+	}
+	same(t, first.Sessions.Refusals, refusals)
 	led, err := Leaders(background(t), ring.Host, ring.Status, 3)
 	must(t, err)
 	same(t, led, []GroupLed{{"red", Led{5, Leader{1, 10}}}})
