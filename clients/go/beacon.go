@@ -28,18 +28,15 @@ func portOf(bid int) int {
 }
 
 // A beacon answers at a port of 127.0.0.1 while this process runs, and is neither paused nor killed: to its bid with
-// its bid, and to `holder` and its bid with the process and the text too. So others see whether who leads is still
-// there, which the ring does not tell; they are on one host.
+// its bid, and to `holder` and its bid with the process and the text too. So others of its host see whether who leads
+// is still there.
 type beacon struct {
-	bid      int
+	own      int
 	listener net.Listener
 	answers  map[string]string
 }
 
 func newBeacon(rank int, text string) (*beacon, error) {
-	if rank < 0 || rank > 9 {
-		return nil, errors.New("cinoweta: a lock's rank is 0 to 9")
-	}
 	if !isLine(text) || len(text) > longestText {
 		return nil, errors.New("cinoweta: a holder's text is one printable line of 200 bytes at most")
 	}
@@ -57,6 +54,16 @@ func newBeacon(rank int, text string) (*beacon, error) {
 	made := &beacon{bid, listener, answers}
 	go made.serve()
 	return made, nil
+}
+
+// bid is that which names its port.
+func (b *beacon) bid() int {
+	return b.own
+}
+
+// show has nothing to do: it answers already.
+func (b *beacon) show(context.Context, Led) error {
+	return nil
 }
 
 // serve answers until the beacon is closed.

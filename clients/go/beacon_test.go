@@ -9,9 +9,9 @@ import (
 
 func TestWhatABeaconMayTell(t *testing.T) {
 	wide, long := strings.Repeat("ä", 101), strings.Repeat("x", 201)
-	for rank, text := range map[int]string{-1: "", 10: "", 0: "a\nb", 1: long, 2: wide, 3: "\xff"} {
-		if _, err := newBeacon(rank, text); err == nil {
-			t.Fatalf("%d %q is taken", rank, text)
+	for _, text := range []string{"a\nb", long, wide, "\xff"} {
+		if _, err := newBeacon(0, text); err == nil {
+			t.Fatalf("%q is taken", text)
 		}
 	}
 }
@@ -30,14 +30,14 @@ func TestABeaconAnswersToItsOwnBidAlone(t *testing.T) {
 	beacon, err := newBeacon(3, strings.Repeat("ä", 100))
 	must(t, err)
 	defer beacon.close()
-	same(t, beacon.bid/bidRank, 3)
-	same(t, isThere(background(t), beacon.bid, time.Second), true)
-	other := beacon.bid + 1
-	if portOf(other) != portOf(beacon.bid) {
-		other = beacon.bid - 1
+	same(t, beacon.bid()/bidRank, 3)
+	same(t, isThere(background(t), beacon.bid(), time.Second), true)
+	other := beacon.bid() + 1
+	if portOf(other) != portOf(beacon.bid()) {
+		other = beacon.bid() - 1
 	}
 	same(t, isThere(background(t), other, time.Second), false)
-	holder, isTold := holderOf(background(t), Led{1, Leader{1, beacon.bid}}, time.Second)
+	holder, isTold := holderOf(background(t), Led{1, Leader{1, beacon.bid()}}, time.Second)
 	same(t, []any{isTold, holder.Text}, []any{true, strings.Repeat("ä", 100)})
 }
 
@@ -71,5 +71,5 @@ func TestAClientThatIsSilentDoesNotKeepABeacon(t *testing.T) {
 	conn, err := net.Dial("tcp", beacon.listener.Addr().String())
 	must(t, err)
 	defer conn.Close()
-	same(t, isThere(background(t), beacon.bid, 2*time.Second), true)
+	same(t, isThere(background(t), beacon.bid(), 2*time.Second), true)
 }

@@ -8,8 +8,12 @@
 //	})
 //
 // Whoever is written to has to turn away each write with a lower number than one that it has seen: nothing else keeps a
-// leader that was paused from a late write. docs/SESSIONS.md tells of it, and of [Ring.Campaign], which needs no
-// beacon.
+// leader that was paused from a late write. docs/SESSIONS.md tells of it, and of [Ring.Campaign], by which nobody sees
+// whether a leader is still there.
+//
+// Who holds a lock is seen at a port of 127.0.0.1. With a [Ring] of another host, and where AcrossHosts of the
+// [LockOptions] says so, clients may be on several hosts: a holder keeps a session open with the node where it leads,
+// and is seen by `ringd --status`.
 //
 // The refusals of nodes are told apart by errors.Is and a [Refusal], as [ErrStale]; all else by errors.As and a type,
 // as [NoAnswerError]. What ends with its context gives an error behind which errors.Is finds that of the context.

@@ -25,7 +25,7 @@ type Election struct {
 }
 
 // A Holder is who holds a lock: its term and leader, its process, and what it tells of itself. PID is 0 where the
-// process tells nothing.
+// process tells nothing, as across hosts.
 type Holder struct {
 	Led
 	PID  int

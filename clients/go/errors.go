@@ -164,8 +164,8 @@ func (e *LockLostError) Unwrap() error {
 	return e.Err
 }
 
-// A WrongRingError says that the ports are not those of a ring, from its node 1 on, or not that of its status; or that
-// the host is none, or for a lock another one.
+// A WrongRingError says that the ports are not those of a ring, from its node 1 on, or not that of its status, which for
+// a lock across hosts has to be told; or that the host is none.
 type WrongRingError struct {
 	// Text says what was found.
 	Text string
@@ -174,6 +174,11 @@ type WrongRingError struct {
 // Error says what was found.
 func (e *WrongRingError) Error() string {
 	return "cinoweta: " + e.Text
+}
+
+// wrongAnswer says that none of a node was answered.
+func wrongAnswer(answer string) *WrongRingError {
+	return &WrongRingError{fmt.Sprintf("%q is no answer of a node", answer)}
 }
 
 // noAnswer says that nobody answered at an address, for this error or that of the context.

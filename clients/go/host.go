@@ -10,7 +10,7 @@ import (
 )
 
 const (
-	// Where a ring is whose host is not told, and where a holder of a lock is seen.
+	// Where a ring is whose host is not told, and where a holder of a lock is seen by clients of its host.
 	ownHost = "127.0.0.1"
 	// No name is longer, in bytes; below is what one has between its dots.
 	longestName = 253
@@ -42,20 +42,21 @@ func requireHost(host string) error {
 	return &WrongRingError{fmt.Sprintf("%q is no IPv4 address and no name of a host", host)}
 }
 
-// requireOwn gives a [WrongRingError] where a ring is one of another host, whose clients may be where nobody sees a
-// holder.
-func requireOwn(host string) error {
-	if host == "" || isAddress(host) && strings.HasPrefix(host, "127.") {
-		return nil
+// isOwn tells whether it is an address of this host alone, one of 127.0.0.0/8, as where none is told.
+func isOwn(host string) bool {
+	host = hostOf(host)
+	return isAddress(host) && strings.HasPrefix(host, "127.")
+}
+
+// hostOf is the host, or this one where none is told.
+func hostOf(host string) string {
+	if host == "" {
+		return ownHost
 	}
-	const text = "%s: a lock is for clients of the ring's own host, at 127.0.0.1, where a holder is seen"
-	return &WrongRingError{fmt.Sprintf(text, host)}
+	return host
 }
 
 // address is that of a port of the host, of this one where none is told.
 func address(host string, port int) string {
-	if host == "" {
-		host = ownHost
-	}
-	return net.JoinHostPort(host, strconv.Itoa(port))
+	return net.JoinHostPort(hostOf(host), strconv.Itoa(port))
 }

@@ -1,6 +1,7 @@
 package cinoweta
 
 import (
+	"context"
 	"net/http"
 	"strings"
 	"testing"
@@ -101,19 +102,36 @@ func TestTheStatusOfAnotherHostIsAskedThere(t *testing.T) {
 	as[*NoAnswerError](t, err)
 }
 
-func TestALockWithARingOfAnotherHostIsRefusedBeforeAnythingIsSent(t *testing.T) {
+func TestALockAcrossHostsIsRefusedBeforeAnythingIsSent(t *testing.T) {
 	leavesNone(t)
-	for _, host := range []string{silentHost, "127.example", "localhost", "128.0.0.1", "0.0.0.0"} {
+	for host, isSaid := range map[string]bool{silentHost: false, "127.example": false, "localhost": false, "128.0.0.1": false,
+		"0.0.0.0": false, "": true, ownHost: true, otherHost: true} {
 		ring, err := NewRing(7101, 7103)
 		must(t, err)
 		ring.Host = host
-		wanted := "cinoweta: " + host + ": a lock is for clients of the ring's own host, at 127.0.0.1, where a holder is seen"
-		before, lock := time.Now(), lockOf(t, ring, LockOptions{})
-		_, _, held := ring.Holder(background(t), "red", 0)
-		for _, err := range []error{lock.Acquire(background(t)), lock.TryAcquire(background(t)), held} {
-			same(t, as[*WrongRingError](t, err), wanted)
+		before, lock := time.Now(), lockOf(t, ring, LockOptions{AcrossHosts: isSaid})
+		refuses := func(wanted string) {
+			t.Helper()
+			never := lock.Run(background(t), func(context.Context, int) error { return nil })
+			for _, err := range []error{lock.Acquire(background(t)), lock.TryAcquire(background(t)), never} {
+				same(t, err, wanted)
+			}
+			same(t, []bool{lock.sign == nil, ring.session == nil}, []bool{true, true})
 		}
-		same(t, []any{lock.beacon == nil, ring.session == nil, time.Since(before) < 100*time.Millisecond}, []any{true, true, true})
+		wanted := hostOf(host) + ": who holds a lock across hosts is seen by ringd --status: tell its port"
+		refuses("cinoweta: " + wanted)
+		_, _, held := lock.Holder(background(t))
+		for _, err := range []error{lock.Acquire(background(t)), held} {
+			same(t, as[*WrongRingError](t, err).Text, wanted)
+		}
+		ring.Status = 7100
+		lock = lockOf(t, ring, LockOptions{AcrossHosts: isSaid, Text: "a worker"})
+		refuses("cinoweta: across hosts a holder tells no text")
+		for _, rank := range []int{-1, 10} {
+			lock = lockOf(t, ring, LockOptions{AcrossHosts: isSaid, Rank: rank})
+			refuses("cinoweta: a lock's rank is 0 to 9")
+		}
+		same(t, time.Since(before) < 100*time.Millisecond, true)
 	}
 }
 

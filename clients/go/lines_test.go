@@ -26,6 +26,8 @@ type node struct {
 	answer answer
 	asked  []string
 	conns  []net.Conn
+	// What stood last in each session that is open.
+	stands map[net.Conn]string
 }
 
 func newNode(address string, answer answer) (*node, error) {
@@ -33,7 +35,7 @@ func newNode(address string, answer answer) (*node, error) {
 	if err != nil {
 		return nil, err
 	}
-	made := &node{listener: listener, answer: answer}
+	made := &node{listener: listener, answer: answer, stands: map[net.Conn]string{}}
 	made.served.Add(1)
 	go made.accept()
 	return made, nil
@@ -56,7 +58,7 @@ func (n *node) accept() {
 
 func (n *node) serve(conn net.Conn) {
 	defer n.served.Done()
-	defer conn.Close()
+	defer n.leave(conn)
 	lines := bufio.NewScanner(conn)
 	for lines.Scan() {
 		n.mutex.Lock()
@@ -67,8 +69,39 @@ func (n *node) serve(conn net.Conn) {
 		if !isTold {
 			return
 		}
+		n.enter(conn, lines.Text(), told)
 		fmt.Fprintf(conn, "%s\n", told)
 	}
+}
+
+// enter has who stands in a session be present.
+func (n *node) enter(conn net.Conn, line, told string) {
+	own := line[strings.LastIndex(line, " ")+1:]
+	if strings.HasPrefix(line, "stand ") && (told == "stood" || told == "no 3 already "+own) {
+		n.mutex.Lock()
+		defer n.mutex.Unlock()
+		n.stands[conn] = line
+	}
+}
+
+// leave has nobody be present in a session any more, which it ends.
+func (n *node) leave(conn net.Conn) {
+	conn.Close()
+	n.mutex.Lock()
+	defer n.mutex.Unlock()
+	delete(n.stands, conn)
+}
+
+// isPresent tells whether a session is open in which somebody stood so.
+func (n *node) isPresent(group string, led Led) bool {
+	n.mutex.Lock()
+	defer n.mutex.Unlock()
+	for _, line := range n.stands {
+		if line == fmt.Sprintf("stand %s %d %d", group, led.Term, led.Leader.Bid) {
+			return true
+		}
+	}
+	return false
 }
 
 // is has the node answer so from now on.
@@ -89,6 +122,13 @@ func (n *node) lines(begin string) []string {
 		}
 	}
 	return found
+}
+
+// sessions is how many were opened.
+func (n *node) sessions() int {
+	n.mutex.Lock()
+	defer n.mutex.Unlock()
+	return len(n.conns)
 }
 
 // end ends the node and its sessions.

@@ -22,19 +22,34 @@ const (
 type LockOptions struct {
 	// Rank is 0 to 9: of who stands at once the greatest leads.
 	Rank int
-	// Patience is after how long a holder that does not answer is gone, as one that is paused; DefaultPatience where
-	// it is 0.
+	// Patience is after how long a holder that is not seen is gone, as one that is paused; DefaultPatience where it is
+	// 0. Across hosts that is two seconds at most.
 	Patience time.Duration
-	// Text is what others are told of this holder: a printable line of 200 bytes at most.
+	// Text is what others are told of this holder: a printable line of 200 bytes at most, and across hosts none.
 	Text string
+	// AcrossHosts says that holders are seen by `ringd --status`, the Ring's Status port, from other hosts too; so it is
+	// with a Ring of another host anyway. All clients of the lock have to say so. A holder takes a door of the node
+	// where it leads; one that is paused or cut off is seen until `ringd --idle` ends its session.
+	AcrossHosts bool
 	// Keep is how many terms below its own are kept; DefaultKeep where it is 0.
 	Keep int
 	// Tell, if any, is told for whom is waited.
 	Tell func(text string)
 }
 
-// A Lock is that of a group: who leads holds it, in a term of its own, until it resigns, its process ends, or did not
-// answer for some time. Goroutines may share a Lock, and one of them acquires it.
+// A sign is how others see that the holder of a lock is there.
+type sign interface {
+	// bid is that with which the holder stands.
+	bid() int
+	// show has others see the sign from now on, if they did not before, where its holder leads so. Else a
+	// [NoAnswerError], or a [RefusedError] where the node does not stand so any more.
+	show(ctx context.Context, led Led) error
+	// close ends the sign.
+	close()
+}
+
+// A Lock is that of a group: who leads holds it, in a term of its own, until it resigns, its process ends, or was not
+// seen for some time. Goroutines may share a Lock, and one of them acquires it.
 type Lock struct {
 	ring  *Ring
 	group string
@@ -46,7 +61,7 @@ type Lock struct {
 	wait time.Duration
 
 	mutex  sync.Mutex
-	beacon *beacon
+	sign   sign
 	isHeld bool
 	// The term in which it leads or led, the greatest one that is over for it, and when the ring was asked.
 	term, gone int
@@ -62,8 +77,8 @@ func NewLock(ring *Ring, group string, how LockOptions) *Lock {
 }
 
 // Acquire waits until this process leads, or the context is over: then a [LockTakenError] where another process holds
-// the lock. A ring that is away, and answered before, is waited for just so: then a [NoAnswerError]. One of another host
-// is a [WrongRingError]: a holder is seen at a port of 127.0.0.1.
+// the lock. A ring that is away, and answered before, is waited for just so: then a [NoAnswerError]. Across hosts its
+// status port is waited for likewise; a [WrongRingError] where it is not told, or does not know who leads.
 func (l *Lock) Acquire(ctx context.Context) error {
 	return l.acquire(ctx, ctx)
 }
@@ -131,7 +146,7 @@ func (l *Lock) IsLost(ctx context.Context) (bool, error) {
 	return !l.isHeld, err
 }
 
-// Resign gives the lock back, if it is held: who waits sees it at once.
+// Resign gives the lock back, if it is held: who waits sees it at once, or across hosts within some three seconds.
 func (l *Lock) Resign() {
 	l.ResignAbove(0)
 }
@@ -152,8 +167,8 @@ func (l *Lock) resign(above int) {
 	}
 	if l.isHeld {
 		l.isHeld = false
-		l.beacon.close()
-		l.beacon = nil
+		l.sign.close()
+		l.sign = nil
 	}
 }
 
@@ -168,50 +183,81 @@ func (l *Lock) acquire(ctx, waits context.Context) error {
 	l.mutex.Lock()
 	defer l.mutex.Unlock()
 	if err != nil {
-		l.beacon.close()
-		l.beacon = nil
+		l.sign.close()
+		l.sign = nil
 		return err
 	}
 	l.isHeld, l.term, l.asked = true, term, time.Now()
 	return nil
 }
 
-// begin lights the beacon, for whose bid the campaign is.
+// begin makes the sign, for whose bid the campaign is.
 func (l *Lock) begin() (*campaign, error) {
-	if err := requireOwn(l.ring.Host); err != nil {
+	if err := l.requireSight(); err != nil {
 		return nil, err
 	}
 	l.mutex.Lock()
 	defer l.mutex.Unlock()
-	if l.beacon != nil {
+	if l.sign != nil {
 		return nil, fmt.Errorf("cinoweta: %s: the lock is held, or waited for", l.group)
 	}
-	beacon, err := newBeacon(l.how.Rank, l.how.Text)
+	sign, err := l.newSign()
 	if err != nil {
 		return nil, err
 	}
 	how := CampaignOptions{Gone: l.gone, Wait: l.wait, Keep: l.how.Keep}
-	campaign, err := newCampaign(l.ring, l.group, beacon.bid, how)
+	campaign, err := newCampaign(l.ring, l.group, sign.bid(), how)
 	if err != nil {
-		beacon.close()
+		sign.close()
 		return nil, err
 	}
-	l.beacon = beacon
+	l.sign = sign
 	return campaign, nil
 }
 
-// contend stands for the term above that of each holder that is gone, until it leads itself, and gives that term.
+// newSign gives a beacon, or across hosts a presence.
+func (l *Lock) newSign() (sign, error) {
+	switch {
+	case l.how.Rank < 0 || l.how.Rank > 9:
+		return nil, errors.New("cinoweta: a lock's rank is 0 to 9")
+	case !l.isAcross():
+		return newBeacon(l.how.Rank, l.how.Text)
+	case l.how.Text != "":
+		return nil, errors.New("cinoweta: across hosts a holder tells no text")
+	default:
+		return newPresence(l.ring, l.group, l.how.Rank)
+	}
+}
+
+// isAcross tells whether holders are seen across hosts.
+func (l *Lock) isAcross() bool {
+	return l.how.AcrossHosts || !isOwn(l.ring.Host)
+}
+
+// requireSight gives a [WrongRingError] where a holder can not be seen.
+func (l *Lock) requireSight() error {
+	if !l.isAcross() || l.ring.Status != 0 {
+		return nil
+	}
+	const text = "%s: who holds a lock across hosts is seen by ringd --status: tell its port"
+	return &WrongRingError{fmt.Sprintf(text, hostOf(l.ring.Host))}
+}
+
+// contend stands for the term above that of each holder that is gone, until it leads itself and is seen, and gives that
+// term.
 func (l *Lock) contend(ctx, waits context.Context, campaign *campaign) (int, error) {
 	var pause pause
 	for {
 		election, err := campaign.run(ctx)
+		if err == nil && election.IsMine {
+			err = l.sign.show(ctx, election.Led)
+		} else if err == nil {
+			err = l.awaitEnd(ctx, waits, election.Led, &pause)
+		}
 		switch {
 		case err == nil && election.IsMine:
 			return election.Term, nil
 		case err == nil:
-			if err := l.awaitEnd(ctx, waits, election.Led, &pause); err != nil {
-				return 0, err
-			}
 			campaign.how.Gone = election.Term
 		case isNoAnswer(err) && l.ring.hasAnswered.Load() && pause.take(waits, l.ring):
 			l.tell("waits for the ring: " + err.Error())
@@ -224,21 +270,42 @@ func (l *Lock) contend(ctx, waits context.Context, campaign *campaign) (int, err
 // awaitEnd waits until who leads so is gone.
 func (l *Lock) awaitEnd(ctx, waits context.Context, known Led, pause *pause) error {
 	l.ring.release(ctx)
-	bid := known.Leader.Bid
-	if !isThere(ctx, bid, l.how.Patience) {
-		return ended(ctx)
+	isThere, err := l.isThere(ctx, known)
+	if !isThere {
+		return err
 	}
-	holder, isTold := holderOf(ctx, known, l.how.Patience)
-	if !isTold {
-		holder = Holder{Led: known}
-	}
+	holder := l.told(ctx, known)
 	l.tell("waits for " + holder.String())
 	for pause.take(waits, l.ring) {
-		if !isThere(ctx, bid, l.how.Patience) && ended(ctx) == nil {
-			return nil
+		isThere, err := l.isThere(ctx, known)
+		if !isThere && ended(ctx) == nil {
+			return err
 		}
 	}
 	return &LockTakenError{l.group, holder, ended(ctx)}
+}
+
+// isThere tells whether who leads so is seen in time. Where nobody is until the context is over, its error.
+func (l *Lock) isThere(ctx context.Context, known Led) (isSeen bool, err error) {
+	if l.isAcross() {
+		isSeen, err = isPresent(ctx, l.ring, l.group, known, l.how.Patience)
+	} else {
+		isSeen = isThere(ctx, known.Leader.Bid, l.how.Patience)
+	}
+	if over := ended(ctx); over != nil && !isSeen {
+		err = over
+	}
+	return isSeen, err
+}
+
+// told gives who leads so, with what it tells.
+func (l *Lock) told(ctx context.Context, known Led) Holder {
+	if !l.isAcross() {
+		if holder, isTold := holderOf(ctx, known, l.how.Patience); isTold {
+			return holder
+		}
+	}
+	return Holder{Led: known}
 }
 
 // awaitLoss looks whether the lock is lost until it is, or the context is over.
@@ -267,24 +334,34 @@ func (l *Lock) tell(text string) {
 	}
 }
 
-// Holder tells who holds the lock of the group and answers within the patience, DefaultPatience where that is 0; false
-// where nobody does. Of a ring of another host that is a [WrongRingError].
+// Holder tells who holds the lock of the group and is seen within the patience, DefaultPatience where that is 0; false
+// where nobody is. [Lock.Holder] may look across hosts with any ring.
 func (r *Ring) Holder(ctx context.Context, group string, patience time.Duration) (Holder, bool, error) {
-	if err := requireOwn(r.Host); err != nil {
+	return NewLock(r, group, LockOptions{Patience: patience}).Holder(ctx)
+}
+
+// Holder tells who holds the lock and is seen within its patience; false where nobody is. The lock need not be held.
+func (l *Lock) Holder(ctx context.Context) (Holder, bool, error) {
+	if err := l.requireSight(); err != nil {
 		return Holder{}, false, err
 	}
-	known, isKnown, err := r.Latest(ctx, group, AnyNode)
+	known, isKnown, err := l.ring.Latest(ctx, l.group, AnyNode)
 	if !isKnown {
 		return Holder{}, false, err
 	}
-	if patience <= 0 {
-		patience = DefaultPatience
+	if !l.isAcross() {
+		holder, isTold := holderOf(ctx, known, l.how.Patience)
+		if !isTold {
+			err = ended(ctx)
+		}
+		return holder, isTold, err
 	}
-	holder, isTold := holderOf(ctx, known, patience)
-	if isTold {
-		return holder, true, nil
+	l.ring.release(ctx)
+	isThere, err := l.isThere(ctx, known)
+	if !isThere {
+		return Holder{}, false, err
 	}
-	return Holder{}, false, ended(ctx)
+	return Holder{Led: known}, true, nil
 }
 
 // holderOf gives who leads so, where it holds a lock and answers within so long.

@@ -84,6 +84,16 @@ func TestALockIsHeldWhileItsWorkRuns(t *testing.T) {
 	same(t, ring.session == nil, true)
 }
 
+func TestARankIsOneDigit(t *testing.T) {
+	ring, nodes, votes := elected(t)
+	for _, rank := range []int{-1, 10} {
+		same(t, lockOf(t, ring, LockOptions{Rank: rank}).Acquire(background(t)), "cinoweta: a lock's rank is 0 to 9")
+	}
+	same(t, len(nodes[0].lines(""))+len(nodes[1].lines("")), 0)
+	must(t, lockOf(t, ring, LockOptions{Rank: 9}).Acquire(background(t)))
+	same(t, votes.bid(1)/bidRank, 9)
+}
+
 func TestPatienceIsAboveZero(t *testing.T) {
 	ring, _, _ := elected(t)
 	must(t, lockOf(t, ring, LockOptions{}).Acquire(background(t)))
@@ -113,11 +123,11 @@ func TestWhoHoldsALockIsToldInTime(t *testing.T) {
 	other := lockOf(t, ring, LockOptions{})
 	acquires := map[time.Duration]func(context.Context) error{0: other.TryAcquire, 300 * time.Millisecond: other.Acquire}
 	for wait, acquire := range acquires {
+		before := time.Now()
 		ctx, cancel := context.WithTimeout(background(t), wait)
 		if wait == 0 {
 			ctx = background(t)
 		}
-		before := time.Now()
 		err := acquire(ctx)
 		cancel()
 		taken := as[*LockTakenError](t, err)
@@ -205,7 +215,7 @@ func TestARingThatNeverAnsweredIsNotWaitedFor(t *testing.T) {
 	ring.Timeout = 100 * time.Millisecond
 	lock := lockOf(t, ring, LockOptions{})
 	as[*NoAnswerError](t, lock.Acquire(background(t)))
-	same(t, lock.beacon == nil, true)
+	same(t, lock.sign == nil, true)
 }
 
 func TestWhoTakesALockAgainWaitsForARingThatIsAway(t *testing.T) {
@@ -247,7 +257,7 @@ func TestARingThatElectsNobodyEndsALock(t *testing.T) {
 	lock := lockOf(t, ring, LockOptions{})
 	lock.wait = 50 * time.Millisecond
 	as[*NoLeaderError](t, lock.Acquire(background(t)))
-	same(t, lock.beacon == nil, true)
+	same(t, lock.sign == nil, true)
 }
 
 func TestALockIsLostOnceAGreaterTermIsKnown(t *testing.T) {

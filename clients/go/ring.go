@@ -39,8 +39,8 @@ type Ring struct {
 	Host string
 	// Timeout is how long a question is asked; DefaultTimeout where it is 0.
 	Timeout time.Duration
-	// Status is the port of the host where `ringd --status` tells of the ring, or 0: then a [NoLeaderError] says which
-	// node is not well.
+	// Status is the port of the host where `ringd --status` tells of the ring, or 0. Where it is told, a [NoLeaderError]
+	// says which node is not well, and a lock may be held across hosts.
 	Status int
 
 	first, nodes int
@@ -317,7 +317,7 @@ func (r *Ring) address(place int) string {
 
 func (r *Ring) wrong(ctx context.Context, answer string) error {
 	r.release(ctx)
-	return &WrongRingError{fmt.Sprintf("%q is no answer of a node", answer)}
+	return wrongAnswer(answer)
 }
 
 // numbers gives those of a text of this form; false where it is none.

@@ -66,7 +66,12 @@ func TestRingdTellsOfItself(t *testing.T) {
 	same(t, []any{told.Dir, len(told.Nodes)}, []any{served.dir(), 3})
 	first := told.Nodes[0]
 	same(t, []any{first.Node, first.Port, first.State, first.Stands.Taken}, []any{1, served.first, "well", 1})
-	same(t, first.Sessions.Refusals, []RefusalCount{{ErrBadName, 1}})
+	// Those from 3 to 9 are told before they come.
+	refusals := []RefusalCount{{ErrBadName, 1}}
+	for number := ErrAlreadyStands; number <= ErrNodeFailed; number++ {
+		refusals = append(refusals, RefusalCount{number, 0})
+	}
+	same(t, first.Sessions.Refusals, refusals)
 	led, err := Leaders(background(t), ring.Host, ring.Status, 3)
 	must(t, err)
 	same(t, led, []GroupLed{{"red", Led{5, Leader{1, 10}}}})
@@ -305,4 +310,106 @@ func TestLocksOfPythonAndOfGoExcludeEachOther(t *testing.T) {
 	same(t, holds(t, lock), true)
 	lock.Resign()
 	python.tells(t, "term 4")
+}
+
+// serveAcross serves a ring of another host, which ends the session of a silent client.
+func serveAcross(t *testing.T) *served {
+	t.Helper()
+	return serveAt(t, otherHost, usual, "--idle", "2")
+}
+
+// isHeld looks who holds the lock of `red` across hosts.
+func isHeld(t *testing.T, ring *Ring, wanted bool, term int) {
+	t.Helper()
+	holder, isHeld, err := NewLock(ring, "red", LockOptions{AcrossHosts: true}).Holder(background(t))
+	must(t, err)
+	same(t, []any{isHeld, holder.Term, holder.PID, holder.Text}, []any{wanted, term, 0, ""})
+}
+
+func TestLocksAcrossHostsAreHeldOneBehindTheOther(t *testing.T) {
+	served := serveAcross(t)
+	turns, ended := make(chan int, 6), make(chan error)
+	for range make([]struct{}, 3) {
+		lock := NewLock(served.ring(t), "red", LockOptions{AcrossHosts: true})
+		go func() {
+			ended <- lock.Run(context.Background(), func(_ context.Context, term int) error {
+				turns <- term
+				time.Sleep(300 * time.Millisecond)
+				turns <- -term
+				return nil
+			})
+		}()
+	}
+	for range make([]struct{}, 3) {
+		must(t, <-ended)
+	}
+	before := 0
+	for range make([]struct{}, 3) {
+		term := <-turns
+		same(t, []any{term > before, <-turns}, []any{true, -term})
+		before = term
+	}
+	isHeld(t, served.ring(t), false, 0)
+}
+
+func TestWhoIsKilledOrPausedLosesALockAcrossHosts(t *testing.T) {
+	served := serveAcross(t)
+	first := served.acrossLocker(t)
+	first.tells(t, "term 1")
+	isHeld(t, served.ring(t), true, 1)
+	second := served.acrossLocker(t)
+	second.tells(t, "waits for node")
+	second.isSilent(t, 2_500*time.Millisecond)
+	first.signal(t, syscall.SIGKILL)
+	second.tells(t, "term 2")
+	third := served.acrossLocker(t)
+	third.tells(t, "waits for node")
+	third.isSilent(t, 2_500*time.Millisecond)
+	second.signal(t, syscall.SIGSTOP)
+	third.tells(t, "term 3")
+	second.signal(t, syscall.SIGCONT)
+	second.tells(t, "lost 2")
+	third.isSilent(t, 100*time.Millisecond)
+	third.signal(t, syscall.SIGTERM)
+	third.tells(t, "ended")
+	isHeld(t, served.ring(t), false, 0)
+}
+
+func TestALockAcrossHostsOutlivesStartsOfRingd(t *testing.T) {
+	served := serveAcross(t)
+	first := served.acrossLocker(t)
+	first.tells(t, "term 1")
+	second := served.acrossLocker(t)
+	second.tells(t, "waits for node")
+	for range make([]struct{}, 3) {
+		served.kill()
+		second.tells(t, "waits for the ring")
+		must(t, served.start())
+		second.tells(t, "waits for node")
+		second.isSilent(t, 2_500*time.Millisecond)
+		isHeld(t, served.ring(t), true, 1)
+	}
+	first.isSilent(t, 100*time.Millisecond)
+}
+
+func TestLocksAcrossHostsOfPythonAndOfGoExcludeEachOther(t *testing.T) {
+	served := serveAcross(t)
+	ring := served.ring(t)
+	words := []string{"--across-hosts", "--status", fmt.Sprint(ring.Status), "red"}
+	script := append(append([]string{"lock"}, words...), "--", "sh", "-c", "echo term $CINOWETA_TERM; exec sleep 60")
+	python := served.python(t, script...)
+	python.tells(t, "term 1")
+	isHeld(t, ring, true, 1)
+	lock := NewLock(ring, "red", LockOptions{AcrossHosts: true})
+	as[*LockTakenError](t, lock.TryAcquire(background(t)))
+	python.signal(t, syscall.SIGTERM)
+	must(t, lock.Acquire(background(t)))
+	same(t, lock.Term(), 2)
+	served.python(t, append([]string{"holder"}, words...)...).tells(t, "term 2")
+	python = served.python(t, script...)
+	python.tells(t, "cinoweta: red: waits for node")
+	python.isSilent(t, 2_500*time.Millisecond)
+	same(t, holds(t, lock), true)
+	lock.Resign()
+	python.tells(t, "term 3")
 }

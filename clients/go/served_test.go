@@ -17,8 +17,12 @@ import (
 	"time"
 )
 
-// lockVariable has a test's program hold the lock of the group that it names, in place of the tests.
-const lockVariable = "CINOWETA_TEST_LOCK"
+const (
+	// lockVariable has a test's program hold the lock of the group that it names, in place of the tests.
+	lockVariable = "CINOWETA_TEST_LOCK"
+	// acrossVariable has it held across hosts.
+	acrossVariable = "CINOWETA_TEST_ACROSS_HOSTS"
+)
 
 func TestMain(m *testing.M) {
 	if group := os.Getenv(lockVariable); group != "" {
@@ -40,6 +44,9 @@ func holdLock(group string) int {
 	ctx, cancel := signal.NotifyContext(context.Background(), syscall.SIGTERM)
 	defer cancel()
 	how := LockOptions{Patience: time.Second, Text: "a Go program", Tell: func(text string) { fmt.Println(text) }}
+	if os.Getenv(acrossVariable) != "" {
+		how.Patience, how.Text, how.AcrossHosts = 0, "", true
+	}
 	err = NewLock(ring, group, how).Run(ctx, func(ctx context.Context, term int) error {
 		fmt.Println("term", term)
 		<-ctx.Done()
@@ -78,6 +85,7 @@ func noRingd() string {
 type served struct {
 	folder, host    string
 	first, capacity int
+	words           []string
 	process         *exec.Cmd
 }
 
@@ -87,13 +95,13 @@ func serve(t *testing.T, capacity int) *served {
 	return serveAt(t, ownHost, capacity)
 }
 
-// serveAt serves one at this host.
-func serveAt(t *testing.T, host string, capacity int) *served {
+// serveAt serves one at this host, told further words.
+func serveAt(t *testing.T, host string, capacity int, words ...string) *served {
 	t.Helper()
 	if fault := noRingd(); fault != "" {
 		t.Skip(fault)
 	}
-	made := &served{folder: t.TempDir(), host: host, capacity: capacity}
+	made := &served{folder: t.TempDir(), host: host, capacity: capacity, words: words}
 	must(t, os.Mkdir(made.dir(), 0o700))
 	t.Cleanup(func() { made.kill() })
 	for range make([]struct{}, 20) {
@@ -114,7 +122,7 @@ func (s *served) start() error {
 		return err
 	}
 	status := fmt.Sprint(s.status())
-	words := []string{"--settings", settings, "--always", "--doors", "4", "--status", status}
+	words := append([]string{"--settings", settings, "--always", "--doors", "4", "--status", status}, s.words...)
 	if s.host != ownHost {
 		words = append(words, "--listen", s.host)
 	}
@@ -165,7 +173,17 @@ func (s *served) ring(t *testing.T) *Ring {
 
 // locker starts another process that holds the lock of `red`.
 func (s *served) locker(t *testing.T) *program {
-	return start(t, exec.Command(os.Args[0]), lockVariable+"=red", "CINOWETA_RING="+s.ports())
+	return start(t, exec.Command(os.Args[0]), s.variables()...)
+}
+
+// acrossLocker starts one that holds it across hosts.
+func (s *served) acrossLocker(t *testing.T) *program {
+	return start(t, exec.Command(os.Args[0]), append(s.variables(), acrossVariable+"=1")...)
+}
+
+// variables have a program be a locker of this ring.
+func (s *served) variables() []string {
+	return []string{lockVariable + "=red", "CINOWETA_RING=" + s.ports(), fmt.Sprint("CINOWETA_STATUS=", s.status())}
 }
 
 // python starts the command of the Python package with these words, or skips the test where there is no Python.

@@ -154,17 +154,35 @@ func Leaders(ctx context.Context, host string, port, node int) ([]GroupLed, erro
 // and whether there was one.
 func coming(ctx context.Context, host string, port int, group string, above, seconds int) (Led, bool, error) {
 	path := fmt.Sprintf("/leaders/%s?above=%d&wait=%d", url.PathEscape(group), above, seconds)
+	led, _, err := getLeader(ctx, host, port, path, seconds, http.StatusNoContent)
+	if err == nil && led.Term > 0 && led.Term <= above {
+		err = noStatus(host, port, path, http.StatusOK)
+	}
+	return led, err == nil && led.Term > 0, err
+}
+
+// leaderOf gives the group's latest leader by what this node knows, of term 0 where it knows none, and whether who stood
+// so is present. docs/OPERATING.md says what that tells.
+func leaderOf(ctx context.Context, host string, port int, group string, node int) (Led, bool, error) {
+	path := fmt.Sprintf("/leaders/%s?node=%d", url.PathEscape(group), node)
+	return getLeader(ctx, host, port, path, 0, http.StatusNotFound)
+}
+
+// getLeader reads a leader, for which the port waits so many seconds, and whether it is present. It is of term 0 where
+// the answer has the status that says that there is none.
+func getLeader(ctx context.Context, host string, port int, path string, seconds, none int) (Led, bool, error) {
 	code, text, err := getWithin(ctx, host, port, path, time.Duration(seconds)*time.Second+statusLimit)
-	if err != nil || code == http.StatusNoContent {
+	if err != nil || code == none {
 		return Led{}, false, err
 	}
 	var told struct {
-		Leader struct{ Term, Node, Bid int }
+		Leader  struct{ Term, Node, Bid int }
+		Present *bool
 	}
-	if code != http.StatusOK || json.Unmarshal(text, &told) != nil || told.Leader.Term <= above {
+	if code != http.StatusOK || json.Unmarshal(text, &told) != nil || told.Leader.Term <= 0 || told.Present == nil {
 		return Led{}, false, noStatus(host, port, path, code)
 	}
-	return Led{told.Leader.Term, Leader{told.Leader.Node, told.Leader.Bid}}, true, nil
+	return Led{told.Leader.Term, Leader{told.Leader.Node, told.Leader.Bid}}, *told.Present, nil
 }
 
 // getJSON reads an answer in JSON.

@@ -28,13 +28,13 @@ func (p pages) ServeHTTP(writer http.ResponseWriter, request *http.Request) {
 }
 
 // status gives the port of a server that answers as `ringd --status` does.
-func status(t *testing.T, told pages) int {
+func status(t *testing.T, told http.Handler) int {
 	t.Helper()
 	return statusAt(t, "", told)
 }
 
 // statusAt gives that of one at this host.
-func statusAt(t *testing.T, host string, told pages) int {
+func statusAt(t *testing.T, host string, told http.Handler) int {
 	t.Helper()
 	listener, err := net.Listen("tcp", address(host, 0))
 	must(t, err)
@@ -91,6 +91,30 @@ func TestLeaders(t *testing.T) {
 	same(t, led, []GroupLed{{"a", Led{5, Leader{3, 7}}}, {"b", Led{6, Leader{1, 8}}}, {"c-d", Led{5, Leader{2, 9}}}})
 	for _, text := range []string{"{}", `{"leaders": [1]}`, `{"leaders": [{"group": "a"}]}`, `{"leaders": [{"group": 1, "term": 1}]}`} {
 		_, err := Leaders(background(t), "", status(t, pages{"/leaders?node=1": {200, text}}), 1)
+		as[*WrongRingError](t, err)
+	}
+}
+
+func TestALeaderOfANode(t *testing.T) {
+	leavesNone(t)
+	port := status(t, pages{
+		"/leaders/red?node=2":   {200, `{"by": 2, "leader": {"bid": 5, "group": "red", "node": 2, "term": 7}, "present": true}`},
+		"/leaders/r%20d?node=3": {200, `{"by": 3, "leader": {"bid": 5, "group": "r d", "node": 3, "term": 8}, "present": false}`},
+	})
+	for _, row := range []struct {
+		group     string
+		node      int
+		wanted    Led
+		isPresent bool
+	}{{"red", 2, Led{7, Leader{2, 5}}, true}, {"r d", 3, Led{8, Leader{3, 5}}, false}, {"red", 1, Led{}, false}} {
+		led, isPresent, err := leaderOf(background(t), "", port, row.group, row.node)
+		must(t, err)
+		same(t, []any{led, isPresent}, []any{row.wanted, row.isPresent})
+	}
+	leader := `"leader": {"bid": 5, "group": "red", "node": 2, "term": 7}`
+	for _, wrong := range []page{{200, "{" + leader + "}"}, {200, "{" + leader + `, "present": 1}`}, {200, `{"present": true}`},
+		{200, "[]"}, {200, "well"}, {503, ""}, {204, ""}} {
+		_, _, err := leaderOf(background(t), "", status(t, pages{"/leaders/red?node=1": wrong}), "red", 1)
 		as[*WrongRingError](t, err)
 	}
 }
