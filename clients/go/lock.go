@@ -257,7 +257,7 @@ func (l *Lock) contend(ctx, waits context.Context, campaign *campaign) (int, err
 		switch {
 		case err == nil && election.IsMine:
 			return election.Term, nil
-		case err == nil:
+		case err == nil || election.IsMine && isOver(err):
 			campaign.how.Gone = election.Term
 		case isNoAnswer(err) && l.ring.hasAnswered.Load() && pause.take(waits, l.ring):
 			l.tell("waits for the ring: " + err.Error())
@@ -265,6 +265,11 @@ func (l *Lock) contend(ctx, waits context.Context, campaign *campaign) (int, err
 			return 0, err
 		}
 	}
+}
+
+// isOver tells whether a Stand was refused since its term is over.
+func isOver(err error) bool {
+	return errors.Is(err, ErrLate) || errors.Is(err, ErrStale) || errors.Is(err, ErrRetired)
 }
 
 // awaitEnd waits until who leads so is gone.

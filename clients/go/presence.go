@@ -109,16 +109,16 @@ func (p *presence) limit() time.Duration {
 }
 
 // isPresent tells whether who leads so is present within this time, or absentLimit where that is less. A [NoAnswerError]
-// where the status port does not answer, a [WrongRingError] where it does not come to know the leader.
+// where the status port does not answer, a [WrongRingError] where it does not come to know this leader.
 func isPresent(ctx context.Context, ring *Ring, group string, known Led, limit time.Duration) (bool, error) {
 	for until := time.Now().Add(atMost(absentLimit, limit)); ; {
 		told, isThere, err := leaderOf(ctx, ring.Host, ring.Status, group, known.Leader.Node)
-		if err != nil || told.Term > known.Term || told.Term == known.Term && isThere {
-			return err == nil && told.Term == known.Term, err
+		if err != nil || told.Term > known.Term || told == known && isThere {
+			return err == nil && told == known, err
 		}
 		left := time.Until(until)
-		if left <= 0 && told.Term < known.Term {
-			const text = "%s tells of no leader of %s in term %d: is it this ring's?"
+		if left <= 0 && told != known {
+			const text = "%s tells of another leader of %s in term %d, or none: is it this ring's?"
 			return false, &WrongRingError{fmt.Sprintf(text, address(ring.Host, ring.Status), group, known.Term)}
 		}
 		if left <= 0 {

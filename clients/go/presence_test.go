@@ -288,6 +288,25 @@ func TestALockThatCanNotBeShownYetIsWaitedFor(t *testing.T) {
 	same(t, strings.Count(told.all(), "waits for the ring: cinoweta: no answer of "+otherHost), 3)
 }
 
+func TestALockWhoseTermIsOverBeforeItIsShownIsTakenAgain(t *testing.T) {
+	ring, nodes, votes, _ := across(t, otherHost)
+	isFirst := true
+	for place, node := range nodes {
+		own := votes.at(place + 1)
+		node.is(func(line string) (string, bool) {
+			told, isAnswered := own(line)
+			if isFirst && strings.HasPrefix(told, "no 3 already") {
+				isFirst = false
+				return "no 5 stale 2", true
+			}
+			return told, isAnswered
+		})
+	}
+	lock := acrossOf(t, ring, LockOptions{})
+	must(t, lock.Acquire(background(t)))
+	same(t, []any{lock.Term(), isFirst}, []any{2, false})
+}
+
 func TestAStatusPortThatIsAwayIsWaitedFor(t *testing.T) {
 	ring, _, votes, _ := across(t, otherHost)
 	must(t, acrossOf(t, ring, LockOptions{}).Acquire(background(t)))
@@ -325,10 +344,9 @@ func TestWhoIsPresent(t *testing.T) {
 	time.AfterFunc(300*time.Millisecond, func() { session.ask(background(t), "stand red 5 7", time.Second) })
 	looks(true, time.Second)
 	looks(true, 0)
-	// At node 2 it is not.
-	known.Leader.Node = 2
-	looks(false, 0)
-	known.Leader.Node = 1
+	// Another one leads.
+	_, err = isPresent(background(t), ring, "red", Led{5, Leader{1, 8}}, 0)
+	as[*WrongRingError](t, err)
 	session.close()
 	until(t, "the end of the session", func() bool { return !nodes[0].isPresent("red", known) })
 	looks(false, 0)
@@ -341,7 +359,7 @@ func TestWhoIsPresent(t *testing.T) {
 	defer cancel()
 	for group, known := range map[string]Led{"red": {7, Leader{1, 7}}, "blue": {5, Leader{1, 7}}} {
 		_, err = isPresent(background(t), ring, group, known, 100*time.Millisecond)
-		const wanted = "%s:%d tells of no leader of %s in term %d: is it this ring's?"
+		const wanted = "%s:%d tells of another leader of %s in term %d, or none: is it this ring's?"
 		same(t, as[*WrongRingError](t, err).Text, fmt.Sprintf(wanted, otherHost, ring.Status, group, known.Term))
 		_, err = isPresent(ctx, ring, group, known, time.Minute)
 		is(t, err, context.DeadlineExceeded)

@@ -3,6 +3,7 @@ package cinoweta
 import (
 	"context"
 	"encoding/json"
+	"errors"
 	"fmt"
 	"io"
 	"net/http"
@@ -174,6 +175,10 @@ func getLeader(ctx context.Context, host string, port int, path string, seconds,
 	code, text, err := getWithin(ctx, host, port, path, time.Duration(seconds)*time.Second+statusLimit)
 	if err != nil || code == none {
 		return Led{}, false, err
+	}
+	if code == http.StatusServiceUnavailable {
+		// No place is free for who waits, or memory is wanting.
+		return Led{}, false, noAnswer(ctx, address(host, port)+path, errors.New("503"))
 	}
 	var told struct {
 		Leader  struct{ Term, Node, Bid int }

@@ -113,10 +113,12 @@ func TestALeaderOfANode(t *testing.T) {
 	}
 	leader := `"leader": {"bid": 5, "group": "red", "node": 2, "term": 7}`
 	for _, wrong := range []page{{200, "{" + leader + "}"}, {200, "{" + leader + `, "present": 1}`}, {200, `{"present": true}`},
-		{200, "[]"}, {200, "well"}, {503, ""}, {204, ""}} {
+		{200, "[]"}, {200, "well"}, {500, ""}, {204, ""}} {
 		_, _, err := leaderOf(background(t), "", status(t, pages{"/leaders/red?node=1": wrong}), "red", 1)
 		as[*WrongRingError](t, err)
 	}
+	_, _, err := leaderOf(background(t), "", status(t, pages{"/leaders/red?node=1": {503, ""}}), "red", 1)
+	as[*NoAnswerError](t, err)
 }
 
 func TestAStatusThatIsNotAnsweredEndsWithItsContext(t *testing.T) {
