@@ -6,6 +6,7 @@
 # clients: the tests of the clients, over bin/ringd.
 # picture: the run of SCRIPT by ringctl, drawn as text and, to the file SVG, as SVG. pictures: the tests of that, and the pictures of the docs, over bin/ringctl.
 # kills: bin/ringd is killed 100 times at random moments, started again, and held to all that it told; what holds it is tried first.
+# years: bin/ringd elects and retires for an hour, killed once half way: whether its memory grows; YEARS has further words of trials/years.py.
 # earlier: a ringd of an earlier release, EARLIER, is killed 50 times, and bin/ringd as often on the same folders.
 # short: bin/ringd under sessions of one Stand each, its memory, and elections right behind them.
 # threads: bin/ringd where the system grants too few threads; as root.
@@ -18,7 +19,7 @@
 # flips: each byte of the files of a ring by bin/ringd is changed, one at a time: whether a start refuses it, or what is answered then.
 # load: bin/ringd under load; LOAD has further words of bench/load.py.
 .PHONY: run test wrong_bodies bench clean always
-.PHONY: ringd install serve fencing clients picture pictures kills earlier load short threads scrapes writeback syncs fuzz faults growths hangs flips
+.PHONY: ringd install serve fencing clients picture pictures kills years earlier load short threads scrapes writeback syncs fuzz faults growths hangs flips
 
 run:
 	@bench/try.sh examples/first_election.ring
@@ -75,6 +76,9 @@ pictures: bin/ringctl
 kills:
 	@python3 -m unittest discover -s trials
 	@trials/kill.py --rounds 100
+
+years: bin/ringd
+	@trials/years.py --ringd bin/ringd $(YEARS)
 
 earlier: bin/ringd
 	@trials/earlier.py --earlier "$(EARLIER)"

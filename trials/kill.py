@@ -62,8 +62,9 @@ class Ring:
         self.rounds = rng.randint(3, 10)
         self.known = Known(self.nodes, doors == 1)
         self.port = 0
-        # The program that ringd is run by, and its words.
+        # The program that ringd is run by, and its words; and how long ringd serves.
         self.tracer: list[str] = []
+        self.words = ["--serve", "1000"]
         os.mkdir(os.path.join(folder, "ring"))
 
     def start(self, rng: random.Random) -> subprocess.Popen[bytes]:
@@ -74,7 +75,7 @@ class Ring:
         with open(settings, "w", encoding="ascii") as file:
             file.write(f'nodes = {self.nodes}\ndir = "{self.folder}/ring"\n')
             file.write(f"port = {self.port}\ncapacity = {self.capacity}\n")
-        words = [*self.tracer, self.ringd, "--settings", settings, "--serve", "1000"]
+        words = [*self.tracer, self.ringd, "--settings", settings, *self.words]
         if self.doors > 1:
             words += ["--doors", str(self.doors)]
         with open(os.path.join(self.folder, "err"), "wb") as err:

@@ -18,6 +18,10 @@ answer, earlier or later:
   floor or a greater one for ever: it retires none that is not greater, and knows a leader of a term that is as great.
   Below its floor it answers each Stand as 23, and each `who` as soon as it showed that floor there, or was started anew.
 - A floor that a node refuses as 26 is above each term that it told of a leader for.
+
+A book that is kept for long forgets what is below a floor of all nodes that each of them showed, as `forget` says. From
+then on no node tells of a lower term of the group, at whichever door: its `latest` comes to that floor, and all else that
+it is asked below it is answered 23.
 """
 import random
 import threading
@@ -110,6 +114,8 @@ class Known:
         self.shown: dict[Place, int] = {}
         self.floors_before: dict[Place, int] = {}
         self.highest: dict[str, int] = {}
+        # By group: the floor below which all is forgotten.
+        self.forgotten: dict[str, int] = {}
 
     def fault(self, text: str) -> None:
         with self.lock:
@@ -133,6 +139,34 @@ class Known:
         """Whether a node made so many Stands that it did not retire."""
         counts = Counter(node for node, key in self.stood if not self.is_retired(node, key))
         return any(count >= many for count in counts.values())
+
+    def settled(self, group: str) -> int:
+        """The floor of the group that each node showed: by a `who`, or as it was started anew behind telling of it."""
+        places = [(node, group) for node in range(1, self.nodes + 1)]
+        return min(max(self.shown.get(place, 0), self.floors_before.get(place, 0)) for place in places)
+
+    def forget(self, group: str, floor: int) -> int:
+        """Drops what is known of the group's terms below a floor, which was settled before the first question was sent
+        that has no answer yet. How many of these terms had a leader."""
+        def is_gone(key: Key) -> bool:
+            return key[0] == group and key[1] < floor
+
+        with self.lock:
+            self.forgotten[group] = max(floor, self.forgotten.get(group, 0))
+            for of_nodes in (self.asked, self.stood, self.never, self.retired):
+                for entry in [entry for entry in of_nodes if is_gone(entry[1])]:
+                    del of_nodes[entry]
+            for told in (self.acknowledged, self.told, self.told_before):
+                told -= {entry for entry in told if is_gone(entry[1])}
+            self.open = {(node, each) for node, each in self.open if each.group != group or not each.is_below(floor)}
+            for node in range(1, self.nodes + 1):
+                asked = self.floors_asked.get((node, group), Counter())
+                for less in [less for less in asked if less < floor]:
+                    del asked[less]
+            leaders = [key for key in self.leaders if is_gone(key)]
+            for key in leaders:
+                del self.leaders[key]
+            return len(leaders)
 
     def questions(self, node: int, rng: random.Random) -> list[Question]:
         """Asks the node again what is known of it: Stands that it has, with another bid; some that it refused; what it
@@ -160,7 +194,8 @@ class Known:
                 self.highest[question.group] = max(question.term, self.highest.get(question.group, 0))
             if question.word == "retire":
                 self.floors_asked.setdefault(place, Counter())[question.term] += 1
-            reach = max(self.latest_before.get(place, 0), session.latest.get(question.group, 0))
+            reach = max(self.latest_before.get(place, 0), session.latest.get(question.group, 0),
+                        self.forgotten.get(question.group, 0))
             is_told = (node, key) in self.told_before or key in session.told
             if self.is_single:
                 reach = max(reach, self.latest.get(place, 0))
@@ -173,7 +208,7 @@ class Known:
         """The floor that the node has to heed where it answers such a line: a `who` may lag, as `latest` may."""
         if word != "who":
             return self.floors.get(place, (0, ""))[0]
-        floor = max(self.floors_before.get(place, 0), session.floors.get(place[1], 0))
+        floor = max(self.floors_before.get(place, 0), session.floors.get(place[1], 0), self.forgotten.get(place[1], 0))
         return max(floor, self.shown.get(place, 0)) if self.is_single else floor
 
     def no_answer(self, node: int, question: Question) -> None:
@@ -284,10 +319,10 @@ class Known:
         place, is_asked = (node, question.group), question.word == "retire" and question.term == floor
         if not question.is_below(floor):
             self.fault(f"{told}, and that floor does not say so")
-        if self.floors_asked.get(place, Counter())[floor] <= is_asked:
-            self.fault(f"{told}, and no other question asked for that floor")
         if floor < before.floor:
             self.fault(f"{told}, and it told of a greater one: {self.floors[place][1]}")
+        if self.floors_asked.get(place, Counter())[floor] <= is_asked:
+            self.fault(f"{told}, and no other question asked for that floor")
         if floor > self.highest.get(question.group, 0):
             self.fault(f"{told}, and nobody was asked to stand for a term as great")
         self.has_floor(*place, floor, told)
@@ -315,14 +350,14 @@ class Known:
 
     def on_latest(self, node: int, question: Question, before: Before, session: Session, words: list[str],
                   told: str) -> None:
-        term = 0
-        if words[0] == "term" and words[2] == "leader" and len(words) == 5:
-            term = int(words[1])
-            self.leads(node, (question.group, term), int(words[3]), int(words[4]), session, told)
-        elif words != ["none"]:
+        is_named = words[0] == "term" and words[2] == "leader" and len(words) == 5
+        term = int(words[1]) if is_named else 0
+        if not is_named and words != ["none"]:
             self.fault(f"{told} is no answer that is looked for")
         if term < before.reach:
             self.fault(f"{told}, and it told of a leader for term {before.reach}")
+        if is_named:
+            self.leads(node, (question.group, term), int(words[3]), int(words[4]), session, told)
 
     def leads(self, node: int, key: Key, leader: int, bid: int, session: Session, told: str) -> None:
         """The node names this leader of the key."""

@@ -8,7 +8,7 @@ import unittest
 HERE = os.path.dirname(os.path.abspath(__file__))
 sys.path[:0] = [HERE, os.path.join(HERE, "..", "pictures")]
 from clients import Broken, Client
-from known import Known, Question, Session
+from known import GROUPS, Known, Question, Session
 from nodes import Candidate, Input, Key, Node, Retire, Stand, Take
 
 NODES = 3
@@ -22,6 +22,9 @@ LED = """
 1 who red 4: leader 1 5
 """
 FLOOR = LED + "1 retire red 9: retired\n"
+# The floor 9 at each node; and then that each showed it, and what is below it was forgotten.
+FLOORS = FLOOR + "2 retire red 9: retired\n3 retire red 9: retired\n"
+FORGOTTEN = FLOORS + "1 who red 4: no 23 retired 9\n2 who red 4: no 23 retired 9\n3 who red 8: no 23 retired 9\nforget\n"
 RIGHT = [
     FLOOR + """
 1 stand red 4 5: no 23 retired 9
@@ -52,6 +55,22 @@ start
     # A node at its limit has room again behind a floor.
     "".join(f"1 stand red {term} 5: stood\n" for term in range(1, 1_025))
     + "1 stand red 1025 5: no 6 limit\n1 latest red: term 1024 leader 1 5\n1 retire red 9: retired\n1 stand red 1025 5: stood\n",
+    FORGOTTEN + """
+2 who red 4: no 23 retired 9
+1 stand red 4 5: no 23 retired 9
+3 stand red 8 5: no 23 retired 9
+3 retire red 9: no 23 retired 9
+1 stand red 9 8: no 3 already 7
+3 latest red: term 9 leader 1 7
+2 stand red 10 6: stood
+start
+1 who red 4: no 23 retired 9
+3 who red 9: leader 1 7
+2 stand red 10 7: no 3 already 6
+""",
+    # What one node did not show is not forgotten, but behind a start.
+    FLOORS + "1 who red 4: no 23 retired 9\n2 who red 4: no 23 retired 9\nforget\n3 who red 4: leader 1 5\nstart\n"
+    + "forget\n3 who red 4: no 23 retired 9\n",
 ]
 # The last line of each is the fault.
 WRONG = {
@@ -88,6 +107,11 @@ WRONG = {
     "a retired token is passed on": [
         "3 stand red 6 1: stood\n1 stand red 5 9: stood\n2 stand red 5 5: stood\n1 latest red: term 6 leader 3 1\n"
         "1 retire red 6: retired\n2 who red 5: leader 2 5\n"],
+    "what is forgotten is told of": [
+        FORGOTTEN + f"{line}\n" for line in (
+            "2 who red 4: leader 1 5", "3 who red 5: none", "2 latest red: term 4 leader 1 5", "3 latest red: none",
+            "1 stand red 4 5: no 3 already 5", "2 stand red 8 5: stood", "3 stand red 4 5: no 5 stale 9", "1 retire red 4: retired",
+            "3 stand red 4 5: no 23 retired 5", "start\n1 latest red: term 4 leader 1 5")],
     "what is no answer": [
         LED + f"1 retire red 8: {answer}\n" for answer in ("stood", "none", "no 6 limit", "no 25 line", "no 5 stale 9", "")],
 }
@@ -128,6 +152,10 @@ def read(text: str, is_single: bool = True) -> list[list[str]]:
             known.process_ended()
             sessions.clear()
             continue
+        if line == "forget":
+            known.forget("red", known.settled("red"))
+            sessions.clear()
+            continue
         words, colon, answer = line.partition(": ")
         node, question = asked(words)
         session = sessions.setdefault(node, Session())
@@ -152,6 +180,12 @@ class BookTest(unittest.TestCase):
                 with self.subTest(what, last=text.splitlines()[-1]):
                     *before, last = read(text)
                     self.assertEqual((sum(map(len, before)), len(last)), (0, 1))
+
+    def test_what_is_forgotten_is_told_at_no_door(self) -> None:
+        for text in WRONG["what is forgotten is told of"]:
+            with self.subTest(last=text.splitlines()[-1]):
+                *before, last = read(text, is_single=False)
+                self.assertEqual((sum(map(len, before)), len(last)), (0, 1))
 
     def test_what_a_used_up_folder_is(self) -> None:
         known, session = Known(NODES, True), Session()
@@ -321,8 +355,9 @@ class Asker(Client):
         self.others = others
 
 
-def play(kind: type[Ring], seed: int, doors: int = 1, starts: int = 6) -> Known:
-    """What is known once a ring was asked by a client for each door of each node, and killed, so often."""
+def play(kind: type[Ring], seed: int, doors: int = 1, starts: int = 6, forgets: bool = False) -> Known:
+    """What is known once a ring was asked by a client for each door of each node, and killed, so often. Where the book
+    forgets, it does so while no question is open."""
     rng = random.Random(seed)
     known, ring = Known(NODES, doors == 1), kind(rng)
     for _ in range(starts):
@@ -333,9 +368,11 @@ def play(kind: type[Ring], seed: int, doors: int = 1, starts: int = 6) -> Known:
         for asker in askers:
             for question in asker.again:
                 asker.ask(question)
-        for _ in range(300):
+        for step in range(300):
             asker = rng.choice(askers)
             asker.ask(asker.pick())
+            for group in GROUPS if forgets and step % 50 == 0 else []:
+                known.forget(group, known.settled(group))
         for asker in askers:
             # The last question of each is not answered.
             asker.is_killed = True
@@ -353,12 +390,22 @@ class PlayedTest(unittest.TestCase):
             self.assertEqual(known.faults, [])
             self.assertGreater(len(known.retired), 20)
 
+    def test_a_right_ring_has_no_fault_where_the_book_forgets(self) -> None:
+        for doors in (1, 2, 3):
+            known = play(Ring, doors, doors, forgets=True)
+            self.assertEqual(known.faults, [])
+            for group in GROUPS:
+                self.assertGreater(known.forgotten[group], 0)
+                for told in (known.asked, known.stood, known.never, known.acknowledged, known.told, known.told_before, known.retired):
+                    self.assertGreaterEqual(min(term for _, (each, term) in told if each == group), known.forgotten[group])
+                self.assertGreaterEqual(min(term for each, term in known.leaders if each == group), known.forgotten[group])
+
     def test_wrong_bodies_are_told(self) -> None:
         for kind in (ForgetsFloors, ForgetsFloorsAlone, NamesRetired, Keeps, TakesAnyFloor, TakesLessFloors, RefusesFloors,
                      RetiresTheFloorItself):
             with self.subTest(kind.__name__):
-                for doors in (1, 3):
-                    self.assertTrue(play(kind, 1, doors).faults, doors)
+                for doors, forgets in ((1, False), (3, False), (3, True)):
+                    self.assertTrue(play(kind, 1, doors, forgets=forgets).faults, (doors, forgets))
 
     def test_a_token_that_is_passed_on_below_a_floor_is_told(self) -> None:
         for kind, last in ((Ring, "none"), (PassesOn, "leader 2 5")):
