@@ -2,6 +2,7 @@
 import json
 import os
 import random
+import resource
 import shutil
 import signal
 import socket
@@ -58,7 +59,9 @@ class Programs:
         process.returncode = status = os.waitstatus_to_exitcode(told[1])
         if fault is None and status < 0:
             fault = f"ended by signal {-status}"
-        if fault is None and not self.is_unproved and told[2].ru_maxrss > MOST:
+        # The system tells no less of a process than the most that this one had taken as it began.
+        own = resource.getrusage(resource.RUSAGE_SELF).ru_maxrss
+        if fault is None and not self.is_unproved and told[2].ru_maxrss > max(MOST, own):
             fault = f"{told[2].ru_maxrss} KiB of memory"
         with open(self.path("out"), "rb") as out, open(self.path("err"), "rb") as err:
             return Ended(status, out.read(), err.read(), fault)
