@@ -116,7 +116,7 @@ class Scripts(Kind):
                            for term in range(1, rng.randint(90, 260))]
         elif kind < 0.09:
             # A node keeps its inputs in memory, so that many nodes of an age take more than a program may.
-            case[at:at] = years(rng, nodes, 300 if kind < 0.064 and nodes <= 4 else 12, b"lazy" in first)
+            case[at:at] = years(rng, nodes, 300 if kind < 0.064 and nodes <= 3 else 12, b"lazy" in first)
         elif kind < 0.093:
             case += [b"#" * 10_000 + b"\n"] * 99 + [b"#" * (MOST - sum(map(len, case)) - 990_099 + rng.choice([-1, 0, 1, 2]))]
         return case
