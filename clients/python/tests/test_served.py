@@ -336,7 +336,8 @@ class AcrossHostsTest(LockerTest):
         self.assertIn("waits for node", second.stdout.readline())
         for _ in range(3):
             self.served.kill()
-            self.assertIn("waits for the ring", second.stdout.readline())
+            # For whom it waits is told anew behind each start.
+            self.assertTrue(any("waits for the ring" in line for line in iter(second.stdout.readline, "")))
             self.served.start()
             time.sleep(4.0)
             self.assertIsNone(second.poll())
