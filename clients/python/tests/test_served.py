@@ -327,7 +327,7 @@ class AcrossHostsTest(LockerTest):
         self.assertIsNone(third.poll())
         third.terminate()
         third.wait(10)
-        self.assertEqual(self.run_holder(), "none\n")
+        self.until(lambda: self.run_holder() == "none\n", "held")
 
     def test_it_outlives_a_start_of_the_ring(self) -> None:
         first = self.lock("echo in; exec sleep 60", *self.words)
