@@ -182,11 +182,12 @@ func TestARingThatRetiresIsNeverFull(t *testing.T) {
 	}
 }
 
-func TestLocksAreHeldOneBehindTheOther(t *testing.T) {
-	served := serve(t, usual)
-	turns, ended := make(chan int, 8), make(chan error)
-	for range make([]struct{}, 4) {
-		lock := NewLock(served.ring(t), "red", LockOptions{})
+// takeTurns has so many lockers hold the lock of `red`, one behind the other, in terms that rise.
+func takeTurns(t *testing.T, served *served, count int, how LockOptions) {
+	t.Helper()
+	turns, ended := make(chan int, 2*count), make(chan error)
+	for range make([]struct{}, count) {
+		lock := NewLock(served.ring(t), "red", how)
 		go func() {
 			ended <- lock.Run(context.Background(), func(_ context.Context, term int) error {
 				turns <- term
@@ -196,15 +197,19 @@ func TestLocksAreHeldOneBehindTheOther(t *testing.T) {
 			})
 		}()
 	}
-	for range make([]struct{}, 4) {
+	for range make([]struct{}, count) {
 		must(t, <-ended)
 	}
 	before := 0
-	for range make([]struct{}, 4) {
+	for range make([]struct{}, count) {
 		term := <-turns
 		same(t, []any{term > before, <-turns}, []any{true, -term})
 		before = term
 	}
+}
+
+func TestLocksAreHeldOneBehindTheOther(t *testing.T) {
+	takeTurns(t, serve(t, usual), 4, LockOptions{})
 }
 
 func TestWhoIsPausedLosesTheLock(t *testing.T) {
@@ -338,27 +343,7 @@ func isFree(t *testing.T, ring *Ring) {
 
 func TestLocksAcrossHostsAreHeldOneBehindTheOther(t *testing.T) {
 	served := serveAcross(t)
-	turns, ended := make(chan int, 6), make(chan error)
-	for range make([]struct{}, 3) {
-		lock := NewLock(served.ring(t), "red", LockOptions{AcrossHosts: true})
-		go func() {
-			ended <- lock.Run(context.Background(), func(_ context.Context, term int) error {
-				turns <- term
-				time.Sleep(300 * time.Millisecond)
-				turns <- -term
-				return nil
-			})
-		}()
-	}
-	for range make([]struct{}, 3) {
-		must(t, <-ended)
-	}
-	before := 0
-	for range make([]struct{}, 3) {
-		term := <-turns
-		same(t, []any{term > before, <-turns}, []any{true, -term})
-		before = term
-	}
+	takeTurns(t, served, 3, LockOptions{AcrossHosts: true})
 	isFree(t, served.ring(t))
 }
 
