@@ -5,9 +5,8 @@ use Rattle.std.specs.Prelude.{unwrap_or, MatchOption, OnErr}
 use Rattle.std.proofs.lemmas.Option.{same_Some}
 use Rattle.ring_records.specs.declared.base.Base.{Base}
 use Rattle.ring_records.specs.declared.input.Input.{Input}
-use Rattle.ring_records.specs.declared.input.Input.TheVariants.{Stand, Take, Acked, Retire}
 use Rattle.ring_records.specs.declared.summary.Summary.{Summary}
-use Rattle.ring_records.specs.Known.{stepped, after}
+use Rattle.ring_records.specs.Known.{after}
 use Rattle.ring_records.specs.Member.{Member}
 use Rattle.ring_records.specs.States.{NodeState, IsNodeState, launched_base, durable_in, flown_in, flying_in}
 use Rattle.ring_records.proofs.Lists.{none≢some}
@@ -16,6 +15,7 @@ use Rattle.gated_journal.specs.declared.work.Work.{Work}
 use Rattle.group_commit.specs.Desk.{DeskKept, next_area, launch_objection, landed, launched, launched_all}
 use Rattle.group_commit.specs.Next.{is_checkpoint_next, launched_next, IsFitting, IsNext, IsNoWork, IsWorkOf}
 use Rattle.group_commit.proofs.Checkpoints.{idle_free, none_pending}
+use Rattle.group_commit.proofs.KeptInputs.{after-inputs}
 use Rattle.group_commit.proofs.Costs.{base_stays, flown, launched_counts}
 use Rattle.commit_hub.specs.Works.{IsNextArea}
 use Rattle.commit_hub.specs.Tied.{Durable, durable_part, with_area, with_batch}
@@ -24,21 +24,6 @@ use Rattle.commit_hub.specs.Tied.{Durable, durable_part, with_area, with_batch}
 
 pub of_some : {X : Type 0} (o : Option X) (x : X) (P : X → Type 0) → o ≡ Some x → IfSome o P → P x
 of_some o x P is holds = subst (λ q. IfSome q P) is holds
-
--- ---- what it stands for
-
-one_more : (me : ℕ) (s : Summary) (x : Input) → (stepped me s x).inputs ≡ s.inputs + 1
-one_more me s (Stand key bid) = refl
-one_more me s (Take msg_no msg) = refl
-one_more me s (Acked upto) = refl
-one_more me s (Retire group new) = refl
-
--- each input since is counted
-pub after-inputs : (me : ℕ) (s : Summary) (l : List Input) → (after me s l).inputs ≡ s.inputs + length l
-after-inputs me s [] = omega arith
-after-inputs me s (x ∷ l) =
-    let rest : (after me (stepped me s x) l).inputs ≡ (stepped me s x).inputs + length l = after-inputs me (stepped me s x) l in
-    omega (arith, rest, one_more me s x)
 
 -- ---- a desk that launched
 

@@ -73,6 +73,7 @@ abbrev pub is_due_in : Member → Summary → NodeState → Bool
 is_due_in member opening s = is_due (record {
   opening = opening;
   view = record { member = member; run = 0; state = s; tickets = []; issued = 0; closed = false; failed = false };
+  gone = 0;
 })
 
 -- This is what is shown of the node in some state since its opening: how many inputs it has and how many are durable,

@@ -6,6 +6,7 @@ ghost use Rattle.ring_records.specs.States.{IsLawfulState};
 ghost use Rattle.ring_records.specs.Message.{is_outside};
 ghost use Rattle.gated_journal.specs.Batch.{is_checkpoint, landed as receipted, lost};
 ghost use Rattle.group_commit.specs.Desk.{IsAnswer, seen};
+ghost use Rattle.node_core.specs.Core.{IsNodeOf};
 ghost use Rattle.group_commit.specs.Past.{IsPast};
 ghost use Rattle.group_commit.specs.Ticket.{shown};
 ghost use Rattle.commit_hub.specs.Holders.{count_of, known_by};
@@ -236,6 +237,15 @@ impl<A: Node> Hub<A> {
         ensures { IfOk result (λ packets. IsWindow A.member A.opening packets.items) }
     {
         self.guarded.lock(rt).locked.window()
+    }
+
+    /// Lets go of the inputs that the area of the journal in use stands for, as `Desk::let_go` does, and frees what the desk
+    /// kept of them behind the lock. The caller sees that the node is one of the ring.
+    pub fn let_go<R: Wait>(&self, rt: &R)
+        requires inside { IsNodeOf A.member.n A.member.node }
+    {
+        let gone = self.guarded.lock(rt).locked.let_go();
+        drop(gone);
     }
 
     /// What the node shows at some moment within the call: plain counts, copied under one hold of the lock.

@@ -7,7 +7,8 @@ ghost use Rattle.ring_records.specs.States.{IsNodeState, launched_base, durable_
 ghost use Rattle.ring_records.specs.Props.{IsNodeState-prop};
 ghost use Rattle.ring_records.specs.Release.{packets, notices, window};
 ghost use Rattle.gated_journal.specs.Batch.{is_checkpoint, landed as receipted, lost};
-ghost use Rattle.group_commit.specs.Desk.{seen, ended, landed, objection, is_due, launch_objection, IsSubmitted, IsAnswer, IsHere, IsSealed, IsFlying};
+ghost use Rattle.group_commit.specs.Desk.{seen, ended, landed, let_go, objection, is_due, launch_objection, IsSubmitted, IsAnswer, IsHere, IsSealed, IsFlying};
+ghost use Rattle.node_core.specs.Core.{IsNodeOf};
 ghost use Rattle.group_commit.specs.Next.{launched_next, IsNoWork, IsUnlaunched, IsWorkOf};
 ghost use Rattle.group_commit.specs.Past.{IsPast};
 ghost use Rattle.group_commit.specs.Ticket.{shown};
@@ -25,7 +26,7 @@ use crate::places::Places;
 use crate::share::{Share, Tie};
 use crate::tied::{Held, audit, follow};
 use gated_journal::{Receipt, Spoiled, Work};
-use group_commit::{Desk, Landed, SharedDesk, Stub, Ticket};
+use group_commit::{Desk, Gone, Landed, SharedDesk, Stub, Ticket};
 use ring_records::{Packet, Refusal, Reply, Request};
 use std::alloc::AllocError;
 use std::marker::PhantomData;
@@ -266,6 +267,15 @@ impl<A: Node> Locked<A> {
         ensures { self.new.shared.desk ≡ record self.old.shared.desk { view = record self.old.shared.desk.view { closed = true } } }
     {
         self.shared.desk.close();
+    }
+
+    /// As on the desk. The caller sees that the node is one of the ring.
+    pub(crate) fn let_go(&mut self) -> Gone
+        requires inside { IsNodeOf A.member.n A.member.node }
+        ensures next { self.new.shared.desk ≡ let_go self.old.shared.desk }
+        ensures count { result.count ≡ self.new.shared.desk.gone }
+    {
+        self.shared.desk.let_go()
     }
 
     /// As on the desk.

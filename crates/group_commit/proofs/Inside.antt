@@ -14,11 +14,12 @@ abbrev pub area_in : Inside → Base
 area_in d = record { layout = d.layout; epoch = d.epoch; inputs = d.summarised; bytes = d.area }
 
 abbrev pub state_in : Inside → NodeState
-state_in d = state_with (area_in d) d.inputs.items d.durable d.flying d.pending
+state_in d = state_with (area_in d) d.inputs.all.list d.durable d.flying d.pending
 
 -- what the desk shows
 abbrev pub shown_by : Inside → DeskKept
 shown_by d = record {
   opening = d.base;
   view = record { member = member_in d; run = d.run; state = state_in d; tickets = d.tickets.entries; issued = d.issued; closed = d.is_closed; failed = d.is_failed };
+  gone = d.inputs.gone;
 }

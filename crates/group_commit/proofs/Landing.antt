@@ -41,7 +41,7 @@ part-rest start end inputs within =
     let sum : end - start + start ≡ end = omega arith in
     sym (take-append-drop (end - start) (drop start inputs)) ∙ ap (λ l. part start end inputs ++ l) (drop-drop (end - start) start inputs ∙ ap (λ n. drop n inputs) (omega (arith, sum)))
 
-part-joins : (start end : ℕ) (inputs : List Input) → start ≤ end → take start inputs ++ part start end inputs ≡ take end inputs
+pub part-joins : (start end : ℕ) (inputs : List Input) → start ≤ end → take start inputs ++ part start end inputs ≡ take end inputs
 part-joins start end inputs within =
     let sum : start + (end - start) ≡ end = omega arith in
     sym (take-add start (end - start) inputs) ∙ ap (λ n. take n inputs) sum

@@ -11,6 +11,7 @@ pub mod Checkpoints
 pub mod Costs
 pub mod Flies
 pub mod Landing
+pub mod KeptInputs
 pub mod Leaders
 pub mod Messages
 pub mod New

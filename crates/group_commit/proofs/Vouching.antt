@@ -118,16 +118,16 @@ no_limit (Take msg_no msg) e = cc
 no_limit (Acked upto) e = cc
 no_limit (Retire group floor) e = cc
 
-pub vouched-accepted : (m : Member) (first : ℕ) (past : List Input) (s : NodeState) (a : Answered) (x : Input) → first ≡ length past → first ≤ a.answer.number
+pub vouched-accepted : (m : Member) (first gone : ℕ) (past : List Input) (s : NodeState) (a : Answered) (x : Input) → first ≡ length past → first + gone < a.answer.number
     → a.answer.number - first ≤ s.durable → Accepts a.question a.answer.reply x
-    → IsInput s.inputs (a.answer.number - first) x → IsVouched m first (shifted past s) a
-vouched-accepted m first past s a x is from durable accepts there =
+    → IsInput s.inputs (a.answer.number - first) x → IsVouched m (first + gone) (shifted past s) a
+vouched-accepted m first gone past s a x is from durable accepts there =
     let count = there.number in
     record {
       durable = omega (arith, is, from, durable);
-      from = from;
+      from = omega (arith, from);
       gives = inl (
-        omega (arith, from, count),
+        from,
         record {
           input = x;
           accepts = accepts;
@@ -136,20 +136,22 @@ vouched-accepted m first past s a x is from durable accepts there =
       );
     }
 
-pub accepted-vouched : (m : Member) (first : ℕ) (past : List Input) (s : NodeState) (a : Answered) (x : Input) → first ≡ length past → Accepts a.question a.answer.reply x
-    → IsVouched m first (shifted past s) a
-    → IsInput s.inputs (a.answer.number - first) x
-accepted-vouched m first past s a x is accepts vouched = elim vouched.gives [
+pub accepted-vouched : (m : Member) (first gone : ℕ) (past : List Input) (s : NodeState) (a : Answered) (x : Input) → first ≡ length past → Accepts a.question a.answer.reply x
+    → IsVouched m (first + gone) (shifted past s) a
+    → (first + gone < a.answer.number) × IsInput s.inputs (a.answer.number - first) x
+accepted-vouched m first gone past s a x is accepts vouched = elim vouched.gives [
   | inl accepted ↦ (
       let found = accepted.1.is_input in
       let count = found.number in
       let above = accepted.0 in
-      let back : length past + (found.before - first) ≡ found.before = omega (arith, is, count, above) in
-      record {
-        before = found.before - first;
-        number = omega (arith, count, above);
-        there = sym (slice_get-behind past s.inputs (found.before - first)) ∙ (ap (slice_get (past ++ s.inputs)) back ∙ (found.there ∙ ap Some (accepts_one a.question a.answer.reply accepted.1.input x accepted.1.accepts accepts)));
-      })
+      let back : length past + (found.before - first) ≡ found.before = omega (arith, is, count, above) in (
+        above,
+        record {
+          before = found.before - first;
+          number = omega (arith, count, above);
+          there = sym (slice_get-behind past s.inputs (found.before - first)) ∙ (ap (slice_get (past ++ s.inputs)) back ∙ (found.there ∙ ap Some (accepts_one a.question a.answer.reply accepted.1.input x accepted.1.accepts accepts)));
+        },
+      ))
   | inr full ↦ absurd (elim full.1 [
     | inl same ↦ no_acceptance m.node m.n (take a.answer.number (past ++ s.inputs)) a.question a.answer x accepts (λ i. record { reply = same i; number = full.0 i })
     | inr limit ↦ no_limit x (sym accepts.says ∙ limit.0)

@@ -1,5 +1,5 @@
 -- What a desk is seen as, what its calls make of it, and why they are refused.
-use Rattle.std.specs.Prelude.{ℕ, ◌≡◌, ◌<◌, ◌≤◌, ◌^◌, ◌⊎◌, ◌+◌, ◌*◌, Bool, false, ◌&&◌, ◌||◌, if◌then◌else◌, List, [], ◌∷◌, ◌++◌, length, nat_eq, nat_le, nat_lt, Option, Some, None}
+use Rattle.std.specs.Prelude.{ℕ, ◌≡◌, ◌<◌, ◌≤◌, ◌^◌, ◌⊎◌, ◌+◌, ◌*◌, Bool, false, ◌&&◌, ◌||◌, if◌then◌else◌, List, [], ◌∷◌, ◌++◌, length, nat_eq, nat_le, nat_lt, Option, Some, None, is_none}
 use Rattle.std.specs.List.{cons_option}
 use Rattle.std.specs.Map.{lookup, remove_entry}
 use Rattle.std.specs.Option.{option_map}
@@ -39,10 +39,12 @@ pub record DeskView : Type 0 where
   pub closed : Bool
   pub failed : Bool
 
--- What a desk keeps: the summary that it was opened with, and what it shows of the inputs since. Its counts begin there.
+-- What a desk keeps: the summary that it was opened with, and what it shows of the inputs since. Its counts begin there. Of
+-- the inputs since, so many of the first are gone: it knows them no more.
 pub record DeskKept : Type 0 where
   pub opening : Summary
   pub view : DeskView
+  pub gone : ℕ
 
 -- what an area of this layout and epoch stands for, which begins with the summary, before the first input since
 abbrev pub first_base : ℕ → ℕ → Summary → Base
@@ -53,6 +55,7 @@ abbrev pub new_desk : Member → ℕ → Reading → DeskKept
 new_desk member run r = record {
   opening = r.base;
   view = record { member = member; run = run; state = opened (first_base r.layout r.epoch r.base) r.inputs; tickets = []; issued = 0; closed = false; failed = false };
+  gone = 0;
 }
 
 -- what its node knows once all that it accepted is durable
@@ -141,6 +144,10 @@ launched_all desk = record desk.view {
 -- what flies is durable: a batch, or a checkpoint
 abbrev pub landed : DeskView → DeskView
 landed desk = record desk { state = states.landed desk.state }
+
+-- it let go of the inputs that the area in use stands for, unless a checkpoint flies
+abbrev pub let_go : DeskKept → DeskKept
+let_go desk = record desk { gone = if is_none desk.view.state.checkpoint then desk.view.state.base.inputs else desk.gone }
 
 -- ---- refusals
 

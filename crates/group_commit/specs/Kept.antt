@@ -12,9 +12,11 @@ use Rattle.ring_records.specs.Snapshot.{IsSound}
 use Rattle.ring_records.specs.States.{NodeState, durable_in}
 use Rattle.node_core.specs.Core.{CoreView}
 use Rattle.group_commit.specs.Desk.{IsAnswer}
+use Rattle.group_commit.specs.Inputs.{IsKept}
 use Rattle.group_commit.specs.Outbox.{Holds}
 use Rattle.group_commit.specs.Past.{IsPast}
 use Rattle.group_commit.specs.Since.{IsKnownState, core_in}
+use Rattle.group_commit.specs.declared.inputs.Inputs.{Inputs}
 use Rattle.group_commit.specs.declared.outbox.Outbox.{Outbox}
 
 -- the number of each ticket is below this one
@@ -47,12 +49,14 @@ abbrev pub HoldsFor : ℕ → Outbox → Summary → List Input → List Input �
 HoldsFor me outbox opening durable rest flying = Holds me outbox (after me opening durable) rest flying
 
 -- The summary of the opening is sound. The state is one that its node may be in since, and the core is the node's in that
--- state; the outbox holds what the durable inputs let the node release; no number of a ticket is given twice; and what is
+-- state; the outbox holds what the durable inputs let the node release; of the inputs none is gone but what the area in use
+-- stands for; no number of a ticket is given twice; and what is
 -- kept for a ticket is an answer.
-pub record IsDesk (core : CoreView) (outbox : Outbox) (m : Member) (opening : Summary) (s : NodeState) (tickets : List (ℕ × Answered)) (issued : ℕ) : Type 0 where
+pub record IsDesk (core : CoreView) (outbox : Outbox) (inputs : Inputs) (m : Member) (opening : Summary) (s : NodeState) (tickets : List (ℕ × Answered)) (issued : ℕ) : Type 0 where
   pub sound : IsSound m.n opening
   pub knows : core ≡ core_in m opening s
   pub state : IsKnownState m opening s
   pub holds : HoldsFor m.node outbox opening (durable_in s) (drop s.durable s.inputs) (s.flying - s.durable)
+  pub kept : IsKept m opening s inputs
   pub given : AreBelow issued tickets
   pub answers : AreAnswers m opening tickets

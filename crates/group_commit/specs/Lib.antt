@@ -1,11 +1,13 @@
 pub mod Codes
 pub mod Content
 pub mod Desk
+pub mod Inputs
 pub mod Kept
 pub mod Next
 pub mod Opening
 pub mod Outbox
 pub mod Past
+pub mod Props
 pub mod Since
 pub mod Ticket
 pub mod Vouch

@@ -1,5 +1,5 @@
 //! A node's inputs: which of them are durable, which fly, and the replies that wait for them.
-ghost use Rattle.std.specs.Prelude.{◌≡◌, ◌+◌, ◌++◌, ◌≤◌, ◌⊎◌, ◌||◌, List, [], not, true, Some, None, length, MatchOption, IfOk, IfErr, OnOk, OnErr};
+ghost use Rattle.std.specs.Prelude.{◌≡◌, ◌+◌, ◌++◌, ◌≤◌, ◌⊎◌, ◌||◌, List, [], not, true, Some, None, length, drop, MatchOption, IfOk, IfErr, OnOk, OnErr};
 ghost use Rattle.std.specs.List.{cons_option};
 ghost use Rattle.ring_records.specs.declared.input.Input.{Input};
 ghost use Rattle.ring_records.specs.Admission.{IsLawful};
@@ -10,6 +10,7 @@ ghost use Rattle.ring_records.specs.Snapshot.{IsSound};
 ghost use Rattle.ring_records.specs.States.{IsNodeState, IsLawfulState, launched_base, durable_in};
 
 use crate::desk::parts::{accept, replay};
+use crate::inputs::Inputs;
 use crate::judge::judge;
 use crate::kept::{keep, kept_for, take_back};
 use crate::outbox::Outbox;
@@ -36,7 +37,7 @@ pub struct Desk {
     base: Summary,
     core: NodeCore,
     // The inputs since; how many of them are durable, and how many durable or flying.
-    inputs: Vec<Input>,
+    inputs: Inputs,
     durable: u64,
     flying: u64,
     // The area of the journal that is in use: for how many inputs since it stands, and in how many bytes. How long the
@@ -69,16 +70,17 @@ impl Model for Desk {
       view = record {
         member = member d.node d.n d.capacity;
         run = d.run;
-        state = state_with (record { layout = d.layout; epoch = d.epoch; inputs = d.summarised; bytes = d.area }) d.inputs.items d.durable d.flying d.pending;
+        state = state_with (record { layout = d.layout; epoch = d.epoch; inputs = d.summarised; bytes = d.area }) d.inputs.all.list d.durable d.flying d.pending;
         tickets = d.tickets.entries;
         issued = d.issued;
         closed = d.is_closed;
         failed = d.is_failed;
       };
+      gone = d.inputs.gone;
     } };
 
-    ghost invariant = { λ d. IsDesk d.core d.outbox (member d.node d.n d.capacity) d.base
-        (state_with (record { layout = d.layout; epoch = d.epoch; inputs = d.summarised; bytes = d.area }) d.inputs.items d.durable d.flying d.pending) d.tickets.entries d.issued };
+    ghost invariant = { λ d. IsDesk d.core d.outbox d.inputs (member d.node d.n d.capacity) d.base
+        (state_with (record { layout = d.layout; epoch = d.epoch; inputs = d.summarised; bytes = d.area }) d.inputs.all.list d.durable d.flying d.pending) d.tickets.entries d.issued };
 }
 
 impl Desk {
@@ -137,7 +139,7 @@ impl Desk {
             run,
             base,
             core,
-            inputs,
+            inputs: Inputs::new(alloc, inputs),
             durable: count,
             flying: count,
             layout,
@@ -278,15 +280,16 @@ impl Desk {
         self.capacity
     }
 
-    /// The inputs that it accepted since its opening, and those of the journal's frames before these, oldest first.
+    /// The inputs that it accepted since its opening, and those of the journal's frames before these, oldest first, but for
+    /// those that it let go of: the first is number `first_kept`.
     pub fn history(&self) -> &[Input]
-        ensures inputs { result.now ≡ self.now.view.state.inputs }
+        ensures inputs { result.now ≡ drop self.now.gone self.now.view.state.inputs }
         ensures lawful { (past : List Input) → IsPast self.now.view.member self.now.opening past
             → IsLawful self.now.view.member.node self.now.view.member.n self.now.view.member.capacity (launched_base (seen past self.now).state) (seen past self.now).state.inputs }
         ensures state { (past : List Input) → IsPast self.now.view.member self.now.opening past → IsLawfulState self.now.view.member (seen past self.now).state }
         ensures counts { IsNodeState self.now.view.state }
     {
-        &self.inputs
+        &self.inputs.kept
     }
 
     /// The messages of its durable inputs that the successor is not known to have taken, as Carry packets in order:
@@ -296,7 +299,7 @@ impl Desk {
             → packets.items ≡ window self.now.view.member.node (durable_in (seen past self.now).state)) }
         ensures lawful { (past : List Input) → IsPast self.now.view.member self.now.opening past → IsLawfulState self.now.view.member (seen past self.now).state }
     {
-        self.outbox.released.window(*self.inputs.allocator())
+        self.outbox.released.window(self.inputs.allocator())
     }
 
     /// How many tickets are open: given, and neither redeemed nor forfeited.
@@ -344,15 +347,16 @@ impl Desk {
 }
 
 // How many inputs there are with this one, if there is one.
-fn count_with(inputs: &[Input], input: &Option<Input>) -> u64
-    ensures { result ≡ length (inputs.now ++ cons_option input.now []) }
+fn count_with(inputs: &Inputs, input: &Option<Input>) -> u64
+    ensures { result ≡ length (inputs.now.all.list ++ cons_option input.now []) }
 {
-    inputs.len() as u64 + u64::from(input.is_some())
+    inputs.count + u64::from(input.is_some())
 }
 
 mod counts;
 mod decisions;
 mod flight;
+mod letting_go;
 mod messages;
 mod next;
 mod parts;

@@ -10,12 +10,11 @@ use Rattle.disk_model.specs.declared.device.Device.{Ghosts}
 use Rattle.disk_model.specs.Disk.{MayLeave}
 use Rattle.ring_records.specs.declared.base.Base.{Base}
 use Rattle.ring_records.specs.declared.input.Input.{Input}
-use Rattle.ring_records.specs.declared.input.Input.TheVariants.{Stand, Take, Acked, Retire}
 use Rattle.ring_records.specs.declared.refusal.Refusal.{Refusal}
 use Rattle.ring_records.specs.declared.refusal.Refusal.TheVariants as refused
 use Rattle.ring_records.specs.declared.summary.Summary.{Summary}
 use Rattle.ring_records.specs.Admission.{costs_of, newest, used, where_so}
-use Rattle.ring_records.specs.Known.{stepped, after}
+use Rattle.ring_records.specs.Known.{after}
 use Rattle.ring_records.specs.Lists.{or_else}
 use Rattle.ring_records.specs.Member.{Member}
 use Rattle.ring_records.specs.Snapshot.{IsSound, snapshot_len}
@@ -35,6 +34,7 @@ use Rattle.node_core.specs.Core.{IsNodeOf}
 use Rattle.group_commit.specs.Desk.{DeskKept, DeskView, IsFlying, known_all, next_area, launch_objection, checkpoint_objection, epochs, seen}
 use Rattle.group_commit.specs.Desk as desks
 use Rattle.group_commit.specs.Past.{moved, shifted}
+use Rattle.group_commit.proofs.KeptInputs.{after-inputs}
 use Rattle.group_commit.proofs.Past.{flying-shifted}
 use Rattle.group_commit.proofs.Seen.{launched_shifted, landed_shifted, lawful_launched_all}
 use Rattle.gated_journal.specs.declared.work.Work.{Work}
@@ -78,19 +78,6 @@ no_fault why before now (inr (inr (inl e))) fault = let is = fault.is in cc
 no_fault why before now (inr (inr (inr e))) fault = let is = fault.is in cc
 
 -- ---- its inputs, and what they cost
-
-one_more : (me : ℕ) (s : Summary) (x : Input) → (stepped me s x).inputs ≡ s.inputs + 1
-one_more me s (Stand key bid) = refl
-one_more me s (Take msg_no msg) = refl
-one_more me s (Acked upto) = refl
-one_more me s (Retire group new) = refl
-
--- each input since is counted
-after-inputs : (me : ℕ) (s : Summary) (l : List Input) → (after me s l).inputs ≡ s.inputs + length l
-after-inputs me s [] = omega arith
-after-inputs me s (x ∷ l) =
-    let rest : (after me (stepped me s x) l).inputs ≡ (stepped me s x).inputs + length l = after-inputs me (stepped me s x) l in
-    omega (arith, rest, one_more me s x)
 
 -- what flies stands behind what is durable
 flown : (s : NodeState) → IsNodeState s → durable_in s ++ flying_in s ≡ flown_in s
@@ -217,6 +204,7 @@ module _ {D : Type 0} {g : Ghosts D} (desk : DeskKept) (journal : Journal D g) (
         let bytes : costs_of (shown batch).inputs ≡ costs_of (flying_in (launched s)) = ap costs_of inputs in
         record {
           inside = stands.inside;
+          whole = stands.whole;
           counts = batch_counts;
           lawful = λ past of. rw (launched_shifted past s) (lawful-launched m (shifted past s) (idle_behind past s ready.idle ready.none) (stands.lawful past of));
           named = stands.named;
@@ -274,6 +262,7 @@ module _ {D : Type 0} {g : Ghosts D} (desk : DeskKept) (journal : Journal D g) (
         let snapshot : (numbered_by made).snapshot ≡ Some (snapshot_len newest (known_all desk)) = ap (λ (n : Numbered). n.snapshot) is in
         record {
           inside = stands.inside;
+          whole = stands.whole;
           counts = all_counts;
           lawful = λ past of. subst (λ (v : DeskView). IsLawfulState v.member v.state) (sym (lawful_launched_all past desk of (stands.lawful past of)))
               (lawful-launched_all m (seen past desk).state (idle_behind past s ready.idle ready.none) (stands.lawful past of));
@@ -327,6 +316,7 @@ module _ {D : Type 0} {g : Ghosts D} (desk : DeskKept) (old new : Journal D g) (
       → Stands (record desk { view = desks.landed desk.view }) new
   lands same read unspoiled longer less layout later = record {
     inside = flies.inside;
+    whole = flies.whole;
     counts = record { durable = omega arith; flying = flies.counts.flying; based = next-few desk.view.state flies.counts; checkpointed = λ b e. none≢some b e };
     lawful = λ past of. rw (landed_shifted past desk.view.state) (lawful-landed desk.view.member (seen past desk).state (flies.lawful past of));
     named = same ∙ flies.named;
@@ -339,6 +329,7 @@ module _ {D : Type 0} {g : Ghosts D} (desk : DeskKept) (old new : Journal D g) (
       → Stands (record desk { view = record desk.view { failed = true } }) new
   breaks same read = record {
     inside = flies.inside;
+    whole = flies.whole;
     counts = flies.counts;
     lawful = flies.lawful;
     named = same ∙ flies.named;

@@ -57,6 +57,7 @@ module _ {D : Type 0} {g : Ghosts D} (desk : DeskKept) (journal : Journal D g) (
   pub goes_on : (tickets : List (ℕ × Answered)) (closed : Bool) → Stands (record desk { view = record desk.view { tickets = tickets; closed = closed } }) journal
   goes_on tickets closed = record {
     inside = stands.inside;
+    whole = stands.whole;
     counts = stands.counts;
     lawful = stands.lawful;
     named = stands.named;
@@ -69,6 +70,7 @@ module _ {D : Type 0} {g : Ghosts D} (desk : DeskKept) (journal : Journal D g) (
       → len_of new ≡ len_of journal → room_of new ≡ room_of journal → layout_of new ≡ layout_of journal → epoch_of new ≡ epoch_of journal → Stands desk new
   rearmed new member disk spoiled len room layout epoch = record {
     inside = stands.inside;
+    whole = stands.whole;
     counts = stands.counts;
     lawful = stands.lawful;
     named = member ∙ stands.named;
@@ -86,6 +88,7 @@ module _ {D : Type 0} {g : Ghosts D} (desk : DeskKept) (journal : Journal D g) (
       let flown : take s.flying (s.inputs ++ more) ≡ take s.flying s.inputs = take-append-le s.flying s.inputs more stands.counts.flying in
       rw is.next (record {
         inside = stands.inside;
+        whole = stands.whole;
         counts = record {
           durable = stands.counts.durable;
           flying = omega (arith, stands.counts.flying, length-append s.inputs more);
@@ -110,6 +113,7 @@ module _ {D : Type 0} {g : Ghosts D} (m : Member) (journal : Journal D g) (run :
       let whole : take (length r.inputs) r.inputs ≡ r.inputs = take_all (length r.inputs) r.inputs (omega arith) in
       record {
         inside = inside;
+        whole = refl;
         counts = record { durable = omega arith; flying = omega arith; based = omega arith; checkpointed = λ b e. none≢some b e };
         lawful = λ past is. lawful_seen m r.layout r.epoch r.base past r.inputs (length r.inputs) (length r.inputs) is lawful (omega arith) (omega arith);
         named = named;

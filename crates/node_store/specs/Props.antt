@@ -69,8 +69,10 @@ module _ {D : Type 0} {g : Ghosts D} (desk : DeskKept) (journal : Journal D g) w
   pub Stands-prop : IsProp (Stands desk journal)
   Stands-prop p q =
       let member_set : IsSet Member = hlevel props in
+      let number_set : IsSet ℕ = hlevel props in
       λ i. record {
         inside = IsNodeOf-prop desk.view.member.n desk.view.member.node p.inside q.inside i;
+        whole = number_set _ _ p.whole q.whole i;
         counts = IsNodeState-prop desk.view.state p.counts q.counts i;
         lawful = λ past is. IsLawfulState-prop desk.view.member (seen past desk).state (p.lawful past is) (q.lawful past is) i;
         named = member_set _ _ p.named q.named i;

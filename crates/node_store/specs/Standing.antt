@@ -33,10 +33,11 @@ pub record IsReady (desk : DeskKept) (spoiled : Bool) (len room layout epoch : �
   pub area : epoch ≡ desk.view.state.base.epoch
 
 module _ {D : Type 0} {g : Ghosts D} where
-  -- The node is one of its ring; with a past the desk's state is lawful; the journal is the desk's and holds what is durable,
+  -- The node is one of its ring, and has let go of no input; with a past the desk's state is lawful; the journal is the desk's and holds what is durable,
   -- or also what flies, and is ready while the desk has not failed.
   pub record Stands (desk : DeskKept) (journal : Journal D g) : Type 0 where
     pub inside : IsNodeOf desk.view.member.n desk.view.member.node
+    pub whole : desk.gone ≡ 0
     pub counts : IsNodeState desk.view.state
     pub lawful : (past : List Input) → IsPast desk.view.member desk.opening past → IsLawfulState desk.view.member (seen past desk).state
     pub named : member_of journal ≡ desk.view.member
@@ -47,6 +48,7 @@ module _ {D : Type 0} {g : Ghosts D} where
   -- with it the journal holds what flies too, which is something else, and is ready again.
   pub record Flies (desk : DeskKept) (journal : Journal D g) (work : Work) : Type 0 where
     pub inside : IsNodeOf desk.view.member.n desk.view.member.node
+    pub whole : desk.gone ≡ 0
     pub counts : IsNodeState desk.view.state
     pub lawful : (past : List Input) → IsPast desk.view.member desk.opening past → IsLawfulState desk.view.member (seen past desk).state
     pub named : member_of journal ≡ desk.view.member

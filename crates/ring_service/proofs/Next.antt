@@ -16,7 +16,7 @@ use Rattle.gated_journal.specs.declared.work.Work.TheVariants as works
 use Rattle.commit_hub.specs.Tied.{Durable, with_area, with_batch}
 use Rattle.commit_hub.specs.Works.{flown_by, summary_by, flying_behind, IsLawfulBehind, IsNext}
 use Rattle.group_commit.proofs.Costs.{used-joined}
-use Rattle.commit_hub.proofs.Works.{after-inputs}
+use Rattle.group_commit.proofs.KeptInputs.{after-inputs}
 use Rattle.gated_journal.specs.Works.{IsTaken, count_after, epoch_after, layout_after, room_after}
 use Rattle.ring_service.specs.Rounds.{HasKnown, IsMade, IsSpent, known_behind}
 

@@ -88,7 +88,7 @@ pub record IsSplit (desk : DeskKept) (disk : Disk) : Type 0 where
 
 -- the node's desk in this state since its opening, without tickets
 abbrev pub desk_in : Member → Summary → NodeState → DeskKept
-desk_in member opening s = record { opening = opening; view = opened_view member 0 s }
+desk_in member opening s = record { opening = opening; view = opened_view member 0 s; gone = 0 }
 
 -- A stop may have left this image of the node, with all that the first of these rounds made durable, so many of them, behind
 -- what was known before.

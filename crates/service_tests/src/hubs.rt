@@ -36,6 +36,8 @@ pub enum Play<'a> {
     Alone(&'static [Step]),
     /// The same, where a checkpoint is due and all inputs are durable.
     Filled(&'static [Step]),
+    /// The same, and then the hub is settled.
+    Settled(&'static [Step]),
     /// What both clients do beside the flusher.
     Together(&'a Flags, Duo),
     /// The first client has this part in the election of a ring.
@@ -52,8 +54,7 @@ impl Play<'_> {
     }
 }
 
-/// What a hub leaves: its journal, how many rounds the board is owed, and what it was settled with where its clients were
-/// together.
+/// What a hub leaves: its journal, how many rounds the board is owed, and what it was settled with, if it was.
 #[derive(Drop)]
 pub struct Ended<V: Device> {
     pub journal: Journal<V>,
@@ -61,14 +62,14 @@ pub struct Ended<V: Device> {
     pub settled: Option<Settled>,
 }
 
-/// Plays the steps.
-fn alone<V: Device, J: Naming, A: Node, R: Wait + Abort + AllocGlobal>(
+/// The hub, its flusher and the client behind the steps.
+fn played<V: Device, J: Naming, A: Node, R: Wait + Abort + AllocGlobal>(
     rt: &R,
     hub: Hub<A>,
     flusher: Flusher<V, J, A>,
     client: Client<J, A>,
     steps: &[Step],
-) -> Ended<V> {
+) -> (Hub<A>, Flusher<V, J, A>, Client<J, A>) {
     let mut station = Station {
         hub,
         flusher,
@@ -78,15 +79,15 @@ fn alone<V: Device, J: Naming, A: Node, R: Wait + Abort + AllocGlobal>(
     };
     station.plays(rt, steps);
     let Station {
+        hub,
         flusher,
+        client,
         tickets,
-        hub: _hub,
-        client: _client,
         gate: _gate,
     } = station;
     assert!(rt; tickets.is_empty());
     tickets.destroy_empty();
-    ends(rt, flusher)
+    (hub, flusher, client)
 }
 
 fn ends<V: Device, J: Naming, A: Node, R: Wait>(rt: &R, flusher: Flusher<V, J, A>) -> Ended<V> {
@@ -147,7 +148,14 @@ fn on_hub<
     let second = Client::enters(rt, &hub, &board);
     let mut flusher = Flusher::new(rt.alloc(), journal, board, tie);
     match play {
-        Play::Alone(steps) | Play::Filled(steps) => Ok(alone(rt, hub, flusher, first, steps)),
+        Play::Alone(steps) | Play::Filled(steps) => {
+            let (_hub, flusher, _client) = played(rt, hub, flusher, first, steps);
+            Ok(ends(rt, flusher))
+        }
+        Play::Settled(steps) => {
+            let (hub, flusher, first) = played(rt, hub, flusher, first, steps);
+            Ok(settled(rt, hub, flusher, first, second))
+        }
         Play::Together(flags, duo) => {
             let both = together(rt, &hub, &mut flusher, first, second, flags, duo);
             let (first, second) = both;
@@ -172,7 +180,7 @@ fn begun<V: Device, R: Abort>(
 {
     let mut made = made;
     match play {
-        Play::Alone(_) | Play::InRing(_, _) => {}
+        Play::Alone(_) | Play::Settled(_) | Play::InRing(_, _) => {}
         Play::Filled(_) => fills(rt, &mut made),
         Play::Together(flags, _) => flags.armed.store(true, Ordering::SeqCst),
     }

@@ -12,6 +12,8 @@ mod held;
 #[cfg(test)]
 mod hubs;
 #[cfg(test)]
+mod letting_go;
+#[cfg(test)]
 mod ring;
 #[cfg(test)]
 mod rounds;

@@ -3,6 +3,7 @@ ghost use Rattle.std.specs.Prelude.{◌≡◌};
 
 use disk_model::{Device, DeviceFault};
 use ring_service::Gate;
+use std::io::ErrorKind;
 use std::sync::atomic::{AtomicBool, Ordering};
 use std::time::{Clock, Duration};
 
@@ -83,6 +84,10 @@ impl<R: Clock, D: Device> Device for SlowDevice<'_, R, D> {
 
     fn failures(&self) -> u64 {
         self.inner.failures()
+    }
+
+    fn cause(&self) -> Option<ErrorKind> {
+        self.inner.cause()
     }
 
     fn read_at(&mut self, off: u64, buf: &mut [u8]) -> Result<(), DeviceFault> {

@@ -18,7 +18,7 @@ use test_rows::{Ask, Note};
 pub enum Step {
     /// The request gets a ticket.
     Submits(Ask),
-    /// The oldest ticket that is open is redeemed.
+    /// The oldest ticket that is open is redeemed, and the client keeps the stub.
     Redeems,
     /// The messages of these numbers are taken, from the first up to the second, and dropped.
     Takes(u64, u64),
@@ -51,6 +51,8 @@ pub enum Step {
     Used(u64),
     /// Whether a checkpoint is due.
     IsDue(bool),
+    /// The hub lets go of the inputs that the area in use stands for.
+    LetsGo,
 }
 
 /// A hub, its flusher, a client, the tickets that are open, oldest first, and what the gate was told.
@@ -100,7 +102,8 @@ impl<V: Device, J: Naming, A: Node> Station<V, J, A> {
             }
             Step::Redeems => {
                 let ticket = oldest(rt, &mut self.tickets);
-                assert!(rt; released(rt, &self.hub, ticket).is_ok());
+                let stub = released(rt, &self.hub, ticket).expect(rt, "a reply");
+                self.client.last = Some(stub);
             }
             Step::Takes(first, end) => self.takes(rt, first, end),
             Step::TakesLeaders => self.takes_leaders(rt),
@@ -128,6 +131,7 @@ impl<V: Device, J: Naming, A: Node> Station<V, J, A> {
             Step::Epoch(epoch) => assert!(rt; self.flusher.epoch() == epoch),
             Step::Used(bytes) => assert!(rt; self.hub.look(rt).used == bytes),
             Step::IsDue(is_due) => assert!(rt; self.hub.look(rt).is_due == is_due),
+            Step::LetsGo => self.flusher.let_go(rt, &self.hub),
         }
     }
 

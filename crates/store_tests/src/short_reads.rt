@@ -2,6 +2,7 @@
 ghost use Rattle.std.specs.Prelude.{◌+◌, ◌-◌, ◌^◌, min, false};
 
 use disk_model::{Device, DeviceFault};
+use std::io::ErrorKind;
 
 /// How many bytes it reads at once, at most.
 pub const MOST: usize = 4096;
@@ -36,6 +37,10 @@ impl<D: Device> Device for ShortReads<D> {
 
     fn failures(&self) -> u64 {
         self.inner.failures().saturating_add(self.faults)
+    }
+
+    fn cause(&self) -> Option<ErrorKind> {
+        self.inner.cause()
     }
 
     fn read_at(&mut self, off: u64, buf: &mut [u8]) -> Result<(), DeviceFault> {

@@ -32,14 +32,14 @@ impl Desk {
         ensures bound { result < 2 ^ 64 - 1 }
         ensures lawful { (past : List Input) → IsPast self.now.view.member self.now.opening past → IsLawfulState self.now.view.member (seen past self.now).state }
     {
-        self.base.inputs + self.inputs.len() as u64
+        self.base.inputs + self.inputs.count
     }
 
     /// Whether some of its inputs are not durable yet.
     pub fn waits(&self) -> bool
         ensures { result ≡ nat_lt self.now.view.state.durable (length self.now.view.state.inputs) }
     {
-        self.durable < self.inputs.len() as u64
+        self.durable < self.inputs.count
     }
 
     /// The layout of the area of the journal that is in use, which its next checkpoint makes the newest.

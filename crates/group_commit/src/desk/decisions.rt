@@ -19,13 +19,13 @@ use std::alloc::{AllocError, Global};
 
 impl Desk {
     /// What a board is made of: a notice for each key with a leader in the durable inputs, in order of key, and then one for
-    /// each floor, in order of group. Where inputs wait it takes the durable ones since its opening again, k of them in
-    /// k log k steps.
+    /// each floor, in order of group. Where inputs wait it takes the durable ones again that it has not let go of, k of them
+    /// in k log k steps.
     pub fn decisions(&self) -> Result<Vec<Notice>, AllocError>
         ensures { IfOk result (λ told. (past : List Input) → IsPast self.now.view.member self.now.opening past
             → IsContent self.now.view.member.node (durable_in (seen past self.now).state) told.items) }
     {
-        let alloc = *self.inputs.allocator();
+        let alloc = self.inputs.allocator();
         let known = self.durable_summary(alloc)?;
         let mut notices = leaders_of(alloc, known.keys.as_slice())?;
         push_floors(&mut notices, known.floors.as_slice())?;
@@ -36,11 +36,11 @@ impl Desk {
     fn durable_summary(&self, alloc: Global) -> Result<Summary, AllocError>
         ensures { IfOk result (λ known. known ≡ after self.now.view.member.node self.now.opening (durable_in self.now.view.state)) }
     {
-        if self.durable == self.inputs.len() as u64 {
+        if self.durable == self.inputs.count {
             return self.core.summary(alloc);
         }
-        let durable = &self.inputs[..self.durable as usize];
-        let core = core_of(alloc, self.node, self.n, &self.base, durable)?;
+        let durable = self.inputs.between(self.inputs.gone, self.durable);
+        let core = core_of(alloc, self.node, self.n, self.start(), durable)?;
         core.summary(alloc)
     }
 }

@@ -39,15 +39,16 @@ impl Desk {
         if let Some(refusal) = self.launch_objection() {
             return Err(refusal);
         }
-        let start = self.durable as usize;
-        let end = self.inputs.len().min(start + BATCH_INPUTS);
+        let start = self.durable;
+        let end = self.inputs.count.min(start + BATCH_INPUTS as u64);
         if start == end {
             return Ok(None);
         }
         let first = self.durable();
-        match prepare(&mut self.outbox, self.node, first, &self.inputs[start..end]) {
+        let inputs = self.inputs.between(start, end);
+        match prepare(&mut self.outbox, self.node, first, inputs) {
             Ok(batch) => {
-                self.flying = end as u64;
+                self.flying = end;
                 Ok(Some(batch))
             }
             Err(refusal) => Err(refusal),
@@ -76,20 +77,26 @@ impl Desk {
         if let Some(refusal) = self.checkpoint_objection() {
             return Err(refusal);
         }
-        let start = self.durable as usize;
         let first = self.durable();
+        let epoch = self.epoch + 1;
         let length = self.core.summary_len();
+        let Ok(known) = self.core.summary(self.inputs.allocator()) else {
+            return Err(Refusal::OutOfMemory);
+        };
+        let count = self.inputs.count;
+        let inputs = self.inputs.between(self.durable, count);
         match summarise(
             &mut self.core,
             &mut self.outbox,
             self.node,
             first,
-            self.epoch + 1,
-            &self.inputs[start..],
+            epoch,
+            inputs,
         ) {
             Ok(checkpoint) => {
-                self.flying = self.inputs.len() as u64;
+                self.flying = count;
                 self.pending = Some(length);
+                self.inputs.stand_for(known);
                 Ok(checkpoint)
             }
             Err(refusal) => Err(refusal),
@@ -140,9 +147,8 @@ impl Desk {
         }
         let is_checkpoint = receipt.is_checkpoint();
         let _ = receipt.into_parts();
-        let start = self.durable as usize;
-        let end = self.flying as usize;
-        let mut landed = self.outbox.land(&self.inputs[start..end]);
+        let flown = self.inputs.between(self.durable, self.flying);
+        let mut landed = self.outbox.land(flown);
         landed.is_checkpoint = is_checkpoint;
         self.durable = self.flying;
         if let Some(length) = self.pending {
@@ -181,7 +187,7 @@ impl Desk {
         let first = flown.first();
         let inputs = flown.inputs();
         let snapshot = flown.snapshot();
-        let flying = &self.inputs[self.durable as usize..self.flying as usize];
+        let flying = self.inputs.between(self.durable, self.flying);
         is_same(&snapshot, &self.pending)
             && node == self.node
             && first == self.durable()

@@ -28,13 +28,15 @@ impl Desk {
     }
 
     /// The messages that its inputs sent to the successor, durable or not, oldest first: all but those that were credited
-    /// when it was opened. It takes all its inputs since once more. The error is that of the allocator.
+    /// when it was opened. It takes all its inputs since once more, of which none may be gone. The error is that of the
+    /// allocator.
     pub fn messages(&self) -> Result<Vec<Msg>, AllocError>
+        requires whole { self.now.gone ≡ 0 }
         ensures { IfOk result (λ messages. (past : List Input) → IsPast self.now.view.member self.now.opening past
             → messages.items ≡ drop self.now.opening.credit (sent self.now.view.member.node (past ++ self.now.view.state.inputs))) }
     {
-        let alloc = *self.inputs.allocator();
-        messages_of(alloc, self.node, self.n, &self.base, &self.inputs)
+        let alloc = self.inputs.allocator();
+        messages_of(alloc, self.node, self.n, &self.base, self.inputs.whole())
     }
 }
 

@@ -8,9 +8,11 @@ ghost use Rattle.ring_records.specs.Known.{after, stepped};
 ghost use Rattle.ring_records.specs.Snapshot.{IsSound, snapshot_len};
 ghost use Rattle.gated_journal.specs.Batch.{shown as batch_shown, numbered, numbered_with, numbered_by, base_by};
 ghost use Rattle.node_core.specs.Core.{IsNodeOf, Refuses, taking};
+ghost use Rattle.group_commit.specs.Inputs.{KeepsMarks};
 ghost use Rattle.group_commit.specs.Opening.{core_after, IsKnownLawful, IsUnlawful};
 ghost use Rattle.group_commit.specs.Outbox.{Holds};
 
+use crate::inputs::Inputs;
 use crate::outbox::Outbox;
 use gated_journal::{Batch, Checkpoint};
 use node_core::NodeCore;
@@ -47,16 +49,18 @@ pub(super) fn replay(
 // Accepts an input that the core admits, if there is one. An `Err` changes nothing.
 pub(super) fn accept(
     core: &mut NodeCore,
-    inputs: &mut Vec<Input>,
+    inputs: &mut Inputs,
     outbox: &mut Outbox,
     input: &Option<Input>,
 ) -> Result<(), AllocError>
-    requires { IfSome input.now (λ x. Refuses core.old x None) }
-    ensures inputs { OnOk result (inputs.new.items ≡ inputs.old.items ++ cons_option input.now []) }
+    requires free { IfSome input.now (λ x. Refuses core.old x None) }
+    requires counted { length inputs.old.all.list ≤ core.old.known.inputs }
+    ensures inputs { OnOk result (inputs.new.all.list ≡ inputs.old.all.list ++ cons_option input.now []) }
+    ensures marks { KeepsMarks inputs.old inputs.new }
     ensures knows { OnOk result (core.new ≡ core_after core.old (cons_option input.now [])) }
     ensures holds { OnOk result ((s : Summary) (l : List Input) (flying : ℕ) → core.old.known ≡ after core.old.me s l → Holds core.old.me outbox.old s l flying
         → Holds core.old.me outbox.new s (l ++ cons_option input.now []) flying) }
-    ensures err { OnErr result ((inputs.new.items ≡ inputs.old.items) × (core.new ≡ core.old)) }
+    ensures err { OnErr result ((inputs.new.all.list ≡ inputs.old.all.list) × (core.new ≡ core.old)) }
     ensures same { OnErr result ((me flying : ℕ) (s : Summary) (l : List Input) → Holds me outbox.old s l flying → Holds me outbox.new s l flying) }
 {
     match input {
@@ -67,21 +71,24 @@ pub(super) fn accept(
 
 fn accept_one(
     core: &mut NodeCore,
-    inputs: &mut Vec<Input>,
+    inputs: &mut Inputs,
     outbox: &mut Outbox,
     input: &Input,
 ) -> Result<(), AllocError>
-    requires { Refuses core.old input.now None }
-    ensures inputs { OnOk result (inputs.new.items ≡ inputs.old.items ++ input.now ∷ []) }
+    requires free { Refuses core.old input.now None }
+    requires counted { length inputs.old.all.list ≤ core.old.known.inputs }
+    ensures inputs { OnOk result (inputs.new.all.list ≡ inputs.old.all.list ++ input.now ∷ []) }
+    ensures marks { KeepsMarks inputs.old inputs.new }
     ensures steps { OnOk result (core.new ≡ record core.old { known = stepped core.old.me core.old.known input.now; room = taking input.now core.old.room }) }
     ensures holds { OnOk result ((s : Summary) (l : List Input) (flying : ℕ) → core.old.known ≡ after core.old.me s l → Holds core.old.me outbox.old s l flying
         → Holds core.old.me outbox.new s (l ++ input.now ∷ []) flying) }
-    ensures err { OnErr result ((inputs.new.items ≡ inputs.old.items) × (core.new ≡ core.old)) }
+    ensures err { OnErr result ((inputs.new.all.list ≡ inputs.old.all.list) × (core.new ≡ core.old)) }
     ensures same { OnErr result ((me flying : ℕ) (s : Summary) (l : List Input) → Holds me outbox.old s l flying → Holds me outbox.new s l flying) }
 {
-    inputs.reserve(1)?;
+    inputs.reserve()?;
     outbox.accept(core, input)?;
-    inputs.extend_from_slice(&[*input])
+    inputs.push(input);
+    Ok(())
 }
 
 // These inputs, of which the first has this number, as a batch, and the memory for what they bring, so that they may fly.

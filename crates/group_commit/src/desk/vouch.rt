@@ -1,5 +1,5 @@
 //! Whether a desk's history gives a reply that was released.
-ghost use Rattle.std.specs.Prelude.{◌≡◌, ◌≤◌, Decides, List, length, true, false, Option, None, MatchOption, IfOk, IfErr, OnOk};
+ghost use Rattle.std.specs.Prelude.{◌≡◌, ◌+◌, ◌≤◌, Decides, List, length, true, false, Option, None, MatchOption, IfOk, IfErr, OnOk};
 ghost use Rattle.ring_records.specs.declared.input.Input.{Input};
 ghost use Rattle.ring_records.specs.declared.summary.Summary.{Summary};
 ghost use Rattle.ring_records.specs.Known.{Objects, after};
@@ -20,27 +20,28 @@ impl Desk {
     ghost use Rattle.group_commit.specs.Vouch.{IsVouched};
 
     /// Whether its history gives the stub's reply to the stub's request at the stub's number k, and k inputs are
-    /// durable. Where the summary of its opening stands for more than k inputs, or for k and the reply accepts an input, it
-    /// does not know. Refused as 8. No other call looks back: this one takes the inputs since its opening up to input k
-    /// again, in k log k steps.
+    /// durable. Where the summary of its opening, with the inputs that it let go of, is of more than k inputs, or of k and
+    /// the reply accepts an input, it does not know. Refused as 8. No other call looks back: this one takes the inputs
+    /// that it kept up to input k again, in k log k steps.
     pub fn vouch(&self, stub: &Stub) -> Result<bool, Refusal>
         ensures yes { IfOk result (λ b. b ≡ true → (past : List Input) → IsPast self.now.view.member self.now.opening past
-            → IsVouched self.now.view.member self.now.opening.inputs (seen past self.now).state stub.now) }
+            → IsVouched self.now.view.member (self.now.opening.inputs + self.now.gone) (seen past self.now).state stub.now) }
         ensures no { IfOk result (λ b. b ≡ false → (past : List Input) → IsPast self.now.view.member self.now.opening past
-            → IsVouched self.now.view.member self.now.opening.inputs (seen past self.now).state stub.now → ⊥) }
+            → IsVouched self.now.view.member (self.now.opening.inputs + self.now.gone) (seen past self.now).state stub.now → ⊥) }
         ensures refusal { IfErr result (λ e. e ≡ Refusal.OutOfMemory) }
     {
-        let first = self.base.inputs;
-        if stub.number < first || stub.number - first > self.durable {
+        let opened = self.base.inputs;
+        let gone = self.inputs.gone;
+        if stub.number < opened + gone || stub.number - opened > self.durable {
             return Ok(false);
         }
-        let since = stub.number - first;
+        let since = stub.number - opened;
         if let Some(input) = accepted(&stub.question, &stub.reply) {
-            return Ok(is_input(&self.inputs, since, &input));
+            return Ok(is_input(&self.inputs.kept, since - gone, &input));
         }
-        let alloc = *self.inputs.allocator();
-        let before = &self.inputs[..since as usize];
-        match core_of(alloc, self.node, self.n, &self.base, before) {
+        let alloc = self.inputs.allocator();
+        let before = self.inputs.between(gone, since);
+        match core_of(alloc, self.node, self.n, self.start(), before) {
             Ok(core) => Ok(is_given(&reply_of(&core, &stub.question), &stub.reply)),
             Err(_) => Err(Refusal::OutOfMemory),
         }

@@ -13,11 +13,11 @@ same a b = search rules
 
 -- whether the inputs are those that fly
 told : (c : goal.After-eq-then-first-durable)
-    → Decides c.eq-then-first-durable.result (c.args.flown.now.inputs.items ≡ take (c.self.inside.flying - c.self.inside.durable) (drop c.self.inside.durable c.self.inside.inputs.items))
+    → Decides c.eq-then-first-durable.result (c.args.flown.now.inputs.items ≡ take (c.self.inside.flying - c.self.inside.durable) (drop c.self.inside.durable c.self.inside.inputs.all.list))
 told c =
     let d = c.self.inside in
     slice_eq-Decides same _ _ _ (c.eq-then-first-durable.ensures
-    ∙ λ i. pointwise (derived.TheImpl.eq-value).it (c.inputs-inputs.ensures.value i) (take (d.flying - d.durable) (drop d.durable (c.deref.ensures.value i))))
+    ∙ λ i. pointwise (derived.TheImpl.eq-value).it (c.inputs-inputs.ensures.value i) (c.between-flying.ensures i))
 
 pub returns-then-first-durable-clause-yes : goal.returns-then-first-durable-clause-yes
 returns-then-first-durable-clause-yes c = λ e. subst (λ (v : DeskKept). IsFlying v (kept_in c.args.flown.now)) c.self.view_is (record { node = search rules; first = search rules; inputs = (told c).0 e; snapshot = search rules })

@@ -13,11 +13,11 @@ use Rattle.group_commit.proofs.desk.Desk.messages.Goals as goal
 pub messages_of-requires-clause-free : goal.messages_of-requires-clause-free
 messages_of-requires-clause-free c =
     let d = c.self.inside in
-    subst (AreFree d.node d.n d.base) (sym c.deref.ensures.value) (free_since (member_in d) d.base (launched_base (state_in d)) d.inputs.items c.self.invariant.state.all)
+    subst (AreFree d.node d.n d.base) (sym c.whole.ensures) (free_since (member_in d) d.base (launched_base (state_in d)) d.inputs.all.list c.self.invariant.state.all)
 
 pub returns : goal.returns
 returns c =
     let d = c.self.inside in
     IfOk-weaker c.messages_of.result _ _ (λ messages told.
     subst (λ (v : DeskKept). (past : List Input) → IsPast v.view.member v.opening past → messages.items ≡ drop v.opening.credit (sent v.view.member.node (past ++ v.view.state.inputs)))
-    c.self.view_is (λ past is. told d.capacity past is ∙ ap (λ (h : List Input). drop d.base.credit (sent d.node (past ++ h))) c.deref.ensures.value)) c.messages_of.ensures
+    c.self.view_is (λ past is. told d.capacity past is ∙ ap (λ (h : List Input). drop d.base.credit (sent d.node (past ++ h))) c.whole.ensures)) c.messages_of.ensures

@@ -1,4 +1,4 @@
-use Rattle.std.proofs.Common.{rules, ◌≡◌, ◌⊎◌, List, [], true, false, length, refl, sym, subst, ◌∙◌, arith}
+use Rattle.std.proofs.Common.{rules, ◌≡◌, ◌⊎◌, None, List, [], true, false, length, refl, sym, subst, ◌∙◌, arith}
 use Rattle.std.specs.Prelude.{is_ok}
 use Rattle.ring_records.specs.declared.base.Base.{Base}
 use Rattle.ring_records.specs.declared.input.Input.{Input}
@@ -8,9 +8,10 @@ use Rattle.ring_records.specs.Member.{member}
 use Rattle.node_core.specs.Core.{CoreView}
 use Rattle.gated_journal.specs.Reading.{reading_of_opening}
 use Rattle.group_commit.specs.Desk.{core_of, first_base}
-use Rattle.group_commit.specs.Kept.{AreAnswers}
+use Rattle.group_commit.specs.Kept.{AreAnswers, IsDesk, state_with}
 use Rattle.group_commit.specs.Opening.{opened_core, core_after, IsKnownLawful, IsUnlawful}
 use Rattle.group_commit.specs.Outbox.{Holds}
+use Rattle.group_commit.proofs.KeptInputs.{kept_none}
 use Rattle.group_commit.proofs.Landing.{whole_holds}
 use Rattle.group_commit.proofs.Numbers.{below_none}
 use Rattle.group_commit.proofs.Opening.{on_ok}
@@ -51,12 +52,13 @@ invariant_of-result c =
     let count : c.len-count.result ≡ length l = search rules in
     let holds = subst (λ (p : CoreView × List Input). Holds p.0.me c.replay.new.outbox (after p.0.me p.0.known p.1) [] 0)
     (λ i. (first i, c.deref.ensures.value i)) (on_ok c.replay.result replayed c.replay.ensures.holds) in
-    record {
+    subst (λ g. IsDesk c.replay.new.core c.replay.new.outbox c.new.result m o.base (state_with area g c.len-count.result c.len-count.result None) c.new-2.result.entries 0) (sym c.new.ensures.all) (record {
       sound = c.requires;
       knows = core_opened m o.base area l c.len-count.result c.len-count.result c.replay.new.core refl (on_ok c.replay.result replayed c.replay.ensures.knows ∙ (λ i. core_after (began i) (c.deref.ensures.value i)));
       state = known_opened m o.base area l c.len-count.result c.len-count.result refl c.summary_len-taken.ensures.value (omega arith) (omega (arith, count))
           (subst (λ (p : CoreView × List Input). IsKnownLawful p.0 p.1) (λ i. (began i, c.deref.ensures.value i)) (on_ok c.replay.result replayed c.replay.ensures.lawful));
       holds = whole_holds m.node c.len-count.result c.replay.new.outbox o.base l count holds;
+      kept = kept_none m o.base area l c.len-count.result c.len-count.result c.new.result refl c.new.ensures.gone c.new.ensures.known c.new.ensures.mark;
       given = search (rules, below_none);
-      answers = subst (AreAnswers m o.base) (sym c.new.ensures.empty) (answers_none m o.base);
-    }
+      answers = subst (AreAnswers m o.base) (sym c.new-2.ensures.empty) (answers_none m o.base);
+    })

@@ -1,4 +1,4 @@
-use Rattle.std.proofs.Common.{rules, ◌≡◌, ◌∙◌, ◌+◌, ◌-◌, ◌≤◌, ◌∷◌, ◌++◌, ℕ, List, [], refl, sym, ap, subst, length, take, drop, nat_eq, true, is_ok, is_err, None, arith}
+use Rattle.std.proofs.Common.{rules, append-nil, ◌≡◌, ◌∙◌, ◌+◌, ◌-◌, ◌≤◌, ◌∷◌, ◌++◌, ℕ, List, [], refl, sym, ap, subst, length, take, drop, nat_eq, true, is_ok, is_err, None, arith}
 use Rattle.std.specs.List.{cons_option}
 use Rattle.std.specs.Map.{lookup, remove_entry}
 use Rattle.ring_records.specs.declared.input.Input.{Input}
@@ -8,12 +8,14 @@ use Rattle.ring_records.specs.States.{NodeState, launched_base, gained_by}
 use Rattle.node_core.specs.Core.{Refuses}
 use Rattle.group_commit.specs.Desk.{DeskKept, IsSubmitted, answered, seen}
 use Rattle.group_commit.specs.declared.desk.Desk.TheInside.{Inside}
+use Rattle.group_commit.specs.Inputs.{IsKept}
 use Rattle.group_commit.specs.Kept.{AreBelow, AreAnswers, HoldsFor, state_with}
 use Rattle.group_commit.specs.Outbox.{Holds}
 use Rattle.group_commit.specs.Past.{IsPast, shifted}
 use Rattle.group_commit.specs.Since.{IsKnownState, core_in}
 use Rattle.group_commit.specs.Ticket.{answered_with, ticket_with}
 use Rattle.group_commit.proofs.Inside.{member_in, area_in, state_in}
+use Rattle.group_commit.proofs.KeptInputs.{counted, kept_more}
 use Rattle.group_commit.proofs.Landing.{waits_more}
 use Rattle.group_commit.proofs.Numbers.{undone, found_last, below_next, few_issued}
 use Rattle.group_commit.proofs.Opening.{on_ok, on_err, if_some}
@@ -29,6 +31,7 @@ abbrev shown_by : Inside → List Input → List (ℕ × Answered) → DeskKept
 shown_by d inputs tickets = record {
   opening = d.base;
   view = record { member = member_in d; run = d.run; state = state_with (area_in d) inputs d.durable d.flying d.pending; tickets = tickets; issued = d.issued; closed = d.is_closed; failed = d.is_failed };
+  gone = d.inputs.gone;
 }
 
 -- its state with these inputs
@@ -58,6 +61,9 @@ invariant_of-self-then-is_err-2 c =
       knows = same.1 ∙ (i.knows ∙ ap (λ l. core_in m d.base (state_for d l)) (sym same.0));
       state = subst (λ l. IsKnownState m d.base (state_for d l)) (sym same.0) i.state;
       holds = subst (λ (l : List Input). HoldsFor d.node c.accept.new.outbox d.base (take d.durable l) (drop d.durable l) (d.flying - d.durable)) (sym same.0) (on_err c.accept.result failed c.accept.ensures.same d.node _ _ _ i.holds);
+      kept = (
+          let all = subst (λ l. IsKept m d.base (state_for d l) c.accept.new.inputs) (append-nil d.inputs.all.list) (kept_more m d.base (state_in d) [] d.inputs c.accept.new.inputs i.state c.accept.ensures.marks i.kept) in
+          subst (λ l. IsKept m d.base (state_for d l) c.accept.new.inputs) (sym same.0) all);
       given = subst (λ (ts : List (ℕ × Answered)). AreBelow c.self.inside.issued ts) tickets i.given;
       answers = subst (λ (ts : List (ℕ × Answered)). AreAnswers m d.base ts) tickets i.answers;
     }
@@ -67,13 +73,12 @@ returns-then-is_err-2-clause-same c =
     let failed : is_err c.accept.result ≡ true = search rules in
     let items = (on_err c.accept.result failed c.accept.ensures.err).0 in
     let same = same_tickets (goal.at.returns-then-is_err-2-clause-same c).After-take_back in
-    (λ i. shown_by c.self.inside (items i) (same i)) ∙ c.self.view_is
+    let gone = c.accept.ensures.marks.gone in
+    (λ i. record (shown_by c.self.inside (items i) (same i)) { gone = gone i }) ∙ c.self.view_is
 
 -- the number of the inputs that the answer rests on
-number_is : (c : After-accept) → c.self.inside.base.inputs + c.count_with.result ≡ c.self.inside.base.inputs + length (c.self.inside.inputs.items ++ cons_option c.judge.result.1 [])
-number_is c =
-    let same : c.deref.result.now ≡ c.self.inside.inputs.items = search rules in
-    ap (λ n. c.self.inside.base.inputs + n) (c.count_with.ensures ∙ ap (λ (l : List Input). length (l ++ cons_option c.judge.result.1 [])) same)
+number_is : (c : After-accept) → c.self.inside.base.inputs + c.count_with.result ≡ c.self.inside.base.inputs + length (c.self.inside.inputs.all.list ++ cons_option c.judge.result.1 [])
+number_is c = ap (λ n. c.self.inside.base.inputs + n) c.count_with.ensures
 
 -- what is kept for the ticket
 abbrev kept_by : After-accept → Answered
@@ -81,8 +86,8 @@ kept_by c = answered_with c.args.question c.judge.result.0 (c.self.inside.base.i
 
 -- it is what a node with this past answers, and what is accepted is what its history gains
 answers_past : (c : After-accept) (past : List Input) → IsPast (member_in c.self.inside) c.self.inside.base past
-    → (kept_by c ≡ answered (seen past (shown_by c.self.inside c.self.inside.inputs.items c.self.inside.tickets.entries)) c.args.question)
-    × (cons_option c.judge.result.1 [] ≡ gained_by (member_in c.self.inside) (seen past (shown_by c.self.inside c.self.inside.inputs.items c.self.inside.tickets.entries)).state c.args.question)
+    → (kept_by c ≡ answered (seen past (shown_by c.self.inside c.self.inside.inputs.all.list c.self.inside.tickets.entries)) c.args.question)
+    × (cons_option c.judge.result.1 [] ≡ gained_by (member_in c.self.inside) (seen past (shown_by c.self.inside c.self.inside.inputs.all.list c.self.inside.tickets.entries)).state c.args.question)
 answers_past c past is =
     let d = c.self.inside in
     let i = c.self.invariant in
@@ -96,18 +101,18 @@ tickets_are c =
 
 -- the outbox holds what it held, and what is accepted waits
 holds_more : (c : After-accept) → is_ok c.accept.result ≡ true
-    → HoldsFor c.self.inside.node c.accept.new.outbox c.self.inside.base (take c.self.inside.durable c.accept.new.inputs.items) (drop c.self.inside.durable c.accept.new.inputs.items) (c.self.inside.flying - c.self.inside.durable)
+    → HoldsFor c.self.inside.node c.accept.new.outbox c.self.inside.base (take c.self.inside.durable c.accept.new.inputs.all.list) (drop c.self.inside.durable c.accept.new.inputs.all.list) (c.self.inside.flying - c.self.inside.durable)
 holds_more c accepted =
     let d = c.self.inside in
     let i = c.self.invariant in
     let me : d.core.me ≡ d.node = λ k. (i.knows k).me in
-    let s = after d.node d.base (take d.durable d.inputs.items) in
-    let waits = drop d.durable d.inputs.items in
+    let s = after d.node d.base (take d.durable d.inputs.all.list) in
+    let waits = drop d.durable d.inputs.all.list in
     let more = cons_option c.judge.result.1 [] in
-    let within : d.durable ≤ length d.inputs.items = (let a = i.state.counts.durable in let b = i.state.counts.flying in omega arith) in
+    let within : d.durable ≤ length d.inputs.all.list = (let a = i.state.counts.durable in let b = i.state.counts.flying in omega arith) in
     let holds = on_ok c.accept.result accepted c.accept.ensures.holds s waits (d.flying - d.durable) (subst (λ n. d.core.known ≡ after n s waits) (sym me) (knows_front (member_in d) d.base (state_in d) d.core d.durable i.knows)) in
     subst (λ (l : List Input). HoldsFor d.node c.accept.new.outbox d.base (take d.durable l) (drop d.durable l) (d.flying - d.durable)) (sym (on_ok c.accept.result accepted c.accept.ensures.inputs))
-    (waits_more d.node (d.flying - d.durable) c.accept.new.outbox d.base d.inputs.items more d.durable within
+    (waits_more d.node (d.flying - d.durable) c.accept.new.outbox d.base d.inputs.all.list more d.durable within
     (subst (λ n. Holds n d.outbox s waits (d.flying - d.durable) → Holds n c.accept.new.outbox s (waits ++ more) (d.flying - d.durable)) me holds i.holds))
 
 pub invariant_of-self-2 : goal.invariant_of-self-2
@@ -121,13 +126,14 @@ invariant_of-self-2 c =
     let inputs = on_ok c.accept.result accepted c.accept.ensures.inputs in
     let answers_now : IsAnswerOf m d.base (kept_by a) = λ past is.
     let lawful = lawful_known m d.base past (state_in d) is i.state in
-    record { base = launched_base (shifted past (state_in d)); since = d.inputs.items; based = lawful.next; lawful = lawful.all; gives = (answers_past a past is).0 } in
+    record { base = launched_base (shifted past (state_in d)); since = d.inputs.all.list; based = lawful.next; lawful = lawful.all; gives = (answers_past a past is).0 } in
     record {
       sound = i.sound;
       knows = core_more m d.base (state_in d) d.core c.accept.new.core more i.state i.knows (on_ok c.accept.result accepted c.accept.ensures.knows) ∙ ap (λ l. core_in m d.base (state_for d l)) (sym inputs);
       state = subst (λ l. IsKnownState m d.base (state_for d l)) (sym inputs)
           (known_more m d.base (state_in d) d.core c.judge.result.1 i.knows (if_some (λ (x : Input). Refuses d.core x None) c.judge.result.1 c.judge.ensures.free) i.state);
       holds = holds_more a accepted;
+      kept = subst (λ l. IsKept m d.base (state_for d l) c.accept.new.inputs) (sym inputs) (kept_more m d.base (state_in d) more d.inputs c.accept.new.inputs i.state c.accept.ensures.marks i.kept);
       given = subst (λ (ts : List (ℕ × Answered)). AreBelow (c.self.inside.issued + 1) ts) (sym (tickets_are a)) (below_next _ _ _ i.given);
       answers = subst (λ (ts : List (ℕ × Answered)). AreAnswers m d.base ts) (sym (tickets_are a)) (answers_next m d.base d.issued _ d.tickets.entries i.answers answers_now);
     }
@@ -147,13 +153,16 @@ returns-clause-submitted c =
     let inputs = on_ok c.accept.result accepted c.accept.ensures.inputs in
     let given = kept_by a in
     let more = c.judge.result.1 in
-    subst (λ (v : DeskKept). IsSubmitted c.args.question v (next_by d c.accept.new.inputs.items c.keep.new.tickets.entries) (ticket_with d.node d.run d.issued given)) c.self.view_is (record {
+    subst (λ (v : DeskKept). IsSubmitted c.args.question v (record (next_by d c.accept.new.inputs.all.list c.keep.new.tickets.entries) { gone = c.accept.new.inputs.gone }) (ticket_with d.node d.run d.issued given)) c.self.view_is (record {
       given = given;
       more = more;
       ticket_is = refl;
       question = refl;
       number = number_is a;
-      next = λ k. next_by d (inputs k) (tickets_are a k);
+      next = λ k. record (next_by d (inputs k) (tickets_are a k)) { gone = c.accept.ensures.marks.gone k };
       here = record { node = refl; run = refl; own = ap (λ (ts : List (ℕ × Answered)). lookup (nat_eq d.issued) ts) (tickets_are a) ∙ found_last d.issued _ d.tickets.entries c.self.invariant.given; question = refl };
       answer = answers_past a;
     })
+
+pub accept-requires-clause-counted : goal.accept-requires-clause-counted
+accept-requires-clause-counted c = counted (member_in c.self.inside) c.self.inside.base (state_in c.self.inside) c.self.inside.core c.self.invariant.knows

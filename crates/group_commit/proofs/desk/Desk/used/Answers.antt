@@ -12,7 +12,7 @@ use Rattle.group_commit.proofs.desk.Desk.used.Goals as goal
 use Rattle.group_commit.proofs.desk.Desk.used.Goals.{After-used}
 
 -- the bytes that its core counts
-counted : (c : After-used) → c.used.result ≡ used (launched_base (state_in c.self.inside)) c.self.inside.inputs.items
+counted : (c : After-used) → c.used.result ≡ used (launched_base (state_in c.self.inside)) c.self.inside.inputs.all.list
 counted c = c.used.ensures.value ∙ ap (λ (v : CoreView). v.room.taken) c.self.invariant.knows
 
 pub returns-clause-value : goal.returns-clause-value
@@ -23,4 +23,4 @@ returns-clause-known c =
     let d = c.self.inside in
     subst (λ (v : DeskKept). (past : List Input) → IsPast v.view.member v.opening past → c.used.result ≡ used (launched_base (seen past v).state) (seen past v).state.inputs) c.self.view_is
     (λ past is. counted (goal.at.returns-clause-known c).After-used
-    ∙ (sym (used-moved (launched_base (state_in d)) past d.inputs.items) ∙ ap (λ (b : Base). used b (past ++ d.inputs.items)) (sym (launched-shifted past (state_in d)))))
+    ∙ (sym (used-moved (launched_base (state_in d)) past d.inputs.all.list) ∙ ap (λ (b : Base). used b (past ++ d.inputs.all.list)) (sym (launched-shifted past (state_in d)))))

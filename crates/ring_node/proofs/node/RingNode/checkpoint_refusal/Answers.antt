@@ -9,10 +9,10 @@ use Rattle.ring_node.proofs.node.RingNode.checkpoint_refusal.Goals as goal
 pub returns-clause-value : goal.returns-clause-value
 returns-clause-value c =
     c.checkpoint_objection.ensures ∙ (ap (λ (d : DeskKept). checkpoint_objection d) c.desk.ensures
-    ∙ (objection_is _ _ _ _ c.self.invariant.behind c.self.invariant.whole.served ∙ ap (λ (v : NodeView). checkpoint_refusal v.member (state_of v)) c.self.view_is))
+    ∙ (objection_is _ c.self.inside.node.desk _ _ c.self.invariant.behind c.self.invariant.whole.served ∙ ap (λ (v : NodeView). checkpoint_refusal v.member (state_of v)) c.self.view_is))
 
 pub returns-clause-memory : goal.returns-clause-memory
 returns-clause-memory c =
     let desk = seen c.self.inside.past.items c.self.inside.node.desk in
-    let is = c.checkpoint_objection.ensures ∙ (ap (λ (d : DeskKept). checkpoint_objection d) c.desk.ensures ∙ objection_is _ _ _ _ c.self.invariant.behind c.self.invariant.whole.served) in
+    let is = c.checkpoint_objection.ensures ∙ (ap (λ (d : DeskKept). checkpoint_objection d) c.desk.ensures ∙ objection_is _ c.self.inside.node.desk _ _ c.self.invariant.behind c.self.invariant.whole.served) in
     subst (λ (o : Option Refusal). IfSome o (λ why. why ≡ OutOfMemory → ⊥)) (sym is) (no_memory desk.member desk.state)

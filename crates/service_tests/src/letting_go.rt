@@ -1,0 +1,138 @@
+// A hub that lets go of its inputs behind a checkpoint, and goes on.
+use crate::hubs::{Play, ends_settled};
+use crate::rows::{empty_device, reopened, told};
+use crate::station::Step;
+use crate::station::Step::*;
+use crate::together::Settled;
+use disk_model::MemDevice;
+use gated_journal::Journal;
+use std::alloc::AllocGlobal;
+use std::process::Abort;
+use std::sync::Wait;
+use std::test::*;
+use std::thread::Threads;
+use std::time::Clock;
+use test_rows::{Ask, Note, Op};
+
+const RED: Ask = Ask::Take(0, Note::Elected("red", 5, 30, 2));
+
+const STAND_RED: Ask = Ask::Stand("red", 5, 10);
+
+const STAND_GREEN: Ask = Ask::Stand("green", 1, 3);
+
+/// What comes behind the checkpoint.
+const BEHIND: Op = Op::Stand("green", 1, 3);
+
+/// A Stand, a leader and 70 messages are durable by a checkpoint, and are let go of; before that there is nothing to let go
+/// of, nor is there at once behind it. A Stand follows in a batch, and the node tells what it knew before.
+const LETS_GO: &[Step] = &[
+    LetsGo,
+    Submits(STAND_RED),
+    Rounds(0, 1, 0),
+    LetsGo,
+    Redeems,
+    Submits(RED),
+    Takes(1, 71),
+    IsDue(true),
+    Rounds(1, 71, 1),
+    Epoch(2),
+    LetsGo,
+    LetsGo,
+    Redeems,
+    Submits(STAND_GREEN),
+    Rounds(72, 1, 0),
+    Redeems,
+    LetsGo,
+    Submits(Ask::Who("red", 5)),
+    Redeems,
+    Closes,
+    RoundsNot,
+];
+
+/// The same with nothing behind the checkpoint; the last stub rests on the first two inputs, which are gone.
+const FORGETS: &[Step] = &[
+    Submits(STAND_RED),
+    Submits(RED),
+    Takes(1, 71),
+    Rounds(0, 72, 1),
+    LetsGo,
+    Redeems,
+    Redeems,
+    Closes,
+    RoundsNot,
+];
+
+/// Two checkpoints, behind each of which the hub lets go, and then a Stand in a batch.
+const LETS_GO_TWICE: &[Step] = &[
+    Submits(STAND_RED),
+    Submits(RED),
+    Takes(1, 71),
+    Rounds(0, 72, 1),
+    LetsGo,
+    Redeems,
+    Redeems,
+    Takes(71, 145),
+    IsDue(true),
+    Rounds(72, 74, 0),
+    Epoch(3),
+    LetsGo,
+    Submits(STAND_GREEN),
+    Rounds(146, 1, 0),
+    Redeems,
+    Submits(Ask::Who("red", 5)),
+    Redeems,
+    Closes,
+    RoundsNot,
+];
+
+/// What the steps leave of a hub of capacity 4,096, and its journal.
+fn left<R: Threads + Wait + Clock + Abort + AllocGlobal + Sync>(
+    rt: &R,
+    steps: &'static [Step],
+) -> (Journal<MemDevice>, Settled) {
+    ends_settled(rt, empty_device(rt), Play::Settled(steps))
+}
+
+/// Whether the desk vouches for the last stub.
+fn is_vouched(rt: &impl Abort, settled: &Settled) -> bool {
+    match &settled.first {
+        Some(stub) => settled.desk.vouch(stub).expect(rt, "ample memory"),
+        None => panic!(rt; "no stub"),
+    }
+}
+
+/// From which input on the desk keeps them, how many it keeps, and how many are durable.
+fn counts(settled: &Settled) -> (u64, usize, u64) {
+    let desk = &settled.desk;
+    (desk.first_kept(), desk.history().len(), desk.durable())
+}
+
+#[test]
+fn a_node_goes_on_behind_what_it_let_go_of(rt: HostRuntime) -> Result<(), Fail> {
+    let (journal, settled) = left(&rt, LETS_GO);
+    assert_eq!(rt; counts(&settled), (72, 1, 73));
+    let behind = BEHIND.input().expect(&rt, "an input");
+    assert!(rt; settled.desk.history() == [behind].as_slice());
+    assert!(rt; is_vouched(&rt, &settled));
+    let made = reopened(&rt, journal.into_device());
+    assert_eq!(rt; told(&made), (2, 72, 73, 3));
+    Ok(())
+}
+
+#[test]
+fn a_node_lets_go_behind_each_checkpoint(rt: HostRuntime) -> Result<(), Fail> {
+    let (journal, settled) = left(&rt, LETS_GO_TWICE);
+    assert_eq!(rt; counts(&settled), (146, 1, 147));
+    assert!(rt; is_vouched(&rt, &settled));
+    let made = reopened(&rt, journal.into_device());
+    assert_eq!(rt; told(&made), (3, 146, 147, 3));
+    Ok(())
+}
+
+#[test]
+fn a_node_vouches_for_nothing_that_it_let_go_of(rt: HostRuntime) -> Result<(), Fail> {
+    let (_journal, settled) = left(&rt, FORGETS);
+    assert_eq!(rt; counts(&settled), (72, 0, 72));
+    assert!(rt; !is_vouched(&rt, &settled));
+    Ok(())
+}
