@@ -19,6 +19,7 @@ mod race;
 mod script_part;
 mod sessions_part;
 mod words;
+mod years_part;
 
 use fault::Fault;
 use part::{PARTS, Part};

@@ -2,7 +2,7 @@
 use crate::fault::Fault;
 use crate::{
     audit_part, board_part, core_part, device_part, hub_part, journal_part, node_part, script_part,
-    sessions_part,
+    sessions_part, years_part,
 };
 use std::env::Args;
 use std::sync::Wait;
@@ -29,10 +29,12 @@ pub enum Part {
     Audit,
     /// A script of random lines.
     Script,
+    /// Rings that elect and retire for long.
+    Years,
 }
 
 /// Each part with its word, and what it is told to do.
-pub const PARTS: [(Part, &str, &str); 9] = [
+pub const PARTS: [(Part, &str, &str); 10] = [
     (Part::Core, "core", "INPUTS | retire TERMS FLOOR"),
     (Part::Device, "device", "BYTES WRITES"),
     (
@@ -58,6 +60,7 @@ pub const PARTS: [(Part, &str, &str); 9] = [
     ),
     (Part::Audit, "audit", "ELECTIONS"),
     (Part::Script, "script", "SEED LINES"),
+    (Part::Years, "years", "ELECTIONS GROUPS"),
 ];
 
 impl Part {
@@ -88,6 +91,7 @@ impl Part {
             Part::Hub => hub_part::run(rt, threads, words),
             Part::Audit => audit_part::run(rt, words),
             Part::Script => script_part::run(rt, words),
+            Part::Years => years_part::run(rt, threads, words),
         }
     }
 }
