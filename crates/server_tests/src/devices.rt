@@ -190,6 +190,8 @@ fn port_of<R: AllocGlobal + Net<Listener = TcpListener, Stream = TcpStream>>(
         version: "0",
         dir: String::new(rt.alloc()),
         started: 0,
+        words: String::new(rt.alloc()),
+        idle: 0,
     };
     Some(StatusPort::new(listener, facts, reception, 0))
 }
@@ -233,6 +235,7 @@ pub fn serve_three<
         post,
         status: told,
         fail_stop: served.fail_stop,
+        dir: String::from_str(alloc, "ring").expect(rt, "memory"),
     };
     let status = serve_ring(rt, alloc, ring, &mut out, &mut err);
     let Seen { text, len: _ } = err;

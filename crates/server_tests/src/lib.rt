@@ -28,6 +28,8 @@ mod programs;
 #[cfg(test)]
 mod refusals;
 #[cfg(test)]
+mod requests;
+#[cfg(test)]
 mod sessions_ends;
 #[cfg(test)]
 mod starts;

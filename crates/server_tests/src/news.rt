@@ -16,7 +16,7 @@ use std::test::*;
 use std::thread::Threads;
 use std::time::Clock;
 
-const FAILED: &[u8] = b"ringd: node 2 failed\n";
+const FAILED: &[u8] = b"ringd: node 2 failed\nringd: ring/node-2.crj: other error\n";
 
 const FULL: &[u8] = b"ringd: node 1 full\n";
 

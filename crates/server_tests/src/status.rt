@@ -1,7 +1,7 @@
 // What an operator is told of a ring while it serves.
 use crate::clients::connect;
 use crate::devices::Served;
-use crate::http::Question::{AtLast as Told, NotWell, Status, Target, Whole};
+use crate::http::Question::{AtLast as Told, NotWell, Target, Whole};
 use crate::http::{has_status, is_told_at_last, is_whole};
 use crate::programs::{Ring, Scenario, runs};
 use crate::steps::Change::{Anew, Clears};
@@ -9,11 +9,12 @@ use crate::steps::Step::{Changes, Ends, EndsBesidePort};
 use crate::steps::{Step, plays, runs_anew};
 use crate::visits::Say::{AtLast, Line, Meanwhile};
 use crate::visits::{Say, Visit};
-use std::alloc::AllocGlobal;
+use ring_watch::Tally;
+use std::alloc::{AllocError, AllocGlobal};
 use std::io::{Read, Write};
 use std::net::{Net, TcpStream};
 use std::test::*;
-use std::time::{Clock, Instant};
+use std::time::{Clock, Duration, Instant};
 
 const WELL: &[u8] =
     b"HTTP/1.1 200 OK\r\nContent-Type: text/plain; charset=utf-8\r\nContent-Length: 5\r\nCache-Control: no-store\r\nConnection: close\r\n\r\nwell\n";
@@ -28,10 +29,7 @@ const OPEN: &[Say] = &[
     Line(b"stand RED 5 10\n", b"no 1 name"),
     AtLast(b"latest red\n", b"term 5 leader 1 10"),
     Line(b"retire red 6\n", b"no 26 undecided"),
-    Meanwhile(
-        7230,
-        Target("/status", b"{\"dir\":\"told\",\"nodes\":[{\"elections\":"),
-    ),
+    Meanwhile(7230, Target("/status", b",\"nodes\":[{\"elections\":")),
     // a checkpoint would write 42 bytes of counts, 18 of the key, where it stood and leads, and 28 of two messages
     Meanwhile(
         7230,
@@ -75,7 +73,24 @@ const OPEN: &[Say] = &[
             b"\"sessions\":{\"begun\":0,\"busy\":0,\"doors\":2,\"refusals\":[{\"count\":0,\"number\":3},{\"count\":0,\"number\":4},{\"count\":0,\"number\":5},{\"count\":0,\"number\":6},{\"count\":0,\"number\":7},{\"count\":0,\"number\":8},{\"count\":0,\"number\":9}]},\"stands\":{\"floors\":0,\"left\":1024,\"taken\":0},\"state\":\"well\"}],\"started\":",
         ),
     ),
-    Meanwhile(7230, Target("/status", b",\"version\":\"0.1.0\"}")),
+    Meanwhile(
+        7230,
+        Target(
+            "/status",
+            b",\"version\":\"0.1.0\",\"words\":\"--serve 1 --doors 2 --idle 86400 --status 7230\"}",
+        ),
+    ),
+    Meanwhile(
+        7230,
+        Target("/status", b"{\"dir\":\"told\",\"idle\":86400,\"nodes\":["),
+    ),
+    Meanwhile(
+        7230,
+        Target(
+            "/metrics",
+            b"# TYPE cinoweta_commit_seconds histogram\ncinoweta_commit_seconds_bucket{node=\"1\",le=\"0.0002\"} ",
+        ),
+    ),
     Meanwhile(
         7230,
         Target(
@@ -127,7 +142,9 @@ const OPEN: &[Say] = &[
 
 const TOLD: Scenario = Scenario {
     ring: Ring::Program(
-        &["ringd", "--serve", "1", "--doors", "2", "--status", "7230"],
+        &[
+            "ringd", "--serve", "1", "--doors", "2", "--idle", "86400", "--status", "7230",
+        ],
         b"nodes = 2\ndir = \"told\"\nport = 7231\n",
     ),
     visits: [
@@ -153,143 +170,37 @@ fn a_ring_is_told_of(rt: HostRuntime) {
     runs_anew(&rt, "told", &TOLD);
 }
 
-const NOT_FOUND: &[u8] = b"\r\n\r\n404 Not Found\n";
-
-const BAD_REQUEST: &[u8] = b"\r\n\r\n400 Bad Request\n";
-
-const ASKED: Scenario = Scenario {
-    ring: Ring::Program(
-        &[
-            "ringd",
-            "--serve",
-            "1",
-            "--status",
-            "7235",
-            "--watchers",
-            "0",
-        ],
-        b"nodes = 2\ndir = \"asked\"\nport = 7236\n",
-    ),
-    visits: [
-        &[
-            Visit::Operator(7235, Status(b"GET /x HTTP/1.1\r\n\r\n", b"404 ", NOT_FOUND)),
-            Visit::Operator(
-                7235,
-                Status(b"GET /leaders/red HTTP/1.1\r\n\r\n", b"404 ", NOT_FOUND),
-            ),
-            Visit::Operator(
-                7235,
-                Status(b"GET /leaders?node=3 HTTP/1.1\r\n\r\n", b"404 ", NOT_FOUND),
-            ),
-            Visit::Operator(
-                7235,
-                Status(
-                    b"GET /leaders?node=0 HTTP/1.1\r\n\r\n",
-                    b"400 ",
-                    BAD_REQUEST,
-                ),
-            ),
-            Visit::Operator(
-                7235,
-                Status(b"GET /leaders/RED HTTP/1.1\r\n\r\n", b"400 ", BAD_REQUEST),
-            ),
-            Visit::Operator(7235, Status(b"\x01\r\n\r\n", b"400 ", BAD_REQUEST)),
-            Visit::Operator(
-                7235,
-                Status(
-                    b"POST /health HTTP/1.1\r\n\r\n",
-                    b"405 Method Not Allowed\r\n",
-                    b"\r\n\r\n405 Method Not Allowed\n",
-                ),
-            ),
-            Visit::Operator(
-                7235,
-                Status(
-                    b"HEAD /x HTTP/1.1\r\n\r\n",
-                    b"404 ",
-                    b"\r\nConnection: close\r\n\r\n",
-                ),
-            ),
-            // what is refused behind an empty line is answered as it asks
-            Visit::Operator(
-                7235,
-                Status(
-                    b"\r\nHEAD /health HTTP/7\r\n\r\n",
-                    b"400 ",
-                    b"\r\nConnection: close\r\n\r\n",
-                ),
-            ),
-            // nobody may wait here
-            Visit::Operator(
-                7235,
-                Status(
-                    b"GET /leaders/red?above=0&wait=1 HTTP/1.1\r\n\r\n",
-                    b"503 ",
-                    b"\r\n\r\n503 Service Unavailable\n",
-                ),
-            ),
-            Visit::Operator(
-                7235,
-                Status(
-                    b"GET /leaders/red?above=0&wait=0 HTTP/1.1\r\n\r\n",
-                    b"204 No Content\r\n",
-                    b"\r\nConnection: close\r\n\r\n",
-                ),
-            ),
-            Visit::MeasuresHeads(7235),
-            Visit::Asks(7236, b"who blue 4\n", b"none"),
-            Visit::Asks(7237, b"who blue 4\n", b"none"),
-        ],
-        &[],
-        &[],
-    ],
-    status: 0,
-    out: b"",
-    err: Some(b""),
-};
-
-#[test]
-fn requests_that_are_refused(rt: HostRuntime) {
-    runs_anew(&rt, "asked", &ASKED);
+/// How many commits took no longer than ten seconds, how many there were, and how long they took, in microseconds.
+fn commits(rt: &HostRuntime, tally: &Tally) -> Result<(u64, u64, u64), AllocError> {
+    let commits = tally.commits(rt.alloc())?;
+    let within = match commits.within.last() {
+        Some(told) if told.bound.seconds() == "10" => told.count,
+        _ => 0,
+    };
+    Ok((within, commits.count, commits.micros))
 }
 
-/// Node 1 of two stands while an operator waits for the leader, by the board of node 2; behind that nobody follows in the
-/// time that is waited.
-const WATCHED: Scenario = Scenario {
-    ring: Ring::Program(
-        &["ringd", "--serve", "1", "--status", "7265"],
-        b"nodes = 2\ndir = \"watched\"\nport = 7266\n",
-    ),
-    visits: [
-        &[
-            Visit::Operator(
-                7265,
-                Target(
-                    "/leaders/red?node=2&above=4&wait=60",
-                    b"\r\n\r\n{\"by\":2,\"leader\":{\"bid\":10,\"group\":\"red\",\"node\":1,\"term\":5},",
-                ),
-            ),
-            Visit::Operator(
-                7265,
-                Status(
-                    b"GET /leaders/red?above=5&wait=1 HTTP/1.1\r\n\r\n",
-                    b"204 No Content\r\n",
-                    b"\r\nConnection: close\r\n\r\n",
-                ),
-            ),
-            Visit::Asks(7267, b"who red 5\n", b"leader 1 10"),
-        ],
-        &[Visit::Asks(7266, b"stand red 5 10\n", b"stood")],
-        &[],
-    ],
-    status: 0,
-    out: b"",
-    err: Some(b""),
-};
-
 #[test]
-fn a_leader_is_waited_for(rt: HostRuntime) {
-    runs_anew(&rt, "watched", &WATCHED);
+fn commits_are_counted_by_how_long_they_took(rt: HostRuntime) -> Result<(), Fail> {
+    let tally = Tally::new(rt.alloc())?;
+    // none was begun
+    tally.end_writing(&rt);
+    assert_eq!(rt; commits(&rt, &tally)?, (0, 0, 0));
+    for _ in 0..2 {
+        tally.begin_writing(&rt);
+        rt.sleep(Duration::from_millis(2));
+        tally.end_writing(&rt);
+    }
+    let (within, count, micros) = commits(&rt, &tally)?;
+    assert_eq!(rt; (within, count), (2, 2));
+    assert!(rt; micros >= 4_000);
+    let told = tally.commits(rt.alloc())?;
+    // none took as little as the first bound
+    match told.within.first() {
+        Some(told) => assert_eq!(rt; (told.bound.seconds(), told.count), ("0.0002", 0)),
+        None => panic!(rt; "no bound"),
+    }
+    Ok(())
 }
 
 /// A head of so many bytes.
