@@ -7,6 +7,7 @@ use crate::history::History;
 use crate::shadow::{Shadow, fill, put_back};
 use crate::{Device, DeviceFault};
 use std::alloc::{AllocError, Global};
+use std::io::ErrorKind;
 
 /// A device whose bytes are kept in memory that was taken once. A call that ends past that memory is a fault; no other
 /// call fails.
@@ -154,6 +155,10 @@ impl Device for Buffer {
 
     fn failures(&self) -> u64 {
         self.faults
+    }
+
+    fn cause(&self) -> Option<ErrorKind> {
+        None
     }
 
     fn read_at(&mut self, off: u64, buf: &mut [u8]) -> Result<(), DeviceFault>

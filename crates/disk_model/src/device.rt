@@ -2,6 +2,8 @@
 ghost use Rattle.std.specs.Prelude.{◌≡◌, ◌+◌, ◌≤◌, ℕ, List, length, OnOk, OnErr};
 ghost use Rattle.disk_model.specs.Disk.{Disk, MayLeave, IsPart, Puts, Unsyncs, synced, Elapses, HasCause, Reach, IsInReach};
 
+use std::io::ErrorKind;
+
 /// A device's call failed. The device's count of failures tells of it.
 #[derive(Clone, Copy, Debug, PartialEq, Eq)]
 pub struct DeviceFault;
@@ -31,6 +33,9 @@ pub trait Device {
     /// How many calls have failed. At 2^64 - 1 it stays.
     fn failures(&self) -> u64
         ensures { result ≡ count self.now };
+
+    /// What was answered to the first call that failed, where that is known.
+    fn cause(&self) -> Option<ErrorKind>;
 
     /// Reads the bytes from `off` on into the whole of `buf`; past the device's end they are zeros. At a fault nothing
     /// is known of what `buf` holds.

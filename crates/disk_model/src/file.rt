@@ -14,6 +14,7 @@ use crate::buffer::Buffer;
 use crate::{Device, DeviceFault};
 use std::alloc::{AllocError, Global};
 use std::fs::OpenOptions;
+use std::io::ErrorKind;
 use std::os::unix::fs::FileExt;
 use std::path::Path;
 use std::rt::Files;
@@ -72,6 +73,7 @@ pub struct FileDevice {
     // What the file is to hold.
     held: Buffer,
     has_failed: bool,
+    cause: Option<ErrorKind>,
     faults: u64,
 }
 
@@ -137,6 +139,7 @@ impl FileDevice {
             file,
             held,
             has_failed: false,
+            cause: None,
             faults: 0,
         })
     }
@@ -165,6 +168,7 @@ impl FileDevice {
             file,
             held,
             has_failed: false,
+            cause: None,
             faults: 0,
         })
     }
@@ -214,6 +218,10 @@ impl Device for FileDevice {
         self.faults
     }
 
+    fn cause(&self) -> Option<ErrorKind> {
+        self.cause
+    }
+
     fn read_at(&mut self, off: u64, buf: &mut [u8]) -> Result<(), DeviceFault>
         ensures read { OnOk result (IsPart off buf.new (disk_of self.old).image) }
         ensures disk { disk_of self.new ≡ disk_of self.old }
@@ -245,8 +253,9 @@ impl Device for FileDevice {
         if self.has_failed || held.is_err() {
             return Err(fault(&mut self.faults));
         }
-        if self.file.write_all_at(bytes, off).is_err() {
+        if let Err(error) = self.file.write_all_at(bytes, off) {
             self.has_failed = true;
+            self.cause = Some(error.kind());
             return Err(fault(&mut self.faults));
         }
         Ok(())
@@ -261,7 +270,15 @@ impl Device for FileDevice {
         ensures breaks { OnErr result (IsTrue (has_failed self.new)) }
         ensures broken { IsTrue (has_failed self.old) → IsErr result × IsTrue (has_failed self.new) }
     {
-        if self.has_failed || self.file.sync_data().is_err() || self.held.sync().is_err() {
+        if self.has_failed {
+            return Err(fault(&mut self.faults));
+        }
+        if let Err(error) = self.file.sync_data() {
+            self.has_failed = true;
+            self.cause = Some(error.kind());
+            return Err(fault(&mut self.faults));
+        }
+        if self.held.sync().is_err() {
             self.has_failed = true;
             return Err(fault(&mut self.faults));
         }

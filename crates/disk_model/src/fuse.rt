@@ -4,6 +4,7 @@ ghost use Rattle.disk_model.specs.Disk.{IsPart, Puts, Unsyncs, synced, Elapses, 
 ghost use Rattle.disk_model.specs.Fuse.{is_idle, fails_at, planned};
 
 use crate::{Device, DeviceFault};
+use std::io::ErrorKind;
 
 // Which calls from now on fail.
 #[derive(Clone, Copy, Debug)]
@@ -131,6 +132,13 @@ impl<D: Device> Device for FuseDevice<D> {
 
     fn failures(&self) -> u64 {
         self.inner.failures().saturating_add(self.faults)
+    }
+
+    fn cause(&self) -> Option<ErrorKind> {
+        if self.faults > 0 {
+            return Some(ErrorKind::Other);
+        }
+        self.inner.cause()
     }
 
     fn read_at(&mut self, off: u64, buf: &mut [u8]) -> Result<(), DeviceFault>

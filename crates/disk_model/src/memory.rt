@@ -8,6 +8,7 @@ use crate::buffer::Buffer;
 use crate::shadow::Shadow;
 use crate::{Device, DeviceFault};
 use std::alloc::{AllocError, Global};
+use std::io::ErrorKind;
 
 /// What a stop makes of the ranges written since the last sync that succeeded.
 #[derive(Clone, Copy, Debug, PartialEq, Eq)]
@@ -93,6 +94,10 @@ impl Device for MemDevice {
 
     fn failures(&self) -> u64 {
         self.held.failures()
+    }
+
+    fn cause(&self) -> Option<ErrorKind> {
+        None
     }
 
     fn read_at(&mut self, off: u64, buf: &mut [u8]) -> Result<(), DeviceFault>

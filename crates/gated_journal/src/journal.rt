@@ -22,6 +22,7 @@ use crate::{Batch, Checkpoint, Opening, Receipt, Spoiled, Work};
 use disk_model::{Device, FuseDevice};
 use ring_records::{Input, NodeNo, Refusal, costs_of, summary_len};
 use std::alloc::Global;
+use std::io::ErrorKind;
 
 /// The durable inputs of one node, on a device of its own.
 #[derive(Drop)]
@@ -236,6 +237,11 @@ impl<D: Device> Journal<D> {
         ensures { result ≡ is_spoiled self.now }
     {
         self.is_spoiled
+    }
+
+    /// What was answered to the first call of its device that failed, where that is known.
+    pub fn cause(&self) -> Option<ErrorKind> {
+        self.device.cause()
     }
 
     /// How many calls of its device have failed.

@@ -76,6 +76,7 @@ fn status<A: Node, R: Wait + Clock>(
         syncs: tally.syncs(),
         refused_rounds: tally.refused_rounds(),
         writing: held.writing,
+        commits: tally.commits(alloc)?,
         refusals: tally.refusals(alloc)?,
         sessions: tally.sessions(),
         doors: u64::from(doors),

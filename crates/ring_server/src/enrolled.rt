@@ -1,6 +1,4 @@
 //! A service whose client is known to be there.
-ghost use Rattle.std.specs.Prelude.{⊤};
-
 use ring_records::{Bid, GroupName, Key, NodeNo, Refusal, Reply, Term};
 use ring_watch::Reception;
 use sessions::Service;
@@ -65,7 +63,7 @@ fn is_own(answer: &Result<Reply, Refusal>, bid: Bid) -> bool {
 }
 
 impl<R: Wait, S: Service> Service for EnrolledService<'_, R, S> {
-    ghost answers = { λ _ _ _ _. ⊤ };
+    ghost answers = { λ before asked answer after. S.answers before.service asked answer after.service };
 
     fn stand(&mut self, key: Key, bid: Bid) -> Result<Reply, Refusal> {
         let answer = self.service.stand(key, bid);

@@ -76,10 +76,11 @@ impl<V: Device> Found<V> {
         }
     }
 
-    /// Its desk, whose inputs are all durable.
+    /// Its desk, whose inputs are all durable and there.
     pub(crate) fn desk(&self) -> &Desk
         ensures desk { result.now ≡ found_as self.now }
         ensures durable { result.now.view.state.durable ≡ length result.now.view.state.inputs }
+        ensures whole { result.now.gone ≡ 0 }
     {
         match self {
             Found::There(opened) => opened.node.desk(),

@@ -7,6 +7,7 @@ use crate::shared::Shared;
 use crate::watch::Watch;
 use ring_records::{NodeNo, Packet};
 use ring_watch::{Reception, Tally};
+use std::io::ErrorKind;
 use std::sync::atomic::{AtomicU64, Ordering};
 use std::sync::{Mutex, Wait};
 use std::time::{Clock, Instant};
@@ -129,9 +130,9 @@ impl<'a> Links<'a> {
         }
     }
 
-    /// The node has failed.
-    pub(crate) fn fail<R: Wait>(&self, rt: &R) {
-        self.watch.fail(rt, self.node);
+    /// The node has failed, with what the system answered, where that is known.
+    pub(crate) fn fail<R: Wait>(&self, rt: &R, cause: Option<ErrorKind>) {
+        self.watch.fail(rt, self.node, cause);
     }
 
     /// The node refused a message for want of room.

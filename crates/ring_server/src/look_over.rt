@@ -55,6 +55,7 @@ fn look_at_links<V: Device>(ring: &[Found<V>]) -> Result<(), RunFault>
 
 /// Whether the link from a node to the one behind it fits. The error is that of the allocator.
 fn link_fits(own: &Desk, next: &Desk) -> Result<bool, AllocError>
+    requires whole { (own.now.gone ≡ 0) × (next.now.gone ≡ 0) }
     ensures { IfOk result (λ fits. (past behind : List Input) → IsPast own.now.view.member own.now.opening past → IsPast next.now.view.member next.now.opening behind
         → IsTrue fits ↔ LinkFits (IsKnownTo own.now.opening next.now.opening) own.now.view.member.node (past ++ own.now.view.state.inputs) (behind ++ next.now.view.state.inputs)) }
 {
@@ -198,6 +199,7 @@ pub(crate) fn desk_at<V: Device>(ring: &[Found<V>], place: usize) -> &Desk
     ensures number { result.now.view.member.node ≡ place + 1 }
     ensures past { (pasts : ℕ → List Input) → ArePasts found_as pasts ring.now → IsPast result.now.view.member result.now.opening (pasts (place + 1)) }
     ensures opening { result.now.opening ≡ opening_of found_as ring.now (place + 1) }
+    ensures whole { result.now.gone ≡ 0 }
     ensures inputs { result.now.view.state.inputs ≡ since found_as ring.now (place + 1) }
     ensures durable { (past : List Input) → durable_in (seen past result.now).state ≡ past ++ since found_as ring.now (place + 1) }
 {

@@ -12,7 +12,7 @@ use disk_model::Device;
 use node_store::Node;
 use ring_records::{LAYOUT, NodeNo, Refusal};
 
-/// A node with its place in the ring, which takes requests, has no open ticket, and whose inputs are all durable.
+/// A node with its place in the ring, which takes requests, has no open ticket, and whose inputs are all durable and there.
 #[derive(Drop)]
 pub struct OpenNode<V: Device> {
     pub(crate) number: NodeNo,
@@ -23,6 +23,7 @@ pub struct OpenNode<V: Device> {
     ghost open: { ((desk_of node).view.closed || (desk_of node).view.failed) ≡ false },
     ghost spent: { length (desk_of node).view.tickets ≡ 0 },
     ghost durable: { (state_of node).durable ≡ length (state_of node).inputs },
+    ghost whole: { (desk_of node).gone ≡ 0 },
 }
 
 impl<V: Device> OpenNode<V> {
@@ -36,6 +37,7 @@ impl<V: Device> OpenNode<V> {
         requires open { ((desk_of node).view.closed || (desk_of node).view.failed) ≡ false }
         requires spent { length (desk_of node).view.tickets ≡ 0 }
         requires durable { (state_of node).durable ≡ length (state_of node).inputs }
+        requires whole { (desk_of node).gone ≡ 0 }
         ensures { result.node ≡ node }
     {
         OpenNode {

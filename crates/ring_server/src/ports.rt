@@ -3,7 +3,7 @@ use crate::run_fault::RunFault;
 use crossbeam_channel::Receiver;
 use ring_service::{Settings, VERSION, Words};
 use ring_watch::{Facts, Inquiry, Reception, StatusPort};
-use std::alloc::Global;
+use std::alloc::{AllocError, Global};
 use std::net::{Ipv4Addr, Net, TcpListener, TcpStream};
 use std::time::Clock;
 
@@ -17,15 +17,16 @@ pub(crate) struct Ports {
 }
 
 impl Ports {
-    /// All of them, as the words say. Refused with the first that is not to be had.
+    /// All of them, as the words say, which were said so. Refused with the first that is not to be had.
     pub(crate) fn listen<R: Clock + Net<Listener = TcpListener, Stream = TcpStream>>(
         rt: &R,
         alloc: Global,
         settings: &Settings,
         words: &Words<'_>,
+        said: &[&str],
     ) -> Result<Ports, RunFault> {
         let listeners = listen(rt, alloc, settings, words.listen)?;
-        let (status, clerks) = listen_for_questions(rt, alloc, settings, words)?;
+        let (status, clerks) = listen_for_questions(rt, alloc, settings, words, said)?;
         Ok(Ports {
             listeners,
             status,
@@ -61,6 +62,18 @@ fn listen<R: Net<Listener = TcpListener, Stream = TcpStream>>(
     Ok(listeners)
 }
 
+/// The words behind the first, with a space between two.
+fn joined(alloc: Global, said: &[&str]) -> Result<String, AllocError> {
+    let mut text = String::new(alloc);
+    for word in said.iter().skip(1) {
+        if !text.as_str().is_empty() {
+            text.push_str(" ")?;
+        }
+        text.push_str(word)?;
+    }
+    Ok(text)
+}
+
 /// The port at which an operator is told of the ring, and what the clerks of its nodes are asked, in their order; none
 /// where no port is said.
 fn listen_for_questions<R: Clock + Net<Listener = TcpListener, Stream = TcpStream>>(
@@ -68,6 +81,7 @@ fn listen_for_questions<R: Clock + Net<Listener = TcpListener, Stream = TcpStrea
     alloc: Global,
     settings: &Settings,
     words: &Words<'_>,
+    said: &[&str],
 ) -> Result<(Option<StatusPort>, Vec<Receiver<Inquiry>>), RunFault> {
     let Some(port) = words.status else {
         return Ok((None, Vec::new(alloc)));
@@ -80,6 +94,8 @@ fn listen_for_questions<R: Clock + Net<Listener = TcpListener, Stream = TcpStrea
             Ok(now) => now.as_secs(),
             Err(_) => 0,
         },
+        words: joined(alloc, said)?,
+        idle: words.idle,
     };
     let (reception, clerks) = Reception::new(alloc, settings.nodes)?;
     let watchers = words.watchers as usize;

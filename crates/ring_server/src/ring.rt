@@ -5,6 +5,7 @@ use crate::run_fault::RunFault;
 use crate::shared::Shared;
 use crate::site::Site;
 use crate::start_latch::StartLatch;
+use crate::unopened::{Answer, Place, print_answer};
 use crate::watch::{News, Watch};
 use disk_model::Device;
 use ring_records::{NodeNo, Shown};
@@ -18,13 +19,14 @@ use std::thread::{JoinHandle, Scope, Threads};
 use std::time::Clock;
 
 /// A ring that is to be served: its nodes in their order, their letterboxes, the port at which an operator is told of it, if
-/// there is one, and whether it ends with the first node that fails.
+/// there is one, whether it ends with the first node that fails, and the folder of its nodes.
 #[derive(Drop)]
 pub struct Ring<V: Device> {
     pub sites: Vec<Site<V>>,
     pub post: Post,
     pub status: Option<StatusPort>,
     pub fail_stop: bool,
+    pub dir: String,
 }
 
 /// What each node of a ring holds at the end, in their order, `None` where it failed.
@@ -48,7 +50,7 @@ fn watched_node<V: Device + Send + Drop, R: Threads + Wait + Clock + Sync>(
 ) -> Option<Shown> {
     let end = one_node(rt, site, shared);
     if end.is_none() {
-        shared.watch.fail(rt, node);
+        shared.watch.fail(rt, node, None);
     }
     end
 }
@@ -135,12 +137,21 @@ fn let_go<R: Threads + Wait + Clock + Send + Copy + 'static, O: Write>(
 }
 
 /// Tells of nodes that fail, are full or find no memory, until no node runs any more. Whether it is to end before: at the
-/// first node that fails, where that is asked for.
-fn tell_of_nodes<R: Wait, E: Write>(rt: &R, watch: &Watch, fail_stop: bool, err: &mut E) -> bool {
+/// first node that fails, where that is asked for. Behind one that fails its file is told, with what the system answered.
+fn tell_of_nodes<R: Wait, E: Write>(
+    rt: &R,
+    watch: &Watch,
+    fail_stop: bool,
+    dir: &str,
+    err: &mut E,
+) -> bool {
     for _ in rt.forever() {
         match watch.next(rt) {
-            News::Failed(node) => {
+            News::Failed(node, cause) => {
                 let _ = writeln!(err, "ringd: node {node} failed");
+                if let Some(kind) = cause {
+                    let _ = print_answer(err, dir, Place::Journal, node, Answer::Error(kind));
+                }
                 if fail_stop {
                     return true;
                 }
@@ -210,6 +221,7 @@ pub fn serve_ring<
         post,
         status,
         fail_stop,
+        dir,
     } = ring;
     let status = match status {
         Some(status) => Some(Arc::new(alloc, status)?),
@@ -234,7 +246,7 @@ pub fn serve_ring<
         let _ = ring.join(rt);
         return Err(fault);
     }
-    if tell_of_nodes(rt, &shared.watch, fail_stop, err) {
+    if tell_of_nodes(rt, &shared.watch, fail_stop, dir.as_str(), err) {
         return Ok(1);
     }
     let ends = ring.join(rt);

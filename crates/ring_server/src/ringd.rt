@@ -36,7 +36,7 @@ use std::{io, str};
 pub fn start<R, I: Read, O: Write, E: Write>(
     rt: &R,
     alloc: Global,
-    words: &[&str],
+    said: &[&str],
     settings: &mut I,
     out: &mut O,
     err: &mut E,
@@ -52,11 +52,11 @@ where
         + Files<File = File>
         + Net<Listener = TcpListener, Stream = TcpStream>,
 {
-    let words = match read_words(alloc, words) {
+    let words = match read_words(alloc, said) {
         Ok(words) => words,
         Err(error) => return tell_words(&error, out, err),
     };
-    match run(rt, alloc, &words, settings, out, err) {
+    match run(rt, alloc, &Call { said, words }, settings, out, err) {
         Ok(status) => status,
         Err(fault) => {
             let _ = writeln!(err, "ringd: {fault}");
@@ -81,10 +81,17 @@ fn tell_words<O: Write, E: Write>(error: &Error, out: &mut O, err: &mut E) -> u8
     (error.exit_code() % 256) as u8
 }
 
+/// The words that are said, and what they ask.
+#[derive(Clone, Copy)]
+struct Call<'a> {
+    said: &'a [&'a str],
+    words: Words<'a>,
+}
+
 fn run<R, I: Read, O: Write, E: Write>(
     rt: &R,
     alloc: Global,
-    words: &Words<'_>,
+    call: &Call<'_>,
     settings: &mut I,
     out: &mut O,
     err: &mut E,
@@ -99,8 +106,9 @@ where
         + Clock
         + Files<File = File>
         + Net<Listener = TcpListener, Stream = TcpStream>,
-    requires { IsIn 1 DOORS words.now.doors }
+    requires { IsIn 1 DOORS call.now.words.doors }
 {
+    let words = &call.words;
     let settings = take_settings(rt, alloc, words.settings, settings)?;
     if print_settings(out, &settings).is_err() {
         return Err(RunFault::Output);
@@ -108,8 +116,8 @@ where
     let end = match (words.always, words.serve) {
         _ if words.make => make(rt, alloc, &settings, err),
         _ if words.check => check(rt, alloc, &settings, out),
-        (true, _) => serve(rt, alloc, &settings, words, None, out, err),
-        (false, Some(count)) => serve(rt, alloc, &settings, words, Some(count), out, err),
+        (true, _) => serve(rt, alloc, &settings, call, None, out, err),
+        (false, Some(count)) => serve(rt, alloc, &settings, call, Some(count), out, err),
         (false, None) => return Ok(0),
     };
     match end {
@@ -257,7 +265,7 @@ fn serve<R, O: Write, E: Write>(
     rt: &R,
     alloc: Global,
     settings: &Settings,
-    words: &Words<'_>,
+    call: &Call<'_>,
     sessions: Option<u32>,
     out: &mut O,
     err: &mut E,
@@ -272,8 +280,9 @@ where
         + Clock
         + Files<File = File>
         + Net<Listener = TcpListener, Stream = TcpStream>,
-    requires { IsIn 1 DOORS words.now.doors }
+    requires { IsIn 1 DOORS call.now.words.doors }
 {
+    let words = &call.words;
     // Its lock is held until the last node has ended.
     let folder = open_folder(rt, settings)?;
     let basis = Basis {
@@ -286,7 +295,7 @@ where
     let found = find_ring(rt, alloc, &folder, settings, existing)?;
     tell_capacities(err, settings, &found);
     let serving = Serving {
-        ports: Ports::listen(rt, alloc, settings, words)?,
+        ports: Ports::listen(rt, alloc, settings, words, call.said)?,
         doors: Doors::new(words.doors, sessions, words.idle),
         fail_stop: words.fail_stop,
     };
@@ -339,6 +348,7 @@ where
         post,
         status,
         fail_stop,
+        dir: String::from_str(alloc, basis.settings.dir.as_str())?,
     };
     serve_ring(rt, alloc, ring, out, err)
 }

@@ -63,6 +63,19 @@ impl From<TryLockError> for Answer {
     }
 }
 
+/// A line of what the system answered of this file of a node in this folder.
+pub(crate) fn print_answer<E: Write>(
+    err: &mut E,
+    dir: &str,
+    place: Place,
+    node: NodeNo,
+    answer: Answer,
+) -> io::Result<()> {
+    write!(err, "ringd: {dir}")?;
+    place.print(err, node)?;
+    writeln!(err, ": {answer}")
+}
+
 /// Why a node was not opened: the refusal of its journal or its desk, 15 with one failure where the system refused its
 /// file, and 8. Where the system refused something, what that was and what it answered.
 #[derive(Clone, Copy, Debug)]
@@ -109,12 +122,10 @@ impl Unopened {
 
     /// A line of what the system refused and what it answered, of this node in this folder, where it told something.
     pub fn print<E: Write>(&self, err: &mut E, dir: &str, node: NodeNo) -> io::Result<()> {
-        let Some((place, answer)) = &self.told else {
-            return Ok(());
-        };
-        write!(err, "ringd: {dir}")?;
-        place.print(err, node)?;
-        writeln!(err, ": {answer}")
+        match self.told {
+            Some((place, answer)) => print_answer(err, dir, place, node, answer),
+            None => Ok(()),
+        }
     }
 }
 

@@ -1,12 +1,13 @@
 //! What the threads of a ring have the program tell while they serve.
 use ring_records::NodeNo;
+use std::io::ErrorKind;
 use std::sync::{Condvar, Mutex, Wait};
 
 /// What is to be told of the ring.
 #[derive(Clone, Copy)]
 pub(crate) enum News {
-    /// This node has failed.
-    Failed(NodeNo),
+    /// This node has failed, with what the system answered, where that is known.
+    Failed(NodeNo, Option<ErrorKind>),
     /// This node refused a message for want of room.
     Full(NodeNo),
     /// This node's rounds have been refused for a while for want of memory.
@@ -44,16 +45,35 @@ impl Word {
 #[derive(Drop)]
 struct Book {
     failed: [Word; 16],
+    causes: [Option<ErrorKind>; 16],
     full: [Word; 16],
     starves: [Word; 16],
     has_ended: bool,
 }
 
 impl Book {
+    /// The node has failed so.
+    fn fail(&mut self, node: NodeNo, cause: Option<ErrorKind>) {
+        if let Some(told) = self.causes.get_mut(place(node)) {
+            *told = cause;
+        }
+        if let Some(word) = self.failed.get_mut(place(node)) {
+            word.ask();
+        }
+    }
+
+    /// What the system answered to this node.
+    fn cause(&self, node: NodeNo) -> Option<ErrorKind> {
+        match self.causes.get(place(node)) {
+            Some(cause) => *cause,
+            None => None,
+        }
+    }
+
     /// The next that is to be told, a failed node before all else.
     fn next(&mut self) -> Option<News> {
         if let Some(node) = first_due(&mut self.failed) {
-            return Some(News::Failed(node));
+            return Some(News::Failed(node, self.cause(node)));
         }
         if let Some(node) = first_due(&mut self.full) {
             return Some(News::Full(node));
@@ -93,6 +113,7 @@ impl Watch {
     pub(crate) fn new() -> Watch {
         let book = Book {
             failed: [Word::Silent; 16],
+            causes: [None; 16],
             full: [Word::Silent; 16],
             starves: [Word::Silent; 16],
             has_ended: false,
@@ -103,11 +124,9 @@ impl Watch {
         }
     }
 
-    /// The node has failed.
-    pub(crate) fn fail<R: Wait>(&self, rt: &R, node: NodeNo) {
-        if let Some(word) = self.book.lock(rt).failed.get_mut(place(node)) {
-            word.ask();
-        }
+    /// The node has failed, with what the system answered, where that is known.
+    pub(crate) fn fail<R: Wait>(&self, rt: &R, node: NodeNo, cause: Option<ErrorKind>) {
+        self.book.lock(rt).fail(node, cause);
         self.bell.notify_all();
     }
 

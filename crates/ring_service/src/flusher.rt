@@ -25,6 +25,7 @@ use group_commit::Landed;
 use ring_records::Refusal;
 use std::alloc::Global;
 use std::collections::VecDeque;
+use std::io::ErrorKind;
 use std::sync::Wait;
 
 /// The journal and the tie of a hub's node, the board that is told its notices, and those that the board could not take
@@ -67,6 +68,11 @@ impl<V: Device, J: Naming, A: Node> Flusher<V, J, A> {
             is_published: false,
             has_ended: false,
         }
+    }
+
+    /// What was answered to the first call of its journal's device that failed, where that is known.
+    pub fn cause(&self) -> Option<ErrorKind> {
+        self.journal.cause()
     }
 
     /// One round on the hub of its tie: waits for inputs, makes the first of them durable, at most 64, or all of them by a
@@ -146,6 +152,11 @@ impl<V: Device, J: Naming, A: Node> Flusher<V, J, A> {
                 }
             }
         }
+    }
+
+    /// Has the hub of its tie let go of the inputs that the area of the journal in use stands for.
+    pub fn let_go<R: Wait>(&self, rt: &R, hub: &Hub<A>) {
+        hub.let_go(rt);
     }
 
     /// The epoch of its journal's area in use, which each round that makes a checkpoint raises by 1.
