@@ -19,11 +19,14 @@ const (
 	statusLimit = 5 * time.Second
 )
 
-// A RingStatus is what `ringd --status` tells of a ring, its start in Unix time.
+// A RingStatus is what `ringd --status` tells of a ring: its start in Unix time, the words that it was started with, and
+// how many seconds a session may be silent, 0 of which is for ever.
 type RingStatus struct {
 	Version string       `json:"version"`
 	Dir     string       `json:"dir"`
 	Started int64        `json:"started"`
+	Words   string       `json:"words"`
+	Idle    int64        `json:"idle"`
 	Nodes   []NodeStatus `json:"nodes"`
 }
 

@@ -81,9 +81,11 @@ node_data node = object
 unfoldable pub status_data : RingStatus → Data
 status_data ring = object
     (member (codes "dir") (string (ring.dir).now)
+    (member (codes "idle") (natural ring.idle)
     (member (codes "nodes") (each node_data (ring.nodes).now)
     (member (codes "started") (natural ring.started)
-    (member (codes "version") (string (ring.version).now) no_members))))
+    (member (codes "version") (string (ring.version).now)
+    (member (codes "words") (string (ring.words).now) no_members))))))
 
 -- ---- leaders
 

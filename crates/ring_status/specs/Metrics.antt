@@ -2,12 +2,16 @@
 use Rattle.std.specs.Prelude.{ℕ, if◌then◌else◌, List, [], ◌∷◌, ◌++◌, codes}
 use Rattle.std.specs.Fmt.{decimal}
 use Rattle.std.specs.List.{flat_map}
+use Rattle.ring_status.specs.declared.bound.Bound.{Bound}
+use Rattle.ring_status.specs.declared.bound.Bound.TheVariants as up_to
 use Rattle.ring_status.specs.declared.metric.Metric.{Metric}
 use Rattle.ring_status.specs.declared.metric.Metric.TheVariants as of
+use Rattle.ring_status.specs.declared.values.CommitTimes.{CommitTimes}
 use Rattle.ring_status.specs.declared.values.Condition.{Condition}
 use Rattle.ring_status.specs.declared.values.Condition.TheVariants.{Well, Limit, Full, Hangs, Failed}
 use Rattle.ring_status.specs.declared.values.NodeStatus.{NodeStatus}
 use Rattle.ring_status.specs.declared.values.RefusalCount.{RefusalCount}
+use Rattle.ring_status.specs.declared.values.WithinCount.{WithinCount}
 
 -- ---- what is measured
 
@@ -198,6 +202,51 @@ refusal_samples node = flat_map (refusal_sample node.node) (node.refusals).items
 unfoldable pub refusals_head : List ℕ
 refusals_head = head_of (codes "cinoweta_refusals_total") (codes "Refusals that clients were told since the start, by their number.") (codes "counter")
 
+unfoldable pub refusals_family : List NodeStatus → List ℕ
+refusals_family nodes = refusals_head ++ flat_map refusal_samples nodes
+
+-- a bound in seconds
+abbrev pub seconds_text : Bound → List ℕ
+seconds_text up_to.Micros200 = codes "0.0002"
+seconds_text up_to.Millis1 = codes "0.001"
+seconds_text up_to.Millis5 = codes "0.005"
+seconds_text up_to.Millis25 = codes "0.025"
+seconds_text up_to.Millis100 = codes "0.1"
+seconds_text up_to.Millis500 = codes "0.5"
+seconds_text up_to.Millis2500 = codes "2.5"
+seconds_text up_to.Seconds10 = codes "10"
+
+-- the line of how many commits of a node took no longer than a bound
+unfoldable pub bucket : ℕ → List ℕ → ℕ → List ℕ
+bucket node bound count =
+    codes "cinoweta_commit_seconds_bucket{node=\"" ++ (decimal node ++ (codes "\",le=\""
+    ++ (bound ++ (codes "\"} " ++ (decimal count ++ codes "\n")))))
+
+abbrev pub within_sample : ℕ → WithinCount → List ℕ
+within_sample node told = bucket node (seconds_text told.bound) told.count
+
+-- how long they took, which is told in millionths, and how many there were
+unfoldable pub commit_sum : ℕ → ℕ → List ℕ
+commit_sum node micros =
+    codes "cinoweta_commit_seconds_sum{node=\"" ++ (decimal node ++ (codes "\"} " ++ (decimal micros ++ codes "e-6\n")))
+
+unfoldable pub commit_count : ℕ → ℕ → List ℕ
+commit_count node count =
+    codes "cinoweta_commit_seconds_count{node=\"" ++ (decimal node ++ (codes "\"} " ++ (decimal count ++ codes "\n")))
+
+abbrev pub commit_totals : ℕ → CommitTimes → List ℕ
+commit_totals node times =
+    bucket node (codes "+Inf") times.count ++ commit_sum node times.micros ++ commit_count node times.count
+
+abbrev pub commit_samples : NodeStatus → List ℕ
+commit_samples node = flat_map (within_sample node.node) (node.commits.within).items ++ commit_totals node.node node.commits
+
+unfoldable pub commits_head : List ℕ
+commits_head = head_of (codes "cinoweta_commit_seconds") (codes "How long batches and checkpoints took since the start, those that failed too.") (codes "histogram")
+
+unfoldable pub commits_family : List NodeStatus → List ℕ
+commits_family nodes = commits_head ++ flat_map commit_samples nodes
+
 unfoldable pub started_family : ℕ → List ℕ
 started_family started =
     head_of (codes "cinoweta_start_time_seconds") (codes "When the program was started, in Unix time.") (codes "gauge")
@@ -212,6 +261,6 @@ version_family version =
 abbrev pub program_families : List ℕ → ℕ → List ℕ
 program_families version started = version_family version ++ started_family started
 
--- the version, when the ring was started, what is measured, and the refusals
+-- the version, when the ring was started, what is measured, how long commits took, and the refusals
 unfoldable pub metrics_body : List ℕ → ℕ → List NodeStatus → List ℕ
-metrics_body version started nodes = program_families version started ++ flat_map (family_of nodes) metrics ++ refusals_head ++ flat_map refusal_samples nodes
+metrics_body version started nodes = program_families version started ++ flat_map (family_of nodes) metrics ++ commits_family nodes ++ refusals_family nodes

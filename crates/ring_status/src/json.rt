@@ -125,9 +125,11 @@ fn ring_json(alloc: Global, ring: &RingStatus<'_>) -> Result<Value, AllocError>
     let nodes = nodes_json(alloc, ring.nodes)?;
     json!(in alloc; {
         "dir": ring.dir,
+        "idle": ring.idle,
         "nodes": nodes,
         "started": ring.started,
-        "version": ring.version
+        "version": ring.version,
+        "words": ring.words
     })
 }
 

@@ -8,6 +8,7 @@
 #![tactic(auto)]
 
 mod answer;
+mod bound;
 mod health;
 mod holding;
 mod json;
@@ -19,6 +20,7 @@ mod target;
 mod values;
 
 pub use answer::{Content, answer_text};
+pub use bound::Bound;
 pub use health::{are_well, health_text};
 pub use holding::Holding;
 pub use json::{latest_json, leaders_json, status_json};
@@ -27,4 +29,4 @@ pub use metrics::metrics_text;
 pub use request::{HEAD_BYTES, Method, Request, read_request};
 pub use status::Status;
 pub use target::{Target, read_target};
-pub use values::{Condition, NodeStatus, RefusalCount, RingStatus};
+pub use values::{CommitTimes, Condition, NodeStatus, RefusalCount, RingStatus, WithinCount};

@@ -1,10 +1,10 @@
 // The text for Prometheus.
 ghost use Rattle.std.specs.Prelude.{◌≡◌, ◌++◌, IfOk, OnOk, string_bytes};
 ghost use Rattle.std.specs.List.{flat_map};
-ghost use Rattle.ring_status.specs.Metrics.{family_of, head_of, metrics_body, program_families, refusal_sample, refusal_samples, refusals_head, sample, started_family, version_family};
+ghost use Rattle.ring_status.specs.Metrics.{bucket, commit_count, commit_samples, commit_sum, commit_totals, commits_family, commits_head, family_of, head_of, metrics_body, program_families, refusal_sample, refusal_samples, refusals_family, refusals_head, sample, started_family, version_family, within_sample};
 
 use crate::metric::Metric;
-use crate::values::{NodeStatus, RefusalCount, RingStatus};
+use crate::values::{CommitTimes, NodeStatus, RefusalCount, RingStatus, WithinCount};
 use ring_records::NodeNo;
 use std::alloc::{AllocError, Global};
 
@@ -132,14 +132,108 @@ fn print_refusals_head(out: &mut String) -> Result<(), AllocError>
     )
 }
 
+#[tactic(auto, using(crate::proofs::Appends::two), unfolding(crate::specs::Metrics::refusals_family))]
+fn print_refusals_family(out: &mut String, nodes: &[NodeStatus]) -> Result<(), AllocError>
+    ensures { OnOk result (string_bytes out.new ≡ string_bytes out.old ++ refusals_family nodes.now) }
+{
+    print_refusals_head(out)?;
+    print_all_refusals(out, nodes)
+}
+
+#[tactic(auto, unfolding(crate::specs::Metrics::bucket))]
+fn print_bucket(out: &mut String, node: u8, bound: &str, count: u64) -> Result<(), AllocError>
+    ensures { OnOk result (string_bytes out.new ≡ string_bytes out.old ++ bucket node bound.now count) }
+{
+    writeln!(
+        out,
+        "cinoweta_commit_seconds_bucket{{node=\"{node}\",le=\"{bound}\"}} {count}"
+    )
+}
+
+fn print_each_within(out: &mut String, node: u8, within: &[WithinCount]) -> Result<(), AllocError>
+    ensures { OnOk result (string_bytes out.new ≡ string_bytes out.old ++ flat_map (within_sample node) within.now) }
+{
+    for told in within {
+        print_bucket(out, node, told.bound.seconds(), told.count)?;
+    }
+    Ok(())
+}
+
+#[tactic(auto, unfolding(crate::specs::Metrics::commit_sum))]
+fn print_commit_sum(out: &mut String, node: u8, micros: u64) -> Result<(), AllocError>
+    ensures { OnOk result (string_bytes out.new ≡ string_bytes out.old ++ commit_sum node micros) }
+{
+    writeln!(
+        out,
+        "cinoweta_commit_seconds_sum{{node=\"{node}\"}} {micros}e-6"
+    )
+}
+
+#[tactic(auto, unfolding(crate::specs::Metrics::commit_count))]
+fn print_commit_count(out: &mut String, node: u8, count: u64) -> Result<(), AllocError>
+    ensures { OnOk result (string_bytes out.new ≡ string_bytes out.old ++ commit_count node count) }
+{
+    writeln!(
+        out,
+        "cinoweta_commit_seconds_count{{node=\"{node}\"}} {count}"
+    )
+}
+
+#[tactic(auto, using(crate::proofs::Appends::three))]
+fn print_commit_totals(out: &mut String, node: u8, times: &CommitTimes) -> Result<(), AllocError>
+    ensures { OnOk result (string_bytes out.new ≡ string_bytes out.old ++ commit_totals node times.now) }
+{
+    print_bucket(out, node, "+Inf", times.count)?;
+    print_commit_sum(out, node, times.micros)?;
+    print_commit_count(out, node, times.count)
+}
+
+#[tactic(auto, using(crate::proofs::Appends::two))]
+fn print_commits(out: &mut String, node: &NodeStatus) -> Result<(), AllocError>
+    ensures { OnOk result (string_bytes out.new ≡ string_bytes out.old ++ commit_samples node.now) }
+{
+    let number = node.node.number();
+    print_each_within(out, number, node.commits.within.as_slice())?;
+    print_commit_totals(out, number, &node.commits)
+}
+
+fn print_all_commits(out: &mut String, nodes: &[NodeStatus]) -> Result<(), AllocError>
+    ensures { OnOk result (string_bytes out.new ≡ string_bytes out.old ++ flat_map commit_samples nodes.now) }
+{
+    for node in nodes {
+        print_commits(out, node)?;
+    }
+    Ok(())
+}
+
+#[tactic(auto, unfolding(crate::specs::Metrics::commits_head))]
+fn print_commits_head(out: &mut String) -> Result<(), AllocError>
+    ensures { OnOk result (string_bytes out.new ≡ string_bytes out.old ++ commits_head) }
+{
+    print_head(
+        out,
+        "cinoweta_commit_seconds",
+        "How long batches and checkpoints took since the start, those that failed too.",
+        "histogram",
+    )
+}
+
+#[tactic(auto, using(crate::proofs::Appends::two), unfolding(crate::specs::Metrics::commits_family))]
+fn print_commits_family(out: &mut String, nodes: &[NodeStatus]) -> Result<(), AllocError>
+    ensures { OnOk result (string_bytes out.new ≡ string_bytes out.old ++ commits_family nodes.now) }
+{
+    print_commits_head(out)?;
+    print_all_commits(out, nodes)
+}
+
 #[tactic(auto, using(crate::proofs::Appends::four), unfolding(crate::specs::Metrics::metrics_body))]
 fn print_all(out: &mut String, ring: &RingStatus<'_>) -> Result<(), AllocError>
     ensures { OnOk result (string_bytes out.new ≡ string_bytes out.old ++ metrics_body (ring.now.version).now ring.now.started ring.now.nodes.now) }
 {
     print_program(out, ring)?;
     print_families(out, Metric::all(), ring.nodes)?;
-    print_refusals_head(out)?;
-    print_all_refusals(out, ring.nodes)
+    print_commits_family(out, ring.nodes)?;
+    print_refusals_family(out, ring.nodes)
 }
 
 /// The numbers of a ring in the text format of Prometheus, version 0.0.4. Refused for want of memory alone.

@@ -1,4 +1,5 @@
 // What is told of a ring.
+use crate::bound::Bound;
 use ring_records::{NodeNo, Shown};
 
 /// Whether a node takes Stands and messages.
@@ -22,6 +23,24 @@ pub struct RefusalCount {
     /// The refusal's number, 1 to 27.
     pub number: u8,
     pub count: u64,
+}
+
+/// How many batches and checkpoints took no longer than a bound.
+#[derive(Clone, Copy, Debug, PartialEq, Eq)]
+pub struct WithinCount {
+    pub bound: Bound,
+    pub count: u64,
+}
+
+/// How long the batches and the checkpoints of a node took, those that failed too.
+#[derive(Debug, Drop)]
+pub struct CommitTimes {
+    /// How many took no longer than each of some bounds, which rise.
+    pub within: Vec<WithinCount>,
+    /// How many there were.
+    pub count: u64,
+    /// How long all of them took together, in microseconds.
+    pub micros: u64,
 }
 
 /// What is told of a node. Counts are those since the start, where nothing else is said.
@@ -61,6 +80,8 @@ pub struct NodeStatus {
     pub refused_rounds: u64,
     /// For how many seconds its device has been busy with the batch or the checkpoint that it writes, 0 where it writes none.
     pub writing: u64,
+    /// How long its batches and checkpoints took.
+    pub commits: CommitTimes,
     /// The refusals that its clients were told.
     pub refusals: Vec<RefusalCount>,
     /// How many sessions were begun at its doors.
@@ -86,6 +107,10 @@ pub struct RingStatus<'a> {
     pub dir: &'a str,
     /// When it was started, in seconds of Unix time.
     pub started: u64,
+    /// The words that it was started with, behind the program's name, with a space between two.
+    pub words: &'a str,
+    /// How many seconds a session may go without a whole line or a whole answer; 0 is for ever.
+    pub idle: u32,
     /// Its nodes, in their order.
     pub nodes: &'a [NodeStatus],
 }

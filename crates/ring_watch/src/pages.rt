@@ -70,6 +70,8 @@ fn ring<'a>(facts: &'a Facts, nodes: &'a [NodeStatus]) -> RingStatus<'a> {
         version: facts.version,
         dir: facts.dir.as_str(),
         started: facts.started,
+        words: facts.words.as_str(),
+        idle: facts.idle,
         nodes,
     }
 }

@@ -28,6 +28,10 @@ pub struct Facts {
     pub dir: String,
     /// When it was started, in seconds of Unix time.
     pub started: u64,
+    /// The words that it was started with, behind the program's name, with a space between two.
+    pub words: String,
+    /// How many seconds a session may go without a whole line or a whole answer; 0 is for ever.
+    pub idle: u32,
 }
 
 /// The port at which an operator is told of a ring: one request a connection. One of its eight threads waits for all

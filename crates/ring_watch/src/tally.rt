@@ -1,10 +1,22 @@
 //! What the threads of a node count.
 use ring_records::REFUSALS;
-use ring_status::RefusalCount;
+use ring_status::{Bound, CommitTimes, RefusalCount, WithinCount};
 use std::alloc::{AllocError, Global};
 use std::sync::atomic::{AtomicU64, Ordering};
 use std::sync::{Mutex, Wait};
 use std::time::{Clock, Instant};
+
+/// The bounds by which batches and checkpoints are counted, each with its microseconds.
+const BOUNDS: [(Bound, u64); 8] = [
+    (Bound::Micros200, 200),
+    (Bound::Millis1, 1_000),
+    (Bound::Millis5, 5_000),
+    (Bound::Millis25, 25_000),
+    (Bound::Millis100, 100_000),
+    (Bound::Millis500, 500_000),
+    (Bound::Millis2500, 2_500_000),
+    (Bound::Seconds10, 10_000_000),
+];
 
 /// What the threads of a node count since the start. It is read while they count, so two numbers of it may be of two
 /// moments.
@@ -20,6 +32,10 @@ pub struct Tally {
     busy: AtomicU64,
     // when its device was given what it writes
     since: Mutex<Option<Instant>>,
+    // how many of these took no longer than each bound, and than the one below it longer; how many took longer than all
+    took: Vec<AtomicU64>,
+    took_longer: AtomicU64,
+    micros: AtomicU64,
     // by their numbers, from 1 on
     refusals: Vec<AtomicU64>,
 }
@@ -31,6 +47,10 @@ impl Tally {
         for _ in 0..REFUSALS {
             refusals.push(AtomicU64::new(0))?;
         }
+        let mut took = Vec::with_capacity(alloc, BOUNDS.len())?;
+        for _ in 0..BOUNDS.len() {
+            took.push(AtomicU64::new(0))?;
+        }
         Ok(Tally {
             batches: AtomicU64::new(0),
             checkpoints: AtomicU64::new(0),
@@ -41,6 +61,9 @@ impl Tally {
             sessions: AtomicU64::new(0),
             busy: AtomicU64::new(0),
             since: Mutex::new(None),
+            took,
+            took_longer: AtomicU64::new(0),
+            micros: AtomicU64::new(0),
             refusals,
         })
     }
@@ -50,9 +73,25 @@ impl Tally {
         *self.since.lock(rt) = Instant::now(rt).ok();
     }
 
-    /// The device is done with it, however.
-    pub fn end_writing<R: Wait>(&self, rt: &R) {
-        *self.since.lock(rt) = None;
+    /// The device is done with it, however. Counts how long it took.
+    pub fn end_writing<R: Wait + Clock>(&self, rt: &R) {
+        let since = self.since.lock(rt).take();
+        if let (Some(since), Ok(now)) = (since, Instant::now(rt)) {
+            self.count_commit(now.saturating_duration_since(since).as_micros());
+        }
+    }
+
+    /// A batch or a checkpoint took so many microseconds.
+    fn count_commit(&self, micros: u128) {
+        let micros = micros.min(u128::from(u64::MAX)) as u64;
+        self.micros.fetch_add(micros, Ordering::SeqCst);
+        for ((_, bound), count) in BOUNDS.iter().zip(&self.took) {
+            if micros <= *bound {
+                count.fetch_add(1, Ordering::SeqCst);
+                return;
+            }
+        }
+        self.took_longer.fetch_add(1, Ordering::SeqCst);
     }
 
     /// For how many seconds the device has been busy with a batch or a checkpoint, 0 where it is with none.
@@ -146,6 +185,24 @@ impl Tally {
     /// How many of them have not ended.
     pub fn busy(&self) -> u64 {
         self.busy.load(Ordering::SeqCst)
+    }
+
+    /// How long batches and checkpoints took.
+    pub fn commits(&self, alloc: Global) -> Result<CommitTimes, AllocError> {
+        let mut within = Vec::new(alloc);
+        let mut total = 0u64;
+        for ((bound, _), count) in BOUNDS.iter().zip(&self.took) {
+            total = total.saturating_add(count.load(Ordering::SeqCst));
+            within.push(WithinCount {
+                bound: *bound,
+                count: total,
+            })?;
+        }
+        Ok(CommitTimes {
+            within,
+            count: total.saturating_add(self.took_longer.load(Ordering::SeqCst)),
+            micros: self.micros.load(Ordering::SeqCst),
+        })
     }
 
     /// The refusals that clients were told, in order of their numbers. Those that none was told are left out, but those from

@@ -52,15 +52,17 @@ fn status(rt: HostRuntime) -> Result<(), Fail> {
         version: "0.1.0",
         dir: "a\"b",
         started: 1_700_000_000,
+        words: "--always --idle 5",
+        idle: 5,
         nodes: &nodes,
     };
     assert_eq!(rt;
         status_json(rt.alloc(), &ring)?.as_str(),
-        "{\"dir\":\"a\\\"b\",\"nodes\":[{\"elections\":18,\"journal\":{\"batches\":5,\"capacity\":65536,\"checkpoints\":13,\"durable\":29,\
+        "{\"dir\":\"a\\\"b\",\"idle\":5,\"nodes\":[{\"elections\":18,\"journal\":{\"batches\":5,\"capacity\":65536,\"checkpoints\":13,\"durable\":29,\
          \"epoch\":14,\"inputs\":30,\"layout\":3,\"refused\":16,\"renewable\":true,\"snapshot\":345,\"syncs\":6,\"used\":1234,\"writing\":12},\"messages\":{\"credit\":10,\"refused\":17,\"sent\":12,\"taken\":11,\
          \"waiting\":9},\"node\":2,\"port\":7102,\"sessions\":{\"begun\":8,\"busy\":3,\"doors\":4,\"refusals\":[{\"count\":2,\"number\":4},\
          {\"count\":1,\"number\":25}]},\"stands\":{\"floors\":15,\"left\":1017,\"taken\":7},\"state\":\"limit\"}],\
-         \"started\":1700000000,\"version\":\"0.1.0\"}"
+         \"started\":1700000000,\"version\":\"0.1.0\",\"words\":\"--always --idle 5\"}"
     );
     Ok(())
 }
@@ -99,11 +101,17 @@ fn metrics(rt: HostRuntime) -> Result<(), Fail> {
         version: "0.1.0",
         dir: "state",
         started: 1_700_000_000,
+        words: "--always --idle 5",
+        idle: 5,
         nodes: &nodes,
     };
     let text = metrics_text(rt.alloc(), &ring)?;
-    // 32 families of two lines each, a line for each node in 29 of them, two of them with two refusals, version and start
-    assert_eq!(rt; text.as_str().lines().count(), 32 * 2 + 29 * 2 + 2 * 2 + 2);
+    // 33 families of two lines each, a line for each node in 29 of them, two of them with five lines of commits and two
+    // refusals, version and start
+    assert_eq!(rt;
+        text.as_str().lines().count(),
+        33 * 2 + 29 * 2 + 2 * 5 + 2 * 2 + 2
+    );
     for part in [
         "# HELP cinoweta_build_info 1, with the version of the program.\n# TYPE cinoweta_build_info \
          gauge\ncinoweta_build_info{version=\"0.1.0\"} 1\n",
@@ -126,7 +134,14 @@ fn metrics(rt: HostRuntime) -> Result<(), Fail> {
          gauge\ncinoweta_journal_layout{node=\"1\"} 3\n",
         "# HELP cinoweta_inputs_total Inputs that the node accepted.\n# TYPE cinoweta_inputs_total \
          counter\ncinoweta_inputs_total{node=\"1\"} 30\ncinoweta_inputs_total{node=\"2\"} 30\n",
-        "cinoweta_letters_waiting{node=\"2\"} 9\n# HELP cinoweta_refusals_total Refusals that clients were told since \
+        "cinoweta_letters_waiting{node=\"2\"} 9\n# HELP cinoweta_commit_seconds How long batches and checkpoints took since \
+         the start, those that failed too.\n# TYPE cinoweta_commit_seconds \
+         histogram\ncinoweta_commit_seconds_bucket{node=\"1\",le=\"0.001\"} \
+         3\ncinoweta_commit_seconds_bucket{node=\"1\",le=\"10\"} \
+         19\ncinoweta_commit_seconds_bucket{node=\"1\",le=\"+Inf\"} \
+         20\ncinoweta_commit_seconds_sum{node=\"1\"} 21000022e-6\ncinoweta_commit_seconds_count{node=\"1\"} \
+         20\ncinoweta_commit_seconds_bucket{node=\"2\",le=\"0.001\"} 3\n",
+        "cinoweta_commit_seconds_count{node=\"2\"} 20\n# HELP cinoweta_refusals_total Refusals that clients were told since \
          the start, by their number.\n# TYPE cinoweta_refusals_total \
          counter\ncinoweta_refusals_total{node=\"1\",number=\"4\"} \
          2\ncinoweta_refusals_total{node=\"1\",number=\"25\"} 1\n",

@@ -1,6 +1,6 @@
 // Rings that tests tell of.
 use ring_records::{Bid, Candidate, Decision, GroupName, Key, NodeNo, Shown, Term};
-use ring_status::{Condition, NodeStatus, RefusalCount};
+use ring_status::{Bound, CommitTimes, Condition, NodeStatus, RefusalCount, WithinCount};
 use std::alloc::{AllocError, Global};
 use std::process::Abort;
 
@@ -19,6 +19,15 @@ pub fn node(
     refusals.push(RefusalCount {
         number: 25,
         count: 1,
+    })?;
+    let mut within = Vec::new(alloc);
+    within.push(WithinCount {
+        bound: Bound::Millis1,
+        count: 3,
+    })?;
+    within.push(WithinCount {
+        bound: Bound::Seconds10,
+        count: 19,
     })?;
     let node = NodeNo::new(number).expect(rt, "a node");
     Ok(NodeStatus {
@@ -46,6 +55,11 @@ pub fn node(
         syncs: 6,
         refused_rounds: 16,
         writing: 12,
+        commits: CommitTimes {
+            within,
+            count: 20,
+            micros: 21_000_022,
+        },
         refusals,
         sessions: 8,
         doors: 4,
