@@ -15,6 +15,13 @@ const AUDITED: &[Line] = &[
     ("audit", &["no 27 dropped 1"]),
 ];
 
+// What is made durable: a command that prints two lines.
+const FLUSHED: &[Line] = &[
+    ("ring 2 lazy", &["ring 2"]),
+    ("stand 1 red 9 5", &["1: sealed"]),
+    ("flush 1", &["flushed 1", "1: stood"]),
+];
+
 // The session; where a growth is refused it is made again.
 fn session<R: Abort + AllocGlobal>(rt: &R, lines: &[Line]) -> Session {
     match Session::of(rt.alloc(), lines) {
@@ -32,8 +39,25 @@ fn page(rt: &impl Abort, alloc: Global, room: usize) -> Vec<u8> {
     page
 }
 
-// The script prints its text, or, where a growth is refused, whole lines of its beginning.
-fn prints<R: Abort + AllocGlobal>(rt: &R, session: &Session) -> Result<u64, RunFault> {
+// Whether the text of the first commands, whole, has so many bytes.
+fn is_whole(lines: &[Line], len: usize) -> bool {
+    let mut end = 0usize;
+    let mut found = len == 0;
+    for (_, printed) in lines {
+        for line in printed.iter() {
+            end = end.saturating_add(line.len()).saturating_add(1);
+        }
+        found = found || end == len;
+    }
+    found
+}
+
+// The script prints its text, or, where a growth is refused, the text of its first commands, whole.
+fn prints<R: Abort + AllocGlobal>(
+    rt: &R,
+    session: &Session,
+    lines: &[Line],
+) -> Result<u64, RunFault> {
     let text = session.text.as_bytes();
     let mut out = page(rt, rt.alloc(), text.len());
     let mut rest = session.script.as_slice();
@@ -42,7 +66,7 @@ fn prints<R: Abort + AllocGlobal>(rt: &R, session: &Session) -> Result<u64, RunF
         assert!(rt; out.as_slice() == text);
     } else {
         assert!(rt; text.starts_with(&out));
-        assert!(rt; out.is_empty() || out.ends_with(b"\n"));
+        assert!(rt; is_whole(lines, out.len()));
     }
     answer
 }
@@ -50,9 +74,9 @@ fn prints<R: Abort + AllocGlobal>(rt: &R, session: &Session) -> Result<u64, RunF
 // The script prints its text, at the second run where the first is refused a growth, and has so many lines.
 fn prints_at_last<R: Abort + AllocGlobal>(rt: &R, lines: &[Line], count: u64) {
     let session = session(rt, lines);
-    let mut answer = prints(rt, &session);
+    let mut answer = prints(rt, &session, lines);
     if answer == Err(RunFault::Memory) {
-        answer = prints(rt, &session);
+        answer = prints(rt, &session, lines);
     }
     assert_eq!(rt; answer, Ok(count));
 }
@@ -60,6 +84,11 @@ fn prints_at_last<R: Abort + AllocGlobal>(rt: &R, lines: &[Line], count: u64) {
 #[test]
 fn refused_growths(rt: HostRuntime) {
     prints_at_last(&rt, AUDITED, 7);
+}
+
+#[test]
+fn refused_growths_of_a_flush(rt: HostRuntime) {
+    prints_at_last(&rt, FLUSHED, 4);
 }
 
 #[test]
