@@ -189,6 +189,21 @@ func noAnswer(ctx context.Context, address string, err error) *NoAnswerError {
 	return &NoAnswerError{address, err}
 }
 
+// isPassing tells whether time or an operator mends the fault, as by a start or a new folder, and it is none of the
+// question.
+func isPassing(err error) bool {
+	var noLeader *NoLeaderError
+	if isNoAnswer(err) || errors.As(err, &noLeader) {
+		return true
+	}
+	for _, cause := range []Refusal{ErrLimitReached, ErrFull, ErrOutOfMemory, ErrNodeFailed, ErrDeviceFailed} {
+		if errors.Is(err, cause) {
+			return true
+		}
+	}
+	return false
+}
+
 // isNoAnswer tells whether nobody answered.
 func isNoAnswer(err error) bool {
 	var fault *NoAnswerError

@@ -77,8 +77,8 @@ func NewLock(ring *Ring, group string, how LockOptions) *Lock {
 }
 
 // Acquire waits until this process leads, or the context is over: then a [LockTakenError] where another process holds
-// the lock. A ring that is away, and answered before, is waited for just so: then a [NoAnswerError]. Across hosts its
-// status port is waited for likewise; a [WrongRingError] where it is not told, or does not know who leads.
+// the lock. A ring that answered before is waited for just so where it is away, full or failed: then its fault. Across
+// hosts its status port is waited for likewise; a [WrongRingError] where it is not told, or does not know who leads.
 func (l *Lock) Acquire(ctx context.Context) error {
 	return l.acquire(ctx, ctx)
 }
@@ -247,7 +247,9 @@ func (l *Lock) requireSight() error {
 // term.
 func (l *Lock) contend(ctx, waits context.Context, campaign *campaign) (int, error) {
 	var pause pause
+	told := ""
 	for {
+		// Where the ring came to no leader before, these are the same Stands, and take no room again.
 		election, err := campaign.run(ctx)
 		if err == nil && election.IsMine {
 			err = l.sign.show(ctx, election.Led)
@@ -259,8 +261,11 @@ func (l *Lock) contend(ctx, waits context.Context, campaign *campaign) (int, err
 			return election.Term, nil
 		case err == nil || election.IsMine && isOver(err):
 			campaign.how.Gone = election.Term
-		case isNoAnswer(err) && l.ring.hasAnswered.Load() && pause.take(waits, l.ring):
-			l.tell("waits for the ring: " + err.Error())
+		case isPassing(err) && l.ring.hasAnswered.Load() && pause.take(waits, l.ring):
+			if text := err.Error(); text != told {
+				told = text
+				l.tell("waits for the ring: " + text)
+			}
 		default:
 			return 0, err
 		}

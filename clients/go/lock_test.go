@@ -251,13 +251,45 @@ func TestARingThatIsAwayIsWaitedForSoLong(t *testing.T) {
 	same(t, took >= 400*time.Millisecond && took < 2*time.Second, true)
 }
 
-func TestARingThatElectsNobodyEndsALock(t *testing.T) {
+func TestARingThatRefusesIsWaitedFor(t *testing.T) {
+	for _, fault := range []string{"no 6 limit", "no 7 full", "no 8 memory", "no 9 failed", "no 15 device 1"} {
+		ring, nodes, votes := elected(t)
+		var left atomic.Int32
+		left.Store(6)
+		for place, node := range nodes {
+			own := votes.at(place + 1)
+			node.is(func(line string) (string, bool) {
+				if !strings.HasPrefix(line, "stand") || left.Add(-1) < 0 {
+					return own(line)
+				}
+				// A Stand is there or not where the device failed.
+				if strings.Contains(fault, "device") {
+					own(line)
+				}
+				return fault, true
+			})
+		}
+		told := tells{}
+		lock := lockOf(t, ring, LockOptions{Tell: told.tell})
+		must(t, lock.Acquire(background(t)))
+		same(t, []any{lock.Term(), holds(t, lock), len(votes.stood)}, []any{1, true, 1})
+		same(t, told.all(), "waits for the ring: cinoweta: "+fault)
+	}
+}
+
+func TestARingThatElectsNobodyIsWaitedForSoLong(t *testing.T) {
 	ring, _, votes := elected(t)
 	votes.deposed = true
-	lock := lockOf(t, ring, LockOptions{})
+	told := tells{}
+	lock := lockOf(t, ring, LockOptions{Tell: told.tell})
 	lock.wait = 50 * time.Millisecond
-	as[*NoLeaderError](t, lock.Acquire(background(t)))
-	same(t, lock.sign == nil, true)
+	as[*NoLeaderError](t, lock.TryAcquire(background(t)))
+	ctx, cancel := context.WithTimeout(background(t), 500*time.Millisecond)
+	defer cancel()
+	err := lock.Acquire(ctx)
+	same(t, isPassing(err), true)
+	same(t, told.all(), "waits for the ring: cinoweta: red: no leader in 3 terms above 0")
+	same(t, []any{lock.sign == nil, len(votes.stood)}, []any{true, 3})
 }
 
 func TestALockIsLostOnceAGreaterTermIsKnown(t *testing.T) {

@@ -264,7 +264,7 @@ func TestALockThatCanNotBeShownIsNotHeld(t *testing.T) {
 		})
 	}
 	lock := acrossOf(t, ring, LockOptions{})
-	is(t, lock.Acquire(background(t)), ErrNodeFailed)
+	is(t, lock.TryAcquire(background(t)), ErrNodeFailed)
 	same(t, []any{lock.sign == nil, lock.Term(), holds(t, lock)}, []any{true, 0, false})
 }
 
@@ -285,7 +285,7 @@ func TestALockThatCanNotBeShownYetIsWaitedFor(t *testing.T) {
 	must(t, lock.Acquire(background(t)))
 	led := votes.led()
 	same(t, []any{lock.Term(), nodes[led.Leader.Node-1].isPresent("red", led)}, []any{1, true})
-	same(t, strings.Count(told.all(), "waits for the ring: cinoweta: no answer of "+otherHost), 3)
+	same(t, strings.Count(told.all(), "waits for the ring: cinoweta: no answer of "+otherHost), 1)
 }
 
 func TestALockWhoseTermIsOverBeforeItIsShownIsTakenAgain(t *testing.T) {

@@ -88,7 +88,7 @@ func ParseRing(text string) (*Ring, error) {
 }
 
 // RingFromEnv gives the ring of CINOWETA_RING, as [ParseRing] does, with the status port of CINOWETA_STATUS, which may
-// be left out.
+// be left out, and stands behind the ring's host or alone.
 func RingFromEnv() (*Ring, error) {
 	ring, err := ParseRing(os.Getenv("CINOWETA_RING"))
 	if err != nil {
@@ -98,9 +98,10 @@ func RingFromEnv() (*Ring, error) {
 	if text == "" {
 		return ring, nil
 	}
-	port, err := strconv.ParseUint(text, 10, 16)
+	port, err := strconv.ParseUint(strings.TrimPrefix(text, ring.Host+":"), 10, 16)
 	if err != nil {
-		return nil, fmt.Errorf("CINOWETA_STATUS: %w", &WrongRingError{fmt.Sprintf("%q is no port", text)})
+		wrong := &WrongRingError{fmt.Sprintf("%q is no port of %s", text, ring.Host)}
+		return nil, fmt.Errorf("CINOWETA_STATUS: %w", wrong)
 	}
 	ring.Status = int(port)
 	return ring, nil

@@ -231,7 +231,9 @@ func TestRingFromEnv(t *testing.T) {
 	for _, row := range []struct {
 		ring, status string
 		wanted       int
-	}{{"7101-7103", "", 0}, {"7101-7103", "7100", 7100}, {"7101-7103", "x", -1}, {"", "7100", -1}} {
+	}{{"7101-7103", "", 0}, {"7101-7103", "7100", 7100}, {"7101-7103", "x", -1}, {"", "7100", -1},
+		{"7101-7103", "127.0.0.1:7100", 7100}, {"ring.example:7101-7103", "ring.example:7100", 7100},
+		{"7101-7103", "10.0.0.5:7100", -1}, {"7101-7103", ":7100", -1}} {
 		t.Setenv("CINOWETA_RING", row.ring)
 		t.Setenv("CINOWETA_STATUS", row.status)
 		ring, err := RingFromEnv()

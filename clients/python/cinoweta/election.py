@@ -5,7 +5,8 @@ from collections.abc import Iterator
 from typing import TYPE_CHECKING, NamedTuple
 
 from . import status
-from .errors import AlreadyStands, CinowetaError, Late, LimitReached, NoAnswer, NoLeader, Retired, Stale, WrongRing
+from .errors import (AlreadyStands, CinowetaError, DeviceFailed, Late, LimitReached, NoAnswer, NoLeader, Retired, Stale,
+                     WrongRing)
 from .pause import Pause
 
 if TYPE_CHECKING:
@@ -95,7 +96,7 @@ class Campaign:
                 self.ring.stand(self.group, term, self.bid, place)
                 self.stood.add((term, candidate))
                 return
-            except NoAnswer:
+            except (NoAnswer, DeviceFailed):
                 # It may have been accepted, and nobody else has the bid.
                 self.stood.add((term, candidate))
                 raise

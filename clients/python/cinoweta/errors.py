@@ -90,6 +90,9 @@ class Undecided(Refused):
     """26: the floor is above the latest term of the group that has a leader, as far as the node knows."""
 
 
+# What time or an operator mends, as a start or a new folder. It is no fault of the question.
+PASSING = (NoAnswer, NoLeader, LimitReached, Full, OutOfMemory, NodeFailed, DeviceFailed)
+
 KINDS: dict[int, type[Refused]] = {
     1: BadName, 2: BadNumber, 3: AlreadyStands, 4: Late, 5: Stale, 6: LimitReached, 7: Full, 8: OutOfMemory,
     9: NodeFailed, 15: DeviceFailed, 23: Retired, 25: BadLine, 26: Undecided,

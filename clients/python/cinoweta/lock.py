@@ -11,7 +11,7 @@ from typing import NamedTuple
 from . import presence
 from .beacon import Beacon, ask, is_there
 from .election import KEEP, Campaign, Election, Leader, Led
-from .errors import Late, LockTaken, NoAnswer, OutOfMemory, Retired, Stale, WrongRing
+from .errors import PASSING, Late, LockTaken, NoAnswer, OutOfMemory, Retired, Stale, WrongRing
 from .host import is_own
 from .pause import Pause
 from .presence import ABSENT, Presence
@@ -68,8 +68,8 @@ class Lock:
     """The lock of a group: `with Lock(ring, "jobs") as held:` waits until this process leads, in `held.term`, which it
     sends with each write as a fencing number, and resigns at the end. A holder is gone once its process has ended, or
     did not answer for `patience` seconds, as a paused one. Waited is for `wait` seconds, or for ever: then `LockTaken`;
-    0 tries once. A ring that answered before is waited for just so; then `NoAnswer`. Others are told `text`. The terms
-    more than `keep` below its own are retired.
+    0 tries once. A ring that answered before is waited for just so where it is away, full or failed; then its fault is
+    raised. Others are told `text`. The terms more than `keep` below its own are retired.
 
     `across_hosts`, which is so with a ring of another host where it is not said, its clients may be on several hosts: all
     of them have to say so. The ring's `status` is needed, and a door of the node where the holder leads; no `text` is
@@ -103,9 +103,10 @@ class Lock:
 
     def contend(self, campaign: Campaign, tell: Callable[[str], object]) -> None:
         """Stands for the term above that of each holder that is gone, until it leads itself."""
-        pause = Pause(self.ring, self.wait)
+        pause, told = Pause(self.ring, self.wait), ""
         while True:
             try:
+                # Where the ring came to no leader before, these are the same Stands, and take no room again.
                 election = campaign.run(TERMS, SECONDS)
                 if election.is_mine and self.show(election):
                     self.term, self.asked = election.term, time.monotonic()
@@ -113,10 +114,12 @@ class Lock:
                 if not election.is_mine:
                     self.await_end(Led(election.term, election.leader), pause, tell)
                 campaign.gone = election.term
-            except NoAnswer as fault:
+            except PASSING as fault:
                 if not self.ring.has_answered or not pause.take():
                     raise
-                tell(f"waits for the ring: {fault}")
+                if told != str(fault):
+                    told = str(fault)
+                    tell(f"waits for the ring: {told}")
             finally:
                 self.ring.close()
 

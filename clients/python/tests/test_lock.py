@@ -24,6 +24,21 @@ class Outage:
         return None if self.lines in self.lost else told
 
 
+class Refusing:
+    """Refuses so many Stands, which are there all the same or not, and answers then."""
+
+    def __init__(self, votes: Votes, refusal: str, count: int, is_there: bool) -> None:
+        self.votes, self.refusal, self.left, self.is_there = votes, refusal, count, is_there
+
+    def __call__(self, line: str) -> str:
+        if not line.startswith("stand") or not self.left:
+            return self.votes(line)
+        self.left -= 1
+        if self.is_there:
+            self.votes(line)
+        return self.refusal
+
+
 class LockTest(Beside):
     def setUp(self) -> None:
         self.votes = Votes()
@@ -109,11 +124,29 @@ class LockTest(Beside):
             pass
         self.assertTrue(0.5 <= time.monotonic() - before < 2.0)
 
-    def test_a_ring_that_elects_nobody_ends_it(self) -> None:
+    def test_a_ring_that_refuses_is_waited_for(self) -> None:
+        for fault in ("6 limit", "7 full", "8 memory", "9 failed", "15 device 1"):
+            self.votes = Votes()
+            ring, nodes = self.votes_ring()
+            # A Stand is there or not where the device failed, and the node answers for it once it was started again.
+            is_there = fault.startswith("15")
+            nodes[0].answer = nodes[1].answer = Refusing(self.votes, f"no {fault}", 6, is_there)
+            told: list[str] = []
+            lock = self.lock(ring)
+            lock.acquire(told.append)
+            self.assertEqual((lock.term, lock.is_lost(), len(self.votes.stood)), (1, False, 1), fault)
+            self.assertEqual(told, [f"waits for the ring: no {fault}"])
+
+    def test_a_ring_that_elects_nobody_is_waited_for_so_long(self) -> None:
         self.votes = Votes(elects=False)
         ring, _ = self.votes_ring()
-        with mock.patch("cinoweta.lock.SECONDS", 0.05), self.assertRaises(NoLeader), self.lock(ring):
-            pass
+        told: list[str] = []
+        with mock.patch("cinoweta.lock.SECONDS", 0.05):
+            for wait in (0.0, 0.5):
+                with self.assertRaises(NoLeader):
+                    self.lock(ring, wait=wait).acquire(told.append)
+        self.assertEqual(told, ["waits for the ring: red: no leader in 3 terms above 0"])
+        self.assertEqual(len(self.votes.stood), 3)
 
     def test_it_is_lost_once_a_greater_term_is_known(self) -> None:
         ring, nodes = self.votes_ring(timeout=0.2)

@@ -117,13 +117,13 @@ class PresenceTest(Beside, BesideStatus):
         # The node stands, and is away behind that.
         def falters(line: str) -> str | None:
             told = self.votes(line)
-            return next(answers, "no 9 failed") if line.startswith("stand ") else told
+            return next(answers, "no 25 line") if line.startswith("stand ") else told
 
         nodes[0].answer = nodes[1].answer = falters
         lock = self.lock(ring)
         with self.assertRaises(Refused) as caught:
             lock.acquire()
-        self.assertEqual((str(caught.exception), lock.sign, lock.term), ("no 9 failed", None, 0))
+        self.assertEqual((str(caught.exception), lock.sign, lock.term), ("no 25 line", None, 0))
 
     def test_a_lock_whose_term_is_over_before_it_is_shown_is_taken_again(self) -> None:
         ring, nodes = self.votes_ring()
