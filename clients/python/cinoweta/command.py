@@ -9,7 +9,7 @@ from typing import Any
 
 from . import move as moving
 from . import status
-from .errors import CinowetaError, LockTaken, NoAnswer, NoLeader, Refused
+from .errors import CinowetaError, LockTaken, NoAnswer, NoLeader, Refused, WrongRing
 from .host import OWN, place
 from .lock import Lock
 from .lock import holder as holder_of
@@ -47,11 +47,20 @@ def main(words: list[str] | None = None) -> int:
 def ring_of(told: argparse.Namespace) -> Ring:
     if not told.ring:
         raise ValueError("no ring: tell its ports by --ring or CINOWETA_RING, as 7101-7103")
-    return Ring.parse(told.ring, timeout=told.timeout, status=getattr(told, "status", None))
+    ring = Ring.parse(told.ring, timeout=told.timeout)
+    text = getattr(told, "status", None)
+    if not text:
+        return ring
+    host, port = place(text, ring.host)
+    if host != ring.host:
+        raise WrongRing(f"{text}: the ring is one of {ring.host}")
+    return Ring.parse(told.ring, timeout=told.timeout, status=port)
 
 
-def status_of(told: argparse.Namespace, text: str) -> tuple[str, int]:
+def status_of(told: argparse.Namespace, text: str | None) -> tuple[str, int]:
     """The host and the port of `ringd --status`. A port alone is one of the ring's host, where a ring is told."""
+    if not text:
+        raise ValueError("no port: tell that of ringd --status by --port or CINOWETA_STATUS")
     return place(text, Ring.parse(told.ring).host if told.ring else OWN)
 
 
@@ -142,9 +151,17 @@ def watch(told: argparse.Namespace) -> int:
     return 0
 
 
+def show_leaders(told: argparse.Namespace) -> int:
+    code = NONE
+    host, port = status_of(told, told.port)
+    for group, term, node, bid in status.leaders(port, told.node, told.timeout, host=host, after=told.after):
+        code = 0
+        text = f"{group} term {term} leader {node} {bid}"
+        show(told, text, group=group, term=term, leader={"node": node, "bid": bid})
+    return code
+
+
 def show_status(told: argparse.Namespace) -> int:
-    if not told.port:
-        raise ValueError("no port: tell that of ringd --status by --port or CINOWETA_STATUS")
     host, port = status_of(told, told.port)
     faults, ring = status.health(port, told.timeout, host=host), status.status(port, told.timeout, host=host)
     show(told, "\n".join([*(faults or ["well"]), status.table(ring)]), **{"health": faults, **ring})
@@ -192,5 +209,5 @@ def move(told: argparse.Namespace) -> int:
 
 COMMANDS: dict[str, Callable[[argparse.Namespace], int]] = {
     "stand": stand, "who": who, "latest": latest, "retire": retire, "campaign": campaign, "watch": watch,
-    "status": show_status, "lock": lock, "holder": holder, "move": move,
+    "status": show_status, "leaders": show_leaders, "lock": lock, "holder": holder, "move": move,
 }

@@ -1,5 +1,6 @@
 """Hosts, and how they are told."""
 import re
+import socket
 
 from .errors import WrongRing
 
@@ -23,6 +24,14 @@ def require(host: str) -> str:
 def is_own(host: str) -> bool:
     """Whether it is an address of this host alone, one of 127.0.0.0/8."""
     return host.startswith("127.") and ADDRESS.fullmatch(host) is not None
+
+
+def addresses(host: str) -> set[str]:
+    """Its IPv4 addresses; none where it is not found."""
+    try:
+        return {found[4][0] for found in socket.getaddrinfo(host, None, socket.AF_INET)}
+    except OSError:
+        return set()
 
 
 def place(text: str, host: str) -> tuple[str, int]:

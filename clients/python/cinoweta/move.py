@@ -6,7 +6,7 @@ from . import status
 from .beacon import SPREAD
 from .election import Led
 from .errors import NoLeader, WrongRing
-from .host import OWN
+from .host import OWN, addresses
 from .pause import Pause
 from .ring import Ring
 
@@ -18,7 +18,7 @@ def terms(port: int, seconds: float, *, host: str = OWN) -> dict[str, int]:
     """Each group of the ring that tells of itself at this port, with the greatest term that any of its nodes knows."""
     known: dict[str, int] = {}
     for node in range(1, len(status.status(port, seconds, host=host)["nodes"]) + 1):
-        for group, term in status.leaders(port, node, seconds, host=host):
+        for group, term, _, _ in status.leaders(port, node, seconds, host=host):
             known[group] = max(term, known.get(group, 0))
     return known
 
@@ -29,7 +29,7 @@ def move(port: int, ring: Ring, *, host: str = OWN) -> Iterator[tuple[str, Led]]
     the old ring is led again, and what was moved stays so where this is broken off and begun again. The clients have to
     be away from both rings; `WrongRing` where a group of the old one has a new term behind it all."""
     ports = {node.get("port") for node in status.status(port, ring.timeout, host=host)["nodes"]}
-    if host == ring.host and ports & {*ring.ports}:
+    if ports & {*ring.ports} and (host == ring.host or addresses(host) & addresses(ring.host)):
         raise WrongRing(f"{host}:{port} tells of the new ring itself")
     moved = terms(port, ring.timeout, host=host)
     for group, term in sorted(moved.items()):

@@ -2,6 +2,7 @@
 import http.client
 import json
 import time
+import urllib.parse
 from collections.abc import Iterator
 from typing import Any
 
@@ -42,16 +43,19 @@ def status(port: int, seconds: float = 5.0, *, host: str = OWN) -> dict[str, Any
     return ask_rows(host, port, "/status", "nodes", seconds)
 
 
-def leaders(port: int, node: int, seconds: float = 5.0, *, host: str = OWN) -> Iterator[tuple[str, int]]:
-    """Each group that a node knows a leader of, in order of name, and its latest term."""
-    path: str | None = f"/leaders?node={node}"
-    while path is not None:
+def leaders(port: int, node: int, seconds: float = 5.0, *, host: str = OWN,
+            after: str = "") -> Iterator[tuple[str, int, int, int]]:
+    """Each group behind `after` that a node knows a leader of, in order of name, and its latest term, node and bid."""
+    while True:
+        path = f"/leaders?node={node}" + (f"&after={urllib.parse.quote(after, safe='')}" if after else "")
         told = ask_rows(host, port, path, "leaders", seconds)
-        rows = [(row.get("group"), row.get("term")) for row in told["leaders"]]
-        if not all(isinstance(group, str) and isinstance(term, int) for group, term in rows):
+        rows = [tuple(row.get(name) for name in ("group", "term", "node", "bid")) for row in told["leaders"]]
+        if not all(isinstance(row[0], str) and all(isinstance(number, int) for number in row[1:]) for row in rows):
             raise WrongRing(f"{host}:{port}{path} tells no leaders")
         yield from rows
-        path = f"/leaders?node={node}&after={rows[-1][0]}" if told.get("more") and rows else None
+        if not rows or not told.get("more"):
+            return
+        after = rows[-1][0]
 
 
 def coming(port: int, group: str, above: int, seconds: int, *, host: str = OWN) -> tuple[int, int, int] | None:

@@ -40,9 +40,11 @@ def arguments() -> argparse.ArgumentParser:
     watch = command("watch", "prints each new leader", "group")
     watch.add_argument("--after", type=int, default=0, metavar="TERM")
     watch.add_argument("--count", type=int, default=0, metavar="N", help="ends after so many; 0 for never")
-    asked = command("status", "what ringd --status PORT tells")
-    asked.add_argument("--port", default=os.environ.get("CINOWETA_STATUS"),
-                       help="of the ring's host, or HOST:PORT; CINOWETA_STATUS where it is left out")
+    add_port(command("status", "what ringd --status PORT tells"))
+    leaders = command("leaders", "each group with its latest leader, as ringd --status PORT tells")
+    add_port(leaders)
+    leaders.add_argument("--after", default="", metavar="GROUP", help="those behind this one, in order of name")
+    leaders.add_argument("--node", type=int, metavar="I", default=1, help="by what this node knows, 1 where none is told")
     add_lock(command("lock", "runs the COMMAND behind -- while it leads", "group"))
     holder = command("holder", "who holds a lock", "group")
     add_sight(holder)
@@ -51,6 +53,11 @@ def arguments() -> argparse.ArgumentParser:
     move.add_argument("--from", required=True, metavar="PORT", dest="old",
                       help="that of its ringd --status, of the new ring's host, or HOST:PORT")
     return parser
+
+
+def add_port(parser: argparse.ArgumentParser) -> None:
+    parser.add_argument("--port", default=os.environ.get("CINOWETA_STATUS"),
+                        help="of the ring's host, or HOST:PORT; CINOWETA_STATUS where it is left out")
 
 
 def add_common(parser: argparse.ArgumentParser, ring: str | None, json: bool | str, timeout: float | str) -> None:
@@ -76,7 +83,8 @@ def add_lock(parser: argparse.ArgumentParser) -> None:
     parser.add_argument("--rank", type=int, default=0, help="0 to 9")
     add_sight(parser)
     parser.add_argument("--wait", type=float, metavar="SECONDS",
-                        help="how long it waits for who holds the lock; 0 tries once; for ever where it is left out")
+                        help="how long it waits for who holds the lock, and for a ring that is away, full or failed; 0 "
+                             "tries once; for ever where it is left out")
     parser.add_argument("--grace", type=float, default=10.0, metavar="SECONDS", help="from TERM to KILL")
     parser.add_argument("--text", default="", help="what `holder` tells of this one, 200 bytes at most")
     add_keep(parser)
@@ -96,6 +104,6 @@ def add_keep(parser: argparse.ArgumentParser) -> None:
 
 
 def add_status(parser: argparse.ArgumentParser) -> None:
-    parser.add_argument("--status", type=int, metavar="PORT", default=os.environ.get("CINOWETA_STATUS"),
-                        help="that of ringd --status, or CINOWETA_STATUS: where nobody comes to lead, it is asked why, and "
-                             "across hosts who holds a lock")
+    parser.add_argument("--status", metavar="PORT", default=os.environ.get("CINOWETA_STATUS"),
+                        help="that of ringd --status, which may stand behind the ring's host, or CINOWETA_STATUS: where "
+                             "nobody comes to lead, it is asked why, and across hosts who holds a lock")

@@ -90,6 +90,12 @@ class HostTest(Beside, BesideStatus):
         ring.status = port
         with self.assertRaisesRegex(NoLeader, ": node 2 failed"):
             ring.campaign("red", terms=1, seconds=0.0)
+        words = ["--ring", f"{OTHER}:{ring.first}-{ring.ports[-1]}", "campaign", "--terms", "1", "--wait", "0", "red"]
+        for text in (str(port), f"{OTHER}:{port}"):
+            code, _, err = told(*words, "--status", text)
+            self.assertEqual((code, err.rstrip()[-15:]), (4, ": node 2 failed"), text)
+        code, _, err = told(*words, "--status", f"127.0.0.1:{port}")
+        self.assertEqual((code, err), (2, f"cinoweta: 127.0.0.1:{port}: the ring is one of {OTHER}\n"))
 
     def test_a_lock_is_held_with_a_ring_of_each_own_address(self) -> None:
         votes = Votes()
@@ -101,7 +107,7 @@ class HostTest(Beside, BesideStatus):
     def test_the_groups_of_a_ring_of_another_host_go_on(self) -> None:
         votes = Votes()
         ring, _ = self.ring(votes, votes)
-        leaders = {"leaders": [{"group": "red", "term": 5}], "more": False}
+        leaders = {"leaders": [{"group": "red", "term": 5, "node": 1, "bid": 7}], "more": False}
         # Both rings have the same ports.
         nodes = {"nodes": [{"port": port} for port in ring.ports]}
         pages = {"/status": (200, json.dumps(nodes)), **{f"/leaders?node={node}": (200, json.dumps(leaders))

@@ -1,9 +1,10 @@
 """The groups of a ring go on in a new one, beside a real ringd."""
+import itertools
 import threading
 import time
 import unittest
 
-from cinoweta import Lock, Ring, status
+from cinoweta import Full, LimitReached, Lock, Ring, status
 from cinoweta.move import terms
 
 from .served import Served, require
@@ -47,19 +48,24 @@ class MoveTest(unittest.TestCase):
 
     def test_what_is_no_other_ring(self) -> None:
         served, empty = self.serve(), self.serve()
-        code, lines, error = self.move(served, served)
-        self.assertEqual((code, lines), (2, []))
-        self.assertIn("the new ring itself", error)
+        for host in ("", "127.0.0.1:", "localhost:"):
+            ended = served.run("move", "--from", f"{host}{served.status}")
+            self.assertEqual((ended.returncode, ended.stdout), (2, ""))
+            self.assertIn("the new ring itself", ended.stderr)
         self.assertEqual(self.move(empty, served), (0, ["moved 0"], ""))
         empty.kill()
         self.assertEqual(self.move(empty, served)[0], 3)
         empty.start()
 
-    def test_lockers_go_on_in_the_new_ring(self) -> None:
-        old, new = self.serve(4_096), self.serve()
+    def test_lockers_wait_at_a_full_ring_and_go_on_in_the_new_one(self) -> None:
+        old, new = self.serve(), self.serve()
         lockers = Lockers(old.ports)
         self.addCleanup(lockers.end)
         lockers.await_terms(60)
+        fill(Ring.parse(old.ports))
+        while lockers.goes_on():
+            pass
+        self.assertIn(" full", status.health(old.status)[0])
         here, there = old.first, new.first
         old.kill()
         # At other ports both rings have no clients.
@@ -71,10 +77,20 @@ class MoveTest(unittest.TestCase):
         new.kill()
         new.first = here
         self.assertTrue(new.start())
-        lockers.await_terms(80)
+        lockers.await_terms(len(lockers.terms) + 20)
         self.assertEqual(lockers.faults, [])
         self.assertEqual(lockers.terms, sorted(set(lockers.terms)))
         self.assertTrue(last >= 60 and last + 1 not in lockers.terms)
+
+
+def fill(ring: Ring) -> None:
+    """Stands at all nodes in turn, in terms that nobody retires, until one has no room."""
+    with ring:
+        for term in itertools.count(1):
+            try:
+                ring.stand("filler", term, 0, term % ring.nodes + 1)
+            except (Full, LimitReached):
+                return
 
 
 class Lockers:
@@ -103,6 +119,12 @@ class Lockers:
             if time.monotonic() > until:
                 raise AssertionError(f"{len(self.terms)} terms in a minute")
             time.sleep(0.01)
+
+    def goes_on(self) -> bool:
+        """Whether anybody comes to hold it within two seconds."""
+        before = len(self.terms)
+        time.sleep(2.0)
+        return len(self.terms) > before
 
     def end(self) -> None:
         self.ends = True

@@ -1,10 +1,15 @@
 """`cinoweta status` beside a server that answers as `ringd --status` does."""
+import contextlib
 import http.server
+import io
 import json
+import os
 import threading
 import unittest
+from unittest import mock
 
 from cinoweta import NoAnswer, WrongRing, status
+from cinoweta.command import main
 
 NODES = [{"journal": {"batches": 3, "inputs": 20 + node}, "node": node, "port": 7100 + node,
           "sessions": {"begun": 5, "refusals": refusals}, "stands": {"left": 1000, "taken": 10 + node}, "state": state}
@@ -62,16 +67,42 @@ class StatusTest(BesideStatus):
             with self.assertRaises(WrongRing):
                 status.coming(self.serve({"/leaders/red?above=6&wait=1": (code, text)}), "red", 6, 1)
 
-    def test_leaders(self) -> None:
+    def pages(self) -> int:
+        """The port of a server that tells three groups, in pages of two."""
         def page(more: bool, *groups: str) -> tuple[int, str]:
-            return 200, json.dumps({"by": 2, "leaders": [{"group": group, "term": 5} for group in groups], "more": more})
+            rows = [{"bid": 7, "group": group, "node": 3, "term": 5} for group in groups]
+            return 200, json.dumps({"by": 2, "leaders": rows, "more": more})
 
-        port = self.serve({"/leaders?node=2": page(True, "a", "b"), "/leaders?node=2&after=b": page(True, "c-d"),
-                           "/leaders?node=2&after=c-d": page(False)})
-        self.assertEqual([*status.leaders(port, 2)], [("a", 5), ("b", 5), ("c-d", 5)])
-        for text in ("{}", '{"leaders": [1]}', '{"leaders": [{"group": "a"}]}', '{"leaders": [{"group": 1, "term": 1}]}'):
+        return self.serve({"/leaders?node=2": page(True, "a", "b"), "/leaders?node=2&after=b": page(True, "c-d"),
+                           "/leaders?node=2&after=c-d": page(False), "/leaders?node=1&after=b": page(False, "c-d")})
+
+    def test_leaders(self) -> None:
+        port, row = self.pages(), (5, 3, 7)
+        self.assertEqual([*status.leaders(port, 2)], [("a", *row), ("b", *row), ("c-d", *row)])
+        self.assertEqual([*status.leaders(port, 1, after="b")], [("c-d", *row)])
+        for text in ("{}", '{"leaders": [1]}', '{"leaders": [{"group": "a", "term": 1, "node": 1}]}',
+                     '{"leaders": [{"group": 1, "term": 1, "node": 1, "bid": 1}]}'):
             with self.assertRaises(WrongRing):
                 [*status.leaders(self.serve({"/leaders?node=1": (200, text)}), 1)]
+
+    def run_command(self, *words: str) -> tuple[int, str]:
+        """The status of the command, and what it printed."""
+        out = io.StringIO()
+        with contextlib.redirect_stdout(out), contextlib.redirect_stderr(out):
+            code = main([*words])
+        return code, out.getvalue()
+
+    def test_the_command_lists_leaders(self) -> None:
+        port = str(self.pages())
+        text = "a term 5 leader 3 7\nb term 5 leader 3 7\nc-d term 5 leader 3 7\n"
+        self.assertEqual(self.run_command("leaders", "--port", port, "--node", "2"), (0, text))
+        told = '{"group": "c-d", "term": 5, "leader": {"node": 3, "bid": 7}}\n'
+        self.assertEqual(self.run_command("leaders", "--port", f"127.0.0.1:{port}", "--after", "b", "--json"), (0, told))
+        self.assertEqual(self.run_command("leaders", "--port", port, "--node", "2", "--after", "c-d"), (1, ""))
+        with mock.patch.dict("os.environ"):
+            os.environ.pop("CINOWETA_STATUS", None)
+            for command in ("leaders", "status"):
+                self.assertEqual(self.run_command(command)[0], 2)
 
     def test_table(self) -> None:
         self.assertEqual(status.table(TOLD).split("\n"), [
