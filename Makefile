@@ -3,7 +3,7 @@
 # ringd: bin/ringd. serve: runs ringd on examples/ring.toml, unproved where bin/ringd is not built.
 # install: bin/ringd, its man page, its unit file, an example of settings, alerts and the package's wheel, under PREFIX, below DESTDIR.
 # fencing: a leader that is paused and wakes late is turned away, over bin/ringd.
-# clients: the tests of the clients, over bin/ringd.
+# clients: the tests of the clients, over bin/ringd, and of the alerts.
 # picture: the run of SCRIPT by ringctl, drawn as text and, to the file SVG, as SVG. pictures: the tests of that, and the pictures of the docs, over bin/ringctl.
 # kills: bin/ringd is killed 100 times at random moments, started again, and held to all that it told; what holds it is tried first.
 # years: bin/ringd elects and retires for an hour, killed once half way: whether its memory grows; YEARS has further words of trials/years.py.
@@ -65,6 +65,8 @@ clients:
 	@python3 -m unittest discover -s clients/python/tests -t clients/python
 	@if command -v go > /dev/null; then cd clients/go && go vet && $(if $(RINGD),RINGD="$(abspath $(RINGD))") go test; \
 	else echo "make clients: go is not there: the tests of clients/go are skipped"; fi
+	@if command -v promtool > /dev/null; then promtool test rules examples/test_alerts.yml; \
+	else echo "make clients: promtool is not there: the tests of examples/alerts.yml are skipped"; fi
 
 picture:
 	@pictures/draw.sh "$(SCRIPT)" $(if $(SVG),"$(SVG)")
