@@ -3,8 +3,8 @@
 
 One sync of a node hangs, from outside: a call of `fdatasync` that begins SECONDS later (14 by default). Meanwhile the status port of the
 ring is asked each half second. Before ten seconds are over `/health` says `well`, then that this node hangs, with 503, and `well` again
-once the sync is over; `/metrics` tells for how long the device has been busy. The Stand that waits for the sync is then answered, and its
-leader is known.
+once the sync is over; `/metrics` tells for how long the device has been busy, and `/leaders` who leads, though the Stand that waits for the
+sync holds the node's one door. It is then answered, and its leader is known.
 
   --ringd PATH   the server, `bin/ringd` by default.
 
@@ -65,6 +65,9 @@ def look(port: int, begun: float) -> Seen:
     """What is told now."""
     status, health = get(port, "/health")
     metrics = get(port, "/metrics")[1]
+    # The node's one door is held by the Stand that waits.
+    if get(port, f"/leaders/blue?node={NODE}")[0] != 200:
+        raise Failed("it does not tell who leads")
     return Seen(time.monotonic() - begun, status, health, value(metrics, "cinoweta_node_hangs"), value(metrics, "cinoweta_writing_seconds"))
 
 
@@ -97,8 +100,14 @@ def watch(refuser: Refuser, port: int, status: int, pause: float) -> None:
     """Asks node 2 for a Stand whose sync hangs, and looks at what is told meanwhile."""
     if get(status, "/health") != (200, "well\n"):
         raise Failed("a ring that does nothing is not well")
-    hang(refuser, pause)
     with socket.create_connection(("127.0.0.1", port + NODE - 1), pause + 10) as session:
+        if exchange(session, "stand blue 1 1") != "stood":
+            raise Failed("a ring that does nothing does not elect")
+        while exchange(session, "who blue 1") == "none":
+            time.sleep(0.01)
+        # Behind an election the ring comes to rest.
+        time.sleep(1)
+        hang(refuser, pause)
         begun = time.monotonic()
         session.sendall(b"stand red 5 10\n")
         longest = 0
