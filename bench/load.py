@@ -1,6 +1,6 @@
 #!/usr/bin/env python3
-"""load.py [--ringd PATH] [--folder PATH] [--runs N] [--against PROGRAM] [--capacity C] [--scrape MS] [--years TERMS]: times `ringd` under load, over
-sockets, on files.
+"""load.py [--ringd PATH] [--folder PATH] [--runs N] [--against PROGRAM] [--capacity C] [--scrape MS] [--turns PATH] [--years TERMS]: times `ringd` under
+load, over sockets, on files.
 
 It prints figures and asserts nothing of them. All of it stands in one run: the answers that clients get, an election, and the cost of
 a bare append with a sync in the same folder, to which the ratios are given.
@@ -21,6 +21,8 @@ a bare append with a sync in the same folder, to which the ratios are given.
                      makes one at some 780 elections. The rows at three nodes, with 3,072, want 262,144: in less, nodes get full.
   --scrape MS        `/metrics` is read at the start of each row's run, and every so many milliseconds then, 1 to 60,000. A node has 31
                      doors at most then, and so many clients in place of 32.
+  --turns PATH       another server, as one of the tree before, with which each run of a row is done in turns. Printed are in place of all
+                     else the answers a second by that one and by `--ringd`, and the ratio; of each row, and of all the mean ratio.
   --years TERMS      in place of all rows one ring, of 65,536 bytes where --capacity says no other, elects so many terms, 11 to 1,000,000,
                      in each of three groups, side by side, and each client retires at all nodes the terms more than 10 below the one that
                      it had elected. Printed are the times of elections and of retiring, what the nodes hold then, and by how much the
@@ -51,6 +53,7 @@ Status 0; 1 where a program did not do what is expected of it, which is told on 
 compiler. Linux alone: it reads /proc."""
 
 import argparse
+import itertools
 import json
 import os
 import random
@@ -446,6 +449,24 @@ def print_against(rows: list[Row], before: dict[int | str, list[float]], behind:
         )
 
 
+def turns(words: argparse.Namespace, folder: str) -> None:
+    """Each row by two servers in turns, which begin by turns too."""
+    paths = (words.turns, words.ringd)
+    benches = [Bench(Rings(os.path.abspath(path), folder, words.capacity, None), words.runs) for path in paths]
+    print(f"| clients | lines | {words.turns} | {words.ringd} | ratio |\n|---|---|---|---|---|", flush=True)
+    ratios = []
+    for nodes, clients, asks in itertools.product((1, RING), COUNTS, (False, True)):
+        rows = [Row(nodes, clients, asks) for _ in benches]
+        for run in range(words.runs):
+            for place in (0, 1) if run % 2 == 0 else (1, 0):
+                benches[place].run(rows[place])
+        before, now = (row.middle("answers") for row in rows)
+        ratios.append(now / before)
+        lines = "stand, who" if asks else "stand"
+        print(f"| {clients} at {rows[0].place} | {lines} | {before:,.0f} | {now:,.0f} | {now / before:.3f} |", flush=True)
+    print(f"\nof all rows {statistics.geometric_mean(ratios):.3f}")
+
+
 def busy() -> tuple[float, float]:
     """The seconds that all processors were busy by now, and those that this program and its children have taken of them."""
     with open("/proc/stat", encoding="ascii") as file:
@@ -537,6 +558,7 @@ def main() -> int:
     parser.add_argument("--against", metavar="PROGRAM")
     parser.add_argument("--capacity", type=int, metavar="C")
     parser.add_argument("--scrape", type=int, metavar="MS")
+    parser.add_argument("--turns", metavar="PATH")
     parser.add_argument("--years", type=int, metavar="TERMS")
     words = parser.parse_args()
     if not 1 <= words.runs <= 100:
@@ -554,6 +576,8 @@ def main() -> int:
         folder = tempfile.mkdtemp(prefix="load-", dir=os.path.abspath(words.folder))
         if words.years:
             age(Rings(os.path.abspath(words.ringd), folder, words.capacity, SECONDS), words.years)
+        elif words.turns:
+            turns(words, folder)
         else:
             run(words, folder)
         return 0
