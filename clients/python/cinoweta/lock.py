@@ -184,8 +184,8 @@ class Lock:
             self.resign()
 
     def resign(self, above: int = 0) -> None:
-        """Gives the lock back: who waits sees it at once, across hosts after some two seconds. Where this one takes it again its term is above this number,
-        as the one that turned a write away."""
+        """Gives the lock back: who waits sees it at once, across hosts after some two seconds. Where this one takes it
+        again its term is above this number, as the one that turned a write away."""
         self.gone = max(self.gone, self.term, above)
         if self.sign is not None:
             self.sign.close()

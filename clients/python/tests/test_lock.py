@@ -27,14 +27,14 @@ class Outage:
 class Refusing:
     """Refuses so many Stands, which are there all the same or not, and answers then."""
 
-    def __init__(self, votes: Votes, refusal: str, count: int, is_there: bool) -> None:
-        self.votes, self.refusal, self.left, self.is_there = votes, refusal, count, is_there
+    def __init__(self, votes: Votes, refusal: str, count: int, stands: bool) -> None:
+        self.votes, self.refusal, self.left, self.stands = votes, refusal, count, stands
 
     def __call__(self, line: str) -> str:
         if not line.startswith("stand") or not self.left:
             return self.votes(line)
         self.left -= 1
-        if self.is_there:
+        if self.stands:
             self.votes(line)
         return self.refusal
 
@@ -129,8 +129,8 @@ class LockTest(Beside):
             self.votes = Votes()
             ring, nodes = self.votes_ring()
             # A Stand is there or not where the device failed, and the node answers for it once it was started again.
-            is_there = fault.startswith("15")
-            nodes[0].answer = nodes[1].answer = Refusing(self.votes, f"no {fault}", 6, is_there)
+            stands = fault.startswith("15")
+            nodes[0].answer = nodes[1].answer = Refusing(self.votes, f"no {fault}", 6, stands)
             told: list[str] = []
             lock = self.lock(ring)
             lock.acquire(told.append)

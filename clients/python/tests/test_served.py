@@ -7,11 +7,14 @@ import threading
 import time
 import unittest
 
-from cinoweta import AlreadyStands, Election, Full, Late, Retired, Ring, Stale, Undecided
+from cinoweta import AlreadyStands, Election, Full, Late, Retired, Ring, Stale, Undecided, status
 
 from .served import HERE, Served, require
 
 setUpModule = require
+
+# Those of commits, in seconds.
+BOUNDS = ["0.0002", "0.001", "0.005", "0.025", "0.1", "0.5", "2.5", "10", "+Inf"]
 
 
 class ServedTest(unittest.TestCase):
@@ -23,6 +26,19 @@ class ServedTest(unittest.TestCase):
         ring = Ring.parse(self.served.ports)
         self.addCleanup(ring.close)
         return ring
+
+    def test_its_start_and_its_commits_are_told(self) -> None:
+        with self.ring() as ring:
+            ring.stand("red", 5, 10)
+        told = status.status(self.served.status)
+        words = ["--settings", f"{self.served.folder}/ring.toml", "--always", "--status", str(self.served.status), "--doors", "4"]
+        self.assertEqual((told["words"], told["idle"]), (" ".join(words), 0))
+        code, text = status.ask("127.0.0.1", self.served.status, "/metrics", 5.0)
+        rows = dict(line.rsplit(" ", 1) for line in text.splitlines() if line.startswith("cinoweta_commit_seconds"))
+        counts = [int(rows[f'cinoweta_commit_seconds_bucket{{node="1",le="{bound}"}}']) for bound in BOUNDS]
+        self.assertEqual((code, counts), (200, sorted(counts)))
+        self.assertTrue(counts[-1] == int(rows['cinoweta_commit_seconds_count{node="1"}']) >= 1)
+        self.assertGreater(float(rows['cinoweta_commit_seconds_sum{node="1"}']), 0.0)
 
     def until(self, is_so: object, what: str) -> None:
         """Waits until it is so."""
