@@ -31,8 +31,9 @@ class ServedTest(unittest.TestCase):
         with self.ring() as ring:
             ring.stand("red", 5, 10)
         told = status.status(self.served.status)
-        words = ["--settings", f"{self.served.folder}/ring.toml", "--always", "--status", str(self.served.status), "--doors", "4"]
-        self.assertEqual((told["words"], told["idle"]), (" ".join(words), 0))
+        words = f"--settings {self.served.folder}/ring.toml --always --status {self.served.status} "
+        idle = 2 if "--idle" in self.served.words else 0
+        self.assertEqual((told["words"], told["idle"]), (words + " ".join(self.served.words), idle))
         code, text = status.ask("127.0.0.1", self.served.status, "/metrics", 5.0)
         rows = dict(line.rsplit(" ", 1) for line in text.splitlines() if line.startswith("cinoweta_commit_seconds"))
         counts = [int(rows[f'cinoweta_commit_seconds_bucket{{node="1",le="{bound}"}}']) for bound in BOUNDS]
