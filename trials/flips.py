@@ -40,7 +40,9 @@ GROUPS = ("a", "red", "jobs-1")
 FURTHER, PATIENCE = "further", 2.0
 # Files that did not change for so long, in seconds, are those of a ring at rest.
 REST = 0.1
-REFUSED = re.compile(r"ringd: (node [1-3]: (unformatted|wrongnode|damaged \d+|unlawful \d+)|nodes [1-3] and [1-3] do not fit)\n")
+REFUSED = re.compile(
+    r"ringd: (node [1-3]: (unformatted|wrongnode|damaged \d+|unlawful \d+)\nringd: \S+: invalid data|nodes [1-3] and [1-3] do not fit)\n"
+)
 
 # A node and a line that it was sent.
 Asked = tuple[int, str]

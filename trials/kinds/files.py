@@ -111,7 +111,7 @@ class Files(Kind):
         if refusal is None or server.ended.status != 1:
             return f"{server.ended}, where it is {refusal}"
         told = server.ended.err.decode("ascii", "replace").split("\n")
-        if server.ended.fault or told[0] != f"ringd: {refusal}" or len(told) != 2 + (refusal.endswith("device 1") or None in files):
+        if server.ended.fault or told[0] != f"ringd: {refusal}" or len(told) != 2 + refusal.startswith("node "):
             return f"{server.ended}, where it is {refusal}"
         return None if listing(ring) == before else "a start that was refused changed a file"
 

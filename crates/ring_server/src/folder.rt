@@ -54,7 +54,8 @@ fn read_again<R: Files<File = File>>(rt: &R, alloc: Global, path: &str) -> Resul
     read_whole(&mut file, alloc)
 }
 
-/// Why the node of this file is refused so. Where the system refused something, it is asked once more.
+/// Why the node of this file is refused so. Where the system refused something, it is asked once more; where it gave all
+/// bytes, they are not those of this node.
 fn look_again<R: Files<File = File>>(
     rt: &R,
     alloc: Global,
@@ -63,7 +64,8 @@ fn look_again<R: Files<File = File>>(
 ) -> Unopened {
     let again = match refusal {
         Refusal::Device(_) => read_again(rt, alloc, path),
-        _ => Ok(()),
+        Refusal::OutOfMemory => Ok(()),
+        _ => Err(Answer::Error(ErrorKind::InvalidData)),
     };
     Unopened::because(refusal, Place::Journal, again)
 }

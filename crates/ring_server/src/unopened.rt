@@ -77,7 +77,8 @@ pub(crate) fn print_answer<E: Write>(
 }
 
 /// Why a node was not opened: the refusal of its journal or its desk, 15 with one failure where the system refused its
-/// file, and 8. Where the system refused something, what that was and what it answered.
+/// file, and 8. Where the system refused something, what that was and what it answered; where the file is there and not
+/// this node's, that it is `invalid data`.
 #[derive(Clone, Copy, Debug)]
 pub struct Unopened {
     pub refusal: Refusal,

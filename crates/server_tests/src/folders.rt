@@ -71,23 +71,53 @@ static REFUSALS: [Step; 18] = [
         b"ringd: node 3: unformatted\nringd: refused/node-3.crj: entity not found\n",
     ),
     Changes(&[Removes("refused/ring.made")]),
-    Ends(SERVE, REFUSED_3, 1, b"ringd: node 1: wrongnode\n"),
+    Ends(
+        SERVE,
+        REFUSED_3,
+        1,
+        b"ringd: node 1: wrongnode\nringd: refused/node-1.crj: invalid data\n",
+    ),
     Changes(&[
         Renames("refused/node-2.crj", "refused/held"),
         Renames("refused/node-1.crj", "refused/node-2.crj"),
         Renames("refused/held", "refused/node-1.crj"),
     ]),
-    Ends(SERVE, REFUSED, 1, b"ringd: node 1: wrongnode\n"),
+    Ends(
+        SERVE,
+        REFUSED,
+        1,
+        b"ringd: node 1: wrongnode\nringd: refused/node-1.crj: invalid data\n",
+    ),
     // a cut header, and none
     Changes(&[Writes("refused/node-1.crj", b"CRJRNL02")]),
-    Ends(SERVE, REFUSED, 1, b"ringd: node 1: unformatted\n"),
+    Ends(
+        SERVE,
+        REFUSED,
+        1,
+        b"ringd: node 1: unformatted\nringd: refused/node-1.crj: invalid data\n",
+    ),
     Changes(&[Writes("refused/node-1.crj", b"")]),
-    Ends(SERVE, REFUSED, 1, b"ringd: node 1: unformatted\n"),
+    Ends(
+        SERVE,
+        REFUSED,
+        1,
+        b"ringd: node 1: unformatted\nringd: refused/node-1.crj: invalid data\n",
+    ),
     // no area that counts, and an open gate, at offset 68, with a frame of no input behind it
     Changes(&[Writes("refused/node-1.crj", NO_AREA)]),
-    Ends(SERVE, REFUSED, 1, b"ringd: node 1: damaged 16\n"),
+    Ends(
+        SERVE,
+        REFUSED,
+        1,
+        b"ringd: node 1: damaged 16\nringd: refused/node-1.crj: invalid data\n",
+    ),
     Changes(&[Writes("refused/node-1.crj", OPEN_GATE)]),
-    Ends(SERVE, REFUSED, 1, b"ringd: node 1: damaged 68\n"),
+    Ends(
+        SERVE,
+        REFUSED,
+        1,
+        b"ringd: node 1: damaged 68\nringd: refused/node-1.crj: invalid data\n",
+    ),
     Changes(&[Clears("refused")]),
 ];
 
