@@ -169,7 +169,7 @@ fn create<R: Files<File = File>>(
     }
 }
 
-/// What a start made so far: these nodes, and perhaps `ring.made`.
+/// What a start makes: these nodes, of which the last may not be there, and perhaps `ring.made`.
 #[derive(Drop)]
 pub(crate) struct Made {
     pub(crate) nodes: Vec<NodeNo>,
@@ -277,10 +277,14 @@ impl<'a> Folder<'a> {
         ensures { IfOk result (λ ready. IsReady found ready) }
     {
         match found {
-            Found::New(new) => Ok(Ready {
-                opened: self.make(rt, alloc, &new)?,
-                is_written: true,
-            }),
+            Found::New(new) => {
+                let made = self.make(rt, alloc, &new);
+                drop(new);
+                Ok(Ready {
+                    opened: made?,
+                    is_written: true,
+                })
+            }
             Found::There(opened) => self.renew(rt, alloc, opened),
         }
     }
@@ -368,8 +372,13 @@ impl<'a> Folder<'a> {
         remove(rt, first)?;
         let refusal = match create(rt, alloc, first, new.number, new.nodes, new.capacity) {
             Ok(opened) => {
-                self.name(rt, first, path)?;
-                return Ok(opened);
+                return match self.name(rt, first, path) {
+                    Ok(()) => Ok(opened),
+                    Err(why) => {
+                        drop(opened);
+                        Err(why)
+                    }
+                };
             }
             Err(refusal) => refusal,
         };

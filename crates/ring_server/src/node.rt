@@ -69,6 +69,11 @@ pub(crate) fn serve_node<
     requires accepted { ForAccepted site.blanks A.name A.parts }
     requires tied { ForTie site.blanks A.tied }
 {
+    let latch = &shared.latch;
+    let Ok(tally) = Tally::new(site.alloc) else {
+        drop(site);
+        return unstarted(rt, latch);
+    };
     let Site {
         alloc,
         opened,
@@ -77,17 +82,14 @@ pub(crate) fn serve_node<
         blanks,
         history,
     } = site;
-    let latch = &shared.latch;
     let OpenNode {
         number,
         nodes,
         node,
     } = opened;
     let (desk, journal) = node.split();
-    let Ok(tally) = Tally::new(alloc) else {
-        return unstarted(rt, latch);
-    };
     let Ok(board) = opened_board::<J>(alloc, history, &desk, readers as usize) else {
+        drop((desk, journal, entrance, blanks));
         return unstarted(rt, latch);
     };
     let successor = Successor::new();
@@ -95,20 +97,44 @@ pub(crate) fn serve_node<
     let (hub, tie) = Hub::<A>::new(desk, blanks);
     let doors = entrance.doors;
     let ends = take_ends(rt, alloc, &hub, &board, entrance);
-    let mut flusher = Flusher::new(alloc, journal, board, tie);
+    let flusher = Flusher::new(alloc, journal, board, tie);
     let common = Common {
         alloc,
         hub: &hub,
         links: &links,
         latch,
     };
+    match run_node(rt, &common, flusher, ends) {
+        Some(shares) => settle(hub, shares, doors),
+        None => {
+            drop(hub);
+            None
+        }
+    }
+}
+
+/// Runs the threads of a node, ends its flusher, and gives the shares back, or `None` where memory or a place was wanting,
+/// the ring did not start or the flusher did not come to its end.
+fn run_node<
+    J: Naming + Send + Sync,
+    A: Node + Send + Sync,
+    V: Device + Drop,
+    R: Threads + Wait + Clock + Sync,
+>(
+    rt: &R,
+    common: &Common<'_, A>,
+    flusher: Flusher<V, J, A>,
+    ends: Option<Ends<J, A>>,
+) -> Option<Vec<Share<A>>> {
+    let mut flusher = flusher;
     let shares = match ends {
-        Some(ends) => run_threads(rt, &common, &mut flusher, ends),
-        None => unstarted(rt, latch),
+        Some(ends) => run_threads(rt, common, &mut flusher, ends),
+        None => unstarted(rt, common.latch),
     };
-    let (_journal, board, _owed) = flusher.into_parts();
+    let (journal, board, owed) = flusher.into_parts();
+    drop((journal, owed));
     board.end(rt);
-    settle(hub, shares?, doors)
+    shares
 }
 
 /// Tells the latch that memory or a place is wanting: the node does not start.

@@ -12,7 +12,7 @@ use crate::unopened::Unopened;
 use disk_model::FileDevice;
 use ring_records::{NodeNo, Refusal};
 use ring_service::Settings;
-use std::alloc::Global;
+use std::alloc::{AllocError, Global};
 use std::fs::File;
 use std::rt::Files;
 
@@ -82,7 +82,7 @@ fn find_nodes<R: Files<File = File>>(
 }
 
 /// The nodes that were found, as they may be served: each was made by this start, or made a checkpoint, or can make none.
-/// They go on from what was found. What was made is told in `made`, however it ends.
+/// They go on from what was found. Which nodes are to be made is told in `made` first.
 pub(crate) fn open_ring<R: Files<File = File>>(
     rt: &R,
     alloc: Global,
@@ -103,7 +103,17 @@ pub(crate) fn open_ring<R: Files<File = File>>(
     Ok(ring)
 }
 
-/// Each node that was found, in this order. Those that are made are told in `made`, however it ends.
+/// Tells which nodes are to be made.
+fn note_new(made: &mut Made, found: &[Found<FileDevice>]) -> Result<(), AllocError> {
+    for node in found {
+        if node.is_new() {
+            made.nodes.push(node.number())?;
+        }
+    }
+    Ok(())
+}
+
+/// Each node that was found, in this order. Those that are to be made are told in `made` first.
 fn make_ready<R: Files<File = File>>(
     rt: &R,
     alloc: Global,
@@ -113,18 +123,12 @@ fn make_ready<R: Files<File = File>>(
 ) -> Result<Vec<Ready<FileDevice>>, RunFault>
     ensures { IfOk result (λ ring. AreReady found.items ring.items) }
 {
+    note_new(made, &found)?;
     let mut ring = Vec::new(alloc);
     for node in found {
         let number = node.number();
-        let is_new = node.is_new();
-        made.nodes.reserve(1)?;
         match folder.ready(rt, alloc, node) {
-            Ok(ready) => {
-                if is_new {
-                    made.nodes.push(number)?;
-                }
-                ring.push(ready)?;
-            }
+            Ok(ready) => ring.push(ready)?,
             Err(why) => return Err(RunFault::Node(number, why)),
         }
     }

@@ -7,5 +7,5 @@ pub loop-node-preserved : goal.loop-node-preserved
 loop-node-preserved g c =
     let yielded = c.loop-node.yielded in
     let node = c.in-Some.node in
-    subst (λ ring. AreReady (yielded ++ node ∷ []) ring) (sym c.in_ok-push-in-Ok-2.ensures.items)
+    subst (λ ring. AreReady (yielded ++ node ∷ []) ring) (sym c.in_ok-push-in-Ok.ensures.items)
     (AllZip-more IsReady yielded c.loop-node.ring.items node c.in-Ok.ready c.loop-node.invariant c.in-Ok.ensures)
