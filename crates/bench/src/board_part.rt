@@ -4,7 +4,7 @@ ghost use Rattle.std.specs.Prelude.{◌≡◌, ◌≤◌};
 use crate::fault::Fault;
 use crate::locked::{Leaders, Lock, Locked};
 use crate::race::{Latest, Publisher, Reader, decision, first_decisions, race};
-use crate::words::{next_amount, next_word};
+use crate::words::{next_amount, next_word, tell};
 use decision_board::{Board, BoardReader, Naming, Opened, is_reader_count};
 use ring_records::{Decision, GroupName, Notice, Refusal};
 use std::alloc::Global;
@@ -29,27 +29,32 @@ pub fn run<R: Threads + Wait + Sync>(
     match work.as_str() {
         "shared" => {
             let load = next_load(words)?;
-            let found = shared::<Brand, R>(threads, alloc, Opened::new(), load)?;
-            println!(rt; "found {found}")?;
+            tell(
+                rt,
+                "found",
+                shared::<Brand, R>(threads, alloc, Opened::new(), load)?,
+            )
         }
-        "mutex" => {
-            let load = next_load(words)?;
-            let lock = Mutex::new(first_leaders(alloc)?);
-            println!(rt; "found {}", behind(threads, alloc, &lock, load)?)?;
-        }
-        "rwlock" => {
-            let load = next_load(words)?;
-            let lock = RwLock::new(first_leaders(alloc)?);
-            println!(rt; "found {}", behind(threads, alloc, &lock, load)?)?;
-        }
+        "mutex" => tell(
+            rt,
+            "found",
+            behind_mutex(threads, alloc, next_load(words)?)?,
+        ),
+        "rwlock" => tell(
+            rt,
+            "found",
+            behind_rwlock(threads, alloc, next_load(words)?)?,
+        ),
         "append" => {
             let keys = next_amount(words)?;
-            let publishes = append::<Brand, R>(threads, alloc, Opened::new(), keys)?;
-            println!(rt; "publishes {publishes}")?;
+            tell(
+                rt,
+                "publishes",
+                append::<Brand, R>(threads, alloc, Opened::new(), keys)?,
+            )
         }
-        _ => return Err(Fault::NoWork(work)),
+        _ => Err(Fault::NoWork(work)),
     }
-    Ok(())
 }
 
 /// How many readers there are, and how often each reads.
@@ -138,6 +143,24 @@ fn first_leaders(alloc: Global) -> Result<Leaders, Refusal> {
     Leaders::new(alloc, &first_decisions(alloc)?)
 }
 
+/// How often the readers of a map behind a mutex find a leader.
+fn behind_mutex<R: Threads + Wait + Sync>(
+    rt: &R,
+    alloc: Global,
+    load: Load,
+) -> Result<u64, Refusal> {
+    behind(rt, alloc, &Mutex::new(first_leaders(alloc)?), load)
+}
+
+/// How often those of a map behind a lock for many readers do.
+fn behind_rwlock<R: Threads + Wait + Sync>(
+    rt: &R,
+    alloc: Global,
+    load: Load,
+) -> Result<u64, Refusal> {
+    behind(rt, alloc, &RwLock::new(first_leaders(alloc)?), load)
+}
+
 /// How often the readers of a map behind a lock find a leader.
 fn behind<L: Lock, R: Threads + Wait + Sync>(
     rt: &R,
@@ -158,7 +181,7 @@ fn append<J: Naming, R: Wait>(
     alloc: Global,
     opened: Opened,
     keys: u32,
-) -> Result<u32, Refusal>
+) -> Result<u64, Refusal>
     requires { opened ≡ J.book }
 {
     let mut board: Board<J> = Board::new(alloc, opened, &[], 1)?;
@@ -167,8 +190,8 @@ fn append<J: Naming, R: Wait>(
     publishes
 }
 
-fn append_all<J: Naming, R: Wait>(rt: &R, board: &mut Board<J>, keys: u32) -> Result<u32, Refusal> {
-    let mut publishes = 0u32;
+fn append_all<J: Naming, R: Wait>(rt: &R, board: &mut Board<J>, keys: u32) -> Result<u64, Refusal> {
+    let mut publishes = 0u64;
     for index in 0..keys {
         board.append(Notice::Decided(decision(index)?))?;
         if index % PIECE == PIECE - 1 {

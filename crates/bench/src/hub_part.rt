@@ -9,7 +9,7 @@ ghost use Rattle.commit_hub.specs.Pages.{places_of, ForAccepted, ForTie};
 use crate::devices::{CAPACITY, in_memory};
 use crate::fault::Fault;
 use crate::keys::key;
-use crate::words::{next_amount, next_word};
+use crate::words::{next_amount, next_word, tell};
 use commit_hub::{Blanks, Hub, Node, Share};
 use decision_board::{Board, Naming, Opened};
 use disk_model::{Device, DeviceFault, FileDevice};
@@ -47,23 +47,20 @@ pub fn run<R: Threads + Wait + Sync>(
     match work.as_str() {
         "memory" => {
             let load = next_load(words)?;
-            let counts = hubs(threads, alloc, in_memory(alloc)?, load)?;
-            println!(rt; "stood {}, batches {}", counts.stood, counts.batches)?;
+            tell_counts(rt, hubs(threads, alloc, in_memory(alloc)?, load)?)
         }
         "file" => {
             let load = next_load(words)?;
             let device = FileDevice::create(alloc, rt, &next_word(words)?)?;
-            let counts = hubs(threads, alloc, device, load)?;
-            println!(rt; "stood {}, batches {}", counts.stood, counts.batches)?;
+            tell_counts(rt, hubs(threads, alloc, device, load)?)
         }
         "bare" => {
             let appends = next_amount(words)?;
             let mut device = FileDevice::create(alloc, rt, &next_word(words)?)?;
-            println!(rt; "bytes {}", append_bare(&mut device, appends)?)?;
+            tell(rt, "bytes", append_bare(&mut device, appends)?)
         }
-        _ => return Err(Fault::NoWork(work)),
+        _ => Err(Fault::NoWork(work)),
     }
-    Ok(())
 }
 
 /// How many appenders a hub has, how often each stands, and how many hubs there are.
@@ -94,6 +91,11 @@ fn next_load(words: &mut Args) -> Result<Load, Fault> {
 struct Counts {
     stood: u32,
     batches: u32,
+}
+
+fn tell_counts(rt: &HostRuntime, counts: Counts) -> Result<(), Fault> {
+    println!(rt; "stood {}, batches {}", counts.stood, counts.batches)?;
+    Ok(())
 }
 
 /// So many hubs over nodes on the device, one after the other.
@@ -227,10 +229,16 @@ fn flush_all<V: Device, J: Naming, A: Node, R: Wait>(
 ) -> u32 {
     let mut rounds = 0u32;
     for _ in rt.forever() {
-        match flusher.flush_round(rt, hub, &mut ()) {
-            Ok(Some(_)) => rounds = rounds.saturating_add(1),
-            Err(Refusal::OutOfMemory) => {}
-            Ok(None) | Err(_) => break,
+        let round = flusher.flush_round(rt, hub, &mut ());
+        let (has_landed, is_last) = match &round {
+            Ok(Some(_)) => (true, false),
+            Err(Refusal::OutOfMemory) => (false, false),
+            Ok(None) | Err(_) => (false, true),
+        };
+        drop(round);
+        rounds = rounds.saturating_add(u32::from(has_landed));
+        if is_last {
+            break;
         }
     }
     rounds
@@ -266,20 +274,65 @@ fn on_hub<
     requires layout { layout_of journal ≡ desk.view.state.base.layout }
     requires epoch { epoch_of journal ≡ desk.view.state.base.epoch }
 {
+    let board = match Board::<J>::new(alloc, opened, &[], 1) {
+        Ok(board) => board,
+        Err(_) => {
+            drop((desk, journal, blanks));
+            return Err(Refusal::OutOfMemory);
+        }
+    };
     let (hub, tie) = Hub::<A>::new(desk, blanks);
-    let appenders = appenders(rt, alloc, &hub, load)?;
-    let board = Board::<J>::new(alloc, opened, &[], 1)?;
-    let mut flusher = Flusher::new(alloc, journal, board, tie);
-    let (shared, flushing) = (&hub, &mut flusher);
+    let flusher = Flusher::new(alloc, journal, board, tie);
+    let end = on_flusher(rt, alloc, &hub, flusher, load);
+    drop(hub);
+    end
+}
+
+/// Has appenders stand on the hub beside its flusher, which it ends.
+fn on_flusher<
+    V: Device + Drop + Send,
+    J: Naming + Send + Sync,
+    A: Node + Send + Sync,
+    R: Threads + Wait + Sync,
+>(
+    rt: &R,
+    alloc: Global,
+    hub: &Hub<A>,
+    flusher: Flusher<V, J, A>,
+    load: Load,
+) -> Result<(V, Counts), Refusal> {
+    let mut flusher = flusher;
+    let counts = match appenders(rt, alloc, hub, load) {
+        Ok(appenders) => append_beside(rt, hub, &mut flusher, appenders, load.stands),
+        Err(refusal) => Err(refusal),
+    };
+    let (journal, board, owed) = flusher.into_parts();
+    drop(owed);
+    board.end(rt);
+    let device = journal.into_device();
+    Ok((device, counts?))
+}
+
+/// Has the appenders stand so often beside the flusher.
+fn append_beside<
+    V: Device + Send,
+    J: Naming + Send + Sync,
+    A: Node + Send + Sync,
+    R: Threads + Wait + Sync,
+>(
+    rt: &R,
+    hub: &Hub<A>,
+    flusher: &mut Flusher<V, J, A>,
+    appenders: Vec<Appender<A>>,
+    stands: u32,
+) -> Result<Counts, Refusal> {
     let (batches, stood) = join(
         rt,
-        || -> u32 { flush_all(rt, shared, flushing) },
-        || append_in_threads(rt, shared, appenders, load.stands),
+        || -> u32 { flush_all(rt, hub, flusher) },
+        || append_in_threads(rt, hub, appenders, stands),
     );
-    let (journal, board, _owed) = flusher.into_parts();
-    board.end(rt);
     let stood = stood?;
-    Ok((journal.into_device(), Counts { stood, batches }))
+    Ok(Counts { stood, batches })
 }
 
 /// Gives the file the bytes that are appended to.

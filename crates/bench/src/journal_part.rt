@@ -1,7 +1,7 @@
 // Journals that take batches of 64 inputs, and are opened again.
 use crate::devices::{CAPACITY, in_memory, write_bare};
 use crate::fault::Fault;
-use crate::words::{next_amount, next_word};
+use crate::words::{next_amount, next_word, tell};
 use disk_model::{Device, FileDevice, MemDevice};
 use gated_journal::{Batch, Journal};
 use ring_records::{Bid, GroupName, Input, Key, NodeNo, Refusal, Term};
@@ -21,19 +21,20 @@ const FRAME: [u8; 1671] = [7; 1671];
 pub fn run(rt: &HostRuntime, words: &mut Args) -> Result<(), Fault> {
     let work = next_word(words)?;
     match work.as_str() {
-        "memory" => println!(rt; "journals {}", memory(rt.alloc(), next_amount(words)?)?)?,
-        "reopen" => println!(rt; "read {}", reopen(rt.alloc(), next_amount(words)?)?)?,
-        "file" => println!(rt;
-            "bytes {}",
-            on_file(rt, next_amount(words)?, next_word(words)?)?
-        )?,
-        "bare" => println!(rt;
-            "bytes {}",
-            bare(rt, next_amount(words)?, next_word(words)?)?
-        )?,
-        _ => return Err(Fault::NoWork(work)),
+        "memory" => tell(rt, "journals", memory(rt.alloc(), next_amount(words)?)?),
+        "reopen" => tell(rt, "read", reopen(rt.alloc(), next_amount(words)?)?),
+        "file" => tell(
+            rt,
+            "bytes",
+            on_file(rt, next_amount(words)?, next_word(words)?)?,
+        ),
+        "bare" => tell(
+            rt,
+            "bytes",
+            bare(rt, next_amount(words)?, next_word(words)?)?,
+        ),
+        _ => Err(Fault::NoWork(work)),
     }
-    Ok(())
 }
 
 /// A Stand for a group of the longest name: a record of 26 bytes.
@@ -66,16 +67,25 @@ pub fn commit<D: Device>(
     }
 }
 
+/// Commits so many batches of 64 inputs.
+fn fill<D: Device>(alloc: Global, journal: &mut Journal<D>, commits: u32) -> Result<(), Refusal> {
+    let inputs = [stand()?; 64];
+    for _ in 0..commits {
+        commit(alloc, journal, &inputs)?;
+    }
+    Ok(())
+}
+
 /// A journal on this device with so many batches of 64 inputs.
 fn filled<D: Device + Drop>(alloc: Global, device: D, commits: u32) -> Result<Journal<D>, Refusal> {
-    let inputs = [stand()?; 64];
-    match Journal::format(device, NodeNo::new(1)?, 3, CAPACITY) {
-        Ok(mut journal) => {
-            for _ in 0..commits {
-                commit(alloc, &mut journal, &inputs)?;
+    match Journal::format(device, NodeNo::first(), 3, CAPACITY) {
+        Ok(mut journal) => match fill(alloc, &mut journal, commits) {
+            Ok(()) => Ok(journal),
+            Err(refusal) => {
+                drop(journal);
+                Err(refusal)
             }
-            Ok(journal)
-        }
+        },
         Err((_device, refusal)) => Err(refusal),
     }
 }
@@ -85,13 +95,13 @@ fn journal_in_memory(alloc: Global, commits: u32) -> Result<Journal<MemDevice>, 
 }
 
 /// So many commits to journals in memory, one after the other. Tells how many journals there were.
-fn memory(alloc: Global, commits: u32) -> Result<u32, Refusal> {
+fn memory(alloc: Global, commits: u32) -> Result<u64, Refusal> {
     let whole = commits / FULL;
     for _ in 0..whole {
-        journal_in_memory(alloc, FULL)?;
+        drop(journal_in_memory(alloc, FULL)?);
     }
-    journal_in_memory(alloc, commits % FULL)?;
-    Ok(whole + 1)
+    drop(journal_in_memory(alloc, commits % FULL)?);
+    Ok(u64::from(whole) + 1)
 }
 
 /// Reopens a full journal so many times. Tells how many inputs were read.
@@ -102,6 +112,7 @@ fn reopen(alloc: Global, times: u32) -> Result<u64, Refusal> {
         match Journal::reopen(alloc, device, NodeNo::new(1)?, 3) {
             Ok((journal, opening)) => {
                 read = read.wrapping_add(opening.inputs.len() as u64);
+                drop(opening);
                 device = journal.into_device();
             }
             Err((_device, refusal)) => return Err(refusal),

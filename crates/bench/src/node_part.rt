@@ -10,7 +10,7 @@ ghost use Rattle.node_store.specs.Node.{desk_of};
 
 use crate::devices::{CAPACITY, in_memory, write_bare};
 use crate::fault::Fault;
-use crate::words::{next_amount, next_word};
+use crate::words::{next_amount, next_word, tell};
 use disk_model::{Device, FileDevice};
 use group_commit::Ticket;
 use node_store::Node;
@@ -31,20 +31,21 @@ const FRAME: [u8; 1415] = [7; 1415];
 pub fn run(rt: &HostRuntime, words: &mut Args) -> Result<(), Fault> {
     let work = next_word(words)?;
     match work.as_str() {
-        "memory" => println!(rt; "packets {}", memory(rt.alloc(), next_amount(words)?)?)?,
-        "recover" => println!(rt; "recovered {}", recover(rt.alloc(), next_amount(words)?)?)?,
-        "file" => println!(rt;
-            "packets {}",
-            on_file(rt, next_amount(words)?, next_word(words)?)?
-        )?,
-        "bare" => println!(rt;
-            "bytes {}",
-            bare(rt, next_amount(words)?, next_word(words)?)?
-        )?,
-        "checkpoint" => return checkpoints::run(rt, words),
-        _ => return Err(Fault::NoWork(work)),
+        "memory" => tell(rt, "packets", memory(rt.alloc(), next_amount(words)?)?),
+        "recover" => tell(rt, "recovered", recover(rt.alloc(), next_amount(words)?)?),
+        "file" => tell(
+            rt,
+            "packets",
+            on_file(rt, next_amount(words)?, next_word(words)?)?,
+        ),
+        "bare" => tell(
+            rt,
+            "bytes",
+            bare(rt, next_amount(words)?, next_word(words)?)?,
+        ),
+        "checkpoint" => checkpoints::run(rt, words),
+        _ => Err(Fault::NoWork(work)),
     }
-    Ok(())
 }
 
 /// What a node is asked, one input after the other.
@@ -145,6 +146,7 @@ fn end<D: Device + Drop>(node: Node<D>) -> Result<D, Refusal> {
     let mut ended = node;
     ended.close();
     if ended.open_tickets() > 0 {
+        drop(ended);
         return Err(Refusal::Early);
     }
     Ok(ended.into_device())
@@ -152,10 +154,11 @@ fn end<D: Device + Drop>(node: Node<D>) -> Result<D, Refusal> {
 
 /// Has a new node on the device, flushes it so often, and ends it. Tells how many packets landed.
 fn one_node<D: Device + Drop>(alloc: Global, device: D, flushes: u32) -> Result<(D, u64), Refusal> {
-    match Node::create(alloc, device, NodeNo::new(1)?, 3, CAPACITY, 0) {
+    match Node::create(alloc, device, NodeNo::first(), 3, CAPACITY, 0) {
         Ok(mut node) => {
-            let landed = fill(&mut node, Load::Messages, flushes)?;
-            Ok((end(node)?, landed))
+            let landed = fill(&mut node, Load::Messages, flushes);
+            let device = end(node)?;
+            Ok((device, landed?))
         }
         Err((_device, refusal)) => Err(refusal),
     }

@@ -84,15 +84,27 @@ fn service(alloc: Global) -> Result<SoloService<MemDevice>, Refusal> {
 /// A device with the journal of such a node.
 fn led(alloc: Global) -> Result<MemDevice, Refusal> {
     let inputs = elections(alloc)?;
-    match Journal::format(in_memory(alloc)?, NodeNo::new(1)?, 3, CAPACITY) {
+    match Journal::format(in_memory(alloc)?, NodeNo::first(), 3, CAPACITY) {
         Ok(mut journal) => {
-            for batch in inputs.chunks(64) {
-                commit(alloc, &mut journal, batch)?;
-            }
-            Ok(journal.into_device())
+            let committed = commit_all(alloc, &mut journal, &inputs);
+            let device = journal.into_device();
+            committed?;
+            Ok(device)
         }
         Err((_device, refusal)) => Err(refusal),
     }
+}
+
+/// Commits the inputs in batches of 64.
+fn commit_all<D: Device>(
+    alloc: Global,
+    journal: &mut Journal<D>,
+    inputs: &[Input],
+) -> Result<(), Refusal> {
+    for batch in inputs.chunks(64) {
+        commit(alloc, journal, batch)?;
+    }
+    Ok(())
 }
 
 /// What the node took of an election for the first term of each group.

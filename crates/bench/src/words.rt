@@ -1,6 +1,12 @@
-// Reading the words of a work.
+// Reading the words of a work, and printing what it counted.
 use crate::fault::Fault;
 use std::env::Args;
+
+/// Prints what was counted, and how many there were.
+pub fn tell(rt: &HostRuntime, what: &str, count: u64) -> Result<(), Fault> {
+    println!(rt; "{what} {count}")?;
+    Ok(())
+}
 
 /// The next word. Refused where there is none.
 pub fn next_word(words: &mut Args) -> Result<String, Fault> {

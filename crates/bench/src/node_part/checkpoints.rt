@@ -2,7 +2,7 @@
 use super::{INPUTS, Load, end, fill, flush};
 use crate::devices::{CAPACITY, in_memory};
 use crate::fault::Fault;
-use crate::words::{next_amount, next_word};
+use crate::words::{next_amount, next_word, tell};
 use disk_model::{Device, DeviceFault, FileDevice};
 use node_store::Node;
 use ring_records::{NodeNo, Refusal};
@@ -18,36 +18,37 @@ const AREA: usize = 165_149;
 pub fn run(rt: &HostRuntime, words: &mut Args) -> Result<(), Fault> {
     let work = next_word(words)?;
     match work.as_str() {
-        "memory" => println!(rt; "epoch {}", memory(rt.alloc(), next_amount(words)?)?)?,
-        "file" => println!(rt;
-            "epoch {}",
-            on_file(rt, next_amount(words)?, next_word(words)?)?
-        )?,
-        "bare" => println!(rt;
-            "bytes {}",
-            bare(rt, next_amount(words)?, next_word(words)?)?
-        )?,
-        _ => return Err(Fault::NoWork(work)),
+        "memory" => tell(rt, "epoch", memory(rt.alloc(), next_amount(words)?)?),
+        "file" => tell(
+            rt,
+            "epoch",
+            on_file(rt, next_amount(words)?, next_word(words)?)?,
+        ),
+        "bare" => tell(
+            rt,
+            "bytes",
+            bare(rt, next_amount(words)?, next_word(words)?)?,
+        ),
+        _ => Err(Fault::NoWork(work)),
     }
-    Ok(())
 }
 
 /// So many checkpoints of a new node on the device. Tells its epoch then.
 fn one_node<D: Device + Drop>(alloc: Global, device: D, times: u32) -> Result<u64, Refusal> {
     match Node::create(alloc, device, NodeNo::first(), 3, CAPACITY, 0) {
         Ok(mut node) => {
-            fill(&mut node, Load::All, INPUTS / 64)?;
-            flush(&mut node, Load::All, INPUTS / 64 * 64, INPUTS % 64)?;
-            let epoch = summarise(&mut node, times)?;
-            end(node)?;
-            Ok(epoch)
+            let epoch = summarise(&mut node, times);
+            drop(end(node)?);
+            epoch
         }
         Err((_device, refusal)) => Err(refusal),
     }
 }
 
-/// Makes so many checkpoints. Tells the epoch then.
+/// Takes all of the load, and makes so many checkpoints. Tells the epoch then.
 fn summarise<D: Device>(node: &mut Node<D>, times: u32) -> Result<u64, Refusal> {
+    fill(node, Load::All, INPUTS / 64)?;
+    flush(node, Load::All, INPUTS / 64 * 64, INPUTS % 64)?;
     for _ in 0..times {
         node.checkpoint()?;
     }
