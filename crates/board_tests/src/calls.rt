@@ -190,7 +190,7 @@ fn fill_places<J: Naming, R: Wait>(
 #[test]
 fn thirty_third_reader(rt: HostRuntime) -> Result<(), Fail> {
     let (given, one_more, again) = fill_places::<Brand, _>(&rt, rt.alloc(), Opened::new())?;
-    assert_eq!(rt; given, 32);
+    assert!(rt; given == 32);
     assert!(rt; one_more == Err(Refusal::NoPlace));
     assert!(rt; again == Ok(()));
     Ok(())

@@ -47,8 +47,12 @@ fn enters<A: Node, R: Wait + Abort + AllocGlobal>(rt: &R, hub: Hub<A>, count: u3
         assert!(rt; share.count() == 0);
         keeps(rt, &mut shares, share);
     }
-    assert!(rt; matches!(hub.enter(rt), Err(Refusal::Limit)));
-    assert!(rt; settled(rt, hub, shares).history().is_empty());
+    let more = hub.enter(rt);
+    assert!(rt; matches!(more, Err(Refusal::Limit)));
+    drop(more);
+    let desk = settled(rt, hub, shares);
+    assert!(rt; desk.history().is_empty());
+    drop(desk);
 }
 
 /// A ticket of the hub.
@@ -87,22 +91,47 @@ fn on_hub<A: Node, R: Wait + Abort + AllocGlobal>(
     requires tied { ForTie blanks A.tied }
 {
     let (hub, tie) = Hub::<A>::new(desk, blanks);
-    match case {
-        Case::Enters(count) => enters(rt, hub, count),
-        Case::Gives => return Some(gives(rt, &hub)),
-        Case::Redeems(ticket) => return Some(comes_back(rt, &hub, ticket)),
-        Case::Forfeits(ticket) => {
-            hub.close(rt);
-            forfeits(rt, &hub, ticket);
-        }
+    let hub = match case {
         Case::Plays(left) | Case::GoesOn(left) => {
             let mut station = Station::new(rt, hub, tie);
             station.plays(rt, steps);
             station.settles(rt, left);
+            return None;
         }
-        Case::SettlesSome(mask) => settles_some(rt, hub, mask),
-    }
-    None
+        _ => {
+            drop(tie);
+            hub
+        }
+    };
+    on_untied(rt, hub, case)
+}
+
+/// The same, where nothing is launched.
+fn on_untied<A: Node, R: Wait + Abort + AllocGlobal>(
+    rt: &R,
+    hub: Hub<A>,
+    case: Case,
+) -> Option<Ticket> {
+    let given = match case {
+        Case::Enters(count) => {
+            enters(rt, hub, count);
+            return None;
+        }
+        Case::SettlesSome(mask) => {
+            settles_some(rt, hub, mask);
+            return None;
+        }
+        Case::Gives => Some(gives(rt, &hub)),
+        Case::Redeems(ticket) => Some(comes_back(rt, &hub, ticket)),
+        Case::Forfeits(ticket) => {
+            hub.close(rt);
+            forfeits(rt, &hub, ticket);
+            None
+        }
+        Case::Plays(_) | Case::GoesOn(_) => None,
+    };
+    drop(hub);
+    given
 }
 
 /// The case on a hub of node 1 at this opening, with so many places.

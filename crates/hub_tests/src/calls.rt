@@ -131,7 +131,10 @@ pub fn lands<A: Node, R: Wait + Abort>(
     count: u64,
 ) {
     match hub.land(rt, tie, receipt) {
-        Ok(landed) => assert!(rt; landed.count == count),
+        Ok(landed) => {
+            assert!(rt; landed.count == count);
+            drop(landed);
+        }
         Err((_receipt, refusal)) => panic!(rt; "{refusal}"),
     }
 }

@@ -56,7 +56,10 @@ fn holders<A: Node, R: Wait + Abort + AllocGlobal>(
 pub fn settles_some<A: Node, R: Wait + Abort + AllocGlobal>(rt: &R, hub: Hub<A>, mask: u8) {
     let (named, others) = holders(rt, &hub, mask);
     match hub.settle(named) {
-        Ok(desk) => assert!(rt; mask & 10 == 10 && desk.history().len() == 3),
+        Ok(desk) => {
+            assert!(rt; mask & 10 == 10 && desk.history().len() == 3);
+            drop((desk, others));
+        }
         Err((hub, named, refusal)) => {
             assert!(rt; mask & 10 != 10 && refusal == Refusal::Mismatch);
             settles_all(rt, hub, named, others);
@@ -73,5 +76,7 @@ fn settles_all<A: Node, R: Abort>(
 ) {
     let (mut shares, mut others) = (shares, others);
     assert!(rt; shares.append(&mut others).is_ok() && shares.len() == 4);
-    assert!(rt; settled(rt, hub, shares).history().len() == 3);
+    let desk = settled(rt, hub, shares);
+    assert!(rt; desk.history().len() == 3);
+    drop(desk);
 }

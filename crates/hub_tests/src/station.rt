@@ -66,9 +66,9 @@ pub type Left = (u64, u64, usize);
 
 fn has(rt: &impl Abort, desk: &Desk, left: Left) {
     let (epoch, durable, inputs) = left;
-    assert_eq!(rt; desk.epoch(), epoch);
-    assert_eq!(rt; desk.durable(), durable);
-    assert_eq!(rt; desk.history().len(), inputs);
+    assert!(rt; desk.epoch() == epoch);
+    assert!(rt; desk.durable() == durable);
+    assert!(rt; desk.history().len() == inputs);
 }
 
 /// A hub, its tie, its journal and a share of it, the tickets that are open, newest last, and the batch that flies.
@@ -108,12 +108,13 @@ impl<A: Node> Station<A> {
     fn into_parts(self, rt: &impl Abort) -> (Hub<A>, Share<A>) {
         let Station {
             hub,
-            tie: _tie,
-            journal: _journal,
+            tie,
+            journal,
             share,
             tickets,
             flown,
         } = self;
+        drop((tie, journal));
         assert!(rt; tickets.is_empty());
         assert!(rt; flown.is_empty());
         tickets.destroy_empty();
@@ -126,7 +127,9 @@ impl<A: Node> Station<A> {
         let (hub, share) = self.into_parts(rt);
         let mut shares = Vec::new(rt.alloc());
         keeps(rt, &mut shares, share);
-        has(rt, &settled(rt, hub, shares), left);
+        let desk = settled(rt, hub, shares);
+        has(rt, &desk, left);
+        drop(desk);
     }
 
     fn does<R: Wait + Abort + AllocGlobal>(&mut self, rt: &R, step: Step)

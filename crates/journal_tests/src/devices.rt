@@ -44,12 +44,12 @@ fn does<D: Device, R: Abort + AllocGlobal>(rt: &R, device: &mut D, step: &Step<'
         Step::SyncFails => assert!(rt; device.sync().is_err()),
         Step::Reads(off, wanted) => reads(rt, device, off, wanted),
         Step::ReadFails(off, len) => assert!(rt; read(rt, device, off, len).0),
-        Step::HasSize(size) => assert_eq!(rt; device.size(), size),
+        Step::HasSize(size) => assert!(rt; device.size() == size),
         Step::Holds(wanted) => {
-            assert_eq!(rt; device.size(), wanted.len() as u64);
+            assert!(rt; device.size() == (wanted.len() as u64));
             reads(rt, device, 0, wanted)
         }
-        Step::Failed(calls) => assert_eq!(rt; device.failures(), calls),
+        Step::Failed(calls) => assert!(rt; device.failures() == calls),
     }
 }
 
@@ -68,7 +68,7 @@ fn read<D: Device, R: Abort + AllocGlobal>(
 pub fn reads<D: Device, R: Abort + AllocGlobal>(rt: &R, device: &mut D, off: u64, wanted: &[u8]) {
     let (fails, bytes) = read(rt, device, off, wanted.len());
     assert!(rt; !fails);
-    assert_eq!(rt; bytes.as_slice(), wanted);
+    assert!(rt; bytes.as_slice() == wanted);
 }
 
 /// A device of at most so many bytes, with which this was done.

@@ -38,7 +38,7 @@ fn batch_at_last(rt: &impl Abort, alloc: Global, inputs: &[Input]) -> Batch {
     match Batch::new(alloc, NodeNo::first(), 0, inputs) {
         Ok(batch) => batch,
         Err(refusal) => {
-            assert_eq!(rt; refusal, Refusal::OutOfMemory);
+            assert!(rt; refusal == Refusal::OutOfMemory);
             Batch::new(alloc, NodeNo::first(), 0, inputs).expect(rt, "ample memory")
         }
     }
@@ -92,7 +92,7 @@ fn checkpoint_at_last(rt: &impl Abort, alloc: Global) -> Checkpoint
     match checkpoint(rt, alloc) {
         Ok(made) => made,
         Err(refusal) => {
-            assert_eq!(rt; refusal, Refusal::OutOfMemory);
+            assert!(rt; refusal == Refusal::OutOfMemory);
             checkpoint(rt, alloc).expect(rt, "ample memory")
         }
     }
@@ -122,7 +122,7 @@ fn reopened_at_last(
         Ok(found) => return found,
         Err(refused) => refused,
     };
-    assert_eq!(rt; refusal, Refusal::OutOfMemory);
+    assert!(rt; refusal == Refusal::OutOfMemory);
     match Journal::reopen(alloc, device, NodeNo::first(), 3) {
         Ok(found) => found,
         Err((_device, refusal)) => panic!(rt; "{refusal:?}"),
@@ -134,10 +134,12 @@ fn refused_growths(rt: HostRuntime) {
     let alloc = rt.alloc();
     let device = committed(&rt, alloc).into_device();
     let (mut journal, opening) = reopened_at_last(&rt, alloc, device);
-    assert_eq!(rt; (opening.epoch, opening.base.inputs), (1, 0));
-    assert_eq!(rt; opening.inputs.as_slice(), stand(&rt).as_slice());
+    assert!(rt; (opening.epoch, opening.base.inputs) == (1, 0));
+    assert!(rt; opening.inputs.as_slice() == stand(&rt).as_slice());
+    drop(opening);
     takes_checkpoint(&rt, alloc, &mut journal);
-    let (_journal, opening) = reopened_at_last(&rt, alloc, journal.into_device());
-    assert_eq!(rt; (opening.epoch, opening.base.inputs), (2, 1));
+    let (journal, opening) = reopened_at_last(&rt, alloc, journal.into_device());
+    assert!(rt; (opening.epoch, opening.base.inputs) == (2, 1));
     assert!(rt; opening.inputs.is_empty());
+    drop((journal, opening));
 }

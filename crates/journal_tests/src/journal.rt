@@ -101,8 +101,8 @@ fn fresh<R: Abort + AllocGlobal>(rt: &R) -> Journal<FuseDevice<MemDevice>>
 
 /// They are of node 1, and these inputs from this number on.
 fn are_parts(rt: &impl Abort, parts: (NodeNo, u64, Vec<Input>), first: u64, inputs: &[Input]) {
-    assert_eq!(rt; (parts.0.number(), parts.1), (1, first));
-    assert_eq!(rt; parts.2.as_slice(), inputs);
+    assert!(rt; (parts.0.number(), parts.1) == (1, first));
+    assert!(rt; parts.2.as_slice() == inputs);
 }
 
 /// What was to become durable has a snapshot of so many bytes, or none, and these inputs; whether it is durable.
@@ -115,12 +115,12 @@ fn is_spent(
 ) -> bool {
     match ended {
         Ok(receipt) => {
-            assert_eq!(rt; receipt.snapshot(), snapshot);
+            assert!(rt; receipt.snapshot() == snapshot);
             are_parts(rt, receipt.into_parts(), first, inputs);
             true
         }
         Err(spoiled) => {
-            assert_eq!(rt; spoiled.snapshot(), snapshot);
+            assert!(rt; spoiled.snapshot() == snapshot);
             are_parts(rt, spoiled.into_parts(), first, inputs);
             false
         }
@@ -143,7 +143,7 @@ fn commits<D: Device, R: Abort + AllocGlobal>(
     assert!(rt; journal.room() >= batch.cost());
     assert!(rt; journal.suits(batch.inputs()));
     let committed = is_spent(rt, journal.commit(batch), first, inputs, None);
-    assert_eq!(rt; journal.is_spoiled(), !committed);
+    assert!(rt; journal.is_spoiled() == !committed);
     committed
 }
 
@@ -163,11 +163,8 @@ fn checkpoint<R: Abort + AllocGlobal>(
     let counted = summary.inputs;
     let made = Checkpoint::new(rt.alloc(), NodeNo::first(), first, inputs, summary);
     let made = made.expect(rt, "ample memory");
-    assert_eq!(rt; made.inputs(), inputs);
-    assert_eq!(rt;
-        (made.base().inputs, made.cost() as usize),
-        (counted, snapshot.len())
-    );
+    assert!(rt; made.inputs() == inputs);
+    assert!(rt; (made.base().inputs, made.cost() as usize) == (counted, snapshot.len()));
     made
 }
 
@@ -195,7 +192,7 @@ fn takes_checkpoint<D: Device, R: Abort + AllocGlobal>(
         inputs,
         Some(snapshot.len() as u64),
     );
-    assert_eq!(rt; journal.is_spoiled(), !done);
+    assert!(rt; journal.is_spoiled() == !done);
     done
 }
 
@@ -249,8 +246,8 @@ fn snapshot_in<'a>(rt: &impl Abort, area: &'a [u8]) -> &'a [u8] {
 }
 
 fn tells<D: Device>(rt: &impl Abort, journal: &Journal<D>, wanted: (u64, u32, u64)) {
-    assert_eq!(rt; told(journal), wanted);
-    assert_eq!(rt; (journal.node().number(), journal.capacity()), (1, 4096));
+    assert!(rt; told(journal) == wanted);
+    assert!(rt; (journal.node().number(), journal.capacity()) == (1, 4096));
     assert!(rt; !journal.is_spoiled());
 }
 
@@ -269,7 +266,7 @@ fn stable<R: Abort + AllocGlobal>(
     parts: &[(u64, &[u8])],
 ) -> MemDevice {
     let mut device = left(journal, Tear::Old);
-    assert_eq!(rt; device.size(), size);
+    assert!(rt; device.size() == size);
     holds(rt, &mut device, parts);
     device
 }
@@ -293,8 +290,8 @@ fn opens_with<R: Abort + AllocGlobal>(
     ops: &[Op],
 ) {
     let found = (opening.layout, opening.epoch, opening.base.inputs);
-    assert_eq!(rt; found, (LAYOUT, epoch, base));
-    assert_eq!(rt; opening.inputs.as_slice(), inputs(rt, ops).as_slice());
+    assert!(rt; found == (LAYOUT, epoch, base));
+    assert!(rt; opening.inputs.as_slice() == inputs(rt, ops).as_slice());
 }
 
 /// On the device is the journal of node 1, of capacity 4,096, that tells this, and opens with a summary of so many inputs,
@@ -349,7 +346,7 @@ fn refused(rt: &impl Abort, alloc: Global, device: FuseDevice<MemDevice>) -> Fus
     match Journal::reopen(alloc, device, NodeNo::first(), 3) {
         Ok(_) => panic!(rt; "no call failed"),
         Err((device, refusal)) => {
-            assert_eq!(rt; refusal, Refusal::Device(1));
+            assert!(rt; refusal == Refusal::Device(1));
             device
         }
     }
@@ -364,8 +361,8 @@ fn fault_is_told<R: Abort + AllocGlobal>(
 ) {
     let size = device.size();
     let device = refused(rt, rt.alloc(), FuseDevice::new(device, after, true));
-    assert_eq!(rt; device.size(), size);
-    assert_eq!(rt; told(&reopened(rt, device).0), wanted);
+    assert!(rt; device.size() == size);
+    assert!(rt; told(&reopened(rt, device).0) == wanted);
 }
 
 /// The device of a journal of this capacity, with so many frames of 64 of the longest inputs: its closed gate is at 72

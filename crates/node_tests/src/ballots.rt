@@ -18,14 +18,14 @@ fn ballot(rt: &impl Abort, stood: Option<u32>, known: Option<(u32, u8)>) -> Ball
 #[test]
 fn a_stand_sends_the_own_candidate(rt: HostRuntime) {
     let mut ballot = Ballot::new();
-    assert_eq!(rt; ballot.stood, None);
-    assert_eq!(rt; ballot.leader, None);
+    assert!(rt; ballot.stood.is_none());
+    assert!(rt; ballot.leader.is_none());
     if ballot.stood.is_none() {
         let token = ballot.stand(node(&rt, 2), key(&rt, "red", 5), bid(&rt, 30));
-        assert_eq!(rt; token, msg(&rt, Token("red", 5, 30, 2)));
+        assert!(rt; token == msg(&rt, Token("red", 5, 30, 2)));
     }
-    assert_eq!(rt; ballot.stood, Some(bid(&rt, 30)));
-    assert_eq!(rt; ballot.leader, None);
+    assert!(rt; ballot.stood == Some(bid(&rt, 30)));
+    assert!(rt; ballot.leader.is_none());
 }
 
 /// What is sent on of a message: nothing, or that its candidate stands or leads.
@@ -59,8 +59,8 @@ type Row = (
 /// At the row's candidate this is sent on, and the ballot then is the row's.
 fn passes_on(rt: &impl Abort, row: Row, sent: Option<Msg>, at: Ballot) {
     let (stood, _, (bid, number), on, known) = row;
-    assert_eq!(rt; sent, on.msg(rt, bid, number), "{bid} {number}");
-    assert_eq!(rt; at, ballot(rt, stood, known), "{bid} {number}");
+    assert!(rt; sent == on.msg(rt, bid, number), "{bid} {number}");
+    assert!(rt; at == ballot(rt, stood, known), "{bid} {number}");
 }
 
 /// Node 2 hears the candidate's token.

@@ -18,23 +18,23 @@ fn queue(rt: &impl Abort, link: &mut Outlink, first: u32, end: u32) {
     for bid in first..end {
         assert!(rt; link.sent() < u64::MAX);
         let no = link.queue(token(rt, bid)).expect(rt, "ample memory");
-        assert_eq!(rt; no, bid as u64);
+        assert!(rt; no == (bid as u64));
     }
 }
 
 /// The tokens with bids from `first` to below `end`.
 fn are_tokens(rt: &impl Abort, window: &[Msg], first: u32, end: u32) {
-    assert_eq!(rt; window.len(), end.saturating_sub(first) as usize);
+    assert!(rt; window.len() == (end.saturating_sub(first) as usize));
     for bid in first..end {
         let kept = window.get((bid - first) as usize).copied();
-        assert_eq!(rt; kept, Some(token(rt, bid)), "number {bid} behind {first}");
+        assert!(rt; kept == Some(token(rt, bid)), "number {bid} behind {first}");
     }
 }
 
 /// The link has the tokens with bids from `credited` to below `sent` in its window.
 fn shows(rt: &impl Abort, link: &Outlink, credited: u32, sent: u32) {
-    assert_eq!(rt; link.credited(), credited as u64);
-    assert_eq!(rt; link.sent(), sent as u64);
+    assert!(rt; link.credited() == (credited as u64));
+    assert!(rt; link.sent() == (sent as u64));
     are_tokens(rt, link.window(), credited, sent);
 }
 
@@ -51,8 +51,8 @@ fn taken(rt: &impl Abort, count: u64) -> Inlink {
 /// Where so many messages were taken, the number is judged so.
 fn judges(rt: &impl Abort, link: &Inlink, row: (u64, u64, Judged)) {
     let (taken, no, judged) = row;
-    assert_eq!(rt; link.expected(), taken);
-    assert_eq!(rt; link.judge(no), judged, "{no} where {taken} were taken");
+    assert!(rt; link.expected() == taken);
+    assert!(rt; link.judge(no) == judged, "{no} where {taken} were taken");
 }
 
 /// Messages taken, a number, and what it is.
@@ -94,10 +94,9 @@ fn credits(rt: &impl Abort, alloc: Global, row: Row) {
     let now = if cause.is_none() { upto } else { before };
     let judged = link.judge(upto as u64).err();
     let refused = link.credit(upto as u64).err();
-    assert_eq!(rt; judged, refused);
-    assert_eq!(rt;
-        refused,
-        refusal(rt, cause),
+    assert!(rt; judged == refused);
+    assert!(rt;
+        refused == refusal(rt, cause),
         "{upto} behind {before} of {sent}"
     );
     shows(rt, &link, now, sent);

@@ -10,26 +10,26 @@ use test_rows::Note::{self, Elected, Token};
 fn a_stand_touches_one_key(rt: HostRuntime) {
     let (red, own) = (key(&rt, "red", 5), bid(&rt, 30));
     let mut table = Table::new(rt.alloc(), node(&rt, 2));
-    assert_eq!(rt; table.ballot(&red), None);
-    assert_eq!(rt; table.stands(), 0);
+    assert!(rt; table.ballot(&red).is_none());
+    assert!(rt; table.stands() == 0);
     let token = table.stand(red, own).expect(&rt, "ample memory");
     let candidate = candidate(&rt, (30, 2));
-    assert_eq!(rt;
-        token,
-        Msg::Token {
-            key: red,
-            candidate
-        }
+    assert!(rt;
+        token
+            == Msg::Token {
+                key: red,
+                candidate
+            }
     );
     let kept = Ballot {
         stood: Some(own),
         leader: None,
     };
-    assert_eq!(rt; table.ballot(&red), Some(kept));
-    assert_eq!(rt; table.who(&red), None);
-    assert_eq!(rt; table.stands(), 1);
+    assert!(rt; table.ballot(&red) == Some(kept));
+    assert!(rt; table.who(&red).is_none());
+    assert!(rt; table.stands() == 1);
     for (group, term) in [("red", 4), ("red", 6), ("re", 5), ("redd", 5)] {
-        assert_eq!(rt; table.ballot(&key(&rt, group, term)), None);
+        assert!(rt; table.ballot(&key(&rt, group, term)).is_none());
     }
 }
 
@@ -45,13 +45,13 @@ fn hears(
     assert!(rt; on.is_ok(), "ample memory");
     let term = Term::new(latest.0).expect(rt, "a term");
     let want = Some((term, candidate(rt, latest.1)));
-    assert_eq!(rt; table.latest(group), want);
+    assert!(rt; table.latest(group) == want);
 }
 
 /// The leader for the key has this bid and node, and the table has no Stand.
 fn is_led(rt: &impl Abort, table: &Table, key: &Key, numbers: (u32, u8)) {
-    assert_eq!(rt; table.who(key), Some(candidate(rt, numbers)));
-    assert_eq!(rt; table.stands(), 0);
+    assert!(rt; table.who(key) == Some(candidate(rt, numbers)));
+    assert!(rt; table.stands() == 0);
 }
 
 const GREATEST: (u32, (u32, u8)) = (9, (90, 3));
@@ -69,7 +69,7 @@ static HEARD: [(Note, (u32, (u32, u8))); 5] = [
 fn the_latest_is_of_the_greatest_term(rt: HostRuntime) {
     let mut table = Table::new(rt.alloc(), node(&rt, 2));
     let red = key(&rt, "red", 8);
-    assert_eq!(rt; table.latest(&red.group), None);
+    assert!(rt; table.latest(&red.group).is_none());
     for row in &HEARD {
         let (note, latest) = *row;
         hears(&rt, &mut table, &red.group, note, latest);
@@ -77,7 +77,7 @@ fn the_latest_is_of_the_greatest_term(rt: HostRuntime) {
     is_led(&rt, &table, &red, (80, 3));
     let copy = table.try_copy().expect(&rt, "ample memory");
     is_led(&rt, &copy, &red, (80, 3));
-    assert_eq!(rt; copy.latest(&red.group), table.latest(&red.group));
+    assert!(rt; copy.latest(&red.group) == table.latest(&red.group));
 }
 
 #[test]
@@ -97,15 +97,16 @@ fn a_table_is_restored_from_what_it_knows(rt: HostRuntime) {
         table.hear(&msg(&rt, note)).expect(&rt, "ample memory");
     }
     let states = table.key_states(alloc).expect(&rt, "ample memory");
-    assert_eq!(rt; states.len(), 3);
+    assert!(rt; states.len() == 3);
     let floors = table.floors(alloc).expect(&rt, "ample memory");
     assert!(rt; floors.is_empty());
     let other = Table::restore(alloc, node(&rt, 2), &states, 1, &floors);
     let other = other.expect(&rt, "ample memory");
-    assert_eq!(rt; other.stands(), 1);
+    assert!(rt; other.stands() == 1);
     for (group, term) in [("red", 5), ("red", 9), ("blu", 1), ("blu", 2)] {
         let key = key(&rt, group, term);
-        assert_eq!(rt; other.ballot(&key), table.ballot(&key));
-        assert_eq!(rt; other.latest(&key.group), table.latest(&key.group));
+        assert!(rt; other.ballot(&key) == table.ballot(&key));
+        assert!(rt; other.latest(&key.group) == table.latest(&key.group));
     }
+    drop((table, other, states, floors));
 }

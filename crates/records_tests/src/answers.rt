@@ -18,8 +18,8 @@ fn tells(rt: &impl Abort, alloc: Global, capacity: u32, before: &[Op], row: &Row
     let request = ask.request().expect(rt, "a request");
     let told = answer(node(rt, 1), 3, capacity, &Base::fresh(), &history, &request);
     let want = say.reply().expect(rt, "a reply");
-    assert_eq!(rt; told.0, want, "{name}");
-    assert_eq!(rt; told.1, number, "{name}: its number");
+    assert!(rt; told.0 == want, "{name}");
+    assert!(rt; told.1 == number, "{name}: its number");
 }
 
 /// The same with ample capacity, for each of the rows.

@@ -23,7 +23,7 @@ type Course = (u8, &'static [Op], &'static [Note]);
 fn is_admitted(rt: &impl Abort, me: NodeNo, n: u8, history: &[Input]) {
     for (place, input) in history.iter().enumerate() {
         let refused = refusal(me, n, 65536, &Base::fresh(), &history[..place], input);
-        assert_eq!(rt; refused, None, "input {place} at node {me}");
+        assert!(rt; refused.is_none(), "input {place} at node {me}");
     }
 }
 
@@ -31,7 +31,7 @@ fn is_admitted(rt: &impl Abort, me: NodeNo, n: u8, history: &[Input]) {
 fn has_sent(rt: &impl Abort, alloc: Global, me: NodeNo, history: &[Input], notes: &[Note]) {
     let want = messages(rt, alloc, notes);
     let told = sent(alloc, me, history).expect(rt, "ample memory");
-    assert_eq!(rt; told.as_slice(), want.as_slice(), "sent by node {me}");
+    assert!(rt; told.as_slice() == want.as_slice(), "sent by node {me}");
 }
 
 /// Each input of the node is admitted after those before it, and at the end it has sent this and knows the winner.
@@ -44,10 +44,10 @@ fn follows(rt: &impl Abort, alloc: Global, election: &Election, course: &Course)
     let key = key(rt, election.group, election.term);
     let leads = leader(me, &history, &key);
     let winner = candidate(rt, election.winner);
-    assert_eq!(rt; leads, Some(winner), "leader at node {me}");
+    assert!(rt; leads == Some(winner), "leader at node {me}");
     let last = latest(me, &history, &key.group);
     let greatest = (key.term, candidate(rt, election.winner));
-    assert_eq!(rt; last, Some(greatest), "latest at node {me}");
+    assert!(rt; last == Some(greatest), "latest at node {me}");
 }
 
 /// Each node follows its course.
@@ -219,18 +219,18 @@ fn counts_what_is_in_a_history(rt: HostRuntime) {
     let (alloc, me) = (rt.alloc(), node(&rt, 2));
     let (red, blue) = (key(&rt, "red", 5), key(&rt, "blue", 1));
     let history = inputs(&rt, alloc, &COUNTED);
-    assert_eq!(rt; touched(&history, &red), true);
-    assert_eq!(rt; touched(&history, &key(&rt, "red", 6)), false);
-    assert_eq!(rt; stood(&history, &red), None);
-    assert_eq!(rt; stood(&history, &blue), Some(bid(&rt, 3)));
-    assert_eq!(rt; (stands(&history), credit(&history)), (1, 2));
+    assert!(rt; touched(&history, &red));
+    assert!(rt; !touched(&history, &key(&rt, "red", 6)));
+    assert!(rt; stood(&history, &red).is_none());
+    assert!(rt; stood(&history, &blue) == Some(bid(&rt, 3)));
+    assert!(rt; (stands(&history), credit(&history)) == (1, 2));
     let before = inputs(&rt, alloc, &COUNTED[..2]);
-    assert_eq!(rt; credit(&before), 0);
+    assert!(rt; credit(&before) == 0);
     let received = taken(alloc, &history).expect(&rt, "ample memory");
     let want = messages(&rt, alloc, &[FIRST]);
-    assert_eq!(rt; received.as_slice(), want.as_slice());
+    assert!(rt; received.as_slice() == want.as_slice());
     let emitted = emit(me, &history, &input(&rt, OWN));
     let token = Token("blue", 1, 3, 2).msg().expect(&rt, "a message");
-    assert_eq!(rt; emitted, Some(token));
-    assert_eq!(rt; latest(me, &history, &red.group), None);
+    assert!(rt; emitted == Some(token));
+    assert!(rt; latest(me, &history, &red.group).is_none());
 }

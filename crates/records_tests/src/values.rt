@@ -23,10 +23,10 @@ fn reads_names_within_their_borders(rt: HostRuntime) {
     for row in &NAMES {
         let (text, is_name) = *row;
         let read = GroupName::read(text.as_bytes());
-        assert_eq!(rt; read.is_ok(), is_name, "{text}");
+        assert!(rt; read.is_ok() == is_name, "{text}");
         if let Ok(name) = read {
             let copy = name.as_bytes() == text.as_bytes();
-            assert_eq!(rt; copy, true, "{text}");
+            assert!(rt; copy, "{text}");
         }
     }
 }
@@ -47,29 +47,32 @@ fn takes_numbers_within_their_borders(rt: HostRuntime) {
     for row in &NUMBERS {
         let (number, is_term, is_bid) = *row;
         let (term, bid) = (Term::new(number), Bid::new(number));
-        assert_eq!(rt; (term.is_ok(), bid.is_ok()), (is_term, is_bid), "{number}");
+        assert!(rt;
+            (term.is_ok(), bid.is_ok()) == (is_term, is_bid),
+            "{number}"
+        );
     }
     for row in &NODES {
         let (number, is_node) = *row;
         let node = NodeNo::new(number);
-        assert_eq!(rt; node.is_ok(), is_node, "{number}");
+        assert!(rt; node.is_ok() == is_node, "{number}");
     }
 }
 
 /// The first name is below the second, and its keys are, whatever their terms.
 fn orders_keys(rt: &impl Abort, low: &str, high: &str) {
     let (before, behind) = (key(rt, low, 2), key(rt, high, 1));
-    assert_eq!(rt; before.group < behind.group, true, "{low} {high}");
-    assert_eq!(rt; before < behind, true, "{low} {high}");
+    assert!(rt; before.group < behind.group, "{low} {high}");
+    assert!(rt; before < behind, "{low} {high}");
 }
 
 /// The first candidate is below the second.
 fn orders_candidates(rt: &impl Abort, low: (u32, u8), high: (u32, u8)) {
     let (lesser, greater) = (candidate(rt, low), candidate(rt, high));
-    assert_eq!(rt; lesser < greater, true, "{low:?} {high:?}");
-    assert_eq!(rt; lesser.is_below(&greater), true, "{low:?} {high:?}");
-    assert_eq!(rt; greater.is_below(&lesser), false, "{low:?} {high:?}");
-    assert_eq!(rt; lesser.is_below(&lesser), false, "{low:?}");
+    assert!(rt; lesser < greater, "{low:?} {high:?}");
+    assert!(rt; lesser.is_below(&greater), "{low:?} {high:?}");
+    assert!(rt; !greater.is_below(&lesser), "{low:?} {high:?}");
+    assert!(rt; !lesser.is_below(&lesser), "{low:?}");
 }
 
 #[test]
@@ -87,9 +90,6 @@ fn goes_round_the_ring(rt: HostRuntime) {
     let first = NodeNo::new(1).expect(&rt, "a node");
     let second = NodeNo::new(2).expect(&rt, "a node");
     let last = NodeNo::new(3).expect(&rt, "a node");
-    assert_eq!(rt; (first.successor(3), last.successor(3)), (second, first));
-    assert_eq!(rt;
-        (first.predecessor(3), second.predecessor(3)),
-        (last, first)
-    );
+    assert!(rt; (first.successor(3), last.successor(3)) == (second, first));
+    assert!(rt; (first.predecessor(3), second.predecessor(3)) == (last, first));
 }

@@ -14,15 +14,12 @@ fn keeps(rt: &impl Abort, alloc: Global, stop: Event, kept: u64) {
     is_sealed(rt, &stood, 1);
     let node = node(rt, 1);
     let stopped = happens(rt, &mut world, stop);
-    assert_eq!(rt; stopped.up, Some(kept), "{stop:?}");
-    assert_eq!(rt; stopped.lost.len(), 1);
-    assert_eq!(rt; stopped.lost[0], 1);
+    assert!(rt; stopped.up == Some(kept), "{stop:?}");
+    assert!(rt; stopped.lost.len() == 1);
+    assert!(rt; stopped.lost[0] == 1);
     assert!(rt; stopped.replies.is_empty());
     let shown = world.show(node).expect(rt, "a node of the ring");
-    assert_eq!(rt;
-        (shown.inputs, shown.durable, shown.sent),
-        (kept, kept, kept)
-    );
+    assert!(rt; (shown.inputs, shown.durable, shown.sent) == (kept, kept, kept));
     world.end();
 }
 
@@ -66,16 +63,16 @@ fn a_flush_releases_what_was_sealed(rt: HostRuntime) {
     sweeps(&rt, &mut world, 0);
     let node = node(&rt, 1);
     let flushed = happens(&rt, &mut world, Event::Flush(node));
-    assert_eq!(rt; flushed.flushed, Some(1));
-    assert_eq!(rt; flushed.replies.len(), 1);
+    assert!(rt; flushed.flushed == Some(1));
+    assert!(rt; flushed.replies.len() == 1);
     let (ticket, reply) = flushed.replies[0];
-    assert_eq!(rt; (ticket, reply), (1, Reply::Stood));
+    assert!(rt; (ticket, reply) == (1, Reply::Stood));
     sweeps(&rt, &mut world, 1);
     let crashed = happens(&rt, &mut world, Event::Crash(node));
-    assert_eq!(rt; crashed.up, Some(1));
+    assert!(rt; crashed.up == Some(1));
     assert!(rt; crashed.lost.is_empty());
     let idle = happens(&rt, &mut world, Event::Flush(node));
-    assert_eq!(rt; idle.flushed, Some(0));
+    assert!(rt; idle.flushed == Some(0));
     world.end();
 }
 
@@ -86,15 +83,15 @@ fn a_checkpoint_releases_what_was_sealed(rt: HostRuntime) {
     is_sealed(&rt, &stood, 1);
     let node = node(&rt, 1);
     let made = happens(&rt, &mut world, Event::Checkpoint(node));
-    assert_eq!(rt; made.flushed, Some(1));
-    assert_eq!(rt; made.replies.len(), 1);
+    assert!(rt; made.flushed == Some(1));
+    assert!(rt; made.replies.len() == 1);
     let (ticket, reply) = made.replies[0];
-    assert_eq!(rt; (ticket, reply), (1, Reply::Stood));
+    assert!(rt; (ticket, reply) == (1, Reply::Stood));
     sweeps(&rt, &mut world, 1);
     let idle = happens(&rt, &mut world, Event::Checkpoint(node));
-    assert_eq!(rt; idle.flushed, Some(0));
+    assert!(rt; idle.flushed == Some(0));
     let crashed = happens(&rt, &mut world, Event::Crash(node));
-    assert_eq!(rt; crashed.up, Some(1));
+    assert!(rt; crashed.up == Some(1));
     world.end();
 }
 
@@ -112,7 +109,7 @@ fn a_checkpoint_that_is_refused_changes_nothing(rt: HostRuntime) {
     let stop = Event::StopCheckpoint { node, call, tear };
     is_refused(&rt, &mut world, stop, Refusal::Full);
     let shown = world.show(node).expect(&rt, "a node of the ring");
-    assert_eq!(rt; (shown.inputs, shown.durable), (151, 151));
+    assert!(rt; (shown.inputs, shown.durable) == (151, 151));
     world.end();
 }
 
@@ -141,7 +138,7 @@ fn there_are_four_or_six_calls_to_stop_at(rt: HostRuntime) {
     is_refused(&rt, &mut world, Event::Crash(third), Refusal::BadNumber);
     match world.show(third) {
         Ok(_) => panic!(rt; "shown"),
-        Err(refusal) => assert_eq!(rt; refusal, Refusal::BadNumber),
+        Err(refusal) => assert!(rt; refusal == Refusal::BadNumber),
     }
     world.end();
 }

@@ -142,13 +142,13 @@ fn comes(rt: &impl Abort, outcome: &Outcome, brings: Brings) {
             answers(rt, outcome, ticket, say)
         }
         Brings::Lands(count, replies) => {
-            assert_eq!(rt; outcome.flushed, Some(count));
-            assert_eq!(rt; outcome.replies.len(), replies);
+            assert!(rt; outcome.flushed == Some(count));
+            assert!(rt; outcome.replies.len() == replies);
         }
-        Brings::Delivered(count) => assert_eq!(rt; outcome.delivered, Some(count)),
+        Brings::Delivered(count) => assert!(rt; outcome.delivered == Some(count)),
         Brings::Up(inputs, lost) => {
-            assert_eq!(rt; outcome.up, Some(inputs));
-            assert_eq!(rt; outcome.lost.len(), lost);
+            assert!(rt; outcome.up == Some(inputs));
+            assert!(rt; outcome.lost.len() == lost);
         }
         Brings::Unknown => panic!(rt; "not refused"),
     }
@@ -187,7 +187,7 @@ fn happens(
         Err(Refusal::OutOfMemory) => false,
         Err(refusal) => {
             assert!(rt; matches!(brings, Brings::Unknown));
-            assert_eq!(rt; refusal, Refusal::Unknown);
+            assert!(rt; refusal == Refusal::Unknown);
             true
         }
     }
@@ -199,7 +199,7 @@ fn are_named(rt: &impl Abort, world: &World, count: usize) {
         Ok(list) => list,
         Err(_) => world.announced().expect(rt, "ample memory"),
     };
-    assert_eq!(rt; list.len(), count);
+    assert!(rt; list.len() == count);
 }
 
 /// Whether all of it happens. Where a growth is refused the world has failed.

@@ -16,7 +16,7 @@ fn are_whole(rt: &impl Abort, alloc: Global, world: &World, counts: &[usize], pl
             .eq(counts.iter().copied())
     );
     let run = audit(alloc, &histories).expect(rt, "a run");
-    assert_eq!(rt; run.len(), placed);
+    assert!(rt; run.len() == placed);
 }
 
 /// The node of this number has its first inputs no more, and those before it have theirs.
@@ -24,7 +24,7 @@ fn is_dropped(rt: &impl Abort, world: &World, number: u8) {
     let refusal = Refusal::Dropped(node(rt, number));
     match world.histories() {
         Ok(_) => panic!(rt; "not refused"),
-        Err(was) => assert_eq!(rt; was, refusal),
+        Err(was) => assert!(rt; was == refusal),
     }
 }
 
@@ -82,7 +82,7 @@ fn stood(rt: &impl Abort, alloc: Global) -> Option<World> {
     let asked = world.step(stand).is_ok();
     let flushed = world.step(Event::Flush(node(rt, 1)));
     if let (true, Ok(outcome)) = (asked, &flushed) {
-        assert_eq!(rt; outcome.flushed, Some(1));
+        assert!(rt; outcome.flushed == Some(1));
         return Some(world);
     }
     if flushed.is_err() {
@@ -96,7 +96,7 @@ fn stood(rt: &impl Abort, alloc: Global) -> Option<World> {
 fn is_failed(rt: &impl Abort, world: &World) {
     match world.histories() {
         Ok(_) => panic!(rt; "not refused"),
-        Err(was) => assert_eq!(rt; was, Refusal::Failed),
+        Err(was) => assert!(rt; was == Refusal::Failed),
     }
 }
 
@@ -105,7 +105,7 @@ fn given(rt: &impl Abort, world: &World) -> Vec<Vec<Input>> {
     match world.histories() {
         Ok(histories) => histories,
         Err(refusal) => {
-            assert_eq!(rt; refusal, Refusal::OutOfMemory);
+            assert!(rt; refusal == Refusal::OutOfMemory);
             world.histories().expect(rt, "ample memory")
         }
     }
@@ -118,8 +118,8 @@ fn refused_growths(rt: HostRuntime) {
         None => stood(&rt, rt.alloc()).expect(&rt, "ample memory"),
     };
     let histories = given(&rt, &world);
-    assert_eq!(&rt; histories.len(), 2);
-    assert_eq!(&rt; histories[0].len(), 1);
-    assert_eq!(&rt; histories[1].len(), 0);
+    assert!(&rt; histories.len() == 2);
+    assert!(&rt; histories[0].len() == 1);
+    assert!(&rt; histories[1].len() == 0);
     world.end();
 }

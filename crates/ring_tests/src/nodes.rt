@@ -14,7 +14,7 @@ fn stood<R: Abort + AllocGlobal>(rt: &R) -> RingNode {
     let bid = Bid::new(10).expect(rt, "a bid");
     made.ask(Some(7), Request::Stand(key, bid))
         .expect(rt, "ample memory");
-    assert_eq!(rt; made.desk().history().len(), 1);
+    assert!(rt; made.desk().history().len() == 1);
     assert!(rt; made.release().is_none());
     made
 }
@@ -22,21 +22,21 @@ fn stood<R: Abort + AllocGlobal>(rt: &R) -> RingNode {
 #[test]
 fn released_behind_a_flush(rt: HostRuntime) {
     let mut made = stood(&rt);
-    assert_eq!(&rt; made.flush().ok(), Some(1));
+    assert!(&rt; made.flush().ok() == Some(1));
     assert!(&rt; made.message(0).is_some());
     let Some((number, stub)) = made.release() else {
         panic!(&rt; "no reply is due");
     };
-    assert_eq!(&rt; number, Some(7));
-    assert_eq!(&rt; stub.reply(), Reply::Stood);
+    assert!(&rt; number == Some(7));
+    assert!(&rt; stub.reply() == Reply::Stood);
     made.end();
 }
 
 #[test]
 fn lost_in_a_crash(rt: HostRuntime) {
     let (again, lost) = stood(&rt).crash().expect(&rt, "ample memory");
-    assert_eq!(&rt; lost.as_slice(), [7].as_slice());
-    assert_eq!(&rt; again.desk().history().len(), 0);
+    assert!(&rt; lost.as_slice() == [7].as_slice());
+    assert!(&rt; again.desk().history().len() == 0);
     again.end();
 }
 
@@ -47,11 +47,8 @@ fn outlives<R: Abort + AllocGlobal>(rt: &R, call: u64, expected: bool) {
     assert!(rt; made.is_credited());
     let stopped = made.stop(call, Tear::Fill(1));
     let (again, keeps, lost) = stopped.expect(rt, "ample memory");
-    assert_eq!(rt;
-        (keeps, again.desk().durable()),
-        (expected, u64::from(expected))
-    );
-    assert_eq!(rt; lost.as_slice(), [7].as_slice());
+    assert!(rt; (keeps, again.desk().durable()) == (expected, u64::from(expected)));
+    assert!(rt; lost.as_slice() == [7].as_slice());
     again.end();
 }
 
@@ -69,13 +66,13 @@ fn stopped_at_the_gate(rt: HostRuntime) {
 fn released_behind_a_checkpoint(rt: HostRuntime) {
     let mut made = stood(&rt);
     assert!(&rt; made.checkpoint_refusal().is_none());
-    assert_eq!(&rt; made.checkpoint().ok(), Some(1));
+    assert!(&rt; made.checkpoint().ok() == Some(1));
     assert!(&rt; made.message(0).is_some());
     let Some((number, stub)) = made.release() else {
         panic!(&rt; "no reply is due");
     };
-    assert_eq!(&rt; number, Some(7));
-    assert_eq!(&rt; stub.reply(), Reply::Stood);
+    assert!(&rt; number == Some(7));
+    assert!(&rt; stub.reply() == Reply::Stood);
     made.end();
 }
 
@@ -86,11 +83,11 @@ fn outlives_summarised<R: Abort + AllocGlobal>(rt: &R, call: u64, expected: bool
     assert!(rt; made.is_credited());
     let stopped = made.stop_checkpoint(call, Tear::Fill(1));
     let (again, keeps, lost) = stopped.expect(rt, "ample memory");
-    assert_eq!(rt;
-        (keeps, again.desk().first(), again.desk().durable()),
-        (expected, u64::from(expected), u64::from(expected))
+    assert!(rt;
+        (keeps, again.desk().first(), again.desk().durable())
+            == (expected, u64::from(expected), u64::from(expected))
     );
-    assert_eq!(rt; lost.as_slice(), [7].as_slice());
+    assert!(rt; lost.as_slice() == [7].as_slice());
     again.end();
 }
 

@@ -19,12 +19,12 @@ fn rings_have_2_to_16_nodes(rt: HostRuntime) {
         match World::new(rt.alloc(), n, true, capacity) {
             Ok(world) => {
                 assert!(rt; made, "{n} {capacity}");
-                assert_eq!(rt; world.size(), n);
+                assert!(rt; world.size() == n);
                 world.end();
             }
             Err(refusal) => {
                 assert!(rt; !made, "{n} {capacity}");
-                assert_eq!(rt; refusal, Refusal::BadNumber);
+                assert!(rt; refusal == Refusal::BadNumber);
             }
         }
     }
@@ -52,12 +52,12 @@ fn three_nodes_elect_the_greatest(rt: HostRuntime) {
 /// Replies of these nodes, in order, named node 2 with bid 30 the leader for term 5 of `red`, and no others named one.
 fn is_announced(rt: &impl Abort, world: &World, nodes: &[u8]) {
     let list = world.announced().expect(rt, "ample memory");
-    assert_eq!(rt; list.len(), nodes.len());
+    assert!(rt; list.len() == nodes.len());
     let key = key("red", 5).expect(rt, "a key");
     let leader = candidate(30, 2).expect(rt, "a candidate");
     for (named, number) in list.iter().zip(nodes) {
-        assert_eq!(rt; named.node.number(), *number);
-        assert_eq!(rt; named.key, key);
-        assert_eq!(rt; named.leader, leader);
+        assert!(rt; named.node.number() == *number);
+        assert!(rt; named.key == key);
+        assert!(rt; named.leader == leader);
     }
 }

@@ -11,7 +11,7 @@ fn a_request_asks_for_room_for_its_own_reply(rt: HostRuntime) {
     for term in 1..101_u32 {
         let stood = asks(&rt, &mut world, 1, Ask::Stand("red", term, 10));
         is_sealed(&rt, &stood, u64::from(term));
-        assert_eq!(rt; stood.replies.capacity(), 1, "{term}");
+        assert!(rt; stood.replies.capacity() == 1, "{term}");
     }
     lands(&rt, &mut world, 64, 1);
     lands(&rt, &mut world, 36, 65);
@@ -22,9 +22,9 @@ fn a_request_asks_for_room_for_its_own_reply(rt: HostRuntime) {
 fn lands(rt: &impl Abort, world: &mut World, count: u32, first: u64) {
     let node = node(rt, 1);
     let flushed = happens(rt, world, Event::Flush(node));
-    assert_eq!(rt; flushed.flushed, Some(count));
-    assert_eq!(rt; flushed.replies.len(), count as usize);
+    assert!(rt; flushed.flushed == Some(count));
+    assert!(rt; flushed.replies.len() == (count as usize));
     for ((ticket, reply), expected) in flushed.replies.iter().zip(first..) {
-        assert_eq!(rt; (*ticket, *reply), (expected, Reply::Stood));
+        assert!(rt; (*ticket, *reply) == (expected, Reply::Stood));
     }
 }

@@ -30,7 +30,7 @@ pub fn happens(rt: &impl Abort, world: &mut World, event: Event) -> Outcome {
 pub fn is_refused(rt: &impl Abort, world: &mut World, event: Event, refusal: Refusal) {
     match world.step(event) {
         Ok(_) => panic!(rt; "not refused"),
-        Err(was) => assert_eq!(rt; was, refusal),
+        Err(was) => assert!(rt; was == refusal),
     }
 }
 
@@ -43,22 +43,22 @@ pub fn asks(rt: &impl Abort, world: &mut World, to: u8, ask: Ask) -> Outcome {
 /// The event took this ticket, and the reply to it alone was released.
 pub fn answers(rt: &impl Abort, outcome: &Outcome, ticket: u64, say: Say) {
     let reply = say.reply().expect(rt, "a reply");
-    assert_eq!(rt; outcome.ticket, Some(ticket));
-    assert_eq!(rt; outcome.replies.len(), 1);
+    assert!(rt; outcome.ticket == Some(ticket));
+    assert!(rt; outcome.replies.len() == 1);
     let (number, released) = outcome.replies[0];
-    assert_eq!(rt; number, ticket);
-    assert_eq!(rt; released, reply);
+    assert!(rt; number == ticket);
+    assert!(rt; released == reply);
 }
 
 /// The event took this ticket, and no reply was released.
 pub fn is_sealed(rt: &impl Abort, outcome: &Outcome, ticket: u64) {
-    assert_eq!(rt; outcome.ticket, Some(ticket));
+    assert!(rt; outcome.ticket == Some(ticket));
     assert!(rt; outcome.replies.is_empty());
 }
 
 /// All that waits on the links arrives, which is this many messages.
 pub fn sweeps(rt: &impl Abort, world: &mut World, deliveries: u32) {
     let all = happens(rt, world, Event::DeliverAll);
-    assert_eq!(rt; all.delivered, Some(deliveries));
+    assert!(rt; all.delivered == Some(deliveries));
     assert!(rt; all.ticket.is_none() && all.replies.is_empty());
 }

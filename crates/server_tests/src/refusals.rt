@@ -76,8 +76,8 @@ fn settings_have_a_million_bytes_at_most(rt: HostRuntime) {
         let (length, text) = *row;
         let settings = vec![in rt.alloc(); b'#'; length].expect(&rt, "ample memory");
         let ended = run(&rt, NONE, &settings);
-        assert_eq!(rt; ended.status, 2);
-        assert_eq!(rt; ended.err.as_slice(), text);
+        assert!(rt; ended.status == 2);
+        assert!(rt; ended.err.as_slice() == text);
     }
 }
 
@@ -97,7 +97,7 @@ where
         + Net<Listener = TcpListener, Stream = TcpStream>,
 {
     let ended = run(rt, words, settings);
-    assert_eq!(rt; ended.status, 0);
+    assert!(rt; ended.status == 0);
     assert!(rt; ended.err.is_empty());
     assert!(rt; ended.out.as_slice() == text);
 }
@@ -128,9 +128,9 @@ where
         + Net<Listener = TcpListener, Stream = TcpStream>,
 {
     let ended = run(rt, words, b"");
-    assert_eq!(rt; ended.status, status);
-    assert_eq!(rt; ended.out.is_empty(), status != 0);
-    assert_eq!(rt; ended.err.is_empty(), status == 0);
+    assert!(rt; ended.status == status);
+    assert!(rt; ended.out.is_empty() == (status != 0));
+    assert!(rt; ended.err.is_empty() == (status == 0));
 }
 
 /// Words, and the status that they end with.
@@ -185,7 +185,7 @@ fn an_output_that_takes_nothing(rt: HostRuntime) -> Result<(), Fail> {
     let mut err = Vec::new(rt.alloc());
     let settings = b"nodes = 3\ndir = \"a\"\nport = 1\n".as_slice();
     let status = start(&rt, rt.alloc(), NONE, &mut &*settings, &mut out, &mut err);
-    assert_eq!(rt; status, 1);
+    assert!(rt; status == 1);
     assert!(rt; err.as_slice() == b"ringd: output cannot be written\n".as_slice());
     fs::remove_file(&rt, "read-only")?;
     Ok(())

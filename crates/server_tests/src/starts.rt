@@ -92,7 +92,7 @@ fn a_node_whose_snapshot_does_not_fit(rt: HostRuntime) -> Result<(), Fail> {
         Visit::Asks(7306, b"who red 1000\n", b"none"),
     ];
     let ended = beside(&rt, LONG, &visits, &[], &[]);
-    assert_eq!(rt; ended.status, 0);
+    assert!(rt; ended.status == 0);
     assert!(rt; ended.err.starts_with(KEPT));
     fs::remove_dir_all(&rt, "long")?;
     Ok(())
@@ -122,8 +122,8 @@ fn a_device_that_fails_in_the_checkpoint_of_a_start(rt: HostRuntime) -> Result<(
         };
         let fault = RunFault::Node(NodeNo::first(), Unopened::new(refusal));
         let text = format!(in rt.alloc(); "{fault}")?;
-        assert_eq!(&rt; text.as_str(), "node 1: device 1");
-        assert_eq!(&rt; fault.status(), 1);
+        assert!(&rt; text.as_str() == "node 1: device 1");
+        assert!(&rt; fault.status() == 1);
     }
     assert!(&rt; matches!(renews(&rt, 6), Ok(true)));
     Ok(())

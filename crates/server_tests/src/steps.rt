@@ -76,7 +76,7 @@ pub fn anew<R: Abort + AllocGlobal + Files<File = File>>(rt: &R, folder: &str) {
 /// The file has these bytes.
 fn holds<R: Abort + AllocGlobal + Files<File = File>>(rt: &R, path: &str, bytes: &[u8]) {
     let found = fs::read(rt, path).expect(rt, "a file");
-    assert_eq!(rt; found.as_slice(), bytes);
+    assert!(rt; found.as_slice() == bytes);
 }
 
 /// The folder has nothing.
@@ -88,7 +88,7 @@ fn is_empty<R: Abort + AllocGlobal + Files<File = File> + Copy>(rt: &R, path: &s
 /// Whether there is such a file is known so.
 fn has<R: Abort + AllocGlobal + Files<File = File>>(rt: &R, path: &str, is_there: bool) {
     let found = fs::exists(rt, path).expect(rt, "an answer");
-    assert_eq!(rt; found, is_there);
+    assert!(rt; found == is_there);
 }
 
 /// The journal stands behind a checkpoint.
@@ -100,13 +100,13 @@ fn is_renewed<R: Abort + AllocGlobal + Files<File = File>>(rt: &R, path: &str) {
 /// The journal is in this epoch.
 fn is_in_epoch<R: Abort + AllocGlobal + Files<File = File>>(rt: &R, path: &str, epoch: u64) {
     let journal = fs::read(rt, path).expect(rt, "a journal");
-    assert_eq!(rt; epoch_of(&journal), epoch);
+    assert!(rt; epoch_of(&journal) == epoch);
 }
 
 /// Both areas of the journal are of this layout.
 fn is_of_layout<R: Abort + AllocGlobal + Files<File = File>>(rt: &R, path: &str, layout: u8) {
     let journal = fs::read(rt, path).expect(rt, "a journal");
-    assert_eq!(rt; layouts_of(&journal), (layout, layout));
+    assert!(rt; layouts_of(&journal) == (layout, layout));
 }
 
 /// The one file holds what the other does.
@@ -161,7 +161,7 @@ fn changes<R: Abort + AllocGlobal + Files<File = File> + Copy>(rt: &R, change: C
 /// The ring of two ended well.
 fn ends_well(rt: &impl Abort, ended: &Ended) {
     assert!(rt; ended.err.is_empty());
-    assert_eq!(rt; ended.status, 0);
+    assert!(rt; ended.status == 0);
     assert!(rt; ended.out.starts_with(b"nodes 2\n"));
 }
 
@@ -231,8 +231,8 @@ where
         + Net<Listener = TcpListener, Stream = TcpStream>,
 {
     let ended = run(rt, words, settings);
-    assert_eq!(rt; ended.status, status);
-    assert_eq!(rt; ended.err.as_slice(), text);
+    assert!(rt; ended.status == status);
+    assert!(rt; ended.err.as_slice() == text);
 }
 
 /// It looks at the ring, and ends so. Its last line begins so.
@@ -251,7 +251,7 @@ where
         + Net<Listener = TcpListener, Stream = TcpStream>,
 {
     let ended = run(rt, CHECK, settings);
-    assert_eq!(rt; ended.status, status);
+    assert!(rt; ended.status == status);
     assert!(rt; ended.err.is_empty());
     let mut last: &[u8] = b"";
     for line in ended.out.split(|byte| *byte == b'\n') {

@@ -22,7 +22,7 @@ fn a_sync_of_the_folder_that_fails_is_told(rt: HostRuntime) {
         Err(unopened) => unopened.told,
     };
     let invalid = Answer::Error(ErrorKind::InvalidInput);
-    assert_eq!(rt; told, Some((Place::Folder, invalid)));
+    assert!(rt; told == Some((Place::Folder, invalid)));
     // It failed as it was synced, and not before.
     fs::remove_file(&rt, "unsynced/ring.made").expect(&rt, "a mark");
     fs::remove_dir(&rt, UNSYNCED).expect(&rt, "an empty folder");

@@ -45,20 +45,26 @@ fn other_opening<R: Abort + AllocGlobal>(rt: &R) -> Opening
 fn other_stub<R: Abort + AllocGlobal>(rt: &R) -> Stub {
     let desk = Desk::open(rt.alloc(), node(rt, 1), 3, 4096, 1, other_opening(rt));
     let mut desk = desk.expect(rt, "lawful inputs");
-    let question = request(rt, Ask::Latest("red"));
-    match desk.submit(question) {
-        Ok(ticket) => match desk.redeem(ticket) {
-            Ok((_, stub)) => stub,
-            Err((_ticket, refusal)) => panic!(rt; "{refusal}"),
-        },
-        Err(refusal) => panic!(rt; "{refusal}"),
+    let stub = stub_of(rt, &mut desk);
+    drop(desk);
+    stub
+}
+
+fn stub_of(rt: &impl Abort, desk: &mut Desk) -> Stub {
+    let ticket = desk.submit(request(rt, Ask::Latest("red")));
+    match desk.redeem(ticket.expect(rt, "a ticket")) {
+        Ok((_, stub)) => stub,
+        Err((_ticket, refusal)) => panic!(rt; "{refusal}"),
     }
 }
 
 /// The journal, opened again, holds the desk's inputs.
 fn holds<V: Device + Drop, R: Abort + AllocGlobal>(rt: &R, journal: Journal<V>, desk: &Desk) {
     match Journal::reopen(rt.alloc(), journal.into_device(), node(rt, 1), 3) {
-        Ok((_, opening)) => assert_eq!(rt; opening.inputs.as_slice(), desk.history()),
+        Ok((reopened, opening)) => {
+            assert!(rt; opening.inputs.as_slice() == desk.history());
+            drop((reopened, opening));
+        }
         Err((_device, refusal)) => panic!(rt; "{refusal}"),
     }
 }
@@ -72,10 +78,11 @@ fn two_appenders(rt: HostRuntime) -> Result<(), Fail> {
         inner: empty_device(&rt),
     };
     let (journal, settled) = plays_duo(&rt, device, &flags, APPENDERS);
-    assert_eq!(rt; settled.window, 2);
+    assert!(rt; settled.window == 2);
     settled.vouches(&rt, true, true);
     assert!(rt; settled.desk.vouch(&other_stub(&rt)) == Ok(false));
     holds(&rt, journal, &settled.desk);
+    drop(settled);
     Ok(())
 }
 
@@ -97,8 +104,9 @@ fn two_appenders_of_a_device_that_fails(rt: HostRuntime) -> Result<(), Fail> {
         inner: FuseDevice::new(empty_device(&rt), 3, false),
     };
     let (journal, settled) = plays_duo(&rt, device, &flags, FAILED);
-    assert_eq!(rt; settled.window, 0);
+    assert!(rt; settled.window == 0);
     settled.vouches(&rt, false, false);
     assert!(rt; journal.is_spoiled());
+    drop((journal, settled));
     Ok(())
 }

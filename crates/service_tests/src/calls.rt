@@ -22,16 +22,24 @@ pub fn flush_all<V: Device, J: Naming, A: Node, R: Wait + Abort, G: Gate>(
     closing: &AtomicBool,
 ) {
     for _ in rt.forever() {
-        match flusher.flush_round(rt, hub, gate) {
-            Ok(Some(_)) | Err(Refusal::OutOfMemory) => {}
-            Ok(None) => {
-                assert!(rt; closing.load(Ordering::SeqCst));
-                break;
-            }
-            Err(Refusal::Device(_)) => break,
+        let round = flusher.flush_round(rt, hub, gate);
+        let is_last = match &round {
+            Ok(Some(_)) | Err(Refusal::OutOfMemory) => false,
+            Ok(None) => closes(rt, closing),
+            Err(Refusal::Device(_)) => true,
             Err(refusal) => panic!(rt; "{refusal}"),
+        };
+        drop(round);
+        if is_last {
+            break;
         }
     }
+}
+
+/// It was told before that the hub closes.
+fn closes(rt: &impl Abort, closing: &AtomicBool) -> bool {
+    assert!(rt; closing.load(Ordering::SeqCst));
+    true
 }
 
 /// Keeps what it was told last.

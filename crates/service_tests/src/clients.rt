@@ -105,10 +105,10 @@ impl<J: Naming, A: Node> Client<J, A> {
         }
         match (released(rt, hub, ticket), say) {
             (Ok(stub), Some(say)) => {
-                assert_eq!(rt; stub.reply(), reply(rt, say));
+                assert!(rt; stub.reply() == reply(rt, say));
                 self.last = Some(stub);
             }
-            (Err(refusal), None) => assert_eq!(rt; refusal, Refusal::Failed),
+            (Err(refusal), None) => assert!(rt; refusal == Refusal::Failed),
             _ => panic!(rt; "another end"),
         }
     }

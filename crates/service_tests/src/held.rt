@@ -29,7 +29,8 @@ const HELD: Duo = Duo {
 
 #[test]
 fn a_reader_reads_while_a_round_is_held(rt: HostRuntime) -> Result<(), Fail> {
-    let (_journal, settled) = plays_duo(&rt, empty_device(&rt), &Flags::new(), HELD);
+    let (journal, settled) = plays_duo(&rt, empty_device(&rt), &Flags::new(), HELD);
     settled.vouches(&rt, true, false);
+    drop((journal, settled));
     Ok(())
 }

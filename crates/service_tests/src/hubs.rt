@@ -90,14 +90,14 @@ fn played<V: Device, J: Naming, A: Node, R: Wait + Abort + AllocGlobal>(
     (hub, flusher, client)
 }
 
-fn ends<V: Device, J: Naming, A: Node, R: Wait>(rt: &R, flusher: Flusher<V, J, A>) -> Ended<V> {
+/// The journal, and how many rounds the board is owed.
+fn ends<V: Device, J: Naming, A: Node, R: Wait>(
+    rt: &R,
+    flusher: Flusher<V, J, A>,
+) -> (Journal<V>, usize) {
     let (journal, board, owed) = flusher.into_parts();
     board.end(rt);
-    Ended {
-        journal,
-        owed: owed.len(),
-        settled: None,
-    }
+    (journal, owed.len())
 }
 
 /// Ends the flusher, and settles the hub by the shares of both clients.
@@ -108,9 +108,12 @@ fn settled<V: Device, J: Naming, A: Node, R: Wait + Abort + AllocGlobal>(
     first: Client<J, A>,
     second: Client<J, A>,
 ) -> Ended<V> {
-    let mut ended = ends(rt, flusher);
-    ended.settled = Some(settles(rt, hub, first, second));
-    ended
+    let (journal, owed) = ends(rt, flusher);
+    Ended {
+        journal,
+        owed,
+        settled: Some(settles(rt, hub, first, second)),
+    }
 }
 
 /// Does with a hub what the play says, and ends it.
@@ -142,31 +145,98 @@ fn on_hub<
     requires layout { layout_of journal ≡ desk.view.state.base.layout }
     requires epoch { epoch_of journal ≡ desk.view.state.base.epoch }
 {
-    let board = Board::<J>::new(rt.alloc(), opened, &[], 2)?;
+    let board = match Board::<J>::new(rt.alloc(), opened, &[], 2) {
+        Ok(board) => board,
+        Err(_) => {
+            drop((desk, journal, blanks));
+            return Err(Refusal::OutOfMemory);
+        }
+    };
     let (hub, tie) = Hub::<A>::new(desk, blanks);
     let first = Client::enters(rt, &hub, &board);
     let second = Client::enters(rt, &hub, &board);
-    let mut flusher = Flusher::new(rt.alloc(), journal, board, tie);
-    match play {
+    let flusher = Flusher::new(rt.alloc(), journal, board, tie);
+    Ok(match play {
         Play::Alone(steps) | Play::Filled(steps) => {
-            let (_hub, flusher, _client) = played(rt, hub, flusher, first, steps);
-            Ok(ends(rt, flusher))
+            drop(second);
+            alone(rt, hub, flusher, first, steps)
         }
-        Play::Settled(steps) => {
-            let (hub, flusher, first) = played(rt, hub, flusher, first, steps);
-            Ok(settled(rt, hub, flusher, first, second))
-        }
-        Play::Together(flags, duo) => {
-            let both = together(rt, &hub, &mut flusher, first, second, flags, duo);
-            let (first, second) = both;
-            let second = second.plays(rt, &hub, flags, duo.later);
-            Ok(settled(rt, hub, flusher, first, second))
-        }
-        Play::InRing(ring, seat) => {
-            let first = takes_part(rt, &hub, &mut flusher, first, ring, seat);
-            Ok(settled(rt, hub, flusher, first, second))
-        }
+        Play::Settled(steps) => stepped(rt, hub, flusher, first, second, steps),
+        Play::Together(flags, duo) => beside(rt, hub, flusher, first, second, flags, duo),
+        Play::InRing(ring, seat) => in_ring(rt, hub, flusher, first, second, ring, seat),
+    })
+}
+
+/// Behind the steps the flusher ends.
+fn alone<V: Device, J: Naming, A: Node, R: Wait + Abort + AllocGlobal>(
+    rt: &R,
+    hub: Hub<A>,
+    flusher: Flusher<V, J, A>,
+    client: Client<J, A>,
+    steps: &[Step],
+) -> Ended<V> {
+    let (hub, flusher, client) = played(rt, hub, flusher, client, steps);
+    drop((hub, client));
+    let (journal, owed) = ends(rt, flusher);
+    Ended {
+        journal,
+        owed,
+        settled: None,
     }
+}
+
+/// Behind the steps the hub is settled.
+fn stepped<V: Device, J: Naming, A: Node, R: Wait + Abort + AllocGlobal>(
+    rt: &R,
+    hub: Hub<A>,
+    flusher: Flusher<V, J, A>,
+    first: Client<J, A>,
+    second: Client<J, A>,
+    steps: &[Step],
+) -> Ended<V> {
+    let (hub, flusher, first) = played(rt, hub, flusher, first, steps);
+    settled(rt, hub, flusher, first, second)
+}
+
+/// What both clients do beside the flusher, and the second one behind its end.
+fn beside<
+    V: Device + Send,
+    J: Naming + Send + Sync,
+    A: Node + Send + Sync,
+    R: Threads + Wait + Clock + Abort + AllocGlobal + Sync,
+>(
+    rt: &R,
+    hub: Hub<A>,
+    flusher: Flusher<V, J, A>,
+    first: Client<J, A>,
+    second: Client<J, A>,
+    flags: &Flags,
+    duo: Duo,
+) -> Ended<V> {
+    let mut flusher = flusher;
+    let (first, second) = together(rt, &hub, &mut flusher, first, second, flags, duo);
+    let second = second.plays(rt, &hub, flags, duo.later);
+    settled(rt, hub, flusher, first, second)
+}
+
+/// The first client's part in the election of a ring.
+fn in_ring<
+    V: Device + Send,
+    J: Naming + Send + Sync,
+    A: Node + Send + Sync,
+    R: Threads + Wait + Clock + Abort + AllocGlobal + Sync,
+>(
+    rt: &R,
+    hub: Hub<A>,
+    flusher: Flusher<V, J, A>,
+    first: Client<J, A>,
+    second: Client<J, A>,
+    ring: &Ring,
+    seat: Seat,
+) -> Ended<V> {
+    let mut flusher = flusher;
+    let first = takes_part(rt, &hub, &mut flusher, first, ring, seat);
+    settled(rt, hub, flusher, first, second)
 }
 
 /// The node as the play begins with it.

@@ -110,29 +110,32 @@ fn counts(settled: &Settled) -> (u64, usize, u64) {
 #[test]
 fn a_node_goes_on_behind_what_it_let_go_of(rt: HostRuntime) -> Result<(), Fail> {
     let (journal, settled) = left(&rt, LETS_GO);
-    assert_eq!(rt; counts(&settled), (72, 1, 73));
+    assert!(rt; counts(&settled) == (72, 1, 73));
     let behind = BEHIND.input().expect(&rt, "an input");
     assert!(rt; settled.desk.history() == [behind].as_slice());
     assert!(rt; is_vouched(&rt, &settled));
     let made = reopened(&rt, journal.into_device());
-    assert_eq!(rt; told(&made), (2, 72, 73, 3));
+    assert!(rt; told(&made) == (2, 72, 73, 3));
+    drop((settled, made));
     Ok(())
 }
 
 #[test]
 fn a_node_lets_go_behind_each_checkpoint(rt: HostRuntime) -> Result<(), Fail> {
     let (journal, settled) = left(&rt, LETS_GO_TWICE);
-    assert_eq!(rt; counts(&settled), (146, 1, 147));
+    assert!(rt; counts(&settled) == (146, 1, 147));
     assert!(rt; is_vouched(&rt, &settled));
     let made = reopened(&rt, journal.into_device());
-    assert_eq!(rt; told(&made), (3, 146, 147, 3));
+    assert!(rt; told(&made) == (3, 146, 147, 3));
+    drop((settled, made));
     Ok(())
 }
 
 #[test]
 fn a_node_vouches_for_nothing_that_it_let_go_of(rt: HostRuntime) -> Result<(), Fail> {
-    let (_journal, settled) = left(&rt, FORGETS);
-    assert_eq!(rt; counts(&settled), (72, 0, 72));
+    let (journal, settled) = left(&rt, FORGETS);
+    assert!(rt; counts(&settled) == (72, 0, 72));
     assert!(rt; !is_vouched(&rt, &settled));
+    drop((journal, settled));
     Ok(())
 }

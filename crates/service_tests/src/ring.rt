@@ -127,7 +127,7 @@ fn asks<A: Node, R: Wait + Abort>(
 ) {
     let ticket = hub.submit(rt, share, question).expect(rt, "a ticket");
     match released(rt, hub, ticket) {
-        Ok(stub) => assert_eq!(rt; stub.reply(), reply(rt, say)),
+        Ok(stub) => assert!(rt; stub.reply() == reply(rt, say)),
         Err(refusal) => panic!(rt; "{refusal}"),
     }
 }
@@ -225,12 +225,10 @@ fn history<R: Threads + Wait + Clock + Abort + AllocGlobal + Sync>(
     seat: Seat,
 ) -> Vec<Input> {
     let play = Play::InRing(ring, seat);
-    let (_journal, settled) = ends_settled(rt, empty_device(rt), play);
-    let mut inputs = Vec::new(rt.alloc());
-    inputs
-        .extend_from_slice(settled.desk.history())
-        .expect(rt, "ample memory");
-    inputs
+    let (journal, settled) = ends_settled(rt, empty_device(rt), play);
+    let inputs = Vec::from_slice(rt.alloc(), settled.desk.history());
+    drop((journal, settled));
+    inputs.expect(rt, "ample memory")
 }
 
 /// The histories of the three nodes, each of which has a thread.
@@ -274,12 +272,9 @@ fn changes(rt: &impl Abort, history: &mut Vec<Input>) -> u64 {
 fn three_hubs_hold_an_election(rt: HostRuntime) {
     let mut histories = histories(&rt);
     let count = inputs(&histories);
-    assert_eq!(&rt; steps(rt.alloc(), &histories), Ok(count));
+    assert!(&rt; steps(rt.alloc(), &histories) == Ok(count));
     let first = histories.get_mut(0).expect(&rt, "a history");
     let place = changes(&rt, first);
     let node = node(&rt, 1);
-    assert_eq!(&rt;
-        steps(rt.alloc(), &histories),
-        Err(AuditFault::Stuck { node, place })
-    );
+    assert!(&rt; steps(rt.alloc(), &histories) == Err(AuditFault::Stuck { node, place }));
 }

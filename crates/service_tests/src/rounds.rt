@@ -3,7 +3,7 @@ use crate::hubs::{Ended, Play, plays};
 use crate::rows::{Told, device_for, empty_device, key, leader, reopened, told};
 use crate::station::Step;
 use crate::station::Step::*;
-use disk_model::{Device, FuseDevice, Tear};
+use disk_model::{Device, FuseDevice, MemDevice, Tear};
 use ring_records::{Input, Refusal};
 use std::alloc::AllocGlobal;
 use std::process::Abort;
@@ -32,7 +32,12 @@ fn counts<V: Device + Drop>(
     ended: Result<Ended<V>, Refusal>,
 ) -> Result<(u64, bool, usize), Refusal> {
     match ended {
-        Ok(ended) => Ok((ended.journal.len(), ended.journal.is_spoiled(), ended.owed)),
+        Ok(ended) => {
+            let journal = &ended.journal;
+            let counts = (journal.len(), journal.is_spoiled(), ended.owed);
+            drop(ended);
+            Ok(counts)
+        }
         Err(refusal) => Err(refusal),
     }
 }
@@ -180,8 +185,14 @@ fn ends<V: Device + Drop + Send, R: Threads + Wait + Clock + Abort + AllocGlobal
 ) -> V {
     match plays(rt, device, capacity, play) {
         Ok(ended) => {
-            assert!(rt; ended.owed == 0);
-            ended.journal.into_device()
+            let Ended {
+                journal,
+                owed,
+                settled,
+            } = ended;
+            drop(settled);
+            assert!(rt; owed == 0);
+            journal.into_device()
         }
         Err(refusal) => panic!(rt; "{refusal}"),
     }
@@ -230,10 +241,11 @@ fn input(rt: &impl Abort, op: Op) -> Input {
 #[test]
 fn a_checkpoint_makes_all_that_waits_durable(rt: HostRuntime) -> Result<(), Fail> {
     let made = reopened(&rt, ends(&rt, empty_device(&rt), 8192, Play::Alone(RENEWS)));
-    assert_eq!(rt; told(&made), (2, 141, 143, 69));
+    assert!(rt; told(&made) == (2, 141, 143, 69));
     assert!(rt; made.history() == [input(&rt, BEHIND[0]), input(&rt, BEHIND[1])].as_slice());
     assert!(rt; Ok(made.desk().who(&key(&rt, "red", 5))) == leader(&rt, 30, 2));
     assert!(rt; Ok(made.desk().who(&key(&rt, "blue", 1))) == leader(&rt, 30, 2));
+    drop(made);
     Ok(())
 }
 
@@ -275,14 +287,22 @@ fn stopped<R: Threads + Wait + Clock + Abort + AllocGlobal + Sync>(
     let device = FuseDevice::new(empty_device(rt), call.saturating_add(2 + 4), true);
     let mut device = ends(rt, device, 4096, Play::Alone(FAILS_DUE)).into_inner();
     device.crash(tear);
-    told(&reopened(rt, device))
+    told_by(rt, device)
+}
+
+/// What the node tells that this device holds.
+fn told_by<R: Abort + AllocGlobal>(rt: &R, device: MemDevice) -> Told {
+    let made = reopened(rt, device);
+    let told = told(&made);
+    drop(made);
+    told
 }
 
 #[test]
 fn a_device_that_fails_within_a_checkpoint(rt: HostRuntime) -> Result<(), Fail> {
     for row in &STOPS {
         let (call, tear, left) = *row;
-        assert_eq!(rt; stopped(&rt, call, tear), left);
+        assert!(rt; stopped(&rt, call, tear) == left);
     }
     Ok(())
 }
@@ -305,13 +325,12 @@ fn filled<R: Threads + Wait + Clock + Abort + AllocGlobal + Sync>(
     rt: &R,
     steps: &'static [Step],
 ) -> Told {
-    let device = ends(rt, empty_device(rt), 4096, Play::Filled(steps));
-    told(&reopened(rt, device))
+    told_by(rt, ends(rt, empty_device(rt), 4096, Play::Filled(steps)))
 }
 
 #[test]
 fn a_closed_hub_makes_no_checkpoint_of_nothing(rt: HostRuntime) -> Result<(), Fail> {
-    assert_eq!(rt; filled(&rt, CLOSES), (1, 0, 70, 1));
-    assert_eq!(rt; filled(&rt, RENEWS_NOTHING), (2, 70, 70, 1));
+    assert!(rt; filled(&rt, CLOSES) == (1, 0, 70, 1));
+    assert!(rt; filled(&rt, RENEWS_NOTHING) == (2, 70, 70, 1));
     Ok(())
 }

@@ -75,7 +75,9 @@ pub fn dropped(no: u64) -> Ask {
 fn lasts<V: Device>(rt: &impl Abort, made: &mut Node<V>, ask: Ask) {
     let question = request(rt, ask);
     let ticket = made.submit(question).expect(rt, "a ticket");
-    assert!(rt; made.flush().is_ok());
+    let landed = made.flush();
+    assert!(rt; landed.is_ok());
+    drop(landed);
     match made.redeem(ticket) {
         Ok((reply, stub)) => assert!(rt; stub.reply() == reply),
         Err((_ticket, refusal)) => panic!(rt; "{refusal}"),

@@ -24,8 +24,8 @@ fn settings(rt: HostRuntime) -> Result<(), Fail> {
     for row in &READ {
         let (text, numbers, dir) = *row;
         let read = read_settings(rt.alloc(), text)?;
-        assert_eq!(rt; (read.nodes, read.port, read.capacity), numbers);
-        assert_eq!(rt; read.dir.as_str(), dir);
+        assert!(rt; (read.nodes, read.port, read.capacity) == numbers);
+        assert!(rt; read.dir.as_str() == dir);
     }
     Ok(())
 }
@@ -77,7 +77,7 @@ fn refused_settings(rt: HostRuntime) {
         let (text, why) = *row;
         match read_settings(rt.alloc(), text) {
             Ok(_) => panic!(rt; "read: {text}"),
-            Err(fault) => assert_eq!(rt; fault, why, "{text}"),
+            Err(fault) => assert!(rt; fault == why, "{text}"),
         }
     }
 }
@@ -89,7 +89,7 @@ fn texts(rt: HostRuntime) -> Result<(), Fail> {
         (StartFault::Wrong(Setting::Nodes), "setting nodes is wrong"),
         (StartFault::Unknown, "a setting is unknown"),
     ] {
-        assert_eq!(rt; fault.to_string(rt.alloc())?.as_str(), text);
+        assert!(rt; fault.to_string(rt.alloc())?.as_str() == text);
     }
     Ok(())
 }
@@ -222,7 +222,7 @@ fn words(rt: HostRuntime) {
     for row in &TAKEN {
         let (words, asked) = *row;
         match read_words(rt.alloc(), words) {
-            Ok(read) => assert_eq!(rt; read, asked),
+            Ok(read) => assert!(rt; read == asked),
             Err(_) => panic!(rt; "refused"),
         }
     }
@@ -239,7 +239,7 @@ fn settings_at_last(rt: &impl Abort, alloc: Global, text: &str) -> Settings {
     match read_settings(alloc, text) {
         Ok(read) => read,
         Err(fault) => {
-            assert_eq!(rt; fault, StartFault::Memory);
+            assert!(rt; fault == StartFault::Memory);
             read_settings(alloc, text).expect(rt, "ample memory")
         }
     }
@@ -253,9 +253,9 @@ fn asks_at_last(
     asked: Words<'static>,
 ) {
     match read_words(alloc, words) {
-        Ok(read) => assert_eq!(rt; read, asked),
+        Ok(read) => assert!(rt; read == asked),
         Err(_) => match read_words(alloc, words) {
-            Ok(read) => assert_eq!(rt; read, asked),
+            Ok(read) => assert!(rt; read == asked),
             Err(_) => panic!(rt; "ample memory"),
         },
     }
@@ -265,8 +265,8 @@ fn asks_at_last(
 fn refused_growths(rt: HostRuntime) {
     let (text, numbers, dir) = READ[0];
     let read = settings_at_last(&rt, rt.alloc(), text);
-    assert_eq!(rt; (read.nodes, read.port, read.capacity), numbers);
-    assert_eq!(rt; read.dir.as_str(), dir);
+    assert!(rt; (read.nodes, read.port, read.capacity) == numbers);
+    assert!(rt; read.dir.as_str() == dir);
     let (words, asked) = TAKEN[1];
     asks_at_last(&rt, rt.alloc(), words, asked);
 }

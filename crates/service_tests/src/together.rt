@@ -45,7 +45,7 @@ impl Settled {
 
     /// The desk has two inputs, and vouches for each stub; whether the first and the second client have one.
     pub fn vouches(&self, rt: &impl Abort, first: bool, second: bool) {
-        assert_eq!(rt; self.desk.history().len(), 2);
+        assert!(rt; self.desk.history().len() == 2);
         assert!(rt; self.vouched(&self.first) == first.then_some(true));
         assert!(rt; self.vouched(&self.second) == second.then_some(true));
     }

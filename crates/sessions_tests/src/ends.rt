@@ -49,9 +49,9 @@ fn sessions_have_10_000_lines(rt: HostRuntime) -> Result<(), Fail> {
             input.push(b'\n')?;
         }
         let (answer, out, rest) = spoken(&rt, &input);
-        assert_eq!(rt; answer, Ok((lines - left) as u64));
-        assert_eq!(rt; out.len(), 11 * (lines - left));
-        assert_eq!(rt; rest, left);
+        assert!(rt; answer == Ok((lines - left) as u64));
+        assert!(rt; out.len() == 11 * (lines - left));
+        assert!(rt; rest == left);
     }
     Ok(())
 }

@@ -40,7 +40,9 @@ pub fn failing_service<R: Abort + AllocGlobal>(rt: &R) -> Solo {
 fn lasts(rt: &impl Abort, made: &mut Stored, ask: Ask) {
     let question = ask.request().expect(rt, "a request");
     let ticket = made.submit(question).expect(rt, "a ticket");
-    assert!(rt; made.flush().is_ok());
+    let landed = made.flush();
+    assert!(rt; landed.is_ok());
+    drop(landed);
     match made.redeem(ticket) {
         Ok((reply, stub)) => assert!(rt; stub.reply() == reply),
         Err((_ticket, refusal)) => panic!(rt; "{refusal}"),
@@ -121,7 +123,7 @@ fn spoken_with<R: Abort + AllocGlobal>(
     let mut rest = input;
     let mut out = Vec::new(rt.alloc());
     let answer = serve(rt.alloc(), &mut rest, &mut out, &mut service);
-    ended(rt, service);
+    drop(ended(rt, service));
     (answer, out, rest.len())
 }
 
@@ -135,10 +137,10 @@ pub fn assert_says<R: Abort + AllocGlobal>(
 ) {
     let (answer, out, rest) = spoken(rt, input);
     let written = str::from_utf8(&out).unwrap_or("bytes that are no text");
-    assert_eq!(rt; written, text, "{name}");
+    assert!(rt; written == text, "{name}");
     let lines = text.bytes().filter(|b| *b == b'\n').count();
-    assert_eq!(rt; answer, Ok(lines as u64), "{name}");
-    assert_eq!(rt; rest, left, "{name}");
+    assert!(rt; answer == Ok(lines as u64), "{name}");
+    assert!(rt; rest == left, "{name}");
 }
 
 /// Over this service the input, of so many lines, brings this text.
@@ -151,6 +153,6 @@ pub fn assert_answers<R: Abort + AllocGlobal>(
 ) {
     let (answer, out, _) = spoken_with(rt, service, input);
     let written = str::from_utf8(&out).unwrap_or("bytes that are no text");
-    assert_eq!(rt; written, text);
-    assert_eq!(rt; answer, Ok(lines));
+    assert!(rt; written == text);
+    assert!(rt; answer == Ok(lines));
 }

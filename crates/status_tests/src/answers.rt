@@ -66,7 +66,7 @@ fn heads_and_bodies(rt: HostRuntime) -> Result<(), Fail> {
     for row in &ANSWERS {
         let (method, status, content, body, wanted) = *row;
         let answer = answer_text(rt.alloc(), method, status, content, body)?;
-        assert_eq!(rt; answer.as_str(), wanted);
+        assert!(rt; answer.as_str() == wanted);
     }
     Ok(())
 }

@@ -105,7 +105,7 @@ fn opened<R: Abort + AllocGlobal>(rt: &R, number: u8, run: u64, ops: &[Op]) -> D
     match opens(rt, number, run, ops) {
         Ok(desk) => desk,
         Err(refusal) => {
-            assert_eq!(rt; refusal, Refusal::OutOfMemory);
+            assert!(rt; refusal == Refusal::OutOfMemory);
             opens(rt, number, run, ops).expect(rt, "lawful inputs")
         }
     }
@@ -132,9 +132,9 @@ fn refuses(rt: &impl Abort, desk: &mut Desk, ask: Ask, cause: Refusal) {
     let before = shown(desk);
     match desk.submit(request(rt, ask)) {
         Ok(_ticket) => panic!(rt; "a ticket"),
-        Err(refusal) => assert_eq!(rt; refusal, cause),
+        Err(refusal) => assert!(rt; refusal == cause),
     }
-    assert_eq!(rt; shown(desk), before);
+    assert!(rt; shown(desk) == before);
 }
 
 /// The ticket is not redeemed for this cause, and comes back.
@@ -144,9 +144,9 @@ fn comes_back(rt: &impl Abort, desk: &mut Desk, ticket: Ticket, cause: Refusal) 
     match desk.redeem(ticket) {
         Ok(_) => panic!(rt; "redeemed"),
         Err((ticket, refusal)) => {
-            assert_eq!(rt; refusal, cause);
-            assert_eq!(rt; ticket.number(), number);
-            assert_eq!(rt; ticket.question(), question);
+            assert!(rt; refusal == cause);
+            assert!(rt; ticket.number() == number);
+            assert!(rt; ticket.question() == question);
             ticket
         }
     }
@@ -169,7 +169,7 @@ fn launches_none(rt: &impl Abort, desk: &mut Desk, no: Option<No>) {
         Ok(Some(_batch)) => panic!(rt; "a batch"),
         Ok(None) => assert!(rt; no.is_none()),
         Err(refusal) => match no {
-            Some(no) => assert_eq!(rt; refusal, no.refusal()),
+            Some(no) => assert!(rt; refusal == no.refusal()),
             None => panic!(rt; "{refusal}"),
         },
     }
@@ -188,13 +188,13 @@ fn knows(rt: &impl Abort, desk: &Desk, numbers: Option<(u32, u8)>) {
         Some((bid, node)) => Some(candidate(bid, node).expect(rt, "a candidate")),
         None => None,
     };
-    assert_eq!(rt; desk.who(&red), leader);
+    assert!(rt; desk.who(&red) == leader);
 }
 
 /// The inputs of the desk are these, oldest first.
 fn holds<R: Abort + AllocGlobal>(rt: &R, desk: &Desk, ops: &[Op]) {
     let inputs = inputs(rt, rt.alloc(), ops);
-    assert_eq!(rt; desk.history(), inputs.as_slice());
+    assert!(rt; desk.history() == inputs.as_slice());
 }
 
 /// The desk has launched the spoiled batch, and fails.
@@ -245,11 +245,12 @@ impl Station {
     /// No ticket is open, and nothing flies.
     fn ends(self, rt: &impl Abort) {
         let Station {
-            desk: _desk,
-            journal: _journal,
+            desk,
+            journal,
             tickets,
             flown,
         } = self;
+        drop((desk, journal));
         assert!(rt; tickets.is_empty());
         assert!(rt; flown.is_empty());
         tickets.destroy_empty();
@@ -268,7 +269,7 @@ impl Station {
             Step::Forfeits(place) => self.forfeits(rt, place),
             Step::Closes => self.desk.close(),
             Step::Has(inputs, flying, durable) => {
-                assert_eq!(rt; counts(&self.desk), (inputs, flying, durable))
+                assert!(rt; counts(&self.desk) == (inputs, flying, durable))
             }
             Step::Holds(ops) => holds(rt, &self.desk, ops),
             Step::Launches(count) => self.launches(rt, count),
@@ -309,8 +310,8 @@ impl Station {
     fn asks(&mut self, rt: &impl Abort, ask: Ask, number: u64) {
         let question = request(rt, ask);
         let ticket = self.desk.submit(question).expect(rt, "a ticket");
-        assert_eq!(rt; ticket.number(), number);
-        assert_eq!(rt; ticket.question(), question);
+        assert!(rt; ticket.number() == number);
+        assert!(rt; ticket.question() == question);
         let place = self.tickets.len();
         self.keeps(rt, place, ticket);
     }
@@ -319,13 +320,13 @@ impl Station {
         let before = shown(&self.desk);
         match self.desk.submit(request(rt, ask)) {
             Ok(ticket) => {
-                assert_eq!(rt; ticket.number(), number);
+                assert!(rt; ticket.number() == number);
                 let place = self.tickets.len();
                 self.keeps(rt, place, ticket);
             }
             Err(refusal) => {
-                assert_eq!(rt; refusal, Refusal::OutOfMemory);
-                assert_eq!(rt; shown(&self.desk), before);
+                assert!(rt; refusal == Refusal::OutOfMemory);
+                assert!(rt; shown(&self.desk) == before);
                 self.asks(rt, ask, number);
             }
         }
@@ -338,10 +339,10 @@ impl Station {
         let reply = reply(rt, say);
         match self.desk.redeem(ticket) {
             Ok((found, stub)) => {
-                assert_eq!(rt; found, reply);
-                assert_eq!(rt; stub.reply(), reply);
-                assert_eq!(rt; stub.number(), number);
-                assert_eq!(rt; stub.question(), question);
+                assert!(rt; found == reply);
+                assert!(rt; stub.reply() == reply);
+                assert!(rt; stub.number() == number);
+                assert!(rt; stub.question() == question);
                 stub
             }
             Err((_ticket, refusal)) => panic!(rt; "{refusal}"),
@@ -365,7 +366,7 @@ impl Station {
 
     /// The journal makes the batch, of so many inputs, durable.
     fn flies(&mut self, rt: &impl Abort, batch: Batch, count: usize) {
-        assert_eq!(rt; batch.inputs().len(), count);
+        assert!(rt; batch.inputs().len() == count);
         let receipt = commits(rt, &mut self.journal, batch);
         let AllocFailed { value: receipt } = match self.flown.push(receipt) {
             Ok(()) => return,
@@ -389,8 +390,8 @@ impl Station {
         match launched(rt, &mut self.desk) {
             Ok(batch) => self.flies(rt, batch, count),
             Err(refusal) => {
-                assert_eq!(rt; refusal, Refusal::OutOfMemory);
-                assert_eq!(rt; shown(&self.desk), before);
+                assert!(rt; refusal == Refusal::OutOfMemory);
+                assert!(rt; shown(&self.desk) == before);
                 self.launches(rt, count);
             }
         }
@@ -409,7 +410,7 @@ impl Station {
         let receipt = self.receipt(rt);
         match self.desk.land(receipt) {
             Ok(landed) => {
-                assert_eq!(rt; landed.count, count);
+                assert!(rt; landed.count == count);
                 landed
             }
             Err((_receipt, refusal)) => panic!(rt; "{refusal}"),

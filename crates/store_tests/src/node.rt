@@ -112,7 +112,7 @@ fn created_on<R: Abort + AllocGlobal>(
         Ok(made) => return made,
         Err(refused) => refused,
     };
-    assert_eq!(rt; refusal, Refusal::OutOfMemory);
+    assert!(rt; refusal == Refusal::OutOfMemory);
     match Node::create(rt.alloc(), device, node(rt, number), n, 4096, 0) {
         Ok(made) => made,
         Err((_device, refusal)) => panic!(rt; "{refusal}"),
@@ -140,7 +140,7 @@ fn recovered_at_last<R: Abort + AllocGlobal>(
     match Node::recover(rt.alloc(), device, node, 3, 1) {
         Ok(made) => made,
         Err((device, refusal)) => {
-            assert_eq!(rt; refusal, Refusal::OutOfMemory);
+            assert!(rt; refusal == Refusal::OutOfMemory);
             recovered(rt, device, number)
         }
     }
@@ -152,8 +152,8 @@ fn comes_back(rt: &impl Abort, made: &mut Stored, ticket: Ticket, cause: Refusal
     match made.redeem(ticket) {
         Ok(_) => panic!(rt; "redeemed"),
         Err((ticket, refusal)) => {
-            assert_eq!(rt; refusal, cause);
-            assert_eq!(rt; ticket.number(), number);
+            assert!(rt; refusal == cause);
+            assert!(rt; ticket.number() == number);
             ticket
         }
     }

@@ -57,10 +57,10 @@ pub fn inputs(rt: &impl Abort, alloc: Global, ops: &[Op]) -> Vec<Input> {
 
 /// The packets are these, in this order.
 pub fn sends_are(rt: &impl Abort, packets: &[Packet], sends: &[Sends]) {
-    assert_eq!(rt; packets.len(), sends.len());
+    assert!(rt; packets.len() == sends.len());
     for (place, want) in sends.iter().enumerate() {
         let packet = want.packet().expect(rt, "a packet");
-        assert_eq!(rt; packets.get(place).copied(), Some(packet), "{place}");
+        assert!(rt; packets.get(place).copied() == Some(packet), "{place}");
     }
 }
 
@@ -91,9 +91,9 @@ impl Tells {
 
 /// The notices are these, in this order, and no others.
 pub fn tells_are(rt: &impl Abort, notices: &[Notice], tells: &[Tells]) {
-    assert_eq!(rt; notices.len(), tells.len());
+    assert!(rt; notices.len() == tells.len());
     for (place, want) in tells.iter().enumerate() {
         let notice = want.notice(rt);
-        assert_eq!(rt; notices.get(place).copied(), Some(notice), "{place}");
+        assert!(rt; notices.get(place).copied() == Some(notice), "{place}");
     }
 }

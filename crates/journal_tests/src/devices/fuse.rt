@@ -42,8 +42,8 @@ fn fail_in_turn(device: &mut FuseDevice<MemDevice>) -> [bool; 6] {
 /// The calls of a device with such a fuse fail so, and so many are counted.
 fn fails<R: Abort + AllocGlobal>(rt: &R, after: u64, once: bool, calls: [bool; 6], count: u64) {
     let mut device = FuseDevice::new(written(rt), after, once);
-    assert_eq!(rt; fail_in_turn(&mut device), calls, "{once} after {after}");
-    assert_eq!(rt; device.failures(), count);
+    assert!(rt; fail_in_turn(&mut device) == calls, "{once} after {after}");
+    assert!(rt; device.failures() == count);
 }
 
 #[test]
@@ -69,14 +69,14 @@ const ARMED: [(u64, bool, [bool; 6]); 2] = [
 #[test]
 fn an_idle_fuse_passes_until_it_is_armed(rt: HostRuntime) {
     let mut device = FuseDevice::idle(written(&rt));
-    assert_eq!(rt; fail_in_turn(&mut device), [false; 6]);
-    assert_eq!(rt; device.failures(), 0);
+    assert!(rt; fail_in_turn(&mut device) == [false; 6]);
+    assert!(rt; device.failures() == 0);
     for (after, once, calls) in ARMED {
         device.arm(after, once);
-        assert_eq!(rt; fail_in_turn(&mut device), calls);
+        assert!(rt; fail_in_turn(&mut device) == calls);
     }
-    assert_eq!(rt; device.failures(), 3);
-    assert_eq!(rt; device.into_inner().failures(), 0);
+    assert!(rt; device.failures() == 3);
+    assert!(rt; device.into_inner().failures() == 0);
 }
 
 #[test]
@@ -88,14 +88,14 @@ fn a_write_that_fails_is_there(rt: HostRuntime) {
 fn a_sync_that_fails_makes_nothing_stable(rt: HostRuntime) {
     let mut device = failing(&rt, 0, &[Step::SyncFails]).into_inner();
     device.crash(Tear::Old);
-    assert_eq!(rt; device.size(), 0);
+    assert!(rt; device.size() == 0);
 }
 
 #[test]
 fn a_read_that_fails_reads_nothing(rt: HostRuntime) {
     let (fails, bytes) = read(&rt, &mut failing(&rt, 0, &[]), 0, 2);
     assert!(rt; fails);
-    assert_eq!(rt; bytes.as_slice(), [9; 2].as_slice());
+    assert!(rt; bytes.as_slice() == [9; 2].as_slice());
 }
 
 #[test]

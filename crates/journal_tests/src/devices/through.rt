@@ -9,7 +9,7 @@ use std::process::Abort;
 fn left<R: Abort + AllocGlobal>(rt: &R, passed: u64) -> (bool, u64) {
     let mut device = FuseDevice::new(memory_device(rt, 8, &[]), passed, true);
     let fails = write_through(&mut device, 0, b"abc").is_err();
-    assert_eq!(rt; device.size(), 3);
+    assert!(rt; device.size() == 3);
     let mut inner = device.into_inner();
     inner.crash(Tear::Old);
     (fails, inner.size())
@@ -19,6 +19,6 @@ fn left<R: Abort + AllocGlobal>(rt: &R, passed: u64) -> (bool, u64) {
 fn what_is_written_through_outlives_a_stop(rt: HostRuntime) {
     // The device's calls are a write and a sync. The fuse fails the first, the second, or none.
     for (passed, stopped) in [(0, (true, 0)), (1, (true, 0)), (2, (false, 3))] {
-        assert_eq!(rt; left(&rt, passed), stopped);
+        assert!(rt; left(&rt, passed) == stopped);
     }
 }

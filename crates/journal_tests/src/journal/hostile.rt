@@ -30,7 +30,7 @@ fn each_node_reads<R: Abort + AllocGlobal>(rt: &R, image: &[u8], first: Verdict,
         let node = NodeNo::new(number).expect(rt, "a node");
         let found = found_by(rt.alloc(), device(rt, &[(0, image)]), node);
         let wanted = if number == 1 { first } else { other };
-        assert_eq!(rt; found, wanted.answer(), "{number}");
+        assert!(rt; found == wanted.answer(), "{number}");
     }
 }
 
@@ -42,7 +42,7 @@ fn hostile_images(rt: HostRuntime) {
         one_area(&rt, &mut image, row);
     }
     let of_one_epoch = device(&rt, &[(0, &FRESH), (AREA_B, &FRESH[16..])]);
-    assert_eq!(rt; found(rt.alloc(), of_one_epoch), Damaged(16).answer());
+    assert!(rt; found(rt.alloc(), of_one_epoch) == Damaged(16).answer());
     let mut old = FRESH;
     old[7] = b'1';
     each_node_reads(&rt, &old[..17], Damaged(16), WrongNode);

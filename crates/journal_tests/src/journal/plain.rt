@@ -45,7 +45,7 @@ fn frames_alone_have_their_answer(rt: HostRuntime) {
         (16, NotFormatted),
     ] {
         let cut = device(&rt, &[(0, &PLAIN[..len])]);
-        assert_eq!(rt; found(rt.alloc(), cut), read.answer(), "{len}");
+        assert!(rt; found(rt.alloc(), cut) == read.answer(), "{len}");
     }
     for row in &BESIDE {
         let both = device(&rt, &[(0, &PLAIN), (AREA_B, &SECOND)]);
@@ -65,7 +65,7 @@ fn frames_alone_end_within_the_capacity(rt: HostRuntime) {
         ([0x10, 0], Damaged(16)),
     ] {
         let device = device(&rt, &[(0, &PLAIN[..16]), (16, &frames), (12, &capacity)]);
-        assert_eq!(rt; found(rt.alloc(), device), read.answer());
+        assert!(rt; found(rt.alloc(), device) == read.answer());
     }
 }
 
@@ -99,14 +99,13 @@ static MAKES_AN_AREA: [Step; 2] = [Step::Checkpoints(&[], &FIRST), Step::Tells(2
 fn the_first_checkpoint_makes_an_area(rt: HostRuntime) {
     let begins = FuseDevice::idle(device(&rt, &[(0, &PLAIN)]));
     let (mut journal, opening) = reopened(&rt, begins);
-    assert_eq!(rt;
-        (opening.layout, opening.epoch, opening.base.inputs),
-        (1, 0, 0)
-    );
+    assert!(rt; (opening.layout, opening.epoch, opening.base.inputs) == (1, 0, 0));
+    drop(opening);
     plays(&rt, &mut journal, &GOES_ON);
     let parts: [(u64, &[u8]); 2] = [(0, &PLAIN[..36]), (36, &FURTHER)];
     let device = stable(&rt, journal, 53, &parts);
-    let (mut journal, _) = reopened(&rt, FuseDevice::idle(device));
+    let (mut journal, opening) = reopened(&rt, FuseDevice::idle(device));
+    drop(opening);
     plays(&rt, &mut journal, &MAKES_AN_AREA);
     let parts: [(u64, &[u8]); 3] = [(0, &PLAIN[..36]), (36, &FURTHER), (AREA_B, &FIRST)];
     let device = stable(&rt, journal, 4197, &parts);

@@ -45,14 +45,14 @@ fn frames_of_the_shortest_inputs(rt: HostRuntime) {
     for _ in 0..4 {
         assert!(rt; commits(&rt, &mut journal, &inputs(&rt, &SHORTEST)));
     }
-    assert_eq!(rt; told(&journal), (256, 470, 1));
+    assert!(rt; told(&journal) == (256, 470, 1));
     let mut device = left(journal, Tear::Old);
     // Each frame has 455 bytes with its gate.
-    assert_eq!(rt; device.size(), 1893);
+    assert!(rt; device.size() == 1893);
     let mut image = [0; 1893];
     assert!(rt; device.read_at(0, &mut image).is_ok());
-    assert_eq!(rt; in_pieces(&rt, LAYOUT, 16, &image[16..]), Ok((256, 1892)));
-    assert_eq!(rt; found(rt.alloc(), device), Ok((256, 1)));
+    assert!(rt; in_pieces(&rt, LAYOUT, 16, &image[16..]) == Ok((256, 1892)));
+    assert!(rt; found(rt.alloc(), device) == Ok((256, 1)));
 }
 
 #[test]
@@ -61,12 +61,18 @@ fn a_retire_cut_at_each_byte(rt: HostRuntime) {
     for len in 1..17 {
         let cut = device(&rt, &[(0, &FRESH[..72]), (72, &FRAME[..len])]);
         let at = if len < 16 { 72 } else { 88 };
-        assert_eq!(rt; found(rt.alloc(), cut), Err(Refusal::Damaged(at)), "{len}");
+        assert!(rt;
+            found(rt.alloc(), cut) == Err(Refusal::Damaged(at)),
+            "{len}"
+        );
     }
     // Cut by the length of its frame.
     for len in 0..9 {
         let cut = device(&rt, &[(0, &FRESH[..72]), (72, &FRAME), (78, &[len])]);
-        assert_eq!(rt; found(rt.alloc(), cut), Err(Refusal::Damaged(72)), "{len}");
+        assert!(rt;
+            found(rt.alloc(), cut) == Err(Refusal::Damaged(72)),
+            "{len}"
+        );
     }
 }
 
@@ -81,11 +87,11 @@ fn earlier() -> [u8; 69] {
 #[test]
 fn an_area_of_layout_2_with_a_retire_is_damaged(rt: HostRuntime) {
     let area = earlier();
-    assert_eq!(rt; in_pieces(&rt, 2, 16, &area), Err(Refusal::Damaged(68)));
+    assert!(rt; in_pieces(&rt, 2, 16, &area) == Err(Refusal::Damaged(68)));
     let image = device(&rt, &[(0, &EARLIER[..16]), (16, &area)]);
-    assert_eq!(rt; found(rt.alloc(), image), Err(Refusal::Damaged(68)));
+    assert!(rt; found(rt.alloc(), image) == Err(Refusal::Damaged(68)));
     let image = device(&rt, &[(0, &PLAIN[..16]), (16, &FRAME)]);
-    assert_eq!(rt; found(rt.alloc(), image), Err(Refusal::Damaged(16)));
+    assert!(rt; found(rt.alloc(), image) == Err(Refusal::Damaged(16)));
 }
 
 /// The journal's area in use is of this layout, and may hold other inputs, and a Retire or not.
@@ -95,7 +101,7 @@ fn suits(
     layout: u8,
     retires: bool,
 ) {
-    assert_eq!(rt; journal.layout(), layout);
+    assert!(rt; journal.layout() == layout);
     for others in [&[] as &[Op], &[STOOD, ACKED]] {
         assert!(rt; journal.suits(&inputs(rt, others)));
     }
@@ -104,7 +110,7 @@ fn suits(
         &[STOOD, ACKED, RETIRED],
         &[RETIRED, STOOD],
     ] {
-        assert_eq!(rt; journal.suits(&inputs(rt, among)), retires);
+        assert!(rt; journal.suits(&inputs(rt, among)) == retires);
     }
 }
 
@@ -120,7 +126,8 @@ fn an_earlier_layout_suits_no_retire_until_a_checkpoint(rt: HostRuntime) {
     let images: [(&[u8], u8); 2] = [(&PLAIN, 1), (&EARLIER, 2)];
     for (image, layout) in images {
         let begins = FuseDevice::idle(device(&rt, &[(0, image)]));
-        let (mut journal, _) = reopened(&rt, begins);
+        let (mut journal, opening) = reopened(&rt, begins);
+        drop(opening);
         suits(&rt, &journal, layout, false);
         does(&rt, &mut journal, GOES_ON);
         suits(&rt, &journal, layout, false);
@@ -128,10 +135,8 @@ fn an_earlier_layout_suits_no_retire_until_a_checkpoint(rt: HostRuntime) {
         suits(&rt, &journal, 3, true);
         does(&rt, &mut journal, GIVES_UP);
         let (journal, opening) = reopened(&rt, left(journal, Tear::Old));
-        assert_eq!(rt; (opening.layout, journal.layout()), (3, 3));
-        assert_eq!(rt;
-            opening.inputs.as_slice(),
-            inputs(&rt, &[RETIRED]).as_slice()
-        );
+        assert!(rt; (opening.layout, journal.layout()) == (3, 3));
+        assert!(rt; opening.inputs.as_slice() == inputs(&rt, &[RETIRED]).as_slice());
+        drop((journal, opening));
     }
 }

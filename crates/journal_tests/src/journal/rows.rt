@@ -25,7 +25,7 @@ fn one_commit(rt: HostRuntime) {
 fn closed_gate(rt: HostRuntime) {
     for (gate, count) in [(7, 0), (1, 1)] {
         let device = device(&rt, &[(0, &COMMITTED), (72, &[gate])]);
-        assert_eq!(rt; found(rt.alloc(), device), Ok((count, 1)), "{gate}");
+        assert!(rt; found(rt.alloc(), device) == Ok((count, 1)), "{gate}");
     }
 }
 
@@ -38,12 +38,12 @@ fn broken_images(rt: HostRuntime) {
         (16, Refusal::NotFormatted),
     ] {
         let device = device(&rt, &[(0, &COMMITTED[..len])]);
-        assert_eq!(rt; found(rt.alloc(), device), Err(refusal), "{len}");
+        assert!(rt; found(rt.alloc(), device) == Err(refusal), "{len}");
     }
     let second = NodeNo::new(2).expect(&rt, "a node");
     let of_the_first = device(&rt, &[(0, &COMMITTED)]);
     let found = found_by(rt.alloc(), of_the_first, second);
-    assert_eq!(rt; found, Err(Refusal::WrongNode));
+    assert!(rt; found == Err(Refusal::WrongNode));
 }
 
 #[test]
@@ -54,7 +54,7 @@ fn a_new_journal_closes_an_old_area(rt: HostRuntime) {
     let mut closed = SECOND;
     closed[0] = 0;
     holds(&rt, &mut device, &[(AREA_B, &closed)]);
-    assert_eq!(rt; found(rt.alloc(), device), Ok((0, 1)));
+    assert!(rt; found(rt.alloc(), device) == Ok((0, 1)));
 }
 
 #[test]

@@ -46,7 +46,7 @@ fn of_commit<R: Abort + AllocGlobal>(rt: &R, passed: u64, tear: Tear) -> u64 {
     does(rt, &mut journal, COMMITS);
     let device = stopped(rt, journal, COMMIT_FAILS, passed, tear);
     let (journal, opening) = reopened(rt, device);
-    assert_eq!(rt; journal.len(), opening.inputs.len() as u64);
+    assert!(rt; journal.len() == (opening.inputs.len() as u64));
     journal.len()
 }
 
@@ -57,7 +57,7 @@ fn a_commit_that_is_stopped_leaves_all_or_nothing(rt: HostRuntime) {
     for tear in TEARS {
         for passed in 0..4 {
             let count = if passed >= 2 && opens(tear) { 2 } else { 1 };
-            assert_eq!(rt; of_commit(&rt, passed, tear), count, "{passed}");
+            assert!(rt; of_commit(&rt, passed, tear) == count, "{passed}");
         }
     }
 }
@@ -83,7 +83,7 @@ fn a_checkpoint_that_is_stopped_leaves_all_or_nothing(rt: HostRuntime) {
                 let epoch = if passed >= 4 && opens(tear) { 2 } else { 1 };
                 let image = device(&rt, &[(0, &COMMITTED), (AREA_B, last)]);
                 let left = checkpoint_stopped(&rt, image, passed, tear);
-                assert_eq!(rt; found(rt.alloc(), left), Ok((1, epoch)), "{passed}");
+                assert!(rt; found(rt.alloc(), left) == Ok((1, epoch)), "{passed}");
             }
         }
     }
@@ -98,7 +98,7 @@ fn leaves<R: Abort + AllocGlobal>(rt: &R, passed: u64, tear: Tear, wanted: &[u8]
     } else {
         AREA_B + wanted.len() as u64
     };
-    assert_eq!(rt; left.size(), end, "{passed}");
+    assert!(rt; left.size() == end, "{passed}");
     holds(rt, &mut left, &[(0, &COMMITTED)]);
     holds(rt, &mut left, &[(AREA_B, wanted)]);
 }
@@ -130,7 +130,7 @@ fn a_stopped_checkpoint_is_not_opened_by_the_next(rt: HostRuntime) {
     let mut closed = SECOND;
     closed[..2].copy_from_slice(&[0, 1]);
     holds(&rt, &mut left, &[(AREA_B, &closed)]);
-    assert_eq!(rt; found(rt.alloc(), left), Ok((1, 1)));
+    assert!(rt; found(rt.alloc(), left) == Ok((1, 1)));
 }
 
 static TEN_CALLS: [Step; 3] = [COMMITS, Step::Checkpoints(&[], &SECOND), COMMIT_FAILS];
@@ -153,7 +153,7 @@ fn formatting_is_two_calls_or_three(rt: HostRuntime) {
                 Ok(_journal) => assert!(rt; after >= calls),
                 Err((_device, refusal)) => {
                     assert!(rt; after < calls);
-                    assert_eq!(rt; refusal, Refusal::Device(1));
+                    assert!(rt; refusal == Refusal::Device(1));
                 }
             }
         }

@@ -8,7 +8,7 @@ use ring_records::{EPOCHS, LAYOUT, Room};
 fn snapshot(rt: &impl Abort, alloc: Global, core: &NodeCore) -> Vec<u8> {
     let summary = core.summary(alloc).expect(rt, "ample memory");
     let bytes = written(rt, alloc, &summary);
-    assert_eq!(rt; core.summary_len(), bytes.len() as u64);
+    assert!(rt; core.summary_len() == (bytes.len() as u64));
     bytes
 }
 
@@ -49,7 +49,7 @@ static ASKED: [Op; 15] = [
 fn judge_alike(rt: &impl Abort, core: &NodeCore, other: &NodeCore) {
     for op in &ASKED {
         let input = input(rt, *op);
-        assert_eq!(rt; core.admit(&input), other.admit(&input));
+        assert!(rt; core.admit(&input) == other.admit(&input));
     }
 }
 
@@ -57,12 +57,12 @@ fn judge_alike(rt: &impl Abort, core: &NodeCore, other: &NodeCore) {
 fn show_alike(rt: &impl Abort, core: &NodeCore, other: &NodeCore) {
     let (mut here, there) = (counts(core), counts(other));
     here.1 = core.summary_len();
-    assert_eq!(rt; here, there);
-    assert_eq!(rt; core.window(), other.window());
+    assert!(rt; here == there);
+    assert!(rt; core.window() == other.window());
     for (group, term) in [("red", 5), ("red", 4), ("blue", 1), ("green", 1)] {
         let key = key(rt, group, term);
-        assert_eq!(rt; core.who(&key), other.who(&key));
-        assert_eq!(rt; core.latest(&key.group), other.latest(&key.group));
+        assert!(rt; core.who(&key) == other.who(&key));
+        assert!(rt; core.latest(&key.group) == other.latest(&key.group));
     }
 }
 
@@ -74,9 +74,9 @@ fn accepts_alike(rt: &impl Abort, alloc: Global, rig: &mut Rig, op: Op) {
     show_alike(rt, &rig.core, &other);
     judge_alike(rt, &rig.core, &other);
     let effects = rig.accept(rt, input);
-    assert_eq!(rt; accept(rt, &mut other, input), effects);
-    assert_eq!(rt; snapshot(rt, alloc, &other), snapshot(rt, alloc, &rig.core));
-    assert_eq!(rt; other.used(), bytes.len() as u64 + input.cost() as u64);
+    assert!(rt; accept(rt, &mut other, input) == effects);
+    assert!(rt; snapshot(rt, alloc, &other) == snapshot(rt, alloc, &rig.core));
+    assert!(rt; other.used() == (bytes.len() as u64 + input.cost() as u64));
     other.rebase(2);
     show_alike(rt, &rig.core, &other);
 }
@@ -147,19 +147,19 @@ static LENGTHS: [(Op, u64); 9] = [
 #[test]
 fn a_snapshot_has_the_bytes_of_its_keys_and_its_window(rt: HostRuntime) {
     let mut rig = Rig::new(&rt, rt.alloc(), 3, 65_536);
-    assert_eq!(rt; rig.core.summary_len(), 42);
+    assert!(rt; rig.core.summary_len() == 42);
     for row in &LENGTHS {
         let (op, len) = *row;
         rig.accept_all(&rt, &[op]);
-        assert_eq!(rt; rig.core.summary_len(), len);
+        assert!(rt; rig.core.summary_len() == len);
     }
 }
 
 /// Restored with this capacity from its snapshot of 69 bytes, the node judges a credit so.
 fn takes(rt: &impl Abort, alloc: Global, capacity: u32, bytes: &[u8], refused: Option<Refusal>) {
     let core = restored(rt, alloc, capacity, bytes);
-    assert_eq!(rt; core.used(), 69);
-    assert_eq!(rt; core.admit(&input(rt, Acked(1))).err(), refused);
+    assert!(rt; core.used() == 69);
+    assert!(rt; core.admit(&input(rt, Acked(1))).err() == refused);
 }
 
 #[test]
@@ -230,12 +230,10 @@ fn has_room(rt: &impl Abort, alloc: Global, bytes: &[u8], case: &Case) {
     assert!(rt; from.floors.len() <= u32::MAX as usize, "few floors");
     let core = NodeCore::restore(alloc, node(rt, 2), 3, capacity, room, &from);
     let core = core.expect(rt, "ample memory");
-    assert_eq!(rt; core.needs_area(), waits && layout < LAYOUT, "{name}");
-    assert_eq!(rt;
-        core.admit(&input(rt, op)).err(),
-        refusal(rt, cause),
-        "{name}"
-    );
+    let needs = core.needs_area() == (waits && layout < LAYOUT);
+    let admits = core.admit(&input(rt, op)).err() == refusal(rt, cause);
+    drop((from, core));
+    assert!(rt; needs && admits, "{name}");
 }
 
 // In an area of an earlier layout a Retire, and each input behind one that waits, takes no byte of the capacity: the

@@ -78,7 +78,7 @@ fn prints_at_last<R: Abort + AllocGlobal>(rt: &R, lines: &[Line], count: u64) {
     if answer == Err(RunFault::Memory) {
         answer = prints(rt, &session, lines);
     }
-    assert_eq!(rt; answer, Ok(count));
+    assert!(rt; answer == Ok(count));
 }
 
 #[test]

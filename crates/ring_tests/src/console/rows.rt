@@ -16,8 +16,8 @@ fn a_run_is_shown(rt: HostRuntime) -> Result<(), Fail> {
     let (answer, out) = played(rt.alloc(), &first.script);
     let text = str::from_utf8(&out).unwrap_or("bytes that are no text");
     let _ = println!(rt; "{text}{answer:?}");
-    assert_eq!(rt; answer, Ok(8));
-    assert_eq!(rt; text, first.text.as_str());
+    assert!(rt; answer == Ok(8));
+    assert!(rt; text == first.text.as_str());
     Ok(())
 }
 

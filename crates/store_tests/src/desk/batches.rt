@@ -29,7 +29,7 @@ fn is_foreign(rt: &impl Abort, other: &mut Desk, spoiled: Spoiled) -> Spoiled {
     match other.fail(spoiled) {
         Ok(()) => panic!(rt; "failed"),
         Err((spoiled, refusal)) => {
-            assert_eq!(rt; refusal, Refusal::Foreign);
+            assert!(rt; refusal == Refusal::Foreign);
             assert!(rt; other.is_open());
             spoiled
         }
@@ -40,7 +40,7 @@ impl Station {
     /// What flies, of these numbers, never lands.
     pub(super) fn is_lost(&mut self, rt: &impl Abort, numbers: (u8, u64, usize)) {
         let receipt = self.receipt(rt);
-        assert_eq!(rt; numbers_of(&receipt), numbers);
+        assert!(rt; numbers_of(&receipt) == numbers);
         receipt.into_parts();
     }
 
@@ -52,7 +52,9 @@ impl Station {
         match commit(rt, &mut self.journal, batch) {
             Ok(_receipt) => panic!(rt; "committed"),
             Err(spoiled) => {
-                let spoiled = is_foreign(rt, &mut opened(rt, 1, 0, &[STOOD]), spoiled);
+                let mut other = opened(rt, 1, 0, &[STOOD]);
+                let spoiled = is_foreign(rt, &mut other, spoiled);
+                drop(other);
                 fails(rt, &mut self.desk, spoiled);
             }
         }

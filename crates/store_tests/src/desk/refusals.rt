@@ -15,7 +15,7 @@ fn unlawful_inputs(rt: HostRuntime) {
         let (ops, place) = *row;
         let opening = opening_of(&rt, ops);
         let desk = Desk::open(rt.alloc(), node(&rt, 1), 3, 4096, 0, opening);
-        assert_eq!(rt; desk.err(), Some(Refusal::Unlawful(place)));
+        assert!(rt; desk.err() == Some(Refusal::Unlawful(place)));
     }
 }
 
@@ -53,7 +53,7 @@ fn holds_no(rt: &impl Abort, desk: &mut Desk, ticket: Ticket) -> Ticket {
     match desk.forfeit(ticket) {
         Ok(()) => panic!(rt; "forfeited"),
         Err((ticket, refusal)) => {
-            assert_eq!(rt; refusal, Refusal::Foreign);
+            assert!(rt; refusal == Refusal::Foreign);
             ticket
         }
     }
@@ -110,7 +110,7 @@ fn is_foreign<R: Abort + AllocGlobal>(rt: &R, row: &Row) {
     own.asks(rt, WHO, 0);
     let ticket = own.takes_out(rt, 0);
     let ticket = does_not_know(rt, &mut other.desk, ticket);
-    assert_eq!(rt; own.desk.open_tickets(), 1, "{name}");
+    assert!(rt; own.desk.open_tickets() == 1, "{name}");
     own.keeps(rt, 0, ticket);
     own.redeems(rt, 0, Say::Nobody);
     other.plays(rt, behind);

@@ -39,7 +39,7 @@ type Short = ShortReads<FuseDevice<MemDevice>>;
 fn reads_no_more<R: Abort + AllocGlobal>(rt: &R, device: &mut Short) {
     let mut bytes = vec![in rt.alloc(); 0; MOST + 1].expect(rt, "ample memory");
     assert!(rt; device.read_at(0, &mut bytes).is_err());
-    assert_eq!(rt; device.failures(), 1);
+    assert!(rt; device.failures() == 1);
 }
 
 /// Node 1 of 3, which the device holds.
@@ -58,5 +58,6 @@ fn reads_are_short(rt: HostRuntime) {
     };
     reads_no_more(&rt, &mut device);
     let made = read_in_pieces(&rt, device);
-    assert_eq!(rt; (made.history().len(), made.desk().stands()), (1024, 1024));
+    assert!(rt; (made.history().len(), made.desk().stands()) == (1024, 1024));
+    drop(made);
 }

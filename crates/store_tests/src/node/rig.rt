@@ -18,7 +18,7 @@ fn told(made: &Stored) -> (u64, u64, usize, u64) {
 
 /// This is what landed.
 fn landed_are(rt: &impl Abort, landed: &Landed, count: u64, sends: &[Sends], tells: &[Tells]) {
-    assert_eq!(rt; landed.count, count);
+    assert!(rt; landed.count == count);
     sends_are(rt, &landed.packets, sends);
     tells_are(rt, &landed.notices, tells);
 }
@@ -35,7 +35,7 @@ impl Rig {
     /// This is done with the node, step by step. No ticket is open then.
     pub(super) fn plays<R: Abort + AllocGlobal>(self, rt: &R, steps: &[Step]) {
         let rig = self.goes_through(rt, steps);
-        rig.end(rt);
+        drop(rig.end(rt));
     }
 
     pub(super) fn goes_through<R: Abort + AllocGlobal>(self, rt: &R, steps: &[Step]) -> Rig {
@@ -116,8 +116,8 @@ impl Rig {
     pub(super) fn asks(&mut self, rt: &impl Abort, ask: Ask, number: u64) {
         let question = request(rt, ask);
         let ticket = self.made.submit(question).expect(rt, "a ticket");
-        assert_eq!(rt; ticket.number(), number);
-        assert_eq!(rt; ticket.question(), question);
+        assert!(rt; ticket.number() == number);
+        assert!(rt; ticket.question() == question);
         let place = self.tickets.len();
         self.keeps(rt, place, ticket);
     }
@@ -130,8 +130,8 @@ impl Rig {
                 self.keeps(rt, place, ticket);
             }
             Err(refusal) => {
-                assert_eq!(rt; refusal, Refusal::OutOfMemory);
-                assert_eq!(rt; told(&self.made), before);
+                assert!(rt; refusal == Refusal::OutOfMemory);
+                assert!(rt; told(&self.made) == before);
                 self.asks(rt, ask, number);
             }
         }
@@ -140,7 +140,7 @@ impl Rig {
     fn takes_no(&mut self, rt: &impl Abort, ask: Ask) {
         match self.made.submit(request(rt, ask)) {
             Ok(_ticket) => panic!(rt; "a ticket"),
-            Err(refusal) => assert_eq!(rt; refusal, Refusal::Failed),
+            Err(refusal) => assert!(rt; refusal == Refusal::Failed),
         }
     }
 
@@ -150,8 +150,8 @@ impl Rig {
         let reply = reply(rt, say);
         match self.made.redeem(ticket) {
             Ok((found, stub)) => {
-                assert_eq!(rt; found, reply);
-                assert_eq!(rt; (stub.reply(), stub.number()), (reply, number));
+                assert!(rt; found == reply);
+                assert!(rt; (stub.reply(), stub.number()) == (reply, number));
             }
             Err((_ticket, refusal)) => panic!(rt; "{refusal}"),
         }
@@ -194,7 +194,7 @@ impl Rig {
     }
 
     fn is_open(&self, rt: &impl Abort, is_open: bool) {
-        assert_eq!(rt; self.made.is_open(), is_open);
+        assert!(rt; self.made.is_open() == is_open);
     }
 
     fn closes(&mut self) {
@@ -204,7 +204,7 @@ impl Rig {
     /// The next batch, of so many inputs, becomes durable.
     pub(super) fn lands(&mut self, rt: &impl Abort, count: u64) {
         let landed = self.made.flush().expect(rt, "a device that works");
-        assert_eq!(rt; landed.count, count);
+        assert!(rt; landed.count == count);
     }
 
     fn flushes(&mut self, rt: &impl Abort, count: u64, sends: &[Sends], tells: &[Tells]) {
@@ -217,15 +217,15 @@ impl Rig {
         match self.made.flush() {
             Ok(landed) => landed_are(rt, &landed, count, sends, tells),
             Err(refusal) => {
-                assert_eq!(rt; refusal, Refusal::OutOfMemory);
-                assert_eq!(rt; told(&self.made), before);
+                assert!(rt; refusal == Refusal::OutOfMemory);
+                assert!(rt; told(&self.made) == before);
                 self.flushes(rt, count, sends, tells);
             }
         }
     }
 
     fn fails(&mut self, rt: &impl Abort, no: No) {
-        assert_eq!(rt; self.made.flush().err(), Some(no.refusal()));
+        assert!(rt; self.made.flush().err() == Some(no.refusal()));
     }
 
     fn checkpoints(&mut self, rt: &impl Abort, count: u64, sends: &[Sends]) {
@@ -238,8 +238,8 @@ impl Rig {
         match self.made.checkpoint() {
             Ok(landed) => landed_are(rt, &landed, count, sends, &[]),
             Err(refusal) => {
-                assert_eq!(rt; refusal, Refusal::OutOfMemory);
-                assert_eq!(rt; told(&self.made), before);
+                assert!(rt; refusal == Refusal::OutOfMemory);
+                assert!(rt; told(&self.made) == before);
                 self.checkpoints(rt, count, sends);
             }
         }
@@ -247,8 +247,8 @@ impl Rig {
 
     fn checks_not(&mut self, rt: &impl Abort, no: No) {
         let before = told(&self.made);
-        assert_eq!(rt; self.made.checkpoint().err(), Some(no.refusal()));
-        assert_eq!(rt; told(&self.made), before);
+        assert!(rt; self.made.checkpoint().err() == Some(no.refusal()));
+        assert!(rt; told(&self.made) == before);
     }
 
     fn arms(&mut self, after: u64) {
@@ -256,12 +256,12 @@ impl Rig {
     }
 
     fn has(&self, rt: &impl Abort, counts: (u64, u64, usize, u64)) {
-        assert_eq!(rt; told(&self.made), counts);
+        assert!(rt; told(&self.made) == counts);
     }
 
     fn passed(&self, rt: &impl Abort, sent: u64, taken: u64) {
         let desk = self.made.desk();
-        assert_eq!(rt; (desk.sent(), desk.taken()), (sent, taken));
+        assert!(rt; (desk.sent(), desk.taken()) == (sent, taken));
     }
 
     fn window(&self, rt: &impl Abort, sends: &[Sends]) {
