@@ -54,8 +54,7 @@ fn read_again<R: Files<File = File>>(rt: &R, alloc: Global, path: &str) -> Resul
     read_whole(&mut file, alloc)
 }
 
-/// Why the node of this file is refused so. Where the system refused something, it is asked once more; where it gave all
-/// bytes, they are not those of this node.
+/// Why the node of this file is refused so: the system is asked once more, where it refused something; else `invalid data`.
 fn look_again<R: Files<File = File>>(
     rt: &R,
     alloc: Global,
@@ -169,7 +168,7 @@ fn create<R: Files<File = File>>(
     }
 }
 
-/// What a start makes: these nodes, of which the last may not be there, and perhaps `ring.made`.
+/// What a start makes: these nodes, of which the last ones may not be there, and perhaps `ring.made`.
 #[derive(Drop)]
 pub(crate) struct Made {
     pub(crate) nodes: Vec<NodeNo>,
@@ -355,9 +354,8 @@ impl<'a> Folder<'a> {
         }
     }
 
-    /// A new node in a file of the one name, which is then given the other. Its file has its full length, and its name only
-    /// once it is formatted and synced, so that a stop at any moment leaves a file that is recovered, or none of the name;
-    /// what such a stop left is made anew.
+    /// A new node in a file of the one name, which has its full length, and gets the other name once it is formatted and
+    /// synced: a stop at any moment leaves a file that is recovered, or none of the name, and what it left is made anew.
     fn make_as<R: Files<File = File>>(
         &self,
         rt: &R,
