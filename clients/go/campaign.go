@@ -57,6 +57,8 @@ type campaign struct {
 	group string
 	bid   int
 	how   CampaignOptions
+	// It stands for no term up to this number. Who leads in one is not gone for that.
+	above int
 	// The nodes at which it may stand, the first of them first.
 	places []int
 	stood  map[Led]bool
@@ -70,7 +72,8 @@ func newCampaign(ring *Ring, group string, bid int, how CampaignOptions) (*campa
 		return nil, errors.New("cinoweta: no number of a campaign is negative")
 	}
 	places, err := placesOf(ring, how.Node)
-	return &campaign{ring, group, bid, how.whole(), places, map[Led]bool{}}, err
+	made := &campaign{ring: ring, group: group, bid: bid, how: how.whole(), places: places, stood: map[Led]bool{}}
+	return made, err
 }
 
 // whole has the defaults in place of each 0.
@@ -85,6 +88,14 @@ func (o CampaignOptions) whole() CampaignOptions {
 		o.Keep = DefaultKeep
 	}
 	return o
+}
+
+// greater is the greater one of two terms.
+func greater(one, other int) int {
+	if one > other {
+		return one
+	}
+	return other
 }
 
 // placesOf gives this node, or all of them from a random one on.
@@ -102,8 +113,9 @@ func placesOf(ring *Ring, node int) ([]int, error) {
 
 func (c *campaign) run(ctx context.Context) (Election, error) {
 	known, isKnown, err := c.known(ctx)
+	above := greater(c.how.Gone, c.above)
 	for step := 1; step <= c.how.Terms && !isKnown && err == nil; step++ {
-		if err = c.stand(ctx, c.how.Gone+step); err == nil {
+		if err = c.stand(ctx, above+step); err == nil {
 			known, isKnown, err = c.await(ctx)
 		}
 	}
@@ -111,7 +123,7 @@ func (c *campaign) run(ctx context.Context) (Election, error) {
 		return Election{}, err
 	}
 	if !isKnown {
-		return Election{}, &NoLeaderError{c.group, c.how.Terms, c.how.Gone, c.faults(ctx)}
+		return Election{}, &NoLeaderError{c.group, c.how.Terms, above, c.faults(ctx)}
 	}
 	return c.end(ctx, known)
 }

@@ -112,7 +112,8 @@ func (e *NoAnswerError) Unwrap() error {
 // is full. To stand again and again uses the Stands of the nodes up, and helps nothing.
 type NoLeaderError struct {
 	Group string
-	// Terms is how many were waited for, above Gone.
+	// Terms is how many were waited for, above Gone. Of a lock that is the number of [Lock.ResignAbove], where it is
+	// greater than the term of the leader that is gone.
 	Terms, Gone int
 	// Faults are the nodes that are not well, as `node 3 full`, where the ring's status port is known and tells.
 	Faults []string

@@ -63,9 +63,10 @@ type Lock struct {
 	mutex  sync.Mutex
 	sign   sign
 	isHeld bool
-	// The term in which it leads or led, the greatest one that is over for it, and when the ring was asked.
-	term, gone int
-	asked      time.Time
+	// The term in which it leads or led, the greatest one that is over for it, the number above which it stands, and when
+	// the ring was asked.
+	term, gone, above int
+	asked             time.Time
 }
 
 // NewLock gives the lock of the group, which is not held yet.
@@ -152,7 +153,7 @@ func (l *Lock) Resign() {
 }
 
 // ResignAbove gives the lock back. Where this one takes it again its term is above this number, as the one that turned
-// a write away.
+// a write away. Whoever holds the lock in a term up to that number is waited for all the same.
 func (l *Lock) ResignAbove(term int) {
 	l.mutex.Lock()
 	defer l.mutex.Unlock()
@@ -160,11 +161,7 @@ func (l *Lock) ResignAbove(term int) {
 }
 
 func (l *Lock) resign(above int) {
-	for _, over := range []int{l.term, above} {
-		if over > l.gone {
-			l.gone = over
-		}
-	}
+	l.gone, l.above = greater(l.gone, l.term), greater(l.above, above)
 	if l.isHeld {
 		l.isHeld = false
 		l.sign.close()
@@ -211,7 +208,7 @@ func (l *Lock) begin() (*campaign, error) {
 		sign.close()
 		return nil, err
 	}
-	l.sign = sign
+	campaign.above, l.sign = l.above, sign
 	return campaign, nil
 }
 

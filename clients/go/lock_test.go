@@ -6,6 +6,7 @@ import (
 	"fmt"
 	"os"
 	"regexp"
+	"sort"
 	"strings"
 	"sync"
 	"sync/atomic"
@@ -353,6 +354,45 @@ func TestTheNextTermIsAboveTheNumberThatTurnedAWriteAway(t *testing.T) {
 	same(t, holds(t, lock), false)
 	must(t, lock.Acquire(background(t)))
 	same(t, lock.Term(), 42)
+}
+
+func TestWhoHoldsALockInATermUpToThatNumberIsWaitedFor(t *testing.T) {
+	ring, nodes, votes := elected(t)
+	holder, err := newBeacon(0, "a holder")
+	must(t, err)
+	t.Cleanup(holder.close)
+	votes.lead(2, 1, holder.bid())
+	lock, ahead := lockOf(t, ring, LockOptions{}), lockOf(t, ring, LockOptions{})
+	for number, lock := range map[int]*Lock{2: lock, 41: ahead} {
+		lock.ResignAbove(number)
+		lock.ResignAbove(number - 1)
+		taken := as[*LockTakenError](t, lock.TryAcquire(background(t)))
+		same(t, []any{taken.Holder.Term, taken.Holder.Text}, []any{2, "a holder"})
+	}
+	same(t, len(nodes[0].lines("stand"))+len(nodes[1].lines("stand")), 0)
+	holder.close()
+	must(t, lock.TryAcquire(background(t)))
+	lock.Resign()
+	must(t, ahead.TryAcquire(background(t)))
+	same(t, []int{lock.Term(), ahead.Term()}, []int{3, 42})
+}
+
+func TestNobodyNeedLeadUpToThatNumber(t *testing.T) {
+	ring, nodes, votes := elected(t)
+	lock := lockOf(t, ring, LockOptions{})
+	lock.ResignAbove(2)
+	must(t, lock.TryAcquire(background(t)))
+	same(t, lock.Term(), 3)
+	lock.ResignAbove(6)
+	votes.deposed, lock.wait = true, 50*time.Millisecond
+	none := as[*NoLeaderError](t, lock.TryAcquire(background(t)))
+	same(t, []int{none.Terms, none.Gone}, []int{3, 6})
+	terms := []string{}
+	for _, line := range append(nodes[0].lines("stand"), nodes[1].lines("stand")...) {
+		terms = append(terms, strings.Fields(line)[2])
+	}
+	sort.Strings(terms)
+	same(t, terms, []string{"3", "7", "8", "9"})
 }
 
 func TestWorkEndsOnceTheLockIsLost(t *testing.T) {
