@@ -165,7 +165,7 @@ func (c *campaign) stand(ctx context.Context, term int) error {
 	var err error
 	for _, place := range c.places {
 		err = c.ring.Stand(ctx, c.group, term, c.bid, place)
-		if err == nil || isNoAnswer(err) || errors.Is(err, ErrDeviceFailed) {
+		if err == nil || isNoAnswer(err) || hasFailed(err) {
 			// Without an answer it may have been accepted, and nobody else has the bid.
 			c.stood[Led{term, Leader{place, c.bid}}] = true
 		}

@@ -29,7 +29,8 @@ const (
 	ErrFull Refusal = 7
 	// ErrOutOfMemory says that the node found no memory.
 	ErrOutOfMemory Refusal = 8
-	// ErrNodeFailed says that the node's device failed, so that its ring elects nobody until it is started again.
+	// ErrNodeFailed says that the node's device failed, so that its ring elects nobody until it is started again. A Stand
+	// that was on its way then may be accepted.
 	ErrNodeFailed Refusal = 9
 	// ErrDeviceFailed says that the device failed while the Stand was made durable, which it may be or not.
 	ErrDeviceFailed Refusal = 15
@@ -203,6 +204,12 @@ func isPassing(err error) bool {
 		}
 	}
 	return false
+}
+
+// hasFailed tells whether the node's device failed. A Stand may be accepted all the same, also where it failed while
+// the Stand was on its way.
+func hasFailed(err error) bool {
+	return errors.Is(err, ErrNodeFailed) || errors.Is(err, ErrDeviceFailed)
 }
 
 // isNoAnswer tells whether nobody answered.

@@ -263,8 +263,8 @@ func TestARingThatRefusesIsWaitedFor(t *testing.T) {
 				if !strings.HasPrefix(line, "stand") || left.Add(-1) < 0 {
 					return own(line)
 				}
-				// A Stand is there or not where the device failed.
-				if strings.Contains(fault, "device") {
+				// A Stand is there or not where the device failed, also as long as it was on its way.
+				if strings.Contains(fault, "device") || strings.Contains(fault, "failed") {
 					own(line)
 				}
 				return fault, true

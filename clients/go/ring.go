@@ -113,7 +113,8 @@ func (r *Ring) Nodes() int {
 }
 
 // Stand has the node stand for the group and term with this bid, for who asks. Else a [RefusedError]: ErrAlreadyStands,
-// with the same bid too, is of another process, unless this Ring asked before and got no answer.
+// with the same bid too, is of another process, unless this Ring asked before and got no answer, or that of a
+// failed device.
 func (r *Ring) Stand(ctx context.Context, group string, term, bid, node int) error {
 	line := fmt.Sprintf("stand %s %d %d", group, term, bid)
 	answer, err := r.askNode(ctx, line, node)
@@ -121,6 +122,9 @@ func (r *Ring) Stand(ctx context.Context, group string, term, bid, node int) err
 	if errors.As(err, &refused) && refused.Refusal == ErrAlreadyStands &&
 		refused.Text == fmt.Sprintf("already %d", bid) && r.unanswered.has(stood{node, line}) {
 		return nil
+	}
+	if hasFailed(err) {
+		r.unanswered.add(stood{node, line})
 	}
 	if err == nil && answer != "stood" {
 		err = r.wrong(ctx, answer)

@@ -38,6 +38,19 @@ func TestAlreadyCountsAfterNoAnswerOfTheSameNode(t *testing.T) {
 	is(t, ring.Stand(background(t), "red", 5, 10, 2), ErrAlreadyStands)
 }
 
+func TestAlreadyCountsWhereTheDeviceFailed(t *testing.T) {
+	for fault, cause := range map[string]Refusal{"no 9 failed": ErrNodeFailed, "no 15 device 1": ErrDeviceFailed} {
+		ring, _ := beside(t, first(fault, "no 3 already 11", "no 3 already 10"), first("no 3 already 10"))
+		is(t, ring.Stand(background(t), "red", 5, 10, 1), cause)
+		is(t, ring.Stand(background(t), "red", 5, 10, 1), ErrAlreadyStands)
+		is(t, ring.Stand(background(t), "red", 5, 10, 2), ErrAlreadyStands)
+		must(t, ring.Stand(background(t), "red", 5, 10, 1))
+	}
+	ring, _ := beside(t, first("no 7 full", "no 3 already 10"), deaf)
+	is(t, ring.Stand(background(t), "red", 5, 10, 1), ErrFull)
+	is(t, ring.Stand(background(t), "red", 5, 10, 1), ErrAlreadyStands)
+}
+
 func TestAStandThatItsContextEndedMayBeAccepted(t *testing.T) {
 	votes := newVotes()
 	ring, nodes := beside(t, func(line string) (string, bool) {

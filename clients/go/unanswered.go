@@ -11,8 +11,8 @@ type stood struct {
 	line string
 }
 
-// The unanswered Stands are those that this Ring sent, and that got no answer, the oldest first: each may have been
-// accepted.
+// The unanswered Stands are those that this Ring sent, and that got no answer, or that of a failed device, the oldest
+// first: each may have been accepted.
 type unanswered struct {
 	mutex  sync.Mutex
 	stands []stood
