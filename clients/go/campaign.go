@@ -160,7 +160,7 @@ func (c *campaign) retire(ctx context.Context, floor int) {
 }
 
 // stand stands for the term where it may. Not where somebody else does, or leads in a greater term, who comes to be
-// known then. A node that stood as often as it may is passed by, where another one may be taken.
+// known then. A node that stood as often as it may, or gives no answer, is passed by, where another one may be taken.
 func (c *campaign) stand(ctx context.Context, term int) error {
 	var err error
 	for _, place := range c.places {
@@ -169,7 +169,7 @@ func (c *campaign) stand(ctx context.Context, term int) error {
 			// Without an answer it may have been accepted, and nobody else has the bid.
 			c.stood[Led{term, Leader{place, c.bid}}] = true
 		}
-		if !errors.Is(err, ErrLimitReached) {
+		if !errors.Is(err, ErrLimitReached) && !isNoAnswer(err) || ended(ctx) != nil {
 			break
 		}
 	}

@@ -221,6 +221,54 @@ func TestAStandWithoutAnAnswerMayLead(t *testing.T) {
 	same(t, election, Election{Led{1, Leader{1, 10}}, true})
 }
 
+// silentFirst is a campaign of a ring of two nodes, which stands at node 1 first, where nobody answers.
+func silentFirst(t *testing.T, timeout time.Duration, second answer) (*campaign, []*node) {
+	t.Helper()
+	ring, nodes := beside(t, deaf, second)
+	nodes[0].is(never(t))
+	ring.Timeout, ring.place = timeout, 2
+	campaign, err := newCampaign(ring, "red", 10, CampaignOptions{})
+	must(t, err)
+	campaign.places = []int{1, 2}
+	return campaign, nodes
+}
+
+func TestACampaignGoesToAnotherNodeWhereOneIsSilent(t *testing.T) {
+	campaign, nodes := silentFirst(t, 300*time.Millisecond, newVotes().at(2))
+	election, err := campaign.run(background(t))
+	must(t, err)
+	same(t, election, Election{Led{1, Leader{2, 10}}, true})
+	for _, node := range nodes {
+		same(t, node.lines("stand"), []string{"stand red 1 10"})
+	}
+	// Where the silent one has the Stand, it leads there all the same.
+	campaign, _ = silentFirst(t, 300*time.Millisecond, first("none", "no 4 late", "term 1 leader 1 10"))
+	election, err = campaign.run(background(t))
+	must(t, err)
+	same(t, election, Election{Led{1, Leader{1, 10}}, true})
+}
+
+func TestACampaignEndsBehindTheLastNodeThatIsSilent(t *testing.T) {
+	campaign, nodes := silentFirst(t, 300*time.Millisecond, deaf)
+	silent := never(t)
+	nodes[1].is(func(line string) (string, bool) {
+		if strings.HasPrefix(line, "stand") {
+			return silent(line)
+		}
+		return "none", true
+	})
+	_, err := campaign.run(background(t))
+	same(t, as[*NoAnswerError](t, err).Address, campaign.ring.address(2))
+	same(t, len(campaign.stood), 2)
+	// Once its context is over it stands nowhere else.
+	campaign.ring.Timeout, campaign.stood = time.Minute, map[Led]bool{}
+	ctx, cancel := context.WithTimeout(background(t), 200*time.Millisecond)
+	defer cancel()
+	_, err = campaign.run(ctx)
+	is(t, err, context.DeadlineExceeded)
+	same(t, campaign.stood, map[Led]bool{{1, Leader{1, 10}}: true})
+}
+
 func TestPortsThatDoNotBeginWithNode1AreSeen(t *testing.T) {
 	votes := newVotes()
 	second := func(line string) (string, bool) {
