@@ -48,7 +48,11 @@ func (r *Ring) Campaign(ctx context.Context, group string, how CampaignOptions) 
 		return Election{}, err
 	}
 	defer r.release(ctx)
-	return campaign.run(ctx)
+	election, err := campaign.run(ctx)
+	if err == nil && election.IsMine {
+		campaign.retire(ctx, election.Term)
+	}
+	return election, err
 }
 
 // A campaign stands for one term after the other, each with one bid, until one above the one that is gone has a leader.
@@ -111,6 +115,7 @@ func placesOf(ring *Ring, node int) ([]int, error) {
 	return places, err
 }
 
+// run gives the leader of the first term above the one that is gone which comes to have one. Nothing is retired yet.
 func (c *campaign) run(ctx context.Context) (Election, error) {
 	known, isKnown, err := c.known(ctx)
 	above := greater(c.how.Gone, c.above)
@@ -125,13 +130,12 @@ func (c *campaign) run(ctx context.Context) (Election, error) {
 	if !isKnown {
 		return Election{}, &NoLeaderError{c.group, c.how.Terms, above, c.faults(ctx)}
 	}
-	return c.end(ctx, known)
+	return c.end(known)
 }
 
-// end judges who leads, and retires terms where that is who calls.
-func (c *campaign) end(ctx context.Context, known Led) (Election, error) {
+// end judges who leads.
+func (c *campaign) end(known Led) (Election, error) {
 	if c.stood[known] {
-		c.retire(ctx, known.Term-c.how.Keep)
 		return Election{known, true}, nil
 	}
 	for own := range c.stood {
@@ -143,9 +147,10 @@ func (c *campaign) end(ctx context.Context, known Led) (Election, error) {
 	return Election{known, false}, nil
 }
 
-// retire has each node retire the terms below the floor, but those that refuse or are away. Who leads does so all the
-// same, and they are asked again in a later term.
-func (c *campaign) retire(ctx context.Context, floor int) {
+// retire has each node retire the terms that who leads in this one does not keep, but those that refuse or are away.
+// Who leads does so all the same, and they are asked again in a later term.
+func (c *campaign) retire(ctx context.Context, term int) {
+	floor := term - c.how.Keep
 	// Below term 1 there is none.
 	if floor <= 1 {
 		return

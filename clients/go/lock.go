@@ -255,6 +255,8 @@ func (l *Lock) contend(ctx, waits context.Context, campaign *campaign) (int, err
 		}
 		switch {
 		case err == nil && election.IsMine:
+			// Nodes may be slow to, and whoever waits sees the sign already.
+			campaign.retire(ctx, election.Term)
 			return election.Term, nil
 		case err == nil || election.IsMine && isOver(err):
 			campaign.how.Gone = election.Term

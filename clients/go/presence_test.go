@@ -288,6 +288,38 @@ func TestALockThatCanNotBeShownYetIsWaitedFor(t *testing.T) {
 	same(t, strings.Count(told.all(), "waits for the ring: cinoweta: no answer of "+otherHost), 1)
 }
 
+func TestWhoLeadsAcrossHostsIsSeenBeforeNodesRetire(t *testing.T) {
+	ring, nodes, votes, _ := across(t, otherHost)
+	votes.lead(20, 1, 7)
+	asked, silent := tells{}, never(t)
+	for place, node := range nodes {
+		own, isSilent := votes.at(place+1), place == 0
+		node.is(func(line string) (string, bool) {
+			word, _, _ := strings.Cut(line, " ")
+			led := votes.led()
+			switch {
+			case word == "retire":
+				asked.tell(fmt.Sprint(line, " ", nodes[led.Leader.Node-1].isPresent("red", led)))
+			case word == "stand":
+				asked.tell(line)
+			}
+			switch {
+			case word == "retire" && isSilent:
+				return silent(line)
+			case word == "retire":
+				return "no 7 full", true
+			default:
+				return own(line)
+			}
+		})
+	}
+	lock := acrossOf(t, ring, LockOptions{Patience: 100 * time.Millisecond})
+	must(t, lock.Acquire(background(t)))
+	same(t, []any{lock.Term(), holds(t, lock)}, []any{21, true})
+	stand := fmt.Sprint("stand red 21 ", votes.bid(21))
+	same(t, asked.all(), strings.Join([]string{stand, stand, "retire red 11 true", "retire red 11 true"}, "\n"))
+}
+
 func TestALockWhoseTermIsOverBeforeItIsShownIsTakenAgain(t *testing.T) {
 	ring, nodes, votes, _ := across(t, otherHost)
 	isFirst := true
