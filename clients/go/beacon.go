@@ -4,10 +4,12 @@ import (
 	"context"
 	"errors"
 	"fmt"
+	"io"
 	"net"
 	"os"
 	"strconv"
 	"strings"
+	"syscall"
 	"time"
 	"unicode"
 	"unicode/utf8"
@@ -18,8 +20,11 @@ const (
 	bidRank, bidSpread = 100_000_000, 1_525
 	// The lines that a beacon takes, and what it tells of its holder, are no longer, in bytes.
 	longestQuestion, longestText = 32, 200
-	// So long a beacon waits for one client.
-	beaconLimit = 500 * time.Millisecond
+	// So long a beacon waits for one client. Who ends a connection sooner than in earlyEnd did not wait, and is no beacon
+	// of this bid.
+	beaconLimit, earlyEnd = 500 * time.Millisecond, 400 * time.Millisecond
+	// No port is greater.
+	lastPort = 65_535
 )
 
 // portOf is the port that a bid names, which may be none.
@@ -108,25 +113,44 @@ func isLine(text string) bool {
 	return utf8.ValidString(text)
 }
 
-// askBeacon gives what the beacon of this bid answers to a line within so long; nothing where it does not.
+// askBeacon gives what the beacon of this bid answers to a line within so long; nothing where it does not. It is asked
+// again where a connection came to nothing for another cause than that it is gone, as want of descriptors.
 func askBeacon(ctx context.Context, bid int, line string, limit time.Duration) string {
 	ctx, cancel := context.WithTimeout(ctx, limit)
 	defer cancel()
-	conn, err := dial(ctx, address(ownHost, portOf(bid)), limit)
+	for {
+		answer, isSure := askBeaconOnce(ctx, bid, line, limit)
+		if isSure || ended(ctx) != nil {
+			return answer
+		}
+		sleep(ctx, shortestPause)
+	}
+}
+
+// askBeaconOnce gives the same over one connection, and whether that is sure: that it answered, or is gone.
+func askBeaconOnce(ctx context.Context, bid int, line string, limit time.Duration) (answer string, isSure bool) {
+	port := portOf(bid)
+	if port == 0 || port > lastPort {
+		return "", true
+	}
+	// From here on, so that a pause of this process makes no end an early one.
+	begun := time.Now()
+	conn, err := dial(ctx, address(ownHost, port), limit)
 	if err != nil {
-		return ""
+		return "", errors.Is(err, syscall.ECONNREFUSED)
 	}
 	defer conn.Close()
 	// Where nobody listens, the system may join a connection to itself, which would answer all that is sent.
 	if conn.LocalAddr().String() == conn.RemoteAddr().String() {
-		return ""
+		return "", true
 	}
 	defer endWith(ctx, conn)()
-	answer, err := exchange(conn, line+"\n", longestQuestion+longestText)
+	answer, err = exchange(conn, line+"\n", longestQuestion+longestText)
 	if err != nil {
-		return ""
+		isEarly := time.Since(begun) < earlyEnd
+		return "", errors.Is(err, errTooLong) || errors.Is(err, io.EOF) && isEarly
 	}
-	return answer
+	return answer, true
 }
 
 // isThere tells whether who stood with this bid answers within so long. Where the context is over, nobody knows.

@@ -2,7 +2,9 @@ package cinoweta
 
 import (
 	"net"
+	"strconv"
 	"strings"
+	"syscall"
 	"testing"
 	"time"
 )
@@ -20,9 +22,11 @@ func TestBidsThatNoBeaconMade(t *testing.T) {
 	leavesNone(t)
 	// 0 names the port 0, the second one the port 65,573.
 	same(t, portOf(99_999_999), 65_573)
+	before := time.Now()
 	for _, bid := range []int{0, 99_999_999, 10, 999_999_999} {
-		same(t, isThere(background(t), bid, 500*time.Millisecond), false)
+		same(t, isThere(background(t), bid, 30*time.Second), false)
 	}
+	same(t, time.Since(before) < 3*time.Second, true)
 }
 
 func TestABeaconAnswersToItsOwnBidAlone(t *testing.T) {
@@ -51,6 +55,74 @@ func TestABeaconThatIsSilentIsNotThere(t *testing.T) {
 	same(t, isThere(background(t), bid, 200*time.Millisecond), false)
 	took := time.Since(before)
 	same(t, took >= 200*time.Millisecond && took < time.Second, true)
+}
+
+// answers answers to the first line with this text.
+func answers(text string) func(conn net.Conn) {
+	return func(conn net.Conn) {
+		conn.Read(make([]byte, longestQuestion))
+		conn.Write([]byte(text))
+	}
+}
+
+// serverOf gives the bid of a server that does so with one connection after the other, before it ends each. The last
+// one it answers as a beacon of that bid.
+func serverOf(t *testing.T, does ...func(conn net.Conn)) int {
+	t.Helper()
+	leavesNone(t)
+	listener, err := net.Listen("tcp", address(ownHost, 0))
+	must(t, err)
+	t.Cleanup(func() { listener.Close() })
+	bid := listener.Addr().(*net.TCPAddr).Port * bidSpread
+	go func() {
+		for _, do := range append(does, answers(strconv.Itoa(bid)+"\n")) {
+			conn, err := listener.Accept()
+			if err != nil {
+				return
+			}
+			do(conn)
+			conn.Close()
+		}
+	}()
+	return bid
+}
+
+func TestABeaconIsAskedAgainWhereThatMayHelp(t *testing.T) {
+	slow := func(conn net.Conn) {
+		conn.Read(make([]byte, longestQuestion))
+		time.Sleep(beaconLimit)
+	}
+	reset := func(conn net.Conn) {
+		conn.Read(make([]byte, longestQuestion))
+		conn.(*net.TCPConn).SetLinger(0)
+	}
+	sees := func(wanted bool, does ...func(conn net.Conn)) {
+		t.Helper()
+		before := time.Now()
+		same(t, isThere(background(t), serverOf(t, does...), 30*time.Second), wanted)
+		same(t, time.Since(before) < 3*time.Second, true)
+	}
+	sees(true, slow)
+	sees(true, reset, reset)
+	for _, text := range []string{"", "1", "none\n", strings.Repeat("x", 300)} {
+		sees(false, answers(text), answers(text), answers(text))
+	}
+}
+
+func TestABeaconIsAskedAgainWhereDescriptorsAreWanting(t *testing.T) {
+	leavesNone(t)
+	beacon, err := newBeacon(0, "")
+	must(t, err)
+	defer beacon.close()
+	var limit syscall.Rlimit
+	must(t, syscall.Getrlimit(syscall.RLIMIT_NOFILE, &limit))
+	none, restored := limit, make(chan error)
+	none.Cur = 3
+	must(t, syscall.Setrlimit(syscall.RLIMIT_NOFILE, &none))
+	time.AfterFunc(300*time.Millisecond, func() { restored <- syscall.Setrlimit(syscall.RLIMIT_NOFILE, &limit) })
+	isSeen := isThere(background(t), beacon.bid(), 30*time.Second)
+	must(t, <-restored)
+	same(t, isSeen, true)
 }
 
 func TestAnotherServerIsNoBeacon(t *testing.T) {

@@ -11,6 +11,8 @@ import (
 // longestAnswer is more, in bytes, than any answer of a node has.
 const longestAnswer = 256
 
+var errTooLong = errors.New("the answer is too long")
+
 // A session sends a line to a node, and one line is its answer. What fails ends the session, so that a late answer is
 // never read as that of another line.
 type session struct {
@@ -63,7 +65,7 @@ func exchange(conn net.Conn, asked string, longest int) (string, error) {
 		count, err := conn.Read(part)
 		answer = append(answer, part[:count]...)
 		if len(answer) > longest {
-			return "", errors.New("the answer is too long")
+			return "", errTooLong
 		}
 		if text := string(answer); strings.HasSuffix(text, "\n") {
 			return strings.TrimSuffix(text, "\n"), nil
