@@ -108,13 +108,18 @@ func (p *presence) limit() time.Duration {
 	return atMost(patience, p.ring.timeout())
 }
 
-// isPresent tells whether who leads so is present within this time, or absentLimit where that is less. A [NoAnswerError]
-// where the status port does not answer, a [WrongRingError] where it does not come to know this leader.
+// isPresent tells whether who leads so is present within this time, or absentLimit where that is less, from the first
+// answer on: an answer may be late, as behind a start of ringd. A [NoAnswerError] where the status port does not
+// answer, a [WrongRingError] where it does not come to know this leader.
 func isPresent(ctx context.Context, ring *Ring, group string, known Led, limit time.Duration) (bool, error) {
-	for until := time.Now().Add(atMost(absentLimit, limit)); ; {
+	var until time.Time
+	for {
 		told, isThere, err := leaderOf(ctx, ring.Host, ring.Status, group, known.Leader.Node)
 		if err != nil || told.Term > known.Term || told == known && isThere {
 			return err == nil && told == known, err
+		}
+		if until.IsZero() {
+			until = time.Now().Add(atMost(absentLimit, limit))
 		}
 		left := time.Until(until)
 		if left <= 0 && told != known {

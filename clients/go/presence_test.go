@@ -6,6 +6,7 @@ import (
 	"net/http"
 	"strings"
 	"sync"
+	"sync/atomic"
 	"testing"
 	"time"
 )
@@ -396,6 +397,22 @@ func TestWhoIsPresent(t *testing.T) {
 		_, err = isPresent(ctx, ring, group, known, time.Minute)
 		is(t, err, context.DeadlineExceeded)
 	}
+}
+
+func TestAnAnswerThatIsLateIsNoAbsence(t *testing.T) {
+	ring, _ := besideAt(t, otherHost, deaf, deaf)
+	var count atomic.Int32
+	ring.Status = statusAt(t, otherHost, http.HandlerFunc(func(writer http.ResponseWriter, _ *http.Request) {
+		isFirst := count.Add(1) == 1
+		if isFirst {
+			time.Sleep(600 * time.Millisecond)
+		}
+		const text = `{"by": 1, "leader": {"bid": 7, "group": "red", "node": 1, "term": 5}, "present": %t}`
+		fmt.Fprintf(writer, text, !isFirst)
+	}))
+	isThere, err := isPresent(background(t), ring, "red", Led{5, Leader{1, 7}}, 300*time.Millisecond)
+	must(t, err)
+	same(t, []any{isThere, count.Load()}, []any{true, 2})
 }
 
 func TestAStatusPortOfAnotherRingIsTold(t *testing.T) {
