@@ -18,8 +18,9 @@ const (
 	// DefaultTimeout is how long a question is asked.
 	DefaultTimeout = 10 * time.Second
 
-	// An answer is waited for so long before another node is asked.
-	patience = 3 * time.Second
+	// A connection and its answer are waited for so long before another node is asked: not longer than is left of the
+	// timeout, but for leastPatience anyway.
+	patience, leastPatience = 3 * time.Second, 50 * time.Millisecond
 	// The first pause before that.
 	againPause = 50 * time.Millisecond
 )
@@ -226,7 +227,7 @@ func (r *Ring) askAgain(ctx context.Context, line string, node int) (string, err
 		if node == AnyNode {
 			place = r.place
 		}
-		answer, err := r.askOnce(ctx, line, place)
+		answer, err := r.askOnce(ctx, line, place, time.Until(until))
 		if err == nil {
 			r.hasAnswered.Store(true)
 			return answer, nil
@@ -245,9 +246,15 @@ func (r *Ring) askAgain(ctx context.Context, line string, node int) (string, err
 	}
 }
 
-// askOnce gives the answer of this node, over the session that is open with it, or over a new one.
-func (r *Ring) askOnce(ctx context.Context, line string, place int) (string, error) {
-	limit := atMost(patience, r.timeout())
+// askOnce gives the answer of this node, over the session that is open with it, or over a new one, where so long is
+// left for it.
+func (r *Ring) askOnce(ctx context.Context, line string, place int, left time.Duration) (string, error) {
+	limit := atMost(patience, left)
+	if limit < leastPatience {
+		limit = leastPatience
+	}
+	ctx, cancel := context.WithTimeout(ctx, limit)
+	defer cancel()
 	if r.session != nil && r.session.address != r.address(place) {
 		r.closeSession()
 	}

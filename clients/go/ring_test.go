@@ -4,8 +4,11 @@ import (
 	"context"
 	"errors"
 	"fmt"
+	"net"
 	"strings"
 	"sync"
+	"sync/atomic"
+	"syscall"
 	"testing"
 	"time"
 )
@@ -23,6 +26,62 @@ func TestAStandStaysWithItsNode(t *testing.T) {
 	ring.Timeout = 500 * time.Millisecond
 	as[*NoAnswerError](t, ring.Stand(background(t), "red", 5, 10, 1))
 	same(t, len(nodes[1].lines("")), 0)
+}
+
+func TestAQuestionIsAskedForNoLongerThanItsTimeout(t *testing.T) {
+	ring, nodes := beside(t, deaf, deaf)
+	ring.Timeout = 1500 * time.Millisecond
+	asks := func(answer answer, place int) {
+		t.Helper()
+		nodes[0].is(answer)
+		nodes[1].is(answer)
+		before := time.Now()
+		_, _, err := ring.Latest(background(t), "red", place)
+		as[*NoAnswerError](t, err)
+		took := time.Since(before)
+		if took < 1400*time.Millisecond || took > 1900*time.Millisecond {
+			t.Fatalf("it took %v", took)
+		}
+	}
+	silent := never(t)
+	asks(silent, 1)
+	// The first one ends the session late.
+	for _, place := range []int{1, AnyNode} {
+		var count atomic.Int32
+		asks(func(line string) (string, bool) {
+			if count.Add(1) == 1 {
+				time.Sleep(time.Second)
+				return "", false
+			}
+			return silent(line)
+		}, place)
+	}
+}
+
+func TestAConnectionThatComesLateLeavesLessForTheAnswer(t *testing.T) {
+	leavesNone(t)
+	listener, err := net.Listen("tcp", address(ownHost, 0))
+	must(t, err)
+	defer listener.Close()
+	raw, err := listener.(*net.TCPListener).SyscallConn()
+	must(t, err)
+	// One connection waits to be accepted, and no other one. Who comes then is heard a second later.
+	must(t, raw.Control(func(descriptor uintptr) { err = syscall.Listen(int(descriptor), 0) }))
+	must(t, err)
+	waits, err := net.Dial("tcp", listener.Addr().String())
+	must(t, err)
+	defer waits.Close()
+	time.AfterFunc(300*time.Millisecond, func() {
+		if conn, err := listener.Accept(); err == nil {
+			conn.Close()
+		}
+	})
+	ring, before := newRing(listener.Addr().(*net.TCPAddr).Port, 2), time.Now()
+	ring.Timeout = 1500 * time.Millisecond
+	_, _, err = ring.Latest(background(t), "red", 1)
+	as[*NoAnswerError](t, err)
+	took := time.Since(before)
+	same(t, took > 1400*time.Millisecond && took < 1900*time.Millisecond, true)
 }
 
 func TestAlreadyIsOfAnotherProcess(t *testing.T) {
