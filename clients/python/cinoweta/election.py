@@ -5,8 +5,8 @@ from collections.abc import Iterator
 from typing import TYPE_CHECKING, NamedTuple
 
 from . import status
-from .errors import (AlreadyStands, CinowetaError, DeviceFailed, Late, LimitReached, NoAnswer, NoLeader, Retired, Stale,
-                     WrongRing)
+from .errors import (AlreadyStands, CinowetaError, DeviceFailed, Late, LimitReached, NoAnswer, NodeFailed, NoLeader,
+                     Retired, Stale, WrongRing)
 from .pause import Pause
 
 if TYPE_CHECKING:
@@ -47,13 +47,11 @@ def random_bid(rank: int) -> int:
 
 
 class Campaign:
-    """Stands for one term after the other, each with one bid, until one above `gone` has a leader. Where that is who
-    calls, the terms more than `keep` below its own are retired."""
+    """Stands for one term after the other, each with one bid, until one above `gone` has a leader. No Stand is for a
+    term up to `above`; who leads there is none that is gone."""
 
-    def __init__(self, ring: "Ring", group: str, gone: int, bid: int, node: int | None, keep: int = KEEP) -> None:
-        if keep < 0:
-            raise ValueError("who leads keeps 0 terms or more")
-        self.ring, self.group, self.gone, self.bid, self.keep = ring, group, gone, bid, keep
+    def __init__(self, ring: "Ring", group: str, gone: int, bid: int, node: int | None, above: int = 0) -> None:
+        self.ring, self.group, self.gone, self.bid, self.above = ring, group, gone, bid, above
         first = secrets.randbelow(ring.nodes) + 1 if node is None else node
         # The nodes at which it may stand, the first of them first.
         self.places = [(first - 1 + step) % ring.nodes + 1 for step in range(ring.nodes if node is None else 1)]
@@ -61,18 +59,16 @@ class Campaign:
 
     def run(self, terms: int, seconds: float) -> Election:
         """Stands for so many terms at most, and waits so long in each."""
-        known = self.known()
-        for term in range(self.gone + 1, self.gone + 1 + terms):
+        known, least = self.known(), max(self.gone, self.above)
+        for term in range(least + 1, least + 1 + terms):
             if known is None:
                 self.stand(term)
                 known = self.wait(seconds)
         if known is None:
-            raise NoLeader(f"{self.group}: no leader in {terms} terms above {self.gone}{self.fault()}")
+            raise NoLeader(f"{self.group}: no leader in {terms} terms above {least}{self.fault()}")
         is_mine = known in self.stood
         if not is_mine and known.leader.bid == self.bid and any(term == known.term for term, _ in self.stood):
             raise WrongRing(f"who stood at node {self.places[0]} leads at node {known.leader.node}: give all ports")
-        if is_mine:
-            self.retire(known.term - self.keep)
         return Election(known.term, known.leader, is_mine)
 
     def retire(self, floor: int) -> None:
@@ -89,20 +85,23 @@ class Campaign:
 
     def stand(self, term: int) -> None:
         """Stands for the term where it may. Not where somebody else does, or leads in a greater term, who comes to be
-        known then. A node that stood as often as it may is passed by, where another one may be taken."""
+        known then. A node that stood as often as it may, or does not answer, is passed by, where another one may be
+        taken."""
         for number, place in enumerate(self.places, 1):
             candidate = Leader(place, self.bid)
             try:
                 self.ring.stand(self.group, term, self.bid, place)
                 self.stood.add((term, candidate))
                 return
-            except (NoAnswer, DeviceFailed):
+            except (NodeFailed, DeviceFailed):
                 # It may have been accepted, and nobody else has the bid.
                 self.stood.add((term, candidate))
                 raise
             except (AlreadyStands, Late, Stale, Retired):
                 return
-            except LimitReached:
+            except (NoAnswer, LimitReached) as fault:
+                if isinstance(fault, NoAnswer):
+                    self.stood.add((term, candidate))
                 if number == len(self.places):
                     raise
 

@@ -81,14 +81,17 @@ class Lock:
         self.across = is_across(ring, across_hosts)
         if self.across and text:
             raise ValueError("across hosts a holder tells no text")
+        if keep < 0:
+            raise ValueError("who leads keeps 0 terms or more")
         self.ring, self.group, self.rank, self.patience, self.text = ring, group, rank, patience, text
         self.keep = keep
         self.wait = float("inf") if wait is None else wait
         # What looks whether the lock is lost waits for no other question, and is not waited for long.
         self.looks = ring.within(EVERY)
         self.sign: Beacon | Presence | None = None
-        # The term in which it leads or led, the greatest one that is over for it, and when the ring was asked.
-        self.term, self.gone, self.asked = 0, 0, 0.0
+        # The term in which it leads or led; that of the last holder that is gone, and the number that its own is above;
+        # and when the ring was asked.
+        self.term, self.gone, self.above, self.asked = 0, 0, 0, 0.0
 
     def acquire(self, tell: Callable[[str], object] = lambda _text: None) -> None:
         """Waits until this process leads, and sets `term`; `tell` is told for whom it waits."""
@@ -96,7 +99,7 @@ class Lock:
             raise ValueError(f"{self.group}: the lock is held")
         self.sign = Presence(self.ring, self.group, self.rank) if self.across else Beacon(self.rank, self.text)
         try:
-            self.contend(Campaign(self.ring, self.group, self.gone, self.sign.bid, None, self.keep), tell)
+            self.contend(Campaign(self.ring, self.group, self.gone, self.sign.bid, None, self.above), tell)
         except BaseException:
             self.resign()
             raise
@@ -110,6 +113,8 @@ class Lock:
                 election = campaign.run(TERMS, SECONDS)
                 if election.is_mine and self.show(election):
                     self.term, self.asked = election.term, time.monotonic()
+                    # Others see it by now, however long this takes.
+                    campaign.retire(election.term - self.keep)
                     return
                 if not election.is_mine:
                     self.await_end(Led(election.term, election.leader), pause, tell)
@@ -185,8 +190,8 @@ class Lock:
 
     def resign(self, above: int = 0) -> None:
         """Gives the lock back: who waits sees it at once, across hosts after some two seconds. Where this one takes it
-        again its term is above this number, as the one that turned a write away."""
-        self.gone = max(self.gone, self.term, above)
+        again its term is above this number, as the one that turned a write away, whose holder is not gone for that."""
+        self.gone, self.above = max(self.gone, self.term), max(self.above, above)
         if self.sign is not None:
             self.sign.close()
             self.sign = None

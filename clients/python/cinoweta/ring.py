@@ -8,14 +8,15 @@ from typing import NoReturn
 
 from . import election
 from .election import KEEP, Campaign, Election, Leader, Led
-from .errors import AlreadyStands, NoAnswer, Retired, WrongRing, refusal
+from .errors import AlreadyStands, DeviceFailed, NoAnswer, NodeFailed, Retired, WrongRing, refusal
 from .host import OWN, require
 from .session import Session
 
 # A node takes so many Stands. No more of them that got no answer are remembered.
 STANDS = 1_024
-# An answer is waited for so long, in seconds, before another node is asked.
-PATIENCE = 3.0
+# A session and its answer are waited for so long, in seconds, before another node is asked, the last ones so long at
+# least.
+PATIENCE, LEAST = 3.0, 0.05
 WHO = re.compile(r"leader (\d+) (\d+)")
 LATEST = re.compile(r"term (\d+) leader (\d+) (\d+)")
 
@@ -41,7 +42,8 @@ class Ring:
         self.has_answered = False
         self.session: Session | None = None
         self.lock = threading.RLock()
-        # Stands that this process sent, and that got no answer, the oldest first: each may have been accepted.
+        # Stands that this process sent, and that got no answer, or that of a failed device, the oldest first: each may
+        # have been accepted.
         self.unanswered: dict[tuple[int, int, str], None] = {}
 
     @classmethod
@@ -63,6 +65,10 @@ class Ring:
             if fault.text != f"already {bid}" or (os.getpid(), node, line) not in self.unanswered:
                 raise
             return
+        except (NodeFailed, DeviceFailed):
+            # It may be in the node's file.
+            self.remember(line, node)
+            raise
         if answer != "stood":
             self.wrong(answer)
 
@@ -105,8 +111,14 @@ class Ring:
     def campaign_with(self, bid: int, group: str, gone: int = 0, node: int | None = None, terms: int = 3,
                       seconds: float = 5.0, keep: int = KEEP) -> Election:
         """`campaign` with this bid, which no other process may have."""
+        if keep < 0:
+            raise ValueError("who leads keeps 0 terms or more")
         try:
-            return Campaign(self, group, gone, bid, node, keep).run(terms, seconds)
+            campaign = Campaign(self, group, gone, bid, node)
+            election = campaign.run(terms, seconds)
+            if election.is_mine:
+                campaign.retire(election.term - keep)
+            return election
         finally:
             self.close()
 
@@ -125,7 +137,7 @@ class Ring:
             while True:
                 place = node or self.place
                 try:
-                    answer = self.ask_once(line, place, min(PATIENCE, self.timeout))
+                    answer = self.ask_once(line, place, max(LEAST, min(PATIENCE, until - time.monotonic())))
                     self.has_answered = True
                     break
                 except OSError as fault:
@@ -143,20 +155,24 @@ class Ring:
         return answer
 
     def ask_once(self, line: str, place: int, seconds: float) -> str:
-        """The answer of this node, over the session that is open with it, or over a new one."""
-        port = self.first + place - 1
+        """The answer of this node within so many seconds, over the session that is open with it, or over a new one."""
+        port, until = self.first + place - 1, time.monotonic() + seconds
         if self.session is not None and (self.session.port != port or not self.session.is_usable()):
             self.close()
         if self.session is None:
             self.session = Session(self.host, port, seconds)
         try:
-            return self.session.ask(line, seconds)
+            return self.session.ask(line, max(LEAST, until - time.monotonic()))
         except BaseException:
             if line.startswith("stand "):
-                self.unanswered[os.getpid(), place, line] = None
-                if len(self.unanswered) > STANDS:
-                    del self.unanswered[next(iter(self.unanswered))]
+                self.remember(line, place)
             raise
+
+    def remember(self, line: str, place: int) -> None:
+        """Remembers a Stand of this process that the node may have accepted."""
+        self.unanswered[os.getpid(), place, line] = None
+        if len(self.unanswered) > STANDS:
+            del self.unanswered[next(iter(self.unanswered))]
 
     def within(self, seconds: float) -> "Ring":
         """The same ring, over sessions of its own, and so that an answer is not waited for longer than that."""

@@ -85,6 +85,23 @@ class RingTest(Beside):
         ring.timeout = 3.0
         self.assertIsNone(ring.latest("blue", node=1))
 
+    def test_the_last_try_takes_no_longer_than_is_left(self) -> None:
+        ring, _ = self.ring(lambda _line: time.sleep(5.0), deaf, timeout=1.0)
+        before = time.monotonic()
+        with mock.patch("cinoweta.ring.PATIENCE", 0.6), self.assertRaises(NoAnswer):
+            ring.latest("red", node=1)
+        self.assertTrue(0.9 < time.monotonic() - before < 1.2)
+
+    def test_a_stand_may_be_there_though_the_device_failed(self) -> None:
+        for fault in ("no 9 failed", "no 15 device 1"):
+            ring, _ = self.ring(first(fault, "no 3 already 10", "no 3 already 10"), first("no 3 already 10"))
+            with self.assertRaises(Refused):
+                ring.stand("red", 5, 10)
+            ring.stand("red", 5, 10)
+            for node, bid in ((1, 11), (2, 10)):
+                with self.assertRaises(AlreadyStands):
+                    ring.stand("red", 5, bid, node=node)
+
     def test_a_question_that_was_left_ends_its_session(self) -> None:
         ring, _ = self.ring(lambda line: "term 5 leader 1 10" if line == "latest red" else "none", deaf)
         ring.latest("blue")
@@ -191,6 +208,20 @@ class CampaignTest(Beside):
 
         nodes[0].answer = decided
         self.assertFalse(ring.campaign_with(10, "red", node=1, seconds=0.1).is_mine)
+
+    def test_goes_to_another_node_where_one_does_not_answer(self) -> None:
+        votes = Votes()
+
+        def busy(line: str) -> str | None:
+            return None if line.startswith("stand") else votes(line)
+
+        ring, nodes = self.ring(busy, votes, timeout=0.2)
+        with mock.patch("cinoweta.election.secrets.randbelow", return_value=0):
+            self.assertTrue(ring.campaign("red", seconds=0.1).is_mine)
+            nodes[1].answer = busy
+            with self.assertRaises(NoAnswer):
+                ring.campaign("red", gone=1, seconds=0.1)
+        self.assertEqual([bool(node.stands()) for node in nodes], [True, True])
 
     def test_stops_where_no_stand_is_taken(self) -> None:
         for answer, kind in (("no 7 full", Full), ("no 9 failed", NodeFailed), ("no 6 limit", LimitReached)):
