@@ -16,9 +16,10 @@ from .lock import holder as holder_of
 from .ring import Ring
 from .words import arguments
 
-NONE, WORDS, NO_ANSWER, NO_LEADER, LOST, TAKEN = 1, 2, 3, 4, 5, 6
+NONE, WORDS, NO_ANSWER, NO_LEADER, LOST, TAKEN, SYSTEM = 1, 2, 3, 4, 5, 6, 7
 CODES = {NoAnswer: NO_ANSWER, NoLeader: NO_LEADER, LockTaken: TAKEN}
-NO_PROGRAM = 127
+# As a shell has it.
+NOT_STARTED, NO_PROGRAM = 126, 127
 # The status of a refusal is its number and this.
 REFUSED = 10
 
@@ -76,7 +77,7 @@ def tell_fault(told: argparse.Namespace, fault: Exception, place: str = "") -> i
         code = REFUSED + fault.number
         values |= {"refusal": fault.number, "text": fault.text}
     elif isinstance(fault, OSError):
-        code = NO_ANSWER
+        code = SYSTEM
     print(json.dumps(values) if told.json else f"cinoweta: {place}{fault}", file=sys.stderr)
     return code
 
@@ -176,12 +177,22 @@ def lock(told: argparse.Namespace) -> int:
                 across_hosts=told.across_hosts)
     try:
         held.acquire(lambda text: print(f"cinoweta: {told.group}: {text}", file=sys.stderr, flush=True))
-        code = held.run(told.run, told.grace)
+        code = run_held(held, told)
     finally:
         held.resign()
     if code is None:
         print(f"cinoweta: {told.group}: term {held.term} is over: a greater one is known", file=sys.stderr)
     return LOST if code is None else code
+
+
+def run_held(held: Lock, told: argparse.Namespace) -> int | None:
+    """Runs the command while the lock is held: its exit status, or None where the lock was lost."""
+    try:
+        return held.run(told.run, told.grace)
+    except OSError as fault:
+        # The ring's faults are none of these.
+        print(f"cinoweta: {told.run[0]}: {fault.strerror}", file=sys.stderr)
+        return NOT_STARTED
 
 
 def holder(told: argparse.Namespace) -> int:

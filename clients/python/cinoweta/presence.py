@@ -1,5 +1,6 @@
 """A holder of a lock that clients of other hosts see: while it is there, a session of its is open with the node where it
 leads, of which `ringd --status` tells as `present`."""
+import os
 import secrets
 import threading
 import time
@@ -34,7 +35,7 @@ class Presence:
         self.bid = rank * RANK + secrets.randbelow(RANK)
         self.term, self.port = 0, 0
         self.session: Session | None = None
-        self.over = threading.Event()
+        self.over, self.process = threading.Event(), os.getpid()
 
     def show(self, term: int, node: int) -> None:
         """Shows that it is there, where it leads. `NoAnswer` where the node does not answer, `Refused` where it does not
@@ -75,22 +76,24 @@ class Presence:
             session.close()
 
     def close(self) -> None:
-        """Ends the session, which others see as soon as they look."""
+        """Ends the session, which others see as soon as they look. In a process that was forked meanwhile it is that of
+        the parent, whose own goes on."""
         self.over.set()
         session = self.session
-        if session is not None:
+        if session is not None and self.process == os.getpid():
             session.end()
 
 
 def is_there(ring: "Ring", group: str, known: "Led", seconds: float) -> bool:
-    """Whether who leads so is present within so many seconds. `NoAnswer` where the status port does not answer,
-    `WrongRing` where it does not come to know this leader."""
-    until = time.monotonic() + seconds
+    """Whether who leads so is present within so many seconds of the first answer, which may come late, as behind a
+    start. `NoAnswer` where the status port does not answer, `WrongRing` where it does not come to know this leader."""
+    until: float | None = None
     while True:
         term, node, bid, is_present = status.leader(ring.status or 0, group, known.leader.node, host=ring.host) or NOBODY
         is_known = (term, node, bid) == (known.term, *known.leader)
         if term > known.term or is_known and is_present:
             return is_known
+        until = time.monotonic() + seconds if until is None else until
         left = until - time.monotonic()
         if left <= 0 and not is_known:
             where = f"{ring.host}:{ring.status}"

@@ -22,7 +22,9 @@ def run(command: list[str], names: dict[str, str], is_lost: Callable[[], bool], 
         elif number != signal.SIGINT:
             process.send_signal(number)
 
-    before = {number: signal.signal(number, hand_on) for number in (*HANDED_ON, signal.SIGINT)}
+    # One that is ignored here, as by nohup, is ignored by the command too.
+    taken = [number for number in (*HANDED_ON, signal.SIGINT) if signal.getsignal(number) is not signal.SIG_IGN]
+    before = {number: signal.signal(number, hand_on) for number in taken}
     try:
         process = subprocess.Popen(command, env={**os.environ, **names})
         for number in early:

@@ -1,15 +1,25 @@
 """A Lock beside servers of lines that answer as they are told."""
+import contextlib
+import io
 import os
+import signal
+import socket
+import subprocess
+import sys
+import tempfile
 import threading
 import time
 import unittest
 from unittest import mock
 
 from cinoweta import Holder, Leader, Lock, LockTaken, NoAnswer, NoLeader, Ring, holder
-from cinoweta.beacon import Beacon, is_there, port_of
+from cinoweta.beacon import SPREAD, Beacon, is_there, port_of
+from cinoweta.command import main
 
 from .lines import Node, Votes
 from .test_ring import Beside, deaf
+
+PACKAGE = os.path.dirname(os.path.dirname(__file__))
 
 
 class Outage:
@@ -125,17 +135,27 @@ class LockTest(Beside):
         self.assertTrue(0.5 <= time.monotonic() - before < 2.0)
 
     def test_a_ring_that_refuses_is_waited_for(self) -> None:
-        for fault in ("6 limit", "7 full", "8 memory", "9 failed", "15 device 1"):
+        # A Stand is there or not where the device failed, and the node answers for it once it was started again.
+        for fault, stands in (("6 limit", False), ("7 full", False), ("8 memory", False), ("9 failed", False),
+                              ("9 failed", True), ("15 device 1", False), ("15 device 1", True)):
             self.votes = Votes()
             ring, nodes = self.votes_ring()
-            # A Stand is there or not where the device failed, and the node answers for it once it was started again.
-            stands = fault.startswith("15")
             nodes[0].answer = nodes[1].answer = Refusing(self.votes, f"no {fault}", 6, stands)
             told: list[str] = []
             lock = self.lock(ring)
             lock.acquire(told.append)
-            self.assertEqual((lock.term, lock.is_lost(), len(self.votes.stood)), (1, False, 1), fault)
+            self.assertEqual((lock.term, lock.is_lost(), len(self.votes.stood)), (1, False, 1), (fault, stands))
             self.assertEqual(told, [f"waits for the ring: no {fault}"])
+
+    def test_a_node_that_does_not_answer_is_passed_by(self) -> None:
+        ring, nodes = self.votes_ring(timeout=0.2)
+        nodes[0].answer = deaf
+        told: list[str] = []
+        with mock.patch("cinoweta.election.SECONDS", 0.01), self.lock(ring) as lock:
+            lock.resign()
+            lock.acquire(told.append)
+            self.assertEqual((lock.term, lock.is_lost(), told), (2, False, []))
+        self.assertEqual([bool(node.stands()) for node in nodes], [True, True])
 
     def test_a_ring_that_elects_nobody_is_waited_for_so_long(self) -> None:
         self.votes = Votes(elects=False)
@@ -191,6 +211,45 @@ class LockTest(Beside):
         with held:
             self.assertEqual(held.term, 42)
 
+    def test_the_holder_that_turned_it_away_is_not_gone(self) -> None:
+        ring, _ = self.votes_ring()
+        late, other = self.lock(ring, wait=0.0), self.lock(ring)
+        late.acquire()
+        self.votes.leaders[8] = (2, 0)
+        with other:
+            self.assertEqual(other.term, 9)
+            late.resign(other.term)
+            with self.assertRaises(LockTaken):
+                late.acquire()
+            self.assertEqual((other.is_lost(), sorted(self.votes.stood)), (False, [1, 9]))
+        with late:
+            self.assertEqual(late.term, 10)
+
+    def test_what_the_system_refuses_is_told(self) -> None:
+        ring, _ = self.votes_ring()
+        words = ["--ring", f"{ring.first}-{ring.ports[-1]}"]
+        with tempfile.TemporaryDirectory() as folder, open("/dev/full", "w") as full:
+            script = f"{folder}/script"
+            os.close(os.open(script, os.O_CREAT, 0o700))
+            for command, out, code, said in (
+                    (["lock", "red", "--", script], sys.stdout, 126, f"cinoweta: {script}: Exec format error\n"),
+                    (["latest", "red"], full, 7, "cinoweta: [Errno 28] No space left on device\n")):
+                with contextlib.redirect_stdout(out), contextlib.redirect_stderr(io.StringIO()) as err:
+                    self.assertEqual((main([*words, *command]), err.getvalue()), (code, said))
+            # What was not printed is not tried again.
+            with contextlib.suppress(OSError):
+                full.close()
+
+    def test_a_process_that_is_forked_leaves_it_to_its_parent(self) -> None:
+        ring, _ = self.votes_ring()
+        with self.lock(ring) as held:
+            child = os.fork()
+            if child == 0:
+                held.resign()
+                os._exit(0)
+            os.waitpid(child, 0)
+            self.assertTrue(is_there(self.votes.stood[1], 0.5))
+
 
 class BeaconTest(unittest.TestCase):
     def test_what_may_be_told(self) -> None:
@@ -209,8 +268,62 @@ class BeaconTest(unittest.TestCase):
         self.addCleanup(beacon.close)
         self.assertEqual(beacon.bid // 100_000_000, 3)
         self.assertTrue(is_there(beacon.bid, 1.0))
-        other = beacon.bid + (1 if port_of(beacon.bid + 1) == port_of(beacon.bid) else -1)
-        self.assertFalse(is_there(other, 1.0))
+        other, before = beacon.bid + (1 if port_of(beacon.bid + 1) == port_of(beacon.bid) else -1), time.monotonic()
+        self.assertFalse(is_there(other, 9.0))
+        self.assertLess(time.monotonic() - before, 5.0)
+
+    def test_it_goes_on_where_descriptors_were_wanting(self) -> None:
+        beacon = Beacon(0, "")
+        self.addCleanup(beacon.close)
+        with mock.patch("socket.socket.accept", side_effect=OSError(24, "Too many open files")) as accept:
+            # The thread waits in `accept` already, once.
+            self.assertTrue(is_there(beacon.bid, 1.0))
+            while not accept.called:
+                time.sleep(0.001)
+        self.assertTrue(is_there(beacon.bid, 1.0))
+
+    def test_one_fault_is_not_the_end_of_who_holds_it(self) -> None:
+        beacon = Beacon(0, "")
+        self.addCleanup(beacon.close)
+        connect, faults = socket.create_connection, iter([OSError(24, "Too many open files"), TimeoutError()])
+
+        def falters(*words: object) -> socket.socket:
+            for fault in faults:
+                raise fault
+            return connect(*words)
+
+        with mock.patch("socket.create_connection", side_effect=falters):
+            self.assertTrue(is_there(beacon.bid, 1.0))
+
+    def test_who_asked_late_asks_again(self) -> None:
+        server = socket.create_server(("127.0.0.1", 0))
+        self.addCleanup(server.close)
+        bid = server.getsockname()[1] * SPREAD
+
+        def answers() -> None:
+            # As a beacon does where it is asked nothing in time; and then as one of this bid.
+            for answer in (b"", b"%d\n" % bid):
+                with server.accept()[0] as connection:
+                    connection.recv(32)
+                    time.sleep(0.0 if answer else 0.5)
+                    connection.sendall(answer)
+
+        threading.Thread(target=answers, daemon=True).start()
+        self.assertTrue(is_there(bid, 5.0))
+
+
+class ProcessTest(unittest.TestCase):
+    def test_a_signal_that_is_ignored_is_ignored_by_the_command(self) -> None:
+        command = ["sh", "-c", "kill -HUP $PPID; kill -INT $PPID; sleep 0.2; kill -HUP $$; kill -INT $$; exit 7"]
+        code = f"from cinoweta.process import run; print(run({command}, {{}}, lambda: False, 1.0))"
+
+        def ignore() -> None:
+            for number in (signal.SIGHUP, signal.SIGINT):
+                signal.signal(number, signal.SIG_IGN)
+
+        told = subprocess.run([sys.executable, "-c", code], cwd=PACKAGE, text=True, preexec_fn=ignore,
+                              capture_output=True, timeout=30)
+        self.assertEqual((told.returncode, told.stdout), (0, "7\n"), told.stderr)
 
 
 if __name__ == "__main__":

@@ -1,5 +1,6 @@
 """Locks across hosts, beside servers of lines and of the status port that answer as they are told."""
 import json
+import os
 import threading
 import time
 from unittest import mock
@@ -94,6 +95,43 @@ class PresenceTest(Beside, BesideStatus):
             self.assertEqual(second.term, 2)
         with self.lock(ring, patience=0.0) as third:
             self.assertEqual((third.term, said), (3, []))
+
+    def test_it_is_present_before_nodes_retire(self) -> None:
+        ring, nodes = self.votes_ring()
+        self.votes.leaders[20] = (1, 5)
+        seen = []
+
+        def answer(line: str) -> str:
+            seen.extend([len(nodes[0].present)] * line.startswith("retire"))
+            return self.votes(line)
+
+        nodes[0].answer = nodes[1].answer = answer
+        with self.lock(ring, keep=3) as held:
+            self.assertEqual((held.term, self.votes.floor, seen), (21, 18, [1, 1]))
+
+    def test_a_process_that_is_forked_leaves_it_to_its_parent(self) -> None:
+        ring, nodes = self.votes_ring()
+        with self.lock(ring) as held:
+            child = os.fork()
+            if child == 0:
+                held.resign()
+                os._exit(0)
+            os.waitpid(child, 0)
+            before = nodes[0].lines.count("latest red")
+            self.until(lambda: nodes[0].lines.count("latest red") > before + 3)
+            self.assertEqual(len(nodes[0].stands()), 2)
+
+    def test_an_answer_that_is_late_says_nothing_of_the_time_before_it(self) -> None:
+        known = Led(5, Leader(1, 7))
+        answers = iter([(5, 1, 7, False), (5, 1, 7, True)])
+
+        def late(*_words: object, **_more: object) -> tuple[int, int, int, bool]:
+            answer = next(answers)
+            time.sleep(0.0 if answer[3] else 0.3)
+            return answer
+
+        with mock.patch("cinoweta.status.leader", side_effect=late):
+            self.assertTrue(is_there(Ring(7101, 7103, status=7100), "red", known, 0.2))
 
     def test_a_session_that_breaks_off_is_opened_anew(self) -> None:
         ring, nodes = self.votes_ring()
