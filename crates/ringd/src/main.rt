@@ -1,9 +1,11 @@
-//! `ringd` serves a ring of journalled nodes on 127.0.0.1.
+//! `ringd` serves a ring of journalled nodes.
 #![tactic(auto)]
 
 use ring_server::start;
 use std::alloc::{AllocError, Global};
+use std::fs::File;
 use std::io::ErrorKind;
+use std::os::fd::AsRawFd;
 use std::process::ExitCode;
 use std::{env, io};
 
@@ -28,11 +30,25 @@ fn take_words(rt: &HostRuntime) -> Result<Vec<String>, NoWords> {
     }
 }
 
+// Opens each standard stream that is closed, so that no file of the ring gets its number, over which a text would be
+// written then. The root folder can be neither read nor written as a stream.
+fn hold_streams(rt: &HostRuntime) -> [Option<File>; 3] {
+    let mut held: [Option<File>; 3] = Default::default();
+    for place in &mut held {
+        match File::open(rt, "/") {
+            Ok(file) if file.as_raw_fd() < 3 => *place = Some(file),
+            _ => break,
+        }
+    }
+    held
+}
+
 fn texts_of(alloc: Global, words: &[String]) -> Result<Vec<&str>, AllocError> {
     words.iter().map(|word| word.as_str()).collect(alloc)
 }
 
 fn main(rt: HostRuntime) -> ExitCode {
+    let _held = hold_streams(&rt);
     let alloc = rt.alloc();
     let words = match take_words(&rt) {
         Ok(words) => words,
