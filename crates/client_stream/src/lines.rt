@@ -2,19 +2,24 @@
 use crate::deadline::Deadline;
 use crate::transfer::{receive, send};
 use std::io;
-use std::io::{Read, Write};
+use std::io::{ErrorKind, Read, Write};
 use std::net::TcpStream;
 use std::sync::Wait;
 use std::time::{Clock, Duration};
 
+/// A client does not begin so, but a browser that posts what a page of anybody's has it send to any port.
+const POST: &[u8] = b"POST ";
+
 /// Reads the lines of a client, each of which has to be whole within the idle time. That begins with the session, and
-/// then when more is asked for than the lines that came: these are answered by then.
+/// then when more is asked for than the lines that came: these are answered by then. A session that begins as a POST of
+/// HTTP is at its end, refused as `InvalidData`.
 #[derive(Drop)]
 pub struct ClientReader<'a, R> {
     rt: &'a R,
     stream: &'a TcpStream,
     idle: Option<Duration>,
     deadline: Deadline,
+    has_begun: bool,
     has_line: bool,
 }
 
@@ -30,6 +35,7 @@ impl<'a, R: Clock> ClientReader<'a, R> {
             stream,
             idle,
             deadline: Deadline::after(rt, idle)?,
+            has_begun: false,
             has_line: false,
         })
     }
@@ -42,6 +48,10 @@ impl<'a, R: Wait + Clock> Read for ClientReader<'a, R> {
             self.has_line = false;
         }
         let count = receive(self.rt, self.stream, self.deadline, buf)?;
+        if !self.has_begun && buf[..count].starts_with(POST) {
+            return Err(io::Error::from(ErrorKind::InvalidData));
+        }
+        self.has_begun = true;
         self.has_line = buf[..count].contains(&b'\n');
         Ok(count)
     }

@@ -47,6 +47,42 @@ fn a_slow_line(rt: HostRuntime) {
     runs_anew(&rt, "slow", &SLOW);
 }
 
+/// Whether a client that posts a Stand, as a page may have a browser do, is told nothing, and has not stood.
+pub fn is_no_request<R: Net<Stream = TcpStream> + Clock>(rt: &R, port: u16) -> bool {
+    let Some(stream) = connect(rt, port) else {
+        return false;
+    };
+    let mut writer = &stream;
+    writer
+        .write_all(b"POST / HTTP/1.1\r\nContent-Length: 14\r\n\r\nstand red 8 5\n")
+        .is_ok()
+        && reads_to_the_end(&stream, b"")
+        && asks(rt, port, b"stand red 8 6\n", b"stood")
+}
+
+const POSTED: Scenario = Scenario {
+    ring: Ring::Program(
+        &["ringd", "--serve", "2"],
+        b"nodes = 2\ndir = \"posted\"\nport = 7332\n",
+    ),
+    visits: [
+        &[Visit::Posts(7332)],
+        &[
+            Visit::Asks(7333, b"who red 1\n", b"none"),
+            Visit::Asks(7333, b"who red 1\n", b"none"),
+        ],
+        &[],
+    ],
+    status: 0,
+    out: b"",
+    err: Some(b""),
+};
+
+#[test]
+fn what_a_browser_posts(rt: HostRuntime) {
+    runs_anew(&rt, "posted", &POSTED);
+}
+
 /// The first line, and so many times the second.
 fn repeated<R: AllocGlobal>(rt: &R, first: &[u8], line: &[u8], count: u32) -> Option<Vec<u8>> {
     let mut lines = Vec::new(rt.alloc());

@@ -5,7 +5,9 @@ use crate::devices::{awaits, stands_until_it_fails};
 use crate::doors::side_by_side;
 use crate::http::{Question, is_answered};
 use crate::news::{fills, short_sessions};
-use crate::sessions_ends::{is_answered_whole, is_left_within_a_line, is_passed_over};
+use crate::sessions_ends::{
+    is_answered_whole, is_left_within_a_line, is_no_request, is_passed_over,
+};
 use crate::status::{is_left_after, is_served_beside, measures_heads, stands_until};
 use std::alloc::AllocGlobal;
 use std::net::{Net, TcpStream};
@@ -40,6 +42,8 @@ pub enum Visit {
     IsSlow(u16),
     /// All answers come where 31,000 bytes stand behind `bye`, in so many sessions.
     SendsMore(u16, u32),
+    /// It posts a Stand, is told nothing, and has not stood.
+    Posts(u16),
     /// It takes no answer, and the door is free again.
     TakesNone(u16),
     /// It stands in all terms, is answered so, and its node leads them.
@@ -119,6 +123,7 @@ fn comes_out<R: Net<Stream = TcpStream> + Clock + AllocGlobal>(
         Visit::SideBySide(port) => side_by_side(rt, port),
         Visit::IsSlow(port) => is_left_within_a_line(rt, port),
         Visit::SendsMore(port, sessions) => is_answered_whole(rt, port, sessions),
+        Visit::Posts(port) => is_no_request(rt, port),
         Visit::TakesNone(port) => is_passed_over(rt, port),
         Visit::LeadsAll(port, stands) => leads_all_terms(rt, port, stands),
         Visit::IsShort(port, count) => short_sessions(rt, port, count),
