@@ -59,12 +59,16 @@ impl Lobby {
             revents: 0,
         }; PLACES + 1];
         signs[0].fd = listener.as_raw_fd();
-        for (visitor, sign) in self.places.iter().zip(&mut signs[1..]) {
+        let mut asked = 1usize;
+        for ((at, visitor), sign) in self.places.iter().enumerate().zip(&mut signs[1..]) {
             if let Some(visitor) = visitor {
                 sign.fd = visitor.as_raw_fd();
+                asked = at.saturating_add(2);
             }
         }
-        if poll(&mut signs, self.rest(rt)) < 0 {
+        // The system takes no more of them than a program may have descriptors. Free places are taken from the first on.
+        let asked = asked.min(PLACES + 1);
+        if poll(&mut signs[..asked], self.rest(rt)) < 0 {
             rt.sleep(Duration::from_millis(1));
         }
         signs
