@@ -9,6 +9,7 @@ ghost use Rattle.ring_server.specs.Fits.{found_as, kept_by, number_of};
 ghost use Rattle.ring_server.specs.Written.{HoldsAll, IsReady, IsTried};
 
 use crate::found::{Found, NewNode};
+use crate::made::Made;
 use crate::open_node::OpenNode;
 use crate::ready::Ready;
 use crate::unopened::{Answer, Place, Unopened};
@@ -165,23 +166,6 @@ fn create<R: Files<File = File>>(
     match FileDevice::create(alloc, rt, path) {
         Ok(device) => format(alloc, device, node, nodes, capacity),
         Err(fault) => Err(refusal_of(&fault)),
-    }
-}
-
-/// What a start makes: these nodes, of which the last ones may not be there, and perhaps `ring.made`.
-#[derive(Drop)]
-pub(crate) struct Made {
-    pub(crate) nodes: Vec<NodeNo>,
-    pub(crate) is_marked: bool,
-}
-
-impl Made {
-    /// Nothing yet.
-    pub(crate) fn new(alloc: Global) -> Made {
-        Made {
-            nodes: Vec::new(alloc),
-            is_marked: false,
-        }
     }
 }
 

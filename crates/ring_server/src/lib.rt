@@ -15,6 +15,7 @@ mod held;
 mod inbox;
 mod links;
 mod look_over;
+mod made;
 mod node;
 mod open_node;
 mod opening;

@@ -3,16 +3,17 @@ ghost use Rattle.std.specs.Prelude.{◌≡◌, ◌≤◌, length, IfOk};
 ghost use Rattle.ring_server.specs.Fits.{found_as, IsInOrder, Fits};
 ghost use Rattle.ring_server.specs.Written.{ready_as, AreReady};
 
-use crate::folder::{Folder, Made};
+use crate::folder::Folder;
 use crate::found::Found;
 use crate::look_over::look_over;
+use crate::made::Made;
 use crate::ready::Ready;
 use crate::run_fault::RunFault;
 use crate::unopened::Unopened;
 use disk_model::FileDevice;
 use ring_records::{NodeNo, Refusal};
 use ring_service::Settings;
-use std::alloc::{AllocError, Global};
+use std::alloc::Global;
 use std::fs::File;
 use std::rt::Files;
 
@@ -82,7 +83,7 @@ fn find_nodes<R: Files<File = File>>(
 }
 
 /// The nodes that were found, as they may be served: each was made by this start, or made a checkpoint, or can make none.
-/// They go on from what was found. Which nodes are to be made is told in `made` first.
+/// They go on from what was found. `made` gets those that this start makes.
 pub(crate) fn open_ring<R: Files<File = File>>(
     rt: &R,
     alloc: Global,
@@ -103,17 +104,7 @@ pub(crate) fn open_ring<R: Files<File = File>>(
     Ok(ring)
 }
 
-/// Tells which nodes are to be made.
-fn note_new(made: &mut Made, found: &[Found<FileDevice>]) -> Result<(), AllocError> {
-    for node in found {
-        if node.is_new() {
-            made.nodes.push(node.number())?;
-        }
-    }
-    Ok(())
-}
-
-/// Each node that was found, in this order. Those that are to be made are told in `made` first.
+/// Each node that was found, in this order. `made` gets those that are made.
 fn make_ready<R: Files<File = File>>(
     rt: &R,
     alloc: Global,
@@ -123,14 +114,17 @@ fn make_ready<R: Files<File = File>>(
 ) -> Result<Vec<Ready<FileDevice>>, RunFault>
     ensures { IfOk result (λ ring. AreReady found.items ring.items) }
 {
-    note_new(made, &found)?;
-    let mut ring = Vec::new(alloc);
+    // There is room for all, so a node that is made is also told.
+    made.nodes.reserve(found.len())?;
+    let mut ring = Vec::with_capacity(alloc, found.len())?;
     for node in found {
         let number = node.number();
+        let is_new = node.is_new();
         match folder.ready(rt, alloc, node) {
             Ok(ready) => ring.push(ready)?,
             Err(why) => return Err(RunFault::Node(number, why)),
         }
+        made.note(number, is_new)?;
     }
     Ok(ring)
 }

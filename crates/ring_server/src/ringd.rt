@@ -5,8 +5,9 @@ ghost use Rattle.ring_service.specs.Words.{IsIn};
 ghost use Rattle.ring_server.specs.Fits.{found_as, IsInOrder, Fits};
 
 use crate::check::tell_ring;
-use crate::folder::{Folder, Made};
+use crate::folder::Folder;
 use crate::found::Found;
+use crate::made::Made;
 use crate::opening::{find_ring, open_ring};
 use crate::ports::Ports;
 use crate::post::Post;
@@ -73,11 +74,13 @@ fn tell_words<O: Write, E: Write>(error: &Error, out: &mut O, err: &mut E) -> u8
         let _ = writeln!(err, "ringd: {fault}");
         return fault.status();
     }
-    let _ = if error.use_stderr() {
-        write!(err, "{error}")
-    } else {
-        write!(out, "{error}")
-    };
+    if error.use_stderr() {
+        let _ = write!(err, "{error}");
+    } else if write!(out, "{error}").is_err() {
+        let fault = RunFault::Output;
+        let _ = writeln!(err, "ringd: {fault}");
+        return fault.status();
+    }
     (error.exit_code() % 256) as u8
 }
 

@@ -52,10 +52,10 @@ struct Book {
 }
 
 impl Book {
-    /// The node has failed so.
+    /// The node has failed so. A cause that is known already stays.
     fn fail(&mut self, node: NodeNo, cause: Option<ErrorKind>) {
         if let Some(told) = self.causes.get_mut(place(node)) {
-            *told = cause;
+            *told = told.or(cause);
         }
         if let Some(word) = self.failed.get_mut(place(node)) {
             word.ask();

@@ -182,11 +182,13 @@ fn no_folder_and_a_port_in_use(rt: HostRuntime) {
 fn an_output_that_takes_nothing(rt: HostRuntime) -> Result<(), Fail> {
     fs::write(&rt, "read-only", b"".as_slice())?;
     let mut out = File::open(&rt, "read-only")?;
-    let mut err = Vec::new(rt.alloc());
     let settings = b"nodes = 3\ndir = \"a\"\nport = 1\n".as_slice();
-    let status = start(&rt, rt.alloc(), NONE, &mut &*settings, &mut out, &mut err);
-    assert!(rt; status == 1);
-    assert!(rt; err.as_slice() == b"ringd: output cannot be written\n".as_slice());
+    for said in &[NONE, &["ringd", "--version"]] {
+        let mut err = Vec::new(rt.alloc());
+        let status = start(&rt, rt.alloc(), said, &mut &*settings, &mut out, &mut err);
+        assert!(rt; status == 1);
+        assert!(rt; err.as_slice() == b"ringd: output cannot be written\n".as_slice());
+    }
     fs::remove_file(&rt, "read-only")?;
     Ok(())
 }
