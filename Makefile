@@ -15,11 +15,13 @@
 # syncs: the system calls of bin/ringd: whether what an answer rests on was synced before.
 # fuzz: both programs, given what nobody would give them; FUZZ has words of trials/fuzz.py.
 # hangs: one sync of bin/ringd takes 14 seconds, and the status port says so.
+# starts: bin/ringd is started with standard streams closed, and with few descriptors.
 # faults, growths: each call of the system that a ring makes fails in turn, and each growth of the programs is refused.
 # flips: each byte of the files of a ring by bin/ringd is changed, one at a time: whether a start refuses it, or what is answered then.
 # load: bin/ringd under load; LOAD has further words of bench/load.py.
 .PHONY: run test wrong_bodies bench clean always
 .PHONY: ringd install serve fencing clients picture pictures kills years earlier load short threads scrapes writeback syncs fuzz faults growths hangs flips
+.PHONY: starts
 
 run:
 	@bench/try.sh examples/first_election.ring
@@ -106,6 +108,9 @@ syncs: bin/ringd
 
 hangs: bin/ringd
 	@trials/hangs.py
+
+starts: bin/ringd
+	@trials/starts.py
 
 fuzz: bin/ringctl bin/ringd
 	@trials/fuzz.py $(FUZZ)
