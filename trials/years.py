@@ -10,7 +10,8 @@ of its three nodes, 65,536 by default.
 In each of four groups two clients of the package cinoweta campaign for one term after the other. Who comes to lead
 retires at all nodes the terms more than 10 below its own, asks who leads, and resigns; the other one takes it for gone
 0.02 seconds after it knows of it. Half way, behind a whole minute, ringd is killed with signal 9 and started again on its
-folder, while the clients go on; then each node is asked again for all that is known of it, as it is at the end.
+folder, while the clients go on; then each node is asked again for all that is known of it, as it is at the end. Its
+environment has MALLOC_ARENA_MAX=1, as in examples/ringd.service, unless the caller's says another number.
 
 Each minute has a line `minute N elections E memory K files B threads T descriptors D stand P`: the groups and terms of
 which a leader was named so far; of ringd its resident memory in KiB, the bytes of the files in its folder, its threads
@@ -348,6 +349,7 @@ def main() -> int:
     words = parser.parse_args()
     if not os.access(words.ringd, os.X_OK):
         parser.error(f"{words.ringd} is not there; make ringd builds bin/ringd")
+    os.environ.setdefault("MALLOC_ARENA_MAX", "1")
     try:
         return run(Years(os.path.abspath(words.ringd), words.seed, words.capacity), words.minutes)
     except KeyboardInterrupt:
