@@ -54,7 +54,7 @@ pub fn is_no_request<R: Net<Stream = TcpStream> + Clock>(rt: &R, port: u16) -> b
     };
     let mut writer = &stream;
     writer
-        .write_all(b"POST / HTTP/1.1\r\nContent-Length: 14\r\n\r\nstand red 8 5\n")
+        .write_all(b"POST / HTTP/1.1\r\nContent-Length: 18\r\n\r\nstand red 8 5\nbye\n")
         .is_ok()
         && reads_to_the_end(&stream, b"")
         && asks(rt, port, b"stand red 8 6\n", b"stood")
