@@ -5,8 +5,8 @@ from collections.abc import Iterator
 from typing import TYPE_CHECKING, NamedTuple
 
 from . import status
-from .errors import (AlreadyStands, CinowetaError, DeviceFailed, Late, LimitReached, NoAnswer, NodeFailed, NoLeader,
-                     Retired, Stale, WrongRing)
+from .errors import (FAILED, AlreadyStands, CinowetaError, Late, LimitReached, NoAnswer, NoLeader, Retired, Stale,
+                     WrongRing)
 from .pause import Pause
 
 if TYPE_CHECKING:
@@ -37,6 +37,12 @@ class Election(NamedTuple):
     term: int
     leader: Leader
     is_mine: bool
+
+
+def require_keep(keep: int) -> int:
+    if keep < 0:
+        raise ValueError("who leads keeps 0 terms or more")
+    return keep
 
 
 def random_bid(rank: int) -> int:
@@ -93,16 +99,13 @@ class Campaign:
                 self.ring.stand(self.group, term, self.bid, place)
                 self.stood.add((term, candidate))
                 return
-            except (NodeFailed, DeviceFailed):
-                # It may have been accepted, and nobody else has the bid.
-                self.stood.add((term, candidate))
-                raise
             except (AlreadyStands, Late, Stale, Retired):
                 return
-            except (NoAnswer, LimitReached) as fault:
-                if isinstance(fault, NoAnswer):
+            except (NoAnswer, LimitReached, *FAILED) as fault:
+                if not isinstance(fault, LimitReached):
+                    # It may have been accepted, and nobody else has the bid.
                     self.stood.add((term, candidate))
-                if number == len(self.places):
+                if isinstance(fault, FAILED) or number == len(self.places):
                     raise
 
     def wait(self, seconds: float) -> Led | None:

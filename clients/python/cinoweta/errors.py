@@ -90,6 +90,8 @@ class Undecided(Refused):
     """26: the floor is above the latest term of the group that has a leader, as far as the node knows."""
 
 
+# Where the node's device failed. A Stand that was on its way then may be accepted all the same.
+FAILED = (NodeFailed, DeviceFailed)
 # What time or an operator mends, as a start or a new folder. It is no fault of the question.
 PASSING = (NoAnswer, NoLeader, LimitReached, Full, OutOfMemory, NodeFailed, DeviceFailed)
 

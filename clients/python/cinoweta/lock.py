@@ -10,7 +10,7 @@ from typing import NamedTuple
 
 from . import presence
 from .beacon import Beacon, ask, is_there
-from .election import KEEP, Campaign, Election, Leader, Led
+from .election import KEEP, Campaign, Election, Leader, Led, require_keep
 from .errors import PASSING, Late, LockTaken, NoAnswer, OutOfMemory, Retired, Stale, WrongRing
 from .host import is_own
 from .pause import Pause
@@ -81,10 +81,8 @@ class Lock:
         self.across = is_across(ring, across_hosts)
         if self.across and text:
             raise ValueError("across hosts a holder tells no text")
-        if keep < 0:
-            raise ValueError("who leads keeps 0 terms or more")
         self.ring, self.group, self.rank, self.patience, self.text = ring, group, rank, patience, text
-        self.keep = keep
+        self.keep = require_keep(keep)
         self.wait = float("inf") if wait is None else wait
         # What looks whether the lock is lost waits for no other question, and is not waited for long.
         self.looks = ring.within(EVERY)

@@ -8,7 +8,7 @@ from typing import NoReturn
 
 from . import election
 from .election import KEEP, Campaign, Election, Leader, Led
-from .errors import AlreadyStands, DeviceFailed, NoAnswer, NodeFailed, Retired, WrongRing, refusal
+from .errors import FAILED, AlreadyStands, NoAnswer, Retired, WrongRing, refusal
 from .host import OWN, require
 from .session import Session
 
@@ -65,8 +65,7 @@ class Ring:
             if fault.text != f"already {bid}" or (os.getpid(), node, line) not in self.unanswered:
                 raise
             return
-        except (NodeFailed, DeviceFailed):
-            # It may be in the node's file.
+        except FAILED:
             self.remember(line, node)
             raise
         if answer != "stood":
@@ -111,14 +110,13 @@ class Ring:
     def campaign_with(self, bid: int, group: str, gone: int = 0, node: int | None = None, terms: int = 3,
                       seconds: float = 5.0, keep: int = KEEP) -> Election:
         """`campaign` with this bid, which no other process may have."""
-        if keep < 0:
-            raise ValueError("who leads keeps 0 terms or more")
+        election.require_keep(keep)
         try:
             campaign = Campaign(self, group, gone, bid, node)
-            election = campaign.run(terms, seconds)
-            if election.is_mine:
-                campaign.retire(election.term - keep)
-            return election
+            elected = campaign.run(terms, seconds)
+            if elected.is_mine:
+                campaign.retire(elected.term - keep)
+            return elected
         finally:
             self.close()
 

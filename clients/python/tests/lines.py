@@ -1,4 +1,5 @@
 """A server of lines in place of a node, which answers as it is told."""
+import os
 import random
 import socketserver
 import threading
@@ -57,6 +58,15 @@ def serve(*answers: Callable[[str], str | None], host: str = "127.0.0.1") -> lis
             for node in nodes:
                 node.end()
     raise OSError("no free ports")
+
+
+def in_a_child(act: Callable[[], object]) -> None:
+    """Does this in a process that is forked, and has ended then."""
+    child = os.fork()
+    if child == 0:
+        act()
+        os._exit(0)
+    os.waitpid(child, 0)
 
 
 def first(*answers: str | None) -> Callable[[str], str | None]:

@@ -16,7 +16,7 @@ from cinoweta import Holder, Leader, Lock, LockTaken, NoAnswer, NoLeader, Ring, 
 from cinoweta.beacon import SPREAD, Beacon, is_there, port_of
 from cinoweta.command import main
 
-from .lines import Node, Votes
+from .lines import Node, Votes, in_a_child
 from .test_ring import Beside, deaf
 
 PACKAGE = os.path.dirname(os.path.dirname(__file__))
@@ -243,11 +243,7 @@ class LockTest(Beside):
     def test_a_process_that_is_forked_leaves_it_to_its_parent(self) -> None:
         ring, _ = self.votes_ring()
         with self.lock(ring) as held:
-            child = os.fork()
-            if child == 0:
-                held.resign()
-                os._exit(0)
-            os.waitpid(child, 0)
+            in_a_child(held.resign)
             self.assertTrue(is_there(self.votes.stood[1], 0.5))
 
 

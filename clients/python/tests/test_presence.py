@@ -1,6 +1,5 @@
 """Locks across hosts, beside servers of lines and of the status port that answer as they are told."""
 import json
-import os
 import threading
 import time
 from unittest import mock
@@ -8,7 +7,7 @@ from unittest import mock
 from cinoweta import Holder, Leader, Led, Lock, LockTaken, NoAnswer, Refused, Ring, WrongRing, holder, status
 from cinoweta.presence import is_there
 
-from .lines import Node, Votes
+from .lines import Node, Votes, in_a_child
 from .test_host import OTHER, told
 from .test_ring import Beside, deaf
 from .test_status import BesideStatus
@@ -112,11 +111,7 @@ class PresenceTest(Beside, BesideStatus):
     def test_a_process_that_is_forked_leaves_it_to_its_parent(self) -> None:
         ring, nodes = self.votes_ring()
         with self.lock(ring) as held:
-            child = os.fork()
-            if child == 0:
-                held.resign()
-                os._exit(0)
-            os.waitpid(child, 0)
+            in_a_child(held.resign)
             before = nodes[0].lines.count("latest red")
             self.until(lambda: nodes[0].lines.count("latest red") > before + 3)
             self.assertEqual(len(nodes[0].stands()), 2)
