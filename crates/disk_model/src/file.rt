@@ -12,9 +12,11 @@ ghost use Rattle.disk_model.specs.Buffer as buffer;
 
 use crate::buffer::Buffer;
 use crate::{Device, DeviceFault};
+use libc::{POSIX_FADV_DONTNEED, posix_fadvise};
 use std::alloc::{AllocError, Global};
 use std::fs::OpenOptions;
 use std::io::ErrorKind;
+use std::os::fd::AsRawFd;
 use std::os::unix::fs::FileExt;
 use std::path::Path;
 use std::rt::Files;
@@ -95,6 +97,18 @@ pub fn sync_folder<R: Files<File = fs::File>>(files: &R, path: &str) -> io::Resu
     folder.sync_all()
 }
 
+// Has the next reads of the file come from the disk. Behind a write-back that failed the system's cache of the file holds
+// what the disk does not; it is written first, and then let go. A file system may ignore that. What knows no sync, as
+// some special files, has no such cache.
+fn forget_cached(file: &fs::File) -> io::Result<()> {
+    match file.sync_data() {
+        Err(fault) if fault.kind() != ErrorKind::InvalidInput => return Err(fault),
+        _ => {}
+    }
+    posix_fadvise(file.as_raw_fd(), 0, 0, POSIX_FADV_DONTNEED);
+    Ok(())
+}
+
 // Reads the file into the memory, in which nothing is stable then.
 fn load(file: &fs::File, held: &mut Buffer, len: usize) -> Result<(), OpenFault>
     ensures stable { (buffer.disk_of held.new).stable ≡ (buffer.disk_of held.old).stable }
@@ -144,8 +158,9 @@ impl FileDevice {
         })
     }
 
-    /// A file that is there. What it holds is read now; nothing of it is known to be stable before the first sync.
-    /// Refused as `Device` where the system refuses it, where another open of it holds the lock, or where it is too long.
+    /// A file that is there. What it holds is synced and read now, from the disk and not from the system's cache;
+    /// nothing of it is known to be stable before the first sync of the device. Refused as `Device` where the system
+    /// refuses it, where another open of it holds the lock, or where it is too long.
     pub fn open<R: Files<File = fs::File>>(
         alloc: Global,
         files: &R,
@@ -163,6 +178,7 @@ impl FileDevice {
         if len > FILE_LIMIT as u64 {
             return Err(OpenFault::Device);
         }
+        forget_cached(&file)?;
         load(&file, &mut held, len as usize)?;
         Ok(FileDevice {
             file,
