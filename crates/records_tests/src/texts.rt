@@ -76,6 +76,7 @@ fn prints_refusals(rt: HostRuntime) {
         (Refusal::BadLine, 25, "no 25 line"),
         (Refusal::Undecided, 26, "no 26 undecided"),
         (Refusal::Dropped(node), 27, "no 27 dropped 2"),
+        (Refusal::TooFar(term), 28, "no 28 far 999999999"),
     ];
     for (refusal, number, want) in rows {
         refuses(&rt, rt.alloc(), refusal, number, want);

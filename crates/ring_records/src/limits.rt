@@ -28,4 +28,4 @@ pub const STANDS: u32 = 1_024;
 pub const DOORS: u32 = 32;
 
 /// The greatest number of a refusal.
-pub const REFUSALS: u8 = 27;
+pub const REFUSALS: u8 = 28;
