@@ -68,22 +68,22 @@ launches_all old new counts next =
       next = λ b e. let is = sym (same_Some (next_area old) b e) in (ap (λ (c : Base). c.layout) is, ap (λ (c : Base). c.epoch) is);
     })
 
-pub launches : {T E : Type 0} (result : Result T E) (old new : DeskKept) → IsNodeState old.view.state → IsNextArea old.view.state
-    → OnOk result (new ≡ launched_next old) → OnOk result (launch_objection old.view ≡ None) → OnErr result (new ≡ old) → Launches old new
-launches (Err e) old new counts next is free same =
+pub launches : {T E : Type 0} (w : Bool) (result : Result T E) (old new : DeskKept) → IsNodeState old.view.state → IsNextArea old.view.state
+    → OnOk result (new ≡ launched_next w old) → OnOk result (launch_objection old.view ≡ None) → OnErr result (new ≡ old) → Launches old new
+launches w (Err e) old new counts next is free same =
     subst (Launches old) (sym same) (record { member = refl; opening = refl; inputs = refl; durable = refl; base = refl; counts = counts; next = next })
-launches (Ok some) old new counts next is free same = go (is_checkpoint_next old) is
+launches w (Ok some) old new counts next is free same = go (is_checkpoint_next w old) is
   where
     go : (b : Bool) → new ≡ record old { view = if b then launched_all old else launched old.view } → Launches old new
     go true e = launches_all old new counts e
     go false e = launches_batch old new free counts e
 
 -- where none is given all inputs are durable
-pub none_waits : {E : Type 0} (result : Result (Option Work) E) (old new : DeskKept) (first durable : ℕ) → IfOk result (λ some. MatchOption some (IsNoWork old) (IsWorkOf old new))
+pub none_waits : {E : Type 0} (w : Bool) (result : Result (Option Work) E) (old new : DeskKept) (first durable : ℕ) → IfOk result (λ some. MatchOption some (IsNoWork w old) (IsWorkOf w old new))
     → durable ≡ old.opening.inputs + old.view.state.durable → first ≤ old.opening.inputs + length old.view.state.inputs → IfOk result (λ some. IfNone some (first ≤ durable))
-none_waits (Err e) old new first durable is counted within = tt
-none_waits (Ok None) old new first durable is counted within = omega (arith, is.all, counted, within)
-none_waits (Ok (Some work)) old new first durable is counted within = tt
+none_waits w (Err e) old new first durable is counted within = tt
+none_waits w (Ok None) old new first durable is counted within = omega (arith, is.all, counted, within)
+none_waits w (Ok (Some work)) old new first durable is counted within = tt
 
 -- what fits behind the durable inputs of the desk is for a journal that has what is known of these
 pub fits_next : {E : Type 0} (result : Result (Option Work) E) (d : DeskKept) (m : Member) (opening : Summary) (known : Durable) → d.view.member ≡ m → d.opening ≡ opening → durable_part d ≡ known

@@ -1,7 +1,8 @@
 -- What a hub's calls tell without the state under its lock.
-use Rattle.std.specs.Prelude.{ℕ, ◌≡◌, ◌+◌, ◌⊎◌, Bool, true, false, List, [], ◌++◌, length}
+use Rattle.std.specs.Prelude.{ℕ, ◌≡◌, ◌+◌, ◌*◌, ◌⊎◌, ◌&&◌, not, nat_le, nat_lt, Bool, true, false, List, [], ◌++◌, length}
 use Rattle.std.specs.FinMap as fin
 use Rattle.ring_records.specs.declared.input.Input.{Input}
+use Rattle.ring_records.specs.declared.limits.TheConstants.{INPUT_BYTES}
 use Rattle.ring_records.specs.declared.packet.Packet.{Packet}
 use Rattle.ring_records.specs.declared.refusal.Refusal.{Refusal}
 use Rattle.ring_records.specs.declared.refusal.Refusal.TheVariants as refused
@@ -15,7 +16,8 @@ use Rattle.ring_records.specs.Release.{packets, notices, window}
 use Rattle.ring_records.specs.States.{NodeState, IsLawfulState, launched_base, durable_in, shown_in}
 use Rattle.ring_records.specs.Summary.{floors_in, summary}
 use Rattle.group_commit.specs.declared.landed.Landed.{Landed}
-use Rattle.group_commit.specs.Desk.{is_due}
+use Rattle.group_commit.specs.Desk.{DeskKept, frees_room, is_due}
+use Rattle.group_commit.specs.Next.{is_to_make_room}
 use Rattle.group_commit.specs.Past.{IsPast, shifted}
 use Rattle.group_commit.specs.Since.{IsKnownState}
 use Rattle.commit_hub.specs.declared.look.Look.{Look}
@@ -53,9 +55,15 @@ pub record IsWindowBehind (member : Member) (past : List Input) (list : List Pac
 abbrev pub IsWindow : Member → Summary → List Packet → Type 0
 IsWindow member opening list = (past : List Input) → IsPast member opening past → IsWindowBehind member past list
 
--- what is shown of a node in this state, where a checkpoint is due or not, and it takes requests or takes none
-abbrev pub look_of : Member → NodeState → Bool → Bool → Look
-look_of member s is_due is_open = record {
+-- what is known of room at a node: whether a checkpoint is due, whether one frees some, and whether one is to make some
+pub record Room : Type 0 where
+  pub is_due : Bool
+  pub frees : Bool
+  pub is_coming : Bool
+
+-- what is shown of a node in this state, of whose room this is known, and that takes requests or takes none
+abbrev pub look_of : Member → NodeState → Room → Bool → Look
+look_of member s room is_open = record {
   shown = shown_in member.node s;
   used = used (launched_base s) s.inputs;
   snapshot = snapshot_len newest (summary member.node s.inputs);
@@ -64,17 +72,36 @@ look_of member s is_due is_open = record {
   capacity = member.capacity;
   stands = stands s.inputs;
   floors = fin.len (floors_in s.inputs);
-  is_due = is_due;
+  is_due = room.is_due;
+  frees_room = room.frees;
+  is_room_coming = room.is_coming;
   is_open = is_open;
 }
 
--- whether a checkpoint is due of a node in this state since its opening: nothing else of its desk says so
-abbrev pub is_due_in : Member → Summary → NodeState → Bool
-is_due_in member opening s = is_due (record {
+-- a desk of a node in this state since its opening: nothing else of its own desk says what is known of its room
+abbrev pub desk_in : Member → Summary → NodeState → DeskKept
+desk_in member opening s = record {
   opening = opening;
   view = record { member = member; run = 0; state = s; tickets = []; issued = 0; closed = false; failed = false };
   gone = 0;
-})
+}
+
+-- what is known of the room of a desk, of which a checkpoint is wanted or is not
+abbrev pub room_of : Bool → DeskKept → Room
+room_of is_wanted desk = record { is_due = is_due desk; frees = frees_room desk; is_coming = is_to_make_room is_wanted desk }
+
+abbrev pub room_in : Look → Room
+room_in look = record { is_due = look.is_due; frees = look.frees_room; is_coming = look.is_room_coming }
+
+-- A node takes a Stand that leaves the reserve, an eighth of its capacity, free behind a checkpoint of all that it accepted: the Stand
+-- and the two messages of its election take an input's bytes each at most.
+abbrev pub takes_stands : Look → Bool
+takes_stands look = nat_le (8 * (look.snapshot + 3 * INPUT_BYTES)) (7 * look.capacity)
+
+-- A message is taken where it leaves a sixteenth of the capacity free, or a checkpoint would make room. So Retires find a sixteenth,
+-- and none of a Stand that the node has makes the snapshot longer: they take it, and a checkpoint frees as much.
+abbrev pub lacks_room : Look → Bool
+lacks_room look = not look.is_due && not look.frees_room && nat_lt (15 * look.capacity) (16 * (look.used + INPUT_BYTES))
 
 -- This is what is shown of the node in some state since its opening: how many inputs it has and how many are durable,
 -- those that are summarised among them, and the bytes that are taken. Behind each past that the opening is of the state
@@ -87,6 +114,7 @@ pub record IsLook (member : Member) (opening : Summary) (look : Look) : Type 0 w
   pub used_is : look.used ≡ used (launched_base state) state.inputs
   pub epoch : look.epoch ≡ state.base.epoch
   pub capacity : look.capacity ≡ member.capacity
-  pub due : look.is_due ≡ is_due_in member opening state
+  pub is_wanted : Bool
+  pub room : room_in look ≡ room_of is_wanted (desk_in member opening state)
   pub lawful : (past : List Input) → IsPast member opening past → IsLawfulState member (shifted past state)
-  pub is : (past : List Input) → IsPast member opening past → look ≡ look_of member (shifted past state) look.is_due look.is_open
+  pub is : (past : List Input) → IsPast member opening past → look ≡ look_of member (shifted past state) (room_in look) look.is_open

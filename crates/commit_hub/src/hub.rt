@@ -115,7 +115,13 @@ impl<A: Node> Hub<A> {
         let mut ticket = ticket;
         for _ in rt.forever() {
             match guard.locked.redeem(ticket) {
-                Ok(released) => return Ok(released),
+                Ok(released) => {
+                    // a reply for want of room may want a checkpoint
+                    if guard.must_wake() {
+                        self.bells.tell_flusher();
+                    }
+                    return Ok(released);
+                }
                 Err((back, Refusal::Early)) => {
                     let turn = guard.turn_of(back.number());
                     guard = self.bells.waiters(turn).wait(rt, guard);
@@ -127,6 +133,19 @@ impl<A: Node> Hub<A> {
         Err((ticket, Refusal::Foreign))
     }
 
+    /// Waits while a checkpoint is to make room that is not launched yet, and the hub takes requests: what was refused for
+    /// room may be asked once more then.
+    pub fn wait_for_room<R: Wait>(&self, rt: &R) {
+        let mut guard = self.guarded.lock(rt);
+        for _ in rt.forever() {
+            if !guard.locked.awaits_room() {
+                return;
+            }
+            let turn = guard.next_turn();
+            guard = self.bells.waiters(turn).wait(rt, guard);
+        }
+    }
+
     /// Ends a ticket in every case, with no reply. Refused as 10 where no such ticket is open here, and while the hub
     /// takes requests.
     pub fn forfeit<R: Wait>(&self, rt: &R, ticket: Ticket) -> Result<(), Refusal>
@@ -136,8 +155,9 @@ impl<A: Node> Hub<A> {
         self.guarded.lock(rt).locked.forfeit(ticket)
     }
 
-    /// Waits until an input waits or a checkpoint is due, and launches what is to be made durable next: where one is due,
-    /// a checkpoint of all inputs; else the first that wait, at most 64, as a batch. `None` once the hub is closed and
+    /// Waits until an input waits or a checkpoint is due or wanted, and launches what is to be made durable next: where one is
+    /// due, or is wanted and frees a sixteenth of the capacity, a checkpoint of all inputs; else the first that wait, at most
+    /// 64, as a batch. One is wanted where a reply refused something for room since the last. `None` once the hub is closed and
     /// none waits. It fits a journal of the node that has what the tie knows. Refused as 9 where the hub has failed, as
     /// 12 where a batch or a checkpoint is flying, and as 8.
     pub fn launch<R: Wait>(&self, rt: &R, tie: &mut Tie<A>) -> Result<Option<Work>, Refusal>

@@ -1,5 +1,5 @@
 //! What lies under a hub's lock: its desk, the book of its ledger, and what its tie knows too.
-ghost use Rattle.std.specs.Prelude.{◌≡◌, ◌≢◌, ◌+◌, ◌-◌, ◌≤◌, ◌<◌, ◌⊎◌, ◌||◌, ◌&&◌, not, nat_eq, nat_le, nat_lt, ℕ, List, true, false, length, Some, None, IfOk, IfErr, IfNone, IfSome, MatchOption, OnOk, OnErr};
+ghost use Rattle.std.specs.Prelude.{◌≡◌, ◌≢◌, ◌↔◌, ◌+◌, ◌-◌, ◌≤◌, ◌<◌, ◌⊎◌, ◌||◌, ◌&&◌, not, nat_eq, nat_le, nat_lt, ℕ, List, IsTrue, true, false, length, Some, None, IfOk, IfErr, IfNone, IfSome, MatchOption, OnOk, OnErr};
 ghost use Rattle.ring_records.specs.declared.input.Input.{Input};
 ghost use Rattle.ring_records.specs.Admission.{used};
 ghost use Rattle.ring_records.specs.Answer.{Answered};
@@ -7,17 +7,18 @@ ghost use Rattle.ring_records.specs.States.{IsNodeState, launched_base, durable_
 ghost use Rattle.ring_records.specs.Props.{IsNodeState-prop};
 ghost use Rattle.ring_records.specs.Release.{packets, notices, window};
 ghost use Rattle.gated_journal.specs.Batch.{is_checkpoint, landed as receipted, lost};
-ghost use Rattle.group_commit.specs.Desk.{seen, ended, landed, let_go, objection, is_due, launch_objection, IsSubmitted, IsAnswer, IsHere, IsSealed, IsFlying};
+ghost use Rattle.group_commit.specs.Desk.{seen, ended, landed, let_go, objection, launch_objection, IsSubmitted, IsAnswer, IsHere, IsSealed, IsFlying};
 ghost use Rattle.node_core.specs.Core.{IsNodeOf};
-ghost use Rattle.group_commit.specs.Next.{launched_next, IsNoWork, IsUnlaunched, IsWorkOf};
+ghost use Rattle.group_commit.specs.Next.{is_to_make_room, launched_next, IsNoWork, IsUnlaunched, IsWorkOf};
 ghost use Rattle.group_commit.specs.Past.{IsPast};
 ghost use Rattle.group_commit.specs.Ticket.{shown};
 ghost use Rattle.commit_hub.specs.Holders.{count_of, known_by};
 ghost use Rattle.commit_hub.specs.Pages.{places_of, ForAccepted, ForTie};
 ghost use Rattle.commit_hub.specs.Props.{member-prop, summary-prop, durable-prop, IsNextArea-prop};
 ghost use Rattle.commit_hub.specs.Tied.{durable_part, with_batch, with_area};
-ghost use Rattle.commit_hub.specs.Told.{IsBrought, IsLook, IsWindow, look_of};
-ghost use Rattle.commit_hub.specs.Works.{IsNext, IsNextArea};
+ghost use Rattle.commit_hub.specs.Told.{IsBrought, IsLook, IsWindow, look_of, room_in, room_of};
+ghost use Rattle.commit_hub.specs.Works.{IsNext, IsNextArea, stays_wanted};
+ghost use Rattle.ring_records.specs.declared.reply.Reply.TheVariants as replied;
 
 use crate::blanks::Blanks;
 use crate::ledgers::Node;
@@ -45,6 +46,8 @@ pub(crate) struct Locked<A: Node> {
     pub(crate) left: u32,
     pub(crate) places: Places<A>,
     pub(crate) held: Held,
+    // whether something was refused for room since the last checkpoint was launched
+    pub(crate) is_wanted: bool,
     ghost of: { shared.desk.view.member ≡ A.member } by { member-prop shared.desk.view.member A.member },
     ghost opening: { shared.desk.opening ≡ A.opening } by { summary-prop shared.desk.opening A.opening },
     ghost counts: { IsNodeState shared.desk.view.state } by { IsNodeState-prop shared.desk.view.state },
@@ -90,6 +93,7 @@ impl<A: Node> Locked<A> {
             left: places,
             places: Places::new(places),
             held,
+            is_wanted: false,
         };
         let tie = Tie {
             known,
@@ -159,8 +163,20 @@ impl<A: Node> Locked<A> {
         ensures refusal { IfErr result (λ e. IsSealed self.old.shared.desk (shown ticket) e.1) }
         ensures back { IfErr result (λ e. shown e.0 ≡ shown ticket) }
         ensures same { OnErr result (self.new.shared.desk ≡ self.old.shared.desk) }
+
+        // A reply for want of room wants a checkpoint, until one is launched, and nothing else does.
+        ensures wants { IfOk result (λ r. r.0 ≡ replied.Refused Refusal.Full → self.new.is_wanted ≡ true) }
+        ensures alone { IfOk result (λ r. self.new.is_wanted ≡ true → (self.old.is_wanted ≡ true) ⊎ (r.0 ≡ replied.Refused Refusal.Full)) }
+        ensures wanted { self.old.is_wanted ≡ true → self.new.is_wanted ≡ true }
+        ensures unwanted { OnErr result (self.new.is_wanted ≡ self.old.is_wanted) }
     {
-        self.shared.desk.redeem(ticket)
+        match self.shared.desk.redeem(ticket) {
+            Ok((reply, stub)) => {
+                self.is_wanted |= is_for_room(&reply);
+                Ok((reply, stub))
+            }
+            Err(refused) => Err(refused),
+        }
     }
 
     /// As on the desk, which may take requests; the ticket ends in every case.
@@ -175,14 +191,16 @@ impl<A: Node> Locked<A> {
         self.shared.forfeit(ticket)
     }
 
-    /// A checkpoint where one is due and the desk takes requests or something waits, and else a batch, as on the desk. It
-    /// fits a journal of the node that has what the tie knows.
+    /// A checkpoint where one is due, or is wanted and frees room, and the desk takes requests or something waits, and else a
+    /// batch, as on the desk. It fits a journal of the node that has what the tie knows. What was refused before wants none
+    /// behind a checkpoint.
     pub(crate) fn launch(&mut self, tie: &mut Tie<A>) -> Result<Option<Work>, Refusal>
         ensures next { IfOk result (λ some. IfSome some (IsNext A.member A.opening (known_by tie.old))) }
         ensures none { IfOk result (λ some. IfNone some (A.opened ≤ A.opening.inputs + length (known_by tie.old).inputs)) }
         ensures based { (known_by tie.old).base.inputs ≤ length (known_by tie.old).inputs }
-        ensures work { IfOk result (λ some. MatchOption some (IsNoWork self.old.shared.desk) (IsWorkOf self.old.shared.desk self.new.shared.desk)) }
-        ensures desk { OnOk result (self.new.shared.desk ≡ launched_next self.old.shared.desk) }
+        ensures work { IfOk result (λ some. MatchOption some (IsNoWork self.old.is_wanted self.old.shared.desk) (IsWorkOf self.old.is_wanted self.old.shared.desk self.new.shared.desk)) }
+        ensures desk { OnOk result (self.new.shared.desk ≡ launched_next self.old.is_wanted self.old.shared.desk) }
+        ensures wanted { self.new.is_wanted ≡ stays_wanted self.old.is_wanted result }
         ensures free { OnOk result (launch_objection self.old.shared.desk.view ≡ None) }
         ensures refusal { IfErr result (IsUnlaunched self.old.shared.desk) }
         ensures same { OnErr result (self.new.shared.desk ≡ self.old.shared.desk) }
@@ -193,13 +211,16 @@ impl<A: Node> Locked<A> {
             accepted,
             first,
             held,
+            is_wanted,
             ..
         } = self;
         let Tie { known, .. } = tie;
         audit(held, known);
         // Its inputs are those of the opening, and more.
         accepted.audit(first);
-        desk.launch_next()
+        let launched = desk.launch_next(*is_wanted);
+        *is_wanted = stays_wanted(*is_wanted, &launched);
+        launched
     }
 
     /// As on the desk; the tie knows what became durable.
@@ -289,8 +310,8 @@ impl<A: Node> Locked<A> {
     /// What the desk shows.
     pub(crate) fn look(&self) -> Look
         ensures counts { (past : List Input) → IsPast A.member A.opening past
-            → result ≡ look_of A.member (seen past self.now.shared.desk).state (is_due self.now.shared.desk) (not (self.now.shared.desk.view.closed || self.now.shared.desk.view.failed)) }
-        ensures due { result.is_due ≡ is_due self.now.shared.desk }
+            → result ≡ look_of A.member (seen past self.now.shared.desk).state (room_of self.now.is_wanted self.now.shared.desk) (not (self.now.shared.desk.view.closed || self.now.shared.desk.view.failed)) }
+        ensures room { room_in result ≡ room_of self.now.is_wanted self.now.shared.desk }
         ensures epoch { result.epoch ≡ self.now.shared.desk.view.state.base.epoch }
         ensures is_open { result.is_open ≡ not (self.now.shared.desk.view.closed || self.now.shared.desk.view.failed) }
         ensures inputs { result.shown.inputs ≡ self.now.shared.desk.opening.inputs + length self.now.shared.desk.view.state.inputs }
@@ -310,15 +331,31 @@ impl<A: Node> Locked<A> {
             stands: desk.stands(),
             floors: desk.floor_count() as u64,
             is_due: desk.due(),
+            frees_room: desk.frees_room(),
+            is_room_coming: self.is_room_coming(),
             is_open: desk.is_open(),
         }
     }
 
-    /// Whether there is nothing to launch yet: all inputs are durable, more may come, and no checkpoint is due.
+    /// Whether there is nothing to launch yet: all inputs are durable, more may come, and no checkpoint is to make room.
     pub(crate) fn is_idle(&self) -> bool
-        ensures { result ≡ ((not (nat_lt self.now.shared.desk.view.state.durable (length self.now.shared.desk.view.state.inputs)) && not (self.now.shared.desk.view.closed || self.now.shared.desk.view.failed)) && not (is_due self.now.shared.desk)) }
+        ensures { result ≡ ((not (nat_lt self.now.shared.desk.view.state.durable (length self.now.shared.desk.view.state.inputs)) && not (self.now.shared.desk.view.closed || self.now.shared.desk.view.failed)) && not (is_to_make_room self.now.is_wanted self.now.shared.desk)) }
     {
-        !self.shared.desk.waits() && self.shared.desk.is_open() && !self.shared.desk.due()
+        !self.shared.desk.waits() && self.shared.desk.is_open() && !self.is_room_coming()
+    }
+
+    /// Whether a checkpoint is to make room: it is due, or is wanted and frees some.
+    fn is_room_coming(&self) -> bool
+        ensures { result ≡ is_to_make_room self.now.is_wanted self.now.shared.desk }
+    {
+        self.shared.desk.is_to_make_room(self.is_wanted)
+    }
+
+    /// Whether who waits for room goes on waiting: a checkpoint is to make some, and the desk takes requests.
+    pub(crate) fn awaits_room(&self) -> bool
+        ensures { result ≡ (not (self.now.shared.desk.view.closed || self.now.shared.desk.view.failed) && is_to_make_room self.now.is_wanted self.now.shared.desk) }
+    {
+        self.shared.desk.is_open() && self.is_room_coming()
     }
 
     /// Whether so many inputs are durable once the next batch lands, as far as is known: they fly, or nothing flies
@@ -329,4 +366,18 @@ impl<A: Node> Locked<A> {
         let flying = self.shared.desk.flying();
         number <= flying || flying == self.shared.desk.durable()
     }
+}
+
+/// Whether a checkpoint stays wanted behind a launch: none is launched.
+fn stays_wanted(is_wanted: bool, launched: &Result<Option<Work>, Refusal>) -> bool
+    ensures { result ≡ stays_wanted is_wanted launched.now }
+{
+    is_wanted && !matches!(launched, Ok(Some(Work::Checkpoint(_))))
+}
+
+/// Whether it is a refusal for want of room.
+fn is_for_room(reply: &Reply) -> bool
+    ensures { IsTrue result ↔ (reply.now ≡ replied.Refused Refusal.Full) }
+{
+    matches!(reply, Reply::Refused(Refusal::Full))
 }

@@ -80,6 +80,11 @@ impl<A: Node> Guarded<A> {
         }
     }
 
+    /// The turn of what lands next.
+    pub(crate) fn next_turn(&self) -> Turn {
+        self.turn
+    }
+
     /// The turn of the batch that landed. The next turn has come.
     pub(crate) fn pass_turn(&mut self) -> Turn
         ensures { self.new.locked ≡ self.old.locked }

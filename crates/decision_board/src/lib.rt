@@ -2,7 +2,7 @@
 //!
 //! A reader's answer is that of a list of notices, the list that it has seen. It begins with the list that the reader
 //! saw before and with each list that it was told of, so from one read to the next a leader stays and the latest term
-//! of a group never goes down. `docs/BOARD.md` tells how the two copies of the leaders take turns.
+//! of a group never goes down. docs/ARCHITECTURE.md tells how the two copies of the leaders take turns.
 #![tactic(auto)]
 
 mod board;

@@ -1,5 +1,5 @@
 -- When a checkpoint is launched, and the desk then.
-use Rattle.std.proofs.Common.{◌≡◌, ◌+◌, ◌*◌, ◌<◌, ◌≤◌, ◌⊎◌, ◌&&◌, ◌||◌, not, true, false, Bool, cond, length, Option, Some, None, inl, inr, refl, sym, ap, ◌∙◌, subst, arith}
+use Rattle.std.proofs.Common.{◌≡◌, ◌+◌, ◌-◌, ◌*◌, ◌<◌, ◌≤◌, ◌⊎◌, ◌&&◌, ◌||◌, not, true, false, Bool, cond, length, Option, Some, None, inl, inr, refl, sym, ap, ◌∙◌, subst, arith}
 use Rattle.std.specs.Option.{option_map}
 use Rattle.std.specs.Prelude.{nat_le, nat_lt}
 use Rattle.std.proofs.lemmas.Bool.{and_parts, leb-false, leb-true, ltb-false, ltb-true, lt-leb, le-ltb}
@@ -13,8 +13,8 @@ use Rattle.ring_records.specs.declared.base.Base.{Base}
 use Rattle.ring_records.proofs.Admission.{or_else-none, where_so-none, or_else-free, where_so-free}
 use Rattle.ring_records.proofs.States.{idle-base}
 use Rattle.ring_records.proofs.Lists.{none≢some}
-use Rattle.group_commit.specs.Desk.{DeskView, DeskKept, known_all, is_due, launch_objection, checkpoint_objection, epochs, needs_checkpoint, MayRenew}
-use Rattle.group_commit.specs.Next.{is_checkpoint_next, IsUnlaunched}
+use Rattle.group_commit.specs.Desk.{DeskView, DeskKept, known_all, frees_room, is_due, launch_objection, checkpoint_objection, epochs, needs_checkpoint, MayRenew}
+use Rattle.group_commit.specs.Next.{is_checkpoint_next, is_to_make_room, IsUnlaunched}
 
 -- where nothing is against a launch, nothing flies
 pub idle_free : (d : DeskView) → launch_objection d ≡ None → is_idle d.state ≡ true
@@ -60,22 +60,45 @@ due d is =
     let short = and_parts (nat_le length d.view.member.capacity) _ filled.1 in
     record { filled = ltb-true d.view.member.capacity taken filled.0; short = leb-true length d.view.member.capacity short.0; left = ltb-true _ epochs short.1 }
 
--- where a checkpoint is next, one is due, or one is needed
-pub next_why : (d : DeskKept) → is_checkpoint_next d ≡ true → Due d ⊎ (needs_checkpoint d ≡ true)
-next_why d next = go (needs_checkpoint d) refl next
+-- where one frees room, it frees a sixteenth of the capacity, and may be written
+pub record Frees (d : DeskKept) : Type 0 where
+  pub freed : d.view.member.capacity ≤ 16 * (used (launched_base d.view.state) d.view.state.inputs - snapshot_len newest (known_all d))
+  pub fits : snapshot_len newest (known_all d) ≤ d.view.member.capacity
+  pub left : (launched_base d.view.state).epoch + 1 < epochs
+
+frees : (d : DeskKept) → frees_room d ≡ true → Frees d
+frees d is =
+    let length = snapshot_len newest (known_all d) in
+    let freed = 16 * (used (launched_base d.view.state) d.view.state.inputs - length) in
+    let first = and_parts (nat_le d.view.member.capacity freed) _ is in
+    let others = and_parts (nat_le length d.view.member.capacity) _ first.1 in
+    record { freed = leb-true d.view.member.capacity freed first.0; fits = leb-true length d.view.member.capacity others.0; left = ltb-true _ epochs others.1 }
+
+-- where one is to make room, it is due or frees some
+makes_room : (w : Bool) (d : DeskKept) → is_to_make_room w d ≡ true → Due d ⊎ Frees d
+makes_room w d is = go (is_due d) refl w is
   where
-    go : (b : Bool) → needs_checkpoint d ≡ b → (b || is_due d && (nat_lt d.view.state.durable (length d.view.state.inputs) || not (d.view.closed || d.view.failed))) ≡ true
-        → Due d ⊎ (needs_checkpoint d ≡ true)
+    go : (b : Bool) → is_due d ≡ b → (w : Bool) → (b || w && frees_room d) ≡ true → Due d ⊎ Frees d
+    go true e w is = inl (due d e)
+    go false e w is = inr (frees d (and_parts w (frees_room d) is).1)
+
+-- where a checkpoint is next, one is due, or frees room, or is needed
+pub next_why : (w : Bool) (d : DeskKept) → is_checkpoint_next w d ≡ true → (Due d ⊎ Frees d) ⊎ (needs_checkpoint d ≡ true)
+next_why w d next = go (needs_checkpoint d) refl next
+  where
+    go : (b : Bool) → needs_checkpoint d ≡ b → (b || is_to_make_room w d && (nat_lt d.view.state.durable (length d.view.state.inputs) || not (d.view.closed || d.view.failed))) ≡ true
+        → (Due d ⊎ Frees d) ⊎ (needs_checkpoint d ≡ true)
     go true e next = inr e
-    go false e next = inl (due d (and_parts (is_due d) _ next).0)
+    go false e next = inl (makes_room w d (and_parts (is_to_make_room w d) _ next).0)
 
 -- and of one of which it is, nothing is against it but what is against a batch
-pub next_free : (d : DeskKept) → is_checkpoint_next d ≡ true → (needs_checkpoint d ≡ true → MayRenew d) → launch_objection d.view ≡ None → checkpoint_objection d ≡ None
-next_free d next renews free = or_else-free (launch_objection d.view) _ free (or_else-free _ _ (where_so-free _ _ (lt-leb epochs (d.view.state.base.epoch + 1) left)) (where_so-free _ _ (le-ltb d.view.member.capacity (snapshot_len newest (known_all d)) may.fits)))
+pub next_free : (w : Bool) (d : DeskKept) → is_checkpoint_next w d ≡ true → (needs_checkpoint d ≡ true → MayRenew d) → launch_objection d.view ≡ None → checkpoint_objection d ≡ None
+next_free w d next renews free = or_else-free (launch_objection d.view) _ free (or_else-free _ _ (where_so-free _ _ (lt-leb epochs (d.view.state.base.epoch + 1) left)) (where_so-free _ _ (le-ltb d.view.member.capacity (snapshot_len newest (known_all d)) may.fits)))
   where
     may : MayRenew d
-    may = elim (next_why d next) [
-      | inl is ↦ record { left = is.left; fits = (let s = is.short in omega arith) }
+    may = elim (next_why w d next) [
+      | inl (inl is) ↦ record { left = is.left; fits = (let s = is.short in omega arith) }
+      | inl (inr is) ↦ record { left = is.left; fits = is.fits }
       | inr needs ↦ renews needs
     ]
 
@@ -83,11 +106,11 @@ next_free d next renews free = or_else-free (launch_objection d.view) _ free (or
     left = subst (λ (b : Base). b.epoch + 1 < epochs) (idle-base d.view.state (idle_free d.view free)) may.left
 
 -- so it is refused as a batch would be, or for want of memory
-pub next_refused : (d : DeskKept) (why : Refusal) → is_checkpoint_next d ≡ true → (needs_checkpoint d ≡ true → MayRenew d)
+pub next_refused : (w : Bool) (d : DeskKept) (why : Refusal) → is_checkpoint_next w d ≡ true → (needs_checkpoint d ≡ true → MayRenew d)
     → (checkpoint_objection d ≡ Some why) ⊎ ((checkpoint_objection d ≡ None) × (why ≡ OutOfMemory)) → IsUnlaunched d why
-next_refused d why next renews (inl objected) = go (launch_objection d.view) refl
+next_refused w d why next renews (inl objected) = go (launch_objection d.view) refl
   where
     go : (o : Option Refusal) → launch_objection d.view ≡ o → IsUnlaunched d why
-    go None e = none≢some why (sym (next_free d next renews e) ∙ objected)
+    go None e = none≢some why (sym (next_free w d next renews e) ∙ objected)
     go (Some first) e = inl (e ∙ (sym (ap (λ (p : Option Refusal). or_else p (or_else (where_so (nat_le epochs (d.view.state.base.epoch + 1)) Limit) (where_so (nat_lt d.view.member.capacity (snapshot_len newest (known_all d))) Full))) e) ∙ objected))
-next_refused d why next renews (inr memory) = inr ((or_else-none (launch_objection d.view) _ memory.0).0, memory.1)
+next_refused w d why next renews (inr memory) = inr ((or_else-none (launch_objection d.view) _ memory.0).0, memory.1)

@@ -1,5 +1,5 @@
 -- What a desk is seen as, what its calls make of it, and why they are refused.
-use Rattle.std.specs.Prelude.{ℕ, ◌≡◌, ◌<◌, ◌≤◌, ◌^◌, ◌⊎◌, ◌+◌, ◌*◌, Bool, false, ◌&&◌, ◌||◌, if◌then◌else◌, List, [], ◌∷◌, ◌++◌, length, nat_eq, nat_le, nat_lt, Option, Some, None, is_none}
+use Rattle.std.specs.Prelude.{ℕ, ◌≡◌, ◌<◌, ◌≤◌, ◌^◌, ◌⊎◌, ◌+◌, ◌-◌, ◌*◌, Bool, false, ◌&&◌, ◌||◌, if◌then◌else◌, List, [], ◌∷◌, ◌++◌, length, nat_eq, nat_le, nat_lt, Option, Some, None, is_none}
 use Rattle.std.specs.List.{cons_option}
 use Rattle.std.specs.Map.{lookup, remove_entry}
 use Rattle.std.specs.Option.{option_map}
@@ -181,6 +181,14 @@ abbrev pub is_due : DeskKept → Bool
 is_due desk =
     nat_lt desk.view.member.capacity (2 * used (launched_base desk.view.state) desk.view.state.inputs)
     && (nat_le (4 * snapshot_len newest (known_all desk)) desk.view.member.capacity
+    && nat_lt ((launched_base desk.view.state).epoch + 1) epochs)
+
+-- A checkpoint frees room: what is taken, less the snapshot of all accepted inputs, is a sixteenth of the capacity at least, the
+-- snapshot fits the capacity, and the journal may write one more area.
+abbrev pub frees_room : DeskKept → Bool
+frees_room desk =
+    nat_le desk.view.member.capacity (16 * (used (launched_base desk.view.state) desk.view.state.inputs - snapshot_len newest (known_all desk)))
+    && (nat_le (snapshot_len newest (known_all desk)) desk.view.member.capacity
     && nat_lt ((launched_base desk.view.state).epoch + 1) epochs)
 
 -- An input waits that the area in use can't hold, or flies into the next one: no batch is launched, but a checkpoint.

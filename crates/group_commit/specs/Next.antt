@@ -1,5 +1,5 @@
 -- What a desk launches next.
-use Rattle.std.specs.Prelude.{ℕ, ◌≡◌, ◌+◌, ◌*◌, ◌<◌, ◌≤◌, ◌⊎◌, ◌&&◌, ◌||◌, not, nat_lt, Bool, false, if◌then◌else◌, List, ◌++◌, length, Option, Some, None}
+use Rattle.std.specs.Prelude.{ℕ, ◌≡◌, ◌+◌, ◌-◌, ◌*◌, ◌<◌, ◌≤◌, ◌⊎◌, ◌&&◌, ◌||◌, not, nat_lt, Bool, false, if◌then◌else◌, List, ◌++◌, length, Option, Some, None}
 use Rattle.std.specs.Option.{option_map}
 use Rattle.ring_records.specs.declared.base.Base.{Base}
 use Rattle.ring_records.specs.declared.input.Input.{Input}
@@ -18,7 +18,7 @@ use Rattle.gated_journal.specs.Batch.{Numbered, numbered_with, numbered_by, base
 use Rattle.gated_journal.specs.Frames.{AreSuited}
 use Rattle.gated_journal.specs.Works.{flown_by, summary_by}
 use Rattle.node_core.specs.Core.{IsNodeOf}
-use Rattle.group_commit.specs.Desk.{DeskKept, epochs, is_due, known_all, launch_objection, launched, launched_all, needs_checkpoint}
+use Rattle.group_commit.specs.Desk.{DeskKept, epochs, frees_room, is_due, known_all, launch_objection, launched, launched_all, needs_checkpoint}
 use Rattle.group_commit.specs.Past.{IsPast, shifted}
 
 -- what is durable of a desk: the area in use, and the inputs since its opening
@@ -73,14 +73,16 @@ pub record IsNextBatch (m : Member) (opening : Summary) (known : Durable) (batch
 
 -- It may make the checkpoint, where the node is one of the ring: its summary is that of all, whose snapshot fits the capacity,
 -- and an epoch is left. It is due, since what is taken, with the inputs, is more than half of the capacity, and the snapshot
--- takes a quarter at most; or the area in use is of an earlier layout, which can't hold all of the inputs.
+-- takes a quarter at most; or it frees a sixteenth of the capacity at least; or the area in use is of an earlier layout, which
+-- can't hold all of the inputs.
 pub record IsNextCheckpoint (m : Member) (opening : Summary) (known : Durable) (made : Checkpoint) : Type 0 where
   pub node : (numbered_by made).node ≡ m.node
   pub first : (numbered_by made).first ≡ opening.inputs + length known.inputs
   pub snapshot : (numbered_by made).snapshot ≡ Some (snapshot_len newest (base_by made))
   pub summary : base_by made ≡ after m.node opening (known.inputs ++ (numbered_by made).inputs)
   pub why : (m.capacity < 2 * (used known.base known.inputs + costs_of (numbered_by made).inputs)) × (4 * snapshot_len newest (base_by made) ≤ m.capacity)
-      ⊎ (known.base.layout < newest)
+      ⊎ ((m.capacity ≤ 16 * (used known.base known.inputs + costs_of (numbered_by made).inputs - snapshot_len newest (base_by made)))
+      ⊎ (known.base.layout < newest))
   pub fits : snapshot_len newest (base_by made) ≤ m.capacity
   pub sound : IsNodeOf m.n m.node → IsSound m.n (base_by made)
   pub left : known.base.epoch + 1 < epochs
@@ -97,24 +99,28 @@ IsFitting desk work = IsNext desk.view.member desk.opening (durable_part desk) w
 
 -- ---- by the desk
 
--- its next work is a checkpoint: one is needed, or is due, and something waits or the desk takes requests
-abbrev pub is_checkpoint_next : DeskKept → Bool
-is_checkpoint_next desk = needs_checkpoint desk || is_due desk && (nat_lt desk.view.state.durable (length desk.view.state.inputs) || not (desk.view.closed || desk.view.failed))
+-- a checkpoint is to make room: one is due, or is wanted and frees some
+abbrev pub is_to_make_room : Bool → DeskKept → Bool
+is_to_make_room is_wanted desk = is_due desk || is_wanted && frees_room desk
+
+-- its next work is a checkpoint: one is needed, or is to make room, and something waits or the desk takes requests
+abbrev pub is_checkpoint_next : Bool → DeskKept → Bool
+is_checkpoint_next is_wanted desk = needs_checkpoint desk || is_to_make_room is_wanted desk && (nat_lt desk.view.state.durable (length desk.view.state.inputs) || not (desk.view.closed || desk.view.failed))
 
 -- the desk once it flies
-abbrev pub launched_next : DeskKept → DeskKept
-launched_next desk = record desk { view = if is_checkpoint_next desk then launched_all desk else launched desk.view }
+abbrev pub launched_next : Bool → DeskKept → DeskKept
+launched_next is_wanted desk = record desk { view = if is_checkpoint_next is_wanted desk then launched_all desk else launched desk.view }
 
 -- These are all the inputs that wait, with the summary of all; or the first that wait, one at least, where that is not next.
-pub record IsWorkOf (old new : DeskKept) (work : Work) : Type 0 where
-  pub summary : summary_by work ≡ (if is_checkpoint_next old then Some (known_all old) else None)
+pub record IsWorkOf (is_wanted : Bool) (old new : DeskKept) (work : Work) : Type 0 where
+  pub summary : summary_by work ≡ (if is_checkpoint_next is_wanted old then Some (known_all old) else None)
   pub flown : flown_by work ≡ numbered_with old.view.member.node (old.opening.inputs + old.view.state.durable) (flying_in new.view.state) (option_map (snapshot_len newest) (summary_by work))
   pub some : summary_by work ≡ None → old.view.state.durable < length old.view.state.inputs
 
 -- Nothing waits, and no checkpoint is next.
-pub record IsNoWork (desk : DeskKept) : Type 0 where
+pub record IsNoWork (is_wanted : Bool) (desk : DeskKept) : Type 0 where
   pub all : desk.view.state.durable ≡ length desk.view.state.inputs
-  pub batch : is_checkpoint_next desk ≡ false
+  pub batch : is_checkpoint_next is_wanted desk ≡ false
 
 -- why nothing is launched
 abbrev pub IsUnlaunched : DeskKept → Refusal → Type 0

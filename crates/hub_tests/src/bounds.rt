@@ -228,6 +228,8 @@ const THREE: Look = Look {
     stands: 1,
     floors: 0,
     is_due: false,
+    frees_room: false,
+    is_room_coming: false,
     is_open: true,
 };
 
@@ -279,6 +281,8 @@ const SECOND: Look = Look {
     stands: 2,
     floors: 0,
     is_due: false,
+    frees_room: false,
+    is_room_coming: false,
     is_open: true,
 };
 

@@ -4,7 +4,7 @@ ghost use Rattle.ring_records.specs.Snapshot.{IsSound};
 ghost use Rattle.gated_journal.specs.Batch.{base_by};
 ghost use Rattle.gated_journal.specs.Journal.{member_of};
 
-use crate::rows::{No, broken_journal, journal_of, node, request};
+use crate::rows::{No, broken_journal, journal_of, node, refused, request};
 use commit_hub::{Hub, Node, Share, Tie, Work};
 use disk_model::{Device, MemDevice};
 use gated_journal::{Batch, Checkpoint, Journal, Receipt, Spoiled};
@@ -25,6 +25,25 @@ pub fn asks<A: Node, R: Wait + Abort>(
     hub.submit(rt, share, question).expect(rt, "a ticket")
 }
 
+/// The ticket is of this request, and of this number.
+pub fn is_of(rt: &impl Abort, ticket: &Ticket, ask: Ask, number: u64) {
+    assert!(rt; ticket.question() == request(rt, ask));
+    assert!(rt; ticket.number() == number);
+}
+
+pub fn keeps_ticket(rt: &impl Abort, tickets: &mut Vec<Ticket>, ticket: Ticket) {
+    match tickets.push(ticket) {
+        Ok(()) => {}
+        Err(_ticket) => panic!(rt; "ample memory"),
+    }
+}
+
+/// The request gets a ticket, which is refused and ends.
+pub fn takes<A: Node, R: Wait + Abort>(rt: &R, hub: &Hub<A>, share: &mut Share<A>, ask: Ask) {
+    let ticket = asks(rt, hub, share, ask);
+    forfeits(rt, hub, ticket);
+}
+
 /// The request is refused for this cause.
 pub fn refuses<A: Node, R: Wait + Abort>(
     rt: &R,
@@ -42,7 +61,7 @@ pub fn refuses<A: Node, R: Wait + Abort>(
 pub fn redeems<A: Node, R: Wait + Abort>(rt: &R, hub: &Hub<A>, ticket: Ticket) {
     match hub.redeem_wait(rt, ticket) {
         Ok((reply, stub)) => assert!(rt; stub.reply() == reply),
-        Err((_ticket, refusal)) => panic!(rt; "{refusal}"),
+        Err((_ticket, refusal)) => refused(rt, refusal),
     }
 }
 
@@ -51,7 +70,7 @@ pub fn says<A: Node, R: Wait + Abort>(rt: &R, hub: &Hub<A>, ticket: Ticket, say:
     let want = say.reply().expect(rt, "a reply");
     match hub.redeem_wait(rt, ticket) {
         Ok((reply, stub)) => assert!(rt; reply == want && stub.reply() == want),
-        Err((_ticket, refusal)) => panic!(rt; "{refusal}"),
+        Err((_ticket, refusal)) => refused(rt, refusal),
     }
 }
 
@@ -59,11 +78,14 @@ pub fn says<A: Node, R: Wait + Abort>(rt: &R, hub: &Hub<A>, ticket: Ticket, say:
 pub fn fails<A: Node, R: Wait + Abort>(rt: &R, hub: &Hub<A>, ticket: Ticket) {
     match hub.redeem_wait(rt, ticket) {
         Ok(_) => panic!(rt; "redeemed"),
-        Err((ticket, refusal)) => {
-            assert!(rt; refusal == Refusal::Failed);
-            assert!(rt; hub.forfeit(rt, ticket).is_ok());
-        }
+        Err((ticket, refusal)) => has_failed(rt, hub, ticket, refusal),
     }
+}
+
+/// The ticket that was refused since the hub has failed is forfeited.
+fn has_failed<A: Node, R: Wait + Abort>(rt: &R, hub: &Hub<A>, ticket: Ticket, refusal: Refusal) {
+    assert!(rt; refusal == Refusal::Failed);
+    assert!(rt; hub.forfeit(rt, ticket).is_ok());
 }
 
 /// The ticket is no open one of the hub, or the hub takes requests.
@@ -81,10 +103,15 @@ pub fn launches_none<A: Node, R: Wait + Abort>(
     match hub.launch(rt, tie) {
         Ok(Some(_work)) => panic!(rt; "work"),
         Ok(None) => assert!(rt; no.is_none()),
-        Err(refusal) => match no {
-            Some(no) => assert!(rt; refusal == no.refusal()),
-            None => panic!(rt; "{refusal}"),
-        },
+        Err(refusal) => is_no(rt, refusal, no),
+    }
+}
+
+/// The refusal is of this cause.
+fn is_no(rt: &impl Abort, refusal: Refusal, no: Option<No>) {
+    match no {
+        Some(no) => assert!(rt; refusal == no.refusal()),
+        None => refused(rt, refusal),
     }
 }
 
@@ -93,7 +120,7 @@ pub fn launches<A: Node, R: Wait + Abort>(rt: &R, hub: &Hub<A>, tie: &mut Tie<A>
         Ok(Some(Work::Batch(batch))) => batch,
         Ok(Some(Work::Checkpoint(_made))) => panic!(rt; "a checkpoint"),
         Ok(None) => panic!(rt; "nothing waits"),
-        Err(refusal) => panic!(rt; "{refusal}"),
+        Err(refusal) => refused(rt, refusal),
     }
 }
 
@@ -135,7 +162,7 @@ pub fn lands<A: Node, R: Wait + Abort>(
             assert!(rt; landed.count == count);
             drop(landed);
         }
-        Err((_receipt, refusal)) => panic!(rt; "{refusal}"),
+        Err((_receipt, refusal)) => refused(rt, refusal),
     }
 }
 
@@ -151,7 +178,7 @@ pub fn launches_all<A: Node, R: Wait + Abort>(rt: &R, hub: &Hub<A>, tie: &mut Ti
         }
         Ok(Some(Work::Batch(_batch))) => panic!(rt; "a batch"),
         Ok(None) => panic!(rt; "nothing waits"),
-        Err(refusal) => panic!(rt; "{refusal}"),
+        Err(refusal) => refused(rt, refusal),
     }
 }
 

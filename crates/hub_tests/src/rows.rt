@@ -20,6 +20,11 @@ pub fn request(rt: &impl Abort, ask: Ask) -> Request {
     ask.request().expect(rt, "a request")
 }
 
+/// A refusal that is not to be.
+pub fn refused(rt: &impl Abort, refusal: Refusal) -> ! {
+    panic!(rt; "{refusal}")
+}
+
 /// Why a hub refuses a call.
 #[derive(Clone, Copy)]
 pub enum No {
@@ -93,7 +98,7 @@ pub fn journal_of<R: Abort + AllocGlobal>(rt: &R) -> Journal<MemDevice>
 {
     match Journal::format(empty_device(rt), node(rt, 1), 3, 4096) {
         Ok(journal) => journal,
-        Err((_device, refusal)) => panic!(rt; "{refusal}"),
+        Err((_device, refusal)) => refused(rt, refusal),
     }
 }
 
@@ -105,6 +110,6 @@ pub fn broken_journal<R: Abort + AllocGlobal>(rt: &R) -> Journal<FuseDevice<MemD
             journal.arm(0, false);
             journal
         }
-        Err((_device, refusal)) => panic!(rt; "{refusal}"),
+        Err((_device, refusal)) => refused(rt, refusal),
     }
 }

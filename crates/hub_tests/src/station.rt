@@ -3,7 +3,7 @@ ghost use Rattle.std.specs.Prelude.{◌≡◌};
 ghost use Rattle.gated_journal.specs.Journal.{member_of};
 
 use crate::calls::*;
-use crate::rows::{No, journal_of, request};
+use crate::rows::{No, journal_of, refused};
 use commit_hub::{Hub, Look, Node, Share, Tie};
 use disk_model::MemDevice;
 use gated_journal::{Batch, Journal};
@@ -138,41 +138,21 @@ impl<A: Node> Station<A> {
         match step {
             Step::Asks(ask, number) => self.asks(rt, ask, number),
             Step::Refuses(ask, cause) => refuses(rt, &self.hub, &mut self.share, ask, cause),
-            Step::Redeems => {
-                let ticket = self.ticket(rt);
-                redeems(rt, &self.hub, ticket);
-            }
-            Step::Says(say) => {
-                let ticket = self.ticket(rt);
-                says(rt, &self.hub, ticket, say);
-            }
-            Step::Fails => {
-                let ticket = self.ticket(rt);
-                fails(rt, &self.hub, ticket);
-            }
-            Step::Forfeits => {
-                let ticket = self.ticket(rt);
-                forfeits(rt, &self.hub, ticket);
-            }
-            Step::Ends => {
-                let ticket = self.ticket(rt);
-                assert!(rt; self.hub.forfeit(rt, ticket).is_ok());
-            }
+            Step::Redeems => self.redeems(rt),
+            Step::Says(say) => self.says(rt, say),
+            Step::Fails => self.fails(rt),
+            Step::Forfeits => self.forfeits(rt),
+            Step::Ends => self.ends(rt),
             Step::Takes(first, end) => self.takes(rt, first, end),
             Step::Launches => self.launches(rt),
             Step::LaunchesNone(cause) => launches_none(rt, &self.hub, &mut self.tie, cause),
             Step::Lands(count) => self.lands(rt, count),
             Step::LandsAnother => lands_another(rt, &self.hub, &mut self.tie),
-            Step::Flushes => {
-                self.launches(rt);
-                self.lands(rt, 1);
-            }
+            Step::Flushes => self.flushes(rt),
             Step::Renews(count, cost) => self.renews(rt, count, cost),
             Step::SpoilsAnother => spoils_another(rt, &self.hub, &mut self.tie),
             Step::Spoils => self.spoils(rt),
-            Step::CommitsAnother => {
-                commits(rt, &mut self.journal, other_batch(rt)).into_parts();
-            }
+            Step::CommitsAnother => self.commits_another(rt),
             Step::Closes => self.hub.close(rt),
             Step::Abandons => self.hub.abandon(rt),
             Step::IsOpen(is_open) => assert!(rt; self.hub.look(rt).is_open == is_open),
@@ -184,12 +164,42 @@ impl<A: Node> Station<A> {
 
     fn asks<R: Wait + Abort>(&mut self, rt: &R, ask: Ask, number: u64) {
         let ticket = asks(rt, &self.hub, &mut self.share, ask);
-        assert!(rt; ticket.question() == request(rt, ask));
-        assert!(rt; ticket.number() == number);
-        match self.tickets.push(ticket) {
-            Ok(()) => {}
-            Err(_ticket) => panic!(rt; "ample memory"),
-        }
+        is_of(rt, &ticket, ask, number);
+        keeps_ticket(rt, &mut self.tickets, ticket);
+    }
+
+    fn redeems<R: Wait + Abort>(&mut self, rt: &R) {
+        let ticket = self.ticket(rt);
+        redeems(rt, &self.hub, ticket);
+    }
+
+    fn says<R: Wait + Abort>(&mut self, rt: &R, say: Say) {
+        let ticket = self.ticket(rt);
+        says(rt, &self.hub, ticket, say);
+    }
+
+    fn fails<R: Wait + Abort>(&mut self, rt: &R) {
+        let ticket = self.ticket(rt);
+        fails(rt, &self.hub, ticket);
+    }
+
+    fn forfeits<R: Wait + Abort>(&mut self, rt: &R) {
+        let ticket = self.ticket(rt);
+        forfeits(rt, &self.hub, ticket);
+    }
+
+    fn ends<R: Wait + Abort>(&mut self, rt: &R) {
+        let ticket = self.ticket(rt);
+        assert!(rt; self.hub.forfeit(rt, ticket).is_ok());
+    }
+
+    fn flushes<R: Wait + Abort>(&mut self, rt: &R) {
+        self.launches(rt);
+        self.lands(rt, 1);
+    }
+
+    fn commits_another<R: Abort + AllocGlobal>(&mut self, rt: &R) {
+        commits(rt, &mut self.journal, other_batch(rt)).into_parts();
     }
 
     /// The newest ticket that is open.
@@ -204,8 +214,7 @@ impl<A: Node> Station<A> {
     fn takes<R: Wait + Abort>(&mut self, rt: &R, first: u64, end: u64) {
         for number in first..end {
             let ask = Ask::Take(number, Note::Token("red", 5, 5, 3));
-            let ticket = asks(rt, &self.hub, &mut self.share, ask);
-            forfeits(rt, &self.hub, ticket);
+            takes(rt, &self.hub, &mut self.share, ask);
         }
     }
 
@@ -244,7 +253,7 @@ impl<A: Node> Station<A> {
         let spoiled = spoils(rt, self.batch(rt));
         match self.hub.fail(rt, &mut self.tie, spoiled) {
             Ok(()) => {}
-            Err((_spoiled, refusal)) => panic!(rt; "{refusal}"),
+            Err((_spoiled, refusal)) => refused(rt, refusal),
         }
     }
 }

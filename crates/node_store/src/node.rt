@@ -87,9 +87,9 @@ impl<D: Device> Node<D> {
 
     /// The node that a device holds, which it makes stable first: it goes on from the summary that its journal holds, and
     /// stands for the inputs behind that, all of them durable. The caller sees that the node is one of the ring. Refused as
-    /// 15; as 17 where there is no header; as 18 where it is that of a journal without areas; as 19 where it names another
-    /// node or ring size; as 16 with the offset of what is damaged; as 24 with the number of the first input behind the
-    /// summary, counted from 0, that is not admitted after those before it; and as 8 where it is met.
+    /// 15; as 17 where there is no header; as 19 where it names another node or ring size; as 16 with the offset of what is
+    /// damaged; as 24 with the number of the first input behind the summary, counted from 0, that is not admitted after
+    /// those before it; and as 8 where it is met.
     pub fn recover(
         alloc: Global,
         device: D,

@@ -18,7 +18,7 @@ use gated_journal::{Batch, Checkpoint, Flown, Receipt, Spoiled};
 use ring_records::{BATCH_INPUTS, EPOCHS, LAYOUT, Refusal};
 
 impl Desk {
-    ghost use Rattle.group_commit.specs.Desk.{known_all, seen, launched_all, launch_objection, checkpoint_objection, is_due, needs_checkpoint, IsFlying, MayRenew};
+    ghost use Rattle.group_commit.specs.Desk.{known_all, seen, launched_all, launch_objection, checkpoint_objection, frees_room, is_due, needs_checkpoint, IsFlying, MayRenew};
     ghost use Rattle.group_commit.specs.Past.{IsPast};
     ghost use Rattle.gated_journal.specs.Batch.{shown as batch_shown, is_checkpoint, kept_in, landed as receipted, lost, numbered, numbered_with, numbered_by, base_by};
 
@@ -119,6 +119,17 @@ impl Desk {
     {
         is_over_half(self.core.used(), self.capacity)
             && is_quarter(self.core.summary_len(), self.capacity)
+            && self.has_epoch()
+    }
+
+    /// Whether a checkpoint frees room where it is asked for: what is taken, less the snapshot of all accepted inputs, is a
+    /// sixteenth of the capacity at least, that snapshot fits the capacity, and the journal may write another area.
+    pub fn frees_room(&self) -> bool
+        ensures { result ≡ frees_room self.now }
+    {
+        let length = self.core.summary_len();
+        is_sixteenth(self.core.used().saturating_sub(length), self.capacity)
+            && length <= u64::from(self.capacity)
             && self.has_epoch()
     }
 
@@ -249,6 +260,14 @@ fn is_quarter(length: u64, capacity: u32) -> bool
 {
     let capacity = u64::from(capacity);
     length <= capacity && 4 * length <= capacity
+}
+
+// Whether so many bytes are a sixteenth of the capacity at least.
+fn is_sixteenth(bytes: u64, capacity: u32) -> bool
+    ensures { result ≡ nat_le capacity (16 * bytes) }
+{
+    let capacity = u64::from(capacity);
+    bytes >= capacity || 16 * bytes >= capacity
 }
 
 // Whether both are the same length, or none.

@@ -9,7 +9,7 @@ pub invariant_of-self : goal.invariant_of-self
 invariant_of-self g c =
     let old = c.args.self.now in
     let desk = old.shared.desk in
-    let l = launches c.launch_next.result desk c.launch_next.new.self old.counts old.next_is c.launch_next.ensures.next c.launch_next.ensures.free c.launch_next.ensures.same in
+    let l = launches old.is_wanted c.launch_next-launched.result desk c.launch_next-launched.new.self old.counts old.next_is c.launch_next-launched.ensures.next c.launch_next-launched.ensures.free c.launch_next-launched.ensures.same in
     record {
       of = l.member ∙ old.of;
       opening = l.opening ∙ old.opening;
@@ -25,7 +25,7 @@ invariant_of-self g c =
 pub returns-clause-next : goal.returns-clause-next
 returns-clause-next g c =
     let old = c.args.self.now in
-    fits_next c.launch_next.result old.shared.desk _ _ _ old.of old.opening (sym old.held_is ∙ sym c.audit.ensures.equal) c.launch_next.ensures.fits
+    fits_next c.launch_next-launched.result old.shared.desk _ _ _ old.of old.opening (sym old.held_is ∙ sym c.audit.ensures.equal) c.launch_next-launched.ensures.fits
 
 pub returns-clause-based : goal.returns-clause-based
 returns-clause-based g c =
@@ -41,4 +41,4 @@ returns-clause-none g c =
     let count = ap (λ (d : Durable). length d.inputs) (c.audit.ensures.equal ∙ old.held_is) ∙ durable_count desk.view.state old.counts in
     let durable : g.A.Node.opening.inputs + length (known_by c.args.tie.now).inputs ≡ desk.opening.inputs + desk.view.state.durable = (λ i. (sym old.opening i).inputs + count i) in
     let within : g.A.Node.opened ≤ desk.opening.inputs + length desk.view.state.inputs = omega (arith, c.audit-2.ensures.bound, old.first_is.1, old.first_is.2, old.counted) in
-    none_waits c.launch_next.result desk c.launch_next.new.self _ _ c.launch_next.ensures.work durable within
+    none_waits old.is_wanted c.launch_next-launched.result desk c.launch_next-launched.new.self _ _ c.launch_next-launched.ensures.work durable within

@@ -1,4 +1,4 @@
-use Rattle.std.proofs.Common.{◌≡◌, ◌+◌, ◌*◌, ◌<◌, ◌≤◌, ◌++◌, drop, Some, inl, inr, refl, sym, ap, ◌∙◌, subst, arith}
+use Rattle.std.proofs.Common.{◌≡◌, ◌+◌, ◌-◌, ◌*◌, ◌<◌, ◌≤◌, ◌++◌, drop, Some, inl, inr, refl, sym, ap, ◌∙◌, subst, arith}
 use Rattle.std.specs.Prelude.{nat_lt}
 use Rattle.std.proofs.lemmas.Bool.{and_parts, ltb-true}
 use Rattle.std.proofs.lemmas.List.{take-append-drop}
@@ -28,7 +28,7 @@ returns-in-Ok-clause-fits c =
     let made = c.in-Ok.made in
     let counts = c.accepted-accepted.ensures.counts in
     let idle = (may_launch desk launch.free).idle in
-    let is = next_why desk (sym c.is_checkpoint_next.ensures ∙ c.if-is_checkpoint_next.true) in
+    let is = next_why c.args.is_wanted desk (sym c.is_checkpoint_next.ensures ∙ c.if-is_checkpoint_next.true) in
     let inputs : (numbered_by made).inputs ≡ drop s.durable s.inputs = ap (λ (n : Numbered). n.inputs) launch.checkpoint ∙ (ap (λ (d : DeskKept). flying_in d.view.state) launch.next ∙ not_durable s) in
     record {
       node = ap (λ (n : Numbered). n.node) launch.checkpoint;
@@ -36,10 +36,15 @@ returns-in-Ok-clause-fits c =
       snapshot = refl;
       summary = launch.summary ∙ ap (after m.node desk.opening) (sym (take-append-drop s.durable s.inputs) ∙ ap (λ l. durable_in s ++ l) (sym inputs));
       why = elim is [
-        | inl due ↦ (
+        | inl (inl due) ↦ (
             let base : used (launched_base s) s.inputs ≡ used s.base s.inputs = ap (λ (b : Base). used b s.inputs) (idle-base s idle) in
             inl (omega (arith, due.filled, base, durable_costs s counts, ap costs_of inputs), subst (λ (b : Summary). 4 * snapshot_len newest b ≤ m.capacity) (sym launch.summary) due.short))
-        | inr needs ↦ inr (subst (λ (b : Base). b.layout < newest) (idle-base s idle) (ltb-true (launched_base s).layout newest (and_parts (nat_lt (launched_base s).layout newest) _ needs).0))
+        | inl (inr freed) ↦ (
+            let base : used (launched_base s) s.inputs ≡ used s.base s.inputs = ap (λ (b : Base). used b s.inputs) (idle-base s idle) in
+            let taken : used (launched_base s) s.inputs ≡ used s.base (durable_in s) + costs_of (numbered_by made).inputs = omega (arith, base, durable_costs s counts, ap costs_of inputs) in
+            inr (inl (subst (λ (b : Summary). m.capacity ≤ 16 * (used s.base (durable_in s) + costs_of (numbered_by made).inputs - snapshot_len newest b)) (sym launch.summary)
+            (subst (λ k. m.capacity ≤ 16 * (k - snapshot_len newest (known_all desk))) taken freed.freed))))
+        | inr needs ↦ inr (inr (subst (λ (b : Base). b.layout < newest) (idle-base s idle) (ltb-true (launched_base s).layout newest (and_parts (nat_lt (launched_base s).layout newest) _ needs).0)))
       ];
       fits = launch.fits;
       sound = launch.sound;
@@ -79,4 +84,4 @@ returns-in-Ok-Some-clause-fits c =
 
 pub returns-in-Err-clause-refusal : goal.returns-in-Err-clause-refusal
 returns-in-Err-clause-refusal c =
-    next_refused c.args.self.now c.in-Err.refusal (sym c.is_checkpoint_next.ensures ∙ c.if-is_checkpoint_next.true) (may_renew c.args.self.now c.accepted-accepted.ensures.known) c.in-Err.ensures.refusal
+    next_refused c.args.is_wanted c.args.self.now c.in-Err.refusal (sym c.is_checkpoint_next.ensures ∙ c.if-is_checkpoint_next.true) (may_renew c.args.self.now c.accepted-accepted.ensures.known) c.in-Err.ensures.refusal
