@@ -6,9 +6,11 @@
 mod arrival;
 mod deadline;
 mod lines;
+mod stay;
 mod transfer;
 
 pub use arrival::next_client;
 pub use deadline::Deadline;
 pub use lines::{ClientReader, ClientWriter};
+pub use stay::Stay;
 pub use transfer::{part, receive, send, send_all};

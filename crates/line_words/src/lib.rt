@@ -14,5 +14,5 @@ mod write;
 
 pub use line::{first_line, without_return};
 pub use print::print_refusal;
-pub use word::{read_bid, read_group, read_number, read_term, read_words};
+pub use word::{behind, read_bid, read_group, read_number, read_term, read_words};
 pub use write::{WriteFault, write_whole};

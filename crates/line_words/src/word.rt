@@ -1,10 +1,10 @@
 // The words of a line, and what each of them says.
-ghost use Rattle.std.specs.Prelude.{◌≡◌, ◌≤◌, map, IfOk, IfErr, true};
+ghost use Rattle.std.specs.Prelude.{◌≡◌, ◌≤◌, map, option_map, IfOk, IfErr, true};
 ghost use Rattle.std.specs.Char.{is_ascii_digit};
 ghost use Rattle.std.specs.List.{list_all};
 ghost use Rattle.std.specs.Str.Parse.{digits_value};
 ghost use Rattle.line_words.specs.Forms.{bid_word, name_word, number_word, term_word, words_in};
-ghost use Rattle.line_words.specs.Words.{is_number, words_of};
+ghost use Rattle.line_words.specs.Words.{behind, is_number, words_of};
 
 use ring_records::{Bid, GroupName, Refusal, Term};
 use std::alloc::{AllocError, Global};
@@ -30,6 +30,18 @@ pub fn read_words(alloc: Global, line: &[u8]) -> Result<Result<Vec<&[u8]>, Refus
         return Ok(Err(Refusal::BadLine));
     }
     Ok(Ok(split_words(alloc, line)?))
+}
+
+/// What stands behind these bytes, where the text begins with them.
+#[tactic(auto, unfolding(crate::specs::Words::behind))]
+pub fn behind<'a>(text: &'a [u8], front: &[u8]) -> Option<&'a [u8]>
+    ensures { option_map (λ rest. rest.now) result ≡ behind front.now text.now }
+{
+    if text.starts_with(front) {
+        Some(&text[front.len()..])
+    } else {
+        None
+    }
 }
 
 fn are_digits(word: &[u8]) -> bool

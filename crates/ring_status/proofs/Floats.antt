@@ -4,7 +4,8 @@ use Rattle.serde_json.specs.Data.{Data}
 use Rattle.serde_json.specs.View.{items_of}
 use Rattle.serde_json.specs.Written.{has_float, items_have_float}
 use Rattle.ring_records.specs.declared.decision.Decision.{Decision}
-use Rattle.ring_status.specs.Data.{latest_data, lead_data, node_data, refusal_data, status_data, leaders_data}
+use Rattle.ring_status.specs.Data.{latest_data, lead_data, natural, node_data, refusal_data, status_data, leaders_data}
+use Rattle.ring_status.specs.declared.holder.Holder.{Holder}
 use Rattle.ring_status.specs.declared.values.NodeStatus.{NodeStatus}
 use Rattle.ring_status.specs.declared.values.RingStatus.{RingStatus}
 
@@ -17,12 +18,12 @@ node_has_none node = ap (λ (b : Bool). (b || false) || false) (each_has_none re
 
 pub ring_has_none : (ring : RingStatus) → has_float (status_data ring) ≡ false
 unfolding status_data
-ring_has_none ring = ap (λ (b : Bool). b || false) (each_has_none node_data node_has_none (ring.nodes).now)
+ring_has_none ring = ap₂ (λ (a b : Bool). a || (b || false)) (each_has_none natural (λ node. refl) (ring.doorless).now) (each_has_none node_data node_has_none (ring.nodes).now)
 
 pub page_has_none : (node : ℕ) (leads : List Decision) (more : Bool) → has_float (leaders_data node leads more) ≡ false
 unfolding leaders_data
 page_has_none node leads more = ap (λ (b : Bool). b || false) (each_has_none lead_data (λ lead. refl) leads)
 
-pub one_has_none : (node : ℕ) (lead : Decision) (present : Bool) → has_float (latest_data node lead present) ≡ false
+pub one_has_none : (node : ℕ) (lead : Decision) (holder : Holder) → has_float (latest_data node lead holder) ≡ false
 unfolding latest_data
-one_has_none node lead present = refl
+one_has_none node lead holder = refl

@@ -3,6 +3,7 @@ use Rattle.std.specs.Prelude.{ℕ, Bool, List, map, codes}
 use Rattle.serde_json.specs.Data.{Data, array, boolean, member, no_members, number, object, string, unsigned}
 use Rattle.serde_json.specs.View.{items_of}
 use Rattle.ring_records.specs.declared.decision.Decision.{Decision}
+use Rattle.ring_status.specs.declared.holder.Holder.{Holder}
 use Rattle.ring_status.specs.declared.values.Condition.{Condition}
 use Rattle.ring_status.specs.declared.values.Condition.TheVariants.{Well, Limit, Full, Hangs, Failed}
 use Rattle.ring_status.specs.declared.values.NodeStatus.{NodeStatus}
@@ -30,48 +31,48 @@ refusal_data told = object (member (codes "count") (natural told.count) (member 
 
 abbrev pub journal_data : NodeStatus → Data
 journal_data node = object
-    (member (codes "batches") (natural node.batches)
-    (member (codes "capacity") (natural node.capacity)
-    (member (codes "checkpoints") (natural node.checkpoints)
-    (member (codes "durable") (natural (node.shown).durable)
-    (member (codes "epoch") (natural node.epoch)
-    (member (codes "inputs") (natural (node.shown).inputs)
-    (member (codes "layout") (natural node.layout)
-    (member (codes "refused") (natural node.refused_rounds)
+    (member (codes "batches") (natural node.counts.batches)
+    (member (codes "capacity") (natural node.held.capacity)
+    (member (codes "checkpoints") (natural node.counts.checkpoints)
+    (member (codes "durable") (natural node.held.shown.durable)
+    (member (codes "epoch") (natural node.held.epoch)
+    (member (codes "inputs") (natural node.held.shown.inputs)
+    (member (codes "layout") (natural node.held.layout)
+    (member (codes "refused") (natural node.counts.refused_rounds)
     (member (codes "renewable") (boolean node.renewable)
-    (member (codes "snapshot") (natural node.snapshot)
-    (member (codes "syncs") (natural node.syncs)
-    (member (codes "used") (natural node.used)
+    (member (codes "snapshot") (natural node.held.snapshot)
+    (member (codes "syncs") (natural node.counts.syncs)
+    (member (codes "used") (natural node.held.used)
     (member (codes "writing") (natural node.writing) no_members)))))))))))))
 
 abbrev pub messages_data : NodeStatus → Data
 messages_data node = object
-    (member (codes "credit") (natural (node.shown).credit)
-    (member (codes "refused") (natural node.refused_messages)
-    (member (codes "sent") (natural (node.shown).sent)
-    (member (codes "taken") (natural (node.shown).taken)
-    (member (codes "waiting") (natural node.letters) no_members)))))
+    (member (codes "credit") (natural node.held.shown.credit)
+    (member (codes "refused") (natural node.counts.refused_messages)
+    (member (codes "sent") (natural node.held.shown.sent)
+    (member (codes "taken") (natural node.held.shown.taken)
+    (member (codes "waiting") (natural node.letters.count) no_members)))))
 
 abbrev pub sessions_data : NodeStatus → Data
 sessions_data node = object
-    (member (codes "begun") (natural node.sessions)
-    (member (codes "busy") (natural node.busy)
-    (member (codes "doors") (natural node.doors)
+    (member (codes "begun") (natural node.counts.begun)
+    (member (codes "busy") (natural node.counts.busy)
+    (member (codes "doors") (natural node.place.doors)
     (member (codes "refusals") (each refusal_data (node.refusals).items) no_members))))
 
 abbrev pub stands_data : NodeStatus → Data
 stands_data node = object
-    (member (codes "floors") (natural node.floors)
+    (member (codes "floors") (natural node.held.floors)
     (member (codes "left") (natural node.stands_left)
-    (member (codes "taken") (natural node.stands) no_members)))
+    (member (codes "taken") (natural node.held.stands) no_members)))
 
 abbrev pub node_data : NodeStatus → Data
 node_data node = object
-    (member (codes "elections") (natural node.elections)
+    (member (codes "elections") (natural node.counts.elections)
     (member (codes "journal") (journal_data node)
     (member (codes "messages") (messages_data node)
-    (member (codes "node") (natural node.node)
-    (member (codes "port") (natural node.port)
+    (member (codes "node") (natural node.place.node)
+    (member (codes "port") (natural node.place.port)
     (member (codes "sessions") (sessions_data node)
     (member (codes "stands") (stands_data node)
     (member (codes "state") (string (condition_text node.condition)) no_members))))))))
@@ -81,11 +82,12 @@ node_data node = object
 unfoldable pub status_data : RingStatus → Data
 status_data ring = object
     (member (codes "dir") (string (ring.dir).now)
+    (member (codes "doorless") (each natural (ring.doorless).now)
     (member (codes "idle") (natural ring.idle)
     (member (codes "nodes") (each node_data (ring.nodes).now)
     (member (codes "started") (natural ring.started)
     (member (codes "version") (string (ring.version).now)
-    (member (codes "words") (string (ring.words).now) no_members))))))
+    (member (codes "words") (string (ring.words).now) no_members)))))))
 
 -- ---- leaders
 
@@ -103,5 +105,10 @@ leaders_data node leads more = object
     (member (codes "leaders") (each lead_data leads)
     (member (codes "more") (boolean more) no_members)))
 
-unfoldable pub latest_data : ℕ → Decision → Bool → Data
-latest_data node lead present = object (member (codes "by") (natural node) (member (codes "leader") (lead_data lead) (member (codes "present") (boolean present) no_members)))
+unfoldable pub latest_data : ℕ → Decision → Holder → Data
+latest_data node lead holder = object
+    (member (codes "by") (natural node)
+    (member (codes "leader") (lead_data lead)
+    (member (codes "present") (boolean holder.present)
+    (member (codes "resigned") (boolean holder.resigned)
+    (member (codes "text") (string (holder.text).now) no_members)))))

@@ -1,22 +1,22 @@
 -- Whether each node takes what it should.
-use Rattle.std.specs.Prelude.{ℕ, ◌+◌, ◌-◌, ◌*◌, nat_lt, nat_le, Bool, true, false, not, ◌&&◌, if◌then◌else◌, List, [], ◌++◌, codes}
+use Rattle.std.specs.Prelude.{ℕ, ◌+◌, ◌-◌, ◌*◌, nat_lt, nat_le, Bool, true, false, not, ◌&&◌, ◌||◌, if◌then◌else◌, ◌==◌, List, [], ◌++◌, length, codes}
 use Rattle.std.specs.Fmt.{decimal}
 use Rattle.std.specs.List.{flat_map, list_all}
-use Rattle.ring_records.specs.declared.limits.TheConstants.{INPUT_BYTES, STANDS}
+use Rattle.ring_records.specs.declared.limits.TheConstants.{STANDS}
 use Rattle.ring_status.specs.declared.holding.Holding.{Holding}
 use Rattle.ring_status.specs.declared.holding.TheConstants.{HANG_SECONDS}
 use Rattle.ring_status.specs.declared.values.Condition.{Condition}
 use Rattle.ring_status.specs.declared.values.Condition.TheVariants.{Well, Limit, Full, Hangs, Failed}
 use Rattle.ring_status.specs.declared.values.NodeStatus.{NodeStatus}
 
--- What a node takes that holds so much: nothing where it takes no requests; none is durable where its device has been busy
--- with some for ten seconds; a Stand or a message takes 42 bytes at most,
--- for which a checkpoint that is due makes room; and a node takes 1,024 Stands at most.
-abbrev pub condition_of : Holding → Bool → Condition
-condition_of held is_open =
-    if not is_open then Failed
-    else (if nat_le HANG_SECONDS held.writing then Hangs
-    else (if not held.is_due && nat_lt held.capacity (held.used + INPUT_BYTES) then Full
+-- What a node takes that holds so much, whose device has been busy with a batch or a checkpoint for so many seconds: nothing
+-- where it takes no requests; none is durable behind ten seconds; no Stand that would leave less than the reserve free; no
+-- message where no checkpoint makes room for it; and a node takes 1,024 Stands at most.
+abbrev pub condition_of : Holding → ℕ → Condition
+condition_of held writing =
+    if not held.is_open then Failed
+    else (if nat_le HANG_SECONDS writing then Hangs
+    else (if not held.takes_stands || held.lacks_room then Full
     else (if nat_le STANDS held.stands then Limit
     else Well)))
 
@@ -49,7 +49,11 @@ line_for node Hangs = codes "node " ++ decimal node ++ codes " hangs\n"
 line_for node Failed = codes "node " ++ decimal node ++ codes " failed\n"
 
 abbrev pub fault_text : NodeStatus → List ℕ
-fault_text node = line_for node.node node.condition
+fault_text node = line_for node.place.node node.condition
 
-unfoldable pub health_body : List NodeStatus → List ℕ
-health_body nodes = if all_well nodes then codes "well\n" else flat_map fault_text nodes
+-- the line of a node of which no door was free
+abbrev pub doorless_text : ℕ → List ℕ
+doorless_text node = codes "node " ++ decimal node ++ codes " has no door free\n"
+
+unfoldable pub health_body : List NodeStatus → List ℕ → List ℕ
+health_body nodes doorless = if all_well nodes && (length doorless == 0) then codes "well\n" else flat_map fault_text nodes ++ flat_map doorless_text doorless

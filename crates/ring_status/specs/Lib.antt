@@ -1,4 +1,6 @@
 pub mod Answers
+pub mod Bounds
+pub mod Counts
 pub mod Data
 pub mod Health
 pub mod Metrics

@@ -2,8 +2,7 @@
 use Rattle.std.specs.Prelude.{ℕ, if◌then◌else◌, List, [], ◌∷◌, ◌++◌, codes}
 use Rattle.std.specs.Fmt.{decimal}
 use Rattle.std.specs.List.{flat_map}
-use Rattle.ring_status.specs.declared.bound.Bound.{Bound}
-use Rattle.ring_status.specs.declared.bound.Bound.TheVariants as up_to
+use Rattle.ring_status.specs.Bounds.{seconds_text}
 use Rattle.ring_status.specs.declared.metric.Metric.{Metric}
 use Rattle.ring_status.specs.declared.metric.Metric.TheVariants as of
 use Rattle.ring_status.specs.declared.values.CommitTimes.{CommitTimes}
@@ -143,31 +142,31 @@ value_of of.Failed node = failed node.condition
 value_of of.Hangs node = hangs node.condition
 value_of of.Full node = full node.condition
 value_of of.AtLimit node = at_limit node.condition
-value_of of.Inputs node = (node.shown).inputs
-value_of of.Durable node = (node.shown).durable
-value_of of.Sent node = (node.shown).sent
-value_of of.Taken node = (node.shown).taken
-value_of of.Credit node = (node.shown).credit
-value_of of.RefusedMessages node = node.refused_messages
-value_of of.Elections node = node.elections
-value_of of.Used node = node.used
-value_of of.Snapshot node = node.snapshot
+value_of of.Inputs node = node.held.shown.inputs
+value_of of.Durable node = node.held.shown.durable
+value_of of.Sent node = node.held.shown.sent
+value_of of.Taken node = node.held.shown.taken
+value_of of.Credit node = node.held.shown.credit
+value_of of.RefusedMessages node = node.counts.refused_messages
+value_of of.Elections node = node.counts.elections
+value_of of.Used node = node.held.used
+value_of of.Snapshot node = node.held.snapshot
 value_of of.Renewable node = (if node.renewable then 1 else 0)
-value_of of.Capacity node = node.capacity
-value_of of.Stands node = node.stands
+value_of of.Capacity node = node.held.capacity
+value_of of.Stands node = node.held.stands
 value_of of.StandsLeft node = node.stands_left
-value_of of.Floors node = node.floors
-value_of of.Batches node = node.batches
-value_of of.Checkpoints node = node.checkpoints
-value_of of.Epoch node = node.epoch
-value_of of.Layout node = node.layout
-value_of of.Syncs node = node.syncs
+value_of of.Floors node = node.held.floors
+value_of of.Batches node = node.counts.batches
+value_of of.Checkpoints node = node.counts.checkpoints
+value_of of.Epoch node = node.held.epoch
+value_of of.Layout node = node.held.layout
+value_of of.Syncs node = node.counts.syncs
 value_of of.Writing node = node.writing
-value_of of.RefusedRounds node = node.refused_rounds
-value_of of.Sessions node = node.sessions
-value_of of.Doors node = node.doors
-value_of of.BusyDoors node = node.busy
-value_of of.Letters node = node.letters
+value_of of.RefusedRounds node = node.counts.refused_rounds
+value_of of.Sessions node = node.counts.begun
+value_of of.Doors node = node.place.doors
+value_of of.BusyDoors node = node.counts.busy
+value_of of.Letters node = node.letters.count
 
 -- all of them, in their order
 unfoldable pub metrics : List Metric
@@ -185,7 +184,7 @@ head_of name help kind =
 -- the line of a node
 abbrev pub sample : Metric → NodeStatus → List ℕ
 sample metric node =
-    name_text metric ++ codes "{node=\"" ++ decimal node.node ++ codes "\"} " ++ decimal (value_of metric node) ++ codes "\n"
+    name_text metric ++ codes "{node=\"" ++ decimal node.place.node ++ codes "\"} " ++ decimal (value_of metric node) ++ codes "\n"
 
 abbrev pub family_of : List NodeStatus → Metric → List ℕ
 family_of nodes metric = head_of (name_text metric) (help_text metric) (kind_text metric) ++ flat_map (sample metric) nodes
@@ -197,24 +196,13 @@ refusal_sample node told =
     ++ codes "\"} " ++ decimal told.count ++ codes "\n"
 
 abbrev pub refusal_samples : NodeStatus → List ℕ
-refusal_samples node = flat_map (refusal_sample node.node) (node.refusals).items
+refusal_samples node = flat_map (refusal_sample node.place.node) (node.refusals).items
 
 unfoldable pub refusals_head : List ℕ
 refusals_head = head_of (codes "cinoweta_refusals_total") (codes "Refusals that clients were told since the start, by their number.") (codes "counter")
 
 unfoldable pub refusals_family : List NodeStatus → List ℕ
 refusals_family nodes = refusals_head ++ flat_map refusal_samples nodes
-
--- a bound in seconds
-abbrev pub seconds_text : Bound → List ℕ
-seconds_text up_to.Micros200 = codes "0.0002"
-seconds_text up_to.Millis1 = codes "0.001"
-seconds_text up_to.Millis5 = codes "0.005"
-seconds_text up_to.Millis25 = codes "0.025"
-seconds_text up_to.Millis100 = codes "0.1"
-seconds_text up_to.Millis500 = codes "0.5"
-seconds_text up_to.Millis2500 = codes "2.5"
-seconds_text up_to.Seconds10 = codes "10"
 
 -- the line of how many commits of a node took no longer than a bound
 unfoldable pub bucket : ℕ → List ℕ → ℕ → List ℕ
@@ -239,7 +227,7 @@ commit_totals node times =
     bucket node (codes "+Inf") times.count ++ commit_sum node times.micros ++ commit_count node times.count
 
 abbrev pub commit_samples : NodeStatus → List ℕ
-commit_samples node = flat_map (within_sample node.node) (node.commits.within).items ++ commit_totals node.node node.commits
+commit_samples node = flat_map (within_sample node.place.node) (node.commits.within).items ++ commit_totals node.place.node node.commits
 
 unfoldable pub commits_head : List ℕ
 commits_head = head_of (codes "cinoweta_commit_seconds") (codes "How long batches and checkpoints took since the start, those that failed too.") (codes "histogram")

@@ -1,8 +1,8 @@
 -- What a target asks, by a look at its bytes.
 use Rattle.std.specs.Prelude.{ℕ, ◌==◌, ◌+◌, if◌then◌else◌, List, length, take, drop, position, codes, Option, Some, None, option_and_then, ok_or, Result, Ok, Err}
-use Rattle.std.specs.List.{starts_with}
 use Rattle.std.specs.Str.{bytes_eq}
 use Rattle.line_words.specs.Forms.{name_word, number_word}
+use Rattle.line_words.specs.Words.{behind}
 use Rattle.ring_status.specs.declared.status.Status.{Status}
 use Rattle.ring_status.specs.declared.status.Status.TheVariants as status
 use Rattle.ring_status.specs.declared.target.Target.{Target}
@@ -15,10 +15,6 @@ parts (Some at) text = (take at text, Some (drop (at + 1) text))
 
 unfoldable pub cut_at : ℕ → List ℕ → List ℕ × Option (List ℕ)
 cut_at byte text = parts (position (λ b. b == byte) text) text
-
--- what stands behind these bytes, where the text begins with them
-unfoldable pub behind : List ℕ → List ℕ → Option (List ℕ)
-behind front text = if starts_with ◌==◌ text front then Some (drop (length front) text) else None
 
 abbrev pub found : {A E : Type 0} → Result A E → Option A
 found (Ok x) = Some x
@@ -42,6 +38,10 @@ number_in front low high parameter = option_and_then (λ word. found (number_wor
 -- `above=T`
 abbrev pub above_in : List ℕ → Option ℕ
 above_in parameter = number_in (codes "above=") 0 999999999 parameter
+
+-- `held=T`
+abbrev pub held_in : List ℕ → Option ℕ
+held_in parameter = number_in (codes "held=") 0 999999999 parameter
 
 -- `wait=S`
 abbrev pub wait_in : List ℕ → Option ℕ
@@ -72,9 +72,16 @@ abbrev pub page_of : Option (List ℕ) → Option Target
 page_of None = Some (ask.Leaders 1 None)
 page_of (Some query) = page_by (cut_at 38 query)
 
--- the next leader of the group by the node, of `above=T` and `wait=S`
+-- what is waited for so many seconds: the next leader above T, of `above=T`, or the end of that of T, of `held=T`
+abbrev pub waited : List ℕ → ℕ → List ℕ → ℕ → Option Target
+waited group node first wait = by (above_in first) where
+  by : Option ℕ → Option Target
+  by (Some above) = Some (ask.NextOf node group above wait)
+  by None = option_and_then (λ held. Some (ask.HeldOf node group held wait)) (held_in first)
+
+-- the same of two parameters, the second of which is `wait=S`
 abbrev pub next_of : List ℕ → ℕ → List ℕ → List ℕ → Option Target
-next_of group node first second = option_and_then (λ above. option_and_then (λ wait. Some (ask.NextOf node group above wait)) (wait_in second)) (above_in first)
+next_of group node first second = option_and_then (λ wait. waited group node first wait) (wait_in second)
 
 -- the same of a query without its node
 abbrev pub next_in : List ℕ → ℕ → List ℕ × Option (List ℕ) → Option Target

@@ -1,6 +1,6 @@
 // The bounds by which batches and checkpoints are counted.
 ghost use Rattle.std.specs.Prelude.{◌≡◌};
-ghost use Rattle.ring_status.specs.Metrics.{seconds_text};
+ghost use Rattle.ring_status.specs.Bounds.{bounds, micros_of, seconds_text};
 
 /// A bound by which batches and checkpoints are counted.
 #[derive(Clone, Copy, Debug, PartialEq, Eq)]
@@ -15,7 +15,43 @@ pub enum Bound {
     Seconds10,
 }
 
+/// All of them, as they rise.
+const BOUNDS: [Bound; 8] = [
+    Bound::Micros200,
+    Bound::Millis1,
+    Bound::Millis5,
+    Bound::Millis25,
+    Bound::Millis100,
+    Bound::Millis500,
+    Bound::Millis2500,
+    Bound::Seconds10,
+];
+
 impl Bound {
+    /// All of them, as they rise.
+    #[tactic(auto, unfolding(crate::specs::Bounds::bounds))]
+    pub fn all() -> &'static [Bound]
+        ensures { result.now ≡ bounds }
+    {
+        &BOUNDS
+    }
+
+    /// It in microseconds.
+    pub fn micros(self) -> u64
+        ensures { result ≡ micros_of self }
+    {
+        match self {
+            Bound::Micros200 => 200,
+            Bound::Millis1 => 1_000,
+            Bound::Millis5 => 5_000,
+            Bound::Millis25 => 25_000,
+            Bound::Millis100 => 100_000,
+            Bound::Millis500 => 500_000,
+            Bound::Millis2500 => 2_500_000,
+            Bound::Seconds10 => 10_000_000,
+        }
+    }
+
     /// It in seconds, as a decimal number.
     pub fn seconds(self) -> &'static str
         ensures { result.now ≡ seconds_text self }

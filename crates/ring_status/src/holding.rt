@@ -1,15 +1,16 @@
 // What a node holds and does, and what that says of what it takes.
-ghost use Rattle.std.specs.Prelude.{◌≡◌, ◌+◌, ◌-◌, nat_lt};
-ghost use Rattle.ring_records.specs.declared.limits.TheConstants.{INPUT_BYTES};
+ghost use Rattle.std.specs.Prelude.{◌≡◌, ◌-◌};
 ghost use Rattle.ring_status.specs.Health.{condition_of, is_renewable, stands_left};
 
 use crate::values::Condition;
-use ring_records::{INPUT_BYTES, STANDS};
+use ring_records::{STANDS, Shown};
 
-/// What a node holds of what it may hold, and how long it has been writing.
+/// What a node holds of what it may hold, at one moment.
 #[derive(Clone, Copy, Debug, PartialEq, Eq)]
 pub struct Holding {
-    /// How many bytes of its capacity are taken, by a snapshot and by inputs.
+    /// Its inputs, and how far its links are, since its first start.
+    pub shown: Shown,
+    /// How many bytes of its capacity are taken, by the snapshot of its last checkpoint and the inputs since.
     pub used: u64,
     /// The length of the snapshot that a checkpoint would write now, in bytes.
     pub snapshot: u64,
@@ -17,38 +18,39 @@ pub struct Holding {
     pub capacity: u64,
     /// How many Stands it has taken that are not retired.
     pub stands: u64,
-    /// Whether a checkpoint is due, which makes room.
-    pub is_due: bool,
-    /// For how many seconds its device has been busy with a batch or a checkpoint, 0 where it is with none.
-    pub writing: u64,
+    /// How many groups have a floor.
+    pub floors: u64,
+    /// The epoch of its journal's area in use, which each checkpoint raises by 1.
+    pub epoch: u64,
+    /// The layout of that area.
+    pub layout: u8,
+    /// Whether a Stand leaves the reserve free behind a checkpoint.
+    pub takes_stands: bool,
+    /// Whether there is no room for the longest message, and no checkpoint would make some.
+    pub lacks_room: bool,
+    /// Whether it takes requests.
+    pub is_open: bool,
 }
 
 /// For how many seconds a device may be busy with a batch or a checkpoint before it hangs.
 const HANG_SECONDS: u64 = 10;
 
 impl Holding {
-    /// What a node takes that holds so much, and that takes requests or takes none.
-    pub fn condition(&self, is_open: bool) -> Condition
-        ensures { result ≡ condition_of self.now is_open }
+    /// What a node takes that holds so much, whose device has been busy with a batch or a checkpoint for so many seconds.
+    pub fn condition(&self, writing: u64) -> Condition
+        ensures { result ≡ condition_of self.now writing }
     {
-        if !is_open {
+        if !self.is_open {
             Condition::Failed
-        } else if self.writing >= HANG_SECONDS {
+        } else if writing >= HANG_SECONDS {
             Condition::Hangs
-        } else if !self.is_due && self.is_filled() {
+        } else if !self.takes_stands || self.lacks_room {
             Condition::Full
         } else if self.stands >= u64::from(STANDS) {
             Condition::Limit
         } else {
             Condition::Well
         }
-    }
-
-    // Whether there is no room for the longest message.
-    fn is_filled(&self) -> bool
-        ensures { result ≡ nat_lt self.now.capacity (self.now.used + INPUT_BYTES) }
-    {
-        self.used > self.capacity || self.capacity - self.used < INPUT_BYTES
     }
 
     /// Whether another checkpoint can come: its snapshot takes a quarter of the capacity at most.

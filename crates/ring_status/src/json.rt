@@ -3,8 +3,9 @@ ghost use Rattle.std.specs.Prelude.{◌≡◌, false, IfOk, map, string_bytes};
 ghost use Rattle.serde_json.specs.Data.{array, string};
 ghost use Rattle.serde_json.specs.View.{items_of, view};
 ghost use Rattle.serde_json.specs.Written.{compact_text, has_float};
-ghost use Rattle.ring_status.specs.Data.{condition_text, journal_data, latest_data, lead_data, leaders_data, messages_data, node_data, refusal_data, sessions_data, stands_data, status_data};
+ghost use Rattle.ring_status.specs.Data.{condition_text, journal_data, latest_data, lead_data, leaders_data, messages_data, natural, node_data, refusal_data, sessions_data, stands_data, status_data};
 
+use crate::holder::Holder;
 use crate::values::{Condition, NodeStatus, RefusalCount, RingStatus};
 use ring_records::{Decision, GroupName, NodeNo};
 use serde_json::{Value, json};
@@ -43,18 +44,18 @@ fn journal_json(alloc: Global, node: &NodeStatus) -> Result<Value, AllocError>
     ensures { IfOk result (λ v. view v ≡ journal_data node.now) }
 {
     json!(in alloc; {
-        "batches": node.batches,
-        "capacity": node.capacity,
-        "checkpoints": node.checkpoints,
-        "durable": node.shown.durable,
-        "epoch": node.epoch,
-        "inputs": node.shown.inputs,
-        "layout": node.layout,
-        "refused": node.refused_rounds,
+        "batches": node.counts.batches,
+        "capacity": node.held.capacity,
+        "checkpoints": node.counts.checkpoints,
+        "durable": node.held.shown.durable,
+        "epoch": node.held.epoch,
+        "inputs": node.held.shown.inputs,
+        "layout": node.held.layout,
+        "refused": node.counts.refused_rounds,
         "renewable": node.renewable,
-        "snapshot": node.snapshot,
-        "syncs": node.syncs,
-        "used": node.used,
+        "snapshot": node.held.snapshot,
+        "syncs": node.counts.syncs,
+        "used": node.held.used,
         "writing": node.writing
     })
 }
@@ -63,11 +64,11 @@ fn messages_json(alloc: Global, node: &NodeStatus) -> Result<Value, AllocError>
     ensures { IfOk result (λ v. view v ≡ messages_data node.now) }
 {
     json!(in alloc; {
-        "credit": node.shown.credit,
-        "refused": node.refused_messages,
-        "sent": node.shown.sent,
-        "taken": node.shown.taken,
-        "waiting": node.letters
+        "credit": node.held.shown.credit,
+        "refused": node.counts.refused_messages,
+        "sent": node.held.shown.sent,
+        "taken": node.held.shown.taken,
+        "waiting": node.letters.count
     })
 }
 
@@ -76,9 +77,9 @@ fn sessions_json(alloc: Global, node: &NodeStatus) -> Result<Value, AllocError>
 {
     let refusals = refusals_json(alloc, node.refusals.as_slice())?;
     json!(in alloc; {
-        "begun": node.sessions,
-        "busy": node.busy,
-        "doors": node.doors,
+        "begun": node.counts.begun,
+        "busy": node.counts.busy,
+        "doors": node.place.doors,
         "refusals": refusals
     })
 }
@@ -86,7 +87,7 @@ fn sessions_json(alloc: Global, node: &NodeStatus) -> Result<Value, AllocError>
 fn stands_json(alloc: Global, node: &NodeStatus) -> Result<Value, AllocError>
     ensures { IfOk result (λ v. view v ≡ stands_data node.now) }
 {
-    json!(in alloc; {"floors": node.floors, "left": node.stands_left, "taken": node.stands})
+    json!(in alloc; {"floors": node.held.floors, "left": node.stands_left, "taken": node.held.stands})
 }
 
 fn node_json(alloc: Global, node: &NodeStatus) -> Result<Value, AllocError>
@@ -97,11 +98,11 @@ fn node_json(alloc: Global, node: &NodeStatus) -> Result<Value, AllocError>
     let sessions = sessions_json(alloc, node)?;
     let stands = stands_json(alloc, node)?;
     json!(in alloc; {
-        "elections": node.elections,
+        "elections": node.counts.elections,
         "journal": journal,
         "messages": messages,
-        "node": node.node.number(),
-        "port": node.port,
+        "node": node.place.node.number(),
+        "port": node.place.port,
         "sessions": sessions,
         "stands": stands,
         "state": condition_text(node.condition)
@@ -118,13 +119,31 @@ fn nodes_json(alloc: Global, nodes: &[NodeStatus]) -> Result<Value, AllocError>
     Ok(Value::Array(all))
 }
 
+fn number_json(node: NodeNo) -> Value
+    ensures { view result ≡ natural node }
+{
+    Value::from(node.number())
+}
+
+fn numbers_json(alloc: Global, nodes: &[NodeNo]) -> Result<Value, AllocError>
+    ensures { IfOk result (λ v. view v ≡ array (items_of (map natural nodes.now))) }
+{
+    let mut all = Vec::new(alloc);
+    for node in nodes {
+        all.push(number_json(*node))?;
+    }
+    Ok(Value::Array(all))
+}
+
 #[tactic(auto, unfolding(crate::specs::Data::status_data))]
 fn ring_json(alloc: Global, ring: &RingStatus<'_>) -> Result<Value, AllocError>
     ensures { IfOk result (λ v. view v ≡ status_data ring.now) }
 {
     let nodes = nodes_json(alloc, ring.nodes)?;
+    let doorless = numbers_json(alloc, ring.doorless)?;
     json!(in alloc; {
         "dir": ring.dir,
+        "doorless": doorless,
         "idle": ring.idle,
         "nodes": nodes,
         "started": ring.started,
@@ -183,12 +202,18 @@ fn leader_json(
     alloc: Global,
     node: NodeNo,
     lead: &Decision,
-    present: bool,
+    holder: &Holder<'_>,
 ) -> Result<Value, AllocError>
-    ensures { IfOk result (λ v. view v ≡ latest_data node lead.now present) }
+    ensures { IfOk result (λ v. view v ≡ latest_data node lead.now holder.now) }
 {
     let lead = lead_json(alloc, lead)?;
-    json!(in alloc; {"by": node.number(), "leader": lead, "present": present})
+    json!(in alloc; {
+        "by": node.number(),
+        "leader": lead,
+        "present": holder.present,
+        "resigned": holder.resigned,
+        "text": holder.text
+    })
 }
 
 // The text of a value in which no number has a fraction.
@@ -224,16 +249,15 @@ pub fn leaders_json(
 }
 
 #[tactic(auto, using(crate::proofs::Floats::one_has_none))]
-/// The latest leader of a group by the board of a node, and whether a session is open that stood for it. Refused for want of
-/// memory alone.
+/// The latest leader of a group by the board of a node, and what is known of who leads so. Refused for want of memory alone.
 pub fn latest_json(
     alloc: Global,
     node: NodeNo,
     lead: &Decision,
-    present: bool,
+    holder: &Holder<'_>,
 ) -> Result<String, AllocError>
-    ensures { IfOk result (λ text. string_bytes text ≡ compact_text (latest_data node lead.now present)) }
+    ensures { IfOk result (λ text. string_bytes text ≡ compact_text (latest_data node lead.now holder.now)) }
 {
-    let value = leader_json(alloc, node, lead, present)?;
+    let value = leader_json(alloc, node, lead, holder)?;
     text_of(alloc, &value)
 }

@@ -4,12 +4,14 @@
 //! a head and a body: `/health` in lines, `/status` and `/leaders` as JSON, `/metrics` in the text format of Prometheus.
 //!
 //! `specs/` says the same by a look at bytes and values: Targets what a target asks, Requests what a head asks, Answers
-//! the bytes of an answer, and Health, Data and Metrics its bodies.
+//! the bytes of an answer, Health, Data and Metrics its bodies, Counts and Bounds what is counted, and by which bounds.
 #![tactic(auto)]
 
 mod answer;
 mod bound;
+mod counts;
 mod health;
+mod holder;
 mod holding;
 mod json;
 mod metric;
@@ -17,11 +19,14 @@ mod metrics;
 mod request;
 mod status;
 mod target;
+mod told;
 mod values;
 
 pub use answer::{Content, answer_text};
 pub use bound::Bound;
+pub use counts::{Counts, Landing};
 pub use health::{are_well, health_text};
+pub use holder::Holder;
 pub use holding::Holding;
 pub use json::{latest_json, leaders_json, status_json};
 pub use metric::Metric;
@@ -29,4 +34,7 @@ pub use metrics::metrics_text;
 pub use request::{HEAD_BYTES, Method, Request, read_request};
 pub use status::Status;
 pub use target::{Target, read_target};
-pub use values::{CommitTimes, Condition, NodeStatus, RefusalCount, RingStatus, WithinCount};
+pub use told::node_status;
+pub use values::{
+    CommitTimes, Condition, Letters, NodeStatus, Place, RefusalCount, RingStatus, WithinCount,
+};

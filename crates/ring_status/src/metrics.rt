@@ -18,7 +18,7 @@ fn print_sample(out: &mut String, metric: Metric, node: &NodeStatus) -> Result<(
     ensures { OnOk result (string_bytes out.new ≡ string_bytes out.old ++ sample metric node.now) }
 {
     let name = metric.name();
-    let number = node.node.number();
+    let number = node.place.node.number();
     let value = metric.of(node);
     writeln!(out, "{name}{{node=\"{number}\"}} {value}")
 }
@@ -83,7 +83,7 @@ fn print_all_refusals(out: &mut String, nodes: &[NodeStatus]) -> Result<(), Allo
     ensures { OnOk result (string_bytes out.new ≡ string_bytes out.old ++ flat_map refusal_samples nodes.now) }
 {
     for node in nodes {
-        print_refusals(out, node.node, node.refusals.as_slice())?;
+        print_refusals(out, node.place.node, node.refusals.as_slice())?;
     }
     Ok(())
 }
@@ -192,7 +192,7 @@ fn print_commit_totals(out: &mut String, node: u8, times: &CommitTimes) -> Resul
 fn print_commits(out: &mut String, node: &NodeStatus) -> Result<(), AllocError>
     ensures { OnOk result (string_bytes out.new ≡ string_bytes out.old ++ commit_samples node.now) }
 {
-    let number = node.node.number();
+    let number = node.place.node.number();
     print_each_within(out, number, node.commits.within.as_slice())?;
     print_commit_totals(out, number, &node.commits)
 }

@@ -1,10 +1,10 @@
 // What a target asks.
 ghost use Rattle.std.specs.Prelude.{◌≡◌, ◌==◌, ok_or, option_map, position};
-ghost use Rattle.ring_status.specs.Targets.{above_in, after_in, asked_of, behind, cut_at, group_word, leader_of, next_by, next_of, node_in, node_word};
-ghost use Rattle.ring_status.specs.Targets.{number_in, page_by_one, page_by_two, page_of, target_of, wait_in};
+ghost use Rattle.ring_status.specs.Targets.{above_in, after_in, asked_of, cut_at, group_word, held_in, leader_of, next_by, next_of, node_in, node_word};
+ghost use Rattle.ring_status.specs.Targets.{number_in, page_by_one, page_by_two, page_of, target_of, wait_in, waited};
 
 use crate::status::Status;
-use line_words::{read_group, read_number};
+use line_words::{behind, read_group, read_number};
 use ring_records::{GroupName, NodeNo};
 
 /// What is asked.
@@ -25,6 +25,9 @@ pub enum Target {
     /// The latest leader of a group in a term above this one, by the board of a node, which is waited for so many seconds,
     /// at most 60.
     NextOf(NodeNo, GroupName, u64, u64),
+    /// The latest leader of a group in a term above this one, or in this one where it is not present, by the board of a node,
+    /// which is waited for so many seconds, at most 60.
+    HeldOf(NodeNo, GroupName, u64, u64),
 }
 
 // The place of the first such byte.
@@ -43,18 +46,6 @@ fn cut_at(text: &[u8], byte: u8) -> (&[u8], Option<&[u8]>)
     match place_of(text, byte) {
         None => (text, None),
         Some(at) => (&text[..at], Some(&text[at + 1..])),
-    }
-}
-
-#[tactic(auto, unfolding(crate::specs::Targets::behind))]
-// What stands behind these bytes, where the text begins with them.
-fn behind<'a>(text: &'a [u8], front: &[u8]) -> Option<&'a [u8]>
-    ensures { option_map (λ rest. rest.now) result ≡ behind front.now text.now }
-{
-    if text.starts_with(front) {
-        Some(&text[front.len()..])
-    } else {
-        None
     }
 }
 
@@ -90,6 +81,13 @@ fn above_in(parameter: &[u8]) -> Option<u64>
     ensures { result ≡ above_in parameter.now }
 {
     number_in(b"above=", 0, 999_999_999, parameter)
+}
+
+// The term of `held=T`.
+fn held_in(parameter: &[u8]) -> Option<u64>
+    ensures { result ≡ held_in parameter.now }
+{
+    number_in(b"held=", 0, 999_999_999, parameter)
 }
 
 // The seconds of `wait=S`.
@@ -136,12 +134,22 @@ fn page_of(query: Option<&[u8]>) -> Option<Target>
     }
 }
 
-// The next leader that `above=T` and `wait=S` ask for.
+// What is waited for so many seconds: `above=T` or `held=T`.
+fn waited(group: GroupName, node: NodeNo, first: &[u8], seconds: u64) -> Option<Target>
+    ensures { result ≡ waited group node first.now seconds }
+{
+    match above_in(first) {
+        Some(above) => Some(Target::NextOf(node, group, above, seconds)),
+        None => Some(Target::HeldOf(node, group, held_in(first)?, seconds)),
+    }
+}
+
+// What `above=T` or `held=T` asks for, and `wait=S` behind it.
 fn next_of(group: GroupName, node: NodeNo, first: &[u8], second: &[u8]) -> Option<Target>
     ensures { result ≡ next_of group node first.now second.now }
 {
-    let above = above_in(first)?;
-    Some(Target::NextOf(node, group, above, wait_in(second)?))
+    let seconds = wait_in(second)?;
+    waited(group, node, first, seconds)
 }
 
 // The next leader that two parameters ask for, or three, of which the first names the node.
@@ -190,7 +198,7 @@ fn or_bad(page: Option<Target>) -> Result<Target, Status>
 #[tactic(auto, unfolding(crate::specs::Targets::target_of))]
 /// What a target asks: `/live`, `/health`, `/status` and `/metrics`, whose query is not read; `/leaders`, with `node=I` or
 /// `after=GROUP` or both, in this order and parted by `&`; `/leaders/GROUP`, with `node=I` or nothing, and behind either
-/// with `above=T&wait=S`. Node 1 is asked where none is named. Refused as 404 where there is no such page, and else as 400 by its name or its query.
+/// with `above=T&wait=S` or `held=T&wait=S`. Node 1 is asked where none is named. Refused as 404 where there is no such page, and else as 400 by its name or its query.
 pub fn read_target(target: &[u8]) -> Result<Target, Status>
     ensures { result ≡ target_of target.now }
 {

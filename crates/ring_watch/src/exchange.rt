@@ -85,6 +85,7 @@ fn waits(asked: &Asked) -> Option<(Request, u64)> {
     match asked {
         Ok(request) => match request.target {
             Target::NextOf(_, _, _, seconds) if seconds > 0 => Some((*request, seconds)),
+            Target::HeldOf(_, _, _, seconds) if seconds > 0 => Some((*request, seconds)),
             _ => None,
         },
         Err(_) => None,

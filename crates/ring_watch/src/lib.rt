@@ -10,6 +10,7 @@ mod pages;
 mod reception;
 mod roll;
 mod status_port;
+mod stopwatch;
 mod tally;
 mod tally_writer;
 mod visitor;
@@ -17,5 +18,6 @@ mod watchers;
 
 pub use reception::{Inquiry, Page, Reception};
 pub use status_port::{Facts, StatusPort};
+pub use stopwatch::Stopwatch;
 pub use tally::Tally;
 pub use tally_writer::TallyWriter;

@@ -1,10 +1,12 @@
 //! What is told for each target.
-use crate::reception::{Page, Reception};
+use crate::reception::{Page, Reception, home_of};
+use crate::roll::Presence;
 use crate::status_port::Facts;
 use client_stream::Deadline;
+use door_rules::is_told;
 use ring_records::{Decision, GroupName, NodeNo};
 use ring_status::{
-    Content, NodeStatus, RingStatus, Status, Target, are_well, health_text, latest_json,
+    Content, Holder, NodeStatus, RingStatus, Status, Target, are_well, health_text, latest_json,
     leaders_json, metrics_text, status_json,
 };
 use std::alloc::{AllocError, Global};
@@ -52,8 +54,31 @@ fn statuses<R: Wait + Clock>(
     Ok(nodes)
 }
 
-fn health(alloc: Global, nodes: &[NodeStatus]) -> Result<Body, Status> {
-    let status = if are_well(nodes) {
+/// The nodes of which no door was free for a while, in their order. Refused where one of them does not answer.
+fn doorless<R: Wait + Clock>(
+    rt: &R,
+    alloc: Global,
+    reception: &Reception,
+    nodes: &[NodeStatus],
+    deadline: Deadline,
+) -> Result<Vec<NodeNo>, Status> {
+    let mut without = Vec::new(alloc);
+    for status in nodes {
+        match reception.has_no_door(rt, alloc, status.place.node, deadline) {
+            Some(true) => {
+                if without.push(status.place.node).is_err() {
+                    return Err(Status::Unavailable);
+                }
+            }
+            Some(false) => {}
+            None => return Err(Status::Unavailable),
+        }
+    }
+    Ok(without)
+}
+
+fn health(alloc: Global, nodes: &[NodeStatus], doorless: &[NodeNo]) -> Result<Body, Status> {
+    let status = if are_well(nodes) && doorless.is_empty() {
         Status::Found
     } else {
         Status::Unavailable
@@ -61,11 +86,11 @@ fn health(alloc: Global, nodes: &[NodeStatus]) -> Result<Body, Status> {
     Ok(Body {
         status,
         content: Content::Text,
-        text: had(health_text(alloc, nodes))?,
+        text: had(health_text(alloc, nodes, doorless))?,
     })
 }
 
-fn ring<'a>(facts: &'a Facts, nodes: &'a [NodeStatus]) -> RingStatus<'a> {
+fn ring<'a>(facts: &'a Facts, nodes: &'a [NodeStatus], doorless: &'a [NodeNo]) -> RingStatus<'a> {
     RingStatus {
         version: facts.version,
         dir: facts.dir.as_str(),
@@ -73,6 +98,7 @@ fn ring<'a>(facts: &'a Facts, nodes: &'a [NodeStatus]) -> RingStatus<'a> {
         words: facts.words.as_str(),
         idle: facts.idle,
         nodes,
+        doorless,
     }
 }
 
@@ -101,7 +127,7 @@ fn page<R: Wait + Clock>(
     }
 }
 
-/// This leader by the node's board, and whether a session is open that stood for it.
+/// This leader by the node's board, and what is known of who leads so.
 fn leader<R: Wait>(
     rt: &R,
     alloc: Global,
@@ -109,8 +135,25 @@ fn leader<R: Wait>(
     node: NodeNo,
     lead: &Decision,
 ) -> Result<Body, Status> {
-    let present = reception.is_present(rt, lead.leader.node, &lead.key);
-    found(Content::Json, latest_json(alloc, node, lead, present))
+    match reception.presence(rt, home_of(lead), &lead.key) {
+        Some(presence) => holder(alloc, node, lead, &presence),
+        None => Err(Status::Unavailable),
+    }
+}
+
+/// This leader by the node's board, of whom this is known.
+fn holder(
+    alloc: Global,
+    node: NodeNo,
+    lead: &Decision,
+    presence: &Presence,
+) -> Result<Body, Status> {
+    let known = Holder {
+        present: presence.present,
+        resigned: presence.resigned,
+        text: presence.text.as_str(),
+    };
+    found(Content::Json, latest_json(alloc, node, lead, &known))
 }
 
 /// The latest leader of the group.
@@ -173,6 +216,46 @@ fn leader_above<R: Wait>(
     }
 }
 
+/// The latest leader of the group in a term above this one, or in this one where it is not present any more, or that there is
+/// none.
+fn gone<R: Wait + Clock>(
+    rt: &R,
+    alloc: Global,
+    reception: &Reception,
+    node: NodeNo,
+    group: GroupName,
+    held: u64,
+    deadline: Deadline,
+) -> Result<Body, Status> {
+    let Some(known) = reception.latest(rt, alloc, node, group, deadline) else {
+        return Err(Status::Unavailable);
+    };
+    match known {
+        Some(lead) => leader_behind(rt, alloc, reception, node, &lead, held),
+        None => Ok(nothing(alloc)),
+    }
+}
+
+/// This leader where one who waits for the end of that of term `held` is told of it, or that there is none.
+fn leader_behind<R: Wait>(
+    rt: &R,
+    alloc: Global,
+    reception: &Reception,
+    node: NodeNo,
+    lead: &Decision,
+    held: u64,
+) -> Result<Body, Status> {
+    let Some(presence) = reception.presence(rt, home_of(lead), &lead.key) else {
+        return Err(Status::Unavailable);
+    };
+    let term = u64::from(lead.key.term.number());
+    if is_told(held, term, presence.present) {
+        holder(alloc, node, lead, &presence)
+    } else {
+        Ok(nothing(alloc))
+    }
+}
+
 /// Whether the ring has the node.
 fn has(reception: &Reception, node: NodeNo) -> bool {
     usize::from(node.number()) <= reception.nodes()
@@ -190,14 +273,25 @@ pub(crate) fn body_of<R: Wait + Clock>(
 ) -> Result<Body, Status> {
     match target {
         Target::Live => found(Content::Text, String::from_str(alloc, LIVE)),
-        Target::Health => health(alloc, &statuses(rt, alloc, reception, deadline)?),
+        Target::Health => {
+            let nodes = statuses(rt, alloc, reception, deadline)?;
+            let doorless = doorless(rt, alloc, reception, &nodes, deadline)?;
+            health(alloc, &nodes, &doorless)
+        }
         Target::Status => {
             let nodes = statuses(rt, alloc, reception, deadline)?;
-            found(Content::Json, status_json(alloc, &ring(facts, &nodes)))
+            let doorless = doorless(rt, alloc, reception, &nodes, deadline)?;
+            found(
+                Content::Json,
+                status_json(alloc, &ring(facts, &nodes, &doorless)),
+            )
         }
         Target::Metrics => {
             let nodes = statuses(rt, alloc, reception, deadline)?;
-            found(Content::Metrics, metrics_text(alloc, &ring(facts, &nodes)))
+            found(
+                Content::Metrics,
+                metrics_text(alloc, &ring(facts, &nodes, &[])),
+            )
         }
         Target::Leaders(node, after) if has(reception, node) => {
             page(rt, alloc, reception, node, after, deadline)
@@ -207,6 +301,9 @@ pub(crate) fn body_of<R: Wait + Clock>(
         }
         Target::NextOf(node, group, above, _) if has(reception, node) => {
             next(rt, alloc, reception, node, group, above, deadline)
+        }
+        Target::HeldOf(node, group, held, _) if has(reception, node) => {
+            gone(rt, alloc, reception, node, group, held, deadline)
         }
         _ => Err(Status::NotFound),
     }

@@ -1,8 +1,10 @@
 //! Where the clerks of a ring's nodes are asked.
-use crate::roll::Roll;
+ghost use Rattle.std.specs.Prelude.{◌≡◌, ◌+◌};
+
+use crate::roll::{Presence, Roll};
 use client_stream::Deadline;
 use crossbeam_channel::{Receiver, Sender, bounded, unbounded};
-use ring_records::{Decision, GroupName, Key, NodeNo};
+use ring_records::{Decision, GroupName, Key, NodeNo, Term};
 use ring_status::NodeStatus;
 use std::alloc::{AllocError, Global};
 use std::sync::{Mutex, Wait};
@@ -24,6 +26,22 @@ pub enum Inquiry {
     Page(Option<GroupName>, Sender<Page>),
     /// The latest leader of the group, by the node's board.
     Latest(GroupName, Sender<Option<Decision>>),
+    /// Whether no door of the node was free for a while but the one that is kept.
+    Doors(Sender<bool>),
+}
+
+/// Where a node stands in lists of all nodes.
+fn place_of(node: NodeNo) -> usize
+    ensures { result + 1 ≡ node }
+{
+    usize::from(node.number()) - 1
+}
+
+/// The node at which its client stood, whichever node tells of it.
+pub(crate) fn home_of(lead: &Decision) -> NodeNo
+    ensures { result ≡ lead.now.leader.node }
+{
+    lead.leader.node
 }
 
 /// Where the clerks of a ring's nodes are asked, until each of them is dismissed, and where it is known for what the sessions
@@ -58,11 +76,11 @@ impl Reception {
     }
 
     fn clerk(&self, node: NodeNo) -> Option<&Mutex<Option<Sender<Inquiry>>>> {
-        self.clerks.get(usize::from(node.number()) - 1)
+        self.clerks.get(place_of(node))
     }
 
     fn roll(&self, node: NodeNo) -> Option<&Roll> {
-        self.rolls.get(usize::from(node.number()) - 1)
+        self.rolls.get(place_of(node))
     }
 
     /// The session at this door of the node, counted from 0, stood for the key.
@@ -79,12 +97,47 @@ impl Reception {
         }
     }
 
-    /// Whether a session is open at the node that stood for the key. Of a session the last eight groups are known.
-    pub fn is_present<R: Wait>(&self, rt: &R, node: NodeNo, key: &Key) -> bool {
-        match self.roll(node) {
-            Some(roll) => roll.has(rt, key),
-            None => false,
+    /// The node gave up the terms of the group below this floor.
+    pub fn retire<R: Wait>(&self, rt: &R, node: NodeNo, group: &GroupName, floor: Term) {
+        if let Some(roll) = self.roll(node) {
+            roll.retire(rt, group, floor);
         }
+    }
+
+    /// The client of the session at this door of the node tells a text of the group. Whether it stood for a term of it. Refused
+    /// for want of memory alone.
+    pub fn tell<R: Wait>(
+        &self,
+        rt: &R,
+        node: NodeNo,
+        door: u32,
+        group: &GroupName,
+        text: &str,
+    ) -> Result<bool, AllocError> {
+        match self.roll(node) {
+            Some(roll) => roll.tell(rt, door, group, text),
+            None => Ok(false),
+        }
+    }
+
+    /// The client of the session at this door of the node resigns for the key. Whether it stood for it. Refused for want of
+    /// memory alone.
+    pub fn resign<R: Wait>(
+        &self,
+        rt: &R,
+        node: NodeNo,
+        door: u32,
+        key: Key,
+    ) -> Result<bool, AllocError> {
+        match self.roll(node) {
+            Some(roll) => roll.resign(rt, door, key),
+            None => Ok(false),
+        }
+    }
+
+    /// What is known of who stood at the node for the key. `None` where there is no such node, or memory is wanting.
+    pub(crate) fn presence<R: Wait>(&self, rt: &R, node: NodeNo, key: &Key) -> Option<Presence> {
+        self.roll(node)?.presence(rt, key).ok()
     }
 
     /// Whether the inquiry was left with the node's clerk.
@@ -140,6 +193,21 @@ impl Reception {
     ) -> Option<Option<Decision>> {
         let (sender, receiver) = bounded(alloc, 1).ok()?;
         if !self.leave(rt, node, Inquiry::Latest(group, sender)) {
+            return None;
+        }
+        answer(rt, &receiver, deadline)
+    }
+
+    /// Whether no door of the node was free for a while but the one that is kept, or `None` as for `status`.
+    pub fn has_no_door<R: Wait + Clock>(
+        &self,
+        rt: &R,
+        alloc: Global,
+        node: NodeNo,
+        deadline: Deadline,
+    ) -> Option<bool> {
+        let (sender, receiver) = bounded(alloc, 1).ok()?;
+        if !self.leave(rt, node, Inquiry::Doors(sender)) {
             return None;
         }
         answer(rt, &receiver, deadline)

@@ -1,39 +1,97 @@
-//! For what the sessions of a node stood.
-use ring_records::{DOORS, GroupName, Key};
+//! For what the sessions of a node stood, and what their clients tell of it.
+use door_rules::{Place, place_for};
+use ring_records::{DOORS, GroupName, Key, Term};
 use std::alloc::{AllocError, Global};
-use std::mem::replace;
 use std::sync::{Mutex, Wait};
 
-/// Of how many groups a session is known to have stood for one.
-const GROUPS: usize = 8;
+/// What a session stood for, and the text that its client tells, if not an empty one.
+#[derive(Drop)]
+struct Stand {
+    key: Key,
+    text: String,
+}
 
-/// For what a session stood, the last one at the end, and of each group one key alone.
-type Stood = [Option<Key>; GROUPS];
+/// What is known of who stood for a key: whether a session is open that did, or its client resigned, and what it tells.
+#[derive(Drop)]
+pub(crate) struct Presence {
+    pub(crate) present: bool,
+    pub(crate) resigned: bool,
+    pub(crate) text: String,
+}
 
-/// For what the session at each door of a node stood.
+/// For what the session at each door of a node stood, 1,024 terms at most, and of what terms who stood for them resigned, as
+/// many at most.
 #[derive(Drop)]
 pub(crate) struct Roll {
-    doors: Vec<Mutex<Stood>>,
+    alloc: Global,
+    doors: Vec<Mutex<Vec<Stand>>>,
+    resigned: Mutex<Vec<Key>>,
 }
 
-/// Whether it is of the group.
-fn is_of(key: &Option<Key>, group: &GroupName) -> bool {
-    match key {
-        Some(key) => key.group == *group,
-        None => false,
+/// Where the key stands, or is to stand.
+fn place_in(stood: &[Stand], key: &Key) -> Place {
+    let own = stood.iter().position(|stand| stand.key == *key);
+    let of_group = stood.iter().position(|stand| stand.key.group == key.group);
+    place_for(own, of_group, stood.len())
+}
+
+/// Where it is to stand among those that were resigned.
+fn place_among(resigned: &[Key], key: &Key) -> Place {
+    let own = resigned.iter().position(|other| *other == *key);
+    let of_group = resigned.iter().position(|other| other.group == key.group);
+    place_for(own, of_group, resigned.len())
+}
+
+/// The key is among what the session stood for.
+fn enter(alloc: Global, stood: &mut Vec<Stand>, key: Key) -> Result<(), AllocError> {
+    match place_in(stood, &key) {
+        Place::There(_) => return Ok(()),
+        Place::Instead(at) if at < stood.len() => drop(stood.remove(at)),
+        _ => {}
     }
+    let text = String::new(alloc);
+    stood.push(Stand { key, text })?;
+    Ok(())
 }
 
-/// The key comes last, and those behind that of its group, or else all, move one place to the front.
-fn enter(stood: &mut Stood, key: Key) {
-    let mut moved = Some(key);
-    for place in stood.iter_mut().rev() {
-        let before = replace(place, moved);
-        if is_of(&before, &key.group) {
-            break;
+/// The key is among those that were resigned.
+fn mark(resigned: &mut Vec<Key>, key: Key) -> Result<(), AllocError> {
+    match place_among(resigned, &key) {
+        Place::There(_) => return Ok(()),
+        Place::Instead(at) if at < resigned.len() => {
+            resigned.remove(at);
         }
-        moved = before;
+        _ => {}
     }
+    resigned.push(key)?;
+    Ok(())
+}
+
+/// Whether it is of the group and below the floor.
+fn is_below(key: &Key, group: &GroupName, floor: Term) -> bool {
+    key.group == *group && key.term < floor
+}
+
+/// Whether it is of a greater term than the one at that place, or there is none.
+fn is_later(stood: &[Stand], than: Option<usize>, stand: &Stand) -> bool {
+    let Some(at) = than else {
+        return true;
+    };
+    match stood.get(at) {
+        Some(other) => other.key.term < stand.key.term,
+        None => true,
+    }
+}
+
+/// Where the greatest term of the group stands.
+fn latest_of(stood: &[Stand], group: &GroupName) -> Option<usize> {
+    let mut latest = None;
+    for (at, stand) in stood.iter().enumerate() {
+        if stand.key.group == *group && is_later(stood, latest, stand) {
+            latest = Some(at);
+        }
+    }
+    latest
 }
 
 impl Roll {
@@ -41,32 +99,108 @@ impl Roll {
     pub(crate) fn new(alloc: Global) -> Result<Roll, AllocError> {
         let mut doors = Vec::with_capacity(alloc, DOORS as usize)?;
         for _ in 0..DOORS {
-            doors.push(Mutex::new([None; GROUPS]))?;
+            doors.push(Mutex::new(Vec::new(alloc)))?;
         }
-        Ok(Roll { doors })
+        Ok(Roll {
+            alloc,
+            doors,
+            resigned: Mutex::new(Vec::new(alloc)),
+        })
     }
 
-    /// The session at this door, counted from 0, stood for the key.
+    /// The session at this door, counted from 0, stood for the key. Where memory is wanting it is not known.
     pub(crate) fn enrol<R: Wait>(&self, rt: &R, door: u32, key: Key) {
         if let Some(stood) = self.doors.get(door as usize) {
-            enter(&mut stood.lock(rt), key);
+            let _ = enter(self.alloc, &mut stood.lock(rt), key);
         }
+        self.resigned.lock(rt).retain(|other| *other != key);
     }
 
     /// The session at this door has ended.
     pub(crate) fn withdraw<R: Wait>(&self, rt: &R, door: u32) {
         if let Some(stood) = self.doors.get(door as usize) {
-            *stood.lock(rt) = [None; GROUPS];
+            *stood.lock(rt) = Vec::new(self.alloc);
         }
     }
 
-    /// Whether a session that is open stood for the key.
-    pub(crate) fn has<R: Wait>(&self, rt: &R, key: &Key) -> bool {
+    /// The node gave up the terms of the group below this floor.
+    pub(crate) fn retire<R: Wait>(&self, rt: &R, group: &GroupName, floor: Term) {
         for stood in &self.doors {
-            if stood.lock(rt).contains(&Some(*key)) {
-                return true;
+            stood
+                .lock(rt)
+                .retain(|stand| !is_below(&stand.key, group, floor));
+        }
+        self.resigned
+            .lock(rt)
+            .retain(|key| !is_below(key, group, floor));
+    }
+
+    /// The client of the session at this door tells a text, of the greatest term of the group that it stood for. Whether there is
+    /// one. Where memory is wanting nothing has changed.
+    pub(crate) fn tell<R: Wait>(
+        &self,
+        rt: &R,
+        door: u32,
+        group: &GroupName,
+        text: &str,
+    ) -> Result<bool, AllocError> {
+        let told = String::from_str(self.alloc, text)?;
+        let Some(stood) = self.doors.get(door as usize) else {
+            return Ok(false);
+        };
+        let mut stood = stood.lock(rt);
+        let Some(at) = latest_of(&stood, group) else {
+            return Ok(false);
+        };
+        if let Some(stand) = stood.get_mut(at) {
+            stand.text = told;
+        }
+        Ok(true)
+    }
+
+    /// Whether the session at this door stood for the key.
+    fn stands_at<R: Wait>(&self, rt: &R, door: u32, key: &Key) -> bool {
+        match self.doors.get(door as usize) {
+            Some(stood) => stood.lock(rt).iter().any(|stand| stand.key == *key),
+            None => false,
+        }
+    }
+
+    /// The client of the session at this door resigns for the key: nobody is present for it from then on. Whether it stood for
+    /// it. Where memory is wanting nothing has changed.
+    pub(crate) fn resign<R: Wait>(&self, rt: &R, door: u32, key: Key) -> Result<bool, AllocError> {
+        if !self.stands_at(rt, door, &key) {
+            return Ok(false);
+        }
+        mark(&mut self.resigned.lock(rt), key)?;
+        for stood in &self.doors {
+            stood.lock(rt).retain(|stand| stand.key != key);
+        }
+        Ok(true)
+    }
+
+    /// The text that is told of the key by a session that stood for it, if one did.
+    fn text_of<R: Wait>(&self, rt: &R, key: &Key) -> Result<Option<String>, AllocError> {
+        let mut known = None;
+        for stood in &self.doors {
+            let stood = stood.lock(rt);
+            if let Some(stand) = stood.iter().find(|stand| stand.key == *key) {
+                if known.is_none() || !stand.text.is_empty() {
+                    known = Some(stand.text.clone()?);
+                }
             }
         }
-        false
+        Ok(known)
+    }
+
+    /// What is known of who stood for the key.
+    pub(crate) fn presence<R: Wait>(&self, rt: &R, key: &Key) -> Result<Presence, AllocError> {
+        let resigned = self.resigned.lock(rt).contains(key);
+        let text = self.text_of(rt, key)?;
+        Ok(Presence {
+            present: text.is_some() && !resigned,
+            resigned,
+            text: text.unwrap_or(String::new(self.alloc)),
+        })
     }
 }

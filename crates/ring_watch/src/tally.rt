@@ -1,38 +1,17 @@
 //! What the threads of a node count.
 use ring_records::REFUSALS;
-use ring_status::{Bound, CommitTimes, RefusalCount, WithinCount};
+use ring_status::{Bound, CommitTimes, Counts, Landing, RefusalCount, WithinCount};
 use std::alloc::{AllocError, Global};
 use std::sync::atomic::{AtomicU64, Ordering};
 use std::sync::{Mutex, Wait};
-use std::time::{Clock, Instant};
+use std::time::Instant;
 
-/// The bounds by which batches and checkpoints are counted, each with its microseconds.
-const BOUNDS: [(Bound, u64); 8] = [
-    (Bound::Micros200, 200),
-    (Bound::Millis1, 1_000),
-    (Bound::Millis5, 5_000),
-    (Bound::Millis25, 25_000),
-    (Bound::Millis100, 100_000),
-    (Bound::Millis500, 500_000),
-    (Bound::Millis2500, 2_500_000),
-    (Bound::Seconds10, 10_000_000),
-];
-
-/// What the threads of a node count since the start. It is read while they count, so two numbers of it may be of two
-/// moments.
+/// What the threads of a node count since the start, each under a lock that is held while a count is changed or copied. How
+/// long commits took, and which refusals clients were told, is read while it is counted.
 #[derive(Drop)]
 pub struct Tally {
-    batches: AtomicU64,
-    checkpoints: AtomicU64,
-    syncs: AtomicU64,
-    refused_rounds: AtomicU64,
-    refused_messages: AtomicU64,
-    elections: AtomicU64,
-    sessions: AtomicU64,
-    busy: AtomicU64,
-    // when its device was given what it writes
-    since: Mutex<Option<Instant>>,
-    // how many of these took no longer than each bound, and than the one below it longer; how many took longer than all
+    counts: Mutex<Counts>,
+    // how many commits took no longer than each bound, and than the one below it longer; how many took longer than all
     took: Vec<AtomicU64>,
     took_longer: AtomicU64,
     micros: AtomicU64,
@@ -47,20 +26,12 @@ impl Tally {
         for _ in 0..REFUSALS {
             refusals.push(AtomicU64::new(0))?;
         }
-        let mut took = Vec::with_capacity(alloc, BOUNDS.len())?;
-        for _ in 0..BOUNDS.len() {
+        let mut took = Vec::with_capacity(alloc, Bound::all().len())?;
+        for _ in Bound::all() {
             took.push(AtomicU64::new(0))?;
         }
         Ok(Tally {
-            batches: AtomicU64::new(0),
-            checkpoints: AtomicU64::new(0),
-            syncs: AtomicU64::new(0),
-            refused_rounds: AtomicU64::new(0),
-            refused_messages: AtomicU64::new(0),
-            elections: AtomicU64::new(0),
-            sessions: AtomicU64::new(0),
-            busy: AtomicU64::new(0),
-            since: Mutex::new(None),
+            counts: Mutex::new(Counts::new()),
             took,
             took_longer: AtomicU64::new(0),
             micros: AtomicU64::new(0),
@@ -68,25 +39,29 @@ impl Tally {
         })
     }
 
-    /// The device is given a batch or a checkpoint now. Where the clock can't be read, nothing is told of how long it takes.
-    pub fn begin_writing<R: Wait + Clock>(&self, rt: &R) {
-        *self.since.lock(rt) = Instant::now(rt).ok();
+    /// What is counted by now.
+    pub fn counts<R: Wait>(&self, rt: &R) -> Counts {
+        *self.counts.lock(rt)
+    }
+
+    /// The device is given a batch or a checkpoint at this moment, where there is a clock.
+    pub(crate) fn begin_writing<R: Wait>(&self, rt: &R, now: Option<Instant>) {
+        self.counts.lock(rt).begin_writing(now);
     }
 
     /// The device is done with it, however. Counts how long it took.
-    pub fn end_writing<R: Wait + Clock>(&self, rt: &R) {
-        let since = self.since.lock(rt).take();
-        if let (Some(since), Ok(now)) = (since, Instant::now(rt)) {
-            self.count_commit(now.saturating_duration_since(since).as_micros());
+    pub(crate) fn end_writing<R: Wait>(&self, rt: &R, now: Option<Instant>) {
+        let took = self.counts.lock(rt).end_writing(now);
+        if let Some(micros) = took {
+            self.count_commit(micros);
         }
     }
 
     /// A batch or a checkpoint took so many microseconds.
-    fn count_commit(&self, micros: u128) {
-        let micros = micros.min(u128::from(u64::MAX)) as u64;
+    fn count_commit(&self, micros: u64) {
         self.micros.fetch_add(micros, Ordering::SeqCst);
-        for ((_, bound), count) in BOUNDS.iter().zip(&self.took) {
-            if micros <= *bound {
+        for (bound, count) in Bound::all().iter().zip(&self.took) {
+            if micros <= bound.micros() {
                 count.fetch_add(1, Ordering::SeqCst);
                 return;
             }
@@ -94,49 +69,29 @@ impl Tally {
         self.took_longer.fetch_add(1, Ordering::SeqCst);
     }
 
-    /// For how many seconds the device has been busy with a batch or a checkpoint, 0 where it is with none.
-    pub fn writing<R: Wait + Clock>(&self, rt: &R) -> u64 {
-        let since = *self.since.lock(rt);
-        match (since, Instant::now(rt)) {
-            (Some(since), Ok(now)) => now.saturating_duration_since(since).as_secs(),
-            _ => 0,
-        }
-    }
-
-    /// A batch is durable, or a checkpoint, which took so many syncs.
-    pub fn count_landed(&self, is_checkpoint: bool, syncs: u64) {
-        if is_checkpoint {
-            self.checkpoints.fetch_add(1, Ordering::SeqCst);
-        } else {
-            self.batches.fetch_add(1, Ordering::SeqCst);
-        }
-        self.syncs.fetch_add(syncs, Ordering::SeqCst);
+    /// A batch is durable, or a checkpoint.
+    pub fn land<R: Wait>(&self, rt: &R, landing: Landing) {
+        self.counts.lock(rt).land(landing);
     }
 
     /// A round was refused for want of memory.
-    pub fn count_refused_round(&self) {
-        self.refused_rounds.fetch_add(1, Ordering::SeqCst);
+    pub fn refuse_round<R: Wait>(&self, rt: &R) {
+        self.counts.lock(rt).refuse_round();
     }
 
     /// A message was refused for want of room.
-    pub fn count_refused_message(&self) {
-        self.refused_messages.fetch_add(1, Ordering::SeqCst);
-    }
-
-    /// So many leaders became known.
-    pub fn count_elections(&self, count: u64) {
-        self.elections.fetch_add(count, Ordering::SeqCst);
+    pub fn refuse_message<R: Wait>(&self, rt: &R) {
+        self.counts.lock(rt).refuse_message();
     }
 
     /// A session begins at one of the doors.
-    pub fn begin_session(&self) {
-        self.sessions.fetch_add(1, Ordering::SeqCst);
-        self.busy.fetch_add(1, Ordering::SeqCst);
+    pub fn begin_session<R: Wait>(&self, rt: &R) {
+        self.counts.lock(rt).begin_session();
     }
 
     /// It has ended. Its door calls this once for each that it began.
-    pub fn end_session(&self) {
-        self.busy.fetch_sub(1, Ordering::SeqCst);
+    pub fn end_session<R: Wait>(&self, rt: &R) {
+        self.counts.lock(rt).end_session();
     }
 
     /// A client was told the refusal of this number.
@@ -147,51 +102,11 @@ impl Tally {
         }
     }
 
-    /// How many batches are durable.
-    pub fn batches(&self) -> u64 {
-        self.batches.load(Ordering::SeqCst)
-    }
-
-    /// How many checkpoints are durable.
-    pub fn checkpoints(&self) -> u64 {
-        self.checkpoints.load(Ordering::SeqCst)
-    }
-
-    /// How many syncs all of these took.
-    pub fn syncs(&self) -> u64 {
-        self.syncs.load(Ordering::SeqCst)
-    }
-
-    /// How many rounds were refused for want of memory.
-    pub fn refused_rounds(&self) -> u64 {
-        self.refused_rounds.load(Ordering::SeqCst)
-    }
-
-    /// How many messages were refused for want of room.
-    pub fn refused_messages(&self) -> u64 {
-        self.refused_messages.load(Ordering::SeqCst)
-    }
-
-    /// How many leaders became known.
-    pub fn elections(&self) -> u64 {
-        self.elections.load(Ordering::SeqCst)
-    }
-
-    /// How many sessions were begun.
-    pub fn sessions(&self) -> u64 {
-        self.sessions.load(Ordering::SeqCst)
-    }
-
-    /// How many of them have not ended.
-    pub fn busy(&self) -> u64 {
-        self.busy.load(Ordering::SeqCst)
-    }
-
     /// How long batches and checkpoints took.
     pub fn commits(&self, alloc: Global) -> Result<CommitTimes, AllocError> {
         let mut within = Vec::new(alloc);
         let mut total = 0u64;
-        for ((bound, _), count) in BOUNDS.iter().zip(&self.took) {
+        for (bound, count) in Bound::all().iter().zip(&self.took) {
             total = total.saturating_add(count.load(Ordering::SeqCst));
             within.push(WithinCount {
                 bound: *bound,

@@ -1,5 +1,7 @@
 //! The answers of a session, whose refusals are counted.
 use crate::tally::Tally;
+use client_stream::Stay;
+use door_rules::keeps;
 use line_words::read_number;
 use ring_records::REFUSALS;
 use std::io;
@@ -19,21 +21,23 @@ fn refusal_in(answer: &[u8]) -> Option<u8> {
 }
 
 /// Writes answers on, each of which begins in one write and ends with a flush, and counts the refusals among those that
-/// went out whole.
+/// went out whole. An answer to a line that asks something keeps the session from being idle.
 #[derive(Drop)]
 pub struct TallyWriter<'a, W> {
     writer: W,
     tally: &'a Tally,
+    stay: &'a Stay<'a>,
     has_begun: bool,
     told: Option<u8>,
 }
 
 impl<'a, W> TallyWriter<'a, W> {
     /// Before the first answer.
-    pub fn new(writer: W, tally: &'a Tally) -> TallyWriter<'a, W> {
+    pub fn new(writer: W, tally: &'a Tally, stay: &'a Stay<'a>) -> TallyWriter<'a, W> {
         TallyWriter {
             writer,
             tally,
+            stay,
             has_begun: false,
             told: None,
         }
@@ -52,8 +56,12 @@ impl<W: Write> Write for TallyWriter<'_, W> {
     fn flush(&mut self) -> io::Result<()> {
         self.writer.flush()?;
         self.has_begun = false;
-        if let Some(number) = self.told.take() {
+        let told = self.told.take();
+        if let Some(number) = told {
             self.tally.count_refusal(number);
+        }
+        if keeps(told) {
+            self.stay.keep();
         }
         Ok(())
     }

@@ -2,7 +2,7 @@
 use crate::rows::{lead, node};
 use ring_records::NodeNo;
 use ring_status::{
-    Condition, RingStatus, are_well, health_text, latest_json, leaders_json, metrics_text,
+    Condition, Holder, RingStatus, are_well, health_text, latest_json, leaders_json, metrics_text,
     status_json,
 };
 use std::test::Fail;
@@ -38,9 +38,25 @@ fn health(rt: HostRuntime) -> Result<(), Fail> {
             number = number.saturating_add(1);
             nodes.push(node(&rt, rt.alloc(), number, condition)?)?;
         }
-        assert!(rt; health_text(rt.alloc(), &nodes)?.as_str() == wanted);
+        assert!(rt; health_text(rt.alloc(), &nodes, &[])?.as_str() == wanted);
         assert!(rt; are_well(&nodes) == (wanted == "well\n"));
     }
+    Ok(())
+}
+
+#[test]
+fn doors(rt: HostRuntime) -> Result<(), Fail> {
+    let mut nodes = Vec::new(rt.alloc());
+    nodes.push(node(&rt, rt.alloc(), 1, Condition::Well)?)?;
+    nodes.push(node(&rt, rt.alloc(), 2, Condition::Full)?)?;
+    let without = [NodeNo::first(), NodeNo::new(2)?];
+    assert!(rt;
+        health_text(rt.alloc(), &[], &without[..1])?.as_str() == "node 1 has no door free\n"
+    );
+    assert!(rt;
+        health_text(rt.alloc(), &nodes, &without)?.as_str()
+            == "node 2 full\nnode 1 has no door free\nnode 2 has no door free\n"
+    );
     Ok(())
 }
 
@@ -55,16 +71,26 @@ fn status(rt: HostRuntime) -> Result<(), Fail> {
         words: "--always --idle 5",
         idle: 5,
         nodes: &nodes,
+        doorless: &[NodeNo::first()],
     };
     assert!(rt;
         status_json(rt.alloc(), &ring)?.as_str()
-            == "{\"dir\":\"a\\\"b\",\"idle\":5,\"nodes\":[{\"elections\":18,\"journal\":{\"batches\":5,\"capacity\":65536,\"checkpoints\":13,\"durable\":29,\
+            == "{\"dir\":\"a\\\"b\",\"doorless\":[1],\"idle\":5,\"nodes\":[{\"elections\":18,\"journal\":{\"batches\":5,\"capacity\":65536,\"checkpoints\":13,\"durable\":29,\
          \"epoch\":14,\"inputs\":30,\"layout\":3,\"refused\":16,\"renewable\":true,\"snapshot\":345,\"syncs\":6,\"used\":1234,\"writing\":12},\"messages\":{\"credit\":10,\"refused\":17,\"sent\":12,\"taken\":11,\
          \"waiting\":9},\"node\":2,\"port\":7102,\"sessions\":{\"begun\":8,\"busy\":3,\"doors\":4,\"refusals\":[{\"count\":2,\"number\":4},\
          {\"count\":1,\"number\":25}]},\"stands\":{\"floors\":15,\"left\":1017,\"taken\":7},\"state\":\"limit\"}],\
          \"started\":1700000000,\"version\":\"0.1.0\",\"words\":\"--always --idle 5\"}"
     );
     Ok(())
+}
+
+/// What is known of who leads.
+fn known(present: bool, resigned: bool, text: &str) -> Holder<'_> {
+    Holder {
+        present,
+        resigned,
+        text,
+    }
 }
 
 #[test]
@@ -82,12 +108,12 @@ fn leaders(rt: HostRuntime) -> Result<(), Fail> {
             == "{\"by\":1,\"leaders\":[],\"more\":false}"
     );
     assert!(rt;
-        latest_json(rt.alloc(), node, &second, true)?.as_str()
-            == "{\"by\":1,\"leader\":{\"bid\":10,\"group\":\"red\",\"node\":1,\"term\":5},\"present\":true}"
+        latest_json(rt.alloc(), node, &second, &known(true, false, "on \"a\""))?.as_str()
+            == "{\"by\":1,\"leader\":{\"bid\":10,\"group\":\"red\",\"node\":1,\"term\":5},\"present\":true,\"resigned\":false,\"text\":\"on \\\"a\\\"\"}"
     );
     assert!(rt;
-        latest_json(rt.alloc(), node, &first, false)?.as_str()
-            == "{\"by\":1,\"leader\":{\"bid\":3,\"group\":\"blue\",\"node\":2,\"term\":7},\"present\":false}"
+        latest_json(rt.alloc(), node, &first, &known(false, true, ""))?.as_str()
+            == "{\"by\":1,\"leader\":{\"bid\":3,\"group\":\"blue\",\"node\":2,\"term\":7},\"present\":false,\"resigned\":true,\"text\":\"\"}"
     );
     Ok(())
 }
@@ -104,6 +130,7 @@ fn metrics(rt: HostRuntime) -> Result<(), Fail> {
         words: "--always --idle 5",
         idle: 5,
         nodes: &nodes,
+        doorless: &[],
     };
     let text = metrics_text(rt.alloc(), &ring)?;
     // 33 families of two lines each, a line for each node in 29 of them, two of them with five lines of commits and two

@@ -87,7 +87,7 @@ fn targets(rt: HostRuntime) {
     let red = GroupName::read(b"red").expect(&rt, "a group");
     let first = node(&rt, 1);
     let second = node(&rt, 2);
-    let table: [(&str, Target); 12] = [
+    let table: [(&str, Target); 14] = [
         ("/leaders", Target::Leaders(first, None)),
         ("/leaders?node=2", Target::Leaders(second, None)),
         ("/leaders?node=16", Target::Leaders(node(&rt, 16), None)),
@@ -106,6 +106,14 @@ fn targets(rt: HostRuntime) {
             "/leaders/red?node=2&above=999999999&wait=0",
             Target::NextOf(second, red, 999_999_999, 0),
         ),
+        (
+            "/leaders/red?held=5&wait=60",
+            Target::HeldOf(first, red, 5, 60),
+        ),
+        (
+            "/leaders/red?node=2&held=0&wait=0",
+            Target::HeldOf(second, red, 0, 0),
+        ),
         ("/live", Target::Live),
         ("/health?", Target::Health),
         ("/status?a=b&c", Target::Status),
@@ -115,7 +123,7 @@ fn targets(rt: HostRuntime) {
     }
 }
 
-static NO_TARGETS: [(&str, Status); 22] = [
+static NO_TARGETS: [(&str, Status); 25] = [
     ("/leaders?", Status::BadRequest),
     ("/leaders?node=0", Status::BadRequest),
     ("/leaders?node=17", Status::BadRequest),
@@ -133,6 +141,9 @@ static NO_TARGETS: [(&str, Status); 22] = [
     ("/leaders/red?wait=1&above=4", Status::BadRequest),
     ("/leaders/red?above=4&wait=1&node=2", Status::BadRequest),
     ("/leaders/red?node=2&above=4", Status::BadRequest),
+    ("/leaders/red?held=4", Status::BadRequest),
+    ("/leaders/red?held=1000000000&wait=1", Status::BadRequest),
+    ("/leaders/red?above=4&held=4", Status::BadRequest),
     ("*", Status::NotFound),
     ("/health/", Status::NotFound),
     ("/lives", Status::NotFound),

@@ -1,8 +1,60 @@
 // Rings that tests tell of.
 use ring_records::{Bid, Candidate, Decision, GroupName, Key, NodeNo, Shown, Term};
-use ring_status::{Bound, CommitTimes, Condition, NodeStatus, RefusalCount, WithinCount};
+use ring_status::{
+    Bound, CommitTimes, Condition, Counts, Holding, Letters, NodeStatus, Place, RefusalCount,
+    WithinCount,
+};
 use std::alloc::{AllocError, Global};
 use std::process::Abort;
+
+/// What a node holds, and what its threads counted, with numbers that differ from each other.
+pub const HELD: Holding = Holding {
+    shown: Shown {
+        inputs: 30,
+        durable: 29,
+        sent: 12,
+        taken: 11,
+        credit: 10,
+    },
+    used: 1_234,
+    snapshot: 345,
+    capacity: 65_536,
+    stands: 7,
+    floors: 15,
+    epoch: 14,
+    layout: 3,
+    takes_stands: true,
+    lacks_room: false,
+    is_open: true,
+};
+
+pub const COUNTS: Counts = Counts {
+    batches: 5,
+    checkpoints: 13,
+    syncs: 6,
+    refused_rounds: 16,
+    refused_messages: 17,
+    elections: 18,
+    begun: 8,
+    busy: 3,
+    since: None,
+};
+
+/// Where clients come to the node of this number, and what waits there.
+pub fn place(rt: &impl Abort, number: u8) -> Place {
+    Place {
+        node: NodeNo::new(number).expect(rt, "a node"),
+        port: 7100 + u16::from(number),
+        doors: 4,
+    }
+}
+
+pub fn letters(rt: &impl Abort, number: u8) -> Letters {
+    Letters {
+        node: NodeNo::new(number).expect(rt, "a node"),
+        count: 9,
+    }
+}
 
 /// A node of this number, in this condition, with numbers that differ from each other.
 pub fn node(
@@ -29,44 +81,21 @@ pub fn node(
         bound: Bound::Seconds10,
         count: 19,
     })?;
-    let node = NodeNo::new(number).expect(rt, "a node");
     Ok(NodeStatus {
-        node,
-        port: 7100 + u16::from(number),
+        place: place(rt, number),
         condition,
-        shown: Shown {
-            inputs: 30,
-            durable: 29,
-            sent: 12,
-            taken: 11,
-            credit: 10,
-        },
-        used: 1_234,
-        snapshot: 345,
+        held: HELD,
         renewable: true,
-        capacity: 65_536,
-        stands: 7,
         stands_left: 1_017,
-        floors: 15,
-        batches: 5,
-        epoch: 14,
-        layout: 3,
-        checkpoints: 13,
-        syncs: 6,
-        refused_rounds: 16,
+        counts: COUNTS,
         writing: 12,
+        letters: letters(rt, number),
         commits: CommitTimes {
             within,
             count: 20,
             micros: 21_000_022,
         },
         refusals,
-        sessions: 8,
-        doors: 4,
-        busy: 3,
-        letters: 9,
-        refused_messages: 17,
-        elections: 18,
     })
 }
 

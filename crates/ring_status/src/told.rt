@@ -1,0 +1,47 @@
+// What is told of a node, by what is known of it.
+ghost use Rattle.std.specs.Prelude.{◌≡◌};
+ghost use Rattle.ring_status.specs.Counts.{nanos_busy, seconds_of};
+ghost use Rattle.ring_status.specs.Health.{condition_of, is_renewable, stands_left};
+
+use crate::counts::Counts;
+use crate::holding::Holding;
+use crate::values::{CommitTimes, Letters, NodeStatus, Place, RefusalCount};
+use std::time::Instant;
+
+/// What is told at this moment of the node at that place: what it holds and what its threads counted, the messages that wait
+/// there, how long its commits took, and the refusals that its clients were told.
+pub fn node_status(
+    place: Place,
+    held: Holding,
+    counts: Counts,
+    now: Option<Instant>,
+    letters: Letters,
+    commits: CommitTimes,
+    refusals: Vec<RefusalCount>,
+) -> NodeStatus
+    requires { letters.node ≡ place.node }
+    ensures place { result.place ≡ place }
+    ensures condition { result.condition ≡ condition_of held result.writing }
+    ensures held { result.held ≡ held }
+    ensures renewable { result.renewable ≡ is_renewable held }
+    ensures left { result.stands_left ≡ stands_left held }
+    ensures counts { result.counts ≡ counts }
+    ensures writing { result.writing ≡ seconds_of (nanos_busy counts.since now) }
+    ensures letters { result.letters ≡ letters }
+    ensures commits { result.commits ≡ commits }
+    ensures refusals { result.refusals ≡ refusals }
+{
+    let writing = counts.writing(now);
+    NodeStatus {
+        place,
+        condition: held.condition(writing),
+        held,
+        renewable: held.is_renewable(),
+        stands_left: held.stands_left(),
+        counts,
+        writing,
+        letters,
+        commits,
+        refusals,
+    }
+}
