@@ -1,3 +1,4 @@
+pub mod Entry
 pub mod Flushers
 pub mod Props
 pub mod Restarts

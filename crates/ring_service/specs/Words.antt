@@ -48,7 +48,7 @@ ringd_app =
     let served = with_rule (with_rule (with_version (new_app (codes "ringd"))) settings_rule) (number_rule (codes "serve") 1 1000) in
     let flags = with_rule (with_rule (with_rule served always_rule) (flag_rule (codes "existing"))) (flag_rule (codes "fail-stop")) in
     let numbers = with_rule (with_rule (with_rule (with_rule flags make_rule) check_rule) (number_rule (codes "doors") 1 DOORS)) (number_rule (codes "idle") 0 86400) in
-    with_rule (with_rule (with_rule numbers (number_rule (codes "status") 1 65535)) (number_rule (codes "watchers") 0 64)) listen_rule
+    with_rule (with_rule (with_rule (with_rule numbers (number_rule (codes "status") 1 65535)) (number_rule (codes "watchers") 0 64)) listen_rule) (number_rule (codes "leap") 0 999999999)
 
 abbrev pub IsIn : ℕ → ℕ → ℕ → Type 0
 IsIn low high n = (low ≤ n) × (n ≤ high)
@@ -91,3 +91,4 @@ pub record AreTold (words : List (List ℕ)) (told : Words) : Type 0 where
   pub told_at : IsMatched 1 65535 (one_text (found_of matches) (codes "status")) told.status
   pub waits : IsSaid 0 64 16 (one_text (found_of matches) (codes "watchers")) told.watchers
   pub listens_at : IsAddress (unwrap_or (first_value (found_of matches) (codes "listen")) (codes "127.0.0.1")) told.listen
+  pub leaps : IsSaid 0 999999999 1000000 (one_text (found_of matches) (codes "leap")) told.leap

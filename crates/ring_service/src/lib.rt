@@ -4,6 +4,7 @@
 #![tactic(auto)]
 
 mod board;
+mod entry;
 mod flusher;
 mod gate;
 pub mod laws;
@@ -13,6 +14,7 @@ mod start_fault;
 mod words;
 
 pub use board::opened_board;
+pub use entry::{EntryService, is_for_room};
 pub use flusher::Flusher;
 pub use gate::Gate;
 pub use service::HubService;

@@ -44,10 +44,12 @@ pub struct Words<'a> {
     pub watchers: u32,
     /// The address of this host at which all of them listen.
     pub listen: Ipv4Addr,
+    /// How far above the latest known term of its group a client may stand, up to 999,999,999; 0 is for no bound.
+    pub leap: u32,
 }
 
 /// Reads words, of which the first is the program's name: `[--settings PATH] [--serve K | --always | --make
-/// | --check] [--existing] [--fail-stop] [--doors S] [--idle SECONDS] [--status PORT] [--watchers W] [--listen ADDRESS]`.
+/// | --check] [--existing] [--fail-stop] [--doors S] [--idle SECONDS] [--status PORT] [--watchers W] [--listen ADDRESS] [--leap N]`.
 /// Refused with what is to be printed, and the status.
 pub fn read_words<'a>(alloc: Global, words: &'a [&'a str]) -> Result<Words<'a>, Error>
     ensures told { IfOk result (λ w. AreTold (map (λ word. word.now) words.now) w) }
@@ -55,6 +57,7 @@ pub fn read_words<'a>(alloc: Global, words: &'a [&'a str]) -> Result<Words<'a>, 
     ensures doors { IfOk result (λ w. IsIn 1 DOORS w.doors) }
     ensures port { IfOk result (λ w. IfSome w.status (λ port. (1 ≤ port) × (w.doors < DOORS))) }
     ensures places { IfOk result (λ w. IsIn 0 64 w.watchers) }
+    ensures leap { IfOk result (λ w. IsIn 0 999999999 w.leap) }
 {
     let mut command = command(alloc)?;
     let matches = command.try_get_matches_from_mut(words)?;
@@ -241,6 +244,22 @@ fn listen_arg<'a>(alloc: Global) -> Arg<'a>
         .default_value("127.0.0.1")
 }
 
+/// `--leap N`
+fn leap_arg<'a>(alloc: Global) -> Arg<'a>
+    ensures rule { rule_of result ≡ number_rule (codes "leap") 0 999999999 }
+    ensures local { result.global ≡ false }
+{
+    Arg::new(alloc, "leap")
+        .long("leap")
+        .value_name("N")
+        .help_heading("Sessions")
+        .help(
+            "Refuses a client that stands for a term more than N above the latest that is known for its group, 0 to \
+             999999999; 0, for no bound; 1000000 where it is not said",
+        )
+        .value_parser(value_parser!(u32).range(0..=999_999_999))
+}
+
 /// The command with one more argument.
 fn with_arg<'a>(command: Command<'a>, arg: Arg<'a>) -> Result<Command<'a>, AllocError>
     requires { arg.global ≡ false }
@@ -267,7 +286,8 @@ fn command<'a>(alloc: Global) -> Result<Command<'a>, AllocError>
     let command = with_arg(command, idle_arg(alloc))?;
     let command = with_arg(command, status_arg(alloc))?;
     let command = with_arg(command, watchers_arg(alloc))?;
-    with_arg(command, listen_arg(alloc))
+    let command = with_arg(command, listen_arg(alloc))?;
+    with_arg(command, leap_arg(alloc))
 }
 
 /// The number that is matched to a word. Refused where what is matched is no number in this range, which the word's
@@ -337,6 +357,8 @@ fn words_of<'a>(matches: &ArgMatches<'a>) -> Result<Words<'a>, ErrorKind>
     ensures watchers { IfOk result (λ w. IsSaid 0 64 16 (one_text (found_of matches.now) (codes "watchers")) w.watchers) }
     ensures places { IfOk result (λ w. IsIn 0 64 w.watchers) }
     ensures listen { IfOk result (λ w. IsAddress (unwrap_or (first_value (found_of matches.now) (codes "listen")) (codes "127.0.0.1")) w.listen) }
+    ensures far { IfOk result (λ w. IsSaid 0 999999999 1000000 (one_text (found_of matches.now) (codes "leap")) w.leap) }
+    ensures leap { IfOk result (λ w. IsIn 0 999999999 w.leap) }
 {
     let settings = match matches.get_str("settings") {
         Some(path) => path,
@@ -352,6 +374,7 @@ fn words_of<'a>(matches: &ArgMatches<'a>) -> Result<Words<'a>, ErrorKind>
         return Err(ErrorKind::ValueValidation);
     }
     let listen = address(matches)?;
+    let leap = number(matches, "leap", 0, 999_999_999)?;
     Ok(Words {
         settings,
         serve,
@@ -365,5 +388,6 @@ fn words_of<'a>(matches: &ArgMatches<'a>) -> Result<Words<'a>, ErrorKind>
         status,
         watchers: watchers.unwrap_or(16),
         listen,
+        leap: leap.unwrap_or(1_000_000),
     })
 }

@@ -1,6 +1,7 @@
 // Two appenders beside a flusher, each in a thread of its own.
 ghost use Rattle.ring_records.specs.Snapshot.{IsSound};
 
+use crate::calls::refused;
 use crate::clients::Act;
 use crate::hubs::plays_duo;
 use crate::rows::{empty_device, node, request};
@@ -12,7 +13,10 @@ use group_commit::{Desk, Stub};
 use ring_records::laws::summary_sound;
 use std::alloc::AllocGlobal;
 use std::process::Abort;
+use std::sync::Wait;
 use std::test::*;
+use std::thread::Threads;
+use std::time::Clock;
 use test_rows::{Ask, Note, Op, Say};
 
 const RED: Ask = Ask::Stand("red", 5, 10);
@@ -54,7 +58,7 @@ fn stub_of(rt: &impl Abort, desk: &mut Desk) -> Stub {
     let ticket = desk.submit(request(rt, Ask::Latest("red")));
     match desk.redeem(ticket.expect(rt, "a ticket")) {
         Ok((_, stub)) => stub,
-        Err((_ticket, refusal)) => panic!(rt; "{refusal}"),
+        Err((_ticket, refusal)) => refused(rt, refusal),
     }
 }
 
@@ -65,8 +69,22 @@ fn holds<V: Device + Drop, R: Abort + AllocGlobal>(rt: &R, journal: Journal<V>, 
             assert!(rt; opening.inputs.as_slice() == desk.history());
             drop((reopened, opening));
         }
-        Err((_device, refusal)) => panic!(rt; "{refusal}"),
+        Err((_device, refusal)) => refused(rt, refusal),
     }
+}
+
+/// Both are told that they stood beside this device, and the journal holds what the desk does.
+fn append<V: Device + Drop + Send, R: Threads + Wait + Clock + Abort + AllocGlobal + Sync>(
+    rt: &R,
+    device: V,
+    flags: &Flags,
+) {
+    let (journal, settled) = plays_duo(rt, device, flags, APPENDERS);
+    assert!(rt; settled.window == 2);
+    settled.vouches(rt, true, true);
+    assert!(rt; settled.desk.vouch(&other_stub(rt)) == Ok(false));
+    holds(rt, journal, &settled.desk);
+    drop(settled);
 }
 
 #[test]
@@ -77,12 +95,7 @@ fn two_appenders(rt: HostRuntime) -> Result<(), Fail> {
         flags: &flags,
         inner: empty_device(&rt),
     };
-    let (journal, settled) = plays_duo(&rt, device, &flags, APPENDERS);
-    assert!(rt; settled.window == 2);
-    settled.vouches(&rt, true, true);
-    assert!(rt; settled.desk.vouch(&other_stub(&rt)) == Ok(false));
-    holds(&rt, journal, &settled.desk);
-    drop(settled);
+    append(&rt, device, &flags);
     Ok(())
 }
 
@@ -94,6 +107,19 @@ const FAILED: Duo = Duo {
     holds_rounds: false,
 };
 
+/// Both are told so beside this device, and the journal is spoiled.
+fn fails<V: Device + Drop + Send, R: Threads + Wait + Clock + Abort + AllocGlobal + Sync>(
+    rt: &R,
+    device: V,
+    flags: &Flags,
+) {
+    let (journal, settled) = plays_duo(rt, device, flags, FAILED);
+    assert!(rt; settled.window == 0);
+    settled.vouches(rt, false, false);
+    assert!(rt; journal.is_spoiled());
+    drop((journal, settled));
+}
+
 /// The first sync of a batch fails once the second appender's input is accepted.
 #[test]
 fn two_appenders_of_a_device_that_fails(rt: HostRuntime) -> Result<(), Fail> {
@@ -103,10 +129,6 @@ fn two_appenders_of_a_device_that_fails(rt: HostRuntime) -> Result<(), Fail> {
         flags: &flags,
         inner: FuseDevice::new(empty_device(&rt), 3, false),
     };
-    let (journal, settled) = plays_duo(&rt, device, &flags, FAILED);
-    assert!(rt; settled.window == 0);
-    settled.vouches(&rt, false, false);
-    assert!(rt; journal.is_spoiled());
-    drop((journal, settled));
+    fails(&rt, device, &flags);
     Ok(())
 }

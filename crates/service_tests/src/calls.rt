@@ -22,18 +22,38 @@ pub fn flush_all<V: Device, J: Naming, A: Node, R: Wait + Abort, G: Gate>(
     closing: &AtomicBool,
 ) {
     for _ in rt.forever() {
-        let round = flusher.flush_round(rt, hub, gate);
-        let is_last = match &round {
+        let is_last = match round(rt, hub, flusher, gate) {
             Ok(Some(_)) | Err(Refusal::OutOfMemory) => false,
             Ok(None) => closes(rt, closing),
             Err(Refusal::Device(_)) => true,
-            Err(refusal) => panic!(rt; "{refusal}"),
+            Err(refusal) => refused(rt, refusal),
         };
-        drop(round);
         if is_last {
             break;
         }
     }
+}
+
+/// A refusal that is not to be.
+pub fn refused(rt: &impl Abort, refusal: Refusal) -> ! {
+    panic!(rt; "{refusal}")
+}
+
+/// A round: how many inputs it makes durable, and how many leaders and floors they make known.
+pub fn round<V: Device, J: Naming, A: Node, R: Wait, G: Gate>(
+    rt: &R,
+    hub: &Hub<A>,
+    flusher: &mut Flusher<V, J, A>,
+    gate: &mut G,
+) -> Result<Option<(u64, usize)>, Refusal> {
+    let round = flusher.flush_round(rt, hub, gate);
+    let counts = match &round {
+        Ok(Some(landed)) => Ok(Some((landed.count, landed.notices.len()))),
+        Ok(None) => Ok(None),
+        Err(refusal) => Err(*refusal),
+    };
+    drop(round);
+    counts
 }
 
 /// It was told before that the hub closes.
@@ -101,14 +121,14 @@ pub fn rounds<V: Device, J: Naming, A: Node, R: Wait + Abort, G: Gate>(
     flusher: &mut Flusher<V, J, A>,
     gate: &mut G,
 ) -> (u64, usize) {
-    let mut landed = flusher.flush_round(rt, hub, gate);
-    if matches!(landed, Err(Refusal::OutOfMemory)) {
-        landed = flusher.flush_round(rt, hub, gate);
-    }
+    let landed = match round(rt, hub, flusher, gate) {
+        Err(Refusal::OutOfMemory) => round(rt, hub, flusher, gate),
+        landed => landed,
+    };
     match landed {
-        Ok(Some(landed)) => (landed.count, landed.notices.len()),
+        Ok(Some(counts)) => counts,
         Ok(None) => panic!(rt; "nothing waits"),
-        Err(refusal) => panic!(rt; "{refusal}"),
+        Err(refusal) => refused(rt, refusal),
     }
 }
 
@@ -133,12 +153,10 @@ pub fn fails_next<V: Device, J: Naming, A: Node, R: Wait + Abort>(
     flusher: &mut Flusher<V, J, A>,
     ticket: Ticket,
 ) {
-    assert!(rt;
-        matches!(
-            flusher.flush_round(rt, hub, &mut ()),
-            Err(Refusal::Device(1))
-        )
-    );
-    assert!(rt; matches!(flusher.flush_round(rt, hub, &mut ()), Err(Refusal::Failed)));
-    assert!(rt; matches!(released(rt, hub, ticket), Err(Refusal::Failed)));
+    assert!(rt; round(rt, hub, flusher, &mut ()) == Err(Refusal::Device(1)));
+    assert!(rt; round(rt, hub, flusher, &mut ()) == Err(Refusal::Failed));
+    match released(rt, hub, ticket) {
+        Ok(_stub) => panic!(rt; "a reply"),
+        Err(refusal) => assert!(rt; refusal == Refusal::Failed),
+    }
 }

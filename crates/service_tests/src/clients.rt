@@ -5,7 +5,7 @@ use crate::slow::{Flags, await_flag};
 use commit_hub::{Hub, Node, Share};
 use decision_board::{Board, BoardReader, Naming};
 use group_commit::Stub;
-use ring_records::Refusal;
+use ring_records::{Refusal, Reply};
 use ring_service::HubService;
 use sessions::Service;
 use std::process::Abort;
@@ -51,6 +51,17 @@ impl<J: Naming, A: Node> Client<J, A> {
             reader: board.reader().expect(rt, "a place"),
             last: None,
         }
+    }
+
+    /// Leaves its share, and the stub of the last reply, if there was one.
+    pub fn leaves(self) -> (Share<A>, Option<Stub>) {
+        let Client {
+            share,
+            reader,
+            last,
+        } = self;
+        drop(reader);
+        (share, last)
     }
 
     /// Does so, in turn.
@@ -103,14 +114,17 @@ impl<J: Naming, A: Node> Client<J, A> {
         if let Some(accepted) = accepted {
             accepted.store(true, Ordering::SeqCst);
         }
-        match (released(rt, hub, ticket), say) {
-            (Ok(stub), Some(say)) => {
-                assert!(rt; stub.reply() == reply(rt, say));
-                self.last = Some(stub);
-            }
-            (Err(refusal), None) => assert!(rt; refusal == Refusal::Failed),
-            _ => panic!(rt; "another end"),
+        match released(rt, hub, ticket) {
+            Ok(stub) => self.keeps(rt, stub, say),
+            Err(refusal) => assert!(rt; refusal == Refusal::Failed && say.is_none()),
         }
+    }
+
+    /// Keeps the stub of this reply, which there was to be.
+    fn keeps(&mut self, rt: &impl Abort, stub: Stub, say: Option<Say>) {
+        let said = say.expect(rt, "a reply");
+        assert!(rt; stub.reply() == reply(rt, said));
+        self.last = Some(stub);
     }
 
     /// The reader is told that this leads the group, or nobody.
@@ -134,7 +148,12 @@ impl<J: Naming, A: Node> Client<J, A> {
         let same = reply(rt, Say::Refused(Cause::Retired(5)));
         let below = reply(rt, Say::Refused(Cause::Retired(5)));
         let floor = key(rt, name, 5).term;
-        let Client { share, reader, .. } = self;
+        let Client {
+            share,
+            reader,
+            last,
+        } = self;
+        drop(last);
         let mut service = HubService::new(rt, hub, share, reader);
         assert!(rt; service.retire(&group(rt, name), floor) == Ok(reply(rt, Say::Retired)));
         assert!(rt; service.retire(&group(rt, name), floor) == Ok(same));
@@ -147,27 +166,50 @@ impl<J: Naming, A: Node> Client<J, A> {
         }
     }
 
-    /// Stands twice with bid 10: the second is refused, and no leader is known, so no floor is taken.
+    /// By a service it stands twice with bid 10, reads, and retires.
     fn stands_twice<R: Wait + Abort>(self, rt: &R, hub: &Hub<A>, name: &str) -> Client<J, A> {
-        let again = reply(rt, Say::Refused(Cause::Already(10)));
-        let early = reply(rt, Say::Refused(Cause::Undecided));
-        let Client { share, reader, .. } = self;
+        let Client {
+            share,
+            reader,
+            last,
+        } = self;
+        drop(last);
         let mut service = HubService::new(rt, hub, share, reader);
-        assert!(rt; service.stand(key(rt, name, 5), bid(rt, 10)) == Ok(reply(rt, Say::Stood)));
-        assert!(rt; service.stand(key(rt, name, 5), bid(rt, 10)) == Ok(again));
-        assert!(rt; matches!(service.last(), Some(stub) if stub.reply() == again));
-        assert!(rt; service.who(&key(rt, name, 5)) == Ok(reply(rt, Say::Nobody)));
-        assert!(rt; service.latest(&group(rt, name)) == Ok(reply(rt, Say::NoTerm)));
-        assert!(rt; service.retire(&group(rt, name), key(rt, name, 5).term) == Ok(early));
+        asks_twice(rt, &mut service, name);
         let (share, reader, last) = service.into_parts();
-        match &last {
-            Some(stub) => assert!(rt; stub.reply() == early),
-            None => panic!(rt; "no stub"),
-        }
+        assert!(rt; is_of(last.as_ref(), reply(rt, EARLY)));
         Client {
             share,
             reader,
             last,
         }
     }
+}
+
+/// Whether there is a stub, of this reply.
+fn is_of(stub: Option<&Stub>, reply: Reply) -> bool {
+    match stub {
+        Some(stub) => stub.reply() == reply,
+        None => false,
+    }
+}
+
+/// What a second Stand with bid 10 is answered.
+const AGAIN: Say = Say::Refused(Cause::Already(10));
+
+/// What a Retire is answered where no leader is known.
+const EARLY: Say = Say::Refused(Cause::Undecided);
+
+/// Stands twice with bid 10: the second is refused, and no leader is known, so no floor is taken.
+fn asks_twice<J: Naming, A: Node, R: Wait + Abort>(
+    rt: &R,
+    service: &mut HubService<'_, R, J, A>,
+    name: &str,
+) {
+    assert!(rt; service.stand(key(rt, name, 5), bid(rt, 10)) == Ok(reply(rt, Say::Stood)));
+    assert!(rt; service.stand(key(rt, name, 5), bid(rt, 10)) == Ok(reply(rt, AGAIN)));
+    assert!(rt; is_of(service.last(), reply(rt, AGAIN)));
+    assert!(rt; service.who(&key(rt, name, 5)) == Ok(reply(rt, Say::Nobody)));
+    assert!(rt; service.latest(&group(rt, name)) == Ok(reply(rt, Say::NoTerm)));
+    assert!(rt; service.retire(&group(rt, name), key(rt, name, 5).term) == Ok(reply(rt, EARLY)));
 }

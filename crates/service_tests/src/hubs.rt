@@ -7,7 +7,7 @@ ghost use Rattle.node_core.specs.Core.{IsNodeOf};
 ghost use Rattle.node_store.specs.Node.{desk_of};
 ghost use Rattle.commit_hub.specs.Pages.{ForAccepted, ForTie};
 
-use crate::calls::Noted;
+use crate::calls::{Noted, refused};
 use crate::clients::Client;
 use crate::ring::{Ring, Seat, takes_part};
 use crate::rows::{fills, node};
@@ -156,7 +156,24 @@ fn on_hub<
     let first = Client::enters(rt, &hub, &board);
     let second = Client::enters(rt, &hub, &board);
     let flusher = Flusher::new(rt.alloc(), journal, board, tie);
-    Ok(match play {
+    Ok(with_clients(rt, hub, flusher, first, second, play))
+}
+
+/// Does what the play says, by these clients.
+fn with_clients<
+    V: Device + Send,
+    J: Naming + Send + Sync,
+    A: Node + Send + Sync,
+    R: Threads + Wait + Clock + Abort + AllocGlobal + Sync,
+>(
+    rt: &R,
+    hub: Hub<A>,
+    flusher: Flusher<V, J, A>,
+    first: Client<J, A>,
+    second: Client<J, A>,
+    play: Play<'_>,
+) -> Ended<V> {
+    match play {
         Play::Alone(steps) | Play::Filled(steps) => {
             drop(second);
             alone(rt, hub, flusher, first, steps)
@@ -164,7 +181,7 @@ fn on_hub<
         Play::Settled(steps) => stepped(rt, hub, flusher, first, second, steps),
         Play::Together(flags, duo) => beside(rt, hub, flusher, first, second, flags, duo),
         Play::InRing(ring, seat) => in_ring(rt, hub, flusher, first, second, ring, seat),
-    })
+    }
 }
 
 /// Behind the steps the flusher ends.
@@ -234,8 +251,8 @@ fn in_ring<
     ring: &Ring,
     seat: Seat,
 ) -> Ended<V> {
-    let mut flusher = flusher;
-    let first = takes_part(rt, &hub, &mut flusher, first, ring, seat);
+    let (mut flusher, mut first) = (flusher, first);
+    takes_part(rt, &hub, &mut flusher, &mut first, ring, seat);
     settled(rt, hub, flusher, first, second)
 }
 
@@ -283,7 +300,7 @@ pub fn ends_settled<
 >(rt: &R, device: V, play: Play<'_>) -> (Journal<V>, Settled) {
     let ended = match plays(rt, device, 4096, play) {
         Ok(ended) => ended,
-        Err(refusal) => panic!(rt; "{refusal}"),
+        Err(refusal) => refused(rt, refusal),
     };
     let Ended {
         journal,

@@ -1,6 +1,6 @@
 // A hub that lets go of its inputs behind a checkpoint, and goes on.
 use crate::hubs::{Play, ends_settled};
-use crate::rows::{empty_device, reopened, told};
+use crate::rows::{empty_device, told_by};
 use crate::station::Step;
 use crate::station::Step::*;
 use crate::together::Settled;
@@ -107,16 +107,20 @@ fn counts(settled: &Settled) -> (u64, usize, u64) {
     (desk.first_kept(), desk.history().len(), desk.durable())
 }
 
+/// The desk keeps what comes behind the checkpoint, and vouches for the last stub.
+fn goes_on(rt: &impl Abort, settled: &Settled) {
+    assert!(rt; counts(settled) == (72, 1, 73));
+    let behind = BEHIND.input().expect(rt, "an input");
+    assert!(rt; settled.desk.history() == [behind].as_slice());
+    assert!(rt; is_vouched(rt, settled));
+}
+
 #[test]
 fn a_node_goes_on_behind_what_it_let_go_of(rt: HostRuntime) -> Result<(), Fail> {
     let (journal, settled) = left(&rt, LETS_GO);
-    assert!(rt; counts(&settled) == (72, 1, 73));
-    let behind = BEHIND.input().expect(&rt, "an input");
-    assert!(rt; settled.desk.history() == [behind].as_slice());
-    assert!(rt; is_vouched(&rt, &settled));
-    let made = reopened(&rt, journal.into_device());
-    assert!(rt; told(&made) == (2, 72, 73, 3));
-    drop((settled, made));
+    goes_on(&rt, &settled);
+    drop(settled);
+    assert!(rt; told_by(&rt, journal.into_device()) == (2, 72, 73, 3));
     Ok(())
 }
 
@@ -125,9 +129,8 @@ fn a_node_lets_go_behind_each_checkpoint(rt: HostRuntime) -> Result<(), Fail> {
     let (journal, settled) = left(&rt, LETS_GO_TWICE);
     assert!(rt; counts(&settled) == (146, 1, 147));
     assert!(rt; is_vouched(&rt, &settled));
-    let made = reopened(&rt, journal.into_device());
-    assert!(rt; told(&made) == (3, 146, 147, 3));
-    drop((settled, made));
+    drop(settled);
+    assert!(rt; told_by(&rt, journal.into_device()) == (3, 146, 147, 3));
     Ok(())
 }
 

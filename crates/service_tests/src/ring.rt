@@ -1,7 +1,7 @@
 // A ring of three hubs, each with a flusher and a client in threads of their own, and what the flushers tell in the
 // letterboxes of the neighbours; and an audit of the histories that they leave.
 
-use crate::calls::released;
+use crate::calls::{refused, released};
 use crate::clients::Client;
 use crate::hubs::{Play, ends_settled};
 use crate::rows::{empty_device, key, leader, node, reply, request};
@@ -128,7 +128,7 @@ fn asks<A: Node, R: Wait + Abort>(
     let ticket = hub.submit(rt, share, question).expect(rt, "a ticket");
     match released(rt, hub, ticket) {
         Ok(stub) => assert!(rt; stub.reply() == reply(rt, say)),
-        Err(refusal) => panic!(rt; "{refusal}"),
+        Err(refusal) => refused(rt, refusal),
     }
 }
 
@@ -148,9 +148,11 @@ fn turns<J: Naming, A: Node, R: Wait + Abort + AllocGlobal>(
     ring: &Ring,
     number: u8,
 ) {
-    for packet in ring.empties(rt, number) {
-        takes(rt, hub, &mut client.share, packet);
+    let packets = ring.empties(rt, number);
+    for packet in &packets {
+        takes(rt, hub, &mut client.share, *packet);
     }
+    drop(packets);
     if client.reader.who(&key(rt, "red", 5)) == leader(rt, 30, 2) {
         ring.at(number).is_told.store(true, Ordering::SeqCst);
     }
@@ -160,15 +162,14 @@ fn turns<J: Naming, A: Node, R: Wait + Abort + AllocGlobal>(
 fn campaigns<J: Naming, A: Node, R: Wait + Clock + Abort + AllocGlobal>(
     rt: &R,
     hub: &Hub<A>,
-    client: Client<J, A>,
+    client: &mut Client<J, A>,
     ring: &Ring,
     seat: Seat,
-) -> Client<J, A> {
-    let mut client = client;
+) {
     let stand = request(rt, Ask::Stand("red", 5, seat.bid));
     asks(rt, hub, &mut client.share, stand, Say::Stood);
     for _ in 0..TURNS {
-        turns(rt, hub, &mut client, ring, seat.number);
+        turns(rt, hub, client, ring, seat.number);
         if ring.is_told() {
             break;
         }
@@ -176,7 +177,6 @@ fn campaigns<J: Naming, A: Node, R: Wait + Clock + Abort + AllocGlobal>(
     }
     hub.close(rt);
     assert!(rt; ring.is_told());
-    client
 }
 
 /// Flushes until the hub is closed, and sends what each round tells.
@@ -188,10 +188,18 @@ fn flushes<V: Device, J: Naming, A: Node, R: Wait + Abort>(
     number: u8,
 ) {
     for _ in rt.forever() {
-        match flusher.flush_round(rt, hub, &mut ()) {
-            Ok(Some(landed)) => ring.sends(rt, number, &landed.packets),
-            Ok(None) => break,
-            Err(refusal) => panic!(rt; "{refusal}"),
+        let round = flusher.flush_round(rt, hub, &mut ());
+        let is_last = match &round {
+            Ok(Some(landed)) => {
+                ring.sends(rt, number, &landed.packets);
+                false
+            }
+            Ok(None) => true,
+            Err(refusal) => refused(rt, *refusal),
+        };
+        drop(round);
+        if is_last {
+            break;
         }
     }
 }
@@ -206,16 +214,15 @@ pub fn takes_part<
     rt: &R,
     hub: &Hub<A>,
     flusher: &mut Flusher<V, J, A>,
-    client: Client<J, A>,
+    client: &mut Client<J, A>,
     ring: &Ring,
     seat: Seat,
-) -> Client<J, A> {
-    let ((), client) = join(
+) {
+    let ((), ()) = join(
         rt,
         || -> () { flushes(rt, hub, flusher, ring, seat.number) },
-        move || campaigns(rt, hub, client, ring, seat),
+        || -> () { campaigns(rt, hub, client, ring, seat) },
     );
-    client
 }
 
 /// The history that the node's desk has behind the election.

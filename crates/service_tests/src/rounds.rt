@@ -1,9 +1,11 @@
 // Rounds by calls: the one thread that the tests have is client and flusher in turn.
+use crate::calls::refused;
 use crate::hubs::{Ended, Play, plays};
-use crate::rows::{Told, device_for, empty_device, key, leader, reopened, told};
+use crate::rows::{Told, device_for, empty_device, key, leader, reopened, told, told_by};
 use crate::station::Step;
 use crate::station::Step::*;
-use disk_model::{Device, FuseDevice, MemDevice, Tear};
+use disk_model::{Device, FuseDevice, Tear};
+use node_store::Node;
 use ring_records::{Input, Refusal};
 use std::alloc::AllocGlobal;
 use std::process::Abort;
@@ -194,7 +196,7 @@ fn ends<V: Device + Drop + Send, R: Threads + Wait + Clock + Abort + AllocGlobal
             assert!(rt; owed == 0);
             journal.into_device()
         }
-        Err(refusal) => panic!(rt; "{refusal}"),
+        Err(refusal) => refused(rt, refusal),
     }
 }
 
@@ -238,13 +240,19 @@ fn input(rt: &impl Abort, op: Op) -> Input {
     op.input().expect(rt, "an input")
 }
 
+/// The node has what comes behind the checkpoint, and knows the leaders that were made known before and behind it.
+fn is_renewed<V: Device>(rt: &impl Abort, made: &Node<V>) {
+    assert!(rt; told(made) == (2, 141, 143, 69));
+    assert!(rt; made.history() == [input(rt, BEHIND[0]), input(rt, BEHIND[1])].as_slice());
+    assert!(rt; Ok(made.desk().who(&key(rt, "red", 5))) == leader(rt, 30, 2));
+    assert!(rt; Ok(made.desk().who(&key(rt, "blue", 1))) == leader(rt, 30, 2));
+}
+
 #[test]
 fn a_checkpoint_makes_all_that_waits_durable(rt: HostRuntime) -> Result<(), Fail> {
-    let made = reopened(&rt, ends(&rt, empty_device(&rt), 8192, Play::Alone(RENEWS)));
-    assert!(rt; told(&made) == (2, 141, 143, 69));
-    assert!(rt; made.history() == [input(&rt, BEHIND[0]), input(&rt, BEHIND[1])].as_slice());
-    assert!(rt; Ok(made.desk().who(&key(&rt, "red", 5))) == leader(&rt, 30, 2));
-    assert!(rt; Ok(made.desk().who(&key(&rt, "blue", 1))) == leader(&rt, 30, 2));
+    let device = ends(&rt, empty_device(&rt), 8192, Play::Alone(RENEWS));
+    let made = reopened(&rt, device);
+    is_renewed(&rt, &made);
     drop(made);
     Ok(())
 }
@@ -288,14 +296,6 @@ fn stopped<R: Threads + Wait + Clock + Abort + AllocGlobal + Sync>(
     let mut device = ends(rt, device, 4096, Play::Alone(FAILS_DUE)).into_inner();
     device.crash(tear);
     told_by(rt, device)
-}
-
-/// What the node tells that this device holds.
-fn told_by<R: Abort + AllocGlobal>(rt: &R, device: MemDevice) -> Told {
-    let made = reopened(rt, device);
-    let told = told(&made);
-    drop(made);
-    told
 }
 
 #[test]

@@ -1,4 +1,5 @@
 // What nodes are given and give. All numbers and names of rows are in their ranges.
+use crate::calls::refused;
 use disk_model::{Device, MemDevice};
 use gated_journal::device_size;
 use node_store::Node;
@@ -80,7 +81,7 @@ fn lasts<V: Device>(rt: &impl Abort, made: &mut Node<V>, ask: Ask) {
     drop(landed);
     match made.redeem(ticket) {
         Ok((reply, stub)) => assert!(rt; stub.reply() == reply),
-        Err((_ticket, refusal)) => panic!(rt; "{refusal}"),
+        Err((_ticket, refusal)) => refused(rt, refusal),
     }
 }
 
@@ -96,7 +97,7 @@ pub fn fills<V: Device>(rt: &impl Abort, made: &mut Node<V>) {
 pub fn reopened<V: Device + Drop, R: Abort + AllocGlobal>(rt: &R, device: V) -> Node<V> {
     match Node::recover(rt.alloc(), device, NodeNo::first(), 3, 1) {
         Ok(made) => made,
-        Err((_device, refusal)) => panic!(rt; "{refusal}"),
+        Err((_device, refusal)) => refused(rt, refusal),
     }
 }
 
@@ -106,4 +107,12 @@ pub type Told = (u64, u64, u64, u64);
 pub fn told<V: Device>(made: &Node<V>) -> Told {
     let desk = made.desk();
     (made.epoch(), desk.first(), made.durable(), desk.sent())
+}
+
+/// What the node tells that this device holds.
+pub fn told_by<R: Abort + AllocGlobal>(rt: &R, device: MemDevice) -> Told {
+    let made = reopened(rt, device);
+    let told = told(&made);
+    drop(made);
+    told
 }

@@ -16,8 +16,9 @@ const SERVICES: Duo = Duo {
 
 #[test]
 fn two_services_on_one_hub(rt: HostRuntime) -> Result<(), Fail> {
-    let (_journal, settled) = plays_duo(&rt, empty_device(&rt), &Flags::new(), SERVICES);
+    let (journal, settled) = plays_duo(&rt, empty_device(&rt), &Flags::new(), SERVICES);
     settled.vouches(&rt, true, true);
+    drop((journal, settled));
     Ok(())
 }
 
@@ -40,7 +41,8 @@ const GIVES_UP: Duo = Duo {
 
 #[test]
 fn a_service_gives_up_terms(rt: HostRuntime) -> Result<(), Fail> {
-    let (_journal, settled) = plays_duo(&rt, empty_device(&rt), &Flags::new(), GIVES_UP);
+    let (journal, settled) = plays_duo(&rt, empty_device(&rt), &Flags::new(), GIVES_UP);
     settled.vouches(&rt, true, false);
+    drop((journal, settled));
     Ok(())
 }

@@ -108,10 +108,11 @@ const ALONE: Words<'static> = Words {
     status: None,
     watchers: 16,
     listen: Ipv4Addr::LOCALHOST,
+    leap: 1_000_000,
 };
 
 /// Words that are taken, and what they ask.
-static TAKEN: [(&[&str], Words<'static>); 8] = [
+static TAKEN: [(&[&str], Words<'static>); 9] = [
     (&["ringd"], ALONE),
     (
         &["ringd", "--serve", "7", "--settings=x"],
@@ -177,10 +178,11 @@ static TAKEN: [(&[&str], Words<'static>); 8] = [
             ..ALONE
         },
     ),
+    (&["ringd", "--leap=0"], Words { leap: 0, ..ALONE }),
 ];
 
 /// Words that are wrong.
-static WRONG: [&[&str]; 26] = [
+static WRONG: [&[&str]; 28] = [
     &["ringd", "--serve=0"],
     &["ringd", "--serve=1001"],
     &["ringd", "--serve=5000"],
@@ -192,6 +194,8 @@ static WRONG: [&[&str]; 26] = [
     &["ringd", "--idle=86401"],
     &["ringd", "--status=0"],
     &["ringd", "--status=65536"],
+    &["ringd", "--leap=-1"],
+    &["ringd", "--leap=1000000000"],
     &["ringd", "--always=1"],
     &["ringd", "--other"],
     &["ringd", "x"],

@@ -96,33 +96,15 @@ impl<V: Device, J: Naming, A: Node> Station<V, J, A> {
 
     fn does<R: Wait + Abort + AllocGlobal>(&mut self, rt: &R, step: Step) {
         match step {
-            Step::Submits(ask) => {
-                let ticket = submits(rt, &self.hub, &mut self.client.share, ask);
-                keeps(rt, &mut self.tickets, ticket);
-            }
-            Step::Redeems => {
-                let ticket = oldest(rt, &mut self.tickets);
-                let stub = released(rt, &self.hub, ticket).expect(rt, "a reply");
-                self.client.last = Some(stub);
-            }
+            Step::Submits(ask) => self.submits(rt, ask),
+            Step::Redeems => self.redeems(rt),
             Step::Takes(first, end) => self.takes(rt, first, end),
             Step::TakesLeaders => self.takes_leaders(rt),
             Step::Rounds(first, count, leaders) => self.rounds(rt, first, count, leaders),
             Step::RoundsAtLast(first, count, leaders) => self.lands(rt, first, count, leaders),
             Step::RoundsNot => self.rounds_not(rt),
-            Step::Leads(ask) => {
-                leads(
-                    rt,
-                    &self.hub,
-                    &mut self.flusher,
-                    &mut self.client.share,
-                    ask,
-                );
-            }
-            Step::Fails => {
-                let ticket = oldest(rt, &mut self.tickets);
-                fails_next(rt, &self.hub, &mut self.flusher, ticket);
-            }
+            Step::Leads(ask) => self.leads(rt, ask),
+            Step::Fails => self.fails(rt),
             Step::Closes => self.hub.close(rt),
             Step::Reads(name, leads) => self.client.reads(rt, name, leads),
             Step::Leader(name, term, bid, node) => self.client.knows(rt, name, term, bid, node),
@@ -133,6 +115,32 @@ impl<V: Device, J: Naming, A: Node> Station<V, J, A> {
             Step::IsDue(is_due) => assert!(rt; self.hub.look(rt).is_due == is_due),
             Step::LetsGo => self.flusher.let_go(rt, &self.hub),
         }
+    }
+
+    fn submits<R: Wait + Abort>(&mut self, rt: &R, ask: Ask) {
+        let ticket = submits(rt, &self.hub, &mut self.client.share, ask);
+        keeps(rt, &mut self.tickets, ticket);
+    }
+
+    fn redeems<R: Wait + Abort>(&mut self, rt: &R) {
+        let ticket = oldest(rt, &mut self.tickets);
+        let stub = released(rt, &self.hub, ticket).expect(rt, "a reply");
+        self.client.last = Some(stub);
+    }
+
+    fn leads<R: Wait + Abort>(&mut self, rt: &R, ask: Ask) {
+        let Station {
+            hub,
+            flusher,
+            client,
+            ..
+        } = self;
+        leads(rt, hub, flusher, &mut client.share, ask);
+    }
+
+    fn fails<R: Wait + Abort>(&mut self, rt: &R) {
+        let ticket = oldest(rt, &mut self.tickets);
+        fails_next(rt, &self.hub, &mut self.flusher, ticket);
     }
 
     fn takes<R: Wait + Abort>(&mut self, rt: &R, first: u64, end: u64) {
@@ -161,7 +169,7 @@ impl<V: Device, J: Naming, A: Node> Station<V, J, A> {
 
     fn rounds_not<R: Wait + Abort>(&mut self, rt: &R) {
         let first = self.gate.first;
-        let landed = self.flusher.flush_round(rt, &self.hub, &mut self.gate);
-        assert!(rt; matches!(landed, Ok(None)) && self.gate.first == first);
+        let landed = round(rt, &self.hub, &mut self.flusher, &mut self.gate);
+        assert!(rt; landed == Ok(None) && self.gate.first == first);
     }
 }

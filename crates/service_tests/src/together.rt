@@ -69,17 +69,31 @@ pub fn together<
     let ((), both) = join(
         rt,
         || -> () { flushes(rt, hub, flusher, flags, duo.holds_rounds) },
-        move || {
-            let both = join(
-                rt,
-                move || first.plays(rt, hub, flags, duo.first),
-                move || second.plays(rt, hub, flags, duo.second),
-            );
-            flags.closing.store(true, Ordering::SeqCst);
-            hub.close(rt);
-            both
-        },
+        move || play_both(rt, hub, first, second, flags, duo),
     );
+    both
+}
+
+/// Both clients do what they are to, and close the hub.
+fn play_both<
+    J: Naming + Send + Sync,
+    A: Node + Send + Sync,
+    R: Threads + Wait + Clock + Abort + Sync,
+>(
+    rt: &R,
+    hub: &Hub<A>,
+    first: Client<J, A>,
+    second: Client<J, A>,
+    flags: &Flags,
+    duo: Duo,
+) -> (Client<J, A>, Client<J, A>) {
+    let both = join(
+        rt,
+        move || first.plays(rt, hub, flags, duo.first),
+        move || second.plays(rt, hub, flags, duo.second),
+    );
+    flags.closing.store(true, Ordering::SeqCst);
+    hub.close(rt);
     both
 }
 
@@ -99,6 +113,14 @@ fn flushes<V: Device, J: Naming, A: Node, R: Wait + Clock + Abort>(
     }
 }
 
+/// How many packets the hub's window has.
+fn window<A: Node, R: Wait + Abort>(rt: &R, hub: &Hub<A>) -> usize {
+    let packets = hub.window(rt).expect(rt, "ample memory");
+    let count = packets.len();
+    drop(packets);
+    count
+}
+
 /// The shares of both clients settle the hub.
 pub fn settles<J: Naming, A: Node, R: Wait + Abort + AllocGlobal>(
     rt: &R,
@@ -106,17 +128,9 @@ pub fn settles<J: Naming, A: Node, R: Wait + Abort + AllocGlobal>(
     first: Client<J, A>,
     second: Client<J, A>,
 ) -> Settled {
-    let window = hub.window(rt).expect(rt, "ample memory").len();
-    let Client {
-        share: one,
-        last: first,
-        ..
-    } = first;
-    let Client {
-        share: two,
-        last: second,
-        ..
-    } = second;
+    let window = window(rt, &hub);
+    let (one, first) = first.leaves();
+    let (two, second) = second.leaves();
     let shares = Vec::from_array(rt.alloc(), [one, two]).expect(rt, "ample memory");
     match hub.settle(shares) {
         Ok(desk) => Settled {

@@ -20,4 +20,5 @@ returns c =
     let nine = adds _ (app_of c.in_ok-command-8.command) _ (rule_of c.idle_arg.result) (number_rule (codes "idle") 0 86400) c.in_ok-command-9.ensures eight c.idle_arg.ensures.rule in
     let ten = adds _ (app_of c.in_ok-command-9.command) _ (rule_of c.status_arg.result) (number_rule (codes "status") 1 65535) c.in_ok-command-10.ensures nine c.status_arg.ensures.rule in
     let eleven = adds _ (app_of c.in_ok-command-10.command) _ (rule_of c.watchers_arg.result) (number_rule (codes "watchers") 0 64) c.in_ok-command-11.ensures ten c.watchers_arg.ensures.rule in
-    adds_last c.in_ok-command-11.command _ c.listen_arg.result listen_rule c.with_arg-12.result c.with_arg-12.ensures eleven c.listen_arg.ensures.rule refl
+    let twelve = adds _ (app_of c.in_ok-command-11.command) _ (rule_of c.listen_arg.result) listen_rule c.in_ok-command-12.ensures eleven c.listen_arg.ensures.rule in
+    adds_last c.in_ok-command-12.command _ c.leap_arg.result (number_rule (codes "leap") 0 999999999) c.with_arg-13.result c.with_arg-13.ensures twelve c.leap_arg.ensures.rule refl

@@ -19,4 +19,5 @@ returns-in-Ok-clause-told c = record {
   told_at = rw c.in-Ok.is at c.words_of.ensures.status;
   waits = rw c.in-Ok.is at c.words_of.ensures.watchers;
   listens_at = rw c.in-Ok.is at c.words_of.ensures.listen;
+  leaps = rw c.in-Ok.is at c.words_of.ensures.far;
 }
