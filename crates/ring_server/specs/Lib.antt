@@ -1,3 +1,4 @@
 pub mod Fits
 pub mod Checks
 pub mod Written
+pub mod Landings

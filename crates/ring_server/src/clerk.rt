@@ -6,11 +6,11 @@ use commit_hub::{Hub, Node};
 use crossbeam_channel::{Receiver, Sender};
 use decision_board::{Board, BoardReader, Naming};
 use ring_records::{Decision, GroupName, Key, Refusal};
-use ring_status::NodeStatus;
+use ring_status::{NodeStatus, Place, node_status};
 use ring_watch::{Inquiry, Page};
 use std::alloc::{AllocError, Global};
 use std::sync::Wait;
-use std::time::Clock;
+use std::time::{Clock, Instant};
 
 /// How many groups a page has at most.
 const GROUPS: usize = 1_000;
@@ -54,37 +54,16 @@ fn status<A: Node, R: Wait + Clock>(
     doors: u32,
     links: &Links<'_>,
 ) -> Result<NodeStatus, AllocError> {
-    let look = hub.look(rt);
+    let node = links.node;
+    let place = Place { node, port, doors };
+    let held = held_by(&hub.look(rt));
     let tally = links.tally;
-    let held = held_by(&look, tally.writing(rt));
-    Ok(NodeStatus {
-        node: links.node,
-        port,
-        condition: held.condition(look.is_open),
-        shown: look.shown,
-        used: held.used,
-        snapshot: held.snapshot,
-        renewable: held.is_renewable(),
-        capacity: held.capacity,
-        stands: held.stands,
-        stands_left: held.stands_left(),
-        floors: look.floors,
-        batches: tally.batches(),
-        epoch: look.epoch,
-        layout: look.layout,
-        checkpoints: tally.checkpoints(),
-        syncs: tally.syncs(),
-        refused_rounds: tally.refused_rounds(),
-        writing: held.writing,
-        commits: tally.commits(alloc)?,
-        refusals: tally.refusals(alloc)?,
-        sessions: tally.sessions(),
-        doors: u64::from(doors),
-        busy: tally.busy(),
-        letters: links.post.waiting(links.node),
-        refused_messages: tally.refused_messages(),
-        elections: tally.elections(),
-    })
+    let counts = tally.counts(rt);
+    let now = Instant::now(rt).ok();
+    let letters = links.post.letters(node);
+    let commits = tally.commits(alloc)?;
+    let refusals = tally.refusals(alloc)?;
+    Ok(node_status(place, held, counts, now, letters, commits, refusals))
 }
 
 /// Adds a leader, and gives its group.
@@ -157,6 +136,7 @@ impl<J: Naming> Clerk<J> {
                 send_back(rt, back, page(alloc, &mut self.reader, after))
             }
             Inquiry::Latest(group, back) => { send_back(rt, back, latest(&mut self.reader, group)) }
+            Inquiry::Doors(back) => send_back(rt, back, Some(links.turnstile.was_none_free(rt))),
         }
     }
 }

@@ -1,17 +1,21 @@
 //! A node's doors.
+ghost use Rattle.std.specs.Prelude.{◌≤◌};
+
 use crate::enrolled::EnrolledService;
 use crate::links::Links;
+use crate::marks::{Booth, MarkReader};
 use crate::site::Doors;
 use crate::start_latch::StartLatch;
+use crate::window::send_what_may_miss;
 use client_stream::{ClientReader, ClientWriter, next_client, part};
 use commit_hub::{Hub, Node, Share};
 use decision_board::{Board, BoardReader, Naming};
-use ring_service::HubService;
-use ring_watch::{Tally, TallyWriter};
+use ring_service::{EntryService, HubService};
+use ring_watch::TallyWriter;
 use sessions::{Service, serve};
 use std::alloc::Global;
 use std::io::BufReader;
-use std::net::{TcpListener, TcpStream};
+use std::net::TcpListener;
 use std::sync::Wait;
 use std::sync::atomic::{AtomicU64, Ordering};
 use std::time::{Clock, Duration};
@@ -47,31 +51,16 @@ pub(crate) fn take_seats<J: Naming, A: Node, R: Wait>(
     Some(seats)
 }
 
-/// Sends all that the successor has not credited durably: before the node takes its first input of a run.
-pub(crate) fn send_window<A: Node, R: Wait>(rt: &R, hub: &Hub<A>, links: &Links<'_>) {
-    if let Ok(window) = hub.window(rt) {
-        links.send_all(rt, &window);
-    }
-}
-
-/// Sends again what the successor may miss, if anything.
-fn send_what_may_miss<A: Node, R: Wait + Clock>(rt: &R, hub: &Hub<A>, links: &Links<'_>) {
-    if !links.may_have_lost(rt) {
-        return;
-    }
-    if let Ok(window) = hub.window(rt) {
-        links.send_again(rt, &window);
-    }
-}
-
 /// What the doors of a node share: where clients come, and how many sessions are begun and how many doors are not done.
 #[derive(Drop)]
 pub(crate) struct Front {
     listener: TcpListener,
     idle: Option<Duration>,
+    leap: u32,
     sessions: u64,
     begun: AtomicU64,
     open: AtomicU64,
+    ghost bounded: { leap ≤ 999999999 },
 }
 
 impl Front {
@@ -80,6 +69,7 @@ impl Front {
         Front {
             listener,
             idle: doors.idle,
+            leap: doors.leap,
             sessions: doors.sessions,
             begun: AtomicU64::new(0),
             open: AtomicU64::new(u64::from(doors.count)),
@@ -97,23 +87,27 @@ impl Front {
     }
 }
 
-/// Serves a client to its session's end, however it ends, and counts the refusals that it is told.
-fn serve_client<S: Service, R: Wait + Clock>(
-    rt: &R,
+/// Serves a client to its session's end, however it ends, and counts the refusals that it is told. From then on it is not known
+/// for what it stood.
+fn serve_client<'a, S: Service, R: Wait + Clock>(
+    rt: &'a R,
     alloc: Global,
-    stream: &TcpStream,
-    idle: Option<Duration>,
-    tally: &Tally,
-    service: &mut S,
+    booth: &'a Booth<'a>,
+    service: &mut EnrolledService<'_, R, S>,
 ) {
+    let (stream, idle) = (booth.stream, booth.idle);
     let _ = stream.set_nodelay(true);
-    let Ok(reader) = ClientReader::new(rt, stream, idle) else {
+    let Ok(reader) = ClientReader::new(rt, stream, idle, booth.stay) else {
         return;
     };
-    if let Ok(mut lines) = BufReader::new(alloc, reader) {
-        let mut answers = TallyWriter::new(ClientWriter::new(rt, stream, idle), tally);
-        let _ = serve(alloc, &mut lines, &mut answers, service);
+    if let Ok(lines) = BufReader::new(alloc, reader) {
+        if let Ok(mut lines) = BufReader::new(alloc, MarkReader::new(rt, alloc, booth, lines)) {
+            let writer = ClientWriter::new(rt, stream, idle);
+            let mut answers = TallyWriter::new(writer, booth.tally, booth.stay);
+            let _ = serve(alloc, &mut lines, &mut answers, service);
+        }
     }
+    service.withdraw();
     part(rt, stream);
 }
 
@@ -124,7 +118,8 @@ fn serve_next<S: Service, A: Node, R: Wait + Clock>(
     hub: &Hub<A>,
     front: &Front,
     links: &Links<'_>,
-    service: &mut S,
+    door: u32,
+    service: &mut EnrolledService<'_, R, S>,
 ) -> bool {
     if !front.takes_turn() {
         return false;
@@ -132,10 +127,23 @@ fn serve_next<S: Service, A: Node, R: Wait + Clock>(
     let Some(stream) = next_client(rt, &front.listener) else {
         return false;
     };
-    links.tally.begin_session();
-    serve_client(rt, alloc, &stream, front.idle, links.tally, service);
+    links.tally.begin_session(rt);
+    let stay = links.turnstile.begin(rt, door);
+    let booth = Booth {
+        reception: links.reception,
+        node: links.node,
+        door,
+        stream: &stream,
+        idle: front.idle,
+        tally: links.tally,
+        stay: &stay,
+    };
+    serve_client(rt, alloc, &booth, service);
+    drop(booth);
+    drop(stay);
     drop(stream);
-    links.tally.end_session();
+    links.turnstile.end(rt);
+    links.tally.end_session(rt);
     send_what_may_miss(rt, hub, links);
     true
 }
@@ -148,7 +156,7 @@ pub(crate) fn serve_door<'a, J: Naming, A: Node, R: Wait + Clock>(
     hub: &'a Hub<A>,
     seat: Seat<J, A>,
     front: &Front,
-    links: &Links<'a>,
+    links: &'a Links<'a>,
     latch: &StartLatch,
 ) -> Share<A> {
     let Seat {
@@ -160,15 +168,14 @@ pub(crate) fn serve_door<'a, J: Naming, A: Node, R: Wait + Clock>(
         return share;
     }
     let service = HubService::new(rt, hub, share, reader);
-    let mut service = EnrolledService::new(rt, links.reception, links.node, number, service);
+    let service = EntryService::new(rt, hub, front.leap, service);
+    let mut service = EnrolledService::new(rt, links, number, service);
     for _ in rt.forever() {
-        let was_served = serve_next(rt, alloc, hub, front, links, &mut service);
-        service.withdraw();
-        if !was_served {
+        if !serve_next(rt, alloc, hub, front, links, number, &mut service) {
             break;
         }
     }
-    let service = service.into_service();
+    let service = service.into_service().into_service();
     let (share, _reader, _last) = service.into_parts();
     if front.closes() {
         links.leave(rt);

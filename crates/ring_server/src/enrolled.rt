@@ -1,16 +1,16 @@
 //! A service whose client is known to be there.
-use ring_records::{Bid, GroupName, Key, NodeNo, Refusal, Reply, Term};
-use ring_watch::Reception;
+use crate::links::Links;
+use ring_records::{Bid, GroupName, Key, Refusal, Reply, Term};
+use ring_service::is_for_room;
 use sessions::Service;
 use std::sync::Wait;
 
 /// A service at this door of a node, which tells where an operator is answered for what its client stood, until the session
-/// ends.
+/// ends, and has it told that the node is full where a client is refused for room.
 #[derive(Drop)]
 pub(crate) struct EnrolledService<'a, R, S: Service> {
     rt: &'a R,
-    reception: Option<&'a Reception>,
-    node: NodeNo,
+    links: &'a Links<'a>,
     door: u32,
     service: S,
 }
@@ -19,15 +19,13 @@ impl<'a, R: Wait, S: Service> EnrolledService<'a, R, S> {
     /// In front of this one.
     pub(crate) fn new(
         rt: &'a R,
-        reception: Option<&'a Reception>,
-        node: NodeNo,
+        links: &'a Links<'a>,
         door: u32,
         service: S,
     ) -> EnrolledService<'a, R, S> {
         EnrolledService {
             rt,
-            reception,
-            node,
+            links,
             door,
             service,
         }
@@ -35,15 +33,22 @@ impl<'a, R: Wait, S: Service> EnrolledService<'a, R, S> {
 
     /// The node stands for its client.
     fn enrol(&self, key: &Key) {
-        if let Some(reception) = self.reception {
-            reception.enrol(self.rt, self.node, self.door, *key);
+        if let Some(reception) = self.links.reception {
+            reception.enrol(self.rt, self.links.node, self.door, *key);
+        }
+    }
+
+    /// The node gave up the terms of the group below this floor.
+    fn retire_known(&self, group: &GroupName, floor: Term) {
+        if let Some(reception) = self.links.reception {
+            reception.retire(self.rt, self.links.node, group, floor);
         }
     }
 
     /// The session has ended.
     pub(crate) fn withdraw(&self) {
-        if let Some(reception) = self.reception {
-            reception.withdraw(self.rt, self.node, self.door);
+        if let Some(reception) = self.links.reception {
+            reception.withdraw(self.rt, self.links.node, self.door);
         }
     }
 
@@ -70,11 +75,18 @@ impl<R: Wait, S: Service> Service for EnrolledService<'_, R, S> {
         if is_own(&answer, bid) {
             self.enrol(&key);
         }
+        if is_for_room(&answer) {
+            self.links.fill(self.rt);
+        }
         answer
     }
 
     fn retire(&mut self, group: &GroupName, floor: Term) -> Result<Reply, Refusal> {
-        self.service.retire(group, floor)
+        let answer = self.service.retire(group, floor);
+        if matches!(answer, Ok(Reply::Retired)) {
+            self.retire_known(group, floor);
+        }
+        answer
     }
 
     fn who(&mut self, key: &Key) -> Result<Reply, Refusal> {

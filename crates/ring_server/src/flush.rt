@@ -1,4 +1,7 @@
 //! The flusher's thread.
+ghost use Rattle.std.specs.Prelude.{◌≡◌, count_by};
+ghost use Rattle.gated_journal.specs.Works.{syncs_of};
+ghost use Rattle.ring_server.specs.Landings.{names_a_leader};
 
 use crate::links::Links;
 use commit_hub::{Hub, Node};
@@ -7,23 +10,23 @@ use disk_model::Device;
 use group_commit::Landed;
 use ring_records::{Notice, Refusal};
 use ring_service::{Flusher, Gate};
-use ring_watch::Tally;
+use ring_status::Landing;
+use ring_watch::{Stopwatch, Tally};
 use std::sync::Wait;
 use std::time::{Clock, Duration, Instant};
 
 /// After how many seconds of refused rounds it is told that memory is wanting.
 const STARVES: u64 = 1;
 
-/// Tells the tally when the device is given something to write.
-#[derive(Drop)]
+/// Tells when the device is given something to write.
 struct Writing<'a, R> {
     rt: &'a R,
-    tally: &'a Tally,
+    stopwatch: Stopwatch<'a>,
 }
 
 impl<R: Wait + Clock> Gate for Writing<'_, R> {
     fn before_commit(&mut self, _first: u64, _count: usize) {
-        self.tally.begin_writing(self.rt);
+        self.stopwatch.begin(self.rt, Instant::now(self.rt).ok());
     }
 }
 
@@ -34,33 +37,53 @@ fn flush_once<V: Device, J: Naming, A: Node, R: Wait + Clock>(
     flusher: &mut Flusher<V, J, A>,
     tally: &Tally,
 ) -> Result<Option<Landed>, Refusal> {
-    let mut gate = Writing { rt, tally };
+    let stopwatch = Stopwatch::new(tally);
+    let mut gate = Writing { rt, stopwatch };
     let landed = flusher.flush_round(rt, hub, &mut gate);
-    tally.end_writing(rt);
+    let Writing { rt: _, stopwatch } = gate;
+    stopwatch.end(rt, Instant::now(rt).ok());
     landed
 }
 
+fn names_a_leader(notice: &Notice) -> bool
+    ensures { result ≡ names_a_leader notice.now }
+{
+    matches!(notice, Notice::Decided(_))
+}
+
 /// How many leaders the notices tell.
-fn leaders_in(notices: &[Notice]) -> u64 {
-    let leaders = notices
+fn leaders_in(notices: &[Notice]) -> u64
+    ensures { result ≡ count_by names_a_leader notices.now }
+{
+    notices
         .iter()
-        .filter(|notice| matches!(notice, Notice::Decided(_)));
-    leaders.count() as u64
+        .filter(|notice| names_a_leader(notice))
+        .count() as u64
+}
+
+/// What is counted of a batch or a checkpoint that is durable.
+fn landing_of(landed: &Landed) -> Landing
+    ensures kind { result.is_checkpoint ≡ landed.now.is_checkpoint }
+    ensures syncs { result.syncs ≡ syncs_of landed.now.is_checkpoint }
+    ensures elections { result.elections ≡ count_by names_a_leader landed.now.notices.items }
+{
+    Landing {
+        is_checkpoint: landed.is_checkpoint,
+        syncs: landed.syncs(),
+        elections: leaders_in(&landed.notices),
+    }
 }
 
 /// Counts what landed, and sends what that releases.
 fn release<R: Wait>(rt: &R, landed: &Landed, links: &Links<'_>) {
-    links
-        .tally
-        .count_landed(landed.is_checkpoint, landed.syncs());
-    links.tally.count_elections(leaders_in(&landed.notices));
+    links.tally.land(rt, landing_of(landed));
     links.send_all(rt, &landed.packets);
 }
 
 /// A round was refused for want of memory, as were all since then: counts it, has that told where it lasts, and waits a
 /// little. Since when they are refused.
 fn starve<R: Wait + Clock>(rt: &R, links: &Links<'_>, since: Option<Instant>) -> Option<Instant> {
-    links.tally.count_refused_round();
+    links.tally.refuse_round(rt);
     let now = Instant::now(rt).ok();
     let since = since.or(now);
     if let (Some(since), Some(now)) = (since, now) {

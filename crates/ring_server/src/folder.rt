@@ -6,18 +6,19 @@ ghost use Rattle.ring_records.specs.Summary.{empty};
 ghost use Rattle.gated_journal.specs.Reading.{fresh_area};
 ghost use Rattle.group_commit.specs.Desk.{new_desk};
 ghost use Rattle.ring_server.specs.Fits.{found_as, kept_by, number_of};
-ghost use Rattle.ring_server.specs.Written.{HoldsAll, IsReady, IsTried};
+ghost use Rattle.ring_server.specs.Written.{HoldsAll, IsReady};
 
 use crate::found::{Found, NewNode};
-use crate::made::Made;
 use crate::open_node::OpenNode;
 use crate::ready::Ready;
+use crate::renewal::renew;
 use crate::unopened::{Answer, Place, Unopened};
 use disk_model::{Device, DeviceFault, FILE_LIMIT, FileDevice, OpenFault};
+use folder_plan::{FolderStep, making, marking, taking_back};
 use gated_journal::device_size;
 use node_store::Node;
 use ring_records::{NodeNo, Refusal};
-use std::alloc::Global;
+use std::alloc::{AllocError, Global};
 use std::fs::{File, OpenOptions};
 use std::io::{ErrorKind, Read};
 use std::os::unix::fs::FileExt;
@@ -68,28 +69,6 @@ fn look_again<R: Files<File = File>>(
         _ => Err(Answer::Error(ErrorKind::InvalidData)),
     };
     Unopened::because(refusal, Place::Journal, again)
-}
-
-/// Why a node makes no checkpoint, whose refusal is this. Where the system refused something, it is asked once more for
-/// its file, and then for a new one, which is gone behind that.
-fn why_unwritten<R: Files<File = File>>(
-    rt: &R,
-    alloc: Global,
-    path: &str,
-    new: &str,
-    refusal: Refusal,
-) -> Unopened {
-    let Refusal::Device(_) = refusal else {
-        return Unopened::new(refusal);
-    };
-    match read_again(rt, alloc, path) {
-        Ok(()) => {
-            let again = grow_again(rt, new, 0);
-            let _ = remove(rt, new);
-            Unopened::because(refusal, Place::New, again)
-        }
-        Err(answer) => Unopened::because(refusal, Place::Journal, Err(answer)),
-    }
 }
 
 /// What the system answers now of a new file that could not be made: it is opened, grown and synced once more.
@@ -169,6 +148,11 @@ fn create<R: Files<File = File>>(
     }
 }
 
+/// The step is among those that were begun.
+fn note(begun: &mut Vec<FolderStep>, step: &FolderStep) -> Result<(), AllocError> {
+    Ok(begun.push(*step)?)
+}
+
 /// A folder whose exclusive lock is held: nobody else who asks for it makes or opens nodes there.
 #[derive(Drop)]
 pub struct Folder<'a> {
@@ -195,20 +179,25 @@ impl<'a> Folder<'a> {
         rt: &R,
         alloc: Global,
     ) -> Result<bool, Unopened> {
-        let path = format!(in alloc; "{}/ring.made", self.path)?;
+        let path = self.mark(alloc)?;
         match fs::exists(rt, path.as_str()) {
             Ok(is_made) => Ok(is_made),
             Err(error) => Err(Unopened::at(Place::Mark, Answer::from(error))),
         }
     }
 
-    /// Makes `ring.made`, which is there for good then.
-    pub fn mark_made<R: Files<File = File>>(&self, rt: &R, alloc: Global) -> Result<(), Unopened> {
-        let path = format!(in alloc; "{}/ring.made", self.path)?;
-        match File::create(rt, path.as_str()) {
-            Ok(_) => self.sync(),
-            Err(error) => Err(Unopened::at(Place::Mark, Answer::from(error))),
+    /// Makes `ring.made`, which is there for good then, once each node has a file. `begun` gets the steps that were begun.
+    pub fn mark_made<R: Files<File = File>>(
+        &self,
+        rt: &R,
+        alloc: Global,
+        begun: &mut Vec<FolderStep>,
+    ) -> Result<(), Unopened> {
+        let plan = marking();
+        for step in &plan {
+            self.carry_out(rt, alloc, step, begun)?;
         }
+        Ok(())
     }
 
     /// Whether the file `node-I.crj` is there.
@@ -218,7 +207,7 @@ impl<'a> Folder<'a> {
         alloc: Global,
         node: NodeNo,
     ) -> Result<bool, Unopened> {
-        let path = format!(in alloc; "{}/node-{node}.crj", self.path)?;
+        let path = self.journal(alloc, node)?;
         match fs::exists(rt, path.as_str()) {
             Ok(is_there) => Ok(is_there),
             Err(error) => Err(Unopened::at(Place::Journal, Answer::from(error))),
@@ -243,176 +232,166 @@ impl<'a> Folder<'a> {
                 Err(refusal) => Err(Unopened::new(refusal)),
             };
         }
-        let path = format!(in alloc; "{}/node-{node}.crj", self.path)?;
+        let path = self.journal(alloc, node)?;
         match recover(rt, alloc, path.as_str(), node, nodes) {
             Ok(opened) => Ok(Found::There(opened)),
             Err(refusal) => Err(look_again(rt, alloc, path.as_str(), refusal)),
         }
     }
 
-    /// The node as it may be served: one that has no file is made, another one makes a checkpoint.
+    /// The node as it may be served: one that has no file is made, another one makes a checkpoint. `begun` gets the steps in
+    /// the folder that were begun.
     pub(crate) fn ready<R: Files<File = File>>(
         &self,
         rt: &R,
         alloc: Global,
         found: Found<FileDevice>,
+        begun: &mut Vec<FolderStep>,
     ) -> Result<Ready<FileDevice>, Unopened>
         ensures { IfOk result (λ ready. IsReady found ready) }
     {
         match found {
             Found::New(new) => {
-                let made = self.make(rt, alloc, &new);
+                let made = self.make(rt, alloc, &new, begun);
                 drop(new);
                 Ok(Ready {
                     opened: made?,
                     is_written: true,
                 })
             }
-            Found::There(opened) => self.renew(rt, alloc, opened),
+            Found::There(opened) => renew(opened),
         }
     }
 
-    /// Has the node make a checkpoint, and another one where its area in use was of an earlier layout: then no area of
-    /// such a layout is left, which an earlier program would take for what the node holds.
-    fn renew<R: Files<File = File>>(
-        &self,
-        rt: &R,
-        alloc: Global,
-        opened: OpenNode<FileDevice>,
-    ) -> Result<Ready<FileDevice>, Unopened>
-        ensures { IfOk result (λ ready. IsReady (Found.There opened) ready) }
-    {
-        let is_of_old = opened.is_of_old();
-        let ready = self.renew_once(rt, alloc, opened)?;
-        if !(is_of_old && ready.is_written) {
-            return Ok(ready);
-        }
-        let again = self.renew_once(rt, alloc, ready.opened)?;
-        Ok(Ready {
-            opened: again.opened,
-            is_written: true,
-        })
-    }
-
-    /// Has the node make a checkpoint.
-    fn renew_once<R: Files<File = File>>(
-        &self,
-        rt: &R,
-        alloc: Global,
-        opened: OpenNode<FileDevice>,
-    ) -> Result<Ready<FileDevice>, Unopened>
-        ensures { IfOk result (λ ready. IsTried opened ready) }
-    {
-        let node = opened.number;
-        let path = format!(in alloc; "{}/node-{node}.crj", self.path)?;
-        let new = format!(in alloc; "{}/node-{node}.crj.new", self.path)?;
-        match opened.renew() {
-            Ok(ready) => Ok(ready),
-            Err((device, refusal)) => {
-                // its lock ends
-                drop(device);
-                Err(why_unwritten(rt, alloc, path.as_str(), new.as_str(), refusal))
-            }
-        }
-    }
-
-    /// A new node. Where it is refused, no file of it is left.
+    /// A new node, in a file that has its full length, and gets its name once it is formatted and synced: a stop at any moment
+    /// leaves a file that is recovered, or none of the name, and what it left is made anew.
     fn make<R: Files<File = File>>(
         &self,
         rt: &R,
         alloc: Global,
         new: &NewNode,
+        begun: &mut Vec<FolderStep>,
     ) -> Result<OpenNode<FileDevice>, Unopened>
         ensures desk { IfOk result (λ opened. kept_by opened ≡ new.now.desk) }
         ensures holds { IfOk result (λ opened. HoldsAll 1 new.now.desk opened) }
     {
-        let node = new.number;
-        let path = format!(in alloc; "{}/node-{node}.crj", self.path)?;
-        let first = format!(in alloc; "{}/node-{node}.crj.new", self.path)?;
-        match self.make_as(rt, alloc, new, first.as_str(), path.as_str()) {
-            Ok(opened) => Ok(opened),
+        let [clear, format, name] = making(new.number);
+        self.carry_out(rt, alloc, &clear, begun)?;
+        note(begun, &format)?;
+        let opened = self.format_new(rt, alloc, new)?;
+        match self.carry_out(rt, alloc, &name, begun) {
+            Ok(()) => Ok(opened),
             Err(why) => {
-                let _ = remove(rt, first.as_str());
+                drop(opened);
                 Err(why)
             }
         }
     }
 
-    /// A new node in a file of the one name, which has its full length, and gets the other name once it is formatted and
-    /// synced: a stop at any moment leaves a file that is recovered, or none of the name, and what it left is made anew.
-    fn make_as<R: Files<File = File>>(
+    /// A new node in a new file of its first name.
+    fn format_new<R: Files<File = File>>(
         &self,
         rt: &R,
         alloc: Global,
         new: &NewNode,
-        first: &str,
-        path: &str,
     ) -> Result<OpenNode<FileDevice>, Unopened>
         ensures desk { IfOk result (λ opened. kept_by opened ≡ new.now.desk) }
         ensures holds { IfOk result (λ opened. HoldsAll 1 new.now.desk opened) }
     {
-        remove(rt, first)?;
-        let refusal = match create(rt, alloc, first, new.number, new.nodes, new.capacity) {
-            Ok(opened) => {
-                return match self.name(rt, first, path) {
-                    Ok(()) => Ok(opened),
-                    Err(why) => {
-                        drop(opened);
-                        Err(why)
-                    }
-                };
-            }
+        let path = self.new_journal(alloc, new.number)?;
+        let made = create(
+            rt,
+            alloc,
+            path.as_str(),
+            new.number,
+            new.nodes,
+            new.capacity,
+        );
+        let refusal = match made {
+            Ok(opened) => return Ok(opened),
             Err(refusal) => refusal,
         };
         let again = match refusal {
-            Refusal::Device(_) => grow_again(rt, first, device_size(new.capacity)),
+            Refusal::Device(_) => grow_again(rt, path.as_str(), device_size(new.capacity)),
             _ => Ok(()),
         };
         Err(Unopened::because(refusal, Place::New, again))
     }
 
-    /// Gives a new file its name, for good. Where it is refused, there is no file of this name.
-    fn name<R: Files<File = File>>(&self, rt: &R, new: &str, path: &str) -> Result<(), Unopened> {
-        if let Err(error) = fs::rename(rt, new, path) {
-            return Err(Unopened::at(Place::New, Answer::from(error)));
-        }
-        match self.sync() {
-            Ok(()) => Ok(()),
-            Err(why) => {
-                let _ = remove(rt, path);
-                Err(why)
+    /// Takes back what a refused start left, of which these steps were begun. Behind a step that is refused nothing more is
+    /// done: what is left is what the next start goes on from.
+    pub(crate) fn take_back<R: Files<File = File>>(
+        &self,
+        rt: &R,
+        alloc: Global,
+        begun: &[FolderStep],
+    ) {
+        let Ok(plan) = taking_back(alloc, begun) else {
+            return;
+        };
+        for step in &plan {
+            if self.change(rt, alloc, step).is_err() {
+                break;
             }
         }
     }
 
-    /// Takes back what a start made that is refused: `ring.made` first, for good, and then the files of its nodes, so that a
-    /// stop in between leaves what the next start goes on from. What the system does not let go is left.
-    pub(crate) fn take_back<R: Files<File = File>>(&self, rt: &R, alloc: Global, made: &Made) {
-        if made.is_marked && self.unmark(rt, alloc).is_err() {
-            return;
-        }
-        for node in &made.nodes {
-            let _ = self.unmake(rt, alloc, *node);
-        }
-        let _ = self.sync();
+    /// Carries out a step that changes names. Before that it is noted that it was begun.
+    fn carry_out<R: Files<File = File>>(
+        &self,
+        rt: &R,
+        alloc: Global,
+        step: &FolderStep,
+        begun: &mut Vec<FolderStep>,
+    ) -> Result<(), Unopened> {
+        note(begun, step)?;
+        self.change(rt, alloc, step)
     }
 
-    /// There is no `ring.made` then, for good.
-    fn unmark<R: Files<File = File>>(&self, rt: &R, alloc: Global) -> Result<(), Unopened> {
-        let path = format!(in alloc; "{}/ring.made", self.path)?;
-        remove(rt, path.as_str())?;
-        self.sync()
+    /// Changes names as this step says. One that writes bytes is refused, since `format_new` has them.
+    fn change<R: Files<File = File>>(
+        &self,
+        rt: &R,
+        alloc: Global,
+        step: &FolderStep,
+    ) -> Result<(), Unopened> {
+        match *step {
+            FolderStep::Clear(node) => {
+                remove(rt, self.new_journal(alloc, node)?.as_str(), Place::New)
+            }
+            FolderStep::Format(_) => Err(Unopened::new(Refusal::NotFormatted)),
+            FolderStep::Name(node) => self.name(rt, alloc, node),
+            FolderStep::Mark => self.make_mark(rt, alloc),
+            FolderStep::Unmark => remove(rt, self.mark(alloc)?.as_str(), Place::Mark),
+            FolderStep::Unname(node) => {
+                remove(rt, self.journal(alloc, node)?.as_str(), Place::Journal)
+            }
+            FolderStep::Sync => self.sync(),
+        }
     }
 
-    /// There is no file of this node then.
-    fn unmake<R: Files<File = File>>(
+    /// Gives a new file its name.
+    fn name<R: Files<File = File>>(
         &self,
         rt: &R,
         alloc: Global,
         node: NodeNo,
     ) -> Result<(), Unopened> {
-        let path = format!(in alloc; "{}/node-{node}.crj", self.path)?;
-        remove(rt, path.as_str())
+        let new = self.new_journal(alloc, node)?;
+        let path = self.journal(alloc, node)?;
+        match fs::rename(rt, new.as_str(), path.as_str()) {
+            Ok(()) => Ok(()),
+            Err(error) => Err(Unopened::at(Place::New, Answer::from(error))),
+        }
+    }
+
+    /// Makes `ring.made`.
+    fn make_mark<R: Files<File = File>>(&self, rt: &R, alloc: Global) -> Result<(), Unopened> {
+        let path = self.mark(alloc)?;
+        match File::create(rt, path.as_str()) {
+            Ok(_) => Ok(()),
+            Err(error) => Err(Unopened::at(Place::Mark, Answer::from(error))),
+        }
     }
 
     /// The names in the folder are there for good.
@@ -422,13 +401,28 @@ impl<'a> Folder<'a> {
             Err(error) => Err(Unopened::at(Place::Folder, Answer::from(error))),
         }
     }
+
+    /// The path of a node's file.
+    fn journal(&self, alloc: Global, node: NodeNo) -> Result<String, AllocError> {
+        format!(in alloc; "{}/node-{node}.crj", self.path)
+    }
+
+    /// The path of its first name.
+    fn new_journal(&self, alloc: Global, node: NodeNo) -> Result<String, AllocError> {
+        format!(in alloc; "{}/node-{node}.crj.new", self.path)
+    }
+
+    /// The path of `ring.made`.
+    fn mark(&self, alloc: Global) -> Result<String, AllocError> {
+        format!(in alloc; "{}/ring.made", self.path)
+    }
 }
 
 /// There is no such file then.
-fn remove<R: Files<File = File>>(rt: &R, path: &str) -> Result<(), Unopened> {
+fn remove<R: Files<File = File>>(rt: &R, path: &str, place: Place) -> Result<(), Unopened> {
     match fs::remove_file(rt, path) {
         Ok(()) => Ok(()),
         Err(error) if error.kind() == ErrorKind::NotFound => Ok(()),
-        Err(error) => Err(Unopened::at(Place::New, Answer::from(error))),
+        Err(error) => Err(Unopened::at(place, Answer::from(error))),
     }
 }

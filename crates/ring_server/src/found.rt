@@ -68,14 +68,6 @@ impl<V: Device> Found<V> {
         }
     }
 
-    /// Whether it has no file.
-    pub(crate) fn is_new(&self) -> bool {
-        match self {
-            Found::There(_) => false,
-            Found::New(_) => true,
-        }
-    }
-
     /// Its desk, whose inputs are all durable and there.
     pub(crate) fn desk(&self) -> &Desk
         ensures desk { result.now ≡ found_as self.now }

@@ -2,9 +2,11 @@
 ghost use Rattle.std.specs.Prelude.{◌≡◌, []};
 
 use crate::credits::Credits;
-use crate::held::{awaits_room, has_little_room, is_full};
+use crate::held::{awaits_room, has_little_room, is_full, is_left};
 use crate::links::Links;
-use crate::pace::Pace;
+use crate::outcome::{Outcome, outcome_of};
+use crate::pace::{Coming, Pace};
+use crate::window::send_what_may_miss;
 use commit_hub::{Hub, Node, Share};
 use crossbeam_channel::Receiver;
 use group_commit::Ticket;
@@ -27,8 +29,8 @@ struct Intake<A: Node> {
     pace: Pace,
 }
 
-/// Takes packets until the letterbox is closed and empty. What is not taken, for want of memory or since the node has
-/// failed, is lost, and comes again with the sender's window. No ticket is left open.
+/// Takes packets until the letterbox is closed and empty. What is not taken, for want of memory or room or since the node has
+/// failed, is lost, and comes again: between two rounds this node sends what its own successor may miss. No ticket is left open.
 pub(crate) fn take_all<A: Node, R: Wait + Clock>(
     rt: &R,
     alloc: Global,
@@ -44,12 +46,16 @@ pub(crate) fn take_all<A: Node, R: Wait + Clock>(
         pace: Pace::new(),
     };
     for _ in rt.forever() {
-        let Some(packet) = intake.pace.next(rt, inbox) else {
-            break;
-        };
-        take(rt, hub, &mut intake, packet, links);
-        take_waiting(rt, hub, &mut intake, inbox, links);
-        release_all(rt, hub, &mut intake, links);
+        match intake.pace.next(rt, inbox) {
+            Coming::Packet(packet) => {
+                take(rt, hub, &mut intake, packet, links);
+                take_waiting(rt, hub, &mut intake, inbox, links);
+                release_all(rt, hub, &mut intake, links);
+            }
+            Coming::Silence => {}
+            Coming::End => break,
+        }
+        send_what_may_miss(rt, hub, links);
     }
     tell(rt, hub, &mut intake);
     release_all(rt, hub, &mut intake, links);
@@ -98,7 +104,7 @@ fn take<A: Node, R: Wait + Clock>(
     match packet {
         Packet::Carry { no, msg } => {
             if has_little_room(&hub.look(rt)) {
-                take_alone(rt, hub, intake, &Request::Take(no, msg), links);
+                take_alone(rt, hub, intake, no, &Request::Take(no, msg), links);
             } else if !submit(rt, hub, intake, Request::Take(no, msg)) {
                 links.done();
             }
@@ -116,28 +122,34 @@ fn take_alone<A: Node, R: Wait + Clock>(
     rt: &R,
     hub: &Hub<A>,
     intake: &mut Intake<A>,
+    no: u64,
     question: &Request,
     links: &Links<'_>,
 ) {
     for _ in rt.forever() {
-        if ends_alone(rt, hub, intake, question, links) {
+        if ends_alone(rt, hub, intake, no, question, links) {
             break;
         }
     }
 }
 
 /// Asks the node to take the message, and whether that is its end. The credits that are held back come first, since they may make
-/// a checkpoint due, and the message waits for one that is due.
+/// a checkpoint due, and the message waits for one that is due. A full node is not asked: it keeps room for Retires.
 fn ends_alone<A: Node, R: Wait + Clock>(
     rt: &R,
     hub: &Hub<A>,
     intake: &mut Intake<A>,
+    no: u64,
     question: &Request,
     links: &Links<'_>,
 ) -> bool {
     tell(rt, hub, intake);
     wait_for_room(rt, hub);
     release_all(rt, hub, intake, links);
+    if is_left(&hub.look(rt), no) {
+        end_message(rt, Some(Reply::Refused(Refusal::Full)), links, true);
+        return true;
+    }
     if !submit(rt, hub, intake, *question) {
         links.done();
         return true;
@@ -238,16 +250,15 @@ fn lacks_room(reply: &Option<Reply>) -> bool {
     matches!(reply, Some(Reply::Refused(Refusal::Full)))
 }
 
-/// A message has its reply. One that was taken before is answered with a credit again. Where one was refused for want of room,
-/// it is said that the node is full, if it is: there may be room again, or a checkpoint be due, which makes some.
+/// A message has its reply. Where one was refused for want of room, it is counted.
 fn end_message<R: Wait>(rt: &R, reply: Option<Reply>, links: &Links<'_>, is_full: bool) {
     if lacks_room(&reply) {
-        links.tally.count_refused_message();
+        links.tally.refuse_message(rt);
     }
-    match reply {
-        Some(Reply::Refused(Refusal::Old(upto))) => links.send(rt, Packet::Credit { upto }),
-        Some(Reply::Refused(Refusal::Full)) if is_full => links.fill(rt),
-        _ => {}
+    match outcome_of(reply, is_full) {
+        Outcome::Credit(upto) => links.send(rt, Packet::Credit { upto }),
+        Outcome::Full => links.fill(rt),
+        Outcome::Nothing => {}
     }
     links.done();
 }

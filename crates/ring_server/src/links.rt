@@ -4,6 +4,7 @@ ghost use Rattle.std.specs.Prelude.{◌≡◌, ◌≤◌};
 use crate::post::Post;
 use crate::repeats::Repeats;
 use crate::shared::Shared;
+use crate::turnstile::Turnstile;
 use crate::watch::Watch;
 use ring_records::{NodeNo, Packet};
 use ring_watch::{Reception, Tally};
@@ -33,13 +34,14 @@ impl Successor {
 }
 
 /// What a node's threads send by, leave word at and count by: its place in the ring, the letterboxes, what it knows of
-/// its successor, the watch, its tally, and where clerks are asked, if they are.
+/// its successor, the watch, its tally, the turns of its doors, and where clerks are asked, if they are.
 #[derive(Clone, Copy)]
 pub(crate) struct Links<'a> {
     pub(crate) post: &'a Post,
     pub(crate) watch: &'a Watch,
     pub(crate) successor: &'a Successor,
     pub(crate) tally: &'a Tally,
+    pub(crate) turnstile: &'a Turnstile,
     pub(crate) reception: Option<&'a Reception>,
     pub(crate) node: NodeNo,
     pub(crate) nodes: u8,
@@ -52,6 +54,7 @@ impl<'a> Links<'a> {
         shared: &'a Shared,
         successor: &'a Successor,
         tally: &'a Tally,
+        turnstile: &'a Turnstile,
         node: NodeNo,
         nodes: u8,
     ) -> Links<'a>
@@ -64,6 +67,7 @@ impl<'a> Links<'a> {
             watch: &shared.watch,
             successor,
             tally,
+            turnstile,
             reception: shared.reception(),
             node,
             nodes,
@@ -135,7 +139,7 @@ impl<'a> Links<'a> {
         self.watch.fail(rt, self.node, cause);
     }
 
-    /// The node refused a message for want of room.
+    /// The node refused a message or a client for want of room.
     pub(crate) fn fill<R: Wait>(&self, rt: &R) {
         self.watch.fill(rt, self.node);
     }

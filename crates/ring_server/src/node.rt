@@ -5,7 +5,7 @@ ghost use Rattle.commit_hub.specs.Pages.{ForAccepted, ForTie};
 ghost use Rattle.ring_server.specs.Fits.{kept_by};
 
 use crate::clerk::{Clerk, serve_clerk, take_clerk};
-use crate::door::{Front, Seat, send_window, serve_door, take_seats};
+use crate::door::{Front, Seat, serve_door, take_seats};
 use crate::flush::flush_all;
 use crate::inbox::take_all;
 use crate::links::{Links, Successor};
@@ -14,6 +14,8 @@ use crate::run_fault::RunFault;
 use crate::shared::Shared;
 use crate::site::{Doors, Entrance, Site};
 use crate::start_latch::StartLatch;
+use crate::turnstile::Turnstile;
+use crate::window::send_window;
 use commit_hub::{Hub, Node, Share};
 use crossbeam_channel::Receiver;
 use decision_board::{Board, Naming};
@@ -93,9 +95,10 @@ pub(crate) fn serve_node<
         return unstarted(rt, latch);
     };
     let successor = Successor::new();
-    let links = Links::new(shared, &successor, &tally, number, nodes);
-    let (hub, tie) = Hub::<A>::new(desk, blanks);
     let doors = entrance.doors;
+    let turnstile = Turnstile::new(rt, doors.count);
+    let links = Links::new(shared, &successor, &tally, &turnstile, number, nodes);
+    let (hub, tie) = Hub::<A>::new(desk, blanks);
     let ends = take_ends(rt, alloc, &hub, &board, entrance);
     let flusher = Flusher::new(alloc, journal, board, tie);
     let common = Common {
@@ -159,7 +162,7 @@ fn take_ends<J: Naming, A: Node, R: Wait>(
     } = entrance;
     let share = hub.enter(rt).ok()?;
     let seats = take_seats(rt, alloc, hub, board, doors.count)?;
-    let clerk = take_clerk(board, asked, port_of(&listener), doors.count).ok()?;
+    let clerk = take_clerk(board, asked, port_of(&listener), doors.count - 1).ok()?;
     Some(Ends {
         inbox,
         listener,

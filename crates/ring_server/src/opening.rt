@@ -6,11 +6,11 @@ ghost use Rattle.ring_server.specs.Written.{ready_as, AreReady};
 use crate::folder::Folder;
 use crate::found::Found;
 use crate::look_over::look_over;
-use crate::made::Made;
 use crate::ready::Ready;
 use crate::run_fault::RunFault;
 use crate::unopened::Unopened;
 use disk_model::FileDevice;
+use folder_plan::FolderStep;
 use ring_records::{NodeNo, Refusal};
 use ring_service::Settings;
 use std::alloc::Global;
@@ -83,14 +83,14 @@ fn find_nodes<R: Files<File = File>>(
 }
 
 /// The nodes that were found, as they may be served: each was made by this start, or made a checkpoint, or can make none.
-/// They go on from what was found. `made` gets those that this start makes.
+/// They go on from what was found. `begun` gets the steps in the folder that were begun.
 pub(crate) fn open_ring<R: Files<File = File>>(
     rt: &R,
     alloc: Global,
     folder: &Folder<'_>,
     settings: &Settings,
     found: Vec<Found<FileDevice>>,
-    made: &mut Made,
+    begun: &mut Vec<FolderStep>,
 ) -> Result<Vec<Ready<FileDevice>>, RunFault>
     requires order { IsInOrder found_as found.items }
     requires count { length found.items ≡ settings.now.nodes }
@@ -100,31 +100,27 @@ pub(crate) fn open_ring<R: Files<File = File>>(
     ensures count { IfOk result (λ ring. length ring.items ≡ settings.now.nodes) }
     ensures fits { IfOk result (λ ring. Fits ready_as settings.now.nodes ring.items) }
 {
-    let ring = make_ready(rt, alloc, folder, found, made)?;
+    let ring = make_ready(rt, alloc, folder, found, begun)?;
     Ok(ring)
 }
 
-/// Each node that was found, in this order. `made` gets those that are made.
+/// Each node that was found, in this order.
 fn make_ready<R: Files<File = File>>(
     rt: &R,
     alloc: Global,
     folder: &Folder<'_>,
     found: Vec<Found<FileDevice>>,
-    made: &mut Made,
+    begun: &mut Vec<FolderStep>,
 ) -> Result<Vec<Ready<FileDevice>>, RunFault>
     ensures { IfOk result (λ ring. AreReady found.items ring.items) }
 {
-    // There is room for all, so a node that is made is also told.
-    made.nodes.reserve(found.len())?;
     let mut ring = Vec::with_capacity(alloc, found.len())?;
     for node in found {
         let number = node.number();
-        let is_new = node.is_new();
-        match folder.ready(rt, alloc, node) {
+        match folder.ready(rt, alloc, node, begun) {
             Ok(ready) => ring.push(ready)?,
             Err(why) => return Err(RunFault::Node(number, why)),
         }
-        made.note(number, is_new)?;
     }
     Ok(ring)
 }

@@ -13,6 +13,19 @@ const GATHER: u64 = 1_000;
 /// Where none comes for so many microseconds, the count begins anew.
 const REST: u64 = 200;
 
+/// Where none comes for so many milliseconds, a message may be lost.
+const SILENCE: u64 = 500;
+
+/// What an inbox comes upon.
+pub(crate) enum Coming {
+    /// A packet.
+    Packet(Packet),
+    /// Nothing, for half a second.
+    Silence,
+    /// The letterbox is closed and empty.
+    End,
+}
+
 /// An inbox takes the first messages after a rest as they come. Where they go on coming they gather between two rounds, so
 /// that one batch makes many of them durable, and the disk is left to the Stands, for which clients wait.
 #[derive(Drop)]
@@ -35,26 +48,34 @@ impl Pace {
         self.may_gather = !leaves_some;
     }
 
-    /// The next packet, or `None` once the letterbox is closed and empty.
-    pub(crate) fn next<R: Wait + Clock>(
-        &mut self,
-        rt: &R,
-        inbox: &Receiver<Packet>,
-    ) -> Option<Packet> {
+    /// The next packet, a silence, or the end.
+    pub(crate) fn next<R: Wait + Clock>(&mut self, rt: &R, inbox: &Receiver<Packet>) -> Coming {
         if self.may_gather && self.rounds >= PROMPT {
             rt.sleep(Duration::from_micros(GATHER));
         }
-        match inbox.recv_timeout(rt, Duration::from_micros(REST)) {
-            Ok(packet) => {
+        match within(rt, inbox, Duration::from_micros(REST)) {
+            Coming::Packet(packet) => {
                 self.rounds = self.rounds.saturating_add(1);
-                Some(packet)
+                Coming::Packet(packet)
             }
-            Err(fault) => {
-                if !fault.is_timeout() {
-                    return None;
-                }
+            Coming::Silence => {
                 self.rounds = 0;
-                inbox.recv(rt).ok()
+                within(rt, inbox, Duration::from_millis(SILENCE))
+            }
+            Coming::End => Coming::End,
+        }
+    }
+}
+
+/// What an inbox comes upon within this time.
+fn within<R: Wait + Clock>(rt: &R, inbox: &Receiver<Packet>, time: Duration) -> Coming {
+    match inbox.recv_timeout(rt, time) {
+        Ok(packet) => Coming::Packet(packet),
+        Err(fault) => {
+            if fault.is_timeout() {
+                Coming::Silence
+            } else {
+                Coming::End
             }
         }
     }

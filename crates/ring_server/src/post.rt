@@ -1,6 +1,9 @@
 //! The letterboxes of all nodes, until the last door of the ring is done.
+ghost use Rattle.std.specs.Prelude.{◌≡◌};
+
 use crossbeam_channel::{Receiver, Sender, unbounded};
 use ring_records::{NodeNo, Packet};
+use ring_status::Letters;
 use std::alloc::{AllocError, Global};
 use std::sync::atomic::{AtomicU64, Ordering};
 use std::sync::{Mutex, Wait};
@@ -67,16 +70,19 @@ impl Post {
     }
 
     /// How many messages wait at the node.
-    pub fn waiting(&self, node: NodeNo) -> u64 {
-        match self.letterbox(node) {
+    pub fn letters(&self, node: NodeNo) -> Letters
+        ensures { result.node ≡ node }
+    {
+        let count = match self.letterbox(node) {
             Some(letterbox) => letterbox.waiting.load(Ordering::SeqCst),
             None => 0,
-        }
+        };
+        Letters { node, count }
     }
 
     /// Whether messages wait at the node.
     pub fn waits_at(&self, node: NodeNo) -> bool {
-        self.waiting(node) > 0
+        self.letters(node).count > 0
     }
 
     /// The door of one node is done, which each node says once. After the last one every letterbox is closed.

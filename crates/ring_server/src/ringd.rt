@@ -7,7 +7,7 @@ ghost use Rattle.ring_server.specs.Fits.{found_as, IsInOrder, Fits};
 use crate::check::tell_ring;
 use crate::folder::Folder;
 use crate::found::Found;
-use crate::made::Made;
+use crate::limits::{look_at_descriptors, look_at_files};
 use crate::opening::{find_ring, open_ring};
 use crate::ports::Ports;
 use crate::post::Post;
@@ -19,6 +19,7 @@ use clap::Error;
 use clap::error::ErrorKind as WordFault;
 use crossbeam_channel::Receiver;
 use disk_model::FileDevice;
+use folder_plan::FolderStep;
 use ring_records::{NodeNo, Packet};
 use ring_service::{Settings, Words, read_settings, read_words};
 use ring_watch::Inquiry;
@@ -109,7 +110,8 @@ where
         + Clock
         + Files<File = File>
         + Net<Listener = TcpListener, Stream = TcpStream>,
-    requires { IsIn 1 DOORS call.now.words.doors }
+    requires doors { IsIn 1 DOORS call.now.words.doors }
+    requires leap { IsIn 0 999999999 call.now.words.leap }
 {
     let words = &call.words;
     let settings = take_settings(rt, alloc, words.settings, settings)?;
@@ -237,7 +239,7 @@ fn check<R: Files<File = File>, O: Write>(
 }
 
 /// Makes the nodes that are not there, as a start does, and serves nothing. Where it is refused, what it made is gone.
-fn make<R: Files<File = File>, E: Write>(
+pub fn make<R: Files<File = File>, E: Write>(
     rt: &R,
     alloc: Global,
     settings: &Settings,
@@ -252,11 +254,12 @@ fn make<R: Files<File = File>, E: Write>(
     };
     let found = find_ring(rt, alloc, &folder, settings, basis.is_made)?;
     tell_capacities(err, settings, &found);
-    let mut made = Made::new(alloc);
-    match make_ready(rt, &basis, found, &mut made, err) {
+    look_at_files(&found)?;
+    let mut begun = Vec::new(alloc);
+    match make_ready(rt, &basis, found, &mut begun, err) {
         Ok(_) => Ok(0),
         Err(fault) => {
-            folder.take_back(rt, alloc, &made);
+            folder.take_back(rt, alloc, &begun);
             Err(fault)
         }
     }
@@ -283,7 +286,8 @@ where
         + Clock
         + Files<File = File>
         + Net<Listener = TcpListener, Stream = TcpStream>,
-    requires { IsIn 1 DOORS call.now.words.doors }
+    requires doors { IsIn 1 DOORS call.now.words.doors }
+    requires leap { IsIn 0 999999999 call.now.words.leap }
 {
     let words = &call.words;
     // Its lock is held until the last node has ended.
@@ -297,15 +301,17 @@ where
     let existing = basis.is_made || words.existing;
     let found = find_ring(rt, alloc, &folder, settings, existing)?;
     tell_capacities(err, settings, &found);
+    look_at_files(&found)?;
+    look_at_descriptors(settings.nodes, words.doors)?;
     let serving = Serving {
         ports: Ports::listen(rt, alloc, settings, words, call.said)?,
-        doors: Doors::new(words.doors, sessions, words.idle),
+        doors: Doors::new(words.doors, sessions, words.idle).with_leap(words.leap),
         fail_stop: words.fail_stop,
     };
-    let mut made = Made::new(alloc);
-    let end = serve_found(rt, &basis, found, serving, &mut made, out, err);
+    let mut begun = Vec::new(alloc);
+    let end = serve_found(rt, &basis, found, serving, &mut begun, out, err);
     if end.is_err() {
-        folder.take_back(rt, alloc, &made);
+        folder.take_back(rt, alloc, &begun);
     }
     end
 }
@@ -316,7 +322,7 @@ fn serve_found<R, O: Write, E: Write>(
     basis: &Basis<'_>,
     found: Vec<Found<FileDevice>>,
     serving: Serving,
-    made: &mut Made,
+    begun: &mut Vec<FolderStep>,
     out: &mut O,
     err: &mut E,
 ) -> Result<u8, RunFault>
@@ -334,7 +340,7 @@ where
     requires count { length found.items ≡ basis.now.settings.now.nodes }
     requires fits { Fits found_as basis.now.settings.now.nodes found.items }
 {
-    let ready = make_ready(rt, basis, found, made, err)?;
+    let ready = make_ready(rt, basis, found, begun, err)?;
     let Serving {
         ports: Ports {
             listeners,
@@ -361,7 +367,7 @@ fn make_ready<R: Files<File = File>, E: Write>(
     rt: &R,
     basis: &Basis<'_>,
     found: Vec<Found<FileDevice>>,
-    made: &mut Made,
+    begun: &mut Vec<FolderStep>,
     err: &mut E,
 ) -> Result<Vec<Ready<FileDevice>>, RunFault>
     requires order { IsInOrder found_as found.items }
@@ -374,11 +380,10 @@ fn make_ready<R: Files<File = File>, E: Write>(
         folder,
         is_made,
     } = *basis;
-    let ready = open_ring(rt, alloc, folder, settings, found, made)?;
+    let ready = open_ring(rt, alloc, folder, settings, found, begun)?;
     tell_kept(err, &ready);
     if !is_made {
-        made.is_marked = true;
-        if let Err(why) = folder.mark_made(rt, alloc) {
+        if let Err(why) = folder.mark_made(rt, alloc, begun) {
             return Err(RunFault::Node(NodeNo::first(), why));
         }
     }

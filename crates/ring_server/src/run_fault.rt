@@ -23,6 +23,12 @@ pub enum RunFault {
     /// The histories of two nodes are not of one time.
     #[error("nodes {0} and {1} do not fit")]
     Apart(NodeNo, NodeNo),
+    /// The system lets a file have so many bytes, and that of a node takes so many.
+    #[error("a file may have {0} bytes, and a node's takes {1}")]
+    FileLimit(u64, u64),
+    /// The system lets the process have so many descriptors, and the ring takes so many.
+    #[error("{0} descriptors may be had, and the ring takes {1}")]
+    Descriptors(u64, u64),
     /// A port is in use, or not to be had, for a cause of this kind.
     #[error("port {0} cannot be used")]
     Port(u16, ErrorKind),

@@ -1,5 +1,5 @@
 //! What a node serves with.
-ghost use Rattle.std.specs.Prelude.{◌≡◌, ◌+◌, ◌≤◌};
+ghost use Rattle.std.specs.Prelude.{◌≡◌, ◌+◌, ◌≤◌, min};
 ghost use Rattle.ring_records.specs.declared.limits.TheConstants.{DOORS};
 ghost use Rattle.commit_hub.specs.Pages.{places_of};
 
@@ -20,12 +20,14 @@ pub struct Doors {
     pub(crate) count: u32,
     pub(crate) sessions: u64,
     pub(crate) idle: Option<Duration>,
+    pub(crate) leap: u32,
     ghost range: { (1 ≤ count) × (count ≤ DOORS) },
+    ghost bounded: { leap ≤ 999999999 },
 }
 
 impl Doors {
     /// So many doors, 1 to 32, which serve so many sessions together, or sessions without end. A session ends where its
-    /// client sends nothing for so many seconds, or takes no answer for as long; 0 is for ever.
+    /// client sends nothing for so many seconds, or takes no answer for as long; 0 is for ever. Terms have no bound.
     pub fn new(count: u32, sessions: Option<u32>, idle: u32) -> Doors
         requires { (1 ≤ count) × (count ≤ DOORS) }
     {
@@ -40,6 +42,45 @@ impl Doors {
                 0 => None,
                 seconds => Some(Duration::from_secs(u64::from(seconds))),
             },
+            leap: 0,
+        }
+    }
+
+    /// Which let a client stand for a term so far above the latest that is known for its group; 0 is for no bound.
+    pub fn with_leap(self, leap: u32) -> Doors
+        requires { leap ≤ 999999999 }
+    {
+        let Doors {
+            count,
+            sessions,
+            idle,
+            leap: _,
+        } = self;
+        Doors {
+            count,
+            sessions,
+            idle,
+            leap,
+        }
+    }
+}
+
+impl Doors {
+    /// These and one more, where there are places for so many.
+    fn with_one_kept(self, places: u32) -> Doors
+        requires { (self.count ≤ places) × (places ≤ DOORS) }
+        ensures { result.count ≡ min places (self.count + 1) }
+    {
+        let count = if self.count < places {
+            self.count + 1
+        } else {
+            places
+        };
+        Doors {
+            count,
+            sessions: self.sessions,
+            idle: self.idle,
+            leap: self.leap,
         }
     }
 }
@@ -68,7 +109,7 @@ pub struct Site<V: Device> {
 
 impl<V: Device> Site<V> {
     /// Of a node that was opened. It has a clerk where that may be asked and has a place: a board has 32, of which each
-    /// door takes one.
+    /// door takes one. It has a door more, for short questions, where that has a place.
     pub fn new(
         alloc: Global,
         opened: OpenNode<V>,
@@ -78,7 +119,9 @@ impl<V: Device> Site<V> {
         asked: Option<Receiver<Inquiry>>,
     ) -> Site<V> {
         let asked = if doors.count < DOORS { asked } else { None };
-        let readers = doors.count + u32::from(asked.is_some());
+        let clerks = u32::from(asked.is_some());
+        let doors = doors.with_one_kept(DOORS - clerks);
+        let readers = doors.count + clerks;
         Site {
             alloc,
             opened,

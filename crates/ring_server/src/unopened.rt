@@ -105,6 +105,17 @@ impl Unopened {
         }
     }
 
+    /// Of this refusal of its file, which the system answered so, where it answered anything.
+    pub(crate) fn caused(refusal: Refusal, cause: Option<ErrorKind>) -> Unopened {
+        Unopened {
+            refusal,
+            told: match cause {
+                Some(kind) => Some((Place::Journal, Answer::Error(kind))),
+                None => None,
+            },
+        }
+    }
+
     /// There is no file of the node, where there has to be one.
     pub fn gone() -> Unopened {
         Unopened {

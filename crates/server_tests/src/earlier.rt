@@ -130,6 +130,42 @@ fn a_folder_of_layout_1(rt: HostRuntime) {
     plays(&rt, &LAYOUT_1);
 }
 
+/// No node knows a credit, so each start sends two messages that were taken before. They are credited, and no more, which each
+/// node is told at its end. A client waits until they are.
+const CREDITED: Scenario = Scenario {
+    ring: Ring::Program(
+        &["ringd", "--serve", "1", "--status", "7360"],
+        b"nodes = 3\ndir = \"twice\"\nport = 7361\ncapacity = 4096\n",
+    ),
+    visits: [
+        &[
+            Visit::IsLeft(7360, b"GET", 2),
+            Visit::Says(7361, &[LED, BYE]),
+        ],
+        &[Visit::Says(7362, &[LED, BYE])],
+        &[Visit::Says(7363, &[LED, BYE])],
+    ],
+    status: 0,
+    out: b"nodes 3\ndir twice\nport 7361\ncapacity 4096\nserving\nnode 1 inputs 4 durable 4 sent 2 taken 2 credit 2\nnode 2 inputs 3 durable 3 sent 2 taken 2 credit 2\nnode 3 inputs 3 durable 3 sent 2 taken 2 credit 2\n",
+    err: Some(b""),
+};
+
+static TWICE: [Step; 3] = [
+    Changes(&[
+        Anew("twice"),
+        Writes("twice/node-1.crj", FIRST_1),
+        Writes("twice/node-2.crj", SECOND_1),
+        Writes("twice/node-3.crj", THIRD_1),
+    ]),
+    Runs(&CREDITED),
+    Changes(&[Clears("twice")]),
+];
+
+#[test]
+fn messages_that_are_sent_twice(rt: HostRuntime) {
+    plays(&rt, &TWICE);
+}
+
 /// The journals of three nodes of layout 2, of one area, up to its closed gate: node 1 stood for term 5, and led.
 const FIRST_2: &[u8] =
     b"CRJRNL02\x01\x03\x00\x00\x10\x00\x00\x00\x01\x02\x00\x00\x00\x00\x00\x00\x00\x01\x00\x00\x00&\x00\x00\x00\x00\x00\x00\x00\x00\x00\x00\x00\x00\x00\x00\x00\x00\x00\x00\x00\x00\x00\x00\x00\x00\x00\x00\x00\x00\x00\x00\x00\x00\x00\x00\x00\x00\x00\x00\x01\x00\x01\x00\x00\x00\x0d\x01\x03red\x00\x00\x00\x05\x00\x00\x00\x0a\x01\x00\x01\x00\x00\x00\x16\x02\x00\x00\x00\x00\x00\x00\x00\x00\x03red\x00\x00\x00\x05\x00\x00\x00\x0a\x01\x01\x00\x01\x00\x00\x00\x16\x03\x00\x00\x00\x00\x00\x00\x00\x01\x03red\x00\x00\x00\x05\x00\x00\x00\x0a\x01\x00";

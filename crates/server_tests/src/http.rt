@@ -21,7 +21,7 @@ pub enum Question {
 }
 
 /// What is answered to these bytes, up to its end.
-fn answer_to<R: Net<Stream = TcpStream> + Clock + AllocGlobal>(
+pub fn answer_to<R: Net<Stream = TcpStream> + Clock + AllocGlobal>(
     rt: &R,
     port: u16,
     head: &[u8],

@@ -16,13 +16,23 @@ mod earlier;
 #[cfg(test)]
 mod elections;
 #[cfg(test)]
+mod fake;
+#[cfg(test)]
 mod folders;
+#[cfg(test)]
+mod full;
+#[cfg(test)]
+mod holders;
 #[cfg(test)]
 mod http;
 #[cfg(test)]
 mod looks;
 #[cfg(test)]
 mod news;
+#[cfg(test)]
+mod numbers;
+#[cfg(test)]
+mod plans;
 #[cfg(test)]
 mod programs;
 #[cfg(test)]
@@ -37,6 +47,8 @@ mod starts;
 mod status;
 #[cfg(test)]
 mod steps;
+#[cfg(test)]
+mod tallies;
 #[cfg(test)]
 mod unsynced;
 #[cfg(test)]

@@ -4,7 +4,45 @@ use crate::steps::Step::{Changes, Elects, Ends, Looks};
 use crate::steps::{CHECK, SERVE, Step, plays};
 use crate::visits::Say;
 use crate::visits::Say::{AtLast, Line};
+use std::alloc::AllocGlobal;
+use std::str;
 use std::test::*;
+
+/// How many inputs the line of this node tells, and for how many of them its snapshot stands.
+fn counts_in<R: AllocGlobal>(rt: &R, line: &str, node: u8) -> Option<(u64, u64)> {
+    let head = format!(in rt.alloc(); "node {node} inputs ").ok()?;
+    let (inputs, behind) = line.strip_prefix(head.as_str())?.split_once(" behind ")?;
+    Some((inputs.parse().ok()?, behind.parse().ok()?))
+}
+
+/// What the last line has to be, by the counts of both nodes: all inputs are placed, or the first node is named whose file
+/// begins behind a checkpoint.
+fn said_of<R: AllocGlobal>(rt: &R, one: (u64, u64), two: (u64, u64)) -> Option<String> {
+    let sum = one.0.saturating_add(two.0);
+    match (one.1, two.1) {
+        (0, 0) => format!(in rt.alloc(); "audit ok {sum}").ok(),
+        (0, _) => format!(in rt.alloc(); "dropped 2").ok(),
+        _ => format!(in rt.alloc(); "dropped 1").ok(),
+    }
+}
+
+/// What stands before: the settings of the ring.
+const SETTINGS: &[u8] = b"nodes 2\ndir looked\nport 7331\ncapacity 65536\n";
+
+/// The last line of a look at a ring of two, where a line of each node stands before it, whose counts fit it.
+pub fn last_line<R: AllocGlobal>(rt: &R, out: &[u8]) -> Option<String> {
+    let told = out.strip_prefix(SETTINGS)?;
+    let mut lines = str::from_utf8(told).ok()?.lines();
+    let one = counts_in(rt, lines.next()?, 1)?;
+    let two = counts_in(rt, lines.next()?, 2)?;
+    let said = said_of(rt, one, two)?;
+    let is_told = lines.next() == Some(said.as_str()) && lines.next().is_none();
+    if is_told && one.1 <= one.0 && two.1 <= two.0 {
+        Some(said)
+    } else {
+        None
+    }
+}
 
 const LOOKED: &[u8] = b"nodes = 2\ndir = \"looked\"\nport = 7331\n";
 

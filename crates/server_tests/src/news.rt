@@ -1,7 +1,6 @@
 // What is told of nodes while a ring serves, and what reaches their successors.
-use crate::checkpoints::{Stands, leads};
-use crate::clients::{answers, answers_at_last, connect};
-use crate::devices::{Served, awaits};
+use crate::clients::{answers_at_last, connect};
+use crate::devices::Served;
 use crate::programs::{Ring, Scenario, beside, runs};
 use crate::steps::runs_anew;
 use crate::visits::{Say, Visit, asks};
@@ -11,14 +10,11 @@ use std::net::{Net, TcpListener, TcpStream};
 use std::process::Abort;
 use std::rt::Files;
 use std::sync::Wait;
-use std::sync::atomic::AtomicU64;
 use std::test::*;
 use std::thread::Threads;
 use std::time::Clock;
 
 const FAILED: &[u8] = b"ringd: node 2 failed\nringd: ring/node-2.crj: other error\n";
-
-const FULL: &[u8] = b"ringd: node 1 full\n";
 
 /// A ring whose node 2 fails.
 const ONE_FAILS: Served = Served {
@@ -118,70 +114,6 @@ const FAIL_STOP: Scenario = Scenario {
 #[test]
 fn the_first_failure_is_the_end(rt: HostRuntime) {
     runs(&rt, &FAIL_STOP);
-}
-
-/// Whether node 3 at this port stands twice, for terms behind those that node 1 has room for, and it is told that node 1 is full.
-fn sends_to_full<R: AllocGlobal + Clock + Net<Stream = TcpStream>>(
-    rt: &R,
-    port: u16,
-    seen: &AtomicU64,
-) -> bool {
-    let Some(third) = connect(rt, port) else {
-        return false;
-    };
-    let stands = answers(&third, b"stand a 201 10\n", b"stood")
-        && answers(&third, b"stand a 202 10\n", b"stood");
-    let is_told = awaits(rt, seen, FULL.len() as u64);
-    answers(&third, b"bye\n", b"bye") && is_told && stands
-}
-
-/// Fills node 1, behind this port, and waits until it is told that it is full. A client stands there for one term after the
-/// other, as long as each has a leader, and then there is no room for a Stand, or for what came of the last one. So there is
-/// none for a message either, and node 3 stands twice and sends some.
-pub fn fills<R: AllocGlobal + Clock + Net<Stream = TcpStream>>(
-    rt: &R,
-    port: u16,
-    seen: &AtomicU64,
-) -> bool {
-    let Some(first) = connect(rt, port.saturating_add(1)) else {
-        return false;
-    };
-    for term in 1..=200 {
-        if !leads(rt, &first, term, Stands::First) {
-            break;
-        }
-    }
-    sends_to_full(rt, port.saturating_add(3), seen)
-}
-
-/// A term takes 72 bytes of node 1 and 54 of the others, and 16 and 12 of their snapshots: so node 1 is the first of which no
-/// checkpoint is due any more.
-const ONE_IS_FULL: Scenario = Scenario {
-    ring: Ring::Three(Served {
-        port: 7181,
-        capacity: 4096,
-        sessions: Some(1),
-        stood: 0,
-        fails_after: u64::MAX,
-        fail_stop: false,
-        status: None,
-    }),
-    visits: [
-        &[
-            Visit::Fills(7181),
-            Visit::Asks(7183, b"who blue 1\n", b"none"),
-        ],
-        &[],
-        &[],
-    ],
-    status: 0,
-    out: b"",
-    err: Some(FULL),
-};
-
-#[test]
-fn a_full_node_is_told_once(rt: HostRuntime) {
-    runs(&rt, &ONE_IS_FULL);
 }
 
 /// Right at the start a Stand, behind those of before, is elected.

@@ -145,7 +145,7 @@ fn a_leader_is_waited_for(rt: HostRuntime) {
     runs_anew(&rt, "watched", &WATCHED);
 }
 
-/// Of nine groups of one session the last eight are known.
+/// Of nine groups of one session all are known.
 const NINE_GROUPS: &[Say] = &[
     Line(b"stand a 5 10\n", b"stood"),
     Line(b"stand b 5 10\n", b"stood"),
@@ -155,23 +155,22 @@ const NINE_GROUPS: &[Say] = &[
     Line(b"stand f 5 10\n", b"stood"),
     Line(b"stand g 5 10\n", b"stood"),
     Line(b"stand h 5 10\n", b"stood"),
-    AtLast(b"latest a\n", b"term 5 leader 1 10"),
-    Meanwhile(7280, Target("/leaders/a", b"\"present\":true}")),
     Line(b"stand i 5 10\n", b"stood"),
+    AtLast(b"latest a\n", b"term 5 leader 1 10"),
     AtLast(b"latest i\n", b"term 5 leader 1 10"),
-    Meanwhile(7280, Target("/leaders/a", b"\"present\":false}")),
-    Meanwhile(7280, Target("/leaders/b", b"\"present\":true}")),
-    Meanwhile(7280, Target("/leaders/i", b"\"present\":true}")),
+    Meanwhile(7280, Target("/leaders/a", b"\"present\":true,")),
+    Meanwhile(7280, Target("/leaders/b", b"\"present\":true,")),
+    Meanwhile(7280, Target("/leaders/i", b"\"present\":true,")),
     Line(b"bye\n", b"bye"),
 ];
 
 /// Whose Stand is refused for another's bid is not present for it.
 const ANOTHER_BID: &[Say] = &[
-    Meanwhile(7280, Told("/leaders/a", b"\"present\":false}")),
+    Meanwhile(7280, Told("/leaders/a", b"\"present\":false,")),
     Line(b"stand a 5 11\n", b"no 3 already 10"),
-    Meanwhile(7280, Target("/leaders/a", b"\"present\":false}")),
+    Meanwhile(7280, Target("/leaders/a", b"\"present\":false,")),
     Line(b"stand a 5 10\n", b"no 3 already 10"),
-    Meanwhile(7280, Target("/leaders/a", b"\"present\":true}")),
+    Meanwhile(7280, Target("/leaders/a", b"\"present\":true,")),
     Line(b"bye\n", b"bye"),
 ];
 

@@ -2,7 +2,8 @@
 use crate::clients::{answers, connect, reads_to_the_end};
 use crate::programs::{Ring, Scenario};
 use crate::steps::{anew, runs_anew};
-use crate::visits::{Visit, asks};
+use crate::visits::Say::Line;
+use crate::visits::{Say, Visit, asks};
 use ring_server::start;
 use std::alloc::AllocGlobal;
 use std::io::Write;
@@ -47,30 +48,50 @@ fn a_slow_line(rt: HostRuntime) {
     runs_anew(&rt, "slow", &SLOW);
 }
 
-/// Whether a client that posts a Stand, as a page may have a browser do, is told nothing, and has not stood.
-pub fn is_no_request<R: Net<Stream = TcpStream> + Clock>(rt: &R, port: u16) -> bool {
+/// What a page may have a browser send.
+const POST: &[u8] = b"POST /x HTTP/1.1\r\nContent-Length: 18\r\n\r\nstand red 8 5\nbye\n";
+
+/// Whether a client that posts a Stand, in pieces of so many bytes, is told nothing. It is let go of at a piece that is not
+/// taken any more.
+pub fn is_no_request<R: Net<Stream = TcpStream> + Clock>(rt: &R, port: u16, piece: usize) -> bool {
     let Some(stream) = connect(rt, port) else {
         return false;
     };
     let mut writer = &stream;
-    writer
-        .write_all(b"POST / HTTP/1.1\r\nContent-Length: 18\r\n\r\nstand red 8 5\nbye\n")
-        .is_ok()
-        && reads_to_the_end(&stream, b"")
-        && asks(rt, port, b"stand red 8 6\n", b"stood")
+    for bytes in POST.chunks(piece.max(1)) {
+        if writer.write_all(bytes).is_err() {
+            break;
+        }
+        rt.sleep(Duration::from_millis(5));
+    }
+    reads_to_the_end(&stream, b"")
 }
+
+/// It only begins as one that posts.
+const NO_POST: &[Say] = &[
+    Line(b"POS\n", b"no 25 line"),
+    Line(b"POST x\n", b"no 25 line"),
+    Line(b"bye\n", b"bye"),
+];
+
+const NOBODY: Visit = Visit::Asks(7333, b"who red 1\n", b"none");
 
 const POSTED: Scenario = Scenario {
     ring: Ring::Program(
-        &["ringd", "--serve", "2"],
+        &["ringd", "--serve", "6"],
         b"nodes = 2\ndir = \"posted\"\nport = 7332\n",
     ),
     visits: [
-        &[Visit::Posts(7332)],
         &[
-            Visit::Asks(7333, b"who red 1\n", b"none"),
-            Visit::Asks(7333, b"who red 1\n", b"none"),
+            Visit::Posts(7332, 100),
+            Visit::Posts(7332, 1),
+            Visit::Posts(7332, 4),
+            Visit::Posts(7332, 40),
+            Visit::Says(7332, NO_POST),
+            // nobody stood
+            Visit::Asks(7332, b"stand red 8 6\n", b"stood"),
         ],
+        &[NOBODY, NOBODY, NOBODY, NOBODY, NOBODY, NOBODY],
         &[],
     ],
     status: 0,

@@ -81,14 +81,14 @@ const LONG: Ring = Ring::Program(
     b"nodes = 2\ndir = \"long\"\nport = 7305\ncapacity = 4096\n",
 );
 
-/// 152 Stands that nobody heard of take 3,040 bytes, and their snapshot 4,142.
+/// 152 Stands that nobody heard of take 3,040 bytes, and their snapshot 4,142. So no Stand has room, not even one that was made.
 #[test]
 fn a_node_whose_snapshot_does_not_fit(rt: HostRuntime) -> Result<(), Fail> {
     anew(&rt, "long");
     let made = FileDevice::create(rt.alloc(), &rt, "long/node-1.crj").expect(&rt, "a file");
     drop(stood(&rt, made, 2, 152).expect(&rt, "a device"));
     let visits = [
-        Visit::Asks(7305, b"stand red 152 10\n", b"no 3 already 10"),
+        Visit::Asks(7305, b"stand red 152 10\n", b"no 7 full"),
         Visit::Asks(7306, b"who red 1000\n", b"none"),
     ];
     let ended = beside(&rt, LONG, &visits, &[], &[]);

@@ -1,5 +1,6 @@
 // What is done with folders and the program, step by step, and what comes of it.
 use crate::checkpoints::{epoch_of, layouts_of};
+use crate::looks::last_line;
 use crate::programs::{Ended, Ring, Scenario, beside, run, runs};
 use crate::visits::{Say, Visit};
 use std::alloc::AllocGlobal;
@@ -57,7 +58,7 @@ pub enum Step {
     Serves(&'static [u8], u16, &'static [u8], &'static [u8]),
     /// A ring of two serves one session each. Clients of node 1, at this port, and of node 2 say this beside each other.
     Elects(&'static [u8], u16, &'static [Say], &'static [Say]),
-    /// It looks at the ring, and ends with this status. Its last line begins so.
+    /// It looks at the ring of two, and ends with this status. It tells a line of each node, and behind them one that begins so.
     Looks(&'static [u8], u8, &'static [u8]),
     /// It ends with this status.
     Ends(&'static [&'static str], &'static [u8], u8, &'static [u8]),
@@ -235,7 +236,7 @@ where
     assert!(rt; ended.err.as_slice() == text);
 }
 
-/// It looks at the ring, and ends so. Its last line begins so.
+/// It looks at the ring of two, tells all of it, and ends so. Its last line begins so.
 fn looks<R>(rt: &R, settings: &[u8], status: u8, text: &[u8])
 where
     R: Threads
@@ -253,13 +254,8 @@ where
     let ended = run(rt, CHECK, settings);
     assert!(rt; ended.status == status);
     assert!(rt; ended.err.is_empty());
-    let mut last: &[u8] = b"";
-    for line in ended.out.split(|byte| *byte == b'\n') {
-        if !line.is_empty() {
-            last = line;
-        }
-    }
-    assert!(rt; last.starts_with(text));
+    let last = last_line(rt, &ended.out).expect(rt, "lines that fit");
+    assert!(rt; last.as_bytes().starts_with(text));
 }
 
 /// It ends so where this file or folder is locked.

@@ -17,13 +17,13 @@ fn a_sync_of_the_folder_that_fails_is_told(rt: HostRuntime) {
     };
     fs::remove_file(&rt, UNSYNCED).expect(&rt, "a link that can be removed");
     fs::create_dir(&rt, UNSYNCED).expect(&rt, "a folder that can be made");
-    let told = match folder.mark_made(&rt, rt.alloc()) {
+    let mut begun = Vec::new(rt.alloc());
+    let told = match folder.mark_made(&rt, rt.alloc(), &mut begun) {
         Ok(()) => None,
         Err(unopened) => unopened.told,
     };
     let invalid = Answer::Error(ErrorKind::InvalidInput);
     assert!(rt; told == Some((Place::Folder, invalid)));
-    // It failed as it was synced, and not before.
-    fs::remove_file(&rt, "unsynced/ring.made").expect(&rt, "a mark");
+    // No name is known to be on the disk, so nothing says that all are.
     fs::remove_dir(&rt, UNSYNCED).expect(&rt, "an empty folder");
 }

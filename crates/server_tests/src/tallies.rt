@@ -1,0 +1,203 @@
+// What is counted of a node, and what is told of that at moments that the test tells.
+use ring_records::{Bid, Candidate, GroupName, Key, Msg, NodeNo, Packet, Shown, Term};
+use ring_server::Post;
+use ring_status::{
+    Bound, Condition, Counts, Holding, Landing, Letters, NodeStatus, Place, node_status,
+};
+use ring_watch::{Stopwatch, Tally};
+use std::alloc::AllocError;
+use std::process::Abort;
+use std::sync::Wait;
+use std::test::*;
+use std::time::{Duration, Instant};
+
+/// The device is busy from this moment on, for so many microseconds.
+fn commit<R: Abort + Wait>(rt: &R, tally: &Tally, begun: Instant, micros: u64) {
+    let mut stopwatch = Stopwatch::new(tally);
+    stopwatch.begin(rt, Some(begun));
+    stopwatch.end(rt, begun.checked_add(Duration::from_micros(micros)));
+}
+
+/// The bounds in microseconds and in seconds.
+static BOUNDS: [(u64, &str); 8] = [
+    (200, "0.0002"),
+    (1_000, "0.001"),
+    (5_000, "0.005"),
+    (25_000, "0.025"),
+    (100_000, "0.1"),
+    (500_000, "0.5"),
+    (2_500_000, "2.5"),
+    (10_000_000, "10"),
+];
+
+#[test]
+fn commits_are_counted_by_how_long_they_took(rt: HostRuntime) -> Result<(), Fail> {
+    let tally = Tally::new(rt.alloc())?;
+    let begun = Instant::now(&rt)?;
+    // none was begun, and one was of which no clock tells
+    Stopwatch::new(&tally).end(&rt, Some(begun));
+    let mut stopwatch = Stopwatch::new(&tally);
+    stopwatch.begin(&rt, None);
+    stopwatch.end(&rt, Some(begun));
+    assert!(rt; tally.commits(rt.alloc())?.count == 0);
+    // each bound, and a microsecond more
+    for row in &BOUNDS {
+        commit(&rt, &tally, begun, row.0);
+        commit(&rt, &tally, begun, row.0.saturating_add(1));
+    }
+    let told = tally.commits(rt.alloc())?;
+    assert!(rt; told.within.len() == 8);
+    assert!(rt; told.count == 16);
+    assert!(rt; told.micros == 26_262_408);
+    let mut within = 1u64;
+    for (row, told) in BOUNDS.iter().zip(&told.within) {
+        assert!(rt; told.bound.seconds() == row.1, "{within}");
+        assert!(rt; told.bound.micros() == row.0, "{within}");
+        assert!(rt; told.count == within, "{within}");
+        within = within.saturating_add(2);
+    }
+    assert!(rt; Bound::all().len() == 8);
+    Ok(())
+}
+
+/// What node 2 holds, which is well.
+const HELD: Holding = Holding {
+    shown: Shown {
+        inputs: 0,
+        durable: 0,
+        sent: 0,
+        taken: 0,
+        credit: 0,
+    },
+    used: 42,
+    snapshot: 42,
+    capacity: 4_096,
+    stands: 0,
+    floors: 0,
+    epoch: 2,
+    layout: 3,
+    takes_stands: true,
+    lacks_room: false,
+    is_open: true,
+};
+
+/// What is told of node 2 so many milliseconds behind that moment.
+fn told_behind<R: Abort + Wait>(
+    rt: &R,
+    alloc: std::alloc::Global,
+    tally: &Tally,
+    begun: Instant,
+    millis: u64,
+) -> Result<NodeStatus, AllocError> {
+    let node = NodeNo::new(2).expect(rt, "a node");
+    let place = Place {
+        node,
+        port: 7_102,
+        doors: 1,
+    };
+    let letters = Letters { node, count: 0 };
+    let now = begun.checked_add(Duration::from_millis(millis));
+    let commits = tally.commits(alloc)?;
+    let refusals = tally.refusals(alloc)?;
+    Ok(node_status(
+        place,
+        HELD,
+        tally.counts(rt),
+        now,
+        letters,
+        commits,
+        refusals,
+    ))
+}
+
+#[test]
+fn a_hang_is_told_from_the_tenth_second_on(rt: HostRuntime) -> Result<(), Fail> {
+    let tally = Tally::new(rt.alloc())?;
+    let begun = Instant::now(&rt)?;
+    let mut stopwatch = Stopwatch::new(&tally);
+    stopwatch.begin(&rt, Some(begun));
+    for (millis, writing, condition) in [
+        (0, 0, Condition::Well),
+        (9_999, 9, Condition::Well),
+        (10_000, 10, Condition::Hangs),
+        (11_000, 11, Condition::Hangs),
+    ] {
+        let told = told_behind(&rt, rt.alloc(), &tally, begun, millis).expect(&rt, "ample memory");
+        assert!(rt; told.writing == writing, "{millis}");
+        assert!(rt; told.condition == condition, "{millis}");
+    }
+    // it is done, as it may be where it failed
+    stopwatch.end(&rt, begun.checked_add(Duration::from_secs(11)));
+    let told = told_behind(&rt, rt.alloc(), &tally, begun, 30_000)?;
+    assert!(rt; (told.writing, told.condition) == (0, Condition::Well));
+    assert!(rt; (told.commits.count, told.commits.micros) == (1, 11_000_000));
+    Ok(())
+}
+
+#[test]
+fn each_is_counted_as_what_it_is(rt: HostRuntime) -> Result<(), Fail> {
+    let tally = Tally::new(rt.alloc())?;
+    let times = [(true, 3, 0), (false, 2, 5), (false, 2, 0)];
+    for (is_checkpoint, syncs, elections) in times {
+        tally.land(
+            &rt,
+            Landing {
+                is_checkpoint,
+                syncs,
+                elections,
+            },
+        );
+    }
+    tally.refuse_round(&rt);
+    tally.refuse_message(&rt);
+    tally.refuse_message(&rt);
+    for _ in 0..4 {
+        tally.begin_session(&rt);
+    }
+    tally.end_session(&rt);
+    let counted = Counts {
+        batches: 2,
+        checkpoints: 1,
+        syncs: 7,
+        refused_rounds: 1,
+        refused_messages: 2,
+        elections: 5,
+        begun: 4,
+        busy: 3,
+        since: None,
+    };
+    assert!(rt; tally.counts(&rt) == counted);
+    Ok(())
+}
+
+/// A token of node 1, as the message of that number.
+fn carry(rt: &impl Abort, no: u64) -> Packet {
+    let key = Key {
+        group: GroupName::read(b"red").expect(rt, "a group"),
+        term: Term::first(),
+    };
+    let candidate = Candidate {
+        bid: Bid::new(10).expect(rt, "a bid"),
+        node: NodeNo::first(),
+    };
+    Packet::Carry {
+        no,
+        msg: Msg::Token { key, candidate },
+    }
+}
+
+#[test]
+fn letters_wait_at_the_node_that_they_were_sent_to(rt: HostRuntime) -> Result<(), Fail> {
+    let (post, _inboxes) = Post::new(rt.alloc(), 3)?;
+    let second = NodeNo::new(2).expect(&rt, "a node");
+    post.send(&rt, second, carry(&rt, 0));
+    post.send(&rt, second, carry(&rt, 1));
+    // a credit is no letter
+    post.send(&rt, second, Packet::Credit { upto: 1 });
+    post.done(second);
+    for (number, count) in [(1, 0), (2, 1), (3, 0)] {
+        let node = NodeNo::new(number).expect(&rt, "a node");
+        assert!(rt; post.letters(node) == Letters { node, count }, "{number}");
+    }
+    Ok(())
+}
