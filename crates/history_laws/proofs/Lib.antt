@@ -1,0 +1,4 @@
+mod Beginnings
+pub mod Chain
+mod Handed
+pub mod Runs

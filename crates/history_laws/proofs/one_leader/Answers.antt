@@ -1,0 +1,14 @@
+use Rattle.history_laws.proofs.Chain.{known_shown, agree, stands, greatest}
+use Rattle.history_laws.proofs.Handed.{links, replied_leads}
+use Rattle.history_laws.proofs.one_leader.Goals as goal
+
+pub returns-clause-same : goal.returns-clause-same
+returns-clause-same c = λ n capacity history key c d fits j k.
+    agree n history key c d (links n history fits) (known_shown n history key c (replied_leads n capacity history key c j)) (known_shown n history key d (replied_leads n capacity history key d k))
+
+pub returns-clause-stands : goal.returns-clause-stands
+returns-clause-stands c = λ n capacity history key c fits k. stands n history key c (links n history fits) (known_shown n history key c (replied_leads n capacity history key c k))
+
+pub returns-clause-greatest : goal.returns-clause-greatest
+returns-clause-greatest c = λ n capacity history key c d fits k low high stood other.
+    greatest n history key c d (links n history fits) (known_shown n history key c (replied_leads n capacity history key c k)) (record { low = low; high = high }) stood other
