@@ -1,39 +1,50 @@
 // One node that accepts inputs over many keys, with half of what it sent in its window; and one that retires terms.
 use crate::fault::Fault;
 use crate::keys::{group, key};
-use crate::words::{amount, next_amount, next_word};
+use crate::words::{amount, next_amount, next_word, tell};
 use node_core::NodeCore;
 use ring_records::{Bid, Candidate, GroupName, Input, Key, Msg, NodeNo, Refusal, Term};
 use std::alloc::Global;
 use std::env::Args;
-use std::io;
 
 /// `INPUTS`: has the node accept so many, and prints its counts. `retire TERMS FLOOR`: has one that knows the leaders of
 /// so many terms of one group retire those below the floor, none where that is 0, and prints the same.
 pub fn run(rt: &HostRuntime, words: &mut Args) -> Result<(), Fault> {
     let work = next_word(words)?;
-    if work.as_str() == "retire" {
-        let terms = next_amount(words)?;
-        let floor = next_amount(words)?;
-        let (core, told) = retire(rt.alloc(), terms, floor)?;
-        print_counts(rt, &core, told)?;
-        return Ok(());
-    }
-    let (core, decided) = accept_many(rt.alloc(), amount(work)?)?;
-    print_counts(rt, &core, decided)?;
-    Ok(())
+    let (core, decided) = if work.as_str() == "retire" {
+        drop(work);
+        retire_next(rt.alloc(), words)?
+    } else {
+        accept_next(rt.alloc(), work)?
+    };
+    let printed = print_counts(rt, &core, decided);
+    drop(core);
+    printed
 }
 
-fn print_counts(rt: &HostRuntime, core: &NodeCore, decided: u32) -> io::Result<()> {
-    println!(rt; "inputs {}", core.inputs())?;
-    println!(rt; "used {}", core.used())?;
-    println!(rt; "stands {}", core.stands())?;
-    println!(rt; "taken {}", core.taken())?;
-    println!(rt; "sent {}", core.sent())?;
-    println!(rt; "credit {}", core.credit())?;
-    println!(rt; "window {}", core.window().len())?;
-    println!(rt; "snapshot {}", core.summary_len())?;
-    println!(rt; "decided {decided}")
+// A node that accepted as many inputs as the word says.
+fn accept_next(alloc: Global, word: String) -> Result<(NodeCore, u32), Fault> {
+    let count = amount(word)?;
+    Ok(accept_many(alloc, count)?)
+}
+
+// A node that retired what the next words say.
+fn retire_next(alloc: Global, words: &mut Args) -> Result<(NodeCore, u32), Fault> {
+    let terms = next_amount(words)?;
+    let floor = next_amount(words)?;
+    Ok(retire(alloc, terms, floor)?)
+}
+
+fn print_counts(rt: &HostRuntime, core: &NodeCore, decided: u32) -> Result<(), Fault> {
+    tell(rt, "inputs", core.inputs())?;
+    tell(rt, "used", core.used())?;
+    tell(rt, "stands", u64::from(core.stands()))?;
+    tell(rt, "taken", core.taken())?;
+    tell(rt, "sent", core.sent())?;
+    tell(rt, "credit", core.credit())?;
+    tell(rt, "window", core.window().len() as u64)?;
+    tell(rt, "snapshot", core.summary_len())?;
+    tell(rt, "decided", u64::from(decided))
 }
 
 // A node that accepted so many inputs, and how many elections they decided.
@@ -82,15 +93,32 @@ fn take(no: u64, key: Key) -> Result<Input, Refusal> {
 fn retire(alloc: Global, terms: u32, floor: u32) -> Result<(NodeCore, u32), Refusal> {
     let group = group(b'r', 0)?;
     let mut core = NodeCore::new(alloc, NodeNo::new(2)?, 3, u32::MAX);
+    match elect_and_retire(&mut core, group, terms, floor) {
+        Ok(told) => Ok((core, told)),
+        Err(refusal) => {
+            drop(core);
+            Err(refusal)
+        }
+    }
+}
+
+// Learns the leaders of so many terms of the group, and retires those below the floor. How many leaders and floors that
+// told.
+fn elect_and_retire(
+    core: &mut NodeCore,
+    group: GroupName,
+    terms: u32,
+    floor: u32,
+) -> Result<u32, Refusal> {
     let mut told: u32 = 0;
     for turn in 0..terms {
-        told = told.saturating_add(elect(&mut core, group, turn)?);
+        told = told.saturating_add(elect(core, group, turn)?);
     }
     if floor > 0 {
         let floor = Term::new(floor)?;
-        told = told.saturating_add(accept(&mut core, Input::Retire { group, floor })?);
+        told = told.saturating_add(accept(core, Input::Retire { group, floor })?);
     }
-    Ok((core, told))
+    Ok(told)
 }
 
 // Takes the token and the Elected of the term behind this one. How many leaders that told: 1.

@@ -22,9 +22,10 @@ pub fn run(rt: &HostRuntime, words: &mut Args) -> Result<(), Fault> {
     let Ok(mut device) = MemDevice::new(rt.alloc(), limit as usize) else {
         return Err(Fault::Memory);
     };
-    fill(&mut device, limit)?;
-    let syncs = write_and_sync(&mut device, limit, writes)?;
+    let synced = write_and_sync(&mut device, limit, writes);
     let failures = device.failures();
+    drop(device);
+    let syncs = synced?;
     println!(rt; "{limit} bytes, {writes} writes, {syncs} syncs, {failures} failures")?;
     Ok(())
 }
@@ -39,6 +40,7 @@ fn fill(device: &mut MemDevice, limit: u64) -> Result<(), DeviceFault> {
 fn write_and_sync(device: &mut MemDevice, limit: u64, writes: u32) -> Result<u32, DeviceFault>
     requires { 16 < limit }
 {
+    fill(device, limit)?;
     let mut syncs = 0u32;
     let mut off = 0u64;
     for _ in 0..writes {

@@ -1,8 +1,11 @@
 // What journals and nodes are kept on, and the bare work of a device.
-use disk_model::{Device, DeviceFault, MemDevice};
+use crate::fault::Fault;
+use crate::words::next_word;
+use disk_model::{Device, DeviceFault, FileDevice, MemDevice};
 use gated_journal::device_size;
 use ring_records::Refusal;
-use std::alloc::Global;
+use std::alloc::{AllocGlobal, Global};
+use std::env::Args;
 
 /// The bytes that the inputs of a journal or a node may take.
 pub const CAPACITY: u32 = 1 << 20;
@@ -13,6 +16,12 @@ pub fn in_memory(alloc: Global) -> Result<MemDevice, Refusal> {
         return Err(Refusal::OutOfMemory);
     };
     MemDevice::new(alloc, size).map_err(|_| Refusal::OutOfMemory)
+}
+
+/// A device on the new file that the next word names.
+pub fn next_file(rt: &HostRuntime, words: &mut Args) -> Result<FileDevice, Fault> {
+    let path = next_word(words)?;
+    Ok(FileDevice::create(rt.alloc(), rt, &path)?)
 }
 
 /// Where the gate of a new journal stands: behind its header, and the head and the snapshot of its first area.

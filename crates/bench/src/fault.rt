@@ -14,15 +14,9 @@ pub enum Fault {
     /// The words ended within a work, or there is none.
     #[error("a word is missing")]
     Missing,
-    /// The word is no part's.
-    #[error("{0} is no part")]
-    NoPart(String),
-    /// The word is none of the part's works.
-    #[error("{0} is no work of this part")]
-    NoWork(String),
-    /// The word is no number from 0 to 2^32 - 1.
-    #[error("{0} is no amount")]
-    NoAmount(String),
+    /// The word is no part's, none of the part's works, or no number from 0 to 2^32 - 1: it is not what is told.
+    #[error("{0} is no {1}")]
+    NoSuch(String, &'static str),
     /// A device of another size is asked for.
     #[error("a device has 17 to 1073741824 bytes here")]
     NoSize,
@@ -67,9 +61,7 @@ impl Fault {
         matches!(
             self,
             Fault::Missing
-                | Fault::NoPart(_)
-                | Fault::NoWork(_)
-                | Fault::NoAmount(_)
+                | Fault::NoSuch(..)
                 | Fault::NoSize
                 | Fault::NoReaders
                 | Fault::NoAppenders

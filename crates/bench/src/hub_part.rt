@@ -6,15 +6,16 @@ ghost use Rattle.ring_records.specs.States.{durable_in};
 ghost use Rattle.node_core.specs.Core.{IsNodeOf};
 ghost use Rattle.commit_hub.specs.Pages.{places_of, ForAccepted, ForTie};
 
-use crate::devices::{CAPACITY, in_memory};
+use crate::devices::{CAPACITY, in_memory, next_file};
 use crate::fault::Fault;
 use crate::keys::key;
-use crate::words::{next_amount, next_word, tell};
+use crate::race::sum;
+use crate::words::{ended, next_amount, next_word, tell};
 use commit_hub::{Blanks, Hub, Node, Share};
 use decision_board::{Board, Naming, Opened};
-use disk_model::{Device, DeviceFault, FileDevice};
+use disk_model::{Device, DeviceFault};
 use gated_journal::Journal;
-use group_commit::Desk;
+use group_commit::{Desk, Ticket};
 use node_store;
 use ring_records::{Bid, NodeNo, Refusal, Reply, Request};
 use ring_service::Flusher;
@@ -43,24 +44,55 @@ pub fn run<R: Threads + Wait + Sync>(
     words: &mut Args,
 ) -> Result<(), Fault> {
     let work = next_word(words)?;
-    let alloc = rt.alloc();
-    match work.as_str() {
-        "memory" => {
-            let load = next_load(words)?;
-            tell_counts(rt, hubs(threads, alloc, in_memory(alloc)?, load)?)
-        }
-        "file" => {
-            let load = next_load(words)?;
-            let device = FileDevice::create(alloc, rt, &next_word(words)?)?;
-            tell_counts(rt, hubs(threads, alloc, device, load)?)
-        }
-        "bare" => {
-            let appends = next_amount(words)?;
-            let mut device = FileDevice::create(alloc, rt, &next_word(words)?)?;
-            tell(rt, "bytes", append_bare(&mut device, appends)?)
-        }
-        _ => Err(Fault::NoWork(work)),
+    let is_done = does(rt, threads, words, work.as_str());
+    ended(work, is_done)
+}
+
+/// Does the work of this word. Whether there is one.
+fn does<R: Threads + Wait + Sync>(
+    rt: &HostRuntime,
+    threads: &R,
+    words: &mut Args,
+    work: &str,
+) -> Result<bool, Fault> {
+    match work {
+        "memory" => memory(rt, threads, words)?,
+        "file" => on_file(rt, threads, words)?,
+        "bare" => bare(rt, words)?,
+        _ => return Ok(false),
     }
+    Ok(true)
+}
+
+/// Hubs over nodes in memory.
+fn memory<R: Threads + Wait + Sync>(
+    rt: &HostRuntime,
+    threads: &R,
+    words: &mut Args,
+) -> Result<(), Fault> {
+    let load = next_load(words)?;
+    let device = in_memory(rt.alloc())?;
+    tell_counts(rt, hubs(threads, rt.alloc(), device, load)?)
+}
+
+/// Hubs over nodes on a new file.
+fn on_file<R: Threads + Wait + Sync>(
+    rt: &HostRuntime,
+    threads: &R,
+    words: &mut Args,
+) -> Result<(), Fault> {
+    let load = next_load(words)?;
+    let device = next_file(rt, words)?;
+    tell_counts(rt, hubs(threads, rt.alloc(), device, load)?)
+}
+
+/// Appends to a new file, with no hub.
+fn bare(rt: &HostRuntime, words: &mut Args) -> Result<(), Fault> {
+    let appends = next_amount(words)?;
+    let mut device = next_file(rt, words)?;
+    let bytes = append_bare(&mut device, appends);
+    drop(device);
+    tell(rt, "bytes", bytes?)
 }
 
 /// How many appenders a hub has, how often each stands, and how many hubs there are.
@@ -89,7 +121,7 @@ fn next_load(words: &mut Args) -> Result<Load, Fault> {
 /// What came of it.
 #[derive(Clone, Copy)]
 struct Counts {
-    stood: u32,
+    stood: u64,
     batches: u32,
 }
 
@@ -169,8 +201,21 @@ fn stand<A: Node, R: Wait>(
     share: &mut Share<A>,
     index: u32,
 ) -> Result<bool, Refusal> {
-    let (key, bid) = (key(LETTER, index)?, Bid::new(7)?);
-    let ticket = hub.submit(rt, share, Request::Stand(key, bid))?;
+    let question = question(index)?;
+    match hub.submit(rt, share, question) {
+        Ok(ticket) => has_stood(rt, hub, ticket),
+        Err(refusal) => Err(refusal),
+    }
+}
+
+/// Has a node stand for the key of this number.
+fn question(index: u32) -> Result<Request, Refusal> {
+    let key = key(LETTER, index)?;
+    Ok(Request::Stand(key, Bid::new(7)?))
+}
+
+/// Waits for the reply to the ticket's question. Whether the node stood.
+fn has_stood<A: Node, R: Wait>(rt: &R, hub: &Hub<A>, ticket: Ticket) -> Result<bool, Refusal> {
     match hub.redeem_wait(rt, ticket) {
         Ok((reply, _stub)) => Ok(matches!(reply, Reply::Stood)),
         Err((ticket, refusal)) => {
@@ -186,9 +231,9 @@ fn append_all<A: Node, R: Wait>(
     hub: &Hub<A>,
     appender: Appender<A>,
     stands: u32,
-) -> Result<u32, Refusal> {
+) -> Result<u64, Refusal> {
     let Appender { mut share, first } = appender;
-    let mut stood = 0u32;
+    let mut stood = 0u64;
     for no in 0..stands {
         if stand(rt, hub, &mut share, first.wrapping_add(no))? {
             stood = stood.saturating_add(1);
@@ -203,21 +248,14 @@ fn append_in_threads<A: Node + Send + Sync, R: Threads + Wait + Sync>(
     hub: &Hub<A>,
     appenders: Vec<Appender<A>>,
     stands: u32,
-) -> Result<u32, Refusal> {
+) -> Result<u64, Refusal> {
     let each = map_vec(
         rt,
         appenders,
         &|appender| { append_all(rt, hub, appender, stands) },
     );
     hub.close(rt);
-    let Ok(each) = each else {
-        return Err(Refusal::OutOfMemory);
-    };
-    let mut stood = 0u32;
-    for found in each {
-        stood = stood.saturating_add(found?);
-    }
-    Ok(stood)
+    sum(each)
 }
 
 /// Flushes until the hub is closed and nothing waits, or a round is refused. Where a growth is refused it goes on. Tells

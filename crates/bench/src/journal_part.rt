@@ -1,8 +1,8 @@
 // Journals that take batches of 64 inputs, and are opened again.
-use crate::devices::{CAPACITY, in_memory, write_bare};
+use crate::devices::{CAPACITY, in_memory, next_file, write_bare};
 use crate::fault::Fault;
-use crate::words::{next_amount, next_word, tell};
-use disk_model::{Device, FileDevice, MemDevice};
+use crate::words::{ended, next_amount, next_word, tell};
+use disk_model::{Device, MemDevice};
 use gated_journal::{Batch, Journal};
 use ring_records::{Bid, GroupName, Input, Key, NodeNo, Refusal, Term};
 use std::alloc::{AllocGlobal, Global};
@@ -20,21 +20,20 @@ const FRAME: [u8; 1671] = [7; 1671];
 /// no journal. Both print how many bytes the file has then.
 pub fn run(rt: &HostRuntime, words: &mut Args) -> Result<(), Fault> {
     let work = next_word(words)?;
-    match work.as_str() {
-        "memory" => tell(rt, "journals", memory(rt.alloc(), next_amount(words)?)?),
-        "reopen" => tell(rt, "read", reopen(rt.alloc(), next_amount(words)?)?),
-        "file" => tell(
-            rt,
-            "bytes",
-            on_file(rt, next_amount(words)?, next_word(words)?)?,
-        ),
-        "bare" => tell(
-            rt,
-            "bytes",
-            bare(rt, next_amount(words)?, next_word(words)?)?,
-        ),
-        _ => Err(Fault::NoWork(work)),
+    let is_done = does(rt, words, work.as_str());
+    ended(work, is_done)
+}
+
+/// Does the work of this word. Whether there is one.
+fn does(rt: &HostRuntime, words: &mut Args, work: &str) -> Result<bool, Fault> {
+    match work {
+        "memory" => tell(rt, "journals", memory(rt.alloc(), next_amount(words)?)?)?,
+        "reopen" => tell(rt, "read", reopen(rt.alloc(), next_amount(words)?)?)?,
+        "file" => tell(rt, "bytes", on_file(rt, words)?)?,
+        "bare" => tell(rt, "bytes", bare(rt, words)?)?,
+        _ => return Ok(false),
     }
+    Ok(true)
 }
 
 /// A Stand for a group of the longest name: a record of 26 bytes.
@@ -122,13 +121,15 @@ fn reopen(alloc: Global, times: u32) -> Result<u64, Refusal> {
 }
 
 /// So many commits to a journal on a new file. Tells how many bytes it has then.
-fn on_file(rt: &HostRuntime, commits: u32, path: String) -> Result<u64, Fault> {
-    let device = FileDevice::create(rt.alloc(), rt, &path)?;
+fn on_file(rt: &HostRuntime, words: &mut Args) -> Result<u64, Fault> {
+    let commits = next_amount(words)?;
+    let device = next_file(rt, words)?;
     Ok(filled(rt.alloc(), device, commits)?.into_device().size())
 }
 
 /// So many writes of a frame, with no journal, on a new file. Tells how many bytes it has then.
-fn bare(rt: &HostRuntime, commits: u32, path: String) -> Result<u64, Fault> {
-    let mut device = FileDevice::create(rt.alloc(), rt, &path)?;
+fn bare(rt: &HostRuntime, words: &mut Args) -> Result<u64, Fault> {
+    let commits = next_amount(words)?;
+    let mut device = next_file(rt, words)?;
     Ok(write_bare(&mut device, &FRAME, commits)?)
 }

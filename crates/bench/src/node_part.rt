@@ -8,10 +8,10 @@ ghost use Rattle.group_commit.specs.Ticket.{shown};
 ghost use Rattle.bench.specs.Tickets.{IsOpen, IsLater};
 ghost use Rattle.node_store.specs.Node.{desk_of};
 
-use crate::devices::{CAPACITY, in_memory, write_bare};
+use crate::devices::{CAPACITY, in_memory, next_file, write_bare};
 use crate::fault::Fault;
-use crate::words::{next_amount, next_word, tell};
-use disk_model::{Device, FileDevice};
+use crate::words::{ended, next_amount, next_word, tell};
+use disk_model::Device;
 use group_commit::Ticket;
 use node_store::Node;
 use ring_records::{Bid, Candidate, GroupName, Key, Msg, NodeNo, Refusal, Request, Term};
@@ -30,22 +30,21 @@ const FRAME: [u8; 1415] = [7; 1415];
 /// many flushes do, with no node, and prints how many bytes it has then. `checkpoint ..`: see `checkpoints::run`.
 pub fn run(rt: &HostRuntime, words: &mut Args) -> Result<(), Fault> {
     let work = next_word(words)?;
-    match work.as_str() {
-        "memory" => tell(rt, "packets", memory(rt.alloc(), next_amount(words)?)?),
-        "recover" => tell(rt, "recovered", recover(rt.alloc(), next_amount(words)?)?),
-        "file" => tell(
-            rt,
-            "packets",
-            on_file(rt, next_amount(words)?, next_word(words)?)?,
-        ),
-        "bare" => tell(
-            rt,
-            "bytes",
-            bare(rt, next_amount(words)?, next_word(words)?)?,
-        ),
-        "checkpoint" => checkpoints::run(rt, words),
-        _ => Err(Fault::NoWork(work)),
+    let is_done = does(rt, words, work.as_str());
+    ended(work, is_done)
+}
+
+/// Does the work of this word. Whether there is one.
+fn does(rt: &HostRuntime, words: &mut Args, work: &str) -> Result<bool, Fault> {
+    match work {
+        "memory" => tell(rt, "packets", memory(rt.alloc(), next_amount(words)?)?)?,
+        "recover" => tell(rt, "recovered", recover(rt.alloc(), next_amount(words)?)?)?,
+        "file" => tell(rt, "packets", on_file(rt, words)?)?,
+        "bare" => tell(rt, "bytes", bare(rt, words)?)?,
+        "checkpoint" => checkpoints::run(rt, words)?,
+        _ => return Ok(false),
     }
+    Ok(true)
 }
 
 /// What a node is asked, one input after the other.
@@ -188,30 +187,40 @@ fn inputs<D: Device>(node: &mut Node<D>) -> Result<u64, Refusal> {
     Ok(inputs)
 }
 
+/// Recovers the node that the device holds, and ends it. Tells how many inputs that brought back.
+fn recover_once<D: Device + Drop>(alloc: Global, device: D, run: u64) -> Result<(D, u64), Refusal> {
+    match Node::recover(alloc, device, NodeNo::first(), 3, run) {
+        Ok(mut node) => {
+            let recovered = inputs(&mut node);
+            let device = end(node)?;
+            Ok((device, recovered?))
+        }
+        Err((_device, refusal)) => Err(refusal),
+    }
+}
+
 /// Recovers a full node so many times. Tells how many inputs that brought back.
 fn recover(alloc: Global, times: u32) -> Result<u64, Refusal> {
     let (mut device, _) = one_node(alloc, in_memory(alloc)?, FULL)?;
     let mut recovered = 0u64;
     for run in 0..times {
-        match Node::recover(alloc, device, NodeNo::first(), 3, u64::from(run) + 1) {
-            Ok(mut node) => {
-                recovered = recovered.wrapping_add(inputs(&mut node)?);
-                device = end(node)?;
-            }
-            Err((_device, refusal)) => return Err(refusal),
-        }
+        let (after, more) = recover_once(alloc, device, u64::from(run) + 1)?;
+        device = after;
+        recovered = recovered.wrapping_add(more);
     }
     Ok(recovered)
 }
 
 /// So many flushes of nodes on a new file. Tells how many packets landed.
-fn on_file(rt: &HostRuntime, flushes: u32, path: String) -> Result<u64, Fault> {
-    let device = FileDevice::create(rt.alloc(), rt, &path)?;
+fn on_file(rt: &HostRuntime, words: &mut Args) -> Result<u64, Fault> {
+    let flushes = next_amount(words)?;
+    let device = next_file(rt, words)?;
     Ok(nodes(rt.alloc(), device, flushes)?)
 }
 
 /// So many writes of a frame, with no node, on a new file. Tells how many bytes it has then.
-fn bare(rt: &HostRuntime, flushes: u32, path: String) -> Result<u64, Fault> {
-    let mut device = FileDevice::create(rt.alloc(), rt, &path)?;
+fn bare(rt: &HostRuntime, words: &mut Args) -> Result<u64, Fault> {
+    let flushes = next_amount(words)?;
+    let mut device = next_file(rt, words)?;
     Ok(write_bare(&mut device, &FRAME, flushes)?)
 }

@@ -71,7 +71,7 @@ impl Part {
                 return Ok(part);
             }
         }
-        Err(Fault::NoPart(word))
+        Err(Fault::NoSuch(word, "part"))
     }
 
     /// Does the work that the next words say, and prints what it counted.

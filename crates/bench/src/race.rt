@@ -82,7 +82,7 @@ fn read_all<Q: Reader + Drop>(reader: Q, groups: &[GroupName], reads: u32) -> Re
 }
 
 /// What all of them found.
-fn sum(each: Result<Vec<Result<u64, Refusal>>, AllocError>) -> Result<u64, Refusal> {
+pub fn sum(each: Result<Vec<Result<u64, Refusal>>, AllocError>) -> Result<u64, Refusal> {
     let Ok(each) = each else {
         return Err(Refusal::OutOfMemory);
     };

@@ -25,10 +25,22 @@ const TEARS: [&str; 3] = ["old", "new", "fill 165"];
 pub fn run(rt: &HostRuntime, words: &mut Args) -> Result<(), Fault> {
     let alloc = rt.alloc();
     let seed = next_amount(words)?;
-    let script = script(alloc, seed, next_amount(words)?)?;
+    let lines = next_amount(words)?;
+    let script = script(alloc, seed, lines)?;
     let mut out = Vec::new(alloc);
-    let lines = script_run::run(alloc, &mut script.as_bytes(), &mut out)?;
-    let sum = encode(alloc, Md5::digest(&out))?;
+    let played = script_run::run(alloc, &mut script.as_bytes(), &mut out);
+    drop(script);
+    let told = match played {
+        Ok(lines) => tell_sum(rt, lines, &out),
+        Err(fault) => Err(Fault::Script(fault)),
+    };
+    drop(out);
+    told
+}
+
+/// Prints how many lines and bytes were printed, and the MD5 of these bytes.
+fn tell_sum(rt: &HostRuntime, lines: u64, out: &[u8]) -> Result<(), Fault> {
+    let sum = encode(rt.alloc(), Md5::digest(out))?;
     println!(rt; "printed {lines}, {} bytes, md5 {sum}", out.len())?;
     Ok(())
 }
@@ -51,13 +63,37 @@ fn write_line<R: Rng>(text: &mut String, rng: &mut R, term: u32) -> Result<(), F
     let group = GROUPS[(rng.next_u32() % 4) as usize];
     match rng.next_u32() % 16 {
         0..=3 => writeln!(text, "stand {node} {group} {term} {}", rng.next_u32() % 9)?,
-        4 => writeln!(text, "retire {node} {group} {term}")?,
-        5 => writeln!(text, "who {node} {group} {term}")?,
+        4 => write_key(text, "retire", node, group, term)?,
+        5 => write_key(text, "who", node, group, term)?,
         6 => writeln!(text, "latest {node} {group}")?,
-        7 => writeln!(text, "deliver {node} {}", rng.next_u32() % 100)?,
-        8 => writeln!(text, "credit {node} {}", rng.next_u32() % 100)?,
+        7 => write_number(text, "deliver", node, rng.next_u32() % 100)?,
+        8 => write_number(text, "credit", node, rng.next_u32() % 100)?,
         _ => write_course(text, rng, node)?,
     }
+    Ok(())
+}
+
+/// One line that names a term.
+fn write_key(
+    text: &mut String,
+    verb: &str,
+    node: u32,
+    group: &str,
+    term: u32,
+) -> Result<(), Fault> {
+    writeln!(text, "{verb} {node} {group} {term}")?;
+    Ok(())
+}
+
+/// One line that has a number.
+fn write_number(text: &mut String, verb: &str, node: u32, number: u32) -> Result<(), Fault> {
+    writeln!(text, "{verb} {node} {number}")?;
+    Ok(())
+}
+
+/// One line that names a node alone.
+fn write_node(text: &mut String, verb: &str, node: u32) -> Result<(), Fault> {
+    writeln!(text, "{verb} {node}")?;
     Ok(())
 }
 
@@ -67,12 +103,12 @@ fn write_course<R: Rng>(text: &mut String, rng: &mut R, node: u32) -> Result<(),
     let tear = TEARS[(rng.next_u32() % 3) as usize];
     match rng.next_u32() % 16 {
         0..=4 => writeln!(text, "deliver all")?,
-        5..=9 => writeln!(text, "flush {node}")?,
-        10 => writeln!(text, "crash {node}")?,
+        5..=9 => write_node(text, "flush", node)?,
+        10 => write_node(text, "crash", node)?,
         11 => writeln!(text, "stop {node} {call} {tear}")?,
-        12 => writeln!(text, "checkpoint {node}")?,
+        12 => write_node(text, "checkpoint", node)?,
         13 => writeln!(text, "stop {node} checkpoint {call} {tear}")?,
-        14 => writeln!(text, "show {node}")?,
+        14 => write_node(text, "show", node)?,
         _ => writeln!(text, "audit")?,
     }
     Ok(())

@@ -1,4 +1,8 @@
 // Sessions with a durable node in memory, whose lines stand and ask who leads, in turn.
+ghost use Rattle.std.specs.Option.{ForSome};
+ghost use Rattle.group_commit.specs.Ticket.{shown};
+ghost use Rattle.bench.specs.Tickets.{IsOpen};
+
 use crate::devices::{CAPACITY, in_memory};
 use crate::fault::Fault;
 use crate::journal_part::commit;
@@ -6,6 +10,7 @@ use crate::keys::{GROUPS, key};
 use crate::words::next_amount;
 use disk_model::{Device, MemDevice};
 use gated_journal::Journal;
+use group_commit::Ticket;
 use node_store::Node;
 use ring_records::{Bid, Candidate, Input, Key, Msg, NodeNo, Refusal};
 use sessions::{SoloService, serve};
@@ -69,8 +74,10 @@ fn session(alloc: Global, text: &str) -> Result<(u64, u64), Fault> {
     let mut reader = text.as_bytes();
     let mut out = Vec::new(alloc);
     let answered = serve(alloc, &mut reader, &mut out, &mut service);
+    let written = out.len() as u64;
+    drop(out);
     end(service)?;
-    Ok((answered?, out.len() as u64))
+    Ok((answered?, written))
 }
 
 /// A service over node 1 of 3, which knows a leader for the first term of each group.
@@ -139,6 +146,15 @@ fn election(index: u32) -> Result<[Input; 2], Refusal> {
 /// Ends a service. Refused as 9 where a flush was refused.
 fn end<D: Device + Drop>(service: SoloService<D>) -> Result<(), Refusal> {
     let (mut node, unanswered) = service.into_parts();
+    let ended = close(&mut node, unanswered);
+    drop(node);
+    ended
+}
+
+/// Closes a node, and forfeits the ticket that is open there. Refused as 9 where there is one.
+fn close<D: Device>(node: &mut Node<D>, unanswered: Option<Ticket>) -> Result<(), Refusal>
+    requires { ForSome unanswered (λ ticket. ∥ IsOpen node.old (shown ticket) ∥₁) }
+{
     node.close();
     let Some(ticket) = unanswered else {
         return Ok(());

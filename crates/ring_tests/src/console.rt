@@ -1,10 +1,7 @@
-// Tests of the console: whole runs, byte for byte.
-mod commands;
+// Tests of the console: what is no plain script.
 mod faults;
 mod growths;
 mod lengths;
 mod limits;
 mod lines;
-mod rows;
-mod rules;
 mod session;

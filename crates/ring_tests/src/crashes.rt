@@ -1,8 +1,8 @@
 // What crashes and stops leave.
 use crate::worlds::{answers, asks, happens, is_refused, is_sealed, node, ring, sweeps};
 use disk_model::Tear;
-use ring_records::{Refusal, Reply};
-use ring_world::Event;
+use ring_records::{NodeNo, Refusal, Reply};
+use ring_world::{Event, Outcome, World};
 use std::alloc::Global;
 use std::process::Abort;
 use test_rows::{Ask, Say};
@@ -10,17 +10,58 @@ use test_rows::{Ask, Say};
 /// Node 1 of a lazy ring of 3 stands under ticket 1, and is stopped so: the ticket is lost, and the Stand is kept or not.
 fn keeps(rt: &impl Abort, alloc: Global, stop: Event, kept: u64) {
     let mut world = ring(rt, alloc, 3, false);
-    let stood = asks(rt, &mut world, 1, Ask::Stand("red", 5, 10));
-    is_sealed(rt, &stood, 1);
-    let node = node(rt, 1);
+    stands(rt, &mut world);
     let stopped = happens(rt, &mut world, stop);
-    assert!(rt; stopped.up == Some(kept), "{stop:?}");
-    assert!(rt; stopped.lost.len() == 1);
-    assert!(rt; stopped.lost[0] == 1);
-    assert!(rt; stopped.replies.is_empty());
-    let shown = world.show(node).expect(rt, "a node of the ring");
-    assert!(rt; (shown.inputs, shown.durable, shown.sent) == (kept, kept, kept));
+    let is_lost = is_lost(&stopped, kept);
+    drop(stopped);
+    assert!(rt; is_lost, "{stop:?}");
+    shows(rt, &world, kept);
     world.end();
+}
+
+/// Node 1 stands under ticket 1, and no reply is released.
+fn stands(rt: &impl Abort, world: &mut World) {
+    let stood = asks(rt, world, 1, Ask::Stand("red", 5, 10));
+    is_sealed(rt, &stood, 1);
+    drop(stood);
+}
+
+/// Whether the node holds so many inputs behind the stop, ticket 1 alone is lost, and no reply is released.
+fn is_lost(stopped: &Outcome, kept: u64) -> bool {
+    stopped.up == Some(kept)
+        && stopped.lost.as_slice() == [1].as_slice()
+        && stopped.replies.is_empty()
+}
+
+/// Node 1 shows so many inputs, all durable, of which each sent a message.
+fn shows(rt: &impl Abort, world: &World, kept: u64) {
+    let shown = world.show(node(rt, 1)).expect(rt, "a node of the ring");
+    assert!(rt; (shown.inputs, shown.durable, shown.sent) == (kept, kept, kept));
+}
+
+/// The event makes one input durable, and releases the reply to the Stand under ticket 1.
+fn releases(rt: &impl Abort, world: &mut World, event: Event) {
+    let landed = happens(rt, world, event);
+    assert!(rt; landed.flushed == Some(1));
+    assert!(rt; landed.replies.len() == 1);
+    let (ticket, reply) = landed.replies[0];
+    assert!(rt; (ticket, reply) == (1, Reply::Stood));
+    drop(landed);
+}
+
+/// The event makes nothing durable.
+fn is_idle(rt: &impl Abort, world: &mut World, event: Event) {
+    let idle = happens(rt, world, event);
+    assert!(rt; idle.flushed == Some(0));
+    drop(idle);
+}
+
+/// The node crashes, and holds one input; no ticket is lost.
+fn crashes(rt: &impl Abort, world: &mut World, node: NodeNo) {
+    let crashed = happens(rt, world, Event::Crash(node));
+    assert!(rt; crashed.up == Some(1));
+    assert!(rt; crashed.lost.is_empty());
+    drop(crashed);
 }
 
 /// The tears, and whether one of them keeps what was written to a gate.
@@ -58,40 +99,25 @@ fn a_stop_keeps_a_checkpoint_behind_its_gate(rt: HostRuntime) {
 #[test]
 fn a_flush_releases_what_was_sealed(rt: HostRuntime) {
     let mut world = ring(&rt, rt.alloc(), 3, false);
-    let stood = asks(&rt, &mut world, 1, Ask::Stand("red", 5, 10));
-    is_sealed(&rt, &stood, 1);
+    stands(&rt, &mut world);
     sweeps(&rt, &mut world, 0);
     let node = node(&rt, 1);
-    let flushed = happens(&rt, &mut world, Event::Flush(node));
-    assert!(rt; flushed.flushed == Some(1));
-    assert!(rt; flushed.replies.len() == 1);
-    let (ticket, reply) = flushed.replies[0];
-    assert!(rt; (ticket, reply) == (1, Reply::Stood));
+    releases(&rt, &mut world, Event::Flush(node));
     sweeps(&rt, &mut world, 1);
-    let crashed = happens(&rt, &mut world, Event::Crash(node));
-    assert!(rt; crashed.up == Some(1));
-    assert!(rt; crashed.lost.is_empty());
-    let idle = happens(&rt, &mut world, Event::Flush(node));
-    assert!(rt; idle.flushed == Some(0));
+    crashes(&rt, &mut world, node);
+    is_idle(&rt, &mut world, Event::Flush(node));
     world.end();
 }
 
 #[test]
 fn a_checkpoint_releases_what_was_sealed(rt: HostRuntime) {
     let mut world = ring(&rt, rt.alloc(), 3, false);
-    let stood = asks(&rt, &mut world, 1, Ask::Stand("red", 5, 10));
-    is_sealed(&rt, &stood, 1);
+    stands(&rt, &mut world);
     let node = node(&rt, 1);
-    let made = happens(&rt, &mut world, Event::Checkpoint(node));
-    assert!(rt; made.flushed == Some(1));
-    assert!(rt; made.replies.len() == 1);
-    let (ticket, reply) = made.replies[0];
-    assert!(rt; (ticket, reply) == (1, Reply::Stood));
+    releases(&rt, &mut world, Event::Checkpoint(node));
     sweeps(&rt, &mut world, 1);
-    let idle = happens(&rt, &mut world, Event::Checkpoint(node));
-    assert!(rt; idle.flushed == Some(0));
-    let crashed = happens(&rt, &mut world, Event::Crash(node));
-    assert!(rt; crashed.up == Some(1));
+    is_idle(&rt, &mut world, Event::Checkpoint(node));
+    crashes(&rt, &mut world, node);
     world.end();
 }
 

@@ -141,17 +141,23 @@ fn comes(rt: &impl Abort, outcome: &Outcome, brings: Brings) {
         Brings::Answers(ticket, say) | Brings::Names(ticket, say) => {
             answers(rt, outcome, ticket, say)
         }
-        Brings::Lands(count, replies) => {
-            assert!(rt; outcome.flushed == Some(count));
-            assert!(rt; outcome.replies.len() == replies);
-        }
+        Brings::Lands(count, replies) => lands(rt, outcome, count, replies),
         Brings::Delivered(count) => assert!(rt; outcome.delivered == Some(count)),
-        Brings::Up(inputs, lost) => {
-            assert!(rt; outcome.up == Some(inputs));
-            assert!(rt; outcome.lost.len() == lost);
-        }
+        Brings::Up(inputs, lost) => is_up(rt, outcome, inputs, lost),
         Brings::Unknown => panic!(rt; "not refused"),
     }
+}
+
+/// So many inputs became durable, and so many replies were released.
+fn lands(rt: &impl Abort, outcome: &Outcome, count: u32, replies: usize) {
+    assert!(rt; outcome.flushed == Some(count));
+    assert!(rt; outcome.replies.len() == replies);
+}
+
+/// The node has so many inputs, and so many tickets are lost.
+fn is_up(rt: &impl Abort, outcome: &Outcome, inputs: u64, lost: usize) {
+    assert!(rt; outcome.up == Some(inputs));
+    assert!(rt; outcome.lost.len() == lost);
 }
 
 /// What the event brings. A request that a lazy ring refuses for want of memory changes nothing, and is made again.

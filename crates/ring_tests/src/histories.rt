@@ -17,6 +17,17 @@ fn are_whole(rt: &impl Abort, alloc: Global, world: &World, counts: &[usize], pl
     );
     let run = audit(alloc, &histories).expect(rt, "a run");
     assert!(rt; run.len() == placed);
+    drop((histories, run));
+}
+
+/// The node of this number stands for the term of `red`.
+fn stands(rt: &impl Abort, world: &mut World, number: u8, term: u32, bid: u32) {
+    drop(asks(rt, world, number, Ask::Stand("red", term, bid)));
+}
+
+/// The event is not refused.
+fn comes(rt: &impl Abort, world: &mut World, event: Event) {
+    drop(happens(rt, world, event));
 }
 
 /// The node of this number has its first inputs no more, and those before it have theirs.
@@ -33,7 +44,7 @@ fn three_nodes_hold_an_election(rt: HostRuntime) {
     let mut world = ring(&rt, rt.alloc(), 3, true);
     are_whole(&rt, rt.alloc(), &world, &[0, 0, 0], 0);
     for (number, bid) in [(1, 10), (2, 30), (3, 20)] {
-        let _stood = asks(&rt, &mut world, number, Ask::Stand("red", 5, bid));
+        stands(&rt, &mut world, number, 5, bid);
     }
     sweeps(&rt, &mut world, 9);
     are_whole(&rt, rt.alloc(), &world, &[4, 5, 3], 12);
@@ -44,9 +55,9 @@ fn three_nodes_hold_an_election(rt: HostRuntime) {
 fn what_waits_is_no_history(rt: HostRuntime) {
     let mut world = ring(&rt, rt.alloc(), 2, false);
     for (term, before, after) in [(1, 0, 1), (2, 1, 2)] {
-        let _stood = asks(&rt, &mut world, 2, Ask::Stand("red", term, 10));
+        stands(&rt, &mut world, 2, term, 10);
         are_whole(&rt, rt.alloc(), &world, &[0, before], before);
-        let _flushed = happens(&rt, &mut world, Event::Flush(node(&rt, 2)));
+        comes(&rt, &mut world, Event::Flush(node(&rt, 2)));
         are_whole(&rt, rt.alloc(), &world, &[0, after], after);
     }
     world.end();
@@ -56,19 +67,19 @@ fn what_waits_is_no_history(rt: HostRuntime) {
 fn an_opening_drops_what_a_checkpoint_summarised(rt: HostRuntime) {
     let (first, second) = (node(&rt, 1), node(&rt, 2));
     let mut world = ring(&rt, rt.alloc(), 2, true);
-    let _empty = happens(&rt, &mut world, Event::Checkpoint(first));
-    let _reopened = happens(&rt, &mut world, Event::Crash(first));
+    comes(&rt, &mut world, Event::Checkpoint(first));
+    comes(&rt, &mut world, Event::Crash(first));
     are_whole(&rt, rt.alloc(), &world, &[0, 0], 0);
     for number in [1, 2] {
-        let _stood = asks(&rt, &mut world, number, Ask::Stand("red", 5, 10));
+        stands(&rt, &mut world, number, 5, 10);
     }
     for dropped in [second, first] {
-        let _checkpointed = happens(&rt, &mut world, Event::Checkpoint(dropped));
+        comes(&rt, &mut world, Event::Checkpoint(dropped));
     }
     are_whole(&rt, rt.alloc(), &world, &[1, 1], 2);
-    let _reopened = happens(&rt, &mut world, Event::Crash(second));
+    comes(&rt, &mut world, Event::Crash(second));
     is_dropped(&rt, &world, 2);
-    let _reopened = happens(&rt, &mut world, Event::Crash(first));
+    comes(&rt, &mut world, Event::Crash(first));
     is_dropped(&rt, &world, 1);
     world.end();
 }

@@ -47,8 +47,10 @@ fn outlives<R: Abort + AllocGlobal>(rt: &R, call: u64, expected: bool) {
     assert!(rt; made.is_credited());
     let stopped = made.stop(call, Tear::Fill(1));
     let (again, keeps, lost) = stopped.expect(rt, "ample memory");
+    let is_lost = lost.as_slice() == [7].as_slice();
+    drop(lost);
+    assert!(rt; is_lost);
     assert!(rt; (keeps, again.desk().durable()) == (expected, u64::from(expected)));
-    assert!(rt; lost.as_slice() == [7].as_slice());
     again.end();
 }
 

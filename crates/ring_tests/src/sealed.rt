@@ -23,8 +23,14 @@ fn lands(rt: &impl Abort, world: &mut World, count: u32, first: u64) {
     let node = node(rt, 1);
     let flushed = happens(rt, world, Event::Flush(node));
     assert!(rt; flushed.flushed == Some(count));
-    assert!(rt; flushed.replies.len() == (count as usize));
-    for ((ticket, reply), expected) in flushed.replies.iter().zip(first..) {
+    stood(rt, &flushed.replies, count, first);
+    drop(flushed);
+}
+
+/// These are so many replies to Stands, the first under this ticket.
+fn stood(rt: &impl Abort, replies: &[(u64, Reply)], count: u32, first: u64) {
+    assert!(rt; replies.len() == (count as usize));
+    for ((ticket, reply), expected) in replies.iter().zip(first..) {
         assert!(rt; (*ticket, *reply) == (expected, Reply::Stood));
     }
 }

@@ -1,5 +1,5 @@
 -- What was handed out stays, and names one leader.
-use Rattle.std.proofs.Common.{ℕ, ◌≡◌, ◌≢◌, ◌≤◌, true, List, [], ◌∷◌, ◌++◌, length, take, drop, Option, Some, None, sym, ap, ◌∙◌, subst, inl, inr, arith, append-nil}
+use Rattle.std.proofs.Common.{ℕ, ◌≡◌, ◌≢◌, ◌≤◌, true, List, [], ◌∷◌, ◌++◌, length, take, drop, Option, Some, None, sym, ap, ◌∙◌, subst, arith, append-nil}
 use Rattle.std.specs.List.{Contains}
 use Rattle.std.proofs.lemmas.List.{length-append, length-take-le, take-append-le, take-append-drop, take-take}
 use Rattle.std.proofs.lemmas.Option.{same_Some}
@@ -22,14 +22,14 @@ use Rattle.ring_records.specs.Ring.{part, IsLegal}
 use Rattle.ring_records.specs.States.{NodeState, IsNodeState, durable_in}
 use Rattle.ring_records.proofs.Growth.{first_leader-kept, EachAfter-front, EachAfter-at, take-less}
 use Rattle.ring_records.proofs.History.{leader-shown}
-use Rattle.ring_records.proofs.Leader.{Contains-nil, Contains-cons_cases, latest-leads}
+use Rattle.ring_records.proofs.Leader.{latest-leads}
 use Rattle.ring_records.proofs.Lists.{none≢some, joined_after-append}
 use Rattle.ring_world.specs.Committed.{committed_by, committed}
 use Rattle.ring_world.specs.Events.{Thing, Replied, Sent, Shown, Rests, Action, Release, state_after, IsDurable, process, IsReleasable, May, MayHappen, IsSchedule}
 use Rattle.ring_world.specs.Released.{IsKept, named_by, named, IsAnnounced}
+use Rattle.history_laws.proofs.Runs.{split_at, part-append}
 use Rattle.ring_world.proofs.Chain.{IsShown, shown_by, agree, stands, greatest}
 use Rattle.ring_world.proofs.Credits.{link_fits}
-use Rattle.ring_world.proofs.Runs.{part-append}
 use Rattle.ring_world.proofs.Schedules.{Holds, schedule_holds}
 
 -- ---- what is durable stays
@@ -111,23 +111,15 @@ committed_parts n capacity events i s = (schedule_holds n capacity events s).par
 -- what is durable in a schedule fits
 pub ring_fits : (n capacity : ℕ) (events : List (ℕ × Action)) → IsSchedule n capacity events → RingFits n (λ i place. Unit {0}) (λ i. durable_in (state_after n capacity events i))
 ring_fits n capacity events s =
-    let shown : (i : ℕ) (key : Key) (c : Candidate) → leader i (durable_in (state_after n capacity events i)) key ≡ Some c → IsShown (committed n capacity events) key c =
-    λ i key c leads. shown_by (committed n capacity events) key c i (durable_in (state_after n capacity events i)) [] (append-nil _ ∙ sym (committed_parts n capacity events i s))
+    let shown : (i : ℕ) (key : Key) (c : Candidate) → leader i (durable_in (state_after n capacity events i)) key ≡ Some c → IsShown n (committed n capacity events) key c =
+    λ i key c leads. shown_by n (committed n capacity events) key c (committed_legal n capacity events s) i (durable_in (state_after n capacity events i)) [] (append-nil _ ∙ sym (committed_parts n capacity events i s))
     (leader-shown i (durable_in (state_after n capacity events i)) key c leads) in
     record {
       links = λ i low high. link_fits n capacity events s i low high;
-      leaders = λ i j low high low_j high_j key c d one other. agree n (committed n capacity events) key c d (committed_legal n capacity events s) (shown i key c one) (shown j key d other);
+      leaders = λ i j low high low_j high_j key c d one other. agree n (committed n capacity events) key c (committed_legal n capacity events s) d (shown i key c one) (shown j key d other);
     }
 
 -- ---- answers that name a leader
-
--- an item stands somewhere in its list
-split_at : {A : Type 0} (xs : List A) (x : A) → Contains xs x → (front : List A) × (back : List A) × (xs ≡ front ++ x ∷ back)
-split_at [] x here = Contains-nil x here
-split_at (y ∷ xs) x here = elim (Contains-cons_cases y xs x here) [
-  | inl e ↦ ([], xs, ap (λ z. z ∷ xs) e)
-  | inr later ↦ (let r = split_at xs x later in (y ∷ r.0, r.1, ap (λ zs. y ∷ zs) r.2))
-]
 
 who-leads : (asked : Key) (o : Option Candidate) (key : Key) (c : Candidate) → named_by (ask.Who asked) (say.Leader o) ≡ Some (key, c) → (asked ≡ key) × (o ≡ Some c)
 unfolding named_by
@@ -171,20 +163,20 @@ rests-shows me n capacity h (Shown asked d) key c r e =
     ap (first_leader me h) (sym (ap (λ (w : Key × Candidate). w.0) both)) ∙ (leader-shown me h asked d r ∙ ap (λ (w : Key × Candidate). Some w.1) both)
 
 -- a leader that was announced is shown in the run
-announced-shown : (n capacity : ℕ) (events : List (ℕ × Action)) (key : Key) (c : Candidate) → IsSchedule n capacity events → IsAnnounced events key c → IsShown (committed n capacity events) key c
+announced-shown : (n capacity : ℕ) (events : List (ℕ × Action)) (key : Key) (c : Candidate) → IsSchedule n capacity events → IsAnnounced events key c → IsShown n (committed n capacity events) key c
 announced-shown n capacity events key c s a =
     let at = split_at events (a.node, Release a.thing) a.released in
     let now = state_after n capacity events a.node in
     let kept : IsKept a.node n capacity a.thing (state_after n capacity at.0 a.node) now =
     subst (λ es. IsKept a.node n capacity a.thing (state_after n capacity at.0 a.node) (state_after n capacity es a.node)) (sym at.2)
     (prefix_kept n capacity at.0 at.1 a.node a.thing (subst (IsSchedule n capacity) at.2 s)) in
-    shown_by (committed n capacity events) key c a.node (take kept.number now.inputs) (drop kept.number (take now.durable now.inputs))
+    shown_by n (committed n capacity events) key c (committed_legal n capacity events s) a.node (take kept.number now.inputs) (drop kept.number (take now.durable now.inputs))
     (take-less kept.number now.durable now.inputs kept.is_durable ∙ sym (committed_parts n capacity events a.node s))
     (rests-shows a.node n capacity (take kept.number now.inputs) a.thing key c (subst (λ h. Rests a.node n capacity h a.thing) (sym kept.same) kept.rested.rests) a.names)
 
 pub one_leader : (n capacity : ℕ) (events : List (ℕ × Action)) (key : Key) (c d : Candidate) → IsSchedule n capacity events → IsAnnounced events key c → IsAnnounced events key d → c ≡ d
 one_leader n capacity events key c d s a b =
-    agree n (committed n capacity events) key c d (committed_legal n capacity events s) (announced-shown n capacity events key c s a) (announced-shown n capacity events key d s b)
+    agree n (committed n capacity events) key c (committed_legal n capacity events s) d (announced-shown n capacity events key c s a) (announced-shown n capacity events key d s b)
 
 pub leader_stands : (n capacity : ℕ) (events : List (ℕ × Action)) (key : Key) (c : Candidate) → IsSchedule n capacity events → IsAnnounced events key c
     → Contains (committed n capacity events) (c.node, Stand key c.bid)
@@ -192,4 +184,4 @@ leader_stands n capacity events key c s a = stands n (committed n capacity event
 
 pub leader_greatest : (n capacity : ℕ) (events : List (ℕ × Action)) (key : Key) (c d : Candidate) → IsSchedule n capacity events → IsAnnounced events key c
     → Contains (committed n capacity events) (d.node, Stand key d.bid) → d ≢ c → is_less d c ≡ true
-leader_greatest n capacity events key c d s a = greatest n (committed n capacity events) key c d (committed_legal n capacity events s) (announced-shown n capacity events key c s a)
+leader_greatest n capacity events key c d s a = greatest n (committed n capacity events) key c (committed_legal n capacity events s) d (announced-shown n capacity events key c s a)

@@ -24,7 +24,9 @@ use Rattle.ring_records.proofs.Leader.{Contains-here}
 use Rattle.ring_records.proofs.Parts.{legal_parts}
 use Rattle.ring_records.proofs.Places.{ahead, ahead-start, ahead-home, ahead-away, around}
 use Rattle.ring_world.proofs.Replies.{Replies, allowed_replies}
-use Rattle.ring_world.proofs.Chain.{IsShown, agree, won, lesser, one_bid}
+use Rattle.history_laws.proofs.Chain.{won, lesser, one_bid}
+use Rattle.history_laws.proofs.Runs.{runs}
+use Rattle.ring_world.proofs.Chain.{shown, agree}
 
 after-ahead : (n o d : ℕ) → 1 ≤ o → o ≤ n → d < n → after n (ahead n o d) ≡ ahead n o (suc d)
 unfolding after
@@ -137,9 +139,6 @@ module _ (n : ℕ) (run : List (ℕ × Input)) (legal : IsLegal n run) (drained 
       let ne : ahead n c.node (suc d) ≢ c.node = ahead-away n c.node (suc d) g.low g.high (omega arith) h in
       delivered c.node (suc d) (Token key c) g.low g.high h ((replies (ahead n c.node (suc d))).passes c (comes c g d (omega arith)) (λ q. ne (sym q)) (g.above (ahead n c.node (suc d)) (ahead-low n c.node (suc d) g.low g.high h) (ahead-high n c.node (suc d) g.low g.high h) ne))
 
-  leader_is : (i : ℕ) (a : Candidate) → first_leader i (part run i) key ≡ Some a → IsShown run key a
-  leader_is i a e = record { node = i; shows = e }
-
   -- from a node with a leader on, each node has it, as far as the leader itself
   tells : (c : Candidate) → first_leader c.node (part run c.node) key ≡ Some c → 1 ≤ c.node → c.node ≤ n → (d : ℕ) → d < n
       → first_leader (ahead n c.node d) (part run (ahead n c.node d)) key ≡ Some c
@@ -149,7 +148,7 @@ module _ (n : ℕ) (run : List (ℕ × Input)) (legal : IsLegal n run) (drained 
       let heard = delivered c.node d (Elected key c) lo hi less ((replies (ahead n c.node d)).announces c (tells c e lo hi d less)) in
       let ne : ahead n c.node (suc d) ≢ c.node = ahead-away n c.node (suc d) lo hi (omega arith) h in
       let found = some_is (first_leader (ahead n c.node (suc d)) (part run (ahead n c.node (suc d))) key) ((replies (ahead n c.node (suc d))).hears c heard (λ q. ne (sym q))) in
-      found.1 ∙ ap Some (agree n run key found.0 c legal (leader_is (ahead n c.node (suc d)) found.0 found.1) (leader_is c.node c e))
+      found.1 ∙ ap Some (agree n run key found.0 legal c (shown n run key found.0 legal (ahead n c.node (suc d)) found.1) (shown n run key c legal c.node e))
 
   all_know : (c : Candidate) → first_leader c.node (part run c.node) key ≡ Some c → 1 ≤ c.node → c.node ≤ n → (k : ℕ) → 1 ≤ k → k ≤ n
       → is_some (first_leader k (part run k) key) ≡ true
@@ -161,13 +160,13 @@ module _ (n : ℕ) (run : List (ℕ × Input)) (legal : IsLegal n run) (drained 
   knows_itself : (c : Candidate) → Greatest (λ k. first_stand (part run k) key) n c → first_leader c.node (part run c.node) key ≡ Some c
   unfolding is_below
   knows_itself c g =
-      let parts = legal_parts n run legal in
+      let fits = runs n run legal in
       let home = subst (λ k. Contains (taken (part run k)) (Token key c)) (ahead-home n c.node g.low g.high) (comes c g (n - 1) (let h = g.high in let l = g.low in omega arith)) in
       let found = some_is (first_leader c.node (part run c.node) key) ((replies c.node).homes c home refl g.stood) in
-      let best = won n run parts key found.0 (leader_is c.node found.0 found.1) in
+      let best = won n (part run) fits key found.0 (shown n run key found.0 legal c.node found.1) in
       found.1 ∙ ap Some (elim (cases_eq found.0.node c.node) [
-        | inl q ↦ one_bid n run parts key found.0 c best.stands g.stood q
-        | inr ne ↦ absurd (is_less-one_way found.0 c (ap (λ o. is_below o found.0.node c) (sym best.stands) ∙ g.above found.0.node best.node.low best.node.high ne) (lesser n run parts key found.0 c best g.stood (record { low = g.low; high = g.high }) (λ q. ne (sym q))))
+        | inl q ↦ one_bid n (part run) fits key found.0 c best.stands g.stood q
+        | inr ne ↦ absurd (is_less-one_way found.0 c (ap (λ o. is_below o found.0.node c) (sym best.stands) ∙ g.above found.0.node best.node.low best.node.high ne) (lesser n (part run) fits key found.0 c best g.stood (record { low = g.low; high = g.high }) (λ q. ne (sym q))))
       ])
 
 pub shows : (n : ℕ) (run : List (ℕ × Input)) (key : Key) (i b k : ℕ) → IsLegal n run → IsDrained n run → Contains run (i, Stand key b) → IsRetiredNowhere n run key → 1 ≤ k → k ≤ n

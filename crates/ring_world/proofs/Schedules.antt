@@ -27,7 +27,8 @@ use Rattle.ring_records.proofs.States.{lawful-first}
 use Rattle.ring_world.specs.Committed.{made_durable, committed_by, committed}
 use Rattle.ring_world.specs.Events.{Sent, Rests, Action, Submit, Release, Process, started, act, process, state_after, IsDelivered, IsReleasable, May, MayHappen, IsSchedule}
 use Rattle.ring_world.proofs.Processes.{Sound, sound-new, sound-next, durable-next, inputs-next, durable-accepted}
-use Rattle.ring_world.proofs.Runs.{part-append, part-same, part-other}
+use Rattle.history_laws.proofs.Runs.{part-append}
+use Rattle.ring_world.proofs.Runs.{part-same, part-other}
 
 -- ---- one more event
 

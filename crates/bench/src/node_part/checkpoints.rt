@@ -1,9 +1,9 @@
 // A durable node that makes checkpoints.
 use super::{INPUTS, Load, end, fill, flush};
-use crate::devices::{CAPACITY, in_memory};
+use crate::devices::{CAPACITY, in_memory, next_file};
 use crate::fault::Fault;
-use crate::words::{next_amount, next_word, tell};
-use disk_model::{Device, DeviceFault, FileDevice};
+use crate::words::{ended, next_amount, next_word, tell};
+use disk_model::{Device, DeviceFault};
 use node_store::Node;
 use ring_records::{NodeNo, Refusal};
 use std::alloc::Global;
@@ -17,20 +17,19 @@ const AREA: usize = 165_149;
 /// three syncs each, to a new file with no node, and prints how many bytes it has then.
 pub fn run(rt: &HostRuntime, words: &mut Args) -> Result<(), Fault> {
     let work = next_word(words)?;
-    match work.as_str() {
-        "memory" => tell(rt, "epoch", memory(rt.alloc(), next_amount(words)?)?),
-        "file" => tell(
-            rt,
-            "epoch",
-            on_file(rt, next_amount(words)?, next_word(words)?)?,
-        ),
-        "bare" => tell(
-            rt,
-            "bytes",
-            bare(rt, next_amount(words)?, next_word(words)?)?,
-        ),
-        _ => Err(Fault::NoWork(work)),
+    let is_done = does(rt, words, work.as_str());
+    ended(work, is_done)
+}
+
+/// Does the work of this word. Whether there is one.
+fn does(rt: &HostRuntime, words: &mut Args, work: &str) -> Result<bool, Fault> {
+    match work {
+        "memory" => tell(rt, "epoch", memory(rt.alloc(), next_amount(words)?)?)?,
+        "file" => tell(rt, "epoch", on_file(rt, words)?)?,
+        "bare" => tell(rt, "bytes", bare(rt, words)?)?,
+        _ => return Ok(false),
     }
+    Ok(true)
 }
 
 /// So many checkpoints of a new node on the device. Tells its epoch then.
@@ -59,16 +58,25 @@ fn memory(alloc: Global, times: u32) -> Result<u64, Refusal> {
     one_node(alloc, in_memory(alloc)?, times)
 }
 
-fn on_file(rt: &HostRuntime, times: u32, path: String) -> Result<u64, Fault> {
-    let device = FileDevice::create(rt.alloc(), rt, &path)?;
+fn on_file(rt: &HostRuntime, words: &mut Args) -> Result<u64, Fault> {
+    let times = next_amount(words)?;
+    let device = next_file(rt, words)?;
     Ok(one_node(rt.alloc(), device, times)?)
 }
 
-fn bare(rt: &HostRuntime, times: u32, path: String) -> Result<u64, Fault> {
+fn bare(rt: &HostRuntime, words: &mut Args) -> Result<u64, Fault> {
+    let times = next_amount(words)?;
+    let mut device = next_file(rt, words)?;
     let area = vec![in rt.alloc(); 7; AREA]?;
-    let mut device = FileDevice::create(rt.alloc(), rt, &path)?;
+    let written = write_areas(&mut device, &area, times);
+    drop(area);
+    Ok(written?)
+}
+
+/// Writes so many areas. Tells how many bytes the device has then.
+fn write_areas<D: Device>(device: &mut D, area: &[u8], times: u32) -> Result<u64, DeviceFault> {
     for _ in 0..times {
-        write_area(&mut device, &area)?;
+        write_area(device, area)?;
     }
     Ok(device.size())
 }

@@ -116,26 +116,30 @@ impl<F: Seat, S: Seat, T: Seat> Ring<'_, F, S, T> {
     /// Asks the node of this number, and posts what that sends.
     fn ask<R: Wait>(&mut self, rt: &R, number: u8, question: Request) -> Result<(), Refusal> {
         let mut sent = Vec::new(self.alloc);
-        match number {
-            1 => self.first.ask(rt, question, &mut sent)?,
-            2 => self.second.ask(rt, question, &mut sent)?,
-            _ => self.third.ask(rt, question, &mut sent)?,
-        }
-        for packet in &sent {
-            let to = receiver(number, packet);
-            if self
-                .posts
-                .push(Post {
-                    to,
-                    packet: *packet,
-                })
-                .is_err()
-            {
-                return Err(Refusal::OutOfMemory);
-            }
-        }
-        Ok(())
+        let asked = match number {
+            1 => self.first.ask(rt, question, &mut sent),
+            2 => self.second.ask(rt, question, &mut sent),
+            _ => self.third.ask(rt, question, &mut sent),
+        };
+        let posted = match asked {
+            Ok(()) => post_all(&mut self.posts, number, &sent),
+            Err(refusal) => Err(refusal),
+        };
+        drop(sent);
+        posted
     }
+}
+
+/// Posts the packets that the node of this number sent.
+fn post_all(posts: &mut Vec<Post>, number: u8, sent: &[Packet]) -> Result<(), Refusal> {
+    for packet in sent {
+        let to = receiver(number, packet);
+        let packet = *packet;
+        if posts.push(Post { to, packet }).is_err() {
+            return Err(Refusal::OutOfMemory);
+        }
+    }
+    Ok(())
 }
 
 /// To which node the node of this number sends the packet.

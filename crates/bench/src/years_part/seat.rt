@@ -64,8 +64,20 @@ impl<V: Device + Drop, J: Naming, A: Node> Station<V, J, A> {
         requires epoch { epoch_of journal ≡ desk.view.state.base.epoch }
     {
         let (hub, tie) = Hub::<A>::new(desk, blanks);
-        let share = hub.enter(rt)?;
-        let board = Board::<J>::new(alloc, opened, &[], 1)?;
+        let share = match hub.enter(rt) {
+            Ok(share) => share,
+            Err(refusal) => {
+                drop((hub, tie, journal));
+                return Err(refusal);
+            }
+        };
+        let board = match Board::<J>::new(alloc, opened, &[], 1) {
+            Ok(board) => board,
+            Err(refusal) => {
+                drop((hub, share, tie, journal));
+                return Err(refusal);
+            }
+        };
         let flusher = Flusher::new(alloc, journal, board, tie);
         Ok(Station {
             hub,
@@ -77,11 +89,13 @@ impl<V: Device + Drop, J: Naming, A: Node> Station<V, J, A> {
     /// Ends it.
     pub fn end<R: Wait>(self, rt: &R) {
         let Station {
-            hub: _hub,
-            share: _share,
+            hub,
+            share,
             flusher,
         } = self;
-        let (_journal, board, _owed) = flusher.into_parts();
+        drop((hub, share));
+        let (journal, board, owed) = flusher.into_parts();
+        drop((journal, owed));
         board.end(rt);
     }
 }
@@ -93,16 +107,31 @@ impl<V: Device, J: Naming, A: Node> Seat for Station<V, J, A> {
         question: Request,
         sent: &mut Vec<Packet>,
     ) -> Result<(), Refusal> {
-        let ticket = self.hub.submit(rt, &mut self.share, question)?;
-        if let Err(refusal) = flush(rt, &self.hub, &mut self.flusher, sent) {
-            let _ = self.hub.forfeit(rt, ticket);
-            return Err(refusal);
+        match self.hub.submit(rt, &mut self.share, question) {
+            Ok(ticket) => settle(rt, &self.hub, &mut self.flusher, ticket, sent),
+            Err(refusal) => Err(refusal),
         }
-        redeem(rt, &self.hub, ticket)
     }
 
     fn look<R: Wait>(&self, rt: &R) -> Look {
         self.hub.look(rt)
+    }
+}
+
+/// Makes durable what waits, and redeems the ticket. Adds what that sends. Refused where the reply is a refusal.
+fn settle<V: Device, J: Naming, A: Node, R: Wait>(
+    rt: &R,
+    hub: &Hub<A>,
+    flusher: &mut Flusher<V, J, A>,
+    ticket: Ticket,
+    sent: &mut Vec<Packet>,
+) -> Result<(), Refusal> {
+    match flush(rt, hub, flusher, sent) {
+        Ok(()) => redeem(rt, hub, ticket),
+        Err(refusal) => {
+            let _ = hub.forfeit(rt, ticket);
+            Err(refusal)
+        }
     }
 }
 
@@ -117,13 +146,21 @@ fn flush<V: Device, J: Naming, A: Node, R: Wait>(
     if shown.durable == shown.inputs {
         return Ok(());
     }
-    let Some(landed) = flusher.flush_round(rt, hub, &mut ())? else {
-        return Ok(());
+    let round = flusher.flush_round(rt, hub, &mut ());
+    let (is_checkpoint, added) = match &round {
+        Ok(Some(landed)) => (landed.is_checkpoint, add(sent, &landed.packets)),
+        Ok(None) => (false, Ok(())),
+        Err(refusal) => (false, Err(*refusal)),
     };
-    if landed.is_checkpoint {
+    drop(round);
+    if is_checkpoint {
         flusher.let_go(rt, hub);
     }
-    match sent.extend_from_slice(&landed.packets) {
+    added
+}
+
+fn add(sent: &mut Vec<Packet>, packets: &[Packet]) -> Result<(), Refusal> {
+    match sent.extend_from_slice(packets) {
         Ok(()) => Ok(()),
         Err(_) => Err(Refusal::OutOfMemory),
     }

@@ -1,7 +1,7 @@
 // Readers and writers that fail, or that do little at a time.
 use crate::console::session::{FIRST_ELECTION, Line, Session};
 use script_run::{RunFault, run};
-use std::alloc::AllocGlobal;
+use std::alloc::{AllocGlobal, Global};
 use std::io::{self, ErrorKind, Read, Write};
 use std::process::Abort;
 use std::test::Fail;
@@ -62,22 +62,21 @@ impl Write for Narrow {
     }
 }
 
-// Reads one byte at a time, and fails after so many reads: then nothing was printed, and else all was.
-fn assert_read<R: Abort + AllocGlobal>(rt: &R, session: &Session, reads: usize) {
+// Reads one byte at a time, and fails after so many reads: whether then nothing was printed, and else all was.
+fn is_read(alloc: Global, session: &Session, reads: usize) -> bool {
     let mut reader = Drip {
         rest: &session.script,
         size: 1,
         reads,
     };
-    let mut out = Vec::new(rt.alloc());
-    let answer = run(rt.alloc(), &mut reader, &mut out);
-    if reads <= session.script.len() {
-        assert!(rt; answer == Err(RunFault::Read), "after {reads} reads");
-        assert!(rt; out.is_empty(), "after {reads} reads");
-    } else {
-        assert!(rt; answer == Ok(8));
-        assert!(rt; out.as_slice() == session.text.as_bytes());
-    }
+    let mut out = Vec::new(alloc);
+    let answer = run(alloc, &mut reader, &mut out);
+    let is_read = match answer {
+        Ok(lines) => lines == 8 && out.as_slice() == session.text.as_bytes(),
+        Err(fault) => fault == RunFault::Read && out.is_empty(),
+    };
+    drop(out);
+    is_read && answer.is_err() == (reads <= session.script.len())
 }
 
 #[test]
@@ -85,49 +84,69 @@ fn each_read_fails_in_turn(rt: HostRuntime) -> Result<(), Fail> {
     let session = Session::of(rt.alloc(), FIRST_ELECTION)?;
     // one byte a read, and one read that finds the end
     for reads in 0..session.script.len() + 2 {
-        assert_read(&rt, &session, reads);
+        assert!(rt; is_read(rt.alloc(), &session, reads), "after {reads} reads");
     }
+    drop(session);
     Ok(())
 }
 
 // Whether all of a text of four lines was written, or, where a write failed, what was written before it.
 fn is_told(text: &[u8], answer: Result<u64, RunFault>, out: &[u8], writes: usize) -> bool {
-    if out == text {
-        return answer == Ok(4);
+    match answer {
+        Ok(lines) => lines == 4 && out == text,
+        Err(fault) => {
+            fault == RunFault::Write && out != text && text.starts_with(out) && writes <= out.len()
+        }
     }
-    answer == Err(RunFault::Write) && text.starts_with(out) && writes <= out.len()
 }
 
-// The text of the session is written as far as the writer takes it.
-fn assert_written<R: Abort + AllocGlobal>(rt: &R, session: &Session, mut writer: Narrow) {
+// Whether the text of the session is written as far as the writer takes it.
+fn is_written(alloc: Global, session: &Session, writer: Narrow) -> bool {
+    let mut writer = writer;
     let mut reader = session.script.as_slice();
-    let (size, writes) = (writer.size, writer.writes);
-    let answer = run(rt.alloc(), &mut reader, &mut writer);
+    let writes = writer.writes;
+    let answer = run(alloc, &mut reader, &mut writer);
     let told = is_told(session.text.as_bytes(), answer, &writer.text, writes);
-    assert!(rt; told, "{writes} writes of {size}");
+    drop(writer);
+    told
 }
+
+// Each write of so many bytes fails in turn, or takes nothing.
+fn assert_written<R: Abort + AllocGlobal>(
+    rt: &R,
+    session: &Session,
+    size: usize,
+    takes_nothing: bool,
+) {
+    for writes in 0..session.text.len() + 1 {
+        let writer = Narrow {
+            text: Vec::new(rt.alloc()),
+            size,
+            writes,
+            takes_nothing,
+        };
+        let written = is_written(rt.alloc(), session, writer);
+        assert!(rt; written, "{writes} writes of {size}");
+    }
+}
+
+// How many bytes a write takes, and whether the last one takes nothing.
+static WRITES: [(usize, bool); 5] = [
+    (1, false),
+    (1, true),
+    (3, false),
+    (1_000, false),
+    (1_000, true),
+];
 
 #[test]
 fn each_write_fails_in_turn(rt: HostRuntime) -> Result<(), Fail> {
     let session = Session::of(rt.alloc(), SHORT)?;
-    for (size, takes_nothing) in [
-        (1, false),
-        (1, true),
-        (3, false),
-        (1_000, false),
-        (1_000, true),
-    ] {
-        for writes in 0..session.text.len() + 1 {
-            let text = Vec::new(rt.alloc());
-            let writer = Narrow {
-                text,
-                size,
-                writes,
-                takes_nothing,
-            };
-            assert_written(&rt, &session, writer);
-        }
+    for row in &WRITES {
+        let (size, takes_nothing) = *row;
+        assert_written(&rt, &session, size, takes_nothing);
     }
+    drop(session);
     Ok(())
 }
 
@@ -150,28 +169,37 @@ impl Read for Slow {
     }
 }
 
-#[test]
-fn reads_are_bounded(rt: HostRuntime) {
-    for (left, answer) in [(1_000_000, Ok(0)), (2_000_000, Err(RunFault::Long))] {
-        let mut reader = Slow { left, reads: 0 };
-        let mut out = Vec::new(rt.alloc());
-        assert!(rt; run(rt.alloc(), &mut reader, &mut out) == answer);
-        assert!(rt; reader.reads == 1_000_001);
-        assert!(rt; out.is_empty());
-    }
+// What a run over so many bytes answers, which reads 1,000,001 bytes at most and prints nothing.
+fn answer_to(rt: &impl Abort, alloc: Global, left: usize) -> Result<u64, RunFault> {
+    let mut reader = Slow { left, reads: 0 };
+    let mut out = Vec::new(alloc);
+    let answer = run(alloc, &mut reader, &mut out);
+    assert!(rt; out.is_empty());
+    drop(out);
+    assert!(rt; reader.reads == 1_000_001);
+    answer
 }
 
 #[test]
+fn reads_are_bounded(rt: HostRuntime) {
+    assert!(rt; answer_to(&rt, rt.alloc(), 1_000_000) == Ok(0));
+    assert!(rt; answer_to(&rt, rt.alloc(), 2_000_000) == Err(RunFault::Long));
+}
+
+static TEXTS: [(RunFault, &str); 4] = [
+    (RunFault::Read, "script cannot be read"),
+    (RunFault::Write, "output cannot be written"),
+    (RunFault::Memory, "out of memory"),
+    (RunFault::Long, "script too long"),
+];
+
+#[test]
 fn faults_have_texts(rt: HostRuntime) -> Result<(), Fail> {
-    let table = [
-        (RunFault::Read, "script cannot be read"),
-        (RunFault::Write, "output cannot be written"),
-        (RunFault::Memory, "out of memory"),
-        (RunFault::Long, "script too long"),
-    ];
-    for (fault, text) in table {
-        let shown = format!(in rt.alloc(); "{fault}")?;
+    for row in &TEXTS {
+        let (fault, text) = *row;
+        let shown = fault.to_string(rt.alloc())?;
         assert!(rt; shown.as_str() == text);
+        drop(shown);
     }
     Ok(())
 }

@@ -1,8 +1,9 @@
 // A script of which a growth is refused.
-use crate::console::session::{FIRST_ELECTION, Line, Session};
+use crate::console::session::{FIRST_ELECTION, Line, Session, played};
 use script_run::{RunFault, run};
 use std::alloc::{AllocGlobal, Global};
 use std::process::Abort;
+use std::test::Fail;
 
 // What is audited: a run, and then what node 1 has no more.
 const AUDITED: &[Line] = &[
@@ -62,13 +63,18 @@ fn prints<R: Abort + AllocGlobal>(
     let mut out = page(rt, rt.alloc(), text.len());
     let mut rest = session.script.as_slice();
     let answer = run(rt.alloc(), &mut rest, &mut out);
-    if answer.is_ok() {
-        assert!(rt; out.as_slice() == text);
-    } else {
-        assert!(rt; text.starts_with(&out));
-        assert!(rt; is_whole(lines, out.len()));
-    }
+    let is_printed = is_printed(text, lines, answer.is_ok(), &out);
+    drop(out);
+    assert!(rt; is_printed);
     answer
+}
+
+// Whether all of the text was printed, or, where the run was refused a growth, that of its first commands, whole.
+fn is_printed(text: &[u8], lines: &[Line], is_all: bool, out: &[u8]) -> bool {
+    if is_all {
+        return out == text;
+    }
+    text.starts_with(out) && is_whole(lines, out.len())
 }
 
 // The script prints its text, at the second run where the first is refused a growth, and has so many lines.
@@ -94,4 +100,22 @@ fn refused_growths_of_a_flush(rt: HostRuntime) {
 #[test]
 fn refused_growths_of_a_first_election(rt: HostRuntime) {
     prints_at_last(&rt, FIRST_ELECTION, 8);
+}
+
+// A whole run with ample memory, shown, so that one without can be held beside it.
+#[test]
+fn a_run_is_shown(rt: HostRuntime) -> Result<(), Fail> {
+    let first = Session::of(rt.alloc(), FIRST_ELECTION)?;
+    let (answer, out) = played(rt.alloc(), &first.script);
+    show(&rt, &out, answer);
+    let is_whole = out.as_slice() == first.text.as_bytes();
+    drop((first, out));
+    assert!(rt; is_whole);
+    assert!(rt; answer == Ok(8));
+    Ok(())
+}
+
+fn show(rt: &HostRuntime, out: &[u8], answer: Result<u64, RunFault>) {
+    let text = str::from_utf8(out).unwrap_or("bytes that are no text");
+    let _ = println!(rt; "{text}{answer:?}");
 }

@@ -5,20 +5,39 @@ use std::alloc::{AllocError, Global};
 use std::process::Abort;
 use std::test::Fail;
 
-// A line that makes a ring of 2, of so many bytes (at least 5), and its end.
-fn long_ring(alloc: Global, bytes: usize, end: &[u8]) -> Result<Vec<u8>, AllocError> {
-    let mut line = Vec::new(alloc);
+// Adds a line that makes a ring of 2, of so many bytes (at least 5), and its end.
+fn add_ring(line: &mut Vec<u8>, bytes: usize, end: &[u8]) -> Result<(), AllocError> {
     line.extend_from_slice(b"ring")?;
     for _ in 5..bytes {
         line.push(b' ')?;
     }
     line.push(b'2')?;
-    line.extend_from_slice(end)?;
-    Ok(line)
+    line.extend_from_slice(end)
 }
 
-/// A line's length, its end, and what is printed.
-static LINES: [(&str, usize, &[u8], &str); 8] = [
+// Such a line prints this text.
+fn assert_line(rt: &impl Abort, alloc: Global, row: &Row) {
+    let (name, bytes, end, text) = *row;
+    let mut line = Vec::new(alloc);
+    add_ring(&mut line, bytes, end).expect(rt, "ample memory");
+    assert_prints(rt, alloc, name, &line, text);
+    drop(line);
+}
+
+// A line of 5,000 such bytes prints nothing, and the next one is read.
+fn assert_silent(rt: &impl Abort, alloc: Global, name: &str, byte: u8) {
+    let mut script = vec![in alloc; byte; 5_000].expect(rt, "ample memory");
+    script
+        .extend_from_slice(b"\nring 2\n")
+        .expect(rt, "ample memory");
+    assert_prints(rt, alloc, name, &script, "ring 2\n");
+    drop(script);
+}
+
+/// A line's name and length, its end, and what is printed.
+type Row = (&'static str, usize, &'static [u8], &'static str);
+
+static LINES: [Row; 8] = [
     ("200", 200, b"", "ring 2\n"),
     ("200, LF", 200, b"\n", "ring 2\n"),
     ("200, CR, LF", 200, b"\r\n", "ring 2\n"),
@@ -30,26 +49,20 @@ static LINES: [(&str, usize, &[u8], &str); 8] = [
 ];
 
 #[test]
-fn lines_have_200_bytes(rt: HostRuntime) -> Result<(), Fail> {
+fn lines_have_200_bytes(rt: HostRuntime) {
     for row in &LINES {
-        let (name, bytes, end, text) = *row;
-        let line = long_ring(rt.alloc(), bytes, end)?;
-        assert_prints(&rt, rt.alloc(), name, &line, text);
+        assert_line(&rt, rt.alloc(), row);
     }
-    let silent: [(&str, u8); 2] = [("a long comment", b'#'), ("many spaces", b' ')];
-    for (name, byte) in silent {
-        let mut script = vec![in rt.alloc(); byte; 5_000]?;
-        script.extend_from_slice(b"\nring 2\n")?;
-        assert_prints(&rt, rt.alloc(), name, &script, "ring 2\n");
-    }
-    Ok(())
+    assert_silent(&rt, rt.alloc(), "a long comment", b'#');
+    assert_silent(&rt, rt.alloc(), "many spaces", b' ');
 }
 
 // A script of one byte more than is allowed is refused, and prints nothing.
 fn assert_too_long(rt: &impl Abort, alloc: Global, script: &[u8]) {
     let (answer, out) = played(alloc, script);
-    assert!(rt; answer == Err(RunFault::Long));
     assert!(rt; out.is_empty());
+    drop(out);
+    assert!(rt; answer == Err(RunFault::Long));
 }
 
 #[test]

@@ -40,63 +40,81 @@ fn add_more_stands(session: &mut Session, alloc: Global) -> Result<(), AllocErro
 }
 
 // A flush takes 64 inputs, and the next one takes the last.
-#[test]
-fn batches_of_64(rt: HostRuntime) -> Result<(), AllocError> {
-    let mut session = Session::of(rt.alloc(), &[("ring 2 lazy", &["ring 2"])])?;
-    add_stands(&mut session, rt.alloc(), 65, 1, "sealed")?;
+fn add_batches(session: &mut Session, alloc: Global) -> Result<(), AllocError> {
+    session.add_lines(&[("ring 2 lazy", &["ring 2"])])?;
+    add_stands(session, alloc, 65, 1, "sealed")?;
     session.add_lines(&[("flush 1", &["flushed 64"])])?;
     for ticket in 1..65_u32 {
         writeln!(session.text, "{ticket}: stood")?;
     }
-    session.add_lines(&[("flush 1", &["flushed 1", "65: stood"])])?;
+    session.add_lines(&[("flush 1", &["flushed 1", "65: stood"])])
+}
+
+#[test]
+fn batches_of_64(rt: HostRuntime) {
+    let mut session = Session::new(rt.alloc());
+    add_batches(&mut session, rt.alloc()).expect(&rt, "ample memory");
     assert_played(&rt, "batches_of_64", &session);
-    Ok(())
+    drop(session);
+}
+
+static FULL: [Line; 7] = [
+    ("stand 1 red 203 10", &["203: no 7 full"]),
+    ("stand 1 red 204 10", &["204: no 7 full"]),
+    ("stand 1 red 205 10", &["205: no 7 full"]),
+    (
+        "show 1",
+        &["node 1 inputs 202 durable 202 sent 202 taken 0 credit 0"],
+    ),
+    ("checkpoint 1", &["no 7 full"]),
+    ("stop 1 checkpoint 1 old", &["no 7 full"]),
+    ("stop 1 checkpoint 7 old", &["no 2 number"]),
+];
+
+fn add_full(session: &mut Session, alloc: Global) -> Result<(), AllocError> {
+    session.add_lines(&[("ring 2 eager 4096", &["ring 2"])])?;
+    add_stands(session, alloc, 202, 10, "stood")?;
+    session.add_lines(&FULL)
 }
 
 // A snapshot of 38 bytes and 202 times a cost of 20 are 4,078 of 4,096 bytes. One of all inputs has 38 + 202 times 27.
 #[test]
-fn full_capacity(rt: HostRuntime) -> Result<(), AllocError> {
-    const END: &[Line] = &[
-        ("stand 1 red 203 10", &["203: no 7 full"]),
-        ("stand 1 red 204 10", &["204: no 7 full"]),
-        ("stand 1 red 205 10", &["205: no 7 full"]),
-        (
-            "show 1",
-            &["node 1 inputs 202 durable 202 sent 202 taken 0 credit 0"],
-        ),
-        ("checkpoint 1", &["no 7 full"]),
-        ("stop 1 checkpoint 1 old", &["no 7 full"]),
-        ("stop 1 checkpoint 7 old", &["no 2 number"]),
-    ];
-    let mut session = Session::of(rt.alloc(), &[("ring 2 eager 4096", &["ring 2"])])?;
-    add_stands(&mut session, rt.alloc(), 202, 10, "stood")?;
-    session.add_lines(END)?;
+fn full_capacity(rt: HostRuntime) {
+    let mut session = Session::new(rt.alloc());
+    add_full(&mut session, rt.alloc()).expect(&rt, "ample memory");
     assert_played(&rt, "full_capacity", &session);
-    Ok(())
+    drop(session);
+}
+
+static CHECKPOINT: [Line; 2] = [
+    ("credit 2 100", &["201: acked"]),
+    ("checkpoint 1", &["checkpointed 0"]),
+];
+
+static FREED: [Line; 2] = [
+    ("stand 1 red 238 10", &["339: no 7 full"]),
+    (
+        "show 1",
+        &["node 1 inputs 238 durable 238 sent 237 taken 0 credit 100"],
+    ),
+];
+
+fn add_freed(session: &mut Session, alloc: Global) -> Result<(), AllocError> {
+    session.add_lines(&[("ring 2 eager 4096", &["ring 2"])])?;
+    add_stands(session, alloc, 100, 10, "stood")?;
+    add_deliveries(session, alloc)?;
+    session.add_lines(&CHECKPOINT)?;
+    add_more_stands(session, alloc)?;
+    session.add_lines(&FREED)
 }
 
 // What a checkpoint summarises takes the bytes of its snapshot alone: here no message waits.
 #[test]
-fn checkpoint_frees_room(rt: HostRuntime) -> Result<(), AllocError> {
-    const CHECKPOINT: &[Line] = &[
-        ("credit 2 100", &["201: acked"]),
-        ("checkpoint 1", &["checkpointed 0"]),
-    ];
-    const END: &[Line] = &[
-        ("stand 1 red 238 10", &["339: no 7 full"]),
-        (
-            "show 1",
-            &["node 1 inputs 238 durable 238 sent 237 taken 0 credit 100"],
-        ),
-    ];
-    let mut session = Session::of(rt.alloc(), &[("ring 2 eager 4096", &["ring 2"])])?;
-    add_stands(&mut session, rt.alloc(), 100, 10, "stood")?;
-    add_deliveries(&mut session, rt.alloc())?;
-    session.add_lines(CHECKPOINT)?;
-    add_more_stands(&mut session, rt.alloc())?;
-    session.add_lines(END)?;
+fn checkpoint_frees_room(rt: HostRuntime) {
+    let mut session = Session::new(rt.alloc());
+    add_freed(&mut session, rt.alloc()).expect(&rt, "ample memory");
     assert_played(&rt, "checkpoint_frees_room", &session);
-    Ok(())
+    drop(session);
 }
 
 // A node stands for 1,024 terms, and not for one more.

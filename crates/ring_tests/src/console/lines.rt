@@ -3,7 +3,7 @@ use crate::console::session::{Ended, Session, assert_played};
 use std::alloc::AllocGlobal;
 use std::process::Abort;
 
-const LINES: &[(&str, &[Ended])] = &[
+static LINES: &[(&str, &[Ended])] = &[
     (
         "a carriage return is dropped",
         &[
@@ -72,6 +72,7 @@ fn assert_ended<R: Abort + AllocGlobal>(rt: &R, name: &str, lines: &[Ended]) {
         session.add(line, printed).expect(rt, "ample memory");
     }
     assert_played(rt, name, &session);
+    drop(session);
 }
 
 #[test]

@@ -9,7 +9,7 @@ pub type Line = (&'static str, &'static [&'static str]);
 /// A line with its end, and the lines that it prints.
 pub type Ended = (&'static [u8], &'static [&'static str]);
 
-/// Row first_election: three nodes elect the one of the greatest bid.
+/// Row first_election.
 pub const FIRST_ELECTION: &[Line] = &[
     ("ring 3", &["ring 3"]),
     ("stand 1 red 5 10", &["1: stood"]),
@@ -74,8 +74,9 @@ pub fn played(alloc: Global, script: &[u8]) -> (Result<u64, RunFault>, Vec<u8>) 
 /// The script prints this text, and the number of its lines is answered.
 pub fn assert_prints(rt: &impl Abort, alloc: Global, name: &str, script: &[u8], text: &str) {
     let (answer, out) = played(alloc, script);
-    let written = str::from_utf8(&out).unwrap_or("bytes that are no text");
-    assert!(rt; written == text, "{name}");
+    let is_written = out.as_slice() == text.as_bytes();
+    drop(out);
+    assert!(rt; is_written, "{name}");
     let lines = text.bytes().filter(|b| *b == b'\n').count();
     assert!(rt; answer == Ok(lines as u64), "{name}");
 }
@@ -83,15 +84,4 @@ pub fn assert_prints(rt: &impl Abort, alloc: Global, name: &str, script: &[u8], 
 /// The script of the session prints its text.
 pub fn assert_played<R: Abort + AllocGlobal>(rt: &R, name: &str, session: &Session) {
     assert_prints(rt, rt.alloc(), name, &session.script, session.text.as_str());
-}
-
-/// The commands print what they say, and nothing else.
-pub fn assert_session<R: Abort + AllocGlobal>(rt: &R, lines: &[Line]) {
-    assert_named(rt, "the session", lines);
-}
-
-/// The same of a session with a name.
-pub fn assert_named<R: Abort + AllocGlobal>(rt: &R, name: &str, lines: &[Line]) {
-    let session = Session::of(rt.alloc(), lines).expect(rt, "ample memory");
-    assert_played(rt, name, &session);
 }

@@ -116,6 +116,7 @@ fn ends<R: Abort + AllocGlobal>(rt: &R, node: Stored, place: &mut Place) {
     place.summarise();
     let mut node = recovered(rt, node, Tear::Old);
     is_at(rt, &mut node, *place);
+    drop(node);
 }
 
 /// One run for each pair of stops, over such an area.
