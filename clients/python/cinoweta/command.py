@@ -2,22 +2,25 @@
 import argparse
 import json
 import os
+import pathlib
 import shutil
 import sys
 from collections.abc import Callable
 from typing import Any
 
+from . import backup as copying
 from . import move as moving
-from . import status
+from . import sizing, status
 from .errors import CinowetaError, LockTaken, NoAnswer, NoLeader, Refused, WrongRing
 from .host import OWN, place
 from .lock import Lock
 from .lock import holder as holder_of
+from .lock import waiters as waiters_of
 from .ring import Ring
 from .words import arguments
 
 NONE, WORDS, NO_ANSWER, NO_LEADER, LOST, TAKEN, SYSTEM = 1, 2, 3, 4, 5, 6, 7
-CODES = {NoAnswer: NO_ANSWER, NoLeader: NO_LEADER, LockTaken: TAKEN}
+CODES: dict[type[Exception], int] = {NoAnswer: NO_ANSWER, copying.NoCopy: NONE, NoLeader: NO_LEADER, LockTaken: TAKEN}
 # As a shell has it.
 NOT_STARTED, NO_PROGRAM = 126, 127
 # The status of a refusal is its number and this.
@@ -29,10 +32,14 @@ def main(words: list[str] | None = None) -> int:
     # What stands behind `--` is the command of a lock, whatever it looks like.
     cut = words.index("--") if "--" in words else len(words)
     parser = arguments()
-    told = parser.parse_args(words[:cut])
+    told, more = parser.parse_known_args(words[:cut])
     told.run = words[cut + 1:]
-    if bool(told.run) != (told.command == "lock"):
-        parser.error("lock, and nothing else, takes a COMMAND behind --")
+    if told.command == "lock" and not told.run:
+        parser.error("lock takes a COMMAND behind --, as in: cinoweta lock jobs -- ./work")
+    if more:
+        parser.error(f"unrecognized arguments: {' '.join(more)}")
+    if told.run and told.command != "lock":
+        parser.error("no other command than lock takes a COMMAND behind --")
     try:
         return COMMANDS[told.command](told)
     except BrokenPipeError:
@@ -114,19 +121,40 @@ def show_term(told: argparse.Namespace, term: int, leader: dict[str, int], **mor
 
 def retire(told: argparse.Namespace) -> int:
     """A node that refuses, or is away, keeps no other one from it: its fault is told, and the first gives the status."""
-    codes: list[int] = []
+    if told.all != (told.group is None):
+        raise ValueError("retire takes a GROUP, or --all")
     with ring_of(told) as ring:
+        if told.all:
+            return retire_all(told, ring)
         floor = least_latest(ring, told.group) if told.floor is None else told.floor
         if floor is None:
             show(told, "none", group=told.group, node=None, floor=None)
             return NONE
-        for node in range(1, ring.nodes + 1) if told.node is None else [told.node]:
-            try:
-                known = ring.retire(told.group, floor, node)
-                show(told, f"node {node} retired {known}", group=told.group, node=node, floor=known)
-            except CinowetaError as fault:
-                codes.append(tell_fault(told, fault, f"node {node}: "))
-    return codes[0] if codes else 0
+        nodes = range(1, ring.nodes + 1) if told.node is None else [told.node]
+        codes = [retire_at(told, ring, told.group, max(floor - told.keep, 1), node) for node in nodes]
+    return next((code for code in codes if code), 0)
+
+
+def retire_all(told: argparse.Namespace, ring: Ring) -> int:
+    """Each node retires, of each group that it knows, all below its own latest term."""
+    if ring.status is None:
+        raise ValueError("no port: tell that of ringd --status by --status or CINOWETA_STATUS")
+    codes: list[int] = []
+    for node in range(1, ring.nodes + 1) if told.node is None else [told.node]:
+        for group, term, _, _ in [*status.leaders(ring.status, node, told.timeout, host=ring.host)]:
+            if term - told.keep > 1:
+                codes.append(retire_at(told, ring, group, term - told.keep, node, f"{group} "))
+    return next((code for code in codes if code), 0)
+
+
+def retire_at(told: argparse.Namespace, ring: Ring, group: str, floor: int, node: int, name: str = "") -> int:
+    """Has one node retire, and gives the status."""
+    try:
+        known = ring.retire(group, floor, node)
+    except CinowetaError as fault:
+        return tell_fault(told, fault, f"{name}node {node}: ")
+    show(told, f"{name}node {node} retired {known}", group=group, node=node, floor=known)
+    return 0
 
 
 def least_latest(ring: Ring, group: str) -> int | None:
@@ -145,7 +173,7 @@ def campaign(told: argparse.Namespace) -> int:
 
 def watch(told: argparse.Namespace) -> int:
     with ring_of(told) as ring:
-        for number, known in enumerate(ring.watch(told.group, told.after), 1):
+        for number, known in enumerate(ring.watch(told.group, told.after, told.wait), 1):
             show_term(told, known.term, known.leader._asdict())
             if number == told.count:
                 break
@@ -174,14 +202,14 @@ def lock(told: argparse.Namespace) -> int:
         print(f"cinoweta: {told.run[0]}: no such program", file=sys.stderr)
         return NO_PROGRAM
     held = Lock(ring_of(told), told.group, told.rank, told.patience, told.wait, told.text, told.keep,
-                across_hosts=told.across_hosts)
+                across_hosts=told.across_hosts, give_up=told.give_up)
     try:
-        held.acquire(lambda text: print(f"cinoweta: {told.group}: {text}", file=sys.stderr, flush=True))
+        held.acquire(tell=lambda text: print(f"cinoweta: {told.group}: {text}", file=sys.stderr, flush=True))
         code = run_held(held, told)
     finally:
         held.resign()
     if code is None:
-        print(f"cinoweta: {told.group}: term {held.term} is over: a greater one is known", file=sys.stderr)
+        print(f"cinoweta: {told.group}: term {held.term} is over: {held.why}", file=sys.stderr)
     return LOST if code is None else code
 
 
@@ -201,24 +229,93 @@ def holder(told: argparse.Namespace) -> int:
     if known is None:
         show(told, "none", group=told.group, term=None, leader=None, pid=None, text=None)
         return NONE
-    process = "" if known.pid is None else f" process {known.pid} {known.text}"
-    text = f"term {known.term} leader {known.leader.node} {known.leader.bid}{process}".rstrip()
+    more = f"process {known.pid} {known.text}" if known.pid is not None else f"text {known.text}" if known.text else ""
+    text = f"term {known.term} leader {known.leader.node} {known.leader.bid} {more}".rstrip()
     show(told, text, group=told.group, term=known.term, leader=known.leader._asdict(), pid=known.pid, text=known.text)
     return 0
 
 
+def waiters(told: argparse.Namespace) -> int:
+    with ring_of(told) as ring:
+        known = waiters_of(ring, told.group, told.patience)
+    for place, waiter in enumerate(known, 1):
+        text = f"{place} process {waiter.pid} {waiter.text}".rstrip()
+        show(told, text, group=told.group, place=place, pid=waiter.pid, text=waiter.text)
+    if not known and not told.json:
+        show(told, "none")
+    return 0 if known else NONE
+
+
 def move(told: argparse.Namespace) -> int:
-    count = 0
     host, port = status_of(told, told.old)
     with ring_of(told) as ring:
-        for count, (group, known) in enumerate(moving.move(port, ring, host=host), 1):
+        if ring.status is None:
+            print("cinoweta: whether the new ring has room is not known: tell its --status", file=sys.stderr)
+        rename = dict(pair.split("=", 1) for pair in told.rename)
+        return tell_lifted(told, "moved", moving.move(port, ring, host=host, rename=rename, skip=told.skip))
+
+
+def raise_terms(told: argparse.Namespace) -> int:
+    if (told.by is None) == (told.above is None) or told.above is not None and told.groups:
+        raise ValueError("raise takes --by N and any groups, or --above FILE and none")
+    if told.by is not None and told.by < 1:
+        raise ValueError("terms are raised by 1 or more")
+    with ring_of(told) as ring:
+        if told.by is not None:
+            return tell_lifted(told, "raised", moving.raise_by(ring, told.by, told.groups))
+        lines = sys.stdin if told.above == "-" else pathlib.Path(told.above).read_text("utf-8").splitlines()
+        floors: dict[str, int] = {}
+        for group, term in map(floor_of, lines):
+            floors[group] = max(term, floors.get(group, 0))
+        return tell_lifted(told, "raised", moving.raise_above(ring, floors))
+
+
+def floor_of(line: str) -> tuple[str, int]:
+    """The group and the term of a line of `cinoweta leaders`."""
+    words = line.split()
+    if line.startswith("{"):
+        row = json.loads(line)
+        words = [str(row.get("group")), "term", str(row.get("term"))]
+    if len(words) < 3 or words[1] != "term" or not words[2].isdecimal():
+        raise ValueError(f"{line.strip()!r} is no line of `cinoweta leaders`")
+    return words[0], int(words[2])
+
+
+def tell_lifted(told: argparse.Namespace, what: str, lifted: moving.Lifted) -> int:
+    """Tells each group's leader, how many there are, and at the end why each other group has none."""
+    count, faults = 0, list[tuple[str, CinowetaError]]()
+    try:
+        for group, known in lifted:
+            if isinstance(known, CinowetaError):
+                faults.append((group, known))
+                continue
+            count += 1
             text = f"{group} term {known.term} leader {known.leader.node} {known.leader.bid}"
             show(told, text, group=group, term=known.term, leader=known.leader._asdict())
-    show(told, f"moved {count}", moved=count)
+        show(told, f"{what} {count}", **{what: count})
+    finally:
+        for group, fault in faults:
+            tell_fault(told, fault, f"{group}: ")
+    return NONE if faults else 0
+
+
+def backup(told: argparse.Namespace) -> int:
+    lines, number = copying.backup(told.folder, told.to, told.ringd)
+    text = "\n".join([*lines, f"copied {copying.nodes(pathlib.Path(told.to))} nodes, try {number}"])
+    show(told, text, told=lines, tries=number)
     return 0
+
+
+def show_size(told: argparse.Namespace) -> int:
+    size = sizing.size(told.groups, told.elections_a_minute, told.name, told.nodes)
+    values = dict.fromkeys(sizing.Size._fields) if size is None else size._asdict()
+    text = "none" if size is None else " ".join(f"{name} {value}" for name, value in values.items())
+    show(told, text, groups=told.groups, elections=told.elections_a_minute, **values)
+    return NONE if size is None else 0
 
 
 COMMANDS: dict[str, Callable[[argparse.Namespace], int]] = {
     "stand": stand, "who": who, "latest": latest, "retire": retire, "campaign": campaign, "watch": watch,
     "status": show_status, "leaders": show_leaders, "lock": lock, "holder": holder, "move": move,
+    "backup": backup, "waiters": waiters, "raise": raise_terms, "sizing": show_size,
 }

@@ -1,5 +1,10 @@
 """What may go wrong. docs/SESSIONS.md says what each refusal means, and what to do."""
 import re
+from collections.abc import Iterable
+from typing import TYPE_CHECKING
+
+if TYPE_CHECKING:
+    from .kinds import Holder
 
 
 class CinowetaError(Exception):
@@ -12,11 +17,36 @@ class NoAnswer(CinowetaError):
 
 class NoLeader(CinowetaError):
     """No leader came to be known in the terms that were waited for: a node of the ring failed, or is full. To stand
-    again and again uses the Stands of the nodes up, and helps nothing."""
+    again and again uses the Stands of the nodes up, and helps nothing. `faults` are the nodes that are not well, as
+    `node 3 full`, where the ring's status port is known and tells."""
+
+    def __init__(self, text: str, faults: Iterable[str] = ()) -> None:
+        super().__init__(text)
+        self.faults = [*faults]
 
 
 class LockTaken(CinowetaError):
-    """Another process held the lock for as long as was waited."""
+    """Another process held the lock for as long as was waited: the `holder`, with what it tells of itself."""
+
+    def __init__(self, text: str, holder: "Holder | None" = None) -> None:
+        super().__init__(text)
+        self.holder = holder
+
+
+class Resigned(CinowetaError):
+    """The lock was resigned by another thread, or another task, while this one waited for it."""
+
+
+class Cancelled(CinowetaError):
+    """A wait was ended by its `cancel`."""
+
+
+class NoTerm(CinowetaError):
+    """The group has no further term: it goes on by another name."""
+
+
+class NotHeld(CinowetaError):
+    """A process that was forked holds no lock of its parent, and has no term."""
 
 
 class WrongRing(CinowetaError):
@@ -24,10 +54,11 @@ class WrongRing(CinowetaError):
 
 
 class Refused(CinowetaError):
-    """A node refused: its number, 1 to 27, and its text, as 5 and `stale 9`. Each cause is a class of its own."""
+    """A node refused: its number, 1 to 28, and its text, as 5 and `stale 9`. Each cause is a class of its own. What to do
+    may stand behind that in words."""
 
-    def __init__(self, number: int, text: str) -> None:
-        super().__init__(f"no {number} {text}")
+    def __init__(self, number: int, text: str, words: str = "") -> None:
+        super().__init__(f"no {number} {text}{words and ': '}{words}")
         self.number = number
         self.text = text
 
@@ -90,14 +121,25 @@ class Undecided(Refused):
     """26: the floor is above the latest term of the group that has a leader, as far as the node knows."""
 
 
+class TooFar(Refused):
+    """28: the term is further above the latest one that the node knows than it takes, by `ringd --leap`. `most` is the
+    greatest term that it takes. Nobody stands on from there: the term came from a mistake."""
+
+    @property
+    def most(self) -> int:
+        """The greatest term that the node takes; 0 where its text tells none."""
+        words = re.fullmatch(r"far (\d{1,10})", self.text, re.ASCII)
+        return int(words[1]) if words else 0
+
+
 # Where the node's device failed. A Stand that was on its way then may be accepted all the same.
 FAILED = (NodeFailed, DeviceFailed)
-# What time or an operator mends, as a start or a new folder. It is no fault of the question.
+# What time or an operator mends, as by a start. It is no fault of the question.
 PASSING = (NoAnswer, NoLeader, LimitReached, Full, OutOfMemory, NodeFailed, DeviceFailed)
 
 KINDS: dict[int, type[Refused]] = {
     1: BadName, 2: BadNumber, 3: AlreadyStands, 4: Late, 5: Stale, 6: LimitReached, 7: Full, 8: OutOfMemory,
-    9: NodeFailed, 15: DeviceFailed, 23: Retired, 25: BadLine, 26: Undecided,
+    9: NodeFailed, 15: DeviceFailed, 23: Retired, 25: BadLine, 26: Undecided, 28: TooFar,
 }
 
 

@@ -22,8 +22,10 @@ def require(host: str) -> str:
 
 
 def is_own(host: str) -> bool:
-    """Whether it is an address of this host alone, one of 127.0.0.0/8."""
-    return host.startswith("127.") and ADDRESS.fullmatch(host) is not None
+    """Whether it is this host alone: an address of 127.0.0.0/8, or `localhost`. No other name is looked up for that: it
+    may be one of 127.0.0.0/8 on its own host, and another address elsewhere."""
+    is_address = host.startswith("127.") and ADDRESS.fullmatch(host) is not None
+    return is_address or host.lower().rstrip(".") == "localhost"
 
 
 def addresses(host: str) -> set[str]:

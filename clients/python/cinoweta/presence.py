@@ -1,103 +1,139 @@
-"""A holder of a lock that clients of other hosts see: while it is there, a session of its is open with the node where it
-leads, of which `ringd --status` tells as `present`."""
+"""A holder of a lock that clients of other hosts see: while it is there, a session of its process is open with the node where
+it leads, of which `ringd --status` tells as `present`."""
 import os
 import secrets
 import threading
 import time
+from collections.abc import Callable
 from typing import TYPE_CHECKING
 
-from . import status
-from .beacon import RANK, require_rank
-from .errors import CinowetaError, NoAnswer, WrongRing, refusal
-from .session import Session
+from . import forks
+from .beacon import RANK, SPREAD, require_rank, require_text
+from .errors import CinowetaError, NoAnswer, WrongRing
+from .keeper import CONNECTS, KEEPERS, SECONDS, Stand
+from .kinds import Holder
+from .link import SLICE
+from .status import Sight
 
 if TYPE_CHECKING:
-    from .election import Led
-    from .ring import Ring
+    from .asking import Asking
+    from .kinds import Led
 
-# So often the session is asked over, so that it is not silent, and so long an answer is waited for, in seconds. So long a
-# connection is tried: the system tries again each second then, also where the host was away.
-EVERY, SECONDS, CONNECTS = 0.5, 3.0, 1.5
 # Who is not present for so long is gone, in seconds: a session that broke off is opened anew before, also behind a start
 # of ringd. So often is looked meanwhile.
 ABSENT, LOOKS = 2.0, 0.1
+# The bid of who is seen across hosts is rank * RANK + SPREAD + step * STEP + a random number below STEP: at a port below
+# 1,024, where no beacon listens. The step is the place of the least of these that is no less than the seconds after which
+# it gives up; 0 for never.
+STEP, GIVES_UP = 97_500, (0, 1, 2, 3, 5, 8, 10, 15, 20, 30, 45, 60, 90, 120, 300, 600)
 # What is told of a leader where none is known.
-NOBODY = 0, 0, 0, False
+NOBODY = Sight(0, 0, 0, False, False, "")
+# Who resigns waits so long for the node to say so, in seconds.
+RESIGNS = 0.5
+# The bid of who comes next where nobody knows who that is.
+WHOEVER = -1
 
 
 class Presence:
-    """Keeps a session open from `show` until `close`, by a thread of its own, which asks over it, and opens another one
-    where it breaks off. It holds one of the node's doors."""
+    """Has one lock be present from `show` until `close`, in the session that this process has with the node where it leads."""
 
-    def __init__(self, ring: "Ring", group: str, rank: int) -> None:
+    def __init__(self, ring: "Asking", group: str, rank: int, text: str = "", give_up: float | None = None) -> None:
         require_rank(rank)
-        self.ring, self.group = ring, group
-        self.bid = rank * RANK + secrets.randbelow(RANK)
-        self.term, self.port = 0, 0
-        self.session: Session | None = None
+        require_text(text)
+        self.ring, self.group, self.text = ring, group, text
+        self.bid = rank * RANK + SPREAD + step_of(give_up) * STEP + secrets.randbelow(STEP)
+        self.stand: Stand | None = None
         self.over, self.process = threading.Event(), os.getpid()
+        forks.register(self)
 
-    def show(self, term: int, node: int) -> None:
+    def show(self, term: int, node: int, check: Callable[[], None]) -> None:
         """Shows that it is there, where it leads. `NoAnswer` where the node does not answer, `Refused` where it does not
-        stand any more."""
-        self.term, self.port = term, self.ring.first + node - 1
+        stand any more; `check` ends the wait where it raises."""
+        host, port = self.ring.host, self.ring.first + node - 1
+        self.stand = stand = Stand(self.group, term, self.bid, self.text)
+        until = time.monotonic() + min(CONNECTS, self.ring.timeout) + SECONDS
+        KEEPERS.add(stand, (host, port))
         try:
-            self.open()
-        except OSError as fault:
-            raise NoAnswer(f"{self.ring.host}:{self.port}: {fault or type(fault).__name__}") from None
-        threading.Thread(target=self.keep, daemon=True).start()
-
-    def open(self) -> Session:
-        """Opens a session whose node says that it stands with this bid."""
-        # Who closes finds it from here on, or is found.
-        self.session = session = Session(self.ring.host, self.port, min(CONNECTS, self.ring.timeout))
-        try:
-            if self.over.is_set():
-                raise ConnectionError("it is over")
-            answer = session.ask(f"stand {self.group} {self.term} {self.bid}", SECONDS)
-            if answer not in ("stood", f"no 3 already {self.bid}"):
-                raise refusal(answer) or WrongRing(f"{answer!r} is no answer of a node")
+            while not stand.answered.wait(SLICE):
+                check()
+                if time.monotonic() > until:
+                    raise NoAnswer(f"{host}:{port}: timed out")
+            # It may have been closed before it was added.
+            check()
+            if stand.fault is not None:
+                raise stand.fault
         except BaseException:
-            session.close()
+            KEEPERS.remove(stand)
             raise
-        return session
 
-    def keep(self) -> None:
-        """Asks over the session, and opens another one where it breaks off, until it is over."""
-        session = self.session
-        while not self.over.wait(EVERY):
-            try:
-                if session is None or not session.is_usable():
-                    session = self.open()
-                session.ask(f"latest {self.group}", SECONDS)
-            except (OSError, CinowetaError):
-                session = None
-        if session is not None:
-            session.close()
-
-    def close(self) -> None:
-        """Ends the session, which others see as soon as they look. In a process that was forked meanwhile it is that of
-        the parent, whose own goes on."""
+    def close(self) -> int:
+        """Ends it, which others see as soon as they look. Who comes next is nobody that is known here."""
         self.over.set()
-        session = self.session
-        if session is not None and self.process == os.getpid():
-            session.end()
+        if self.stand is not None:
+            KEEPERS.remove(self.stand)
+        return WHOEVER
+
+    def await_end(self) -> None:
+        """Waits a moment until others may see it."""
+        if self.stand is not None:
+            self.stand.ended.wait(RESIGNS)
+
+    def forget(self) -> None:
+        """In a process that was forked it is that of the parent."""
+        self.over, self.stand = threading.Event(), None
+        self.over.set()
 
 
-def is_there(ring: "Ring", group: str, known: "Led", seconds: float) -> bool:
-    """Whether who leads so is present within so many seconds of the first answer, which may come late, as behind a
-    start. `NoAnswer` where the status port does not answer, `WrongRing` where it does not come to know this leader."""
+def step_of(give_up: float | None) -> int:
+    """The place of the least number of GIVES_UP that is no less."""
+    if give_up is None:
+        return 0
+    if give_up > GIVES_UP[-1]:
+        raise ValueError(f"across hosts who is cut off gives up after {GIVES_UP[-1]} seconds at most")
+    return next(step for step, seconds in enumerate(GIVES_UP) if seconds >= give_up)
+
+
+def gives_up_after(bid: int) -> int:
+    """After how many seconds who stood with this bid gives up where no node answers; 0 for never."""
+    step = (bid % RANK - SPREAD) // STEP
+    return GIVES_UP[step] if is_across(bid) else 0
+
+
+def is_nobody(bid: int) -> bool:
+    """Whether nobody is seen who stood with this bid, as where an operator did."""
+    return bid % RANK < SPREAD
+
+
+def is_across(bid: int) -> bool:
+    """Whether who stood with this bid is seen across hosts."""
+    return 0 <= bid % RANK - SPREAD < STEP * len(GIVES_UP)
+
+
+async def is_there(ring: "Asking", group: str, known: "Led", seconds: float) -> bool:
+    """Whether who leads so is present within so many seconds of the first answer, and as many more as it takes to give up;
+    who resigned is not. The first answer may come late, as behind a start. `NoAnswer` where the status port does not
+    answer, `WrongRing` where it does not come to know this leader."""
     until: float | None = None
     while True:
-        term, node, bid, is_present = status.leader(ring.status or 0, group, known.leader.node, host=ring.host) or NOBODY
-        is_known = (term, node, bid) == (known.term, *known.leader)
-        if term > known.term or is_known and is_present:
-            return is_known
-        until = time.monotonic() + seconds if until is None else until
+        seen = await ring.present(group, known.leader.node) or NOBODY
+        is_known = seen[:3] == (known.term, *known.leader)
+        if seen.term > known.term or is_known and (seen.is_present or seen.is_resigned):
+            return is_known and seen.is_present
+        if until is None:
+            until = time.monotonic() + seconds + gives_up_after(known.leader.bid)
         left = until - time.monotonic()
         if left <= 0 and not is_known:
             where = f"{ring.host}:{ring.status}"
             raise WrongRing(f"{where} tells of another leader of {group} in term {known.term}, or none: is it this ring's?")
         if left <= 0:
             return False
-        time.sleep(min(LOOKS, left))
+        await ring.sleep(min(LOOKS, left))
+
+
+async def holder_of(ring: "Asking", group: str, known: "Led") -> Holder | None:
+    """Who leads so, with what it tells, as far as the status port tells."""
+    try:
+        seen = await ring.present(group, known.leader.node) or NOBODY
+    except CinowetaError:
+        return None
+    return Holder(known.term, known.leader, None, seen.text) if seen[:3] == (known.term, *known.leader) else None

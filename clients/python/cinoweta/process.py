@@ -6,8 +6,8 @@ from collections.abc import Callable
 
 # How often is asked whether it still may, in seconds.
 EVERY = 1.0
-# What is sent to this process is handed on. What a terminal sends goes to the command anyway.
-HANDED_ON = (signal.SIGTERM, signal.SIGHUP)
+# What is sent to this process is handed on; Windows has no HUP. What a terminal sends goes to the command anyway.
+HANDED_ON = [getattr(signal, name) for name in ("SIGTERM", "SIGHUP") if hasattr(signal, name)]
 
 
 def run(command: list[str], names: dict[str, str], is_lost: Callable[[], bool], grace: float) -> int | None:

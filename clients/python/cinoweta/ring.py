@@ -1,102 +1,77 @@
 """A ring, and what may be asked of it."""
-import os
-import re
+import contextlib
 import threading
 import time
-from collections.abc import Iterator
-from typing import NoReturn
+from collections.abc import Callable, Coroutine, Iterator
+from typing import Any, TypeVar
 
-from . import election
-from .election import KEEP, Campaign, Election, Leader, Led
-from .errors import FAILED, AlreadyStands, NoAnswer, Retired, WrongRing, refusal
-from .host import OWN, require
+from . import asking, election, forks, status
+from .asking import LEAST, Asking, ports_of
+from .election import KEEP, Campaign
+from .host import OWN
+from .kinds import Election, Leader, Led
+from .link import BlockingLink, Link, Stop
 from .session import Session
+from .steps import at_once
 
-# A node takes so many Stands. No more of them that got no answer are remembered.
-STANDS = 1_024
-# A session and its answer are waited for so long, in seconds, before another node is asked, the last ones so long at
-# least.
-PATIENCE, LEAST = 3.0, 0.05
-WHO = re.compile(r"leader (\d+) (\d+)")
-LATEST = re.compile(r"term (\d+) leader (\d+) (\d+)")
+Result = TypeVar("Result")
 
 
-class Ring:
+class BlockingGate:
+    """One for threads. Who is within may enter once more."""
+
+    def __init__(self) -> None:
+        self.lock = threading.RLock()
+        forks.register(self)
+
+    async def __aenter__(self) -> None:
+        self.lock.acquire()
+
+    async def __aexit__(self, *_fault: object) -> None:
+        self.lock.release()
+
+    def forget(self) -> None:
+        """It is free in a process that was forked, whoever was within."""
+        self.lock = threading.RLock()
+
+
+class Ring(Asking):
     """A ring: node 1 listens at the port `first` of `host`, an IPv4 address or a name, the last one at `last`. Questions
-    are asked of any node, over one session at a time; where one breaks off, of the next node, until `timeout` seconds
-    are over: `NoAnswer`. How long a name is looked up is the system's to say. A Stand stays with its node. At the port
+    are asked of any node, over one session at a time, which ends where nothing is asked for half a second; where one
+    breaks off, of the next node, until `timeout` seconds are over: `NoAnswer`. How long a name is looked up is the system's to say. A Stand stays with its node. At the port
     `status` of the host, if any, `ringd --status` tells of the ring: then `NoLeader` says which node is not well.
-    Threads may share it; one waits for the other."""
+    All may be called from several threads; one waits for the other. A process that is forked opens sessions of its own."""
 
     def __init__(self, first: int, last: int, *, host: str = OWN, timeout: float = 10.0,
                  status: int | None = None) -> None:
-        if not 1 <= first < last <= 65_535 or last - first > 15:
-            raise WrongRing(f"{first}-{last}: the ports of 2 to 16 nodes are 1 to 65,535")
-        if status is not None and not 1 <= status <= 65_535:
-            raise WrongRing(f"{status}: the port of ringd --status is 1 to 65,535")
-        self.host = require(host)
-        self.first, self.nodes, self.timeout, self.status = first, last - first + 1, timeout, status
-        self.ports = range(first, last + 1)
-        self.place = 1
-        # Whether any question was answered, so that there is such a ring.
-        self.has_answered = False
+        super().__init__(first, last, host=host, timeout=timeout, status=status)
+        self.gate: BlockingGate
         self.session: Session | None = None
-        self.lock = threading.RLock()
-        # Stands that this process sent, and that got no answer, or that of a failed device, the oldest first: each may
-        # have been accepted.
-        self.unanswered: dict[tuple[int, int, str], None] = {}
+        self.stop = Stop()
 
     @classmethod
     def parse(cls, text: str, *, timeout: float = 10.0, status: int | None = None) -> "Ring":
         """The ring of a text as `7101-7103`, or as `10.0.0.5:7101-7103` where it is one of another host."""
-        words = re.fullmatch(r"(?:([^:]*):)?(\d{1,5})-(\d{1,5})", text, re.ASCII)
-        if words is None:
-            raise WrongRing(f"{text}: a ring is told as 7101-7103, or as 10.0.0.5:7101-7103")
-        host = OWN if words[1] is None else words[1]
-        return cls(int(words[2]), int(words[3]), host=host, timeout=timeout, status=status)
+        host, first, last = ports_of(text)
+        return cls(first, last, host=host, timeout=timeout, status=status)
 
     def stand(self, group: str, term: int, bid: int, node: int = 1) -> None:
         """The node stands for the group and term with this bid, for who asked. Else `Refused`: `AlreadyStands`, with
         the same bid too, is of another process, unless this Ring asked before and got no answer."""
-        line = f"stand {group} {term} {bid}"
-        try:
-            answer = self.ask(line, node)
-        except AlreadyStands as fault:
-            if fault.text != f"already {bid}" or (os.getpid(), node, line) not in self.unanswered:
-                raise
-            return
-        except FAILED:
-            self.remember(line, node)
-            raise
-        if answer != "stood":
-            self.wrong(answer)
+        at_once(self.do_stand(group, term, bid, node))
 
     def who(self, group: str, term: int, node: int | None = None) -> Leader | None:
         """Who leads for the group and term, as far as a node knows."""
-        answer = self.ask(f"who {group} {term}", node)
-        words = WHO.fullmatch(answer)
-        if words is None:
-            return None if answer == "none" else self.wrong(answer)
-        return Leader(int(words[1]), int(words[2]))
+        return at_once(self.do_who(group, term, node))
 
     def latest(self, group: str, node: int | None = None) -> Led | None:
         """The greatest term of the group that has a leader, as far as a node knows, and that leader."""
-        answer = self.ask(f"latest {group}", node)
-        words = LATEST.fullmatch(answer)
-        if words is None:
-            return None if answer == "none" else self.wrong(answer)
-        return Led(int(words[1]), Leader(int(words[2]), int(words[3])))
+        return at_once(self.do_latest(group, node))
 
     def retire(self, group: str, floor: int, node: int) -> int:
         """The node gives up the group's terms below `floor`, and so has room again. Its floor from then on: that one, or
         a greater one that it has already. Else `Refused`: `Undecided` where it knows no leader of that term or above."""
-        try:
-            answer = self.ask(f"retire {group} {floor}", node)
-        except Retired as fault:
-            if fault.floor < floor:
-                raise
-            return fault.floor
-        return floor if answer == "retired" else self.wrong(answer)
+        return at_once(self.do_retire(group, floor, node))
 
     def campaign(self, group: str, gone: int = 0, rank: int = 0, node: int | None = None, terms: int = 3,
                  seconds: float = 5.0, keep: int = KEEP) -> Election:
@@ -110,82 +85,82 @@ class Ring:
     def campaign_with(self, bid: int, group: str, gone: int = 0, node: int | None = None, terms: int = 3,
                       seconds: float = 5.0, keep: int = KEEP) -> Election:
         """`campaign` with this bid, which no other process may have."""
-        election.require_keep(keep)
-        try:
-            campaign = Campaign(self, group, gone, bid, node)
-            elected = campaign.run(terms, seconds)
-            if elected.is_mine:
-                campaign.retire(elected.term - keep)
-            return elected
-        finally:
-            self.close()
+        return at_once(election.campaign(self, Campaign(self, group, gone, bid, node), terms, seconds, keep))
 
-    def watch(self, group: str, after: int = 0) -> Iterator[Led]:
+    def watch(self, group: str, after: int = 0, wait: float | None = None) -> Iterator[Led]:
         """Each new leader of the group, with rising terms above `after`, for ever. Where the port `status` is told, that
-        tells each at once; else it looks again and again, at most a second apart. Of several terms it tells the last.
-        `NoAnswer` where no node answers any more."""
-        return election.watch(self, group, after)
+        tells each at once; else it looks again and again, at most a second apart. Of several terms it tells the last. A
+        ring that is away is waited for, `wait` seconds or for ever: then `NoAnswer`."""
+        steps = election.watch(self, group, after, wait)
+
+        async def following() -> Led:
+            return await steps.__anext__()
+
+        while True:
+            yield at_once(following())
 
     def ask(self, line: str, node: int | None = None) -> str:
         """The answer to a line. `Refused` where it is a refusal, `NoAnswer` where none came in time."""
-        if "\n" in line or line.strip(" \r") == "bye" or node is not None and not 1 <= node <= self.nodes:
-            raise ValueError("a question is one line, and no `bye`, to a node of the ring")
-        with self.lock:
-            until, pause = time.monotonic() + self.timeout, 0.05
-            while True:
-                place = node or self.place
-                try:
-                    answer = self.ask_once(line, place, max(LEAST, min(PATIENCE, until - time.monotonic())))
-                    self.has_answered = True
-                    break
-                except OSError as fault:
-                    self.close()
-                    if node is None:
-                        self.place = place % self.nodes + 1
-                    if time.monotonic() + pause > until:
-                        where = f"{self.host}:{self.first + place - 1}"
-                        raise NoAnswer(f"{where}: {fault or type(fault).__name__}") from None
-                time.sleep(pause)
-                pause = min(2 * pause, 1.0)
-        refused = refusal(answer)
-        if refused is not None:
-            raise refused
-        return answer
+        return at_once(self.do_ask(line, node))
 
-    def ask_once(self, line: str, place: int, seconds: float) -> str:
-        """The answer of this node within so many seconds, over the session that is open with it, or over a new one."""
+    def new_gate(self) -> BlockingGate:
+        return BlockingGate()
+
+    def begin(self, steps: Coroutine[Any, Any, object]) -> None:
+        threading.Thread(target=at_once, args=(steps,), daemon=True).start()
+
+    async def ask_once(self, line: str, place: int, seconds: float) -> str:
         port, until = self.first + place - 1, time.monotonic() + seconds
         if self.session is not None and (self.session.port != port or not self.session.is_usable()):
             self.close()
         if self.session is None:
             self.session = Session(self.host, port, seconds)
-        try:
-            return self.session.ask(line, max(LEAST, until - time.monotonic()))
-        except BaseException:
-            if line.startswith("stand "):
-                self.remember(line, place)
-            raise
+            # Where the system gives no thread it stays open.
+            with contextlib.suppress(RuntimeError):
+                threading.Thread(target=self.end_idle, args=(self.session,), daemon=True).start()
+        return self.session.ask(line, max(LEAST, until - time.monotonic()), self.stop)
 
-    def remember(self, line: str, place: int) -> None:
-        """Remembers a Stand of this process that the node may have accepted."""
-        self.unanswered[os.getpid(), place, line] = None
-        if len(self.unanswered) > STANDS:
-            del self.unanswered[next(iter(self.unanswered))]
+    def end_idle(self, session: Session) -> None:
+        """Ends a session once nothing was asked over it for a while. No thread is left behind one that ended before."""
+        while session.is_usable() and not session.over.wait(max(0.0, session.used + asking.IDLE - time.monotonic())):
+            with self.gate.lock:
+                if self.session is not session:
+                    return
+                if time.monotonic() - session.used >= asking.IDLE:
+                    self.close()
+
+    def check(self) -> None:
+        self.stop.check()
+
+    async def sleep(self, seconds: float) -> None:
+        self.stop.sleep(seconds)
+
+    async def fetch(self, path: str, seconds: float) -> tuple[int, str]:
+        return status.ask(self.host, self.status or 0, path, seconds, self.stop)
+
+    async def link(self, port: int, seconds: float) -> Link:
+        return BlockingLink(port, seconds, self.stop)
+
+    async def aside(self, act: Callable[[], Result]) -> Result:
+        return act()
 
     def within(self, seconds: float) -> "Ring":
         """The same ring, over sessions of its own, and so that an answer is not waited for longer than that."""
-        return Ring(self.first, self.ports[-1], host=self.host, timeout=min(self.timeout, seconds))
+        ring = Ring(self.first, self.ports[-1], host=self.host, timeout=min(self.timeout, seconds), status=self.status)
+        ring.stop, ring.place = self.stop, self.place
+        return ring
 
-    def wrong(self, answer: str) -> NoReturn:
-        self.close()
-        raise WrongRing(f"{answer!r} is no answer of a node")
+    def until(self, over: threading.Event, cancel: threading.Event | None) -> "Ring":
+        ring = self.within(self.timeout)
+        ring.stop = Stop(over, cancel)
+        return ring
 
     def close(self) -> None:
-        """Ends the session, if one is open. The next question opens another one."""
-        with self.lock:
-            if self.session is not None:
-                self.session.close()
-                self.session = None
+        """Ends the session, if one is open, once no other thread asks over it. The next question opens another one."""
+        with self.gate.lock:
+            session, self.session = self.session, None
+            if session is not None:
+                session.close()
 
     def __enter__(self) -> "Ring":
         return self

@@ -1,8 +1,10 @@
 """One session with a node."""
-import contextlib
 import os
 import socket
+import threading
 import time
+
+from .link import Stop
 
 # No answer of a node is as long, in bytes.
 LONGEST = 256
@@ -14,39 +16,42 @@ class Session:
 
     def __init__(self, host: str, port: int, seconds: float) -> None:
         self.port = port
-        self.process = os.getpid()
+        self.process, self.used, self.over = os.getpid(), time.monotonic(), threading.Event()
         self.connection = socket.create_connection((host, port), seconds)
         self.connection.setsockopt(socket.IPPROTO_TCP, socket.TCP_NODELAY, 1)
 
-    def ask(self, line: str, seconds: float) -> str:
+    def ask(self, line: str, seconds: float, stop: Stop = Stop()) -> str:
         """The answer to a line, for which it waits so long. `OSError` where none came."""
+        return self.ask_all([line], seconds, stop)[0]
+
+    def ask_all(self, lines: list[str], seconds: float, stop: Stop = Stop()) -> list[str]:
+        """The answers to these lines, which are sent at once. `OSError` where one did not come."""
         until = time.monotonic() + seconds
-        answer = b""
+        answers = b""
         try:
             self.connection.settimeout(seconds)
-            self.connection.sendall(line.encode() + b"\n")
-            while b"\n" not in answer:
-                self.connection.settimeout(max(0.001, until - time.monotonic()))
-                part = self.connection.recv(LONGEST)
-                answer += part
-                if not part or len(answer) > LONGEST:
+            self.connection.sendall("".join(f"{line}\n" for line in lines).encode())
+            while answers.count(b"\n") < len(lines):
+                stop.readable(self.connection, until - time.monotonic())
+                part = self.connection.recv(LONGEST * len(lines))
+                answers += part
+                if not part or len(answers) > LONGEST * len(lines):
                     raise ConnectionError("the session broke off")
-            if not answer.endswith(b"\n") or answer.count(b"\n") > 1:
+            if not answers.endswith(b"\n") or answers.count(b"\n") > len(lines):
                 raise ConnectionError("more than one line was answered")
         except BaseException:
             self.close()
             raise
-        return answer[:-1].decode("ascii", "replace")
+        self.used = time.monotonic()
+        return answers[:-1].decode("ascii", "replace").split("\n")
 
     def is_usable(self) -> bool:
         """Whether another line may be asked: by this process, and behind no fault."""
         return self.connection.fileno() >= 0 and self.process == os.getpid()
 
-    def end(self) -> None:
-        """Ends the session, in which another thread may wait for an answer: it gets none, and closes it."""
-        with contextlib.suppress(OSError):
-            self.connection.shutdown(socket.SHUT_RDWR)
-
     def close(self) -> None:
         """Ends the session, which gives the node's door back."""
         self.connection.close()
+        # In a process that was forked nobody waits for it, and a thread of the parent may have been at it.
+        if self.process == os.getpid():
+            self.over.set()

@@ -1,41 +1,93 @@
 """What `ringd --status PORT` tells of a ring, over HTTP."""
+import contextlib
 import http.client
+import io
 import json
+import re
+import socket
 import time
 import urllib.parse
 from collections.abc import Iterator
-from typing import Any
+from typing import Any, NamedTuple
 
 from .errors import NoAnswer, WrongRing
 from .host import OWN, require
+from .link import Stop
 
 # More is read of no answer, in bytes.
 LONGEST = 1 << 20
+LENGTH = re.compile(rb"\r\nContent-Length:[ \t]*(\d{1,9})[ \t]*(?=\r\n|\Z)", re.IGNORECASE)
 # What is shown first of a node.
 FIRST = ["node", "port", "state"]
 # What stands before the number of a refusal.
 REFUSALS = "refusals."
 
 
-def ask(host: str, port: int, path: str, seconds: float) -> tuple[int, str]:
-    """The status and the text of an answer."""
-    connection = http.client.HTTPConnection(require(host), port, timeout=seconds)
+def ask(host: str, port: int, path: str, seconds: float, stop: Stop = Stop()) -> tuple[int, str]:
+    """The status and the text of an answer, which is waited for until this stops."""
+    until, told = time.monotonic() + seconds, b""
     try:
-        connection.request("GET", path, headers={"Connection": "close"})
-        answer = connection.getresponse()
-        return answer.status, answer.read(LONGEST).decode("utf-8", "replace")
-    except (OSError, http.client.HTTPException) as fault:
+        with socket.create_connection((require(host), port), seconds) as connection:
+            connection.sendall(question(host, port, path))
+            # All of it is waited for so long, and not each part.
+            while len(told) <= LONGEST and not is_whole(told):
+                stop.readable(connection, until - time.monotonic())
+                if time.monotonic() > until:
+                    raise TimeoutError("timed out")
+                part = connection.recv(1 << 16)
+                if not part:
+                    break
+                told += part
+        return read(told)
+    except (OSError, ValueError, http.client.HTTPException) as fault:
         raise NoAnswer(f"{host}:{port}{path}: {fault or type(fault).__name__}") from None
-    finally:
-        connection.close()
+
+
+def question(host: str, port: int, path: str) -> bytes:
+    """What asks for this path, so that the connection ends with the answer."""
+    return f"GET {path} HTTP/1.1\r\nHost: {host}:{port}\r\nConnection: close\r\n\r\n".encode()
+
+
+def is_whole(told: bytes) -> bool:
+    """Whether all of an answer came, where it tells how long it is."""
+    head, end, body = told.partition(b"\r\n\r\n")
+    length = LENGTH.search(head)
+    return bool(end) and length is not None and len(body) >= int(length[1])
+
+
+class Page(io.BytesIO):
+    """What was answered over HTTP, as the library reads it from a socket."""
+
+    def makefile(self, _mode: str) -> "Page":
+        return self
+
+
+def read(told: bytes) -> tuple[int, str]:
+    """The status and the text of a whole answer."""
+    answer = http.client.HTTPResponse(Page(told))  # type: ignore[arg-type]
+    answer.begin()
+    return answer.status, answer.read(LONGEST).decode("utf-8", "replace")
+
+
+class Sight(NamedTuple):
+    """The latest leader of a group, whether who stood so is present or resigned, and what it tells of itself."""
+    term: int
+    node: int
+    bid: int
+    is_present: bool
+    is_resigned: bool
+    text: str
 
 
 def health(port: int, seconds: float = 5.0, *, host: str = OWN) -> list[str]:
     """A line for each node that is not well, as `node 3 full`; none where all are."""
-    status, text = ask(host, port, "/health", seconds)
-    if status not in (200, 503):
-        raise WrongRing(f"{host}:{port}/health answers {status}: is it that of ringd --status?")
-    return text.splitlines() if status == 503 else []
+    return read_health(f"{host}:{port}/health", *ask(host, port, "/health", seconds))
+
+
+def read_health(where: str, code: int, text: str) -> list[str]:
+    if code not in (200, 503):
+        raise WrongRing(f"{where} answers {code}: is it that of ringd --status?")
+    return text.splitlines() if code == 503 else []
 
 
 def status(port: int, seconds: float = 5.0, *, host: str = OWN) -> dict[str, Any]:
@@ -49,7 +101,7 @@ def leaders(port: int, node: int, seconds: float = 5.0, *, host: str = OWN,
     while True:
         path = f"/leaders?node={node}" + (f"&after={urllib.parse.quote(after, safe='')}" if after else "")
         told = ask_rows(host, port, path, "leaders", seconds)
-        rows = [tuple(row.get(name) for name in ("group", "term", "node", "bid")) for row in told["leaders"]]
+        rows: list[Any] = [tuple(row.get(name) for name in ("group", "term", "node", "bid")) for row in told["leaders"]]
         if not all(isinstance(row[0], str) and all(isinstance(number, int) for number in row[1:]) for row in rows):
             raise WrongRing(f"{host}:{port}{path} tells no leaders")
         yield from rows
@@ -61,46 +113,61 @@ def leaders(port: int, node: int, seconds: float = 5.0, *, host: str = OWN,
 def coming(port: int, group: str, above: int, seconds: int, *, host: str = OWN) -> tuple[int, int, int] | None:
     """The term, the node and the bid of the group's latest leader in a term above this one, for which the port waits so many seconds,
     60 at most; None where there was none."""
-    told = ask_leader(host, port, f"/leaders/{group}?above={above}&wait={seconds}", seconds + 5.0, 204)
-    return None if told is None else told[:3]
+    path = coming_path(group, above, seconds)
+    told = read_leader(f"{host}:{port}{path}", *ask(host, port, path, seconds + 5.0), none=204)
+    return None if told is None else (told.term, told.node, told.bid)
+
+
+def coming_path(group: str, above: int, seconds: int) -> str:
+    return f"/leaders/{group}?above={above}&wait={seconds}"
 
 
 def leader(port: int, group: str, node: int, seconds: float = 5.0, *, host: str = OWN) -> tuple[int, int, int, bool] | None:
     """The term, the node and the bid of the group's latest leader, and whether who stood so is present, by what this node knows;
     None where it knows none. Nothing rests on presence: docs/OPERATING.md says what it tells."""
-    return ask_leader(host, port, f"/leaders/{group}?node={node}", seconds, 404)
+    path = leader_path(group, node)
+    told = read_leader(f"{host}:{port}{path}", *ask(host, port, path, seconds), none=404)
+    return None if told is None else (told.term, told.node, told.bid, told.is_present)
 
 
-def ask_leader(host: str, port: int, path: str, seconds: float, none: int) -> tuple[int, int, int, bool] | None:
+def leader_path(group: str, node: int) -> str:
+    return f"/leaders/{group}?node={node}"
+
+
+def held_path(group: str, node: int, term: int, seconds: int) -> str:
+    return f"/leaders/{group}?node={node}&held={term}&wait={seconds}"
+
+
+def read_leader(where: str, code: int, text: str, none: int) -> "Sight | None":
     """A leader and whether it is present; None where the status of the answer says that there is none. `NoAnswer` also where
     no place is free for who waits, or memory is wanting."""
-    code, text = ask(host, port, path, seconds)
     if code == none:
         return None
     if code == 503:
-        raise NoAnswer(f"{host}:{port}{path}: 503")
+        raise NoAnswer(f"{where}: 503")
     try:
         told = json.loads(text)
         row, is_present = told["leader"], told["present"]
+        # An earlier ringd tells neither of these.
+        is_resigned, said = told.get("resigned", False), told.get("text", "")
         term, node, bid = row["term"], row["node"], row["bid"]
     except (ValueError, LookupError, TypeError):
         term = node = bid = is_present = None
     if code != 200 or not all(isinstance(number, int) for number in (term, node, bid)) or not isinstance(is_present, bool):
-        raise WrongRing(f"{host}:{port}{path} answers {code}: is it that of ringd --status?")
-    return term, node, bid, is_present
+        raise WrongRing(f"{where} answers {code}: is it that of ringd --status?")
+    return Sight(term, node, bid, is_present, is_resigned is True, str(said))
 
 
 def ask_rows(host: str, port: int, path: str, name: str, seconds: float) -> dict[str, Any]:
     """An answer in JSON that has a list of objects of this name."""
     code, text = ask(host, port, path, seconds)
-    try:
+    told: Any = None
+    with contextlib.suppress(ValueError):
         told = json.loads(text)
-    except ValueError:
-        told = None
     rows = told.get(name) if isinstance(told, dict) else None
     if code != 200 or not isinstance(rows, list) or not all(isinstance(row, dict) for row in rows):
         raise WrongRing(f"{host}:{port}{path} answers {code}: is it that of ringd --status?")
-    return told
+    return dict(told)
 
 
 def table(told: dict[str, Any]) -> str:

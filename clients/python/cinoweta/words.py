@@ -5,8 +5,8 @@ import os
 from . import __version__
 from .election import KEEP
 
-EPILOG = """exit status: 0 done; 1 no leader is known, another one leads, nobody holds the lock, or a node is not well;
-2 wrong words; 3 no answer; 4 no leader in so many terms; 5 the lock was lost; 6 it was not had in time; 7 the system
+EPILOG = """exit status: 0 done; 1 no leader is known, another one leads, nobody holds the lock, a node is not well, or no
+capacity is enough; 2 wrong words; 3 no answer; 4 no leader in so many terms; 5 the lock was lost; 6 it was not had in time; 7 the system
 failed, as where nothing more can be printed; 10 + N refused as `no N`, as 16 for `no 6 limit` and 17 for `no 7 full`;
 of lock 126 where COMMAND can't be started, 127 where there is none, else that of COMMAND. Fencing at what COMMAND
 writes to makes a lock safe: it turns away each write with a lower term than one that it has seen, which COMMAND finds
@@ -32,15 +32,14 @@ def arguments() -> argparse.ArgumentParser:
     command("stand", "a node, 1 where none is told, stands with a bid", "group", "term", "bid", is_of_a_node=True)
     command("who", "who leads in a term", "group", "term", is_of_a_node=True)
     command("latest", "the greatest term that has a leader", "group", is_of_a_node=True)
-    retire = command("retire", "a node, or each in turn, gives up the terms below a floor, and has room again", "group",
-                     is_of_a_node=True)
-    retire.add_argument("floor", type=int, nargs="?", metavar="FLOOR",
-                        help="the greatest term that all nodes know a leader of, where it is left out")
+    add_retire(command("retire", "a node, or each in turn, gives up the terms below a floor, and has room again", is_of_a_node=True))
     add_campaign(command("campaign", "stands until there is a leader above the one that is gone", "group",
                          is_of_a_node=True))
     watch = command("watch", "prints each new leader", "group")
     watch.add_argument("--after", type=int, default=0, metavar="TERM")
     watch.add_argument("--count", type=int, default=0, metavar="N", help="ends after so many; 0 for never")
+    watch.add_argument("--wait", type=float, metavar="SECONDS",
+                       help="how long it waits for a ring that is away; for ever where it is left out")
     add_port(command("status", "what ringd --status PORT tells"))
     leaders = command("leaders", "each group with its latest leader, as ringd --status PORT tells")
     add_port(leaders)
@@ -50,10 +49,62 @@ def arguments() -> argparse.ArgumentParser:
     holder = command("holder", "who holds a lock", "group")
     add_sight(holder)
     add_status(holder)
-    move = command("move", "stands in the ring, which is a new one, one term above in each group of another one")
-    move.add_argument("--from", required=True, metavar="PORT", dest="old",
-                      help="that of its ringd --status, of the new ring's host, or HOST:PORT")
+    add_move(command("move", "stands in the ring, which is a new one, one term above in each group of another one"))
+    add_raise(command("raise", "stands in groups above the terms that they had, as behind a backup that has forgotten some"))
+    waiters = command("waiters", "who waits for a lock on the ring's host, in order", "group")
+    waiters.add_argument("--patience", type=float, default=5.0, metavar="SECONDS",
+                         help="how long the holder's process is waited for")
+    add_sizing(command("sizing", "the capacity and the keep that a ring of so many groups needs; no ring is asked"))
+    add_backup(command("backup", "copies a ring's folder, served or not, to DIR, until ringd --check is well of the copy"))
     return parser
+
+
+def add_sizing(parser: argparse.ArgumentParser) -> None:
+    parser.add_argument("--groups", type=int, required=True, metavar="G")
+    parser.add_argument("--elections-a-minute", type=int, required=True, metavar="M",
+                        help="of all groups together; each term is kept for a minute")
+    parser.add_argument("--name", type=int, default=8, metavar="BYTES", help="how long the groups' names are")
+    parser.add_argument("--nodes", type=int, default=3, metavar="N")
+
+
+def add_backup(parser: argparse.ArgumentParser) -> None:
+    parser.add_argument("folder", metavar="FOLDER", help="that of the ring's settings")
+    parser.add_argument("to", metavar="DIR", help="a folder that is not there")
+    parser.add_argument("--ringd", metavar="PROGRAM", default="ringd", help="what looks at the copy, ringd where it is left out")
+
+
+def add_retire(parser: argparse.ArgumentParser) -> None:
+    parser.add_argument("group", nargs="?", metavar="GROUP")
+    parser.add_argument("floor", type=int, nargs="?", metavar="FLOOR",
+                        help="the greatest term that all nodes know a leader of, where it is left out")
+    parser.add_argument("--all", action="store_true",
+                        help="of each group that ringd --status tells a node knows, below its latest term there")
+    parser.add_argument("--keep", type=int, default=0, metavar="N", help="so many terms below that are kept")
+    add_status(parser)
+
+
+def add_move(parser: argparse.ArgumentParser) -> None:
+    parser.add_argument("--from", required=True, metavar="PORT", dest="old",
+                      help="that of its ringd --status, of the new ring's host, or HOST:PORT")
+    parser.add_argument("--rename", action="append", default=[], metavar="OLD=NEW", type=renamed,
+                      help="a group's name in the new ring; may be told again")
+    parser.add_argument("--skip", action="append", default=[], metavar="GROUP", help="stays behind; may be told again")
+    parser.add_argument("--status", metavar="PORT", help="that of the new ring's ringd --status: it is asked for room first")
+
+
+def add_raise(parser: argparse.ArgumentParser) -> None:
+    parser.add_argument("groups", nargs="*", metavar="GROUP", help="all that ringd --status tells, where none is told")
+    parser.add_argument("--by", type=int, metavar="N", help="so much above the latest term of each")
+    parser.add_argument("--above", metavar="FILE", help="above the terms of this file, as `cinoweta leaders` prints; - for "
+                                                        "standard input")
+    add_status(parser)
+
+
+def renamed(text: str) -> str:
+    """OLD=NEW, of two names."""
+    if not all(text.partition("=")):
+        raise argparse.ArgumentTypeError(f"{text!r} is not OLD=NEW")
+    return text
 
 
 def add_port(parser: argparse.ArgumentParser) -> None:
@@ -85,7 +136,9 @@ def add_lock(parser: argparse.ArgumentParser) -> None:
     add_sight(parser)
     parser.add_argument("--wait", type=float, metavar="SECONDS",
                         help="how long it waits for who holds the lock, and for a ring that is away, full or failed; 0 "
-                             "tries once; for ever where it is left out")
+                             "tries once, for two seconds at most; for ever where it is left out")
+    parser.add_argument("--give-up", type=float, metavar="SECONDS",
+                        help="ends the COMMAND once no node answered for so long; never where it is left out")
     parser.add_argument("--grace", type=float, default=10.0, metavar="SECONDS", help="from TERM to KILL")
     parser.add_argument("--text", default="", help="what `holder` tells of this one, 200 bytes at most")
     add_keep(parser)

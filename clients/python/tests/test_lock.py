@@ -13,8 +13,9 @@ import unittest
 from unittest import mock
 
 from cinoweta import Holder, Leader, Lock, LockTaken, NoAnswer, NoLeader, Ring, holder
-from cinoweta.beacon import SPREAD, Beacon, is_there, port_of
+from cinoweta.beacon import SPREAD, Beacon, port_of
 from cinoweta.command import main
+from cinoweta.waiting import is_there
 
 from .lines import Node, Votes, in_a_child
 from .test_ring import Beside, deaf
@@ -59,6 +60,12 @@ class LockTest(Beside):
         self.held.append(Lock(ring, "red", **{"patience": 0.5, **words}))
         return self.held[-1]
 
+    def until(self, is_so: object) -> None:
+        until = time.monotonic() + 5.0
+        while not is_so():
+            self.assertLess(time.monotonic(), until)
+            time.sleep(0.005)
+
     def votes_ring(self, timeout: float = 3.0) -> tuple[Ring, list[Node]]:
         """Nodes that know the same, and elect who stands at node 1."""
         ring, nodes = self.ring(self.votes, self.votes, timeout=timeout)
@@ -96,7 +103,7 @@ class LockTest(Beside):
         first.acquire()
         threading.Timer(0.3, first.resign).start()
         second = self.lock(ring)
-        second.acquire(told.append)
+        second.acquire(tell=told.append)
         self.assertEqual((second.term, len(told)), (2, 1))
 
     def test_a_ring_that_is_away_is_waited_for(self) -> None:
@@ -107,16 +114,25 @@ class LockTest(Beside):
             nodes[0].answer = nodes[1].answer = Outage(self.votes, range(first, 12))
             told: list[str] = []
             lock = self.lock(ring)
-            lock.acquire(told.append)
+            lock.acquire(tell=told.append)
             self.assertEqual((lock.term, lock.is_lost(), len(self.votes.stood)), (1, False, 1), first)
             self.assertIn("waits for the ring", told[0])
 
-    def test_a_ring_that_never_answered_is_not(self) -> None:
-        ring, _ = self.ring(deaf, deaf, timeout=0.1)
-        lock = self.lock(ring)
+    def test_a_ring_that_never_answered_is_waited_for(self) -> None:
+        ring, nodes = self.votes_ring(timeout=0.1)
+        nodes[0].answer = nodes[1].answer = deaf
+        lock = self.lock(ring, wait=0.5)
+        before = time.monotonic()
         with self.assertRaises(NoAnswer):
             lock.acquire()
+        self.assertTrue(0.5 <= time.monotonic() - before < 2.0)
         self.assertIsNone(lock.sign)
+        told: list[str] = []
+        nodes[0].answer = nodes[1].answer = Outage(self.votes, range(1, 12))
+        lock = self.lock(ring)
+        lock.acquire(tell=told.append)
+        self.assertEqual(lock.term, 1)
+        self.assertIn("waits for the ring", told[0])
 
     def test_who_takes_it_again_waits_for_a_ring_that_is_away(self) -> None:
         ring, nodes = self.votes_ring(timeout=0.1)
@@ -143,9 +159,18 @@ class LockTest(Beside):
             nodes[0].answer = nodes[1].answer = Refusing(self.votes, f"no {fault}", 6, stands)
             told: list[str] = []
             lock = self.lock(ring)
-            lock.acquire(told.append)
+            lock.acquire(tell=told.append)
             self.assertEqual((lock.term, lock.is_lost(), len(self.votes.stood)), (1, False, 1), (fault, stands))
             self.assertEqual(told, [f"waits for the ring: no {fault}"])
+
+    def test_a_stand_that_a_full_node_has_is_its_own(self) -> None:
+        # The answer to the first one is lost.
+        ring, nodes = self.votes_ring()
+        answers = iter([None])
+        for node in nodes:
+            node.answer = lambda line: self.votes(line) and next(answers, "no 7 full") if line.startswith("stand") else self.votes(line)
+        with self.lock(ring, wait=2.0) as held:
+            self.assertEqual((held.term, [*self.votes.stood]), (1, [1]))
 
     def test_a_node_that_does_not_answer_is_passed_by(self) -> None:
         ring, nodes = self.votes_ring(timeout=0.2)
@@ -153,7 +178,7 @@ class LockTest(Beside):
         told: list[str] = []
         with mock.patch("cinoweta.election.SECONDS", 0.01), self.lock(ring) as lock:
             lock.resign()
-            lock.acquire(told.append)
+            lock.acquire(tell=told.append)
             self.assertEqual((lock.term, lock.is_lost(), told), (2, False, []))
         self.assertEqual([bool(node.stands()) for node in nodes], [True, True])
 
@@ -161,17 +186,17 @@ class LockTest(Beside):
         self.votes = Votes(elects=False)
         ring, _ = self.votes_ring()
         told: list[str] = []
-        with mock.patch("cinoweta.lock.SECONDS", 0.05):
+        with mock.patch("cinoweta.locking.SECONDS", 0.05):
             for wait in (0.0, 0.5):
                 with self.assertRaises(NoLeader):
-                    self.lock(ring, wait=wait).acquire(told.append)
+                    self.lock(ring, wait=wait).acquire(tell=told.append)
         self.assertEqual(told, ["waits for the ring: red: no leader in 3 terms above 0"])
         self.assertEqual(len(self.votes.stood), 3)
 
     def test_it_is_lost_once_a_greater_term_is_known(self) -> None:
         ring, nodes = self.votes_ring(timeout=0.2)
         lock = self.lock(ring)
-        with mock.patch("cinoweta.lock.EVERY", 0.0), lock as held:
+        with mock.patch("cinoweta.locking.EVERY", 0.0), mock.patch("cinoweta.looks.EVERY", 0.0), lock as held:
             for answer in (deaf, lambda _line: "no 8 memory"):
                 for node in nodes:
                     node.answer = answer
@@ -192,15 +217,25 @@ class LockTest(Beside):
             for _ in range(1_000):
                 held.is_lost()
             self.assertLessEqual(sum(len(node.lines) for node in nodes), before + 1)
+            # Behind a pause of its process.
+            for _ in range(2):
+                before = sum(len(node.lines) for node in nodes)
+                time.sleep(1.1)
+                for _ in range(1_000):
+                    self.assertFalse(held.is_lost())
+                self.assertEqual(sum(len(node.lines) for node in nodes), before + 1)
 
     def test_the_terms_far_below_its_own_are_retired(self) -> None:
         ring, nodes = self.votes_ring()
         # Nobody is at the port of this bid.
         self.votes.leaders[20] = (2, 0)
         with self.lock(ring, keep=3) as held:
-            self.assertEqual((held.term, self.votes.floor), (21, 18))
+            self.assertEqual(held.term, 21)
+            self.until(lambda: [node.lines.count("retire red 18") for node in nodes] == [1, 1])
+            self.assertEqual(self.votes.floor, 18)
         nodes[0].answer = nodes[1].answer = lambda line: self.votes(line) if "retire" not in line else "no 7 full"
         with held:
+            self.until(lambda: [node.lines.count("retire red 19") for node in nodes] == [1, 1])
             self.assertEqual((held.term, held.is_lost(), self.votes.floor), (22, False, 18))
 
     def test_its_next_term_is_above_the_number_that_turned_it_away(self) -> None:
@@ -272,10 +307,9 @@ class BeaconTest(unittest.TestCase):
         beacon = Beacon(0, "")
         self.addCleanup(beacon.close)
         with mock.patch("socket.socket.accept", side_effect=OSError(24, "Too many open files")) as accept:
-            # The thread waits in `accept` already, once.
-            self.assertTrue(is_there(beacon.bid, 1.0))
-            while not accept.called:
-                time.sleep(0.001)
+            self.assertFalse(is_there(beacon.bid, 1.0))
+            # It is not asked for again and again without a pause.
+            self.assertTrue(2 <= accept.call_count < 100)
         self.assertTrue(is_there(beacon.bid, 1.0))
 
     def test_one_fault_is_not_the_end_of_who_holds_it(self) -> None:

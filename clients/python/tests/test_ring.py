@@ -3,6 +3,7 @@ import contextlib
 import io
 import json
 import os
+import threading
 import time
 import unittest
 from collections.abc import Callable
@@ -13,6 +14,7 @@ from cinoweta import (AlreadyStands, Election, Full, Leader, Led, LimitReached, 
 from cinoweta.command import main
 from cinoweta.election import Campaign
 from cinoweta.errors import KINDS, refusal
+from cinoweta.steps import at_once
 
 from .lines import Node, Votes, first, serve
 
@@ -68,6 +70,7 @@ class RingTest(Beside):
         ring = Ring(7101, 7103, timeout=0.0)
         with mock.patch("cinoweta.ring.Session") as session:
             session.return_value.ask.side_effect = ConnectionResetError
+            session.return_value.is_usable.return_value = False
             for term in range(1, 1_100):
                 with self.assertRaises(NoAnswer):
                     ring.stand("red", term, 10)
@@ -88,7 +91,7 @@ class RingTest(Beside):
     def test_the_last_try_takes_no_longer_than_is_left(self) -> None:
         ring, _ = self.ring(lambda _line: time.sleep(5.0), deaf, timeout=1.0)
         before = time.monotonic()
-        with mock.patch("cinoweta.ring.PATIENCE", 0.6), self.assertRaises(NoAnswer):
+        with mock.patch("cinoweta.asking.PATIENCE", 0.6), self.assertRaises(NoAnswer):
             ring.latest("red", node=1)
         self.assertTrue(0.9 < time.monotonic() - before < 1.2)
 
@@ -112,6 +115,19 @@ class RingTest(Beside):
                 ring.latest("red")
         self.assertFalse(left.is_usable())
         self.assertIsNone(ring.latest("blue"))
+
+    def test_a_session_is_ended_once_nothing_is_asked_over_it(self) -> None:
+        ring, _ = self.ring(Votes(), Votes())
+        ring.latest("red")
+        kept, until = ring.session, time.monotonic() + 1.5
+        while time.monotonic() < until:
+            ring.latest("red")
+        self.assertIs(ring.session, kept)
+        while ring.session is not None:
+            self.assertLess(time.monotonic(), until + 5.0)
+            time.sleep(0.01)
+        self.assertFalse(kept.is_usable())
+        self.assertIsNone(ring.latest("red"))
 
     def test_answers_that_are_none(self) -> None:
         for answer in ("stood", "leader 1 x", "HTTP/1.1 400", "term 1 leader 1", ""):
@@ -251,12 +267,13 @@ class CampaignTest(Beside):
         votes = Votes(elects=False)
         ring, _ = self.ring(votes, votes)
         ring.status = 7100
-        for health, told in ((["node 2 failed", "node 3 full"], ": node 2 failed, node 3 full"), ([], ""),
+        for health, told in (((503, "node 2 failed\nnode 3 full\n"), ": node 2 failed, node 3 full"), ((200, ""), ""),
                              (NoAnswer("7100"), "")):
             answer = {"side_effect": health} if isinstance(health, Exception) else {"return_value": health}
-            with mock.patch("cinoweta.status.health", **answer), self.assertRaises(NoLeader) as caught:
+            with mock.patch("cinoweta.status.ask", **answer), self.assertRaises(NoLeader) as caught:
                 self.campaign(ring)
             self.assertEqual(str(caught.exception), f"red: no leader in 3 terms above 0{told}")
+            self.assertEqual(caught.exception.faults, told[2:].split(", ") if told else [])
 
     def test_who_may_not_stand_follows(self) -> None:
         for refusal in ("no 3 already 30", "no 4 late", "no 5 stale 9", "no 23 retired 8"):
@@ -271,10 +288,10 @@ class CampaignTest(Beside):
             each.leaders[14] = (1, 30)
         # The others have not heard yet who leads in term 15, but know enough.
         self.assertTrue(self.campaign(ring, gone=14).is_mine)
-        self.assertEqual([node.lines[-1] for node in nodes], ["retire red 5"] * 3)
-        self.assertEqual([each.floor for each in votes], [5, 5, 5])
+        self.assertEqual([node.lines[-1] for node in nodes], ["retire red 13"] * 3)
+        self.assertEqual([each.floor for each in votes], [13, 13, 13])
         self.assertTrue(self.campaign(ring, gone=15, keep=1).is_mine)
-        self.assertEqual([each.floor for each in votes], [15, 5, 5])
+        self.assertEqual([each.floor for each in votes], [15, 13, 13])
 
     def test_who_leads_holds_no_door_while_nodes_retire(self) -> None:
         votes, seen = Votes(), []
@@ -290,7 +307,7 @@ class CampaignTest(Beside):
     def test_who_does_not_lead_or_keeps_all_terms_retires_none(self) -> None:
         votes = Votes()
         ring, nodes = self.ring(votes, votes)
-        self.campaign(ring, gone=10)
+        self.campaign(ring, gone=2)
         self.campaign(ring, gone=900, keep=900)
         self.assertFalse(self.campaign(ring, gone=20).is_mine)
         self.assertEqual([line for node in nodes for line in node.lines if line.startswith("retire")], [])
@@ -307,7 +324,7 @@ class CampaignTest(Beside):
         ring, nodes = self.ring(*[refuses] * 4)
         with mock.patch("cinoweta.election.SECONDS", 0.01):
             self.assertTrue(self.campaign(ring, gone=20).is_mine)
-        self.assertEqual([node.lines.count("retire red 11") for node in nodes], [1, 1, 1, 1])
+        self.assertEqual([node.lines.count("retire red 19") for node in nodes], [1, 1, 1, 1])
         self.assertIsNone(ring.session)
 
     def test_a_stand_without_an_answer_may_lead(self) -> None:
@@ -316,8 +333,8 @@ class CampaignTest(Beside):
         nodes[0].answer = lambda line: votes(line) and None if line.startswith("stand") else votes(line)
         campaign = Campaign(ring, "red", 0, 10, 1)
         with self.assertRaises(NoAnswer):
-            campaign.run(1, 0.1)
-        self.assertEqual(campaign.run(1, 0.1), Election(1, Leader(1, 10), True))
+            at_once(campaign.run(1, 0.1))
+        self.assertEqual(at_once(campaign.run(1, 0.1)), Election(1, Leader(1, 10), True))
 
     def test_ports_that_do_not_begin_with_node_1_are_seen(self) -> None:
         votes = Votes()
@@ -336,17 +353,43 @@ class CampaignTest(Beside):
         self.assertEqual([next(seen), next(seen)], [Led(2, Leader(1, 5)), Led(4, Leader(3, 9))])
         ring, _ = self.ring(deaf, deaf, timeout=0.2)
         with self.assertRaises(NoAnswer):
-            next(ring.watch("red"))
+            next(ring.watch("red", wait=0.0))
 
     def test_watch_by_the_status_port(self) -> None:
         ring, nodes = self.ring(first("term 4 leader 3 9"), deaf, timeout=0.2)
         ring.status = 7100
-        told = [None, (2, 1, 5), WrongRing("no place"), (6, 2, 8)]
-        with mock.patch("cinoweta.status.coming", side_effect=told) as coming:
+        told = [None, Led(2, Leader(1, 5)), WrongRing("no place"), Led(6, Leader(2, 8))]
+        with mock.patch.object(Ring, "coming", side_effect=told) as coming:
             seen = ring.watch("red", after=1)
             self.assertEqual([next(seen) for _ in range(3)], [Led(2, Leader(1, 5)), Led(4, Leader(3, 9)), Led(6, Leader(2, 8))])
-        self.assertEqual([call.args[2] for call in coming.call_args_list], [1, 1, 2, 4])
+        self.assertEqual([call.args[1] for call in coming.call_args_list], [1, 1, 2, 4])
         self.assertEqual(nodes[0].lines, ["latest red"])
+
+
+    def test_a_watch_waits_for_a_ring_that_is_away(self) -> None:
+        answers = [None] * 12 + ["term 2 leader 1 5"]
+        ring, nodes = self.ring(*[lambda _line: answers.pop(0)] * 2, timeout=0.1)
+        with self.assertLogs("cinoweta", "WARNING") as logs:
+            self.assertEqual(next(ring.watch("red")), Led(2, Leader(1, 5)))
+        self.assertEqual((answers, len(logs.records)), ([], 1))
+        nodes[0].answer = nodes[1].answer = deaf
+        before = time.monotonic()
+        with self.assertRaises(NoAnswer):
+            next(ring.watch("red", wait=0.5))
+        self.assertTrue(0.5 <= time.monotonic() - before < 3.0)
+
+    def test_no_thread_is_left_behind_a_session_that_ended(self) -> None:
+        ring, _ = self.ring(*[Votes()] * 2)
+        ring.latest("red")
+        ended, end = threading.Event(), ring.end_idle
+        with mock.patch.object(ring, "end_idle", lambda session: (end(session), ended.set())):
+            ring.close()
+            ring.latest("red")
+            before = time.monotonic()
+            ring.close()
+            self.assertTrue(ended.wait(5.0))
+        # Not once it was idle for half a second.
+        self.assertLess(time.monotonic() - before, 0.4)
 
 
 class RetireTest(Beside):
@@ -355,7 +398,7 @@ class RetireTest(Beside):
     def told(self, ring: Ring, *words: str) -> tuple[int, str, str]:
         """Its exit status, and what it prints on either stream."""
         with contextlib.redirect_stdout(io.StringIO()) as out, contextlib.redirect_stderr(io.StringIO()) as err:
-            code = main(["--ring", f"{ring.first}-{ring.ports[-1]}", "--timeout", "0.2", "retire", *words])
+            code = main(["--ring", f"{ring.first}-{ring.ports[-1]}", "--timeout", "2", "retire", *words])
         return code, out.getvalue(), err.getvalue()
 
     def led(self, *terms: int) -> tuple[Ring, list[Votes]]:

@@ -1,4 +1,5 @@
 """The package and the command beside a real ringd."""
+import asyncio
 import json
 import os
 import signal
@@ -7,7 +8,8 @@ import threading
 import time
 import unittest
 
-from cinoweta import AlreadyStands, Election, Full, Late, Retired, Ring, Stale, Undecided, status
+from cinoweta import AlreadyStands, Election, Full, Late, Lock, LockTaken, Retired, Ring, Stale, Undecided, status
+from cinoweta.aio import AsyncLock, AsyncRing, holder
 
 from .served import HERE, Served, require
 
@@ -98,10 +100,10 @@ class RingTest(ServedTest):
     def test_a_full_ring_is_told(self) -> None:
         ring = self.small()
         with self.assertRaises(Full):
-            for gone in range(1_000):
-                ring.campaign("red", gone, node=1, keep=1_000)
-        stands = ring.latest("red").term
-        self.assertLess(stands, 200)
+            for term in range(1, 1_000):
+                ring.stand("red", term, 0, 1)
+                self.until(lambda: ring.who("red", term, 1) is not None, "no leader")
+        self.assertLess(ring.latest("red").term, 200)
 
     def test_a_ring_that_retires_is_never_full(self) -> None:
         ring = self.small()
@@ -112,7 +114,7 @@ class RingTest(ServedTest):
         for gone in range(1, 300):
             self.assertTrue(ring.campaign("red", gone, node=gone % 3 + 1).is_mine)
         for node in (1, 2, 3):
-            self.until(lambda: ring.retire("red", 290, node) == 290, "no floor")
+            self.until(lambda: ring.retire("red", 299, node) == 299, "no floor")
             # The node's board may show it a moment later.
             with self.assertRaises(Retired):
                 self.until(lambda: ring.who("red", 289, node) is None, "a leader below the floor")
@@ -298,7 +300,7 @@ class LockTest(LockerTest):
         ended = self.served.run("lock", "red", "--wait", "0", "--", "echo", "in")
         self.assertEqual((ended.returncode, ended.stdout), (6, ""))
         self.assertRegex(ended.stderr, rf"\Acinoweta: red: waits for .*\ncinoweta: red: held by process {first.pid} ")
-        self.assertLess(time.monotonic() - before, 3.0)
+        self.assertLess(time.monotonic() - before, 20.0)
         first.kill()
         self.assertEqual(self.served.run("holder", "red").stdout, "none\n")
 
@@ -360,6 +362,77 @@ class AcrossHostsTest(LockerTest):
             self.assertIsNone(second.poll())
             self.assertRegex(self.run_holder(), r"\Aterm 1 ")
         self.assertIsNone(first.poll())
+
+
+class AioTest(unittest.IsolatedAsyncioTestCase):
+    async def test_locks_of_threads_and_of_an_event_loop_exclude_each_other(self) -> None:
+        served = Served("--doors", "8", "--idle", "2")
+        self.addCleanup(served.end)
+        for group, is_across in ("red", False), ("blue", True):
+            ring = AsyncRing.parse(served.ports, status=served.status)
+            near = Ring.parse(served.ports, status=served.status)
+            tasks = AsyncLock(ring, group, text="a task", across_hosts=is_across)
+            thread = Lock(near, group, text="a thread", across_hosts=is_across)
+            await tasks.acquire()
+            thread.wait = 0.0
+            with self.assertRaises(LockTaken) as caught:
+                await asyncio.to_thread(thread.acquire)
+            self.assertEqual(caught.exception.holder.text, "a task")
+            thread.wait = 30.0
+            waits = asyncio.create_task(asyncio.to_thread(thread.acquire))
+            await asyncio.sleep(1.0)
+            before = time.monotonic()
+            tasks.resign()
+            await waits
+            # Who looked once a second, or waited for two seconds without the holder, would need more on the average.
+            self.assertLess(time.monotonic() - before, 1.5)
+            self.assertEqual((thread.term, await tasks.is_lost(), thread.is_lost()), (2, True, False))
+            self.assertEqual((await holder(ring, group, across_hosts=is_across)).text, "a thread")
+            # And the other way round.
+            waits = asyncio.create_task(tasks.acquire())
+            await asyncio.sleep(1.0)
+            thread.resign()
+            await asyncio.wait_for(waits, 30.0)
+            self.assertEqual((tasks.term, await tasks.is_lost()), (3, False))
+            tasks.resign()
+            ring.close()
+            near.close()
+
+
+class ThousandLocksTest(ServedTest):
+    def setUp(self) -> None:
+        self.served = Served("--doors", "2", capacity=1_048_576)
+        self.addCleanup(self.served.end)
+
+    def is_told(self, doors: int) -> bool:
+        """Whether so many doors of each node are taken, and of some locks whether they are held."""
+        nodes = status.status(self.served.status)["nodes"]
+        return [node["sessions"]["busy"] for node in nodes] == [doors] * 3 and all(
+            self.is_present(lock.group) == lock.is_held for lock in self.locks[::9])
+
+    def is_present(self, group: str) -> bool:
+        """A node tells of its own sessions."""
+        known = status.leader(self.served.status, group, 1)
+        told = known and status.leader(self.served.status, group, known[1])
+        return bool(told and told[3])
+
+    def test_a_thousand_locks_across_hosts_take_a_door_a_node(self) -> None:
+        ring = self.ring()
+        ring.status = self.served.status
+        self.locks = [Lock(ring, f"g{number}", across_hosts=True, wait=20.0) for number in range(1_000)]
+        for lock in self.locks:
+            lock.acquire()
+        self.until(lambda: self.is_told(1), "a door a node")
+        for lock in self.locks[::2]:
+            lock.resign()
+        self.until(lambda: self.is_told(1), "the others")
+        self.served.kill()
+        self.served.start()
+        self.until(lambda: self.is_told(1), "the others again")
+        self.assertEqual([lock.is_lost() for lock in self.locks], [True, False] * 500)
+        for lock in self.locks:
+            lock.resign()
+        self.until(lambda: self.is_told(0), "no door")
 
 
 if __name__ == "__main__":

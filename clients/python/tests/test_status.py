@@ -5,11 +5,14 @@ import io
 import json
 import os
 import threading
+import time
 import unittest
 from unittest import mock
 
 from cinoweta import NoAnswer, WrongRing, status
 from cinoweta.command import main
+
+from .lines import Talker
 
 NODES = [{"journal": {"batches": 3, "inputs": 20 + node}, "node": node, "port": 7100 + node,
           "sessions": {"begun": 5, "refusals": refusals}, "stands": {"left": 1000, "taken": 10 + node}, "state": state}
@@ -21,9 +24,11 @@ TOLD = {"version": "0.1.0", "nodes": NODES, "dir": "ring-state", "started": 1700
 class Answers(http.server.BaseHTTPRequestHandler):
     def do_GET(self) -> None:
         code, text = self.server.answers.get(self.path, (404, ""))
-        self.send_response(code)
-        self.end_headers()
-        self.wfile.write(text.encode())
+        # A client may leave before it is answered.
+        with contextlib.suppress(ConnectionError):
+            self.send_response(code)
+            self.end_headers()
+            self.wfile.write(text.encode())
 
     def log_message(self, *_words: object) -> None:
         """Nothing is told."""
@@ -46,6 +51,21 @@ class StatusTest(BesideStatus):
             self.assertEqual(status.health(self.serve({"/health": (503, text)})), ["node 2 failed", "node 3 full"])
         with self.assertRaises(WrongRing):
             status.health(self.serve({}))
+
+    def test_an_answer_that_does_not_end_is_waited_for_so_long(self) -> None:
+        for part, pause in ((b"HTTP/1.1 200 OK\r\n", 0.05), (b"HTTP/1.1 200 OK\r\n\r\nwell", 0.05), (b"x", 0.05)):
+            talker = Talker(part, pause)
+            self.addCleanup(talker.end)
+            before = time.monotonic()
+            with self.assertRaises(NoAnswer):
+                status.health(talker.port, 1.0)
+            self.assertTrue(0.9 < time.monotonic() - before < 3.0)
+        # One that tells how long it is need not end.
+        talker = Talker(b"HTTP/1.1 200 OK\r\ncontent-length: 5\r\n\r\nwell\n", 5.0)
+        self.addCleanup(talker.end)
+        before = time.monotonic()
+        self.assertEqual(status.health(talker.port, 4.0), [])
+        self.assertLess(time.monotonic() - before, 3.0)
 
     def test_status(self) -> None:
         self.assertEqual(status.status(self.serve({"/status": (200, json.dumps(TOLD))})), TOLD)

@@ -1,0 +1,104 @@
+"""Whether locks are lost: all of a ring are looked at together."""
+import logging
+import threading
+import time
+from typing import TYPE_CHECKING
+
+from . import forks
+from .errors import CinowetaError, NoAnswer, OutOfMemory
+
+if TYPE_CHECKING:
+    from .asking import Asking
+    from .locking import Locking
+
+# Each lock is looked at so often, and all together for so long at most, in seconds.
+EVERY, AT_MOST = 1.0, 1.0
+LOG = logging.getLogger("cinoweta")
+
+
+class Looks:
+    """Asks the ring for all locks that are held with it, of each once a second at most. What it asks over waits for no
+    other question."""
+
+    def __init__(self, ring: "Asking") -> None:
+        self.ring, self.asks, self.gate = ring, ring.within(AT_MOST), ring.new_gate()
+        self.held: dict["Locking", None] = {}
+        self.mutex, self.is_going_on = threading.Lock(), False
+        forks.register(self)
+
+    def forget(self) -> None:
+        self.held, self.mutex, self.is_going_on = {}, threading.Lock(), False
+
+    def add(self, lock: "Locking") -> None:
+        with self.mutex:
+            self.held[lock] = None
+            begins = lock.on_lost is not None and not self.is_going_on
+            self.is_going_on = self.is_going_on or begins
+        if begins:
+            self.ring.begin(self.go_on())
+
+    def remove(self, lock: "Locking") -> None:
+        with self.mutex:
+            self.held.pop(lock, None)
+
+    def goes_on(self) -> bool:
+        """Whether a lock that is held wants to be told of its loss."""
+        with self.mutex:
+            self.is_going_on = any(lock.on_lost is not None for lock in self.held)
+            return self.is_going_on
+
+    async def go_on(self) -> None:
+        """Looks once a second as long as that is wanted."""
+        while self.goes_on():
+            await self.asks.sleep(EVERY)
+            try:
+                await self.look()
+            except Exception:
+                # It goes on: nobody else does so for the locks.
+                LOG.warning("whether locks are lost", exc_info=True)
+
+    async def look(self, *first: "Locking") -> None:
+        """Looks at these, and then at all others as far as there is time; not at one that was looked at within a second."""
+        lost: list["Locking"] = []
+        try:
+            async with self.gate:
+                begun = time.monotonic()
+                self.asks.deadline = begun + AT_MOST
+                with self.mutex:
+                    stale = [lock for lock in dict.fromkeys([*first, *self.held]) if begun - lock.asked >= EVERY]
+                try:
+                    for lock in stale:
+                        if time.monotonic() <= self.asks.deadline and await self.is_lost(lock, stale):
+                            lost.append(lock)
+                finally:
+                    self.asks.close()
+        finally:
+            # Also where the question for another one ended with a fault.
+            for lock in lost:
+                lock.tell_loss()
+
+    async def is_lost(self, lock: "Locking", others: list["Locking"]) -> bool:
+        """Whether the lock was held and is lost now. Where no node answers, or one finds no memory to, nothing is known of
+        the others either."""
+        begun = time.monotonic()
+        if begun - lock.asked < EVERY:
+            return lock.gives_up()
+        try:
+            known = await self.asks.do_latest(lock.group)
+        except (NoAnswer, OutOfMemory):
+            for other in others:
+                other.asked = time.monotonic()
+            return lock.gives_up()
+        except CinowetaError:
+            # What is no answer tells of no term. The others are looked at before it is asked for again.
+            lock.asked = time.monotonic()
+            if lock.gives_up():
+                return True
+            raise
+        lock.asked = time.monotonic()
+        if known is None or known.term < lock.led:
+            # It has not heard of this lock's term yet: another node may know more.
+            self.asks.pass_by()
+            return lock.gives_up()
+        lock.told = begun
+        return lock.ends_below(known.term)
