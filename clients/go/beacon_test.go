@@ -1,6 +1,7 @@
 package cinoweta
 
 import (
+	"io"
 	"net"
 	"strconv"
 	"strings"
@@ -144,4 +145,57 @@ func TestAClientThatIsSilentDoesNotKeepABeacon(t *testing.T) {
 	must(t, err)
 	defer conn.Close()
 	same(t, isThere(background(t), beacon.bid(), 2*time.Second), true)
+}
+
+// silent opens so many connections to a beacon, which ask nothing.
+func silent(t *testing.T, beacon *beacon, count int) []net.Conn {
+	t.Helper()
+	conns := make([]net.Conn, count)
+	for place := range conns {
+		conn, err := net.Dial("tcp", beacon.listener.Addr().String())
+		must(t, err)
+		t.Cleanup(func() { conn.Close() })
+		conns[place] = conn
+	}
+	return conns
+}
+
+func TestClientsThatAreSilentDoNotTakeABeaconFromOthers(t *testing.T) {
+	leavesNone(t)
+	beacon, err := newBeacon(0, "")
+	must(t, err)
+	defer beacon.close()
+	// Also more than are answered side by side: who came first is told to come again.
+	for _, count := range []int{100, mostClients + 50} {
+		begun := time.Now()
+		conns := silent(t, beacon, count)
+		before := time.Now()
+		same(t, isThere(background(t), beacon.bid(), 30*time.Second), true)
+		same(t, time.Since(before) < 2*time.Second, true)
+		// On a slow machine it was left before, since it asked nothing.
+		if count > mostClients && time.Since(begun) < beaconLimit {
+			conns[0].SetDeadline(time.Now().Add(30 * time.Second))
+			_, err = conns[0].Read(make([]byte, 1))
+			is(t, err, syscall.ECONNRESET)
+		}
+	}
+	beacon.mutex.Lock()
+	defer beacon.mutex.Unlock()
+	same(t, len(beacon.clients) <= mostClients, true)
+}
+
+func TestABeaconEndsWithItsClients(t *testing.T) {
+	leavesNone(t)
+	beacon, err := newBeacon(0, "")
+	must(t, err)
+	conns := silent(t, beacon, 20)
+	same(t, isThere(background(t), beacon.bid(), time.Second), true)
+	before := time.Now()
+	beacon.close()
+	for _, conn := range conns {
+		_, err = conn.Read(make([]byte, 1))
+		is(t, err, io.EOF)
+	}
+	same(t, time.Since(before) < beaconLimit, true)
+	same(t, isThere(background(t), beacon.bid(), 30*time.Second), false)
 }

@@ -4,6 +4,7 @@ import (
 	"context"
 	"errors"
 	"fmt"
+	"os"
 	"time"
 )
 
@@ -13,10 +14,14 @@ const (
 	// DefaultWait is how long it waits in each.
 	DefaultWait = 5 * time.Second
 	// DefaultKeep is how many terms below its own who leads keeps.
-	DefaultKeep = 10
+	DefaultKeep = 2
 
+	// The greatest term.
+	lastTerm = 999_999_999
 	// So long who leads waits for a node that is to retire the others.
 	retireLimit = time.Second
+	// So long is waited where a lock is tried once.
+	tryLimit = 2 * time.Second
 )
 
 // CampaignOptions are how to campaign. The zero value stands at any node, where no leader is known.
@@ -37,7 +42,8 @@ type CampaignOptions struct {
 
 // Campaign gives the leader of the first term above the one that is gone which comes to have one. Who calls stands for
 // it where he may, with a bid of this call alone. Where no leader comes to be known in time, a [NoLeaderError]; a
-// [RefusedError] where no Stand is taken any more. Who leads has all nodes that do retire the terms that are not kept.
+// [RefusedError] where no Stand is taken any more: a node without room for it was told to retire what the group has
+// there. Who leads has all nodes that do retire the terms that are not kept.
 func (r *Ring) Campaign(ctx context.Context, group string, how CampaignOptions) (Election, error) {
 	bid, err := randomBid(how.Rank)
 	if err != nil {
@@ -66,11 +72,14 @@ type campaign struct {
 	// The nodes at which it may stand, the first of them first.
 	places []int
 	stood  map[Led]bool
+	// For how many terms it stood, and when was asked what was answered last.
+	tried int
+	asked time.Time
 }
 
 func newCampaign(ring *Ring, group string, bid int, how CampaignOptions) (*campaign, error) {
-	if how.Node < 0 || how.Node > ring.nodes {
-		return nil, errors.New("cinoweta: who campaigns stands at a node of the ring")
+	if err := ring.require(how.Node); err != nil {
+		return nil, err
 	}
 	if how.Gone < 0 || how.Terms < 0 || how.Wait < 0 || how.Keep < 0 {
 		return nil, errors.New("cinoweta: no number of a campaign is negative")
@@ -118,9 +127,14 @@ func placesOf(ring *Ring, node int) ([]int, error) {
 // run gives the leader of the first term above the one that is gone which comes to have one. Nothing is retired yet.
 func (c *campaign) run(ctx context.Context) (Election, error) {
 	known, isKnown, err := c.known(ctx)
-	above := greater(c.how.Gone, c.above)
-	for step := 1; step <= c.how.Terms && !isKnown && err == nil; step++ {
-		if err = c.stand(ctx, above+step); err == nil {
+	for c.tried = 0; c.tried < c.how.Terms && !isKnown && err == nil; {
+		c.tried++
+		term := c.least() + c.tried
+		if term > lastTerm {
+			const text = "cinoweta: %s has no term above %d: use another name, as `cinoweta move --rename` gives it"
+			return Election{}, fmt.Errorf(text, c.group, lastTerm)
+		}
+		if err = c.stand(ctx, term); err == nil {
 			known, isKnown, err = c.await(ctx)
 		}
 	}
@@ -128,9 +142,36 @@ func (c *campaign) run(ctx context.Context) (Election, error) {
 		return Election{}, err
 	}
 	if !isKnown {
-		return Election{}, &NoLeaderError{c.group, c.how.Terms, above, c.faults(ctx)}
+		return Election{}, c.noLeader(ctx)
 	}
 	return c.end(known)
+}
+
+// runOnce gives the same within tryLimit: else a [NoLeaderError], or a [NoAnswerError] where no node answered.
+func (c *campaign) runOnce(ctx context.Context) (Election, error) {
+	begun := time.Now()
+	limited, cancel := context.WithTimeout(ctx, tryLimit)
+	defer cancel()
+	election, err := c.run(limited)
+	silent, isSilent := err.(*NoAnswerError)
+	if !isSilent || limited.Err() == nil || ended(ctx) != nil {
+		return election, err
+	}
+	if c.asked.Before(begun) {
+		// Its caller's context is not over.
+		return Election{}, &NoAnswerError{silent.Address, os.ErrDeadlineExceeded}
+	}
+	return Election{}, c.noLeader(ctx)
+}
+
+// least is the number above which it stands.
+func (c *campaign) least() int {
+	return greater(c.how.Gone, c.above)
+}
+
+// noLeader says that none came to be known in the terms for which it stood.
+func (c *campaign) noLeader(ctx context.Context) *NoLeaderError {
+	return &NoLeaderError{c.group, c.tried, c.least(), c.faults(ctx)}
 }
 
 // end judges who leads.
@@ -169,9 +210,9 @@ func (c *campaign) retire(ctx context.Context, term int) {
 func (c *campaign) stand(ctx context.Context, term int) error {
 	var err error
 	for _, place := range c.places {
-		err = c.ring.Stand(ctx, c.group, term, c.bid, place)
-		if err == nil || isNoAnswer(err) || hasFailed(err) {
-			// Without an answer it may have been accepted, and nobody else has the bid.
+		err = c.standAt(ctx, term, place)
+		if err == nil || isNoAnswer(err) || hasFailed(err) || errors.Is(err, ErrFull) {
+			// Without an answer it may have been accepted, by a full node at an earlier question, and nobody else has the bid.
 			c.stood[Led{term, Leader{place, c.bid}}] = true
 		}
 		if !errors.Is(err, ErrLimitReached) && !isNoAnswer(err) || ended(ctx) != nil {
@@ -186,11 +227,32 @@ func (c *campaign) stand(ctx context.Context, term int) error {
 	return err
 }
 
+// standAt stands at a node. Where that has no room for it, once more behind a Retire of what the group has there.
+func (c *campaign) standAt(ctx context.Context, term, place int) error {
+	err := c.ring.Stand(ctx, c.group, term, c.bid, place)
+	isFull := errors.Is(err, ErrLimitReached) || errors.Is(err, ErrFull)
+	if isFull && c.hasRetired(ctx, place) {
+		err = c.ring.Stand(ctx, c.group, term, c.bid, place)
+	}
+	return err
+}
+
+// hasRetired has a node retire all terms below the latest one whose leader it knows, and tells whether they are.
+func (c *campaign) hasRetired(ctx context.Context, place int) bool {
+	known, _, err := c.ring.Latest(ctx, c.group, place)
+	// Below term 1 there is none.
+	if err != nil || known.Term <= 1 {
+		return false
+	}
+	_, err = c.ring.Retire(ctx, c.group, known.Term, place)
+	return err == nil
+}
+
 // await waits until a leader is known, or the time is over.
 func (c *campaign) await(ctx context.Context) (Led, bool, error) {
 	until, cancel := context.WithTimeout(ctx, c.how.Wait)
 	defer cancel()
-	var pause pause
+	pause := pause{stoodPause}
 	for {
 		known, isKnown, err := c.known(ctx)
 		if isKnown || err != nil || !pause.take(until, c.ring) {
@@ -201,7 +263,11 @@ func (c *campaign) await(ctx context.Context) (Led, bool, error) {
 
 // known gives the latest leader; false where its term is not above the one that is gone.
 func (c *campaign) known(ctx context.Context) (Led, bool, error) {
+	asked := time.Now()
 	known, isKnown, err := c.ring.Latest(ctx, c.group, AnyNode)
+	if err == nil {
+		c.asked = asked
+	}
 	return known, isKnown && known.Term > c.how.Gone, err
 }
 

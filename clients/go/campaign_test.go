@@ -95,6 +95,64 @@ func TestACampaignGoesToAnotherNodeAtItsLimit(t *testing.T) {
 	same(t, election, Election{Led{1, Leader{2, votes.bid(1)}}, true})
 }
 
+// cramped gives the answers of a node that has no room for a Stand while the group has terms below the latest there.
+func cramped(votes *votes, refusal string) answer {
+	return func(line string) (string, bool) {
+		votes.mutex.Lock()
+		isFull := strings.HasPrefix(line, "stand") && votes.floor < votes.latest()
+		votes.mutex.Unlock()
+		if isFull {
+			return refusal, true
+		}
+		return votes.answer(line)
+	}
+}
+
+func TestANodeWithoutRoomIsToldToRetire(t *testing.T) {
+	for _, refusal := range []string{"no 6 limit", "no 7 full"} {
+		votes := newVotes().lead(20, 2, 30)
+		ring, nodes := beside(t, cramped(votes, refusal), votes.answer)
+		election, err := ring.Campaign(background(t), "red", short(CampaignOptions{Gone: 20, Keep: 1_000}))
+		must(t, err)
+		same(t, election, Election{Led{21, Leader{1, votes.bid(21)}}, true})
+		same(t, nodes[0].lines("retire"), []string{"retire red 20"})
+		same(t, []int{len(nodes[0].lines("stand")), len(nodes[1].lines(""))}, []int{2, 0})
+	}
+}
+
+func TestANodeThatHasNothingToRetireIsToldNothing(t *testing.T) {
+	for _, known := range []string{"none", "term 1 leader 2 30", "no 8 memory"} {
+		ring, nodes := beside(t, first("none", "no 7 full", known), deaf)
+		_, err := ring.Campaign(background(t), "red", short(CampaignOptions{}))
+		is(t, err, ErrFull)
+		same(t, []int{len(nodes[0].lines("retire")), len(nodes[0].lines("stand"))}, []int{0, 1})
+	}
+	// Nor is asked once more where it does not retire.
+	ring, nodes := beside(t, first("none", "no 7 full", "term 20 leader 2 30", "no 9 failed"), deaf)
+	_, err := ring.Campaign(background(t), "red", short(CampaignOptions{}))
+	is(t, err, ErrFull)
+	same(t, len(nodes[0].lines("stand")), 1)
+}
+
+func TestBehindTheLastTermThereIsNone(t *testing.T) {
+	ring, nodes := beside(t, newVotes().lead(999_999_999, 2, 5).answer, deaf)
+	_, err := ring.Campaign(background(t), "red", CampaignOptions{Gone: 999_999_999, Node: 1})
+	same(t, err, "cinoweta: red has no term above 999999999: use another name, as `cinoweta move --rename` gives it")
+	same(t, len(nodes[0].lines("stand")), 0)
+}
+
+func TestACampaignGoesNowhereFromATermThatIsTooFar(t *testing.T) {
+	ring, nodes := beside(t, refuses("no 28 far 1000000"), refuses("no 28 far 1000000"))
+	_, err := ring.Campaign(background(t), "red", CampaignOptions{Gone: 999_999_998})
+	is(t, err, ErrTooFar)
+	same(t, as[*RefusedError](t, err).Farthest(), 1_000_000)
+	same(t, len(nodes[0].lines("stand"))+len(nodes[1].lines("stand")), 1)
+	lock := lockOf(t, ring, LockOptions{})
+	lock.ResignAbove(999_999_998)
+	is(t, lock.Acquire(background(t)), ErrTooFar)
+	same(t, len(nodes[0].lines("stand"))+len(nodes[1].lines("stand")), 2)
+}
+
 func TestTheSameTermsAreStoodForAgain(t *testing.T) {
 	votes := newVotes()
 	votes.deposed = true
@@ -147,12 +205,12 @@ func TestWhoLeadsRetiresTheTermsFarBelow(t *testing.T) {
 	must(t, err)
 	same(t, election.IsMine, true)
 	for _, node := range nodes {
-		same(t, node.lines("retire"), []string{"retire red 5"})
+		same(t, node.lines("retire"), []string{"retire red 13"})
 	}
-	same(t, floors(), []int{5, 5, 5})
+	same(t, floors(), []int{13, 13, 13})
 	_, err = ring.Campaign(background(t), "red", short(CampaignOptions{Gone: 15, Keep: 1}))
 	must(t, err)
-	same(t, floors(), []int{15, 5, 5})
+	same(t, floors(), []int{15, 13, 13})
 }
 
 func TestWhoLeadsHoldsNoDoorWhileNodesRetire(t *testing.T) {
@@ -173,7 +231,7 @@ func TestWhoLeadsHoldsNoDoorWhileNodesRetire(t *testing.T) {
 func TestWhoDoesNotLeadOrKeepsAllTermsRetiresNone(t *testing.T) {
 	votes := newVotes()
 	ring, nodes := beside(t, votes.answer, votes.answer)
-	for _, how := range []CampaignOptions{{Gone: 10}, {Gone: 900, Keep: 900}, {Gone: 20}} {
+	for _, how := range []CampaignOptions{{Gone: 2}, {Gone: 900, Keep: 900}, {Gone: 20}} {
 		_, err := ring.Campaign(background(t), "red", short(how))
 		must(t, err)
 	}
@@ -199,7 +257,7 @@ func TestWhoLeadsDoesSoWhereNodesDoNotRetire(t *testing.T) {
 	must(t, err)
 	same(t, election.IsMine, true)
 	for _, node := range nodes[:3] {
-		same(t, node.lines("retire"), []string{"retire red 11"})
+		same(t, node.lines("retire"), []string{"retire red 19"})
 	}
 	same(t, len(nodes[3].lines("retire")) > 0, true)
 	same(t, ring.session == nil, true)
@@ -302,10 +360,25 @@ func TestWatch(t *testing.T) {
 		must(t, err)
 		same(t, led, wanted)
 	}
-	ring, _ = beside(t, deaf, deaf)
-	ring.Timeout = 500 * time.Millisecond
-	_, err := ring.Watch("red", 0).Next(background(t))
-	as[*NoAnswerError](t, err)
+}
+
+func TestAWatchWaitsForARingThatIsAway(t *testing.T) {
+	ring, nodes := beside(t, deaf, deaf)
+	ring.Timeout = 100 * time.Millisecond
+	for _, answer := range []answer{deaf, always("no 8 memory")} {
+		nodes[0].is(answer)
+		nodes[1].is(answer)
+		time.AfterFunc(500*time.Millisecond, func() {
+			nodes[0].is(always("term 2 leader 1 5"))
+			nodes[1].is(always("term 2 leader 1 5"))
+		})
+		led, err := ring.Watch("red", 1).Next(background(t))
+		must(t, err)
+		same(t, led, Led{2, Leader{1, 5}})
+	}
+	// No time mends a question that is none.
+	_, err := ring.Watch("red\nred", 1).Next(background(t))
+	same(t, err, "cinoweta: a question is one line")
 }
 
 func TestAWatchByTheStatusPort(t *testing.T) {

@@ -8,7 +8,7 @@
 //	})
 //
 // Whoever is written to has to turn away each write with a lower number than one that it has seen: nothing else keeps a
-// leader that was paused from a late write. docs/SESSIONS.md tells of it, and of [Ring.Campaign], by which nobody sees
+// leader that was paused from a late write. docs/CLIENTS.md tells of it, and of [Ring.Campaign], by which nobody sees
 // whether a leader is still there.
 //
 // Who holds a lock is seen at a port of 127.0.0.1. With a [Ring] of another host, and where AcrossHosts of the

@@ -25,7 +25,7 @@ type Election struct {
 }
 
 // A Holder is who holds a lock: its term and leader, its process, and what it tells of itself. PID is 0 where the
-// process tells nothing, as across hosts.
+// process does not tell it, as across hosts.
 type Holder struct {
 	Led
 	PID  int
@@ -36,8 +36,10 @@ type Holder struct {
 func (h Holder) String() string {
 	text := fmt.Sprintf("node %d in term %d", h.Leader.Node, h.Term)
 	switch {
-	case h.PID == 0:
+	case h.PID == 0 && h.Text == "":
 		return text
+	case h.PID == 0:
+		return fmt.Sprintf("%s (%s)", text, h.Text)
 	case h.Text == "":
 		return fmt.Sprintf("process %d, which leads at %s", h.PID, text)
 	default:

@@ -25,7 +25,7 @@ const (
 	ErrStale Refusal = 5
 	// ErrLimitReached says that the node stood as often as it may.
 	ErrLimitReached Refusal = 6
-	// ErrFull says that the node has no room, so that its ring elects no more.
+	// ErrFull says that the node has no room for the Stand or the Retire.
 	ErrFull Refusal = 7
 	// ErrOutOfMemory says that the node found no memory.
 	ErrOutOfMemory Refusal = 8
@@ -40,6 +40,9 @@ const (
 	ErrBadLine Refusal = 25
 	// ErrUndecided says that the floor is above the latest term that has a leader, as far as the node knows.
 	ErrUndecided Refusal = 26
+	// ErrTooFar says that the term is farther above the latest one of its group than `ringd --leap` lets a client go, so
+	// that no client uses the terms of a group up.
+	ErrTooFar Refusal = 28
 )
 
 // Error gives the number, as refusals without a text of their own have one too.
@@ -53,9 +56,14 @@ type RefusedError struct {
 	Text    string
 }
 
-// Error gives the node's answer, as `no 5 stale 9`.
+// Error gives the node's answer, as `no 5 stale 9`, and at ErrTooFar what to do.
 func (e *RefusedError) Error() string {
-	return fmt.Sprintf("cinoweta: no %d %s", int(e.Refusal), e.Text)
+	text := fmt.Sprintf("cinoweta: no %d %s", int(e.Refusal), e.Text)
+	if e.Refusal != ErrTooFar {
+		return text
+	}
+	return text + ", which is the greatest term that it takes: look where the number came from above which was stood;" +
+		" where it is right, `cinoweta raise` takes the group there"
 }
 
 // Unwrap gives the cause.
@@ -66,15 +74,25 @@ func (e *RefusedError) Unwrap() error {
 // Floor is the term below which the node gave up the group's terms; 0 where its answer, as `no 23 retired 9`, tells
 // none.
 func (e *RefusedError) Floor() int {
-	text := strings.TrimPrefix(e.Text, "retired ")
-	if e.Refusal != ErrRetired || text == e.Text {
+	return e.number(ErrRetired, "retired ")
+}
+
+// Farthest is the greatest term of the group that the node takes; 0 where its answer, as `no 28 far 9`, tells none.
+func (e *RefusedError) Farthest() int {
+	return e.number(ErrTooFar, "far ")
+}
+
+// number is the one that stands behind this word in an answer of this cause; 0 where there is none.
+func (e *RefusedError) number(cause Refusal, word string) int {
+	text := strings.TrimPrefix(e.Text, word)
+	if e.Refusal != cause || text == e.Text {
 		return 0
 	}
-	floor, err := strconv.ParseUint(text, 10, 31)
+	number, err := strconv.ParseUint(text, 10, 31)
 	if err != nil {
 		return 0
 	}
-	return int(floor)
+	return int(number)
 }
 
 // refusal is the refusal that an answer is, as `no 5 stale 9`; nil where it is none.
@@ -147,23 +165,39 @@ func (e *LockTakenError) Unwrap() error {
 	return e.Err
 }
 
-// A LockLostError says that a lock was lost while its holder worked: it resigned, or a greater term is known.
+// A LockLostError says that a lock was lost while its holder worked: it resigned, a greater term is known, or it gave up.
 type LockLostError struct {
 	Group string
 	// Term is the one in which the lock was held.
 	Term int
+	// GaveUp says that no node that could tell answered for as long as the lock's options say.
+	GaveUp bool
 	// Err is what the work ended with, or nil.
 	Err error
 }
 
 // Error says which term is over.
 func (e *LockLostError) Error() string {
-	return fmt.Sprintf("cinoweta: %s: the lock of term %d is lost", e.Group, e.Term)
+	text := fmt.Sprintf("cinoweta: %s: the lock of term %d is lost", e.Group, e.Term)
+	if e.GaveUp {
+		text += ": no node that could tell answered in time"
+	}
+	return text
 }
 
 // Unwrap gives what the work ended with.
 func (e *LockLostError) Unwrap() error {
 	return e.Err
+}
+
+// A ResignedError says that a lock was given back while it was waited for, so that it is not held.
+type ResignedError struct {
+	Group string
+}
+
+// Error says which lock.
+func (e *ResignedError) Error() string {
+	return fmt.Sprintf("cinoweta: %s: the lock was given back while it was waited for", e.Group)
 }
 
 // A WrongRingError says that the ports are not those of a ring, from its node 1 on, or not that of its status, which for
@@ -191,8 +225,7 @@ func noAnswer(ctx context.Context, address string, err error) *NoAnswerError {
 	return &NoAnswerError{address, err}
 }
 
-// isPassing tells whether time or an operator mends the fault, as by a start or a new folder, and it is none of the
-// question.
+// isPassing tells whether time or an operator mends the fault, as by a start or a Retire, and it is none of the question.
 func isPassing(err error) bool {
 	var noLeader *NoLeaderError
 	if isNoAnswer(err) || errors.As(err, &noLeader) {

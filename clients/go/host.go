@@ -48,9 +48,10 @@ func isOwn(host string) bool {
 	return isAddress(host) && strings.HasPrefix(host, "127.")
 }
 
-// hostOf is the host, or this one where none is told.
+// hostOf is the host, or this one where none is told, or localhost is. No other name is looked up for that: it may be one
+// of this host alone here, and of another one elsewhere.
 func hostOf(host string) string {
-	if host == "" {
+	if host == "" || strings.EqualFold(strings.TrimSuffix(host, "."), "localhost") {
 		return ownHost
 	}
 	return host

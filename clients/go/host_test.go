@@ -63,7 +63,7 @@ func TestARingOfAnotherHostIsAskedThere(t *testing.T) {
 	elects(t, ring, CampaignOptions{Gone: 19}, Election{Led{20, Leader{2, 30}}, false})
 	election, err := ring.Campaign(background(t), "red", short(CampaignOptions{Gone: 20}))
 	must(t, err)
-	same(t, []any{election.IsMine, votes.floor, ring.within(time.Second).Host}, []any{true, 11, otherHost})
+	same(t, []any{election.IsMine, votes.floor, ring.within(time.Second).Host}, []any{true, 19, otherHost})
 	led, err := ring.Watch("red", 20).Next(background(t))
 	must(t, err)
 	same(t, led, election.Led)
@@ -104,8 +104,8 @@ func TestTheStatusOfAnotherHostIsAskedThere(t *testing.T) {
 
 func TestALockAcrossHostsIsRefusedBeforeAnythingIsSent(t *testing.T) {
 	leavesNone(t)
-	for host, isSaid := range map[string]bool{silentHost: false, "127.example": false, "localhost": false, "128.0.0.1": false,
-		"0.0.0.0": false, "": true, ownHost: true, otherHost: true} {
+	for host, isSaid := range map[string]bool{silentHost: false, "127.example": false, "localhost.example": false,
+		"128.0.0.1": false, "0.0.0.0": false, "": true, ownHost: true, otherHost: true} {
 		ring, err := NewRing(7101, 7103)
 		must(t, err)
 		ring.Host = host
@@ -125,8 +125,8 @@ func TestALockAcrossHostsIsRefusedBeforeAnythingIsSent(t *testing.T) {
 			same(t, as[*WrongRingError](t, err).Text, wanted)
 		}
 		ring.Status = 7100
-		lock = lockOf(t, ring, LockOptions{AcrossHosts: isSaid, Text: "a worker"})
-		refuses("cinoweta: across hosts a holder tells no text")
+		lock = lockOf(t, ring, LockOptions{AcrossHosts: isSaid, Text: "a\nworker"})
+		refuses("cinoweta: a holder's text is one printable line of 200 bytes at most")
 		for _, rank := range []int{-1, 10} {
 			lock = lockOf(t, ring, LockOptions{AcrossHosts: isSaid, Rank: rank})
 			refuses("cinoweta: a lock's rank is 0 to 9")
@@ -145,4 +145,20 @@ func TestALockIsHeldWithARingOfEachOwnAddress(t *testing.T) {
 	holder, isHeld, err := ring.Holder(background(t), "red", 0)
 	must(t, err)
 	same(t, []any{isHeld, holder.Term}, []any{true, 1})
+}
+
+func TestLocalhostIsThisHost(t *testing.T) {
+	for _, host := range []string{"localhost", "LocalHost", "localhost."} {
+		votes := newVotes()
+		ring, _ := besideAt(t, ownHost, votes.at(1), votes.at(2))
+		ring.Host = host
+		must(t, lockOf(t, ring, LockOptions{Text: "a worker"}).Acquire(background(t)))
+		holder, isHeld, err := ring.Holder(background(t), "red", 0)
+		must(t, err)
+		same(t, []any{isHeld, holder.Text}, []any{true, "a worker"})
+	}
+	// Another name may be this host here, and another one elsewhere.
+	for _, host := range []string{"localhost.example", "local", "localhost1"} {
+		same(t, isOwn(host), false)
+	}
 }

@@ -8,6 +8,7 @@ import (
 	"math/rand"
 	"net"
 	"runtime"
+	"sort"
 	"strings"
 	"sync"
 	"testing"
@@ -26,8 +27,13 @@ type node struct {
 	answer answer
 	asked  []string
 	conns  []net.Conn
-	// What stood last in each session that is open.
-	stands map[net.Conn]string
+	// What stood in each session that is open, in order, and, where the node takes such lines, the group and term that was
+	// resigned last.
+	stands       map[net.Conn][]string
+	takesResigns bool
+	resigned     string
+	// So many sessions are served side by side as it has places, where it is there.
+	doors chan struct{}
 }
 
 func newNode(address string, answer answer) (*node, error) {
@@ -35,7 +41,7 @@ func newNode(address string, answer answer) (*node, error) {
 	if err != nil {
 		return nil, err
 	}
-	made := &node{listener: listener, answer: answer, stands: map[net.Conn]string{}}
+	made := &node{listener: listener, answer: answer, stands: map[net.Conn][]string{}}
 	made.served.Add(1)
 	go made.accept()
 	return made, nil
@@ -59,6 +65,13 @@ func (n *node) accept() {
 func (n *node) serve(conn net.Conn) {
 	defer n.served.Done()
 	defer n.leave(conn)
+	n.mutex.Lock()
+	doors := n.doors
+	n.mutex.Unlock()
+	if doors != nil {
+		doors <- struct{}{}
+		defer func() { <-doors }()
+	}
 	lines := bufio.NewScanner(conn)
 	for lines.Scan() {
 		n.mutex.Lock()
@@ -68,6 +81,9 @@ func (n *node) serve(conn net.Conn) {
 		told, isTold := answer(lines.Text())
 		if !isTold {
 			return
+		}
+		if n.resigns(conn, lines.Text()) {
+			told = "resigned"
 		}
 		n.enter(conn, lines.Text(), told)
 		fmt.Fprintf(conn, "%s\n", told)
@@ -80,8 +96,33 @@ func (n *node) enter(conn net.Conn, line, told string) {
 	if strings.HasPrefix(line, "stand ") && (told == "stood" || told == "no 3 already "+own) {
 		n.mutex.Lock()
 		defer n.mutex.Unlock()
-		n.stands[conn] = line
+		n.stands[conn] = append(n.stands[conn], line)
 	}
+}
+
+// resigns has who stood in the session be present no more, where it resigns, and the node takes that.
+func (n *node) resigns(conn net.Conn, line string) bool {
+	n.mutex.Lock()
+	defer n.mutex.Unlock()
+	term := strings.TrimPrefix(line, "resign ")
+	if !n.takesResigns || term == line {
+		return false
+	}
+	for place, stood := range n.stands[conn] {
+		if strings.HasPrefix(stood, "stand "+term+" ") {
+			n.stands[conn] = append(n.stands[conn][:place:place], n.stands[conn][place+1:]...)
+			n.resigned = term
+			return true
+		}
+	}
+	return false
+}
+
+// hasResigned tells whether who led in this term of `red` resigned last.
+func (n *node) hasResigned(term int) bool {
+	n.mutex.Lock()
+	defer n.mutex.Unlock()
+	return n.resigned == fmt.Sprint("red ", term)
 }
 
 // leave has nobody be present in a session any more, which it ends.
@@ -96,12 +137,30 @@ func (n *node) leave(conn net.Conn) {
 func (n *node) isPresent(group string, led Led) bool {
 	n.mutex.Lock()
 	defer n.mutex.Unlock()
-	for _, line := range n.stands {
-		if line == fmt.Sprintf("stand %s %d %d", group, led.Term, led.Leader.Bid) {
-			return true
+	for _, stood := range n.stands {
+		for _, line := range stood {
+			if line == fmt.Sprintf("stand %s %d %d", group, led.Term, led.Leader.Bid) {
+				return true
+			}
 		}
 	}
 	return false
+}
+
+// present are the groups for which somebody is, of each session that is open and in which somebody stood.
+func (n *node) present() [][]string {
+	n.mutex.Lock()
+	defer n.mutex.Unlock()
+	all := [][]string{}
+	for _, stood := range n.stands {
+		groups := []string{}
+		for _, line := range stood {
+			groups = append(groups, strings.Fields(line)[1])
+		}
+		sort.Strings(groups)
+		all = append(all, groups)
+	}
+	return all
 }
 
 // is has the node answer so from now on.
@@ -109,6 +168,13 @@ func (n *node) is(answer answer) {
 	n.mutex.Lock()
 	defer n.mutex.Unlock()
 	n.answer = answer
+}
+
+// serves has the node serve so many sessions side by side, and take resigns.
+func (n *node) serves(count int) {
+	n.mutex.Lock()
+	defer n.mutex.Unlock()
+	n.doors, n.takesResigns = make(chan struct{}, count), true
 }
 
 // lines are those that the node was sent and that begin so.
@@ -253,6 +319,13 @@ func (v *votes) bid(term int) int {
 	return v.stood[term]
 }
 
+// retired is the floor.
+func (v *votes) retired() int {
+	v.mutex.Lock()
+	defer v.mutex.Unlock()
+	return v.floor
+}
+
 func (v *votes) latest() int {
 	latest := 0
 	for term := range v.leaders {
@@ -266,6 +339,28 @@ func (v *votes) latest() int {
 // answer is that of node 1.
 func (v *votes) answer(line string) (string, bool) {
 	return v.at(1)(line)
+}
+
+// groups are votes for each group apart.
+type groups struct {
+	mutex sync.Mutex
+	votes map[string]*votes
+}
+
+// at gives the answers of a node, which is told what holders tell.
+func (g *groups) at(node int) answer {
+	return func(line string) (string, bool) {
+		words := strings.Fields(line)
+		if words[0] == "tell" {
+			return "told", true
+		}
+		g.mutex.Lock()
+		defer g.mutex.Unlock()
+		if g.votes[words[1]] == nil {
+			g.votes[words[1]] = newVotes()
+		}
+		return g.votes[words[1]].answerAt(node, line), true
+	}
 }
 
 // at gives the answers of a node.

@@ -4,8 +4,6 @@ import (
 	"context"
 	"errors"
 	"fmt"
-	"strconv"
-	"strings"
 	"sync"
 	"time"
 )
@@ -16,6 +14,9 @@ const (
 
 	// How often is asked whether a lock is lost.
 	lookEvery = time.Second
+	// Across hosts who waited for the end of one holder, or two, leaves the next term so many times so long to who waited for
+	// more: an election takes about as long.
+	olderPause, olderEnds = 20 * time.Millisecond, 3
 )
 
 // LockOptions are how to hold a lock. The zero value will do.
@@ -23,16 +24,21 @@ type LockOptions struct {
 	// Rank is 0 to 9: of who stands at once the greatest leads.
 	Rank int
 	// Patience is after how long a holder that is not seen is gone, as one that is paused; DefaultPatience where it is
-	// 0. Across hosts that is two seconds at most.
+	// 0. Across hosts that is two seconds at most, and the holder's GiveUp more.
 	Patience time.Duration
-	// Text is what others are told of this holder: a printable line of 200 bytes at most, and across hosts none.
+	// Text is what others are told of this holder: a printable line of 200 bytes at most.
 	Text string
 	// AcrossHosts says that holders are seen by `ringd --status`, the Ring's Status port, from other hosts too; so it is
-	// with a Ring of another host anyway. All clients of the lock have to say so. A holder takes a door of the node
-	// where it leads; one that is paused or cut off is seen until `ringd --idle` ends its session.
+	// with a Ring of another host anyway. All clients of the lock have to say so: else a [WrongRingError]. A process
+	// takes a door of each node where it holds any; one that is paused or cut off is seen until `ringd --idle` ends its
+	// session.
 	AcrossHosts bool
 	// Keep is how many terms below its own are kept; DefaultKeep where it is 0.
 	Keep int
+	// GiveUp is after how long without an answer of a node that could tell of a greater term the lock is lost, as for who
+	// is cut off from the ring; never where it is 0. Across hosts others are told it, up to one of 1, 2, 3, 5, 8, 10, 15,
+	// 20, 30, 45, 60, 90, 120, 300 and 600 seconds, and a longer one is refused.
+	GiveUp time.Duration
 	// Tell, if any, is told for whom is waited.
 	Tell func(text string)
 }
@@ -44,8 +50,8 @@ type sign interface {
 	// show has others see the sign from now on, if they did not before, where its holder leads so. Else a
 	// [NoAnswerError], or a [RefusedError] where the node does not stand so any more.
 	show(ctx context.Context, led Led) error
-	// close ends the sign.
-	close()
+	// close ends the sign. It gives the bid of who comes next, 0 where nobody is known to.
+	close() int
 }
 
 // A Lock is that of a group: who leads holds it, in a term of its own, until it resigns, its process ends, or was not
@@ -57,16 +63,21 @@ type Lock struct {
 	// What looks whether the lock is lost waits for no other question, and is not waited for long.
 	looks *Ring
 	every time.Duration
-	// How long a campaign waits in a term.
-	wait time.Duration
+	// How long a campaign waits in a term, and how long who waited for fewer ends leaves it to others.
+	wait, older time.Duration
 
 	mutex  sync.Mutex
 	sign   sign
 	isHeld bool
-	// The term in which it leads or led, the greatest one that is over for it, the number above which it stands, and when
-	// the ring was asked.
+	// leave ends the wait of who acquires it, nil where nobody does, who then sees that it was given back.
+	leave   context.CancelFunc
+	hasLeft bool
+	// The term in which it leads or led, the greatest one that is over for it, and the number above which it stands.
 	term, gone, above int
-	asked             time.Time
+	// When the ring was asked last, and when that was which a node answered that could tell of a greater term; whether the
+	// lock is lost for want of such an answer.
+	asked, heard time.Time
+	hasGivenUp   bool
 }
 
 // NewLock gives the lock of the group, which is not held yet.
@@ -74,25 +85,31 @@ func NewLock(ring *Ring, group string, how LockOptions) *Lock {
 	if how.Patience <= 0 {
 		how.Patience = DefaultPatience
 	}
-	return &Lock{ring: ring, group: group, how: how, looks: ring.within(lookEvery), every: lookEvery, wait: DefaultWait}
+	return &Lock{ring: ring, group: group, how: how, looks: ring.within(lookEvery), every: lookEvery, wait: DefaultWait, older: olderPause}
 }
 
 // Acquire waits until this process leads, or the context is over: then a [LockTakenError] where another process holds
-// the lock. A ring that answered before is waited for just so where it is away, full or failed: then its fault. Across
-// hosts its status port is waited for likewise; a [WrongRingError] where it is not told, or does not know who leads.
+// the lock. A ring that is away, full or failed is waited for just so: then its fault. Across hosts its status port is
+// waited for likewise; a [WrongRingError] where it is not told, or does not know who leads. Where the lock is given back
+// meanwhile, a [ResignedError].
 func (l *Lock) Acquire(ctx context.Context) error {
-	return l.acquire(ctx, ctx)
+	ctx, leave := context.WithCancel(ctx)
+	defer leave()
+	return l.acquire(ctx, ctx, leave)
 }
 
-// TryAcquire acquires the lock, unless another process holds it: a [LockTakenError].
+// TryAcquire acquires the lock, unless another process holds it: a [LockTakenError]. A ring that is away, or elects nobody,
+// has two seconds for it: then a [NoAnswerError] or a [NoLeaderError].
 func (l *Lock) TryAcquire(ctx context.Context) error {
+	ctx, leave := context.WithCancel(ctx)
+	defer leave()
 	never, cancel := context.WithCancel(ctx)
 	cancel()
-	return l.acquire(ctx, never)
+	return l.acquire(ctx, never, leave)
 }
 
 // Run acquires the lock, has work done with the term in which it is held, and resigns. The context of the work ends
-// within some two seconds once the lock is lost: a [LockLostError] then.
+// within some two seconds once the lock is lost, and as soon as it is given up: a [LockLostError] then.
 func (l *Lock) Run(ctx context.Context, work func(ctx context.Context, term int) error) error {
 	if err := l.Acquire(ctx); err != nil {
 		return err
@@ -124,36 +141,16 @@ func (l *Lock) Term() int {
 	return l.term
 }
 
-// IsLost tells whether this process does not hold the lock any more: it resigned, or a greater term is known. The ring
-// is asked once a second at most. Where no node answers, or one finds no memory to, nothing is known to be lost.
-func (l *Lock) IsLost(ctx context.Context) (bool, error) {
-	l.mutex.Lock()
-	isHeld, isFresh := l.isHeld, time.Since(l.asked) < l.every
-	l.mutex.Unlock()
-	if !isHeld || isFresh {
-		return !isHeld, nil
-	}
-	known, isKnown, err := l.looks.Latest(ctx, l.group, AnyNode)
-	l.looks.release(ctx)
-	if ended(ctx) == nil && (isNoAnswer(err) || errors.Is(err, ErrOutOfMemory)) {
-		err = nil
-	}
-	l.mutex.Lock()
-	defer l.mutex.Unlock()
-	l.asked = time.Now()
-	if isKnown && known.Term > l.term {
-		l.resign(0)
-	}
-	return !l.isHeld, err
-}
-
-// Resign gives the lock back, if it is held: who waits sees it at once, or across hosts within some three seconds.
+// Resign gives the lock back, if it is held, and ends the wait for it. Who waited longest is told so, and comes next; who
+// gave it back leaves it to him for 0.2 seconds. Across hosts all who wait are told by the status port, and who waited for
+// fewer ends leaves it to the others for a moment.
 func (l *Lock) Resign() {
 	l.ResignAbove(0)
 }
 
-// ResignAbove gives the lock back. Where this one takes it again its term is above this number, as the one that turned
-// a write away. Whoever holds the lock in a term up to that number is waited for all the same.
+// ResignAbove gives the lock back, also where it is waited for. Where this one takes it again its term is above this
+// number, as the one that turned a write away. Whoever holds the lock in a term up to that number is waited for all the
+// same.
 func (l *Lock) ResignAbove(term int) {
 	l.mutex.Lock()
 	defer l.mutex.Unlock()
@@ -161,17 +158,26 @@ func (l *Lock) ResignAbove(term int) {
 }
 
 func (l *Lock) resign(above int) {
-	l.gone, l.above = greater(l.gone, l.term), greater(l.above, above)
+	l.above = greater(l.above, above)
+	if l.leave != nil {
+		l.hasLeft = true
+		l.leave()
+	}
 	if l.isHeld {
-		l.isHeld = false
-		l.sign.close()
-		l.sign = nil
+		l.ring.handed.put(l.group, l.end().close())
 	}
 }
 
-// acquire gives up waiting for others once the second context is over.
-func (l *Lock) acquire(ctx, waits context.Context) error {
-	campaign, err := l.begin()
+// end has the lock be held no more, and gives its sign, which is to be closed.
+func (l *Lock) end() sign {
+	sign := l.sign
+	l.isHeld, l.sign, l.gone = false, nil, greater(l.gone, l.term)
+	return sign
+}
+
+// acquire gives up waiting for others once the second context is over. The function ends the first one.
+func (l *Lock) acquire(ctx, waits context.Context, leave context.CancelFunc) error {
+	campaign, err := l.begin(leave)
 	if err != nil {
 		return err
 	}
@@ -179,17 +185,28 @@ func (l *Lock) acquire(ctx, waits context.Context) error {
 	term, err := l.contend(ctx, waits, campaign)
 	l.mutex.Lock()
 	defer l.mutex.Unlock()
+	return l.settle(term, campaign.asked, err)
+}
+
+// settle has the lock be held in a term of which a node told so when it was asked then, unless there is an error, or the
+// lock was given back meanwhile.
+func (l *Lock) settle(term int, asked time.Time, err error) error {
+	if l.hasLeft {
+		l.gone, err = greater(l.gone, term), &ResignedError{l.group}
+	}
+	l.leave, l.hasLeft = nil, false
 	if err != nil {
 		l.sign.close()
 		l.sign = nil
 		return err
 	}
-	l.isHeld, l.term, l.asked = true, term, time.Now()
+	l.isHeld, l.hasGivenUp, l.term = true, false, term
+	l.asked, l.heard = time.Now(), asked
 	return nil
 }
 
 // begin makes the sign, for whose bid the campaign is.
-func (l *Lock) begin() (*campaign, error) {
+func (l *Lock) begin(leave context.CancelFunc) (*campaign, error) {
 	if err := l.requireSight(); err != nil {
 		return nil, err
 	}
@@ -208,7 +225,7 @@ func (l *Lock) begin() (*campaign, error) {
 		sign.close()
 		return nil, err
 	}
-	campaign.above, l.sign = l.above, sign
+	campaign.above, l.sign, l.leave = l.above, sign, leave
 	return campaign, nil
 }
 
@@ -219,10 +236,8 @@ func (l *Lock) newSign() (sign, error) {
 		return nil, errors.New("cinoweta: a lock's rank is 0 to 9")
 	case !l.isAcross():
 		return newBeacon(l.how.Rank, l.how.Text)
-	case l.how.Text != "":
-		return nil, errors.New("cinoweta: across hosts a holder tells no text")
 	default:
-		return newPresence(l.ring, l.group, l.how.Rank)
+		return newPresence(l.ring, l.group, l.how.Rank, l.how.Text, l.how.GiveUp)
 	}
 }
 
@@ -244,23 +259,40 @@ func (l *Lock) requireSight() error {
 // term.
 func (l *Lock) contend(ctx, waits context.Context, campaign *campaign) (int, error) {
 	var pause pause
-	told := ""
+	told, ends := "", 0
+	queue := &queue{own: l.sign.bid(), text: l.how.Text, patience: l.how.Patience, since: time.Now().UnixMilli()}
+	defer queue.leave()
+	// Who gave the lock back lets the one go first who waited, which across hosts nobody names.
+	turn := l.ring.handed.take(l.group)
+	queue.follow(ctx, turn.next, turn.until)
+	if l.isAcross() {
+		sleep(ctx, time.Until(turn.until))
+	}
 	for {
 		// Where the ring came to no leader before, these are the same Stands, and take no room again.
-		election, err := campaign.run(ctx)
+		run := campaign.run
+		if waits.Err() != nil {
+			run = campaign.runOnce
+		}
+		election, err := run(ctx)
 		if err == nil && election.IsMine {
 			err = l.sign.show(ctx, election.Led)
 		} else if err == nil {
-			err = l.awaitEnd(ctx, waits, election.Led, &pause)
+			err = l.awaitEnd(ctx, waits, election.Led, queue)
 		}
 		switch {
 		case err == nil && election.IsMine:
-			// Nodes may be slow to, and whoever waits sees the sign already.
-			campaign.retire(ctx, election.Term)
+			// Nodes may be slow to, and nobody waits for that.
+			go campaign.retire(context.Background(), election.Term)
 			return election.Term, nil
 		case err == nil || election.IsMine && isOver(err):
 			campaign.how.Gone = election.Term
-		case isPassing(err) && l.ring.hasAnswered.Load() && pause.take(waits, l.ring):
+			if err == nil && l.isAcross() && l.how.Rank == 0 {
+				// Nobody tells who came first.
+				ends++
+				sleep(ctx, time.Duration(greater(0, olderEnds-ends))*l.older)
+			}
+		case isPassing(err) && pause.take(waits, l.ring):
 			if text := err.Error(); text != told {
 				told = text
 				l.tell("waits for the ring: " + text)
@@ -277,7 +309,7 @@ func isOver(err error) bool {
 }
 
 // awaitEnd waits until who leads so is gone.
-func (l *Lock) awaitEnd(ctx, waits context.Context, known Led, pause *pause) error {
+func (l *Lock) awaitEnd(ctx, waits context.Context, known Led, queue *queue) error {
 	l.ring.release(ctx)
 	isThere, err := l.isThere(ctx, known)
 	if !isThere {
@@ -285,7 +317,10 @@ func (l *Lock) awaitEnd(ctx, waits context.Context, known Led, pause *pause) err
 	}
 	holder := l.told(ctx, known)
 	l.tell("waits for " + holder.String())
-	for pause.take(waits, l.ring) {
+	if !l.isAcross() && queue.stay(waits, known.Leader.Bid) {
+		return nil
+	}
+	for pause := (pause{}); l.isAcross() && l.awaitChange(waits, known, &pause); {
 		isThere, err := l.isThere(ctx, known)
 		if !isThere && ended(ctx) == nil {
 			return err
@@ -294,96 +329,39 @@ func (l *Lock) awaitEnd(ctx, waits context.Context, known Led, pause *pause) err
 	return &LockTakenError{l.group, holder, ended(ctx)}
 }
 
-// isThere tells whether who leads so is seen in time. Where nobody is until the context is over, its error.
-func (l *Lock) isThere(ctx context.Context, known Led) (isSeen bool, err error) {
-	if l.isAcross() {
-		isSeen, err = isPresent(ctx, l.ring, l.group, known, l.how.Patience)
-	} else {
-		isSeen = isThere(ctx, known.Leader.Bid, l.how.Patience)
+// awaitChange waits until who leads so may be gone. False, without a wait, once the context is over.
+func (l *Lock) awaitChange(waits context.Context, known Led, pause *pause) bool {
+	// Whatever the port answers, it is asked no more often.
+	sleep(waits, shortestPause)
+	if waits.Err() == nil && changes(waits, l.ring.Host, l.ring.Status, l.group, known, waitSeconds) {
+		return true
 	}
-	if over := ended(ctx); over != nil && !isSeen {
-		err = over
-	}
-	return isSeen, err
+	return pause.take(waits, l.ring)
 }
 
 // told gives who leads so, with what it tells.
 func (l *Lock) told(ctx context.Context, known Led) Holder {
-	if !l.isAcross() {
-		if holder, isTold := holderOf(ctx, known, l.how.Patience); isTold {
-			return holder
-		}
+	if l.isAcross() {
+		return l.seen(ctx, known)
+	}
+	if holder, isTold := holderOf(ctx, known, l.how.Patience); isTold {
+		return holder
 	}
 	return Holder{Led: known}
 }
 
-// awaitLoss looks whether the lock is lost until it is, or the context is over.
-func (l *Lock) awaitLoss(ctx context.Context) error {
-	ticker := time.NewTicker(l.every)
-	defer ticker.Stop()
-	for {
-		select {
-		case <-ctx.Done():
-			return nil
-		case <-ticker.C:
-		}
-		isLost, err := l.IsLost(ctx)
-		if isLost {
-			return &LockLostError{Group: l.group, Term: l.Term()}
-		}
-		if err != nil && ctx.Err() == nil {
-			return err
-		}
+// seen gives who leads so across hosts, with what the status port tells of it.
+func (l *Lock) seen(ctx context.Context, known Led) Holder {
+	holder := Holder{Led: known}
+	told, sight, err := leaderOf(ctx, l.ring.Host, l.ring.Status, l.group, known.Leader.Node)
+	if err == nil && told == known {
+		holder.Text = sight.text
 	}
+	return holder
 }
 
 func (l *Lock) tell(text string) {
 	if l.how.Tell != nil {
 		l.how.Tell(text)
 	}
-}
-
-// Holder tells who holds the lock of the group and is seen within the patience, DefaultPatience where that is 0; false
-// where nobody is. [Lock.Holder] may look across hosts with any ring.
-func (r *Ring) Holder(ctx context.Context, group string, patience time.Duration) (Holder, bool, error) {
-	return NewLock(r, group, LockOptions{Patience: patience}).Holder(ctx)
-}
-
-// Holder tells who holds the lock and is seen within its patience; false where nobody is. The lock need not be held.
-func (l *Lock) Holder(ctx context.Context) (Holder, bool, error) {
-	if err := l.requireSight(); err != nil {
-		return Holder{}, false, err
-	}
-	known, isKnown, err := l.ring.Latest(ctx, l.group, AnyNode)
-	if !isKnown {
-		return Holder{}, false, err
-	}
-	if !l.isAcross() {
-		holder, isTold := holderOf(ctx, known, l.how.Patience)
-		if !isTold {
-			err = ended(ctx)
-		}
-		return holder, isTold, err
-	}
-	l.ring.release(ctx)
-	isThere, err := l.isThere(ctx, known)
-	if !isThere {
-		return Holder{}, false, err
-	}
-	return Holder{Led: known}, true, nil
-}
-
-// holderOf gives who leads so, where it holds a lock and answers within so long.
-func holderOf(ctx context.Context, known Led, limit time.Duration) (Holder, bool) {
-	own := strconv.Itoa(known.Leader.Bid)
-	answer := strings.ToValidUTF8(askBeacon(ctx, known.Leader.Bid, "holder "+own, limit), "\uFFFD")
-	words := strings.SplitN(answer, " ", 3)
-	if len(words) < 3 || words[0] != own {
-		return Holder{}, false
-	}
-	process, err := strconv.ParseUint(words[1], 10, 31)
-	if err != nil {
-		return Holder{}, false
-	}
-	return Holder{known, int(process), words[2]}, true
 }

@@ -166,7 +166,8 @@ func TestALeaderThatHoldsNoLockIsGone(t *testing.T) {
 	votes.lead(20, 2, 0)
 	lock := lockOf(t, ring, LockOptions{Keep: 3})
 	must(t, lock.Acquire(background(t)))
-	same(t, []int{lock.Term(), votes.floor}, []int{21, 18})
+	same(t, lock.Term(), 21)
+	until(t, "the floor", func() bool { return votes.retired() == 18 })
 }
 
 func TestALockIsHeldWhereNodesDoNotRetire(t *testing.T) {
@@ -185,7 +186,7 @@ func TestALockIsHeldWhereNodesDoNotRetire(t *testing.T) {
 	})
 	lock := lockOf(t, ring, LockOptions{})
 	must(t, lock.Acquire(background(t)))
-	same(t, []any{lock.Term(), holds(t, lock), votes.floor}, []any{21, true, 0})
+	same(t, []any{lock.Term(), holds(t, lock), votes.retired()}, []any{21, true, 0})
 }
 
 func TestARingThatIsAwayIsWaitedFor(t *testing.T) {
@@ -211,12 +212,19 @@ func TestARingThatIsAwayIsWaitedFor(t *testing.T) {
 	}
 }
 
-func TestARingThatNeverAnsweredIsNotWaitedFor(t *testing.T) {
-	ring, _ := beside(t, deaf, deaf)
+func TestARingThatNeverAnsweredIsWaitedFor(t *testing.T) {
+	votes, told := newVotes(), tells{}
+	ring, nodes := beside(t, deaf, deaf)
 	ring.Timeout = 100 * time.Millisecond
-	lock := lockOf(t, ring, LockOptions{})
-	as[*NoAnswerError](t, lock.Acquire(background(t)))
-	same(t, lock.sign == nil, true)
+	lock := lockOf(t, ring, LockOptions{Tell: told.tell})
+	as[*NoAnswerError](t, lock.TryAcquire(background(t)))
+	same(t, []any{lock.sign == nil, told.all()}, []any{true, ""})
+	time.AfterFunc(500*time.Millisecond, func() {
+		nodes[0].is(votes.at(1))
+		nodes[1].is(votes.at(2))
+	})
+	must(t, lock.Acquire(background(t)))
+	same(t, []any{lock.Term(), strings.HasPrefix(told.all(), "waits for the ring: cinoweta: no answer of ")}, []any{1, true})
 }
 
 func TestWhoTakesALockAgainWaitsForARingThatIsAway(t *testing.T) {
@@ -278,6 +286,28 @@ func TestARingThatRefusesIsWaitedFor(t *testing.T) {
 	}
 }
 
+func TestAStandThatAFullNodeHasIsItsOwn(t *testing.T) {
+	// The answer to the first one is lost.
+	votes := newVotes()
+	var lost sync.Once
+	full := func(node int) answer {
+		return func(line string) (string, bool) {
+			told, isTold := votes.at(node)(line)
+			if !strings.HasPrefix(line, "stand") {
+				return told, isTold
+			}
+			lost.Do(func() { isTold = false })
+			return "no 7 full", isTold
+		}
+	}
+	ring, _ := beside(t, full(1), full(2))
+	lock := lockOf(t, ring, LockOptions{})
+	ctx, cancel := context.WithTimeout(background(t), 5*time.Second)
+	defer cancel()
+	must(t, lock.Acquire(ctx))
+	same(t, []any{lock.Term(), len(votes.stood)}, []any{1, 1})
+}
+
 func TestARingThatElectsNobodyIsWaitedForSoLong(t *testing.T) {
 	ring, _, votes := elected(t)
 	votes.deposed = true
@@ -291,6 +321,31 @@ func TestARingThatElectsNobodyIsWaitedForSoLong(t *testing.T) {
 	same(t, isPassing(err), true)
 	same(t, told.all(), "waits for the ring: cinoweta: red: no leader in 3 terms above 0")
 	same(t, []any{lock.sign == nil, len(votes.stood)}, []any{true, 3})
+}
+
+func TestATryTakesTwoSecondsAtMost(t *testing.T) {
+	ring, nodes, votes := elected(t)
+	votes.deposed, ring.Timeout = true, DefaultTimeout
+	lock := lockOf(t, ring, LockOptions{})
+	try := func() error {
+		before := time.Now()
+		err := lock.TryAcquire(background(t))
+		took := time.Since(before)
+		same(t, []any{took >= time.Second, took < 4*time.Second, lock.sign == nil}, []any{true, true, true})
+		// That of who calls is not over.
+		same(t, errors.Is(err, context.DeadlineExceeded) || errors.Is(err, context.Canceled), false)
+		return err
+	}
+	none := as[*NoLeaderError](t, try())
+	same(t, []int{none.Terms, none.Gone}, []int{1, 0})
+	for _, node := range nodes {
+		node.is(never(t))
+	}
+	as[*NoAnswerError](t, try())
+	// The context of who calls ends it before.
+	ctx, cancel := context.WithTimeout(background(t), 100*time.Millisecond)
+	defer cancel()
+	is(t, lock.TryAcquire(ctx), context.DeadlineExceeded)
 }
 
 func TestALockIsLostOnceAGreaterTermIsKnown(t *testing.T) {
@@ -321,6 +376,37 @@ func TestALockIsLostOnceAGreaterTermIsKnown(t *testing.T) {
 	as[*WrongRingError](t, err)
 }
 
+func TestARingThatIsAwayIsFoundOutOnceForAllLocks(t *testing.T) {
+	ring, nodes, votes := elected(t)
+	locks := []*Lock{}
+	for number := range make([]struct{}, 20) {
+		lock := NewLock(ring, fmt.Sprint("red-", number), LockOptions{})
+		votes := newVotes()
+		nodes[0].is(votes.at(1))
+		nodes[1].is(votes.at(2))
+		must(t, lock.Acquire(background(t)))
+		defer lock.Resign()
+		locks = append(locks, lock)
+	}
+	nodes[0].is(deaf)
+	nodes[1].is(deaf)
+	time.Sleep(lookEvery)
+	before := time.Now()
+	for _, lock := range locks {
+		same(t, holds(t, lock), true)
+	}
+	took := time.Since(before)
+	same(t, took > 500*time.Millisecond && took < 1500*time.Millisecond, true)
+	// It is asked again a second later.
+	time.Sleep(lookEvery)
+	votes.lead(2, 1, 5)
+	nodes[0].is(votes.at(1))
+	nodes[1].is(votes.at(2))
+	for _, lock := range locks {
+		same(t, holds(t, lock), false)
+	}
+}
+
 func TestALookEndsWithItsContext(t *testing.T) {
 	ring, nodes, _ := elected(t)
 	lock := lockOf(t, ring, LockOptions{})
@@ -339,11 +425,18 @@ func TestTheRingIsAskedOnceASecond(t *testing.T) {
 	ring, nodes, _ := elected(t)
 	lock := lockOf(t, ring, LockOptions{})
 	must(t, lock.Acquire(background(t)))
-	before := len(nodes[0].lines("")) + len(nodes[1].lines(""))
-	for range make([]struct{}, 1_000) {
-		same(t, holds(t, lock), true)
+	asked := func() int { return len(nodes[0].lines("")) + len(nodes[1].lines("")) }
+	// Right behind an answer nobody is asked, behind a pause once.
+	for _, wanted := range []int{0, 1, 1} {
+		before, begun := asked(), time.Now()
+		for range make([]struct{}, 1_000) {
+			same(t, holds(t, lock), true)
+		}
+		// Once more for each second that this took.
+		came, most := asked()-before, wanted+int(time.Since(begun)/lookEvery)
+		same(t, came >= wanted && came <= most, true)
+		time.Sleep(lookEvery + 100*time.Millisecond)
 	}
-	same(t, len(nodes[0].lines(""))+len(nodes[1].lines("")) <= before+1, true)
 }
 
 func TestTheNextTermIsAboveTheNumberThatTurnedAWriteAway(t *testing.T) {
@@ -360,7 +453,7 @@ func TestWhoHoldsALockInATermUpToThatNumberIsWaitedFor(t *testing.T) {
 	ring, nodes, votes := elected(t)
 	holder, err := newBeacon(0, "a holder")
 	must(t, err)
-	t.Cleanup(holder.close)
+	t.Cleanup(func() { holder.close() })
 	votes.lead(2, 1, holder.bid())
 	lock, ahead := lockOf(t, ring, LockOptions{}), lockOf(t, ring, LockOptions{})
 	for number, lock := range map[int]*Lock{2: lock, 41: ahead} {
@@ -393,6 +486,59 @@ func TestNobodyNeedLeadUpToThatNumber(t *testing.T) {
 	}
 	sort.Strings(terms)
 	same(t, terms, []string{"3", "7", "8", "9"})
+}
+
+func TestOfGoroutinesThatAcquireALockOneDoes(t *testing.T) {
+	ring, _, votes := elected(t)
+	lock, ended := lockOf(t, ring, LockOptions{}), make(chan error)
+	const count = 20
+	for range make([]struct{}, count) {
+		go func() { ended <- lock.Acquire(background(t)) }()
+	}
+	refused := 0
+	for range make([]struct{}, count) {
+		if err := <-ended; err != nil {
+			same(t, err, "cinoweta: red: the lock is held, or waited for")
+			refused++
+		}
+	}
+	same(t, []any{refused, lock.Term(), holds(t, lock), len(votes.stood)}, []any{count - 1, 1, true, 1})
+}
+
+func TestALockThatIsGivenBackWhileItIsWaitedForIsNotHeld(t *testing.T) {
+	ring, _, votes := elected(t)
+	holder := lockOf(t, ring, LockOptions{})
+	must(t, holder.Acquire(background(t)))
+	lock, told := lockOf(t, ring, LockOptions{}), tells{}
+	lock.how.Tell = told.tell
+	before := time.Now()
+	time.AfterFunc(300*time.Millisecond, lock.Resign)
+	err := lock.Acquire(background(t))
+	same(t, as[*ResignedError](t, err), "cinoweta: red: the lock was given back while it was waited for")
+	took := time.Since(before)
+	same(t, took >= 300*time.Millisecond && took < 1300*time.Millisecond, true)
+	same(t, []any{lock.sign == nil, holds(t, lock), len(votes.stood)}, []any{true, false, 1})
+	// It may be waited for anew.
+	as[*LockTakenError](t, lock.TryAcquire(background(t)))
+	holder.Resign()
+	must(t, lock.Acquire(background(t)))
+	same(t, []any{lock.Term(), holds(t, lock)}, []any{2, true})
+}
+
+func TestALockThatIsGivenBackAsItIsWonIsNotHeld(t *testing.T) {
+	ring, _, votes := elected(t)
+	lock := lockOf(t, ring, LockOptions{})
+	_, err := lock.begin(func() {})
+	must(t, err)
+	bid := lock.sign.bid()
+	votes.stand(6, Leader{1, bid})
+	lock.Resign()
+	as[*ResignedError](t, lock.settle(6, time.Now(), nil))
+	same(t, []any{lock.sign == nil, holds(t, lock), isThere(background(t), bid, time.Second)}, []any{true, false, false})
+	// Nobody need look whether the one who led in that term is there.
+	same(t, lock.gone, 6)
+	must(t, lock.Acquire(background(t)))
+	same(t, lock.Term(), 7)
 }
 
 func TestWorkEndsOnceTheLockIsLost(t *testing.T) {

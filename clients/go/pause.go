@@ -7,11 +7,13 @@ import (
 
 const (
 	shortestPause, longestPause = 20 * time.Millisecond, time.Second
+	// The first pause of who stood: most are elected within milliseconds.
+	stoodPause = 2 * time.Millisecond
 	// From this pause on the ring's session is ended first: it holds one of the node's doors, of which there may be one.
 	heldPause = 100 * time.Millisecond
 )
 
-// A pause is one between two looks, twice as long as the one before.
+// A pause is one between two looks, twice as long as the one before. The first one is told, or the shortest one.
 type pause struct {
 	next time.Duration
 }
@@ -22,7 +24,7 @@ func (p *pause) take(ctx context.Context, ring *Ring) bool {
 		return false
 	}
 	p.next = atMost(longestPause, p.next)
-	if p.next < shortestPause {
+	if p.next == 0 {
 		p.next = shortestPause
 	}
 	if p.next >= heldPause {

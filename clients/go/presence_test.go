@@ -25,15 +25,31 @@ func (s *teller) ServeHTTP(writer http.ResponseWriter, request *http.Request) {
 	s.mutex.Lock()
 	s.asked = append(s.asked, request.URL.RequestURI())
 	s.mutex.Unlock()
-	var node int
-	fmt.Sscanf(request.URL.RequestURI(), "/leaders/red?node=%d", &node)
+	var node, held, seconds int
+	count, _ := fmt.Sscanf(request.URL.RequestURI(), "/leaders/red?node=%d&held=%d&wait=%d", &node, &held, &seconds)
+	if count == 3 && s.nodes[0].takesResigns {
+		s.await(held, node, seconds)
+	} else if count == 3 {
+		writer.WriteHeader(http.StatusBadRequest)
+		return
+	}
 	led := s.votes.led()
 	if node < 1 || node > len(s.nodes) || led.Term == 0 {
 		writer.WriteHeader(http.StatusNotFound)
 		return
 	}
-	const text = `{"by": %d, "leader": {"bid": %d, "group": "red", "node": %d, "term": %d}, "present": %t}`
-	fmt.Fprintf(writer, text, node, led.Leader.Bid, led.Leader.Node, led.Term, s.nodes[node-1].isPresent("red", led))
+	const text = `{"by": %d, "leader": {"bid": %d, "group": "red", "node": %d, "term": %d}, "present": %t, "resigned": %t, "text": %q}`
+	said := append([]string{""}, s.nodes[node-1].lines("tell red ")...)
+	isPresent, hasResigned := s.nodes[node-1].isPresent("red", led), s.nodes[node-1].hasResigned(led.Term)
+	fmt.Fprintf(writer, text, node, led.Leader.Bid, led.Leader.Node, led.Term, isPresent, hasResigned, strings.TrimPrefix(said[len(said)-1], "tell red "))
+}
+
+// await waits so many seconds until another one leads, or who leads in this term is not present.
+func (s *teller) await(held, node, seconds int) {
+	late := time.Now().Add(time.Duration(seconds) * time.Second)
+	for led := s.votes.led(); led.Term == held && s.nodes[node-1].isPresent("red", led) && time.Now().Before(late); led = s.votes.led() {
+		time.Sleep(20 * time.Millisecond)
+	}
 }
 
 // all is what was asked.
@@ -59,6 +75,15 @@ func across(t *testing.T, host string) (*Ring, []*node, *votes, *teller) {
 	return ring, nodes, votes, told
 }
 
+// acrossResigns gives one that is told of resigns, and waits for them.
+func acrossResigns(t *testing.T) (*Ring, []*node, *votes, *teller) {
+	ring, nodes, votes, told := across(t, otherHost)
+	for _, node := range nodes {
+		node.takesResigns = true
+	}
+	return ring, nodes, votes, told
+}
+
 // acrossOf gives a lock of `red` across hosts.
 func acrossOf(t *testing.T, ring *Ring, how LockOptions) *Lock {
 	t.Helper()
@@ -69,10 +94,10 @@ func acrossOf(t *testing.T, ring *Ring, how LockOptions) *Lock {
 // presenceOf gives the presence of who leads for `red` in term 1, at node 1.
 func presenceOf(t *testing.T, ring *Ring, votes *votes) (*presence, Led) {
 	t.Helper()
-	made, err := newPresence(ring, "red", 3)
+	made, err := newPresence(ring, "red", 3, "", 0)
 	must(t, err)
 	made.every = 20 * time.Millisecond
-	t.Cleanup(made.close)
+	t.Cleanup(func() { made.close() })
 	votes.stand(1, Leader{1, made.bid()})
 	return made, votes.led()
 }
@@ -88,8 +113,9 @@ func TestALockIsHeldAcrossHostsWhileItsWorkRuns(t *testing.T) {
 		must(t, err)
 		same(t, []any{isHeld, holder.Led, holder.PID, holder.Text}, []any{true, led, 0, ""})
 		same(t, holder, fmt.Sprintf("node %d in term 1", led.Leader.Node))
-		// Who leads is asked for at its own node.
-		same(t, told.all(), []string{fmt.Sprintf("/leaders/red?node=%d", led.Leader.Node)})
+		// Who leads is asked for at its own node: whether it is there, and what it tells.
+		path := fmt.Sprintf("/leaders/red?node=%d", led.Leader.Node)
+		same(t, told.all(), []string{path, path})
 		if lock.Acquire(ctx) == nil {
 			t.Error("it is acquired twice")
 		}
@@ -105,8 +131,8 @@ func TestALockIsHeldAcrossHostsWhileItsWorkRuns(t *testing.T) {
 }
 
 func TestALockWithARingOfAnotherHostIsHeldAcrossHosts(t *testing.T) {
-	// A name is one of another host, whatever it names.
-	ring, nodes, votes, _ := across(t, "localhost")
+	// It is an address of this host too, but not of this host alone.
+	ring, nodes, votes, _ := across(t, "0.0.0.0")
 	_, isHeld, err := ring.Holder(background(t), "red", 0)
 	must(t, err)
 	same(t, isHeld, false)
@@ -116,6 +142,24 @@ func TestALockWithARingOfAnotherHostIsHeldAcrossHosts(t *testing.T) {
 	holder, isHeld, err := ring.Holder(background(t), "red", 0)
 	must(t, err)
 	same(t, []any{isHeld, holder.Led, holder.PID}, []any{true, led, 0})
+}
+
+func TestWhatAHolderTellsAcrossHostsIsTold(t *testing.T) {
+	ring, nodes, votes, _ := across(t, otherHost)
+	lock := acrossOf(t, ring, LockOptions{Text: "a worker, b"})
+	must(t, lock.Acquire(background(t)))
+	led := votes.led()
+	holder, isHeld, err := acrossOf(t, ring, LockOptions{}).Holder(background(t))
+	must(t, err)
+	same(t, []any{holder, isHeld}, []any{Holder{led, 0, "a worker, b"}, true})
+	same(t, as[*LockTakenError](t, acrossOf(t, ring, LockOptions{}).TryAcquire(background(t))).Holder, holder)
+	same(t, holder.String(), fmt.Sprintf("node %d in term 1 (a worker, b)", led.Leader.Node))
+	// And again where its session is opened anew.
+	node := nodes[led.Leader.Node-1]
+	node.is(deaf)
+	until(t, "the end of its session", func() bool { return !node.isPresent("red", led) })
+	node.is(votes.at(led.Leader.Node))
+	until(t, "what it tells", func() bool { return len(node.lines("tell red a worker, b")) == 2 })
 }
 
 func TestWhoHoldsALockAcrossHostsIsToldInTime(t *testing.T) {
@@ -159,13 +203,18 @@ func TestALockAcrossHostsIsTakenOnceTheHolderIsNotPresent(t *testing.T) {
 
 func TestWhoIsNotPresentIsGoneInTwoSeconds(t *testing.T) {
 	ring, _, votes, _ := across(t, otherHost)
-	votes.lead(5, 1, 7)
+	votes.lead(5, 1, bidSpread)
 	before := time.Now()
 	must(t, acrossOf(t, ring, LockOptions{Patience: time.Minute}).TryAcquire(background(t)))
 	took := time.Since(before)
 	same(t, took >= 2*time.Second && took < 3*time.Second, true)
+	// Where an operator stood nobody is.
+	votes.lead(7, 1, 7)
+	before = time.Now()
+	must(t, acrossOf(t, ring, LockOptions{Patience: time.Minute}).TryAcquire(background(t)))
+	same(t, time.Since(before) < time.Second, true)
 	// The context may be over before.
-	votes.lead(9, 1, 7)
+	votes.lead(9, 1, bidSpread)
 	ctx, cancel := context.WithTimeout(background(t), 200*time.Millisecond)
 	defer cancel()
 	before = time.Now()
@@ -318,26 +367,29 @@ func TestWhoLeadsAcrossHostsIsSeenBeforeNodesRetire(t *testing.T) {
 	must(t, lock.Acquire(background(t)))
 	same(t, []any{lock.Term(), holds(t, lock)}, []any{21, true})
 	stand := fmt.Sprint("stand red 21 ", votes.bid(21))
-	same(t, asked.all(), strings.Join([]string{stand, stand, "retire red 11 true", "retire red 11 true"}, "\n"))
+	wanted := strings.Join([]string{stand, stand, "retire red 19 true", "retire red 19 true"}, "\n")
+	until(t, "the Retires", func() bool { return asked.all() == wanted })
 }
 
 func TestALockWhoseTermIsOverBeforeItIsShownIsTakenAgain(t *testing.T) {
-	ring, nodes, votes, _ := across(t, otherHost)
-	isFirst := true
-	for place, node := range nodes {
-		own := votes.at(place + 1)
-		node.is(func(line string) (string, bool) {
-			told, isAnswered := own(line)
-			if isFirst && strings.HasPrefix(told, "no 3 already") {
-				isFirst = false
-				return "no 5 stale 2", true
-			}
-			return told, isAnswered
-		})
+	for _, over := range []string{"no 4 late", "no 5 stale 2", "no 23 retired 2"} {
+		over := over
+		ring, nodes, votes, _ := across(t, otherHost)
+		var count atomic.Int32
+		for place, node := range nodes {
+			own := votes.at(place + 1)
+			node.is(func(line string) (string, bool) {
+				told, isAnswered := own(line)
+				if strings.HasPrefix(told, "no 3 already") && count.Add(1) == 1 {
+					return over, true
+				}
+				return told, isAnswered
+			})
+		}
+		lock := acrossOf(t, ring, LockOptions{})
+		must(t, lock.Acquire(background(t)))
+		same(t, []any{lock.Term(), count.Load() > 1}, []any{2, true})
 	}
-	lock := acrossOf(t, ring, LockOptions{})
-	must(t, lock.Acquire(background(t)))
-	same(t, []any{lock.Term(), isFirst}, []any{2, false})
 }
 
 func TestAStatusPortThatIsAwayIsWaitedFor(t *testing.T) {
@@ -439,4 +491,113 @@ func TestWorkAcrossHostsEndsOnceTheLockIsLost(t *testing.T) {
 	}))
 	same(t, []any{lost.Term, lock.sign == nil}, []any{1, true})
 	until(t, "the end of the session", func() bool { return !nodes[led.Leader.Node-1].isPresent("red", led) })
+}
+
+func TestALockAcrossHostsIsTakenAsSoonAsTheHolderResigns(t *testing.T) {
+	ring, nodes, votes, told := acrossResigns(t)
+	first := acrossOf(t, ring, LockOptions{})
+	must(t, first.Acquire(background(t)))
+	second, ended, led := acrossOf(t, ring, LockOptions{Patience: time.Minute}), make(chan error), votes.led()
+	go func() { ended <- second.Acquire(background(t)) }()
+	until(t, "a long poll", func() bool { return strings.Contains(strings.Join(told.all(), "\n"), "&held=1&wait=30") })
+	time.Sleep(time.Second)
+	before := time.Now()
+	first.Resign()
+	must(t, <-ended)
+	same(t, []any{second.Term(), time.Since(before) < absentLimit-500*time.Millisecond}, []any{2, true})
+	same(t, nodes[led.Leader.Node-1].lines("resign"), []string{"resign red 1"})
+	// It is looked for no more often than once where nothing changes.
+	same(t, len(told.all()) < 6, true)
+}
+
+func TestWhoWaitedForMoreEndsAcrossHostsGoesFirst(t *testing.T) {
+	for _, row := range []struct{ rank, ends int }{{0, 1}, {0, 3}, {4, 1}} {
+		ring, nodes, _, told := acrossResigns(t)
+		lock := acrossOf(t, ring, LockOptions{Rank: row.rank})
+		lock.older = 500 * time.Millisecond
+		session, err := openSession(background(t), ring.address(1), time.Second)
+		must(t, err)
+		// Who leads is present in this session until it resigns.
+		ask := func(form string, words ...any) {
+			_, err := session.ask(background(t), fmt.Sprintf(form, words...), time.Second)
+			must(t, err)
+		}
+		ask("stand red 1 %d", bidSpread)
+		ended := make(chan error, 1)
+		go func() { ended <- lock.Acquire(background(t)) }()
+		var before time.Time
+		for term := 1; term <= row.ends; term++ {
+			until(t, "a long poll", func() bool { return strings.Contains(strings.Join(told.all(), " "), fmt.Sprintf("held=%d&", term)) })
+			before = time.Now()
+			ask("resign red %d", term)
+			if term < row.ends {
+				// Another one leads meanwhile.
+				time.Sleep(200 * time.Millisecond)
+				ask("stand red %d %d", term+1, bidSpread+term)
+			}
+		}
+		must(t, <-ended)
+		isLate := time.Since(before) >= 900*time.Millisecond
+		same(t, []any{lock.Term(), isLate}, []any{row.ends + 1, row.rank == 0 && row.ends == 1})
+		lock.Resign()
+		session.close()
+		nodes[0].is(deaf)
+	}
+}
+
+func TestWhoEndsAcrossHostsWithoutAWordMayComeBack(t *testing.T) {
+	ring, nodes, votes, _ := acrossResigns(t)
+	presence, led := presenceOf(t, ring, votes)
+	must(t, presence.show(background(t), led))
+	lock, ended := acrossOf(t, ring, LockOptions{Patience: time.Minute}), make(chan error, 1)
+	before := time.Now()
+	go func() { ended <- lock.Acquire(background(t)) }()
+	for range make([]struct{}, 3) {
+		nodes[0].is(deaf)
+		until(t, "the end of the session", func() bool { return !nodes[0].isPresent("red", led) })
+		nodes[0].is(votes.at(1))
+		until(t, "another session", func() bool { return nodes[0].isPresent("red", led) })
+	}
+	same(t, len(ended), 0)
+	nodes[0].is(deaf)
+	time.Sleep(50 * time.Millisecond)
+	presence.close()
+	nodes[0].is(votes.at(1))
+	must(t, <-ended)
+	same(t, time.Since(before) > absentLimit, true)
+}
+
+func TestAResignThatIsNotAnsweredEndsAllTheSame(t *testing.T) {
+	ring, nodes, votes, _ := across(t, otherHost)
+	presence, led := presenceOf(t, ring, votes)
+	must(t, presence.show(background(t), led))
+	own, silent := votes.at(1), never(t)
+	nodes[0].is(func(line string) (string, bool) {
+		if strings.HasPrefix(line, "resign") {
+			return silent(line)
+		}
+		return own(line)
+	})
+	before := time.Now()
+	presence.close()
+	took := time.Since(before)
+	same(t, took < farewellLimit+500*time.Millisecond, true)
+	same(t, nodes[0].lines("resign"), []string{"resign red 1"})
+}
+
+func TestAStatusPortThatAnswersAtOnceIsAskedNoMoreOften(t *testing.T) {
+	ring, _, votes, _ := across(t, otherHost)
+	must(t, acrossOf(t, ring, LockOptions{}).Acquire(background(t)))
+	led := votes.led()
+	var asked atomic.Int32
+	ring.Status = statusAt(t, otherHost, http.HandlerFunc(func(writer http.ResponseWriter, _ *http.Request) {
+		asked.Add(1)
+		const text = `{"by": 1, "leader": {"bid": %d, "group": "red", "node": %d, "term": 1}, "present": true}`
+		fmt.Fprintf(writer, text, led.Leader.Bid, led.Leader.Node)
+	}))
+	ctx, cancel := context.WithTimeout(background(t), time.Second)
+	defer cancel()
+	as[*LockTakenError](t, acrossOf(t, ring, LockOptions{}).Acquire(ctx))
+	// Twice for each pause.
+	same(t, asked.Load() <= 2*int32(time.Second/shortestPause)+2, true)
 }

@@ -8,7 +8,6 @@ import (
 	"regexp"
 	"strconv"
 	"strings"
-	"sync/atomic"
 	"time"
 )
 
@@ -21,6 +20,8 @@ const (
 	// A connection and its answer are waited for so long before another node is asked: not longer than is left of the
 	// timeout, but for leastPatience anyway.
 	patience, leastPatience = 3 * time.Second, 50 * time.Millisecond
+	// A session over which nothing was asked for so long is ended: it holds one of the node's doors.
+	idleLimit = 500 * time.Millisecond
 	// The first pause before that.
 	againPause = 50 * time.Millisecond
 )
@@ -31,9 +32,10 @@ var (
 	latestText = regexp.MustCompile(`^term ([0-9]+) leader ([0-9]+) ([0-9]+)$`)
 )
 
-// A Ring is one whose nodes listen at ports of a host side by side. Questions are asked of any node, over one session at
-// a time; where one breaks off, of the next node, until Timeout is over: then a [NoAnswerError]. A Stand stays with its
-// node. Goroutines may share a Ring; one waits for the other.
+// A Ring is one whose nodes listen at ports of a host side by side, as [NewRing], [ParseRing] and [RingFromEnv] make it;
+// any other one gives a [WrongRingError] whatever is asked. Questions are asked of any node, over one session at
+// a time, which ends where nothing is asked for half a second; where one breaks off, of the next node, until Timeout is
+// over: then a [NoAnswerError]. A Stand stays with its node. Goroutines may share a Ring; one waits for the other.
 type Ring struct {
 	// Host is the IPv4 address or the name of the host; 127.0.0.1 where it is "". Else whatever is asked gives a
 	// [WrongRingError].
@@ -50,9 +52,9 @@ type Ring struct {
 	place   int
 	session *session
 
-	// Whether any question was answered, so that there is such a ring.
-	hasAnswered atomic.Bool
-	unanswered  unanswered
+	unanswered unanswered
+	silence    silence
+	handed     handed
 }
 
 // NewRing gives the ring whose node 1 listens at the port first, and the last one at last. Nobody is asked yet.
@@ -199,10 +201,10 @@ func (r *Ring) askNode(ctx context.Context, line string, node int) (string, erro
 
 // ask gives the answer to a line, or the refusal that it is.
 func (r *Ring) ask(ctx context.Context, line string, node int) (string, error) {
-	if strings.Contains(line, "\n") || node < 0 || node > r.nodes {
-		return "", errors.New("cinoweta: a question is one line, to a node of the ring")
+	if strings.Contains(line, "\n") {
+		return "", errors.New("cinoweta: a question is one line")
 	}
-	if err := requireHost(r.Host); err != nil {
+	if err := r.require(node); err != nil {
 		return "", err
 	}
 	if !r.take(ctx) {
@@ -219,6 +221,18 @@ func (r *Ring) ask(ctx context.Context, line string, node int) (string, error) {
 	return answer, nil
 }
 
+// require gives a [WrongRingError] where no function of this package made the ring, or its host is none, and another error
+// where it has no such node.
+func (r *Ring) require(node int) error {
+	if r.nodes == 0 {
+		return &WrongRingError{"a Ring is made by NewRing, ParseRing or RingFromEnv"}
+	}
+	if node < 0 || node > r.nodes {
+		return fmt.Errorf("cinoweta: there is no node %d: the ring has the nodes 1 to %d", node, r.nodes)
+	}
+	return requireHost(r.Host)
+}
+
 // askAgain asks this node, or one behind the other, until an answer comes or the time is over.
 func (r *Ring) askAgain(ctx context.Context, line string, node int) (string, error) {
 	until := time.Now().Add(r.timeout())
@@ -229,7 +243,6 @@ func (r *Ring) askAgain(ctx context.Context, line string, node int) (string, err
 		}
 		answer, err := r.askOnce(ctx, line, place, time.Until(until))
 		if err == nil {
-			r.hasAnswered.Store(true)
 			return answer, nil
 		}
 		r.closeSession()
@@ -264,16 +277,21 @@ func (r *Ring) askOnce(ctx context.Context, line string, place int, left time.Du
 			return "", err
 		}
 		r.session = session
+		time.AfterFunc(idleLimit, func() { r.endIdle(session) })
 	}
 	answer, err := r.session.ask(ctx, line, limit)
+	r.session.used = time.Now()
 	if err != nil && strings.HasPrefix(line, "stand ") {
 		r.unanswered.add(stood{place, line})
 	}
 	return answer, err
 }
 
-// take waits for the turn of who calls. False where the context is over before.
+// take waits for the turn of who calls. False where the context is over before, and where nothing is ever asked.
 func (r *Ring) take(ctx context.Context) bool {
+	if r.turn == nil {
+		return false
+	}
 	// Of two that are ready, select takes either.
 	select {
 	case r.turn <- struct{}{}:
@@ -298,6 +316,29 @@ func (r *Ring) release(ctx context.Context) {
 		r.closeSession()
 		r.give()
 	}
+}
+
+// pass has another node be asked next.
+func (r *Ring) pass(ctx context.Context) {
+	if r.take(ctx) {
+		r.closeSession()
+		r.place = r.place%r.nodes + 1
+		r.give()
+	}
+}
+
+// endIdle ends a session once nothing was asked over it for a while.
+func (r *Ring) endIdle(idle *session) {
+	r.turn <- struct{}{}
+	defer r.give()
+	if r.session != idle {
+		return
+	}
+	if left := idleLimit - time.Since(idle.used); left > 0 {
+		time.AfterFunc(left, func() { r.endIdle(idle) })
+		return
+	}
+	r.closeSession()
 }
 
 // closeSession is called by whose turn it is.

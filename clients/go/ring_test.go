@@ -175,6 +175,23 @@ func TestAQuestionThatWasLeftEndsItsSession(t *testing.T) {
 	same(t, isKnown, false)
 }
 
+func TestASessionIsEndedOnceNothingIsAskedOverIt(t *testing.T) {
+	ring, nodes := beside(t, newVotes().answer, deaf)
+	for begun := time.Now(); time.Since(begun) < 1500*time.Millisecond; {
+		_, _, err := ring.Latest(background(t), "red", 1)
+		must(t, err)
+	}
+	same(t, nodes[0].sessions(), 1)
+	until(t, "the end of its session", func() bool {
+		ring.take(background(t))
+		defer ring.give()
+		return ring.session == nil
+	})
+	_, _, err := ring.Latest(background(t), "red", 1)
+	must(t, err)
+	same(t, nodes[0].sessions(), 2)
+}
+
 func TestOneWaitsForTheOtherUntilItsContextEnds(t *testing.T) {
 	ring, nodes := beside(t, always("none"), deaf)
 	var asks sync.WaitGroup
@@ -269,7 +286,7 @@ func TestWhatIsNoAnswerToARetire(t *testing.T) {
 func TestEachRefusalIsOfItsKind(t *testing.T) {
 	causes := map[int]Refusal{1: ErrBadName, 2: ErrBadNumber, 3: ErrAlreadyStands, 4: ErrLate, 5: ErrStale,
 		6: ErrLimitReached, 7: ErrFull, 8: ErrOutOfMemory, 9: ErrNodeFailed, 15: ErrDeviceFailed, 23: ErrRetired,
-		25: ErrBadLine, 26: ErrUndecided, 99: 99}
+		25: ErrBadLine, 26: ErrUndecided, 28: ErrTooFar, 99: 99}
 	for number := range causes {
 		told := fmt.Sprintf("no %d some text", number)
 		ring, _ := beside(t, always(told), deaf)
@@ -278,7 +295,13 @@ func TestEachRefusalIsOfItsKind(t *testing.T) {
 			same(t, errors.Is(err, cause), number == other)
 		}
 		same(t, *as[*RefusedError](t, err), RefusedError{Refusal(number), "some text"})
-		same(t, err, "cinoweta: "+told)
+		same(t, strings.HasPrefix(err.Error(), "cinoweta: "+told), true)
+		// What to do stands behind where no other sentence of the package says it.
+		same(t, err.Error() == "cinoweta: "+told, number != 28)
+	}
+	same(t, (&RefusedError{ErrTooFar, "far 9"}).Farthest(), 9)
+	for _, fault := range []*RefusedError{{ErrStale, "far 9"}, {ErrTooFar, "far"}, {ErrTooFar, "far x"}} {
+		same(t, fault.Farthest(), 0)
 	}
 	for _, fault := range []*RefusedError{{ErrStale, "retired 9"}, {ErrRetired, "retired"}, {ErrRetired, "retired x"}} {
 		same(t, fault.Floor(), 0)
@@ -328,5 +351,27 @@ func TestLinesThatAreNone(t *testing.T) {
 			t.Fatalf("node %d is asked", node)
 		}
 	}
+	const wanted = "cinoweta: there is no node 9: the ring has the nodes 1 to 2"
+	same(t, ring.Stand(background(t), "red", 1, 1, 9), wanted)
+	_, err := ring.Campaign(background(t), "red", CampaignOptions{Node: 9})
+	same(t, err, wanted)
 	same(t, len(nodes[0].lines("")), 0)
+}
+
+func TestARingThatNothingMadeIsNone(t *testing.T) {
+	ring := &Ring{Status: 1}
+	_, _, latest := ring.Latest(background(t), "red", AnyNode)
+	_, campaign := ring.Campaign(background(t), "red", CampaignOptions{})
+	_, watch := ring.Watch("red", 0).Next(background(t))
+	_, _, holder := ring.Holder(background(t), "red", 0)
+	lock := NewLock(ring, "red", LockOptions{})
+	lock.Resign()
+	_, lost := lock.IsLost(background(t))
+	must(t, lost)
+	run := lock.Run(background(t), func(context.Context, int) error { return nil })
+	for _, err := range []error{ring.Stand(background(t), "red", 1, 1, 1), latest, campaign, watch, holder,
+		lock.Acquire(background(t)), lock.TryAcquire(background(t)), run} {
+		same(t, as[*WrongRingError](t, err).Text, "a Ring is made by NewRing, ParseRing or RingFromEnv")
+	}
+	must(t, ring.Close())
 }

@@ -5,6 +5,7 @@ import (
 	"encoding/json"
 	"fmt"
 	"os"
+	"sort"
 	"strings"
 	"syscall"
 	"testing"
@@ -160,24 +161,27 @@ const small = 4_096
 func TestAFullRingIsTold(t *testing.T) {
 	ring := serve(t, small).ring(t)
 	var err error
-	for gone := 0; gone < 200 && err == nil; gone++ {
-		_, err = ring.Campaign(background(t), "red", CampaignOptions{Gone: gone, Node: 1, Keep: 1_000})
+	// Of a group that was used once nothing may be retired.
+	for number := 0; number < 300 && err == nil; number++ {
+		_, err = ring.Campaign(background(t), fmt.Sprint("group-", number), CampaignOptions{Node: 1})
 	}
 	is(t, err, ErrFull)
 }
 
 func TestARingThatRetiresIsNeverFull(t *testing.T) {
-	ring := serve(t, small).ring(t)
-	for gone := 0; gone < 200; gone++ {
+	ring, gone := serve(t, small).ring(t), 0
+	for gone < 200 {
 		election, err := ring.Campaign(background(t), "red", CampaignOptions{Gone: gone, Node: gone%3 + 1})
 		must(t, err)
 		same(t, election.IsMine, true)
+		// On a slow machine that is not the first term that it stood for.
+		gone = election.Term
 	}
 	for node := 1; node <= ring.Nodes(); node++ {
-		same(t, latest(t, ring, 200, node).Term, 200)
+		same(t, latest(t, ring, gone, node).Term, gone)
 		until(t, "a floor", func() bool {
-			floor, err := ring.Retire(background(t), "red", 190, node)
-			return err == nil && floor == 190
+			floor, err := ring.Retire(background(t), "red", gone-DefaultKeep, node)
+			return err == nil && floor == gone-DefaultKeep
 		})
 	}
 }
@@ -210,6 +214,63 @@ func takeTurns(t *testing.T, served *served, count int, how LockOptions) {
 
 func TestLocksAreHeldOneBehindTheOther(t *testing.T) {
 	takeTurns(t, serve(t, usual), 4, LockOptions{})
+}
+
+// A worked is a turn in which a worker held the lock of `red`.
+type worked struct {
+	worker     int
+	begun, end time.Time
+}
+
+// takeAgain has so many workers hold the lock for 50 ms, and take it again at once, until there were so many turns.
+func takeAgain(t *testing.T, served *served, workers, count int) []worked {
+	t.Helper()
+	ctx, cancel := context.WithCancel(background(t))
+	defer cancel()
+	turns, ended := make(chan worked, count+workers), make(chan error)
+	for worker := range make([]struct{}, workers) {
+		worker, lock := worker, NewLock(served.ring(t), "red", LockOptions{})
+		go func() {
+			var err error
+			for err == nil {
+				if err = lock.Acquire(ctx); err == nil {
+					begun := time.Now()
+					time.Sleep(50 * time.Millisecond)
+					turns <- worked{worker, begun, time.Now()}
+					lock.Resign()
+				}
+			}
+			ended <- err
+		}()
+	}
+	held := []worked{}
+	for len(held) < count {
+		held = append(held, <-turns)
+	}
+	cancel()
+	for range make([]struct{}, workers) {
+		is(t, <-ended, context.Canceled)
+	}
+	return held
+}
+
+func TestWhoWaitsComesNext(t *testing.T) {
+	const workers, count = 4, 40
+	held := takeAgain(t, serve(t, usual), workers, count)
+	turns, waits := make([]int, workers), []time.Duration{}
+	for number, turn := range held {
+		turns[turn.worker]++
+		if number > 0 {
+			waits = append(waits, turn.begun.Sub(held[number-1].end))
+		}
+	}
+	sort.Slice(waits, func(one, other int) bool { return waits[one] < waits[other] })
+	t.Logf("turns %v, from a resign to the next holder %v in the middle, %v at most", turns, waits[count/2], waits[count-2])
+	for _, own := range turns {
+		same(t, own >= count/5 && own <= count/3, true)
+	}
+	// Who looks once a second needs half a second in the middle.
+	same(t, waits[0] > 0 && waits[count/2] < 600*time.Millisecond, true)
 }
 
 func TestWhoIsPausedLosesTheLock(t *testing.T) {
@@ -317,6 +378,36 @@ func TestLocksOfPythonAndOfGoExcludeEachOther(t *testing.T) {
 	python.tells(t, "term 4")
 }
 
+// A waiter in Python waits in line at a beacon in Go, and the other way round.
+func TestWhoWaitsInPythonAndInGoComesNext(t *testing.T) {
+	served := serve(t, usual)
+	ring := served.ring(t)
+	lock, second := NewLock(ring, "red", LockOptions{}), NewLock(served.ring(t), "red", LockOptions{Text: "a job in Go"})
+	must(t, lock.Acquire(background(t)))
+	script := []string{"lock", "--text", "a job in Python", "red", "--", "sh", "-c", "echo term $CINOWETA_TERM; exec sleep 60"}
+	python := served.python(t, script...)
+	told := fmt.Sprint(python.command.Process.Pid, " a job in Python")
+	until(t, "its place", func() bool { return strings.HasSuffix(lock.sign.(*beacon).tellWaiters(), told) })
+	ended := make(chan error, 1)
+	go func() { ended <- second.Acquire(context.Background()) }()
+	defer second.Resign()
+	until(t, "the second place", func() bool { return strings.HasPrefix(lock.sign.(*beacon).tellWaiters(), "waiters 2\n") })
+	lock.Resign()
+	python.tells(t, "term 2")
+	// The other one went on to wait there.
+	known := latest(t, ring, 2, 1)
+	until(t, "its line", func() bool {
+		asked := fmt.Sprint("waiters ", known.Leader.Bid)
+		answer := askBeacon(background(t), known.Leader.Bid, asked, time.Second)
+		return strings.HasPrefix(answer, "waiters 1\n") && strings.HasSuffix(answer, fmt.Sprint(os.Getpid(), " a job in Go"))
+	})
+	same(t, len(ended), 0)
+	before := time.Now()
+	python.signal(t, syscall.SIGTERM)
+	must(t, <-ended)
+	same(t, []any{second.Term(), time.Since(before) < 5*time.Second}, []any{3, true})
+}
+
 // serveAcross serves a ring of another host, which ends the session of a silent client.
 func serveAcross(t *testing.T) *served {
 	t.Helper()
@@ -407,4 +498,34 @@ func TestLocksAcrossHostsOfPythonAndOfGoExcludeEachOther(t *testing.T) {
 	same(t, holds(t, lock), true)
 	lock.Resign()
 	python.tells(t, "term 3")
+}
+
+func TestAThousandLocksAcrossHostsTakeADoorANode(t *testing.T) {
+	served := serve(t, 1_048_576)
+	ring, locks := served.ring(t), []*Lock{}
+	for number := 0; number < 1_000; number++ {
+		lock := NewLock(ring, fmt.Sprint("g", number), LockOptions{AcrossHosts: true})
+		t.Cleanup(lock.Resign)
+		must(t, lock.Acquire(background(t)))
+		locks = append(locks, lock)
+	}
+	told := func() []int64 {
+		status, err := Status(background(t), ring.Host, ring.Status)
+		must(t, err)
+		busy := []int64{}
+		for _, node := range status.Nodes {
+			busy = append(busy, node.Sessions.Busy)
+		}
+		return busy
+	}
+	until(t, "a door a node", func() bool { return fmt.Sprint(told()) == "[1 1 1]" })
+	for _, lock := range locks {
+		_, isHeld, err := lock.Holder(background(t))
+		must(t, err)
+		same(t, isHeld, true)
+	}
+	for _, lock := range locks {
+		lock.Resign()
+	}
+	until(t, "no door", func() bool { return fmt.Sprint(told()) == "[0 0 0]" })
 }

@@ -18,6 +18,8 @@ var errTooLong = errors.New("the answer is too long")
 type session struct {
 	address string
 	conn    net.Conn
+	// When an answer came last, which whose turn it is at the ring reads and writes.
+	used time.Time
 }
 
 func openSession(ctx context.Context, address string, limit time.Duration) (*session, error) {
@@ -25,24 +27,33 @@ func openSession(ctx context.Context, address string, limit time.Duration) (*ses
 	if err != nil {
 		return nil, err
 	}
-	return &session{address, conn}, nil
+	return &session{address, conn, time.Now()}, nil
 }
 
 // ask gives the answer to a line, for which it waits so long.
 func (s *session) ask(ctx context.Context, line string, limit time.Duration) (string, error) {
+	answers, err := s.askAll(ctx, []string{line}, limit)
+	if err != nil {
+		return "", err
+	}
+	return answers[0], nil
+}
+
+// askAll gives the answers to these lines, which are sent at once.
+func (s *session) askAll(ctx context.Context, lines []string, limit time.Duration) ([]string, error) {
 	ctx, cancel := context.WithTimeout(ctx, limit)
 	defer cancel()
 	defer endWith(ctx, s.conn)()
-	answer, err := exchange(s.conn, line+"\n", longestAnswer)
+	text, err := exchange(s.conn, strings.Join(lines, "\n")+"\n", longestAnswer*len(lines), len(lines))
+	answers := strings.Split(text, "\n")
+	if err == nil && len(answers) > len(lines) {
+		err = errors.New("more than one line was answered")
+	}
 	if err != nil {
 		s.close()
-		return "", err
+		return nil, err
 	}
-	if strings.Contains(answer, "\n") {
-		s.close()
-		return "", errors.New("more than one line was answered")
-	}
-	return answer, nil
+	return answers, nil
 }
 
 // close ends the session, which gives the node's door back.
@@ -55,8 +66,8 @@ func dial(ctx context.Context, address string, limit time.Duration) (net.Conn, e
 	return dialer.DialContext(ctx, "tcp", address)
 }
 
-// exchange sends what is asked, and gives what is answered up to a last line feed, without it.
-func exchange(conn net.Conn, asked string, longest int) (string, error) {
+// exchange sends what is asked, and gives what is answered up to a last line feed, without it: so many lines or more.
+func exchange(conn net.Conn, asked string, longest, lines int) (string, error) {
 	if _, err := conn.Write([]byte(asked)); err != nil {
 		return "", err
 	}
@@ -67,7 +78,7 @@ func exchange(conn net.Conn, asked string, longest int) (string, error) {
 		if len(answer) > longest {
 			return "", errTooLong
 		}
-		if text := string(answer); strings.HasSuffix(text, "\n") {
+		if text := string(answer); strings.HasSuffix(text, "\n") && strings.Count(text, "\n") >= lines {
 			return strings.TrimSuffix(text, "\n"), nil
 		}
 		if err != nil {

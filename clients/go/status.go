@@ -19,15 +19,16 @@ const (
 	statusLimit = 5 * time.Second
 )
 
-// A RingStatus is what `ringd --status` tells of a ring: its start in Unix time, the words that it was started with, and
-// how many seconds a session may be silent, 0 of which is for ever.
+// A RingStatus is what `ringd --status` tells of a ring: its start in Unix time, the words that it was started with, how
+// many seconds a session may be silent, 0 of which is for ever, and the nodes that have no free door.
 type RingStatus struct {
-	Version string       `json:"version"`
-	Dir     string       `json:"dir"`
-	Started int64        `json:"started"`
-	Words   string       `json:"words"`
-	Idle    int64        `json:"idle"`
-	Nodes   []NodeStatus `json:"nodes"`
+	Version  string       `json:"version"`
+	Dir      string       `json:"dir"`
+	Started  int64        `json:"started"`
+	Words    string       `json:"words"`
+	Idle     int64        `json:"idle"`
+	Doorless []int        `json:"doorless"`
+	Nodes    []NodeStatus `json:"nodes"`
 }
 
 // A NodeStatus is what is told of a node. Its state is `well`, or what is not: `limit`, `full`, `hangs` or `failed`.
@@ -165,32 +166,55 @@ func coming(ctx context.Context, host string, port int, group string, above, sec
 	return led, err == nil && led.Term > 0, err
 }
 
+// changes waits at the port until who leads so is not present, or another one leads, so many seconds at most. False where
+// it does not wait, as an earlier ringd.
+func changes(ctx context.Context, host string, port int, group string, known Led, seconds int) bool {
+	const form = "/leaders/%s?node=%d&held=%d&wait=%d"
+	path := fmt.Sprintf(form, url.PathEscape(group), known.Leader.Node, known.Term, seconds)
+	code, _, err := getWithin(ctx, host, port, path, time.Duration(seconds)*time.Second+statusLimit)
+	return err == nil && (code == http.StatusOK || code == http.StatusNoContent)
+}
+
+// A sight is how who leads is seen.
+type sight struct {
+	isPresent, hasResigned bool
+	// What it tells of itself.
+	text string
+}
+
+// isSure tells whether no time changes it: who is neither may come back.
+func (s sight) isSure() bool {
+	return s.isPresent || s.hasResigned
+}
+
 // leaderOf gives the group's latest leader by what this node knows, of term 0 where it knows none, and whether who stood
 // so is present. docs/OPERATING.md says what that tells.
-func leaderOf(ctx context.Context, host string, port int, group string, node int) (Led, bool, error) {
+func leaderOf(ctx context.Context, host string, port int, group string, node int) (Led, sight, error) {
 	path := fmt.Sprintf("/leaders/%s?node=%d", url.PathEscape(group), node)
 	return getLeader(ctx, host, port, path, 0, http.StatusNotFound)
 }
 
-// getLeader reads a leader, for which the port waits so many seconds, and whether it is present. It is of term 0 where
-// the answer has the status that says that there is none.
-func getLeader(ctx context.Context, host string, port int, path string, seconds, none int) (Led, bool, error) {
+// getLeader reads a leader, for which the port waits so many seconds, and how it is seen. It is of term 0 where the answer
+// has the status that says that there is none.
+func getLeader(ctx context.Context, host string, port int, path string, seconds, none int) (Led, sight, error) {
 	code, text, err := getWithin(ctx, host, port, path, time.Duration(seconds)*time.Second+statusLimit)
 	if err != nil || code == none {
-		return Led{}, false, err
+		return Led{}, sight{}, err
 	}
 	if code == http.StatusServiceUnavailable {
 		// No place is free for who waits, or memory is wanting.
-		return Led{}, false, noAnswer(ctx, address(host, port)+path, errors.New("503"))
+		return Led{}, sight{}, noAnswer(ctx, address(host, port)+path, errors.New("503"))
 	}
 	var told struct {
-		Leader  struct{ Term, Node, Bid int }
-		Present *bool
+		Leader   struct{ Term, Node, Bid int }
+		Present  *bool
+		Resigned bool
+		Text     string
 	}
 	if code != http.StatusOK || json.Unmarshal(text, &told) != nil || told.Leader.Term <= 0 || told.Present == nil {
-		return Led{}, false, noStatus(host, port, path, code)
+		return Led{}, sight{}, noStatus(host, port, path, code)
 	}
-	return Led{told.Leader.Term, Leader{told.Leader.Node, told.Leader.Bid}}, *told.Present, nil
+	return Led{told.Leader.Term, Leader{told.Leader.Node, told.Leader.Bid}}, sight{*told.Present, told.Resigned, told.Text}, nil
 }
 
 // getJSON reads an answer in JSON.

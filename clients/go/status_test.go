@@ -2,9 +2,11 @@ package cinoweta
 
 import (
 	"context"
+	"io"
 	"net"
 	"net/http"
 	"net/http/httptest"
+	"sync/atomic"
 	"testing"
 	"time"
 )
@@ -63,12 +65,12 @@ func TestHealth(t *testing.T) {
 func TestStatusIsRead(t *testing.T) {
 	leavesNone(t)
 	told, err := Status(background(t), "", status(t, pages{"/status": {http.StatusOK, `{"version": "0.1.0", "dir": "ring-state",
-		"started": 1700000000, "words": "--always", "idle": 5, "nodes": [{"node": 1, "port": 7101, "state": "failed", "journal": {"inputs": 21, "renewable": true},
+		"started": 1700000000, "words": "--always", "idle": 5, "doorless": [1], "nodes": [{"node": 1, "port": 7101, "state": "failed", "journal": {"inputs": 21, "renewable": true},
 		"stands": {"left": 1000}, "sessions": {"refusals": [{"count": 4, "number": 15}]}, "new": 5}]}`}}))
 	must(t, err)
 	node := NodeStatus{Node: 1, Port: 7101, State: "failed", Journal: JournalStatus{Inputs: 21, Renewable: true},
 		Stands: StandsStatus{Left: 1000}, Sessions: SessionsStatus{Refusals: []RefusalCount{{ErrDeviceFailed, 4}}}}
-	same(t, told, RingStatus{"0.1.0", "ring-state", 1700000000, "--always", 5, []NodeStatus{node}})
+	same(t, told, RingStatus{"0.1.0", "ring-state", 1700000000, "--always", 5, []int{1}, []NodeStatus{node}})
 	for _, wrong := range []page{{200, "[]"}, {200, "well"}, {404, "{}"}, {200, `{"nodes": 3}`}, {200, `{"nodes": [1]}`}, {200, "{}"},
 		{404, `{"nodes": []}`}} {
 		_, err := Status(background(t), "", status(t, pages{"/status": wrong}))
@@ -98,18 +100,21 @@ func TestLeaders(t *testing.T) {
 func TestALeaderOfANode(t *testing.T) {
 	leavesNone(t)
 	port := status(t, pages{
-		"/leaders/red?node=2":   {200, `{"by": 2, "leader": {"bid": 5, "group": "red", "node": 2, "term": 7}, "present": true}`},
+		"/leaders/red?node=2": {200, `{"by": 2, "leader": {"bid": 5, "group": "red", "node": 2, "term": 7}, "present": true}`},
+		"/leaders/blue?node=2": {200, `{"by": 2, "leader": {"bid": 5, "group": "blue", "node": 2, "term": 9}, "present": false,
+			"resigned": true, "text": ""}`},
 		"/leaders/r%20d?node=3": {200, `{"by": 3, "leader": {"bid": 5, "group": "r d", "node": 3, "term": 8}, "present": false}`},
 	})
 	for _, row := range []struct {
-		group     string
-		node      int
-		wanted    Led
-		isPresent bool
-	}{{"red", 2, Led{7, Leader{2, 5}}, true}, {"r d", 3, Led{8, Leader{3, 5}}, false}, {"red", 1, Led{}, false}} {
-		led, isPresent, err := leaderOf(background(t), "", port, row.group, row.node)
+		group  string
+		node   int
+		wanted Led
+		sight  sight
+	}{{"red", 2, Led{7, Leader{2, 5}}, sight{isPresent: true}}, {"r d", 3, Led{8, Leader{3, 5}}, sight{}}, {"red", 1, Led{}, sight{}},
+		{"blue", 2, Led{9, Leader{2, 5}}, sight{hasResigned: true}}} {
+		led, sight, err := leaderOf(background(t), "", port, row.group, row.node)
 		must(t, err)
-		same(t, []any{led, isPresent}, []any{row.wanted, row.isPresent})
+		same(t, []any{led, sight}, []any{row.wanted, row.sight})
 	}
 	leader := `"leader": {"bid": 5, "group": "red", "node": 2, "term": 7}`
 	for _, wrong := range []page{{200, "{" + leader + "}"}, {200, "{" + leader + `, "present": 1}`}, {200, `{"present": true}`},
@@ -131,4 +136,23 @@ func TestAStatusThatIsNotAnsweredEndsWithItsContext(t *testing.T) {
 	_, err = Health(ctx, "", listener.Addr().(*net.TCPAddr).Port)
 	as[*NoAnswerError](t, err)
 	is(t, err, context.DeadlineExceeded)
+}
+
+func TestTheStatusPortMayTellLate(t *testing.T) {
+	var asked atomic.Int32
+	late := func(writer http.ResponseWriter, request *http.Request) {
+		if asked.Add(1); request.URL.RequestURI() != "/leaders/red?above=1&wait=30" {
+			writer.WriteHeader(http.StatusNotFound)
+			return
+		}
+		time.Sleep(6 * time.Second)
+		io.WriteString(writer, `{"by": 1, "leader": {"bid": 5, "group": "red", "node": 1, "term": 2}, "present": true}`)
+	}
+	ring, nodes := beside(t, deaf, deaf)
+	ring.Status = status(t, http.HandlerFunc(late))
+	led, err := ring.Watch("red", 1).Next(background(t))
+	must(t, err)
+	same(t, []any{led, asked.Load()}, []any{Led{2, Leader{1, 5}}, 1})
+	// Nobody else had to be asked.
+	same(t, len(nodes[0].lines(""))+len(nodes[1].lines("")), 0)
 }

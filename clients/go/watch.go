@@ -18,8 +18,8 @@ func (r *Ring) Watch(group string, after int) *Watch {
 const waitSeconds = 30
 
 // Next waits for a leader in a greater term than the one before. Where the ring's Status is told, that port tells of it
-// at once; else it looks again and again, at most a second apart. Of several terms it tells the last. Once the context is
-// over it gives the error of that; a [NoAnswerError] where no node answers any more.
+// at once; else it looks again and again, at most a second apart. Of several terms it tells the last. A ring that is away
+// is waited for too. Once the context is over it gives the error of that.
 func (w *Watch) Next(ctx context.Context) (Led, error) {
 	var pause pause
 	for {
@@ -28,7 +28,7 @@ func (w *Watch) Next(ctx context.Context) (Led, error) {
 			w.after = known.Term
 			return known, nil
 		}
-		if err == nil && (wasWaited || pause.take(ctx, w.ring)) {
+		if err == nil && wasWaited || (err == nil || isPassing(err)) && pause.take(ctx, w.ring) {
 			continue
 		}
 		w.ring.release(ctx)

@@ -1,0 +1,120 @@
+package cinoweta
+
+import (
+	"context"
+	"errors"
+	"sync"
+	"time"
+)
+
+// IsLost tells whether this process does not hold the lock any more: it resigned, a greater term is known, or it gives up,
+// as its options may say. The ring is asked once a second at most. Where no node answers, or one finds no memory to,
+// nothing is known to be lost; for all locks of a [Ring] that is found out once a second.
+func (l *Lock) IsLost(ctx context.Context) (bool, error) {
+	l.mutex.Lock()
+	isDue := l.isHeld && time.Since(l.asked) >= l.every
+	l.mutex.Unlock()
+	var err error
+	if isDue {
+		err = l.look(ctx)
+	}
+	l.mutex.Lock()
+	defer l.mutex.Unlock()
+	if l.isHeld && l.how.GiveUp > 0 && time.Since(l.heard) >= l.how.GiveUp {
+		l.hasGivenUp = true
+		// Across hosts that may take time where nobody answers.
+		go l.end().close()
+	}
+	return !l.isHeld, err
+}
+
+// look asks who leads, and has the lock be lost where that is in a greater term.
+func (l *Lock) look(ctx context.Context) error {
+	begun := time.Now()
+	known, isKnown, err := Led{}, false, error(nil)
+	if !l.ring.silence.isWithin(l.every) {
+		known, isKnown, err = l.looks.Latest(ctx, l.group, AnyNode)
+		l.looks.release(ctx)
+	}
+	if isNoAnswer(err) && ended(ctx) == nil {
+		l.ring.silence.begin()
+	}
+	if ended(ctx) == nil && (isNoAnswer(err) || errors.Is(err, ErrOutOfMemory)) {
+		err = nil
+	}
+	l.mutex.Lock()
+	defer l.mutex.Unlock()
+	l.asked = time.Now()
+	switch {
+	case !l.isHeld:
+		// It was given back meanwhile, and who waits for it anew goes on.
+	case isKnown && known.Term > l.term:
+		l.resign(0)
+	case isKnown && known.Term == l.term:
+		l.heard = begun
+	default:
+		// Another node may know more.
+		l.looks.pass(ctx)
+	}
+	return err
+}
+
+// awaitLoss looks whether the lock is lost until it is, or the context is over.
+func (l *Lock) awaitLoss(ctx context.Context) error {
+	for {
+		length := l.every
+		if l.how.GiveUp > 0 {
+			length = atMost(length, time.Until(l.givesUp()))
+		}
+		sleep(ctx, length)
+		if ctx.Err() != nil {
+			return nil
+		}
+		isLost, err := l.isLostInTime(ctx)
+		if isLost {
+			l.mutex.Lock()
+			defer l.mutex.Unlock()
+			return &LockLostError{Group: l.group, Term: l.term, GaveUp: l.hasGivenUp}
+		}
+		if err != nil && ctx.Err() == nil {
+			return err
+		}
+	}
+}
+
+// isLostInTime tells the same as IsLost, and is not late where the lock is given up.
+func (l *Lock) isLostInTime(ctx context.Context) (bool, error) {
+	if l.how.GiveUp > 0 {
+		limited, cancel := context.WithDeadline(ctx, l.givesUp())
+		defer cancel()
+		ctx = limited
+	}
+	return l.IsLost(ctx)
+}
+
+// givesUp is when the lock is given up, unless a node can tell before.
+func (l *Lock) givesUp() time.Time {
+	l.mutex.Lock()
+	defer l.mutex.Unlock()
+	return l.heard.Add(l.how.GiveUp)
+}
+
+// A silence is that of a ring that did not answer.
+type silence struct {
+	mutex sync.Mutex
+	begun time.Time
+}
+
+// begin has it begin now.
+func (s *silence) begin() {
+	s.mutex.Lock()
+	defer s.mutex.Unlock()
+	s.begun = time.Now()
+}
+
+// isWithin tells whether it began within this time.
+func (s *silence) isWithin(length time.Duration) bool {
+	s.mutex.Lock()
+	defer s.mutex.Unlock()
+	return !s.begun.IsZero() && time.Since(s.begun) < length
+}

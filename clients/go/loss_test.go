@@ -1,0 +1,145 @@
+package cinoweta
+
+import (
+	"context"
+	"testing"
+	"time"
+)
+
+// become has all nodes answer so after this time.
+func become(nodes []*node, after time.Duration, answer answer) {
+	time.AfterFunc(after, func() {
+		for _, node := range nodes {
+			node.is(answer)
+		}
+	})
+}
+
+func TestALookThatIsLateEndsNoWait(t *testing.T) {
+	ring, nodes, votes := elected(t)
+	lock := lockOf(t, ring, LockOptions{})
+	must(t, lock.Acquire(background(t)))
+	lock.every = 0
+	asked, goesOn := make(chan bool, 1), make(chan bool)
+	late := func(line string) (string, bool) {
+		asked <- true
+		<-goesOn
+		return votes.at(1)(line)
+	}
+	nodes[0].is(late)
+	looked := make(chan error, 1)
+	go func() {
+		_, err := lock.IsLost(background(t))
+		looked <- err
+	}()
+	<-asked
+	nodes[0].is(votes.at(1))
+	// It is given back, had by another one, and waited for, before the answer comes.
+	lock.Resign()
+	ring.handed.take("red")
+	other := lockOf(t, ring, LockOptions{})
+	must(t, other.Acquire(background(t)))
+	ended := make(chan error, 1)
+	go func() { ended <- lock.Acquire(background(t)) }()
+	until(t, "its wait", func() bool { return holderWaits(lock) })
+	close(goesOn)
+	must(t, <-looked)
+	other.Resign()
+	must(t, <-ended)
+	same(t, lock.Term(), 3)
+}
+
+// holderWaits tells whether somebody waits for the lock.
+func holderWaits(lock *Lock) bool {
+	lock.mutex.Lock()
+	defer lock.mutex.Unlock()
+	return lock.leave != nil
+}
+
+// gaveUp has a lock be held that is given up after a second and a half, while the nodes change, and gives after how long it was
+// lost, for which it had to be given up.
+func gaveUp(t *testing.T, change func(nodes []*node)) time.Duration {
+	t.Helper()
+	ring, nodes, votes := elected(t)
+	lock := lockOf(t, ring, LockOptions{GiveUp: 1500 * time.Millisecond})
+	var begun time.Time
+	err := lock.Run(background(t), func(ctx context.Context, _ int) error {
+		begun = time.Now()
+		change(nodes)
+		<-ctx.Done()
+		return nil
+	})
+	took, lost := time.Since(begun), as[*LockLostError](t, err)
+	same(t, []any{lost.Term, lost.GaveUp}, []any{1, true})
+	same(t, err, "cinoweta: red: the lock of term 1 is lost: no node that could tell answered in time")
+	same(t, []bool{holds(t, lock), lock.sign == nil}, []bool{false, true})
+	until(t, "the end of its beacon", func() bool { return !isThere(background(t), votes.bid(1), time.Second) })
+	return took
+}
+
+func TestWhoIsCutOffGivesUp(t *testing.T) {
+	// Nodes that are away, that hang, that have not heard of the term, and that find no memory tell nothing.
+	silent := func(string) (string, bool) { return never(t)("") }
+	for _, answer := range []answer{deaf, silent, always("none"), always("no 8 memory")} {
+		took := gaveUp(t, func(nodes []*node) { become(nodes, 0, answer) })
+		same(t, took > 1300*time.Millisecond && took < 1800*time.Millisecond, true)
+	}
+	// The last answer came a second behind the begin.
+	took := gaveUp(t, func(nodes []*node) { become(nodes, 1500*time.Millisecond, deaf) })
+	same(t, took > 2300*time.Millisecond && took < 3000*time.Millisecond, true)
+}
+
+func TestWhoHearsOfOneNodeDoesNotGiveUp(t *testing.T) {
+	ring, nodes, _ := elected(t)
+	lock := lockOf(t, ring, LockOptions{GiveUp: 3 * time.Second})
+	must(t, lock.Run(background(t), func(ctx context.Context, _ int) error {
+		// The one that is asked first has not heard of the term.
+		nodes[0].is(always("none"))
+		sleep(ctx, 5*time.Second)
+		return ctx.Err()
+	}))
+}
+
+func TestWhoLooksSeldomAsksBeforeItGivesUp(t *testing.T) {
+	ring, nodes, _ := elected(t)
+	lock := lockOf(t, ring, LockOptions{GiveUp: 1500 * time.Millisecond})
+	must(t, lock.Acquire(background(t)))
+	time.Sleep(2 * time.Second)
+	same(t, holds(t, lock), true)
+	become(nodes, 0, deaf)
+	// A look that is not asked for anew tells so too.
+	time.Sleep(1200 * time.Millisecond)
+	before := time.Now()
+	for holds(t, lock) {
+		time.Sleep(10 * time.Millisecond)
+	}
+	took := time.Since(before)
+	same(t, took > 100*time.Millisecond && took < 1200*time.Millisecond, true)
+	// Taken again, it is held anew.
+	same(t, lock.hasGivenUp, true)
+}
+
+func TestALockThatIsLostToALaterLeaderIsNotGivenUp(t *testing.T) {
+	ring, _, votes := elected(t)
+	lock := lockOf(t, ring, LockOptions{GiveUp: time.Minute})
+	lock.every = 50 * time.Millisecond
+	err := lock.Run(background(t), func(ctx context.Context, _ int) error {
+		votes.lead(9, 2, 5)
+		<-ctx.Done()
+		return nil
+	})
+	same(t, as[*LockLostError](t, err).GaveUp, false)
+}
+
+func TestWhoIsCutOffAcrossHostsGivesUpInTime(t *testing.T) {
+	ring, nodes, votes, _ := across(t, otherHost)
+	lock := acrossOf(t, ring, LockOptions{GiveUp: 1500 * time.Millisecond})
+	must(t, lock.Acquire(background(t)))
+	same(t, giveUpOf(votes.bid(1)), 2*time.Second)
+	before := time.Now()
+	// Nobody answers what it says at its end either.
+	become(nodes, 0, never(t))
+	as[*LockLostError](t, lock.awaitLoss(background(t)))
+	took := time.Since(before)
+	same(t, took > 1300*time.Millisecond && took < 1800*time.Millisecond, true)
+}
