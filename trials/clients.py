@@ -7,6 +7,8 @@ from known import BIDS, GROUPS, Known, Question, Session
 
 # A session has so many lines at most. A node sends again what may be lost where a session ends.
 LINES = 300
+# At the last free door of its node a session ends behind so many. It is there where the door of the one before is not free yet.
+SHORT = 10
 
 
 class Broken(Exception):
@@ -26,7 +28,8 @@ class Client:
         self.is_killed = False
         self.connection: socket.socket | None = None
         self.session = Session()
-        self.left = 0
+        # How many lines are left of the session, and how many were answered.
+        self.left = self.answered = 0
 
     def run(self, is_look: bool) -> None:
         """Asks again, and then, unless it is only a look, new questions until the session breaks off."""
@@ -70,14 +73,24 @@ class Client:
             answer = self.exchange(question.line())
         except OSError as error:
             self.known.no_answer(self.node, question)
-            raise Broken(f"{question.line()!r} got no answer: {error}") from None
+            if self.is_killed or self.answered != SHORT:
+                raise Broken(f"{question.line()!r} got no answer: {error}") from None
+            self.leave()
+            self.ask(question)
+            return
+        self.answered += 1
         self.known.answered(self.node, question, before, self.session, answer)
+
+    def leave(self) -> None:
+        """Leaves a session that has ended."""
+        self.connection.close()
+        self.connection, self.left = None, 0
 
     def connect(self) -> None:
         """Ends the session, with `bye` or without, and opens another one."""
         try:
             if self.connection is not None:
-                if self.rng.random() < 0.5 and self.exchange("bye") != "bye":
+                if self.rng.random() < 0.5 and self.answered != SHORT and self.exchange("bye") != "bye":
                     raise Broken("'bye' got another answer")
                 self.connection.close()
             self.connection = socket.create_connection(("127.0.0.1", self.port), self.patience)
@@ -85,7 +98,7 @@ class Client:
         except OSError as error:
             raise Broken(f"no session: {error}") from None
         self.session = Session()
-        self.left = self.rng.randint(1, LINES)
+        self.left, self.answered = self.rng.randint(1, LINES), 0
 
     def exchange(self, line: str) -> str:
         """The answer to a line. A part of one is none."""

@@ -4,9 +4,9 @@ A key is a group and a term. What is told of a key stays true for ever, over kil
 answer, earlier or later:
 
 - A node that stands for a key (`stood`, or `no 3 already` with a bid that it was asked with) has that bid for ever, and
-  answers each later Stand for it with `no 3 already` and this bid, or as 23 once the key is retired there.
-- A node that refuses a Stand for a key as 4, 5, 6 or 7 does not stand for it, and but for 6 and 7, which a floor and a
-  checkpoint may end, never will.
+  answers each later Stand for it with `no 3 already` and this bid, as 23 once the key is retired there, or as 7 where no
+  Stand finds room, which says nothing else of the key.
+- A node that refuses a Stand for a key as 4, 5 or 6 does not stand for it, and but for 6, which a floor may end, never will.
 - All that name a leader of a key name one. It is a candidate that was asked to stand, it is not one that was refused,
   and no candidate that stands for the key is greater: candidates are ordered by bid, then by node.
 - Once a leader was named nobody stands anew for its key: its token has passed every other node.
@@ -23,6 +23,7 @@ A book that is kept for long forgets what is below a floor of all nodes that eac
 then on no node tells of a lower term of the group, at whichever door: its `latest` comes to that floor, and all else that
 it is asked below it is answered 23.
 """
+import copy
 import random
 import threading
 from collections import Counter
@@ -116,6 +117,15 @@ class Known:
         self.highest: dict[str, int] = {}
         # By group: the floor below which all is forgotten.
         self.forgotten: dict[str, int] = {}
+
+    def branch(self) -> "Known":
+        """What is known, for one of several ways in which a ring may go on."""
+        own = copy.copy(self)
+        own.lock = threading.RLock()
+        for name, value in vars(self).items():
+            if name != "lock":
+                setattr(own, name, copy.deepcopy(value))
+        return own
 
     def fault(self, text: str) -> None:
         with self.lock:
@@ -230,7 +240,8 @@ class Known:
             try:
                 if words[:3] == ["no", "23", "retired"] and len(words) == 4:
                     self.on_floor(node, question, before, session, int(words[3]), told)
-                elif question.is_below(before.floor):
+                # A full node refuses each Stand before it looks whose.
+                elif question.is_below(before.floor) and (question.word, answer) != ("stand", "no 7 full"):
                     self.fault(f"{told}, and it told of a floor: {self.floors[node, question.group][1]}")
                 elif question.word == "stand":
                     self.on_stand(node, question, before, words, told)
@@ -269,7 +280,7 @@ class Known:
     def refuses(self, node: int, question: Question, before: Before, words: list[str], told: str) -> None:
         """The node does not stand, and never will, unless it has room again or retires what it has."""
         key = (question.group, question.term)
-        if (node, key) in self.stood:
+        if (node, key) in self.stood and words[1] != "7":
             self.fault(f"{told}, and the node stands: {self.stood[node, key][1]}")
         if words[1] == "4" and not any((other, key) in self.asked for other in self.others(node)):
             self.fault(f"{told}, and no other node was asked to stand")
@@ -281,7 +292,7 @@ class Known:
                 self.fault(f"{told}, and before it was asked the node told of a leader for term {before.above}")
             place = (node, question.group)
             self.stale[place] = max(term, self.stale.get(place, 0))
-        if words[1] in "67" and before.above > question.term:
+        if words[1] == "6" and before.above > question.term:
             self.fault(f"{told}, and before it was asked the node told of a leader for term {before.above}")
         if words[1] == "6" and sum(at == node for at, _ in self.asked) < 1024:
             self.fault(f"{told}, and it was not asked to stand for so many keys")

@@ -4,7 +4,8 @@
 Starts a ring by `ringd` as a careless supervisor might: with each of its standard streams closed or not, all eight
 ways, over nodes whose capacity is another one than the settings say, which each start tells. It serves, or it ends
 since its output cannot be written, and behind it `--check` finds the files whole. Then with so few descriptors that its
-status port has fewer clients than it could have: it answers all the same.
+status port has fewer clients than it could have: it answers all the same. With fewer than the ring takes, and where a
+file may not have the length of a node's, it is refused, says what it takes, and leaves no file.
 
   --ringd PATH   the server, `bin/ringd` by default.
 
@@ -26,6 +27,8 @@ from hangs import get
 from short import Failed, free_ports
 
 NODES, SECONDS = 2, 30
+# The capacity that the nodes are made with, and the one of the settings behind that.
+MADE, TOLD = 65_536, 4_096
 # With these a ring of two nodes with a door each serves, but the status port has no 64 clients.
 DESCRIPTORS = (24, 64)
 
@@ -37,9 +40,9 @@ class Starts:
         self.ringd, self.folder = ringd, folder
         self.settings = os.path.join(folder, "ring.toml")
         os.mkdir(os.path.join(folder, "ring"))
-        self.tell(65_536)
+        self.tell(MADE)
         self.ends("--make")
-        self.tell(4_096)
+        self.tell(TOLD)
 
     def tell(self, capacity: int) -> None:
         """Writes the settings, with new ports."""
@@ -99,6 +102,37 @@ class Starts:
             process.wait()
 
 
+    def refused(self, kind: int, limit: int, text: str, *words: str) -> None:
+        """A start that has so much of this at most ends with 1 and this last line."""
+        def bound() -> None:
+            resource.setrlimit(kind, (limit, limit))
+
+        ended = subprocess.run([self.ringd, "--settings", self.settings, *words], capture_output=True, timeout=SECONDS,
+                               preexec_fn=bound, check=False)
+        told = ended.stderr.decode("ascii", "replace").splitlines()[-1:]
+        if ended.returncode != 1 or told != [f"ringd: {text}"]:
+            raise Failed(f"{words} with {limit} at most ends with {ended.returncode}, and says {told}")
+
+    def bounded(self) -> None:
+        """Starts with a descriptor less than the ring takes, and where a file may be a byte shorter than a node's: of a
+        ring that is there, and of a new one."""
+        needed = 4 + NODES * 4
+        text = f"{needed - 1} descriptors may be had, and the ring takes {needed}"
+        self.refused(resource.RLIMIT_NOFILE, needed - 1, text, "--always")
+        size = os.path.getsize(os.path.join(self.folder, "ring", "node-1.crj"))
+        for folder, size in (("ring", size), ("new", size - 2 * (MADE - TOLD))):
+            self.settings = os.path.join(self.folder, f"{folder}.toml")
+            with open(self.settings, "w", encoding="ascii") as file:
+                file.write(f'nodes = {NODES}\ndir = "{self.folder}/{folder}"\nport = {self.port}\ncapacity = {TOLD}\n')
+            os.makedirs(os.path.join(self.folder, folder), exist_ok=True)
+            for words in (["--make"], ["--serve", "1"]):
+                text = f"a file may have {size - 1} bytes, and a node's takes {size}"
+                self.refused(resource.RLIMIT_FSIZE, size - 1, text, *words)
+        left = os.listdir(os.path.join(self.folder, "new"))
+        if left:
+            raise Failed(f"a start that is refused leaves {left}")
+
+
 def answers(port: int) -> bool:
     """Whether a session at the port is answered."""
     try:
@@ -122,12 +156,14 @@ def main() -> int:
                 starts.closed(streams)
         for count in DESCRIPTORS:
             starts.few(count)
+        starts.bounded()
     except (Failed, OSError, subprocess.TimeoutExpired) as fault:
         print(f"starts.py: {fault}", file=sys.stderr)
         return 1
     finally:
         shutil.rmtree(folder)
-    print(f"8 starts with and without standard streams, and {len(DESCRIPTORS)} with few descriptors: as they are to be")
+    print(f"8 starts with and without standard streams, {len(DESCRIPTORS)} with few descriptors, and 5 with too few or "
+          "where files may not be so long: as they are to be")
     return 0
 
 

@@ -12,7 +12,7 @@ other's end stands behind it. What was written is stable once a sync that began 
 - each write to a journal begins once the one before it is stable: so a frame or a snapshot before its gate, the gate
   that was closed before the snapshot, and a gate before all that follows, and a file that is opened is synced first;
 - a new file and its name are stable before it is written to, all that it holds before it gets its own name, and all
-  names before `ring.made` and before the first answer;
+  names before `ring.made` and before the first answer; no node's name goes while `ring.made` may be there;
 - of an answer, the Stand, the leader, the message or the floor that it tells of is in a batch or a checkpoint whose gate
   is stable when it is sent, and which this start wrote, for the file may read what the disk never had.
 
@@ -45,7 +45,7 @@ NODES = 3
 CAPACITY = 16_384
 # How long the second start is asked, in seconds, and from which sync of a thread on the third one is refused each.
 LOAD, FAILING = 1.0, 24
-CALLS = "openat,rename,fsync,fdatasync,pwrite64,accept4,recvfrom,sendto"
+CALLS = "openat,rename,unlink,unlinkat,fsync,fdatasync,pwrite64,accept4,recvfrom,sendto"
 LINE = re.compile(r"(\d+) +(?:<\.\.\. (\w+) resumed>|(\w+)\()(.*?)(?:( <unfinished \.\.\.>)|\) += (-?\d+|\?)(.*))?$")
 STRING = re.compile(r'"((?:[^"\\]|\\.)*)"')
 PLACE = re.compile(r"^\d+<(.*?)>(?:, |$)")
@@ -207,6 +207,9 @@ class Start:
     def __init__(self, folder: str, port: int) -> None:
         self.folder, self.port = folder, port
         self.names = File()
+        self.mark = os.path.join(folder, "ring.made")
+        # Whether this start made it, and it is not gone for good.
+        self.is_marked = False
         self.journals: dict[str, Journal] = {}
         self.made: set[str] = set()
         self.asked: dict[str, list[str]] = defaultdict(list)
@@ -225,21 +228,30 @@ class Start:
             self.open(call)
         elif call.name == "rename":
             self.rename(call)
+        elif call.name in ("unlink", "unlinkat"):
+            self.remove(call)
         elif call.name == "accept4":
             # A descriptor's connection is a new session.
             self.asked[call.behind[1:-1]], self.part[call.behind[1:-1]] = [], ""
         elif call.name in ("recvfrom", "sendto") and call.place():
             self.talk(call)
         elif call.place() == self.folder:
-            self.names.sync(call)
+            stable = self.names.sync(call)
+            self.is_marked = self.is_marked and ("gone", self.mark) not in stable
         elif call.place() in self.journals:
             self.use(call, self.journals[call.place()])
 
     def open(self, call: Call) -> None:
-        path, is_new = call.strings()[0].decode(), "O_CREAT" in call.text
+        path = call.strings()[0].decode()
         if os.path.dirname(path) != self.folder:
             return
         found = NODE.search(path)
+        is_new = "O_EXCL" in call.text or "O_CREAT" in call.text and found is None
+        if "O_CREAT" in call.text and not is_new:
+            # A look at why it could not be made.
+            self.made.discard(path)
+            return
+        self.is_marked = self.is_marked or path == self.mark
         if is_new and found is None and call.result is None and self.names.unstable:
             self.fault("starts", "ring.made is made, and a name before it is not stable")
         if is_new:
@@ -255,10 +267,21 @@ class Start:
         if call.result is None:
             if self.journals[old].unstable:
                 self.fault("starts", f"{old} gets its name, and what it holds is not stable")
-        else:
+        elif call.result == 0:
             self.journals[new] = self.journals.pop(old)
             self.journals[new].is_named = True
-        self.names.add(call, new)
+        if call.result == -1:
+            # The name is as it was.
+            self.names.unstable.pop(call.number, None)
+        else:
+            self.names.add(call, new)
+
+    def remove(self, call: Call) -> None:
+        path = call.strings()[0].decode()
+        if call.result is None and self.is_marked and path.endswith(".crj"):
+            self.fault("starts", f"{path} is removed, and ring.made may be there")
+        if call.result == 0:
+            self.names.add(call, ("gone", path))
 
     def use(self, call: Call, used: Journal) -> None:
         if call.name == "pwrite64":
@@ -367,17 +390,23 @@ class Trial:
         return not faults and not self.ring.known.faults and all(counts[kind] for kind in (*KINDS[:3], "refused"))
 
 
-def main() -> int:
-    parser = argparse.ArgumentParser(description="Looks whether ringd synced what it tells.")
+def named(description: str) -> str:
+    """The ringd that the words name. It ends with 2 where there is none, or no strace to see its calls by."""
+    parser = argparse.ArgumentParser(description=description)
     parser.add_argument("--ringd", default=os.path.join(os.path.dirname(HERE), "bin", "ringd"), metavar="PATH")
     words = parser.parse_args()
     if not os.access(words.ringd, os.X_OK):
         parser.error(f"{words.ringd} is not there; make ringd builds bin/ringd")
     if shutil.which("strace") is None:
         parser.error("it takes strace, which this machine has not")
+    return os.path.abspath(words.ringd)
+
+
+def main() -> int:
+    ringd = named("Looks whether ringd synced what it tells.")
     folder = tempfile.mkdtemp(prefix="ringd-syncs-")
     try:
-        return 0 if Trial(os.path.abspath(words.ringd), folder).run() else 1
+        return 0 if Trial(ringd, folder).run() else 1
     except Ended as ended:
         print(f"fault: {ended}")
         return 1

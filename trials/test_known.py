@@ -40,6 +40,7 @@ RIGHT = [
 2 retire red 4: retired
 2 retire red 9: no 7 full
 2 who red 4: leader 1 5
+1 stand red 4 5: no 7 full
 start
 1 who red 4: no 23 retired 9
 2 stand red 4 6: no 4 late
@@ -81,7 +82,7 @@ WRONG = {
     "a key below the floor is not retired": [
         FLOOR + f"{line}\n" for line in (
             "1 stand red 8 5: stood", "1 stand red 4 6: no 3 already 5", "1 stand red 8 5: no 4 late", "1 stand red 8 5: no 5 stale 9",
-            "1 stand red 8 5: no 6 limit", "1 stand red 8 5: no 7 full", "1 retire red 8: no 26 undecided", "1 retire red 9: no 7 full",
+            "1 stand red 8 5: no 6 limit", "1 retire red 8: no 26 undecided", "1 retire red 9: no 7 full",
             "1 who red 4: no 23 retired 9\n1 who red 4: leader 1 5", "1 who red 4: no 23 retired 9\n1 who red 5: none")],
     "a floor falls": [
         FLOOR + "1 retire red 8: retired\n", FLOOR + "1 retire red 9: retired\n",

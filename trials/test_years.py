@@ -8,7 +8,8 @@ import time
 import unittest
 
 HERE = os.path.dirname(os.path.abspath(__file__))
-sys.path[:0] = [HERE, os.path.join(HERE, "..", "clients", "python", "tests")]
+PACKAGE = os.path.join(HERE, "..", "clients", "python")
+sys.path[:0] = [HERE, PACKAGE, os.path.join(PACKAGE, "tests")]
 from known import GROUPS, Known, Question, Session
 from lines import serve
 from test_known import ForgetsFloors, Ring

@@ -1,10 +1,10 @@
 #!/usr/bin/env python3
 """Has the disk refuse one page during one sync, and then the power go, and holds ringd to all that it told a client.
 
-writeback.py [--ringd PATH] [--rounds N]
+writeback.py [--ringd PATH] [--rounds N] [--case TEXT]
 
-PATH is a built ringd, bin/ringd where none is named; N, 1 to 1,000, how often each case is tried, 10 by default. It
-takes root, a kernel with loop devices, tmpfs and ext4, and strace, mkfs.ext4, mount and fallocate.
+PATH is a built ringd, bin/ringd where none is named; N, 1 to 1,000, how often each case is tried, 10 by default; TEXT
+has the cases played alone whose line has it. It takes root, a kernel with loop devices, tmpfs and ext4, and strace, mkfs.ext4, mount and fallocate.
 
 After a write-back that failed Linux takes the page for clean and keeps its bytes. A file that is opened anew reads
 them, and its sync answers 0 with nothing written: so a start that trusts what it reads tells what the disk never had. A
@@ -20,14 +20,18 @@ and started again, asked again what is known, and asked for more Stands. Then it
 image as it is, without what only the memory has, is mounted in place of the disk. ringd is started there, and asked
 again all that is known. What is checked of each answer stands in known.py.
 
-A line tells of each case `rounds N stands S leaders L faults F`: the rounds, the Stands and leaders that were told
-between the sync that failed and the end of the power, and in how many rounds something was missing or was not as it
-should be, of which the first is printed. Status 1 where there was a fault or no such Stand or leader; 2 for other
-arguments, or where something is missing that it takes.
+In a fifth of N rounds each, those calls of a checkpoint fail at capacities of 4,096, 32,768 and 65,536, where node 2
+retired terms before and where it did not, and the power goes within the start behind that: behind each of its calls on
+node 2's file, at each of which ringd is stopped and the image kept. On each such image ringd is started, and asked again
+all that was known before.
+
+A line tells of each case `rounds N stands S leaders L moments M faults F`: the rounds, the Stands and leaders that were
+told between the sync that failed and the end of the power, the moments within a start, and in how many rounds something
+was missing or was not as it should be, of which the first is printed. Status 1 where there was a fault, or no such Stand
+or leader, or no such moment; 2 for other arguments, or where something is missing that it takes.
 """
 import argparse
 import contextlib
-import fcntl
 import itertools
 import os
 import pathlib
@@ -35,7 +39,6 @@ import random
 import re
 import shutil
 import signal
-import struct
 import subprocess
 import sys
 import tempfile
@@ -47,15 +50,15 @@ HERE = os.path.dirname(os.path.abspath(__file__))
 sys.path.insert(0, HERE)
 import journal
 from clients import Client, start
+from disk import PAGE, Disk
 from kill import PATIENCE, Ended, Ring, number
 from known import BIDS, GROUPS, Question
 from short import free_ports
 
-PAGE = 4096
-IMAGE = 16 << 20
-FIBMAP = 1
 # Area B begins with the last byte of a page, its gate: neither its snapshot nor its frames write that page again.
 CAPACITIES = {"below": 4 * PAGE - 32, "above": 12 * PAGE - 32}
+# Those at which the power goes within a start.
+CUT = [4_096, 32_768, 65_536]
 # How many questions a node is asked between the sync that failed and the end of the power. A checkpoint of them all
 # would write what was lost again.
 QUESTIONS = 8
@@ -64,84 +67,30 @@ LOAD, NEAR = 2, 1_200
 WRITE = re.compile(r"pwrite64\(.*, (\d+), (\d+)(?:\) += \d+| <unfinished \.\.\.>)$", re.MULTILINE)
 
 
-def run(*words: str) -> None:
-    """Runs a program of the system."""
-    subprocess.run(words, check=True, stdout=subprocess.DEVNULL)
-
-
-class Disk:
-    """An ext4 on an image, mounted at the folder. The image lies on a tmpfs with no room beside it."""
-
-    def __init__(self, folder: str, at: str) -> None:
-        self.shm, self.at = os.path.join(folder, "shm"), at
-        self.image, self.beside = os.path.join(self.shm, "image"), os.path.join(self.shm, "beside")
-        self.copy = os.path.join(folder, "copy")
-        self.taken = (0, b"")
-        os.mkdir(self.shm)
-        try:
-            self.make()
-        except BaseException:
-            self.close()
-            raise
-
-    def make(self) -> None:
-        run("mount", "-t", "tmpfs", "-o", f"size={IMAGE}", "tmpfs", self.shm)
-        with open(self.image, "wb") as file:
-            file.truncate(IMAGE)
-        run("mkfs.ext4", "-q", "-b", str(PAGE), "-E", "nodiscard,lazy_itable_init=0,lazy_journal_init=0", self.image)
-        # Each page of it takes its room now.
-        with open(self.image, "r+b") as file:
-            data = file.read()
-            file.seek(0)
-            file.write(data)
-        self.mount(self.image)
-
-    def mount(self, image: str) -> None:
-        run("mount", "-o", "loop,errors=continue", image, self.at)
-
-    def block(self, file: str, page: int) -> int:
-        """The place on the disk of a page of a file that is written out."""
-        with open(file, "rb") as opened:
-            return struct.unpack("i", fcntl.ioctl(opened, FIBMAP, struct.pack("i", page)))[0]
-
-    def take_away(self, block: int) -> None:
-        with open(self.image, "rb") as file:
-            file.seek(block * PAGE)
-            self.taken = (block, file.read(PAGE))
-        run("fallocate", "--punch-hole", "--offset", str(block * PAGE), "--length", str(PAGE), self.image)
-        with open(self.beside, "wb", buffering=0) as file, contextlib.suppress(OSError):
-            while True:
-                file.write(bytes(PAGE))
-
-    def give_back(self) -> None:
-        os.remove(self.beside)
-        block, data = self.taken
-        with open(self.image, "r+b") as file:
-            file.seek(block * PAGE)
-            file.write(data)
-
-    def power_goes(self) -> None:
-        """The folder has what the disk had, and nothing of what only the memory had."""
-        shutil.copyfile(self.image, self.copy)
-        run("umount", self.at)
-        self.mount(self.copy)
-
-    def close(self) -> None:
-        for place in (self.at, self.shm):
-            subprocess.run(["umount", place], check=False, stderr=subprocess.DEVNULL)
-
-
 class Case(NamedTuple):
     """Which sync fails: that call of a `batch`, of a `checkpoint` that is due, or of one of a `start`; and the size of
-    the snapshot beside a page."""
+    the snapshot beside a page. With a capacity of its own the power goes within the start behind that, whatever the
+    snapshot's size; node 2 may have retired terms before."""
     kind: str
     call: int
     size: str
+    cut: int = 0
+    retires: bool = False
 
     def __str__(self) -> str:
-        return f"call {self.call} of a {self.kind}, snapshot {self.size} a page"
+        if not self.cut:
+            return f"call {self.call} of a {self.kind}, snapshot {self.size} a page"
+        return f"call {self.call} of a {self.kind}, capacity {self.cut}{', behind a Retire' if self.retires else ''}"
+
+    def capacity(self) -> int:
+        return self.cut or CAPACITIES[self.size]
+
+    def rounds(self, rounds: int) -> int:
+        return max(1, rounds // 5) if self.cut else rounds
 
     def has_size(self, snapshot: int) -> bool:
+        if self.cut:
+            return True
         return snapshot > PAGE if self.size == "above" else snapshot < PAGE - journal.HEAD
 
     def is_behind(self, kind: str, call: int, snapshot: int) -> bool:
@@ -161,6 +110,8 @@ class Case(NamedTuple):
 
 CASES = [Case(kind, call, size) for size in CAPACITIES
          for kind, calls in (("batch", [4]), ("checkpoint", [2, 4, 6]), ("start", [2, 4, 6])) for call in calls]
+CASES += [Case(kind, call, "", cut, retires) for cut in CUT for kind in ("checkpoint", "start") for call in (2, 4, 6)
+          for retires in (False, True)]
 
 
 class Write(NamedTuple):
@@ -172,25 +123,18 @@ class Write(NamedTuple):
         return self.offset + self.length - 1
 
 
-class Halts(threading.Thread):
-    """Looks at each write to node 2's file, behind which ringd stops. At the one before the sync of the case it has
-    `then` called with the page that was written, before ringd goes on."""
+class Stops(threading.Thread):
+    """Has `then` called with what was written to `calls` each time that ringd stops, before it goes on."""
 
-    def __init__(self, process: subprocess.Popen[bytes], calls: str, capacity: int, case: Case, snapshot: int,
-                 then: Callable[[int], None]) -> None:
+    def __init__(self, process: subprocess.Popen[bytes], calls: str, then: Callable[[str], None]) -> None:
         super().__init__(daemon=True)
-        self.process, self.case, self.then = process, case, then
+        self.process, self.then = process, then
         self.calls = open(calls, encoding="ascii")
-        self.areas = journal.areas(capacity)
-        # The size of the last snapshot that is known, and the write before.
-        self.snapshot, self.last = snapshot, Write(0, 0)
-        self.came = threading.Event()
 
     def run(self) -> None:
         with contextlib.suppress(ChildProcessError, ProcessLookupError), self.calls:
             while self.stops():
-                for length, offset in WRITE.findall(self.calls.read()):
-                    self.look(Write(int(length), int(offset)))
+                self.then(self.calls.read())
                 os.kill(self.process.pid, signal.SIGCONT)
 
     def stops(self) -> bool:
@@ -201,6 +145,24 @@ class Halts(threading.Thread):
         os.waitid(os.P_PID, pid, os.WSTOPPED)
         return True
 
+
+class Halts(Stops):
+    """Looks at each write to node 2's file, behind which ringd stops. At the one before the sync of the case it has
+    `refuse` called with the page that was written, before ringd goes on."""
+
+    def __init__(self, process: subprocess.Popen[bytes], calls: str, capacity: int, case: Case, snapshot: int,
+                 refuse: Callable[[int], None]) -> None:
+        super().__init__(process, calls, self.look_at)
+        self.case, self.refuse = case, refuse
+        self.areas = journal.areas(capacity)
+        # The size of the last snapshot that is known, and the write before.
+        self.snapshot, self.last = snapshot, Write(0, 0)
+        self.came = threading.Event()
+
+    def look_at(self, calls: str) -> None:
+        for length, offset in WRITE.findall(calls):
+            self.look(Write(int(length), int(offset)))
+
     def look(self, write: Write) -> None:
         kind, call = self.which(write)
         if (kind, call) == ("checkpoint", 3):
@@ -208,7 +170,7 @@ class Halts(threading.Thread):
         # The next write to a batch's page, where there is one, would bring it back.
         is_left = kind == "checkpoint" or self.last.last() // PAGE > write.offset // PAGE
         if is_left and not self.came.is_set() and self.case.is_behind(kind, call, self.snapshot):
-            self.then(write.offset // PAGE)
+            self.refuse(write.offset // PAGE)
             self.came.set()
         self.last = write
 
@@ -235,7 +197,7 @@ class Round:
 
     def __init__(self, ringd: str, folder: str, case: Case, rng: random.Random) -> None:
         self.case, self.rng = case, rng
-        self.ring = Ring(ringd, folder, 1, CAPACITIES[case.size], rng, 3)
+        self.ring = Ring(ringd, folder, 1, case.capacity(), rng, 3)
         self.ring.port = free_ports(3)
         self.known = self.ring.known
         self.disk = Disk(folder, os.path.join(folder, "ring"))
@@ -245,17 +207,18 @@ class Round:
         self.clients: list[Asker] = []
         self.terms = itertools.count(2)
         self.blocks: list[int] = []
-        self.stands = self.leaders = 0
+        self.stands = self.leaders = self.moments = 0
 
     def start(self) -> None:
         self.process = self.ring.start(self.rng)
         self.ring.await_line(self.process, b"serving\n")
 
-    def tracer(self) -> list[str]:
-        """strace, which stops ringd behind each write to node 2's file, and its words."""
+    def tracer(self, calls: str = "pwrite64") -> list[str]:
+        """strace, which stops ringd behind each of these calls on node 2's file, a write where none is named, and its
+        words."""
         open(self.calls, "wb").close()
-        return ["strace", "-f", "-s", "0", "-o", self.calls, "-P", self.file, "-e", "trace=pwrite64",
-                "-e", "inject=pwrite64:signal=SIGSTOP"]
+        return ["strace", "-f", "-s", "0", "-o", self.calls, "-P", self.file, "-e", f"trace={calls}",
+                "-e", f"inject={calls}:signal=SIGSTOP"]
 
     def halts(self, snapshot: int) -> Halts:
         """Looks at the writes of ringd, which is traced."""
@@ -329,9 +292,9 @@ class Round:
         """Waits until ringd says that node 2 failed. The disk works again then."""
         until, path = time.monotonic() + PATIENCE, os.path.join(self.ring.folder, "err")
         try:
-            while not pathlib.Path(path).read_bytes().startswith(b"ringd: node 2 failed\n"):
+            while b"ringd: node 2 failed\n" not in (said := pathlib.Path(path).read_bytes()):
                 if time.monotonic() > until:
-                    raise Ended("node 2 goes on behind a sync that failed")
+                    raise Ended(f"node 2 goes on behind a sync that failed, and says {said!r}")
                 time.sleep(0.01)
         finally:
             self.disk.give_back()
@@ -355,14 +318,70 @@ class Round:
                 self.disk.give_back()
             self.kill()
 
+    def retire(self) -> None:
+        """Node 2 retires terms of a group for which it names a leader."""
+        until = time.monotonic() + PATIENCE
+        while not self.known.retired:
+            if time.monotonic() > until:
+                raise Ended("nothing was retired")
+            self.look(LOAD, False)
+            again = [Question("latest", group) for group in GROUPS]
+            again += [Question("retire", group, term) for (node, group), term in self.known.latest.items() if node == 2]
+            client = Client(self.known, 2, self.ring.port + 1, again, self.rng, PATIENCE)
+            for thread in start([client], True):
+                thread.join()
+
+    def cut(self) -> None:
+        """Starts ringd, and has the power go behind each of its calls on node 2's file before it serves."""
+        kept: list[str] = []
+
+        def keep(_calls: str) -> None:
+            kept.append(os.path.join(self.ring.folder, f"moment-{len(kept)}"))
+            self.disk.keep(kept[-1])
+
+        self.ring.tracer = [*self.tracer("pwrite64,fdatasync"), "-D"]
+        self.process = self.ring.start(self.rng)
+        self.ring.tracer = []
+        stops = Stops(self.process, self.calls, keep)
+        stops.start()
+        self.ring.await_line(self.process, b"serving\n")
+        self.kill()
+        stops.join()
+        self.moments = len(kept)
+        before = self.known
+        for moment, path in enumerate(kept, 1):
+            # Behind another moment the ring goes on in another way.
+            self.known = self.ring.known = before.branch()
+            try:
+                self.disk.power_goes(path)
+                self.start()
+                self.look()
+                self.kill()
+            except Ended as ended:
+                self.known.fault(str(ended))
+                self.kill()
+            before.faults += [f"the power went at moment {moment} of {len(kept)}: {it}" for it in self.known.faults[:1]]
+            os.remove(path)
+        self.known = self.ring.known = before
+
     def play(self) -> None:
         self.start()
         pages = os.path.getsize(self.file) // PAGE + 1
         self.blocks = [self.disk.block(self.file, page) for page in range(pages)]
+        state = self.load()
+        if self.case.retires:
+            self.retire()
         if self.case.kind == "start":
-            self.fail_start(self.load())
+            self.fail_start(state)
         else:
-            self.fail(self.load())
+            self.fail(state)
+        if self.case.cut:
+            self.cut()
+        else:
+            self.go_on()
+
+    def go_on(self) -> None:
+        """Starts ringd, asks it for more, and has the power go."""
         stands, leaders = len(self.known.acknowledged), len(self.known.leaders)
         self.start()
         self.look(QUESTIONS)
@@ -386,7 +405,8 @@ class Round:
 
 def try_case(ringd: str, case: Case, rounds: int, rng: random.Random) -> bool:
     """Whether so many rounds of it were without a fault, and tried what they are for."""
-    stands = leaders = faults = 0
+    stands = leaders = moments = faults = 0
+    rounds = case.rounds(rounds)
     for _ in range(rounds):
         folder = tempfile.mkdtemp(prefix="ringd-writeback-")
         try:
@@ -394,18 +414,19 @@ def try_case(ringd: str, case: Case, rounds: int, rng: random.Random) -> bool:
             played.run()
         finally:
             shutil.rmtree(folder)
-        stands, leaders = stands + played.stands, leaders + played.leaders
+        stands, leaders, moments = stands + played.stands, leaders + played.leaders, moments + played.moments
         if played.known.faults and not faults:
             print(f"fault: {played.known.faults[0]}", flush=True)
         faults += bool(played.known.faults)
-    print(f"{case}: rounds {rounds} stands {stands} leaders {leaders} faults {faults}", flush=True)
-    return not faults and bool(stands) and bool(leaders)
+    print(f"{case}: rounds {rounds} stands {stands} leaders {leaders} moments {moments} faults {faults}", flush=True)
+    return not faults and (bool(moments) if case.cut else bool(stands) and bool(leaders))
 
 
 def main() -> int:
     parser = argparse.ArgumentParser(description="Has a disk refuse a page, and holds ringd to what it told.")
     parser.add_argument("--ringd", default=os.path.join(os.path.dirname(HERE), "bin", "ringd"), metavar="PATH")
     parser.add_argument("--rounds", type=number(1, 1_000), default=10, metavar="N")
+    parser.add_argument("--case", default="", metavar="TEXT", help="plays the cases alone whose line has this text")
     words = parser.parse_args()
     if not os.access(words.ringd, os.X_OK):
         parser.error(f"{words.ringd} is not there; make ringd builds bin/ringd")
@@ -417,7 +438,7 @@ def main() -> int:
     signal.signal(signal.SIGTERM, lambda *_: sys.exit(1))
     rng = random.Random()
     try:
-        results = [try_case(os.path.abspath(words.ringd), case, words.rounds, rng) for case in CASES]
+        results = [try_case(os.path.abspath(words.ringd), case, words.rounds, rng) for case in CASES if words.case in str(case)]
         return 0 if all(results) else 1
     except (OSError, subprocess.CalledProcessError) as error:
         print(f"writeback.py: {error}", file=sys.stderr)

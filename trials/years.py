@@ -8,7 +8,7 @@ number that the choices begin with, but not the moments at which threads run; C,
 of its three nodes, 65,536 by default.
 
 In each of four groups two clients of the package cinoweta campaign for one term after the other. Who comes to lead
-retires at all nodes the terms more than 10 below its own, asks who leads, and resigns; the other one takes it for gone
+retires at all nodes the terms more than 2 below its own, asks who leads, and resigns; the other one takes it for gone
 0.02 seconds after it knows of it. Half way, behind a whole minute, ringd is killed with signal 9 and started again on its
 folder, while the clients go on; then each node is asked again for all that is known of it, as it is at the end. Its
 environment has MALLOC_ARENA_MAX=1, as in examples/ringd.service, unless the caller's says another number.
@@ -40,13 +40,13 @@ import sys
 import tempfile
 import threading
 import time
-from functools import partial
 from typing import Callable
 
 HERE = os.path.dirname(os.path.abspath(__file__))
 sys.path[:0] = [HERE, os.path.join(os.path.dirname(HERE), "clients", "python")]
 import cinoweta
 from cinoweta.status import health
+from cinoweta.steps import at_once
 from kill import PATIENCE, Ended, Ring, number, run
 from known import GROUPS, Known, Question, Session
 from short import Failed, free_ports
@@ -138,13 +138,14 @@ class Judged(cinoweta.Ring):
         super().__init__(first, first + NODES - 1, timeout=timeout)
         self.book, self.told = book, Session()
 
-    def ask_once(self, line: str, place: int, seconds: float) -> str:
+    async def ask_once(self, line: str, place: int, seconds: float) -> str:
         # What the session was told has to be known before, so one that would be ended is ended now.
         if self.session is not None and (self.session.port != self.first + place - 1 or not self.session.is_usable()):
             self.close()
         word, group, *numbers = line.split(" ")
         question = Question(word, group, *map(int, numbers))
-        return self.book.ask(place, question, self.told, partial(super().ask_once, line, place, seconds))
+        asked = super().ask_once(line, place, seconds)
+        return self.book.ask(place, question, self.told, lambda: at_once(asked))
 
     def within(self, seconds: float) -> "Judged":
         return Judged(self.book, self.first, min(self.timeout, seconds))

@@ -1,4 +1,4 @@
-"""A line as docs/CONSOLE.md and docs/SESSIONS.md judge it: its words, or its first fault."""
+"""A line as docs/SESSIONS.md judges it: its words, or its first fault."""
 import re
 
 NO_LINE, NO_NAME, NO_NUMBER = "no 25 line", "no 1 name", "no 2 number"

@@ -1,0 +1,102 @@
+#!/usr/bin/env python3
+"""Looks at the system calls of `ringd --make`, of which one more is refused each time.
+
+makes.py [--ringd PATH]
+
+PATH is a built ringd, bin/ringd where none is named. It takes strace. Again and again a ring is made in an empty folder,
+while each sync, rename and write is refused in turn: once, or each one from then on. Its calls are held to the order that
+syncs.py tells of. Where it was refused, with one such call nothing is left, for good, and with more of them what is left
+is gone on from. Where it was not, all names are stable at its end.
+
+The last line is `makes M refused R, not as they should be: N`, behind the first that is not. Status 1 where there is one,
+or none was refused; 2 for other arguments.
+"""
+import os
+import pathlib
+import shutil
+import subprocess
+import sys
+import tempfile
+
+HERE = os.path.dirname(os.path.abspath(__file__))
+sys.path.insert(0, HERE)
+from kill import PATIENCE
+from syncs import CALLS, Start, calls, named
+
+NODES = 2
+# What a disk does with a sync is not looked at, so none is waited for.
+MEMORY = "/dev/shm"
+# Which calls are refused in turn, and how many of each at most.
+REFUSED, MOST = ("fsync", "fdatasync", "rename", "pwrite64"), 100
+
+
+class Makes:
+    """`ringd --make` in an empty folder, of which calls are refused."""
+
+    def __init__(self, ringd: str, folder: str) -> None:
+        self.ringd, self.folder = ringd, os.path.join(folder, "made")
+        self.log, self.settings = os.path.join(folder, "makes"), os.path.join(folder, "makes.toml")
+        self.count = self.refused = self.faults = 0
+        pathlib.Path(self.settings).write_text(f'nodes = {NODES}\ndir = "{self.folder}"\nport = 1\ncapacity = 4096\n', "ascii")
+
+    def fault(self, text: str) -> None:
+        if not self.faults:
+            print(f"--make: {text}")
+        self.faults += 1
+
+    def make(self, inject: list[str]) -> tuple[int, Start]:
+        """Runs it once: its status, and what was seen of it."""
+        words = ["strace", "-f", "-yy", "-x", "-s", "65536", "-o", self.log, "-e", f"trace={CALLS}", *inject]
+        words += [self.ringd, "--settings", self.settings, "--make"]
+        done = subprocess.run(words, check=False, stdout=subprocess.DEVNULL, stderr=subprocess.DEVNULL, timeout=PATIENCE)
+        seen = Start(self.folder, 0)
+        with open(self.log, encoding="ascii") as lines:
+            for call in calls(list(lines)):
+                seen.see(call)
+        self.count += 1
+        return done.returncode, seen
+
+    def refuse(self, call: str, when: str) -> bool:
+        """Has calls refused in an empty folder. Whether it came so far."""
+        os.mkdir(self.folder)
+        what = f"{call} {when} is refused"
+        status, seen = self.make(["-e", f"inject={call}:error=EIO:when={when}"])
+        left = sorted(os.listdir(self.folder))
+        for text in seen.texts.values():
+            self.fault(f"{what}: {text}")
+        if status == 0 and (seen.names.unstable or len(left) != NODES + 1):
+            self.fault(f"{what}, and behind it not all names are stable")
+        if status == 1:
+            self.refused += 1
+            # Where more are refused than one, taking back ends with the first of them.
+            if left and when[-1] != "+":
+                self.fault(f"{what}, and {' '.join(left)} is left")
+            elif not left and when[-1] != "+" and seen.names.unstable:
+                self.fault(f"{what}, and what went is not gone for good")
+            if self.make([])[0] != 0:
+                self.fault(f"{what}, and the next one is refused")
+        shutil.rmtree(self.folder)
+        return status == 1
+
+    def run(self) -> bool:
+        """Whether all was as it should be, and some was refused."""
+        for call in REFUSED:
+            for kind in ("", "+"):
+                for turn in range(1, MOST):
+                    if not self.refuse(call, f"{turn}{kind}"):
+                        break
+        print(f"makes {self.count} refused {self.refused}, not as they should be: {self.faults}")
+        return not self.faults and bool(self.refused)
+
+
+def main() -> int:
+    ringd = named("Looks whether ringd --make does what it does in its order.")
+    folder = tempfile.mkdtemp(prefix="ringd-makes-", dir=MEMORY if os.path.isdir(MEMORY) else None)
+    try:
+        return 0 if Makes(ringd, folder).run() else 1
+    finally:
+        shutil.rmtree(folder)
+
+
+if __name__ == "__main__":
+    sys.exit(main())
