@@ -36,7 +36,7 @@ class Election(NamedTuple):
 
 
 class Refused(Exception):
-    """A refusal of the node: its number, 1 to 27, and its text, as 5 and `stale 9`. docs/SESSIONS.md says what each
+    """A refusal of the node: its number, 1 to 28, and its text, as 5 and `stale 9`. docs/SESSIONS.md says what each
     one means, and what to do."""
 
     def __init__(self, number: int, text: str) -> None:

@@ -1,11 +1,11 @@
 #!/usr/bin/env python3
 """A storage writer that turns away whoever has a lower fencing number than it has seen.
 
-storage.py FOLDER
+storage.py FOLDER [HOST]
 
 keeps the file FOLDER/jobs, to which lines are added, and beside it FOLDER/number, the greatest fencing number of a
-write that it took. It listens at a free port of 127.0.0.1, prints `port P` and answers lines until it is killed, as it
-may be at any moment:
+write that it took. It listens at a free port of HOST, or of 127.0.0.1, prints `port P` and answers lines until it is killed,
+as it may be at any moment:
 
     write TERM TEXT    written N, where the file then has N lines, or refused HELD where TERM is below the number HELD
     count              lines N
@@ -13,11 +13,14 @@ may be at any moment:
 TERM is 1 to 999,999,999, TEXT up to 200 bytes. Another line ends its session without an answer. Status 1 where the
 folder or a file in it cannot be used, 2 for other arguments.
 """
+import contextlib
 import os
 import socket
 import socketserver
 import sys
 import threading
+
+OWN = "127.0.0.1"
 
 
 class Refused(Exception):
@@ -110,31 +113,33 @@ class Session(socketserver.StreamRequestHandler):
     """One client's lines. A client that is paused in the middle of its session holds up nobody else."""
 
     def handle(self) -> None:
-        while line := self.rfile.readline(300):
-            answer = self.server.storage.answer(line)
-            if answer is None:
-                return
-            self.wfile.write(answer.encode() + b"\n")
+        # A client may be killed at any moment.
+        with contextlib.suppress(ConnectionError):
+            while line := self.rfile.readline(300):
+                answer = self.server.storage.answer(line)
+                if answer is None:
+                    return
+                self.wfile.write(answer.encode() + b"\n")
 
 
 class Server(socketserver.ThreadingTCPServer):
     """Serves each session in a thread of its own."""
     daemon_threads = True
 
-    def __init__(self, storage: Storage) -> None:
+    def __init__(self, storage: Storage, host: str) -> None:
         self.storage = storage
-        super().__init__(("127.0.0.1", 0), Session)
+        super().__init__((host, 0), Session)
 
 
 class StorageClient:
     """A storage's client, for each question of which a session is opened. `OSError` where no answer came: then nobody
     knows whether the write was taken."""
 
-    def __init__(self, port: int) -> None:
-        self.port = port
+    def __init__(self, port: int, host: str = OWN) -> None:
+        self.place = host, port
 
     def ask(self, line: str) -> list[str]:
-        with socket.create_connection(("127.0.0.1", self.port), 5.0) as connection:
+        with socket.create_connection(self.place, 5.0) as connection:
             with connection.makefile("rwb") as session:
                 session.write(line.encode() + b"\n")
                 session.flush()
@@ -156,15 +161,15 @@ class StorageClient:
 
 
 def main(words: list[str]) -> int:
-    if len(words) != 1:
-        print("usage: storage.py FOLDER", file=sys.stderr)
+    if not 1 <= len(words) <= 2:
+        print("usage: storage.py FOLDER [HOST]", file=sys.stderr)
         return 2
     try:
         storage = Storage(words[0])
     except (OSError, ValueError) as fault:
         print(f"storage.py: {fault}", file=sys.stderr)
         return 1
-    with Server(storage) as server:
+    with Server(storage, words[1] if words[1:] else OWN) as server:
         print(f"port {server.server_address[1]}", flush=True)
         server.serve_forever()
     return 0

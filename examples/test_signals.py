@@ -1,0 +1,117 @@
+#!/usr/bin/env python3
+"""What signals do to ringd, which RINGD names, or bin/ringd: each ends it as a kill does. `make clients` runs them."""
+import json
+import os
+import pathlib
+import resource
+import shutil
+import signal
+import socket
+import subprocess
+import sys
+import time
+import unittest
+
+HERE = pathlib.Path(__file__).resolve().parent
+sys.path[:0] = [str(HERE), str(HERE.parent / "clients" / "python")]
+from cinoweta import AlreadyStands, Ring
+from tests.served import RINGD, Served, require
+
+setUpModule = require
+
+
+def ask(port: int, line: str) -> str:
+    """The answer to a line, or "" where the session ends without one."""
+    with socket.create_connection(("127.0.0.1", port), 5.0) as connection:
+        connection.sendall(line.encode() + b"\n")
+        try:
+            return connection.makefile().readline()
+        except OSError:
+            return ""
+
+
+class SignalTest(unittest.TestCase):
+    def setUp(self) -> None:
+        self.served = Served("--doors", "2")
+        self.addCleanup(self.served.end)
+
+    def holds_after(self, term: int) -> None:
+        """What was answered is there behind a start."""
+        self.served.process.stdout.close()
+        self.assertTrue(self.served.start())
+        with Ring.parse(self.served.ports) as ring, self.assertRaises(AlreadyStands):
+            ring.stand("red", term, 2)
+
+    def test_each_of_them_ends_it_at_once(self) -> None:
+        for term, number in enumerate((signal.SIGTERM, signal.SIGINT, signal.SIGHUP), 1):
+            with self.subTest(number):
+                self.assertEqual(ask(self.served.first, f"stand red {term} 1"), "stood\n")
+                begin = time.monotonic()
+                self.served.process.send_signal(number)
+                self.assertEqual(self.served.process.wait(timeout=5.0), -number)
+                self.assertLess(time.monotonic() - begin, 2.0)
+                self.holds_after(term)
+
+    def test_a_limit_of_files_below_what_it_writes_ends_it(self) -> None:
+        self.assertEqual(ask(self.served.first, "stand red 1 1"), "stood\n")
+        resource.prlimit(self.served.process.pid, resource.RLIMIT_FSIZE, (64, resource.RLIM_INFINITY))
+        self.assertEqual(ask(self.served.first, "stand red 2 1"), "")
+        self.assertEqual(self.served.process.wait(timeout=5.0), -signal.SIGXFSZ)
+        self.holds_after(1)
+
+
+@unittest.skipUnless(os.geteuid() == 0 and shutil.which("unshare"), "process 1 of a namespace needs root and unshare")
+class ProcessOneTest(unittest.TestCase):
+    """As process 1 of a container it is deaf, but for KILL, and an init before it is not."""
+
+    def setUp(self) -> None:
+        # Made by a start of its own, whose ports are free then.
+        self.served = Served("--doors", "2")
+        self.addCleanup(self.served.end)
+        self.served.kill()
+
+    def start(self, *words: str) -> "subprocess.Popen[str]":
+        words = ("unshare", "--pid", "--fork", "--kill-child", *words)
+        process = subprocess.Popen(words, stdout=subprocess.PIPE, stderr=subprocess.DEVNULL, text=True)
+        self.addCleanup(process.stdout.close)
+        self.addCleanup(process.wait)
+        self.addCleanup(process.kill)
+        self.assertIn("serving\n", iter(process.stdout.readline, ""))
+        return process
+
+    def words_of_the_image(self) -> list[str]:
+        """What process 1 of the image is started with, for the program and the ring that are here."""
+        lines = (HERE / "Containerfile").read_text(encoding="ascii").splitlines()
+        parts = [line.split(" ", 1)[1] for line in lines if line.startswith(("ENTRYPOINT ", "CMD "))]
+        here = {"ringd": str(RINGD), "/etc/ringd.toml": f"{self.served.folder}/ring.toml", "7100": str(self.served.status)}
+        return [here.get(word, word) for part in parts for word in json.loads(part)]
+
+    def first(self, process: "subprocess.Popen[str]") -> int:
+        """Process 1 of the namespace, as it is called here."""
+        path = pathlib.Path(f"/proc/{process.pid}/task/{process.pid}/children")
+        return int(path.read_text(encoding="ascii").split()[0])
+
+    def test_it_ignores_all_but_a_kill(self) -> None:
+        process = self.start(str(RINGD), "--settings", f"{self.served.folder}/ring.toml", "--always", "--doors", "2")
+        for number in (signal.SIGTERM, signal.SIGINT, signal.SIGHUP):
+            os.kill(self.first(process), number)
+        time.sleep(0.5)
+        self.assertEqual(ask(self.served.first, "stand red 1 1"), "stood\n")
+        # XFSZ too: the write is refused, and the node fails.
+        resource.prlimit(self.first(process), resource.RLIMIT_FSIZE, (64, resource.RLIM_INFINITY))
+        self.assertEqual(ask(self.served.first, "stand red 2 1"), "no 9 failed\n")
+        self.assertIsNone(process.poll())
+        os.kill(self.first(process), signal.SIGKILL)
+        process.wait(timeout=5.0)
+
+    @unittest.skipUnless(shutil.which("tini"), "tini is not there")
+    def test_the_image_has_an_init_that_hands_the_signal_on(self) -> None:
+        process = self.start(*self.words_of_the_image())
+        self.assertEqual(ask(self.served.first, "stand red 1 1"), "stood\n")
+        os.kill(self.first(process), signal.SIGTERM)
+        # As a shell has it.
+        self.assertEqual(process.wait(timeout=5.0), 128 + signal.SIGTERM)
+
+
+if __name__ == "__main__":
+    unittest.main()
