@@ -19,8 +19,8 @@ a bare append with a sync in the same folder, to which the ratios are given.
                      the best for N clients. Where N has such a line the ratio to it is printed.
   --capacity C       the capacity of each node, 1,048,576 by default, where no node makes a checkpoint in a run. With 131,072 bytes each
                      makes one at some 780 elections. The rows at three nodes, with 3,072, want 262,144: in less, nodes get full.
-  --scrape MS        `/metrics` is read at the start of each row's run, and every so many milliseconds then, 1 to 60,000. A node has 31
-                     doors at most then, and so many clients in place of 32.
+  --scrape MS        `/metrics` is read at the start of each row's run, and every so many milliseconds then, 1 to 60,000. A node has 30
+                     doors at most then beside the one that it keeps, and so many clients in place of 31.
   --turns PATH       another server, as one of the tree before, with which each run of a row is done in turns. Printed are in place of all
                      else the answers a second by that one and by `--ringd`, and the ratio; of each row, and of all the mean ratio.
   --years TERMS      in place of all rows one ring, of 65,536 bytes where --capacity says no other, elects so many terms, 11 to 1,000,000,
@@ -74,8 +74,9 @@ HERE = os.path.dirname(os.path.abspath(__file__))
 RING = 3
 STANDS = 1024
 CAPACITY = 1 << 20
-COUNTS = (1, 4, 16, 32)
-MOST_SCRAPED = 31
+# A node keeps one of 32 doors for short questions.
+COUNTS = (1, 4, 16, 31)
+MOST_SCRAPED = 30
 # Of --years: how many groups there are, how many terms below the last one are kept, and the capacity.
 GROUPS, KEEP, SMALL = 3, 10, 1 << 16
 APPENDS = 300

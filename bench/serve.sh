@@ -3,8 +3,8 @@
 # root; the folder is made where it is not there. RINGD is a built ringd, or bin/ringd where none is named; it is given
 # the WORDs, or those of `words` below where there are none. Where none is named and bin/ringd is not built, rt try
 # builds ringd and runs it unproved, for a day at most; what ringd prints is then shown only once it ends, and this
-# script says when it serves. ringd or rt try runs in this script's process, so a signal that ends the one ends the
-# other. Ends with their status; 2 where RINGD is no program, 1 where rt try would find the first port in use.
+# script says when it serves. ringd runs in this script's process, and rt try below it: a signal that ends this script
+# ends ringd. Ends with their status; 2 where RINGD is no program, 1 where rt try would find the first port in use.
 set -eu
 words=(--always --doors 4 --status 7100)
 
@@ -39,6 +39,22 @@ tell() {
     echo "bench/serve.sh: serving from port $1 on" >&2
 }
 
+# below PID: the processes that it started, and those that they did.
+below() {
+    local child
+    for child in $(ps -o pid= --ppid "$1"); do
+        below "$child"
+        echo "$child"
+    done
+}
+
+# end SIGNAL: ends rt, and what it runs, which is in a session of its own, and then this script by the signal.
+end() {
+    trap - TERM INT HUP
+    kill $(below "$job") "$job" 2> /dev/null || true
+    kill -"$1" $$
+}
+
 port=$(sed -n 's/^port = //p' "$root/examples/ring.toml")
 if listens "$port"; then
     echo "bench/serve.sh: port $port is in use" >&2
@@ -50,4 +66,9 @@ tell "$port" &
 settings=$(< "$root/examples/ring.toml")
 settings=${settings/'"ring-state"'/"\"$root/ring-state\""}
 cd "$root/crates/ringd"
-exec rt try --seconds 86400 -- "${words[@]}" <<< "$settings"
+rt try --seconds 86400 -- "${words[@]}" <<< "$settings" &
+job=$!
+trap 'end TERM' TERM
+trap 'end INT' INT
+trap 'end HUP' HUP
+wait "$job"

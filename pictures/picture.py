@@ -21,7 +21,7 @@ from run import Fault, Run
 
 ROOT = pathlib.Path(__file__).resolve().parents[1]
 # The script of each picture of the docs, and the page that has it as text. Its SVG stands beside the page.
-DOCS = {"examples/first_election.ring": "docs/PROTOCOL.md", "examples/stopped_at_the_gate.ring": "docs/DURABILITY.md"}
+DOCS = {"examples/first_election.ring": "docs/PROTOCOL.md", "examples/stopped_at_the_gate.ring": "docs/ARCHITECTURE.md"}
 
 
 def draw(script: str, printed: str, title: str) -> tuple[str, str]:
