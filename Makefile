@@ -1,7 +1,10 @@
-# run: an example, before any proof. test: the names in the documents, and the merge gate. wrong_bodies: the wrong bodies that the gate does not try, of CRATES or of all.
+# run: an example, before any proof. test: the names in the documents, and the merge gate. wrong_bodies: the wrong bodies that the gate does not try, those too that a test has to refuse, of CRATES or of all.
+# rows: crates/console_rows/stdin, played by what is not proved, and written with what is printed now.
+# docs: bin/promises.md, each promise and each wrong body, by the sources.
 # bin/NAME: a proved program. bench: the times of ringctl and of the works of bench.
 # ringd: bin/ringd. serve: runs ringd on examples/ring.toml, unproved where bin/ringd is not built.
-# install: bin/ringd, its man page, its unit file, an example of settings, alerts and the package's wheel, under PREFIX, below DESTDIR.
+# install: bin/ringd, its man page, its units, an example of settings, alerts and the package's wheel, under PREFIX, below DESTDIR.
+# deb: a Debian package of bin/ringd and of what goes with it, in bin.
 # fencing: a leader that is paused and wakes late is turned away, over bin/ringd.
 # clients: the tests of the clients, over bin/ringd, and of the alerts.
 # picture: the run of SCRIPT by ringctl, drawn as text and, to the file SVG, as SVG. pictures: the tests of that, and the pictures of the docs, over bin/ringctl.
@@ -14,25 +17,41 @@
 # writeback: as root, the disk of bin/ringd refuses a page during one sync, and then the power goes.
 # syncs: the system calls of bin/ringd: whether what an answer rests on was synced before.
 # fuzz: both programs, given what nobody would give them; FUZZ has words of trials/fuzz.py.
+# unit: as root, the units of bin/ringd in a systemd that is booted in namespaces of its own: started, stopped, refused.
+# hosts: as root, workers on four hosts take turns at a lock, while holders are killed, paused and cut off; turns: four workers on one host, over bin/ringd.
+# runbook: as root, the commands of the runbook in docs/OPERATING.md, from top to bottom, with the Debian package.
+# alerts: each alert is fired by what bin/ringd tells, for promtool.
+# copies: cinoweta backup copies the folder of bin/ringd under load, and each copy is started and asked.
 # hangs: one sync of bin/ringd takes 14 seconds, and the status port says so.
 # starts: bin/ringd is started with standard streams closed, and with few descriptors.
 # faults, growths: each call of the system that a ring makes fails in turn, and each growth of the programs is refused.
 # flips: each byte of the files of a ring by bin/ringd is changed, one at a time: whether a start refuses it, or what is answered then.
+# full, uses: the nodes of a ring are filled and retired, again and again; many groups elect each minute for an hour.
 # load: bin/ringd under load; LOAD has further words of bench/load.py.
-.PHONY: run test wrong_bodies bench clean always
+.PHONY: run test rows wrong_bodies bench clean always
 .PHONY: ringd install serve fencing clients picture pictures kills years earlier load short threads scrapes writeback syncs fuzz faults growths hangs flips
-.PHONY: starts
+.PHONY: starts docs unit copies alerts deb runbook full uses hosts turns
 
 run:
 	@bench/try.sh examples/first_election.ring
 
 test:
+	@cmp crates/console_rows/stdin crates/console_rows/stdout
 	@docs/check.py
 	@must_not_compile/run.py
 	@rt ci
 
+rows:
+	@mkdir -p bin
+	@cd crates/console_rows && rt try < stdin > ../../bin/rows.txt
+	@tee crates/console_rows/stdin crates/console_rows/stdout < bin/rows.txt > /dev/null
+
+docs:
+	@mkdir -p bin
+	@docs/promises.py > bin/promises.md
+
 wrong_bodies:
-	@wrong_bodies/run.py $(CRATES)
+	@wrong_bodies/run.py --all $(CRATES)
 
 # rt finds out itself what has to be proved anew. It then runs the program, here on the words and the input that the gate
 # runs it on.
@@ -47,14 +66,25 @@ PREFIX ?= /usr/local
 
 # What was proved and linked is installed, and no program is built: this may be run as another user.
 install: shared = $(DESTDIR)$(PREFIX)/share/ringd
+install: units = $(DESTDIR)$(PREFIX)/lib/systemd/system
 install:
 	@test -x bin/ringd || { echo "make install: bin/ringd is not there: make ringd builds it" >&2; exit 1; }
 	install -D -m 755 bin/ringd $(DESTDIR)$(PREFIX)/bin/ringd
-	@mkdir -p $(DESTDIR)$(PREFIX)/share/man/man8 $(DESTDIR)$(PREFIX)/lib/systemd/system $(shared)
+	@mkdir -p $(DESTDIR)$(PREFIX)/share/man/man8 $(units) $(shared)
 	docs/man.py > $(DESTDIR)$(PREFIX)/share/man/man8/ringd.8
-	sed 's|/usr/local/bin|$(PREFIX)/bin|' examples/ringd.service > $(DESTDIR)$(PREFIX)/lib/systemd/system/ringd.service
-	install -m 644 examples/ringd.toml examples/alerts.yml $(shared)
+	sed 's|/usr/local|$(PREFIX)|' examples/ringd.service > $(units)/ringd.service
+	sed -f examples/ringd@.sed $(units)/ringd.service > $(units)/ringd@.service
+	install -m 755 examples/wait_live.sh $(shared)
+	sed 's|/usr/local|$(PREFIX)|' examples/alerts.yml > $(shared)/alerts.yml
+	install -m 644 examples/ringd.toml examples/grafana.json docs/OPERATING.md $(shared)
 	python3 clients/python/wheel_backend.py $(shared)
+
+# lintian tells what is wrong with the package, where it is there.
+deb:
+	@test -x bin/ringd || { echo "make deb: bin/ringd is not there: make ringd builds it" >&2; exit 1; }
+	@packaging/deb.sh bin
+	@if command -v lintian > /dev/null; then lintian --fail-on error --allow-root bin/ringd_*.deb; \
+	else echo "make deb: lintian is not there: the package is not looked at"; fi
 
 serve:
 	@bench/serve.sh
@@ -65,6 +95,8 @@ fencing:
 clients:
 	@python3 -m unittest discover -s examples
 	@python3 -m unittest discover -s clients/python/tests -t clients/python
+	@if command -v mypy > /dev/null; then mypy --strict clients/python/cinoweta; \
+	else echo "make clients: mypy is not there: the types of clients/python are not looked at"; fi
 	@if command -v go > /dev/null; then cd clients/go && go vet && $(if $(RINGD),RINGD="$(abspath $(RINGD))") go test; \
 	else echo "make clients: go is not there: the tests of clients/go are skipped"; fi
 	@if command -v promtool > /dev/null; then promtool test rules examples/test_alerts.yml; \
@@ -96,6 +128,13 @@ short: bin/ringd
 threads: bin/ringd
 	@trials/threads.py --ringd bin/ringd
 
+full: bin/ringd
+	@trials/full.py
+	@trials/full.py --capacity 65536 --times 3
+
+uses: bin/ringd
+	@trials/uses.py $(USES)
+
 scrapes: bin/ringd
 	@trials/scrapes.py --ringd bin/ringd
 	@trials/scrapes.py --ringd bin/ringd --half
@@ -104,6 +143,7 @@ writeback: bin/ringd
 	@trials/writeback.py --ringd bin/ringd
 
 syncs: bin/ringd
+	@trials/makes.py --ringd bin/ringd
 	@trials/syncs.py --ringd bin/ringd
 
 hangs: bin/ringd
@@ -111,6 +151,24 @@ hangs: bin/ringd
 
 starts: bin/ringd
 	@trials/starts.py
+
+unit: bin/ringd
+	@trials/unit.sh
+
+runbook: bin/ringd
+	@trials/runbook.py
+
+hosts: bin/ringd
+	@trials/hosts.py --ringd bin/ringd
+
+turns: bin/ringd
+	@examples/turns.py --ringd bin/ringd
+
+alerts: bin/ringd
+	@trials/alerts.py --ringd bin/ringd
+
+copies: bin/ringd
+	@trials/copies.py
 
 fuzz: bin/ringctl bin/ringd
 	@trials/fuzz.py $(FUZZ)

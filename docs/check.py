@@ -5,16 +5,20 @@
 
 ROOT is the repository, by default the one that this file stands in. Nothing is changed, proved or run. Looked at are
 
-- in docs/PROMISES.md and README.md every name in backticks: functions with their type, clauses with their function,
-  definitions, types, crates, files, and edits with their crate. In a table the row says of what crate, function or edit
-  a name has to be;
-- every edit of the tree, a wrong body or a program that must not compile: docs/PROMISES.md names it, or names all edits
-  of its folder, as `wrong_bodies/CRATE/*`;
-- every relative link of README.md and docs/*.md, its heading too, and every page of docs/ that one of them names;
-- the lines of README.md, of which there may be 150;
-- the logic that README.md trusts, which is the one that `rt version` prints.
+- in docs/PROMISES.md, README.md and the README.md of each crate every name in backticks: functions with their type,
+  clauses with their function, definitions, types, crates, files, and edits with their crate. In a table the row says of
+  what crate, function or edit a name has to be;
+- what docs/promises.py prints of the sources: each public call with a contract has a comment, and each edit, a wrong
+  body or a program that must not compile, has a line `says:`, and old texts that stand once in their files;
+- the README.md of each crate but those of tests and of rows and `bench`, which has 60 to 300 words;
+- every relative link of README.md, docs/*.md and each other README.md, its heading too, and every page of docs/ that
+  one of them names;
+- the words of each page that MOST_WORDS names, and of all pages, of which there may be no more than is said there;
+- the logic that README.md trusts, which is the one that `rt version` prints;
+- examples/alerts.yml and examples/grafana.json: each metric is one that the code tells, each alert has a severity and a
+  runbook's heading.
 
-Each fault is a line `FILE:LINE: what is wrong`. The last line is `N names, M not found`, where links, pages and edits
+Each fault is a line `FILE:LINE: what is wrong`. Behind them stands how many edits and words there are. The last line is `N names, M not found`, where links, pages and edits
 count as names. The status is 0 where there is no fault, 1 where there is one, and 2 where ROOT has no docs/PROMISES.md."""
 
 import pathlib
@@ -25,9 +29,15 @@ from collections import defaultdict
 from dataclasses import dataclass, field
 from typing import Iterator, NamedTuple
 
-README_LINES = 150
+import promises as made
+from metrics import examples
+
+# Of these pages, and of README.md, CHANGELOG.md, docs/*.md and each other README.md together.
+MOST_WORDS = {"README.md": 1500, "docs/PROMISES.md": 4000, "docs/CLIENTS.md": 1700, "docs/OPERATING.md": 4700, "docs/TESTS.md": 1700}
+MOST_WORDS_OF_ALL = 42000
+WORDS_OF_A_CRATE = range(60, 301)
 # What the language or its library names, or a line that a client sends, and no file of the repository.
-LANGUAGE = {*"Eq Ord PartialOrd Debug Display From Ok Err None Option Result Read Write BufRead Brand requires ensures bye".split()}
+LANGUAGE = {*"Eq Ord PartialOrd Debug Display From Ok Err None Option Result Read Write BufRead Brand requires ensures bye CINOWETA_TERM".split()}
 CLAUSE = re.compile(r"\s*(?:ensures|requires)\s+(\w+\s+)?\{")
 FUNCTION = re.compile(r"\s*(?:pub(?:\([^)]*\))?\s+)?(?:const\s+)?(?:unsafe\s+)?fn\s+(\w+)")
 MEMBER = re.compile(r"\s*ghost\s+(\w+)\s*[:=]")
@@ -185,7 +195,6 @@ class Page:
         self.path = path
         self.faults: list[str] = []
         self.count = 0
-        self.told: set[tuple[str, str]] = set()
         self.crates: set[str] = set()
         self.before: list[Function] = []
 
@@ -265,7 +274,6 @@ class Page:
         place = re.match(r"(?:, `\w+`)*(?: and `\w+`)?(?: \([^)]*\))? \(?(?:of|in) (\w+)", it.behind)
         within = {place[1]} if place and (place[1] in self.code.crates or place[1] == "must_not_compile") else crates
         told = {(crate, it.name) for crate in within} & self.code.edits
-        self.told |= told
         self.ask(bool(told), it.line, f"`{it.name}` is no edit of {said(within)}")
 
     def sentence(self, found: list[Found]) -> None:
@@ -274,9 +282,6 @@ class Page:
             after = CRATE_AFTER.match(it.behind)
             within = {after[1]} if after and after[1] in self.code.crates else self.crates
             edits = {(crate, it.name) for crate in within | {"must_not_compile"}} & self.code.edits
-            if it.name.startswith("wrong_bodies/") and it.name.endswith("/*"):
-                edits = {edit for edit in self.code.edits if f"wrong_bodies/{edit[0]}/*" == it.name}
-            self.told |= edits
             if edits or self.is_spoken(it.name):
                 self.count += 1
             elif "/" in it.name or it.name.endswith((".rt", ".md", ".py")):
@@ -329,32 +334,47 @@ def logics(path: pathlib.Path) -> Iterator[tuple[bool, int, str]]:
         yield it in LOGIC.findall(version), number, f"{it} is named, and rt version prints {version}"
 
 
+def lengths(root: pathlib.Path, words: dict[pathlib.Path, int], readmes: list[pathlib.Path]) -> Iterator[str]:
+    """What is wrong with how many words the pages have, and each README.md of a crate that is not there."""
+    for path in readmes:
+        if words.get(path, 0) not in WORDS_OF_A_CRATE:
+            yield f"{path.relative_to(root)}:1: it has {words.get(path, 0)} words, and has to have {WORDS_OF_A_CRATE[0]} to {WORDS_OF_A_CRATE[-1]}"
+    for name, most in MOST_WORDS.items():
+        if words[root / name] > most:
+            yield f"{name}:1: it has {words[root / name]} words, more than {most}"
+    if sum(words.values()) > MOST_WORDS_OF_ALL:
+        yield f"all pages have {sum(words.values())} words, more than {MOST_WORDS_OF_ALL}"
+
+
 def main() -> int:
     root = pathlib.Path(sys.argv[1] if len(sys.argv) > 1 else pathlib.Path(__file__).parent.parent).resolve()
     if not (root / "docs" / "PROMISES.md").is_file():
         print(f"{root} has no docs/PROMISES.md", file=sys.stderr)
         return 2
     code = Code(root)
-    promises = Page(code, root / "docs" / "PROMISES.md")
-    readme = Page(code, root / "README.md")
-    for page in (promises, readme):
+    sources = made.Sources(root)
+    readmes = [root / "crates" / it / "README.md" for it in sorted(code.crates) if not made.ASIDE.search(it)]
+    compared = [Page(code, path) for path in (root / "docs" / "PROMISES.md", root / "README.md", *readmes) if path.is_file()]
+    for page in compared:
         page.compare()
-    for crate, name in sorted(code.edits):
-        promises.ask((crate, name) in promises.told, 1, f"the edit {name} of {crate} is not named")
-    faults = promises.faults + readme.faults
-    count = promises.count + readme.count
-    pages = [root / "README.md", *sorted((root / "docs").glob("*.md"))]
-    looked_at = [(path, links(root, path)) for path in pages] + [(pages[0], logics(pages[0]))]
+    faults = [fault for page in compared for fault in page.faults]
+    count = sum(page.count for page in compared) + len(sources.edits)
+    pages = [root / "README.md", *sorted((root / "docs").glob("*.md")), *sorted(root.glob("*/README.md")), *sorted(root.glob("*/*/README.md"))]
+    looked_at = [(path, links(root, path)) for path in pages] + [(pages[0], logics(pages[0]))] + examples(root, headings)
     for path, found in looked_at:
         for is_there, line, what in found:
             count += 1
             if not is_there:
                 faults.append(f"{path.relative_to(root)}:{line}: {what}")
     missing = len(faults)
-    lines = len((root / "README.md").read_text().splitlines())
-    if lines > README_LINES:
-        faults.append(f"README.md:{lines}: it has more than {README_LINES} lines")
-    print("\n".join([*faults, f"{count} names, {missing} not found"]))
+    faults += [f"{path.relative_to(root)}:{line}: {what}" for path, line, what in sources.faults()]
+    words = {path: len(path.read_text().split()) for path in [*pages, root / "CHANGELOG.md"]}
+    faults += lengths(root, words, readmes)
+    gate = sum(it.path.parent.name == "must-fail" for it in sources.edits)
+    by_tests = sum("by_tests" in it.path.parts for it in sources.edits)
+    edits = f"{len(sources.edits)} edits: {gate} tried by the gate, {by_tests} that a test refuses"
+    lengthy = f"{sum(words.values())} words, {words[root / 'docs' / 'PROMISES.md']} of them in docs/PROMISES.md"
+    print("\n".join([*faults, edits, lengthy, f"{count} names, {missing} not found"]))
     return 1 if faults else 0
 
 

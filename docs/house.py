@@ -12,7 +12,7 @@ not run it. Looked at are the files that git tracks. The columns are
 - 8 parameters, 40 lines: functions with eight parameters or more, and with bodies of more than forty lines;
 - uncited: definitions and lemmas, but for those in the proof of one function, that nothing else names.
 
-Crates of tests, `test_rows` and `bench` count in the first two columns alone. Below the table stands how many lines of definitions a reader
+Crates of tests and of rows and `bench` count in the first two columns alone. Below the table stands how many lines of definitions a reader
 has to believe behind a promise: those of all modules of specs/ that the file with its contract imports, and that these import."""
 
 import pathlib
@@ -24,7 +24,7 @@ from dataclasses import dataclass, fields
 
 MOST_PARAMETERS = 7
 MOST_LINES = 40
-ASIDE = re.compile(r"_tests$|^test_rows$|^bench$")
+ASIDE = re.compile(r"_tests$|_rows$|^bench$")
 WORD = re.compile(r"[\w'-]+")
 DECLARED = re.compile(r"(?:(?:unfoldable|abbrev|pub|data|record)\s+)*([\w'-]+)\b")
 IMPORTED = re.compile(r"Rattle\.(\w+)\.specs\.([\w.]+)")

@@ -1,18 +1,16 @@
 // How long a line and a session may be.
 use crate::talk::{assert_says, spoken};
-use std::alloc::{AllocError, Global};
+use std::alloc::{AllocError, AllocGlobal};
 use std::test::Fail;
 
-// A question of so many bytes (at least 9), and its end.
-fn long_question(alloc: Global, bytes: usize, end: &[u8]) -> Result<Vec<u8>, AllocError> {
-    let mut line = Vec::new(alloc);
+// Adds a question of so many bytes (at least 9), and its end.
+fn add_question(line: &mut Vec<u8>, bytes: usize, end: &[u8]) -> Result<(), AllocError> {
     line.extend_from_slice(b"who")?;
     for _ in 8..bytes {
         line.push(b' ')?;
     }
     line.extend_from_slice(b"red 5")?;
-    line.extend_from_slice(end)?;
-    Ok(line)
+    line.extend_from_slice(end)
 }
 
 /// A line's length, its end, the answers, and how many bytes are left.
@@ -35,8 +33,10 @@ static LINES: [(&str, usize, &[u8], &str, usize); 12] = [
 fn lines_have_200_bytes(rt: HostRuntime) -> Result<(), Fail> {
     for row in &LINES {
         let (name, bytes, end, text, left) = *row;
-        let input = long_question(rt.alloc(), bytes, end)?;
+        let mut input = Vec::new(rt.alloc());
+        add_question(&mut input, bytes, end).expect(&rt, "ample memory");
         assert_says(&rt, name, &input, text, left);
+        drop(input);
     }
     Ok(())
 }

@@ -1,8 +1,8 @@
 // A session over a service of one node in memory.
 use disk_model::{Device, FuseDevice, MemDevice};
 use node_store::Node;
-use ring_records::NodeNo;
-use sessions::{SessionFault, SoloService, serve};
+use ring_records::{NodeNo, Refusal};
+use sessions::{Service, SessionFault, SoloService, serve};
 use std::alloc::{AllocGlobal, Global};
 use std::process::Abort;
 use test_rows::Ask;
@@ -13,26 +13,32 @@ pub type Stored = Node<FuseDevice<MemDevice>>;
 /// A service over a node in memory.
 pub type Solo = SoloService<FuseDevice<MemDevice>>;
 
+/// A refusal that is not to be.
+fn refused(rt: &impl Abort, refusal: Refusal) -> ! {
+    panic!(rt; "{refusal}")
+}
+
+/// A device that holds nothing.
+fn new_disk<R: Abort + AllocGlobal>(rt: &R) -> FuseDevice<MemDevice> {
+    FuseDevice::idle(MemDevice::new(rt.alloc(), 46 + 2 * 4_096).expect(rt, "ample memory"))
+}
+
 /// A service over node 1 of a new ring of 3.
 pub fn service<R: Abort + AllocGlobal>(rt: &R) -> Solo {
-    let device = MemDevice::new(rt.alloc(), 46 + 2 * 4_096).expect(rt, "ample memory");
-    let node = NodeNo::new(1).expect(rt, "a node");
-    match Node::create(rt.alloc(), FuseDevice::idle(device), node, 3, 4_096, 0) {
+    match Node::create(rt.alloc(), new_disk(rt), NodeNo::first(), 3, 4_096, 0) {
         Ok(made) => SoloService::new(made),
-        Err((_device, refusal)) => panic!(rt; "{refusal}"),
+        Err((_device, refusal)) => refused(rt, refusal),
     }
 }
 
 /// A service over such a node, whose device fails at its next call, once.
 pub fn failing_service<R: Abort + AllocGlobal>(rt: &R) -> Solo {
-    let device = MemDevice::new(rt.alloc(), 46 + 2 * 4_096).expect(rt, "ample memory");
-    let node = NodeNo::new(1).expect(rt, "a node");
-    match Node::create(rt.alloc(), FuseDevice::idle(device), node, 3, 4_096, 0) {
+    match Node::create(rt.alloc(), new_disk(rt), NodeNo::first(), 3, 4_096, 0) {
         Ok(mut made) => {
             made.arm(0, true);
             SoloService::new(made)
         }
-        Err((_device, refusal)) => panic!(rt; "{refusal}"),
+        Err((_device, refusal)) => refused(rt, refusal),
     }
 }
 
@@ -45,7 +51,7 @@ fn lasts(rt: &impl Abort, made: &mut Stored, ask: Ask) {
     drop(landed);
     match made.redeem(ticket) {
         Ok((reply, stub)) => assert!(rt; stub.reply() == reply),
-        Err((_ticket, refusal)) => panic!(rt; "{refusal}"),
+        Err((_ticket, refusal)) => refused(rt, refusal),
     }
 }
 
@@ -66,7 +72,7 @@ fn recovered<R: Abort + AllocGlobal>(rt: &R, device: FuseDevice<MemDevice>, n: u
     assert!(rt; NodeNo::first().number() <= n);
     match Node::recover(rt.alloc(), device, NodeNo::first(), n, 1) {
         Ok(made) => made,
-        Err((_device, refusal)) => panic!(rt; "{refusal}"),
+        Err((_device, refusal)) => refused(rt, refusal),
     }
 }
 
@@ -75,17 +81,15 @@ fn served<R: Abort + AllocGlobal>(rt: &R, device: FuseDevice<MemDevice>, n: u8) 
     assert!(rt; NodeNo::first().number() <= n);
     match Node::recover(rt.alloc(), device, NodeNo::first(), n, 1) {
         Ok(made) => SoloService::new(made),
-        Err((_device, refusal)) => panic!(rt; "{refusal}"),
+        Err((_device, refusal)) => refused(rt, refusal),
     }
 }
 
 /// A service over node 1 of a ring of 2, which is recovered behind these requests.
 pub fn service_behind<R: Abort + AllocGlobal>(rt: &R, asks: &[Ask]) -> Solo {
-    let device = MemDevice::new(rt.alloc(), 46 + 2 * 4_096).expect(rt, "ample memory");
-    let node = NodeNo::first();
-    match Node::create(rt.alloc(), FuseDevice::idle(device), node, 2, 4_096, 0) {
+    match Node::create(rt.alloc(), new_disk(rt), NodeNo::first(), 2, 4_096, 0) {
         Ok(made) => served(rt, left(rt, made, asks), 2),
-        Err((_device, refusal)) => panic!(rt; "{refusal}"),
+        Err((_device, refusal)) => refused(rt, refusal),
     }
 }
 
@@ -120,10 +124,20 @@ fn spoken_with<R: Abort + AllocGlobal>(
     input: &[u8],
 ) -> (Result<u64, SessionFault>, Vec<u8>, usize) {
     let mut service = service;
-    let mut rest = input;
-    let mut out = Vec::new(rt.alloc());
-    let answer = serve(rt.alloc(), &mut rest, &mut out, &mut service);
+    let said = said(rt.alloc(), &mut service, input);
     drop(ended(rt, service));
+    said
+}
+
+/// The same of a session over any service.
+fn said<S: Service>(
+    alloc: Global,
+    service: &mut S,
+    input: &[u8],
+) -> (Result<u64, SessionFault>, Vec<u8>, usize) {
+    let mut rest = input;
+    let mut out = Vec::new(alloc);
+    let answer = serve(alloc, &mut rest, &mut out, service);
     (answer, out, rest.len())
 }
 
@@ -136,8 +150,9 @@ pub fn assert_says<R: Abort + AllocGlobal>(
     left: usize,
 ) {
     let (answer, out, rest) = spoken(rt, input);
-    let written = str::from_utf8(&out).unwrap_or("bytes that are no text");
-    assert!(rt; written == text, "{name}");
+    let is_written = out.as_slice() == text.as_bytes();
+    drop(out);
+    assert!(rt; is_written, "{name}");
     let lines = text.bytes().filter(|b| *b == b'\n').count();
     assert!(rt; answer == Ok(lines as u64), "{name}");
     assert!(rt; rest == left, "{name}");
@@ -152,7 +167,8 @@ pub fn assert_answers<R: Abort + AllocGlobal>(
     lines: u64,
 ) {
     let (answer, out, _) = spoken_with(rt, service, input);
-    let written = str::from_utf8(&out).unwrap_or("bytes that are no text");
-    assert!(rt; written == text);
+    let is_written = out.as_slice() == text.as_bytes();
+    drop(out);
+    assert!(rt; is_written);
     assert!(rt; answer == Ok(lines));
 }
