@@ -4,7 +4,7 @@
 It runs in the current folder, and hands on the exit status. Every half second it looks through /proc for processes of the
 toolchain below the gate. The time of one is what it and all below it, forked copies too, have taken by then, user plus
 system. By the crate that is checked there are three kinds: a proof, the tests of a crate (`--test`), and an edit, whose
-folder is a copy named rt-edit-... The table of them is as docs/DEVELOPING.md has it."""
+folder is a copy named rt-edit-... The table of them is Markdown."""
 
 import collections
 import os
@@ -97,20 +97,15 @@ class Costs:
         return sums
 
 
-def line(first, cells):
-    """A line of the table: its first cell, and three columns."""
-    return f"{first:<18}{cells[0]:>9}{cells[1]:>11}{cells[2]:>11}".rstrip()
-
-
 def table(seconds):
     """The seconds of each crate, that of the most first, and of all crates."""
     crates = {crate for crate, _ in seconds if crate}
     rows = {crate: [seconds[crate, kind] for kind in KINDS] for crate in crates}
-    lines = [line("crate", ["its proof", "its tests", "its edits"])]
+    lines = ["| crate | its proof | its tests | its edits |", "|---|---|---|---|"]
     for crate, row in sorted(rows.items(), key=lambda it: -sum(it[1])):
-        lines.append(line(crate, [f"{it:.0f}" if it else "" for it in row]))
+        lines.append(f"| {crate} | " + " | ".join(f"{it:.0f}" if it else "" for it in row) + " |")
     sums = [sum(row[at] for row in rows.values()) for at in range(len(KINDS))]
-    lines.append(line("all crates", [f"{it:.0f}" for it in sums]))
+    lines.append("| all crates | " + " | ".join(f"{it:.0f}" for it in sums) + " |")
     return "\n".join(lines)
 
 
