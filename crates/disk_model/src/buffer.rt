@@ -5,9 +5,8 @@ ghost use Rattle.disk_model.specs.Shadow.{room_of, is_written, byte_before};
 
 use crate::history::History;
 use crate::shadow::{Shadow, fill, put_back};
-use crate::{Device, DeviceFault};
+use crate::{Device, DeviceFault, SystemFault};
 use std::alloc::{AllocError, Global};
-use std::io::ErrorKind;
 
 /// A device whose bytes are kept in memory that was taken once. A call that ends past that memory is a fault; no other
 /// call fails.
@@ -157,7 +156,7 @@ impl Device for Buffer {
         self.faults
     }
 
-    fn cause(&self) -> Option<ErrorKind> {
+    fn cause(&self) -> Option<SystemFault> {
         None
     }
 

@@ -2,7 +2,7 @@
 ghost use Rattle.std.specs.Prelude.{◌≡◌, ◌+◌, ◌≤◌, ℕ, List, length, OnOk, OnErr};
 ghost use Rattle.disk_model.specs.Disk.{Disk, MayLeave, IsPart, Puts, Unsyncs, synced, Elapses, HasCause, Reach, IsInReach};
 
-use std::io::ErrorKind;
+use crate::system_fault::SystemFault;
 
 /// A device's call failed. The device's count of failures tells of it.
 #[derive(Clone, Copy, Debug, PartialEq, Eq)]
@@ -34,8 +34,8 @@ pub trait Device {
     fn failures(&self) -> u64
         ensures { result ≡ count self.now };
 
-    /// What was answered to the first call that failed, where that is known.
-    fn cause(&self) -> Option<ErrorKind>;
+    /// What the system answered to the first call that failed, where that is known.
+    fn cause(&self) -> Option<SystemFault>;
 
     /// Reads the bytes from `off` on into the whole of `buf`; past the device's end they are zeros. At a fault nothing
     /// is known of what `buf` holds.

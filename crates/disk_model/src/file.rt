@@ -11,10 +11,10 @@ ghost use Rattle.disk_model.specs.Disk.{IsPart, Puts, Unsyncs, synced, Elapses, 
 ghost use Rattle.disk_model.specs.Buffer as buffer;
 
 use crate::buffer::Buffer;
-use crate::{Device, DeviceFault};
+use crate::{Device, DeviceFault, SystemCall, SystemFault, asked};
 use libc::{POSIX_FADV_DONTNEED, posix_fadvise};
 use std::alloc::{AllocError, Global};
-use std::fs::OpenOptions;
+use std::fs::{OpenOptions, TryLockError};
 use std::io::ErrorKind;
 use std::os::fd::AsRawFd;
 use std::os::unix::fs::FileExt;
@@ -31,8 +31,8 @@ const PIECE: usize = 1 << 12;
 /// Why a file was not opened.
 #[derive(Clone, Copy, Debug, PartialEq, Eq)]
 pub enum OpenFault {
-    /// The system refused it, it is in use, or it is longer than `FILE_LIMIT`.
-    Device,
+    /// The system refused it, as it does what is in use, or it is longer than `FILE_LIMIT`: so it answered.
+    Device(SystemFault),
     /// Want of memory.
     Memory,
 }
@@ -47,23 +47,13 @@ impl From<AllocError> for OpenFault {
     }
 }
 
-impl From<io::Error> for OpenFault {
+impl From<SystemFault> for OpenFault {
     ghost use Rattle.disk_model.specs.declared.file.OpenFault.TheVariants as open_fault;
 
-    ghost from_gives = { λ _ fault. fault ≡ open_fault.Device };
+    ghost from_gives = { λ why fault. fault ≡ open_fault.Device why };
 
-    fn from(_: io::Error) -> OpenFault {
-        OpenFault::Device
-    }
-}
-
-impl From<DeviceFault> for OpenFault {
-    ghost use Rattle.disk_model.specs.declared.file.OpenFault.TheVariants as open_fault;
-
-    ghost from_gives = { λ _ fault. fault ≡ open_fault.Device };
-
-    fn from(_: DeviceFault) -> OpenFault {
-        OpenFault::Device
+    fn from(why: SystemFault) -> OpenFault {
+        OpenFault::Device(why)
     }
 }
 
@@ -75,16 +65,25 @@ pub struct FileDevice {
     // What the file is to hold.
     held: Buffer,
     has_failed: bool,
-    cause: Option<ErrorKind>,
+    cause: Option<SystemFault>,
     faults: u64,
 }
 
-// Takes the file's exclusive lock, which ends as the file is closed.
-fn lock(file: &fs::File) -> Result<(), OpenFault> {
+/// Takes the exclusive lock of a file or a folder, which ends as that is closed. Refused where somebody else holds it, of
+/// which the system tells no number, or the system refuses it.
+pub fn lock(file: &fs::File) -> Result<(), SystemFault> {
     match file.try_lock() {
         Ok(()) => Ok(()),
-        Err(_) => Err(OpenFault::Device),
+        Err(TryLockError::Error(error)) => Err(SystemFault::new(SystemCall::Lock, &error)),
+        Err(TryLockError::WouldBlock) => {
+            Err(SystemFault::of_kind(SystemCall::Lock, ErrorKind::ResourceBusy))
+        }
     }
+}
+
+// What is told of a file that is longer than `FILE_LIMIT`.
+fn too_long() -> SystemFault {
+    SystemFault::of_kind(SystemCall::Read, ErrorKind::FileTooLarge)
 }
 
 /// Makes the entry of a new file in its folder outlive a stop. Refused by what the system answers, also where the path has
@@ -110,7 +109,7 @@ fn forget_cached(file: &fs::File) -> io::Result<()> {
 }
 
 // Reads the file into the memory, in which nothing is stable then.
-fn load(file: &fs::File, held: &mut Buffer, len: usize) -> Result<(), OpenFault>
+fn load(file: &fs::File, held: &mut Buffer, len: usize) -> Result<(), SystemFault>
     ensures stable { (buffer.disk_of held.new).stable ≡ (buffer.disk_of held.old).stable }
     ensures limit { buffer.limit_of held.new ≡ buffer.limit_of held.old }
 {
@@ -118,8 +117,13 @@ fn load(file: &fs::File, held: &mut Buffer, len: usize) -> Result<(), OpenFault>
     let mut at = 0;
     while at < len {
         let n = PIECE.min(len - at);
-        file.read_exact_at(&mut piece[..n], at as u64)?;
-        held.write_at(at as u64, &piece[..n])?;
+        asked(
+            SystemCall::Read,
+            file.read_exact_at(&mut piece[..n], at as u64),
+        )?;
+        if held.write_at(at as u64, &piece[..n]).is_err() {
+            return Err(too_long());
+        }
         at += n;
     }
     Ok(())
@@ -141,14 +145,15 @@ impl FileDevice {
         ensures limit { IfOk result (λ device. limit_of device ≡ 2 ^ 21 + 2 ^ 12) }
     {
         let held = Buffer::new(alloc, FILE_LIMIT)?;
-        let file = OpenOptions::new()
+        let made = OpenOptions::new()
             .read(true)
             .write(true)
             .create_new(true)
-            .open(files, path)?;
+            .open(files, path);
+        let file = asked(SystemCall::Open, made)?;
         lock(&file)?;
-        file.sync_all()?;
-        sync_folder(files, path)?;
+        asked(SystemCall::Sync, file.sync_all())?;
+        asked(SystemCall::Sync, sync_folder(files, path))?;
         Ok(FileDevice {
             file,
             held,
@@ -171,14 +176,39 @@ impl FileDevice {
         ensures works { IfOk result (λ device. has_failed device ≡ false) }
         ensures limit { IfOk result (λ device. limit_of device ≡ 2 ^ 21 + 2 ^ 12) }
     {
+        let opened = OpenOptions::new().read(true).write(true).open(files, path);
+        FileDevice::of(alloc, asked(SystemCall::Open, opened)?)
+    }
+
+    /// The same of a file that is read alone, as on a file system where nothing can be written: the system refuses each
+    /// write to it.
+    pub fn look<R: Files<File = fs::File>>(
+        alloc: Global,
+        files: &R,
+        path: &str,
+    ) -> Result<FileDevice, OpenFault>
+        ensures stable { IfOk result (λ device. (disk_of device).stable ≡ []) }
+        ensures count { IfOk result (λ device. count_of device ≡ 0) }
+        ensures works { IfOk result (λ device. has_failed device ≡ false) }
+        ensures limit { IfOk result (λ device. limit_of device ≡ 2 ^ 21 + 2 ^ 12) }
+    {
+        FileDevice::of(alloc, asked(SystemCall::Open, fs::File::open(files, path))?)
+    }
+
+    // The device of a file that was opened.
+    fn of(alloc: Global, file: fs::File) -> Result<FileDevice, OpenFault>
+        ensures stable { IfOk result (λ device. (disk_of device).stable ≡ []) }
+        ensures count { IfOk result (λ device. count_of device ≡ 0) }
+        ensures works { IfOk result (λ device. has_failed device ≡ false) }
+        ensures limit { IfOk result (λ device. limit_of device ≡ 2 ^ 21 + 2 ^ 12) }
+    {
         let mut held = Buffer::new(alloc, FILE_LIMIT)?;
-        let file = OpenOptions::new().read(true).write(true).open(files, path)?;
         lock(&file)?;
-        let len = file.metadata()?.len();
+        let len = asked(SystemCall::Stat, file.metadata())?.len();
         if len > FILE_LIMIT as u64 {
-            return Err(OpenFault::Device);
+            return Err(OpenFault::Device(too_long()));
         }
-        forget_cached(&file)?;
+        asked(SystemCall::Sync, forget_cached(&file))?;
         load(&file, &mut held, len as usize)?;
         Ok(FileDevice {
             file,
@@ -234,7 +264,7 @@ impl Device for FileDevice {
         self.faults
     }
 
-    fn cause(&self) -> Option<ErrorKind> {
+    fn cause(&self) -> Option<SystemFault> {
         self.cause
     }
 
@@ -271,7 +301,7 @@ impl Device for FileDevice {
         }
         if let Err(error) = self.file.write_all_at(bytes, off) {
             self.has_failed = true;
-            self.cause = Some(error.kind());
+            self.cause = Some(SystemFault::new(SystemCall::Write, &error));
             return Err(fault(&mut self.faults));
         }
         Ok(())
@@ -291,7 +321,7 @@ impl Device for FileDevice {
         }
         if let Err(error) = self.file.sync_data() {
             self.has_failed = true;
-            self.cause = Some(error.kind());
+            self.cause = Some(SystemFault::new(SystemCall::Sync, &error));
             return Err(fault(&mut self.faults));
         }
         if self.held.sync().is_err() {

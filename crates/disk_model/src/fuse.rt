@@ -3,7 +3,7 @@ ghost use Rattle.std.specs.Prelude.{◌≡◌, ◌+◌, ◌-◌, ◌^◌, ◌<�
 ghost use Rattle.disk_model.specs.Disk.{IsPart, Puts, Unsyncs, synced, Elapses, HasCause, Reaches, IsInReach};
 ghost use Rattle.disk_model.specs.Fuse.{is_idle, fails_at, planned};
 
-use crate::{Device, DeviceFault};
+use crate::{Device, DeviceFault, SystemCall, SystemFault};
 use std::io::ErrorKind;
 
 // Which calls from now on fail.
@@ -134,9 +134,9 @@ impl<D: Device> Device for FuseDevice<D> {
         self.inner.failures().saturating_add(self.faults)
     }
 
-    fn cause(&self) -> Option<ErrorKind> {
+    fn cause(&self) -> Option<SystemFault> {
         if self.faults > 0 {
-            return Some(ErrorKind::Other);
+            return Some(SystemFault::of_kind(SystemCall::Write, ErrorKind::Other));
         }
         self.inner.cause()
     }

@@ -6,9 +6,8 @@ ghost use Rattle.disk_model.specs.Shadow.{is_written, byte_before};
 
 use crate::buffer::Buffer;
 use crate::shadow::Shadow;
-use crate::{Device, DeviceFault};
+use crate::{Device, DeviceFault, SystemFault};
 use std::alloc::{AllocError, Global};
-use std::io::ErrorKind;
 
 /// What a stop makes of the ranges written since the last sync that succeeded.
 #[derive(Clone, Copy, Debug, PartialEq, Eq)]
@@ -96,7 +95,7 @@ impl Device for MemDevice {
         self.held.failures()
     }
 
-    fn cause(&self) -> Option<ErrorKind> {
+    fn cause(&self) -> Option<SystemFault> {
         None
     }
 

@@ -7,6 +7,7 @@ pub mod Found
 pub mod Frames
 pub mod Journal
 pub mod Listed
+pub mod Newer
 pub mod NextFrame
 pub mod Pieces
 pub mod Place

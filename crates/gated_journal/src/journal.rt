@@ -19,10 +19,9 @@ use crate::layout::{AREA_A, LAYOUT, are_suited, area_b, is_header};
 use crate::open::{Opened, open};
 use crate::place::Place;
 use crate::{Batch, Checkpoint, Opening, Receipt, Spoiled, Work};
-use disk_model::{Device, FuseDevice};
+use disk_model::{Device, FuseDevice, SystemFault};
 use ring_records::{Input, NodeNo, Refusal, costs_of, summary_len};
 use std::alloc::Global;
-use std::io::ErrorKind;
 
 /// The durable inputs of one node, on a device of its own.
 #[derive(Drop)]
@@ -239,8 +238,8 @@ impl<D: Device> Journal<D> {
         self.is_spoiled
     }
 
-    /// What was answered to the first call of its device that failed, where that is known.
-    pub fn cause(&self) -> Option<ErrorKind> {
+    /// What the system answered to the first call of its device that failed, where that is known.
+    pub fn cause(&self) -> Option<SystemFault> {
         self.device.cause()
     }
 

@@ -112,7 +112,7 @@ fn a_read_past_a_short_file_is_a_fault(rt: HostRuntime) {
 }
 
 fn is_refused(rt: &impl Abort, made: Result<FileDevice, OpenFault>) {
-    assert!(rt; made.err() == Some(OpenFault::Device));
+    assert!(rt; matches!(made.err(), Some(OpenFault::Device(_))));
 }
 
 /// No device is made of what the path leads to.
@@ -136,6 +136,29 @@ fn what_cannot_be_a_device_is_refused(rt: HostRuntime) {
     holds(&rt, path, b"abc");
     lengthen(&rt, path, FILE_LIMIT as u64 + 1);
     open_is_refused(&rt, path);
+    remove(&rt, path);
+}
+
+#[test]
+fn a_file_that_is_looked_at_takes_no_write(rt: HostRuntime) {
+    let path = "disk_model_looked_at.bin";
+    fs::write(&rt, path, "abc").expect(&rt, "a file");
+    let Ok(looked) = FileDevice::look(rt.alloc(), &rt, path) else {
+        panic!(rt; "a file that is there");
+    };
+    let mut device = looked;
+    plays(
+        &rt,
+        &mut device,
+        &[
+            Step::HasSize(3),
+            Step::Reads(0, b"abc"),
+            Step::Sync,
+            Step::WriteFails(0, b"x"),
+        ],
+    );
+    drop(device);
+    holds(&rt, path, b"abc");
     remove(&rt, path);
 }
 
