@@ -1,5 +1,5 @@
 -- What a desk is seen as, what its calls make of it, and why they are refused.
-use Rattle.std.specs.Prelude.{ℕ, ◌≡◌, ◌<◌, ◌≤◌, ◌^◌, ◌⊎◌, ◌+◌, ◌-◌, ◌*◌, Bool, false, ◌&&◌, ◌||◌, if◌then◌else◌, List, [], ◌∷◌, ◌++◌, length, nat_eq, nat_le, nat_lt, Option, Some, None, is_none}
+use Rattle.std.specs.Prelude.{ℕ, ◌≡◌, ◌<◌, ◌≤◌, ◌^◌, ◌⊎◌, ◌+◌, ◌-◌, ◌*◌, Bool, false, ◌&&◌, ◌||◌, if◌then◌else◌, List, [], ◌∷◌, ◌++◌, length, take, nat_eq, nat_le, nat_lt, Option, Some, None, is_none}
 use Rattle.std.specs.List.{cons_option}
 use Rattle.std.specs.Map.{lookup, remove_entry}
 use Rattle.std.specs.Option.{option_map}
@@ -11,8 +11,7 @@ use Rattle.ring_records.specs.declared.request.Request.{Request}
 use Rattle.ring_records.specs.declared.summary.Summary.{Summary}
 use Rattle.ring_records.specs.Admission.{base_of, newest, used, where_so, IsBaseOf, IsLawful}
 pub use Rattle.ring_records.specs.Admission.{epochs}
-use Rattle.ring_records.specs.Answer as answers
-use Rattle.ring_records.specs.Answer.{Answered}
+use Rattle.ring_records.specs.Answer.{Answered, Answers}
 use Rattle.ring_records.specs.Known.{after}
 use Rattle.ring_records.specs.Lists.{or_else}
 use Rattle.ring_records.specs.Member.{Member}
@@ -202,14 +201,14 @@ pub record MayRenew (desk : DeskKept) : Type 0 where
 
 -- ---- replies
 
--- a node with some lawful history behind its past gives this answer to the request, with room counted from an area that
--- stands for the first inputs of that history
-pub record IsAnswer (member : Member) (past : List Input) (a : Answered) : Type 0 where
+-- At some point of its history, which is the past and then these inputs, and not before the past's end, the node gives this
+-- answer to the request. Room is counted from an area that stands for the first of the inputs up to there, which are lawful by it.
+pub record IsAnswer (member : Member) (past inputs : List Input) (a : Answered) : Type 0 where
   pub base : Base
-  pub since : List Input
-  pub based : IsBaseOf member.node base (past ++ since)
-  pub lawful : IsLawful member.node member.n member.capacity base (past ++ since)
-  pub gives : a ≡ answers.answered member.node member.n member.capacity base (past ++ since) a.question
+  pub gives : Answers member.node member.n member.capacity base (past ++ inputs) a.question a.answer
+  pub behind : length past ≤ gives.before
+  pub based : IsBaseOf member.node base (take gives.before (past ++ inputs))
+  pub lawful : IsLawful member.node member.n member.capacity base (take gives.before (past ++ inputs))
 
 -- why its reply is not released: no such ticket is open here, or the reply rests on inputs that are not durable
 pub record IsSealed (desk : DeskKept) (ticket : TicketView) (why : Refusal) : Type 0 where

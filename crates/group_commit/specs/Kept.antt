@@ -24,11 +24,11 @@ unfoldable pub AreBelow : ℕ → List (ℕ × Answered) → Type 0
 AreBelow number [] = Unit {0}
 AreBelow number (ticket ∷ tickets) = (ticket.0 < number) × AreBelow number tickets
 
--- each kept reply is one that a node with some lawful history behind its past gives
-unfoldable pub AreAnswers : Member → Summary → List (ℕ × Answered) → Type 0
-AreAnswers member opening [] = Unit {0}
-AreAnswers member opening (ticket ∷ tickets) =
-    ((past : List Input) → IsPast member opening past → IsAnswer member past ticket.1) × AreAnswers member opening tickets
+-- each kept reply is one that the node gave, behind each past that it may have, by the inputs since its opening
+unfoldable pub AreAnswers : Member → Summary → List Input → List (ℕ × Answered) → Type 0
+AreAnswers member opening inputs [] = Unit {0}
+AreAnswers member opening inputs (ticket ∷ tickets) =
+    ((past : List Input) → IsPast member opening past → IsAnswer member past inputs ticket.1) × AreAnswers member opening inputs tickets
 
 -- what the area behind this one stands for, which begins with a snapshot of so many inputs since the opening
 abbrev pub area_behind : Base → ℕ → ℕ → Base
@@ -50,8 +50,7 @@ HoldsFor me outbox opening durable rest flying = Holds me outbox (after me openi
 
 -- The summary of the opening is sound. The state is one that its node may be in since, and the core is the node's in that
 -- state; the outbox holds what the durable inputs let the node release; of the inputs none is gone but what the area in use
--- stands for; no number of a ticket is given twice; and what is
--- kept for a ticket is an answer.
+-- stands for; no number of a ticket is given twice; and what is kept for a ticket is an answer that these inputs gave.
 pub record IsDesk (core : CoreView) (outbox : Outbox) (inputs : Inputs) (m : Member) (opening : Summary) (s : NodeState) (tickets : List (ℕ × Answered)) (issued : ℕ) : Type 0 where
   pub sound : IsSound m.n opening
   pub knows : core ≡ core_in m opening s
@@ -59,4 +58,4 @@ pub record IsDesk (core : CoreView) (outbox : Outbox) (inputs : Inputs) (m : Mem
   pub holds : HoldsFor m.node outbox opening (durable_in s) (drop s.durable s.inputs) (s.flying - s.durable)
   pub kept : IsKept m opening s inputs
   pub given : AreBelow issued tickets
-  pub answers : AreAnswers m opening tickets
+  pub answers : AreAnswers m opening s.inputs tickets

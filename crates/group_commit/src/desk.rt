@@ -199,7 +199,7 @@ impl Desk {
         ensures released { IfOk result (λ r. IsHere self.old.view (shown ticket) r.1) }
         ensures reply { IfOk result (λ r. r.0 ≡ r.1.answer.reply) }
         ensures durable { IfOk result (λ r. r.1.answer.number ≤ self.old.opening.inputs + self.old.view.state.durable) }
-        ensures answer { IfOk result (λ r. (past : List Input) → IsPast self.old.view.member self.old.opening past → IsAnswer self.old.view.member past r.1) }
+        ensures answer { IfOk result (λ r. (past : List Input) → IsPast self.old.view.member self.old.opening past → IsAnswer self.old.view.member past (durable_in self.old.view.state) r.1) }
         ensures next { OnOk result (self.new ≡ record self.old { view = ended (shown ticket).own self.old.view }) }
         ensures refusal { IfErr result (λ e. IsSealed self.old (shown ticket) e.1) }
         ensures back { IfErr result (λ e. shown e.0 ≡ shown ticket) }

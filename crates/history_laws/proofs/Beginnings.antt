@@ -1,5 +1,5 @@
 -- An answer stays one of a longer history, and of each beginning that has what it rests on.
-use Rattle.std.proofs.Common.{ℕ, ◌++◌, ◌≡◌, ◌≤◌, List, length, take, sym, ap, ◌∙◌, arith}
+use Rattle.std.proofs.Common.{ℕ, ◌++◌, ◌≡◌, ◌≤◌, List, length, take, refl, sym, ap, ◌∙◌, arith}
 use Rattle.std.proofs.lemmas.List.{length-append, length-take, take-append-le, take-take}
 use Rattle.ring_records.specs.declared.base.Base.{Base}
 use Rattle.ring_records.specs.declared.input.Input.{Input}
@@ -30,6 +30,11 @@ module _ (me n capacity : ℕ) (base : Base) (h : List Input) (q : Request) (a :
         front = ap (λ (g : List Input). g ++ gained me n capacity base g q) cut ∙ (s.front ∙ sym (take-append-le a.number h more few));
       }
 
+  -- at the same point, by the same inputs
+  pub longer_at : (more : List Input) → (s.before ≡ (longer more).before) × (take s.before h ≡ take (longer more).before (h ++ more))
+  unfolding longer
+  longer_at more = (refl, sym (take-append-le s.before h more s.within))
+
   pub shorter : (k : ℕ) → a.number ≤ k → Answers me n capacity base (take k h) q a
   shorter k enough =
       let cut : take s.before (take k h) ≡ take s.before h = take-take s.before k h (omega (arith, first, enough)) in
@@ -39,3 +44,7 @@ module _ (me n capacity : ℕ) (base : Base) (h : List Input) (q : Request) (a :
         same = s.same ∙ ap (λ (g : List Input). answer me n capacity base g q) (sym cut);
         front = ap (λ (g : List Input). g ++ gained me n capacity base g q) cut ∙ (s.front ∙ sym (take-take a.number k h enough));
       }
+
+  pub shorter_at : (k : ℕ) (enough : a.number ≤ k) → (s.before ≡ (shorter k enough).before) × (take s.before h ≡ take (shorter k enough).before (take k h))
+  unfolding shorter
+  shorter_at k enough = (refl, sym (take-take s.before k h (omega (arith, first, enough))))

@@ -1,4 +1,4 @@
-mod Beginnings
+pub mod Beginnings
 pub mod Chain
-mod Handed
+pub mod Handed
 pub mod Runs

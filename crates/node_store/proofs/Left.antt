@@ -68,7 +68,7 @@ may_be_left desk image counts lawful read = record { read = read; left = λ past
 
 -- ---- what a desk shows that is opened with what the journal holds in a state
 
-allowed_in : (m : Member) (base : Base) (before l : List Input) → EachAfter (IsAdmitted m.node m.n m.capacity base) before l → EachAfter (IsAllowed m.node m.n) before l
+pub allowed_in : (m : Member) (base : Base) (before l : List Input) → EachAfter (IsAdmitted m.node m.n m.capacity base) before l → EachAfter (IsAllowed m.node m.n) before l
 unfolding EachAfter
 allowed_in m base before [] each = tt
 allowed_in m base before (x ∷ l) each = (each.0.allowed, allowed_in m base (before ++ x ∷ []) l each.1)

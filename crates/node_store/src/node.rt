@@ -175,7 +175,7 @@ impl<D: Device> Node<D> {
         ensures released { IfOk result (λ r. IsHere (desk_of self.old).view (shown ticket) r.1) }
         ensures reply { IfOk result (λ r. r.0 ≡ r.1.answer.reply) }
         ensures durable { IfOk result (λ r. r.1.answer.number ≤ (desk_of self.old).opening.inputs + (state_of self.old).durable) }
-        ensures answer { IfOk result (λ r. (past : List Input) → IsPast (member_of self.old) (desk_of self.old).opening past → IsAnswer (member_of self.old) past r.1) }
+        ensures answer { IfOk result (λ r. (past : List Input) → IsPast (member_of self.old) (desk_of self.old).opening past → IsAnswer (member_of self.old) past (durable_in (state_of self.old)) r.1) }
         ensures next { OnOk result (desk_of self.new ≡ record (desk_of self.old) { view = ended (shown ticket).own (desk_of self.old).view }) }
         ensures refusal { IfErr result (λ e. IsSealed (desk_of self.old) (shown ticket) e.1) }
         ensures back { IfErr result (λ e. shown e.0 ≡ shown ticket) }

@@ -1,8 +1,7 @@
 // A device that reads a little at a time.
 ghost use Rattle.std.specs.Prelude.{◌+◌, ◌-◌, ◌^◌, min, false};
 
-use disk_model::{Device, DeviceFault};
-use std::io::ErrorKind;
+use disk_model::{Device, DeviceFault, SystemFault};
 
 /// How many bytes it reads at once, at most.
 pub const MOST: usize = 4096;
@@ -39,7 +38,7 @@ impl<D: Device> Device for ShortReads<D> {
         self.inner.failures().saturating_add(self.faults)
     }
 
-    fn cause(&self) -> Option<ErrorKind> {
+    fn cause(&self) -> Option<SystemFault> {
         self.inner.cause()
     }
 

@@ -17,5 +17,5 @@ invariant_of-self c =
       holds = i.holds;
       kept = i.kept;
       given = subst (λ (ts : List (ℕ × Answered)). AreBelow c.self.inside.issued ts) (sym c.take_back.ensures) (below_without _ _ _ i.given);
-      answers = subst (λ (ts : List (ℕ × Answered)). AreAnswers (member_in d) d.base ts) (sym c.take_back.ensures) (answers_without (member_in d) d.base c.args.ticket.own d.tickets.entries i.answers);
+      answers = subst (λ (ts : List (ℕ × Answered)). AreAnswers (member_in d) d.base d.inputs.all.list ts) (sym c.take_back.ensures) (answers_without (member_in d) d.base d.inputs.all.list c.args.ticket.own d.tickets.entries i.answers);
     }

@@ -60,5 +60,5 @@ invariant_of-result c =
       holds = whole_holds m.node c.len-count.result c.replay.new.outbox o.base l count holds;
       kept = kept_none m o.base area l c.len-count.result c.len-count.result c.new.result refl c.new.ensures.gone c.new.ensures.known c.new.ensures.mark;
       given = search (rules, below_none);
-      answers = subst (AreAnswers m o.base) (sym c.new-2.ensures.empty) (answers_none m o.base);
+      answers = subst (AreAnswers m o.base l) (sym c.new-2.ensures.empty) (answers_none m o.base l);
     })

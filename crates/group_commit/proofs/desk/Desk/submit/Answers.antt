@@ -4,14 +4,14 @@ use Rattle.std.specs.Map.{lookup, remove_entry}
 use Rattle.ring_records.specs.declared.input.Input.{Input}
 use Rattle.ring_records.specs.Answer.{Answered}
 use Rattle.ring_records.specs.Known.{after}
-use Rattle.ring_records.specs.States.{NodeState, launched_base, gained_by}
+use Rattle.ring_records.specs.States.{NodeState, gained_by}
 use Rattle.node_core.specs.Core.{Refuses}
 use Rattle.group_commit.specs.Desk.{DeskKept, IsSubmitted, answered, seen}
 use Rattle.group_commit.specs.declared.desk.Desk.TheInside.{Inside}
 use Rattle.group_commit.specs.Inputs.{IsKept}
 use Rattle.group_commit.specs.Kept.{AreBelow, AreAnswers, HoldsFor, state_with}
 use Rattle.group_commit.specs.Outbox.{Holds}
-use Rattle.group_commit.specs.Past.{IsPast, shifted}
+use Rattle.group_commit.specs.Past.{IsPast}
 use Rattle.group_commit.specs.Since.{IsKnownState, core_in}
 use Rattle.group_commit.specs.Ticket.{answered_with, ticket_with}
 use Rattle.group_commit.proofs.Inside.{member_in, area_in, state_in}
@@ -20,7 +20,7 @@ use Rattle.group_commit.proofs.Landing.{waits_more}
 use Rattle.group_commit.proofs.Numbers.{undone, found_last, below_next, few_issued}
 use Rattle.group_commit.proofs.Opening.{on_ok, on_err, if_some}
 use Rattle.group_commit.proofs.Past.{given_is}
-use Rattle.group_commit.proofs.Replies.{IsAnswerOf, answers_next}
+use Rattle.group_commit.proofs.Replies.{IsAnswerOf, answer_now, answers_longer, answers_next}
 use Rattle.group_commit.proofs.Seen.{lawful_known}
 use Rattle.group_commit.proofs.Since.{knows_front, known_more, core_more}
 use Rattle.group_commit.proofs.desk.Desk.submit.Goals as goal
@@ -65,7 +65,7 @@ invariant_of-self-then-is_err-2 c =
           let all = subst (λ l. IsKept m d.base (state_for d l) c.accept.new.inputs) (append-nil d.inputs.all.list) (kept_more m d.base (state_in d) [] d.inputs c.accept.new.inputs i.state c.accept.ensures.marks i.kept) in
           subst (λ l. IsKept m d.base (state_for d l) c.accept.new.inputs) (sym same.0) all);
       given = subst (λ (ts : List (ℕ × Answered)). AreBelow c.self.inside.issued ts) tickets i.given;
-      answers = subst (λ (ts : List (ℕ × Answered)). AreAnswers m d.base ts) tickets i.answers;
+      answers = (let same_inputs = sym same.0 in subst (λ (p : List Input × List (ℕ × Answered)). AreAnswers m d.base p.0 p.1) (λ k. (same_inputs k, tickets k)) i.answers);
     }
 
 pub returns-then-is_err-2-clause-same : goal.returns-then-is_err-2-clause-same
@@ -124,9 +124,9 @@ invariant_of-self-2 c =
     let a = (goal.at.invariant_of-self-2 c).After-accept in
     let accepted : is_ok c.accept.result ≡ true = search rules in
     let inputs = on_ok c.accept.result accepted c.accept.ensures.inputs in
-    let answers_now : IsAnswerOf m d.base (kept_by a) = λ past is.
-    let lawful = lawful_known m d.base past (state_in d) is i.state in
-    record { base = launched_base (shifted past (state_in d)); since = d.inputs.all.list; based = lawful.next; lawful = lawful.all; gives = (answers_past a past is).0 } in
+    let answers_now : IsAnswerOf m d.base (d.inputs.all.list ++ more) (kept_by a) = λ past is.
+    let given = answers_past a past is in
+    answer_now m past (state_in d) c.args.question (kept_by a) more (lawful_known m d.base past (state_in d) is i.state) given.0 given.1 in
     record {
       sound = i.sound;
       knows = core_more m d.base (state_in d) d.core c.accept.new.core more i.state i.knows (on_ok c.accept.result accepted c.accept.ensures.knows) ∙ ap (λ l. core_in m d.base (state_for d l)) (sym inputs);
@@ -135,7 +135,8 @@ invariant_of-self-2 c =
       holds = holds_more a accepted;
       kept = subst (λ l. IsKept m d.base (state_for d l) c.accept.new.inputs) (sym inputs) (kept_more m d.base (state_in d) more d.inputs c.accept.new.inputs i.state c.accept.ensures.marks i.kept);
       given = subst (λ (ts : List (ℕ × Answered)). AreBelow (c.self.inside.issued + 1) ts) (sym (tickets_are a)) (below_next _ _ _ i.given);
-      answers = subst (λ (ts : List (ℕ × Answered)). AreAnswers m d.base ts) (sym (tickets_are a)) (answers_next m d.base d.issued _ d.tickets.entries i.answers answers_now);
+      answers = subst (λ (p : List Input × List (ℕ × Answered)). AreAnswers m d.base p.0 p.1) (λ k. (sym inputs k, sym (tickets_are a) k))
+          (answers_next m d.base (d.inputs.all.list ++ more) d.issued _ d.tickets.entries (answers_longer m d.base d.inputs.all.list more d.tickets.entries i.answers) answers_now);
     }
 
 pub overflow_add-self : goal.overflow_add-self
