@@ -1,5 +1,5 @@
 -- A batch that a hub launches, and what it lets the node release.
-use Rattle.std.proofs.Common.{◌≡◌, ℕ, List, ◌++◌, append_assoc, Result, Ok, Err, IfOk, sym, ap, ◌∙◌, subst}
+use Rattle.std.proofs.Common.{◌≡◌, ℕ, List, ◌++◌, append_assoc, sym, ap, ◌∙◌, subst}
 use Rattle.ring_records.specs.declared.input.Input.{Input}
 use Rattle.ring_records.specs.declared.packet.Packet.{Packet}
 use Rattle.ring_records.specs.declared.summary.Summary.{Summary}
@@ -55,10 +55,10 @@ released f told d m opening inputs of from is tells =
 
 -- ---- windows
 
--- it is that of the desk's state
-pub is_window : {T E : Type 0} (items : T → List Packet) (result : Result T E) (d : DeskKept)
-    → ((past : List Input) → IsPast d.view.member d.opening past → IsLawfulState d.view.member (seen past d).state)
-    → IfOk result (λ list. (past : List Input) → IsPast d.view.member d.opening past → items list ≡ window d.view.member.node (durable_in (seen past d).state))
-    → IfOk result (λ list. IsWindow d.view.member d.opening (items list))
-is_window items (Err e) d lawful is = tt
-is_window items (Ok list) d lawful is = λ past behind. record { state = d.view.state; lawful = lawful past behind; packets = is past behind }
+-- it is that of the desk's durable inputs
+pub is_window : (list : List Packet) (d : DeskKept) → ((past : List Input) → IsPast d.view.member d.opening past → IsLawfulState d.view.member (seen past d).state)
+    → ((past : List Input) → IsPast d.view.member d.opening past → list ≡ window d.view.member.node (durable_in (seen past d).state))
+    → IsWindow d.view.member d.opening (durable_in d.view.state) list
+is_window list d lawful is past behind =
+    let durable = durable-shifted past d.view.state in
+    record { state = d.view.state; lawful = lawful past behind; durable = durable; packets = is past behind ∙ ap (window d.view.member.node) durable }

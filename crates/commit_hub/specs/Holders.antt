@@ -1,9 +1,11 @@
--- What the holders of a hub's shares count, and what its tie knows.
+-- What the holders of a hub's shares count, what its tie knows, and what its tokens name.
 use Rattle.std.specs.Prelude.{ℕ, ◌≡◌, ◌+◌, List, length}
 use Rattle.std.specs.List.{sum_by}
 use Rattle.std.specs.declared.sync.ledger.Ledger as ledger
+use Rattle.ring_records.specs.declared.input.Input.{Input}
 use Rattle.group_commit.specs.Desk.{DeskKept}
 use Rattle.commit_hub.specs.declared.ledgers.Node as node
+use Rattle.commit_hub.specs.declared.share.Begun.{Begun}
 use Rattle.commit_hub.specs.declared.share.Share.{Share}
 use Rattle.commit_hub.specs.declared.share.Tie.{Tie}
 use Rattle.commit_hub.specs.Tied.{Durable}
@@ -21,3 +23,7 @@ module _ {A : Type 0} {a : node.Ghosts A} where
     -- what the tie knows to be durable
     abbrev pub known_by : Tie A a la → Durable
     known_by tie = tie.known.durable
+
+    -- the inputs since the desk's opening that the token speaks of
+    abbrev pub begun_by : Begun A a la → List Input
+    begun_by begun = begun.mark.inputs

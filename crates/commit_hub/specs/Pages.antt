@@ -1,6 +1,7 @@
 -- What a hub is made of.
 use Rattle.std.specs.Prelude.{ℕ, ◌≡◌}
 use Rattle.commit_hub.specs.declared.blanks.Blanks.{Blanks}
+use Rattle.commit_hub.specs.Tied.{Names}
 
 -- how many shares the hub can give
 abbrev pub places_of : Blanks → ℕ
@@ -10,6 +11,6 @@ places_of blanks = blanks.places
 abbrev pub ForAccepted : Blanks → ℕ → ℕ → Type 0
 ForAccepted blanks name parts = (blanks.accepted.name ≡ name) × (blanks.accepted.parts ≡ parts)
 
--- the halves have this name
-abbrev pub ForTie : Blanks → ℕ → Type 0
-ForTie blanks name = blanks.held.name ≡ name
+-- the halves have these names
+abbrev pub ForTie : Blanks → Names → Type 0
+ForTie blanks names = blanks.held.name ≡ names

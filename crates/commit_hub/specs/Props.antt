@@ -6,7 +6,7 @@ use Rattle.ring_records.specs.declared.summary.Summary.{Summary}
 use Rattle.ring_records.specs.Member.{Member}
 use Rattle.ring_records.specs.States.{NodeState}
 use Rattle.ring_records.specs.Codes.{coded_summary}
-use Rattle.commit_hub.specs.Tied.{Durable, coded_durable}
+use Rattle.commit_hub.specs.Tied.{Durable, Names, coded_durable, coded_names}
 use Rattle.commit_hub.specs.Works.{IsNextArea}
 
 members : IsSet Member
@@ -17,6 +17,9 @@ member-prop a b = members a b
 
 pub summary-prop : (a b : Summary) → IsProp (a ≡ b)
 summary-prop a b = Coded-set coded_summary a b
+
+pub names-prop : (a b : Names) → IsProp (a ≡ b)
+names-prop a b = Coded-set coded_names a b
 
 pub durable-prop : (a b : Durable) → IsProp (a ≡ b)
 durable-prop a b = Coded-set coded_durable a b

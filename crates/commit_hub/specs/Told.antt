@@ -45,15 +45,17 @@ pub record IsBroughtBehind (member : Member) (past since inputs : List Input) (l
 abbrev pub IsBrought : Member → Summary → List Input → List Input → Landed → Type 0
 IsBrought member opening since inputs landed = (past : List Input) → IsPast member opening past → IsBroughtBehind member past since inputs landed
 
--- the packets are those that the node may release again, in some lawful state behind the past
-pub record IsWindowBehind (member : Member) (past : List Input) (list : List Packet) : Type 0 where
+-- In some lawful state of the node, behind the past, its durable inputs are those since the opening; the packets are those
+-- that it may release again then.
+pub record IsWindowBehind (member : Member) (past since : List Input) (list : List Packet) : Type 0 where
   pub state : NodeState
   pub lawful : IsLawfulState member (shifted past state)
-  pub packets : list ≡ window member.node (durable_in (shifted past state))
+  pub durable : durable_in (shifted past state) ≡ past ++ since
+  pub packets : list ≡ window member.node (past ++ since)
 
 -- so it is whatever past of the node the opening is of
-abbrev pub IsWindow : Member → Summary → List Packet → Type 0
-IsWindow member opening list = (past : List Input) → IsPast member opening past → IsWindowBehind member past list
+abbrev pub IsWindow : Member → Summary → List Input → List Packet → Type 0
+IsWindow member opening since list = (past : List Input) → IsPast member opening past → IsWindowBehind member past since list
 
 -- what is known of room at a node: whether a checkpoint is due, whether one frees some, and whether one is to make some
 pub record Room : Type 0 where

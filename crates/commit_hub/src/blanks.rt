@@ -1,5 +1,7 @@
 //! What a hub is made of.
 ghost use Rattle.std.specs.Prelude.{◌≡◌, ◌+◌, ◌≤◌};
+ghost use Rattle.commit_hub.specs.Props.{durable-prop, names-prop};
+ghost use Rattle.commit_hub.specs.Tied.{nothing};
 
 use crate::tied::{Held, Known, open};
 use std::sync::ledger::Blank;
@@ -13,7 +15,8 @@ pub struct Blanks {
     pub(crate) held: Held,
     pub(crate) known: Known,
     ghost accepted_is: { accepted.parts ≡ places + 1 },
-    ghost halves: { known.name ≡ held.name },
+    ghost halves: { known.name ≡ held.name } by { names-prop known.name held.name },
+    ghost empty: { held.durable ≡ nothing } by { durable-prop held.durable nothing },
 }
 
 impl Blanks {

@@ -9,7 +9,7 @@ ghost use Rattle.group_commit.specs.Desk.{IsAnswer, seen};
 ghost use Rattle.node_core.specs.Core.{IsNodeOf};
 ghost use Rattle.group_commit.specs.Past.{IsPast};
 ghost use Rattle.group_commit.specs.Ticket.{shown};
-ghost use Rattle.commit_hub.specs.Holders.{count_of, known_by};
+ghost use Rattle.commit_hub.specs.Holders.{begun_by, count_of, known_by};
 ghost use Rattle.commit_hub.specs.Pages.{ForAccepted, ForTie};
 ghost use Rattle.commit_hub.specs.Tied.{durable_part, with_batch, with_area};
 ghost use Rattle.commit_hub.specs.Told.{IsUnasked, IsBrought, IsLook, IsWindow};
@@ -19,7 +19,7 @@ use crate::blanks::Blanks;
 use crate::ledgers::Node;
 use crate::locked::Locked;
 use crate::look::Look;
-use crate::share::{Share, Tie};
+use crate::share::{Begun, Share, Tie};
 use crate::waking::{Bells, Guarded};
 use gated_journal::{Receipt, Spoiled, Work};
 use group_commit::{Desk, Landed, Stub, Ticket};
@@ -96,16 +96,17 @@ impl<A: Node> Hub<A> {
     }
 
     /// Waits until the inputs that the ticket's reply rests on are durable, ends the ticket and releases the reply,
-    /// with a stub of it. Refused as 10 where no such ticket is open here, and as 9 where an input that the reply rests
-    /// on will not become durable, since the hub has failed. Then the ticket comes back.
+    /// with a stub of it, and a token of the durable inputs that it is the answer behind. Refused as 10 where no such ticket
+    /// is open here, and as 9 where an input that the reply rests on will not become durable, since the hub has failed. Then
+    /// the ticket comes back.
     pub fn redeem_wait<R: Wait>(
         &self,
         rt: &R,
         ticket: Ticket,
-    ) -> Result<(Reply, Stub), (Ticket, Refusal)>
+    ) -> Result<(Reply, Stub, Begun<A>), (Ticket, Refusal)>
         ensures question { IfOk result (λ r. r.1.question ≡ (shown ticket).question) }
         ensures reply { IfOk result (λ r. r.0 ≡ r.1.answer.reply) }
-        ensures answer { IfOk result (λ r. (past : List Input) → IsPast A.member A.opening past → IsAnswer A.member past r.1) }
+        ensures answer { IfOk result (λ r. (past : List Input) → IsPast A.member A.opening past → IsAnswer A.member past (begun_by r.2) r.1) }
         ensures own { OnOk result ((shown ticket).node ≡ A.member.node) }
         ensures refusal { IfErr result (λ e. (e.1 ≡ Refusal.Foreign) ⊎ (e.1 ≡ Refusal.Failed)) }
         ensures failed { IfErr result (λ e. e.1 ≡ Refusal.Failed → (shown ticket).node ≡ A.member.node) }
@@ -252,9 +253,9 @@ impl<A: Node> Hub<A> {
     }
 
     /// The messages that the successor is not known to have taken, as Carry packets in order, by the durable inputs of
-    /// some moment within the call.
-    pub fn window<R: Wait>(&self, rt: &R) -> Result<Vec<Packet>, AllocError>
-        ensures { IfOk result (λ packets. IsWindow A.member A.opening packets.items) }
+    /// some moment within the call, of which there is a token.
+    pub fn window<R: Wait>(&self, rt: &R) -> Result<(Vec<Packet>, Begun<A>), AllocError>
+        ensures { IfOk result (λ r. IsWindow A.member A.opening (begun_by r.1) r.0.items) }
     {
         self.guarded.lock(rt).locked.window()
     }

@@ -3,13 +3,14 @@ ghost use Rattle.std.specs.Prelude.{ℕ};
 ghost use Rattle.ring_records.specs.declared.summary.Summary.{Summary};
 ghost use Rattle.ring_records.specs.Member.{Member};
 ghost use Rattle.ring_records.specs.Summary.{empty};
+ghost use Rattle.commit_hub.specs.Tied.{Names};
 
 use std::marker::Brand;
 use std::sync::ledger::Ledger;
 
 /// The ledger of the inputs that a node accepted. It names the node, its ring size and its capacity; the summary that
 /// its desk was opened with; how many inputs the node had when its hub was made, those that are summarised among them;
-/// and by its number what the hub and its tie both know.
+/// and by its names what the hub and its tie both know, and the list of the durable inputs since the opening.
 pub trait Node: Ledger {
     ghost member: { Member };
 
@@ -17,7 +18,7 @@ pub trait Node: Ledger {
 
     ghost opened: { ℕ };
 
-    ghost tied: { ℕ };
+    ghost tied: { Names };
 }
 
 impl Node for Brand {
@@ -27,5 +28,5 @@ impl Node for Brand {
 
     ghost opened = { 0 };
 
-    ghost tied = { 0 };
+    ghost tied = { record { value = 0; history = 0 } };
 }

@@ -17,4 +17,4 @@ pub use gated_journal::Work;
 pub use hub::Hub;
 pub use ledgers::Node;
 pub use look::Look;
-pub use share::{Share, Tie};
+pub use share::{Begun, Share, Tie};

@@ -12,9 +12,9 @@ ghost use Rattle.node_core.specs.Core.{IsNodeOf};
 ghost use Rattle.group_commit.specs.Next.{is_to_make_room, launched_next, IsNoWork, IsUnlaunched, IsWorkOf};
 ghost use Rattle.group_commit.specs.Past.{IsPast};
 ghost use Rattle.group_commit.specs.Ticket.{shown};
-ghost use Rattle.commit_hub.specs.Holders.{count_of, known_by};
+ghost use Rattle.commit_hub.specs.Holders.{begun_by, count_of, known_by};
 ghost use Rattle.commit_hub.specs.Pages.{places_of, ForAccepted, ForTie};
-ghost use Rattle.commit_hub.specs.Props.{member-prop, summary-prop, durable-prop, IsNextArea-prop};
+ghost use Rattle.commit_hub.specs.Props.{member-prop, summary-prop, names-prop, durable-prop, IsNextArea-prop};
 ghost use Rattle.commit_hub.specs.Tied.{durable_part, with_batch, with_area};
 ghost use Rattle.commit_hub.specs.Told.{IsBrought, IsLook, IsWindow, look_of, room_in, room_of};
 ghost use Rattle.commit_hub.specs.Works.{IsNext, IsNextArea, stays_wanted};
@@ -24,8 +24,8 @@ use crate::blanks::Blanks;
 use crate::ledgers::Node;
 use crate::look::Look;
 use crate::places::Places;
-use crate::share::{Share, Tie};
-use crate::tied::{Held, audit, follow};
+use crate::share::{Begun, Share, Tie};
+use crate::tied::{Held, audit, follow, tell};
 use gated_journal::{Receipt, Spoiled, Work};
 use group_commit::{Desk, Gone, Landed, SharedDesk, Stub, Ticket};
 use ring_records::{Packet, Refusal, Reply, Request};
@@ -54,7 +54,7 @@ pub(crate) struct Locked<A: Node> {
     ghost counted: { accepted.total ≡ shared.desk.opening.inputs + length shared.desk.view.state.inputs },
     ghost first_is: { (first.parts ≡ 1) × (first.amount ≡ opened) × (opened ≡ A.opened) },
     ghost spare_is: { (spare.parts ≡ left) × (spare.amount ≡ 0) },
-    ghost named: { held.name ≡ A.tied },
+    ghost named: { held.name ≡ A.tied } by { names-prop held.name A.tied },
     ghost held_is: { held.durable ≡ durable_part shared.desk } by { durable-prop held.durable (durable_part shared.desk) },
     ghost next_is: { IsNextArea shared.desk.view.state } by { IsNextArea-prop shared.desk.view.state },
 }
@@ -153,12 +153,16 @@ impl<A: Node> Locked<A> {
         }
     }
 
-    /// As on the desk.
-    pub(crate) fn redeem(&mut self, ticket: Ticket) -> Result<(Reply, Stub), (Ticket, Refusal)>
+    /// As on the desk, with a token of the durable inputs that the reply rests on.
+    pub(crate) fn redeem(
+        &mut self,
+        ticket: Ticket,
+    ) -> Result<(Reply, Stub, Begun<A>), (Ticket, Refusal)>
         ensures released { IfOk result (λ r. IsHere self.old.shared.desk.view (shown ticket) r.1) }
         ensures reply { IfOk result (λ r. r.0 ≡ r.1.answer.reply) }
         ensures durable { IfOk result (λ r. r.1.answer.number ≤ self.old.shared.desk.opening.inputs + self.old.shared.desk.view.state.durable) }
-        ensures answer { IfOk result (λ r. (past : List Input) → IsPast A.member A.opening past → IsAnswer A.member past r.1) }
+        ensures answer { IfOk result (λ r. (past : List Input) → IsPast A.member A.opening past → IsAnswer A.member past (begun_by r.2) r.1) }
+        ensures begun { IfOk result (λ r. begun_by r.2 ≡ (durable_part self.old.shared.desk).inputs) }
         ensures next { OnOk result (self.new.shared.desk ≡ record self.old.shared.desk { view = ended (shown ticket).own self.old.shared.desk.view }) }
         ensures refusal { IfErr result (λ e. IsSealed self.old.shared.desk (shown ticket) e.1) }
         ensures back { IfErr result (λ e. shown e.0 ≡ shown ticket) }
@@ -173,9 +177,22 @@ impl<A: Node> Locked<A> {
         match self.shared.desk.redeem(ticket) {
             Ok((reply, stub)) => {
                 self.is_wanted |= is_for_room(&reply);
-                Ok((reply, stub))
+                Ok((reply, stub, self.tell()))
             }
             Err(refused) => Err(refused),
+        }
+    }
+
+    /// A token of what is durable.
+    fn tell(&mut self) -> Begun<A>
+        ensures begun { begun_by result ≡ (durable_part self.old.shared.desk).inputs }
+        ensures desk { self.new.shared.desk ≡ self.old.shared.desk }
+        ensures wanted { self.new.is_wanted ≡ self.old.is_wanted }
+    {
+        let mark = tell(&mut self.held);
+        Begun {
+            mark,
+            of: PhantomData,
         }
     }
 
@@ -299,12 +316,16 @@ impl<A: Node> Locked<A> {
         self.shared.desk.let_go()
     }
 
-    /// As on the desk.
-    pub(crate) fn window(&self) -> Result<Vec<Packet>, AllocError>
-        ensures packets { IfOk result (λ list. (past : List Input) → IsPast A.member A.opening past → list.items ≡ window A.member.node (durable_in (seen past self.now.shared.desk).state)) }
-        ensures lawful { IfOk result (λ list. IsWindow A.member A.opening list.items) }
+    /// As on the desk, with a token of the durable inputs that it rests on.
+    pub(crate) fn window(&mut self) -> Result<(Vec<Packet>, Begun<A>), AllocError>
+        ensures packets { IfOk result (λ r. (past : List Input) → IsPast A.member A.opening past → r.0.items ≡ window A.member.node (durable_in (seen past self.old.shared.desk).state)) }
+        ensures lawful { IfOk result (λ r. IsWindow A.member A.opening (begun_by r.1) r.0.items) }
+        ensures begun { IfOk result (λ r. begun_by r.1 ≡ (durable_part self.old.shared.desk).inputs) }
+        ensures desk { self.new.shared.desk ≡ self.old.shared.desk }
+        ensures wanted { self.new.is_wanted ≡ self.old.is_wanted }
     {
-        self.shared.desk.window()
+        let list = self.shared.desk.window()?;
+        Ok((list, self.tell()))
     }
 
     /// What the desk shows.

@@ -1,8 +1,10 @@
 //! What the holders of a hub's ledgers have.
 ghost use Rattle.std.specs.Prelude.{◌≡◌};
+ghost use mathlib.Core.List.{IsPrefix};
+ghost use Rattle.commit_hub.specs.Props.{names-prop};
 
 use crate::ledgers::Node;
-use crate::tied::Known;
+use crate::tied::{Known, Mark, covers};
 use std::marker::PhantomData;
 use std::sync::ledger;
 
@@ -32,5 +34,27 @@ impl<A: Node> Share<A> {
 pub struct Tie<A: Node> {
     pub(crate) known: Known,
     pub(crate) of: PhantomData<A>,
-    ghost named: { known.name ≡ A.tied },
+    ghost named: { known.name ≡ A.tied } by { names-prop known.name A.tied },
+}
+
+/// What a reply or a window of a hub rests on: inputs since the desk's opening that were durable when it was given out, and
+/// are the first durable inputs since the opening for good. It takes no bytes.
+#[derive(Drop)]
+pub struct Begun<A: Node> {
+    pub(crate) mark: Mark,
+    pub(crate) of: PhantomData<A>,
+    ghost named: { mark.history ≡ A.tied.history },
+}
+
+impl<A: Node> Tie<A> {
+    ghost use Rattle.commit_hub.specs.Holders.{begun_by, known_by};
+
+    /// Changes nothing, and nothing runs: what the tie knows to be durable begins with the inputs of the token.
+    pub fn covers(&mut self, begun: &mut Begun<A>)
+        ensures begins { IsPrefix (begun_by begun.old) (known_by self.old).inputs }
+        ensures known { known_by self.new ≡ known_by self.old }
+        ensures begun { begun_by begun.new ≡ begun_by begun.old }
+    {
+        covers(&mut self.known, &mut begun.mark);
+    }
 }

@@ -1,7 +1,9 @@
-//! What a hub's tie knows of the desk under the lock: two halves of one value. They have no bytes, and their calls do
-//! nothing when they run: only clauses read them.
-ghost use Rattle.std.specs.Prelude.{◌≡◌, ℕ};
-ghost use Rattle.commit_hub.specs.Tied.{Durable, coded_durable, durable_part, held_owns, known_owns, nothing};
+//! What a hub's tie knows of the desk under the lock: two halves of one value, and tokens of the inputs in it. They have
+//! no bytes, and their calls do nothing when they run: only clauses read them.
+ghost use Rattle.std.specs.Prelude.{◌≡◌, ℕ, List};
+ghost use mathlib.Core.List.{IsPrefix};
+ghost use Rattle.ring_records.specs.declared.input.Input.{Input};
+ghost use Rattle.commit_hub.specs.Tied.{Durable, Names, coded_durable, coded_inputs, coded_names, begun_owns, durable_part, held_owns, known_owns, nothing};
 
 use group_commit::Desk;
 use std::marker::{Model, PhantomData};
@@ -10,7 +12,7 @@ use std::marker::{Model, PhantomData};
 #[derive(Drop)]
 pub(crate) struct Held {
     marker: PhantomData<()>,
-    pub ghost name: { ℕ },
+    pub ghost name: { Names } by { coded_names },
     pub ghost durable: { Durable } by { coded_durable },
 }
 
@@ -22,7 +24,7 @@ impl Model for Held {
 #[derive(Drop)]
 pub(crate) struct Known {
     marker: PhantomData<()>,
-    pub ghost name: { ℕ },
+    pub ghost name: { Names } by { coded_names },
     pub ghost durable: { Durable } by { coded_durable },
 }
 
@@ -30,11 +32,26 @@ impl Model for Known {
     ghost also_owns = { λ k. known_owns k.name k.durable };
 }
 
+/// These inputs were durable when it was made: the list of them, by its name, begins so for good.
+#[derive(Drop)]
+pub(crate) struct Mark {
+    marker: PhantomData<()>,
+    pub ghost history: { ℕ },
+    pub ghost inputs: { List Input } by { coded_inputs },
+}
+
+impl Model for Mark {
+    ghost also_owns = { λ m. begun_owns m.history m.inputs };
+}
+
 // What it owns names no key of one thread.
 unsafe impl Send for Held {}
 
 // What it owns names no key of one thread.
 unsafe impl Send for Known {}
+
+// What it owns names no key of one thread.
+unsafe impl Send for Mark {}
 
 /// The halves of a value that nobody else knows.
 pub(crate) fn open() -> (Held, Known)
@@ -62,12 +79,32 @@ pub(crate) fn audit(held: &mut Held, known: &mut Known)
     ensures known_name { known.new.name ≡ known.old.name }
 {}
 
-/// Both know what is durable of the desk.
+/// Both know what is durable of the desk, which goes on from what they knew.
 pub(crate) fn follow(held: &mut Held, known: &mut Known, desk: &Desk)
-    requires { known.old.name ≡ held.old.name }
+    requires name { known.old.name ≡ held.old.name }
+    requires longer { IsPrefix held.old.durable.inputs (durable_part desk.now).inputs }
     ensures equal { known.old.durable ≡ held.old.durable }
     ensures held { held.new.durable ≡ durable_part desk.now }
     ensures known { known.new.durable ≡ durable_part desk.now }
     ensures held_name { held.new.name ≡ held.old.name }
     ensures known_name { known.new.name ≡ known.old.name }
+{}
+
+/// A token of what is durable now.
+pub(crate) fn tell(held: &mut Held) -> Mark
+    ensures history { result.history ≡ held.old.name.history }
+    ensures inputs { result.inputs ≡ held.old.durable.inputs }
+    ensures same { held.new ≡ held.old }
+{
+    Mark {
+        marker: PhantomData,
+    }
+}
+
+/// Changes nothing: what is durable begins with what the token names.
+pub(crate) fn covers(known: &mut Known, mark: &mut Mark)
+    requires { mark.old.history ≡ known.old.name.history }
+    ensures begins { IsPrefix mark.old.inputs known.old.durable.inputs }
+    ensures known { known.new ≡ known.old }
+    ensures mark { mark.new ≡ mark.old }
 {}

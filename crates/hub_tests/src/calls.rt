@@ -60,7 +60,7 @@ pub fn refuses<A: Node, R: Wait + Abort>(
 
 pub fn redeems<A: Node, R: Wait + Abort>(rt: &R, hub: &Hub<A>, ticket: Ticket) {
     match hub.redeem_wait(rt, ticket) {
-        Ok((reply, stub)) => assert!(rt; stub.reply() == reply),
+        Ok((reply, stub, _begun)) => assert!(rt; stub.reply() == reply),
         Err((_ticket, refusal)) => refused(rt, refusal),
     }
 }
@@ -69,7 +69,7 @@ pub fn redeems<A: Node, R: Wait + Abort>(rt: &R, hub: &Hub<A>, ticket: Ticket) {
 pub fn says<A: Node, R: Wait + Abort>(rt: &R, hub: &Hub<A>, ticket: Ticket, say: Say) {
     let want = say.reply().expect(rt, "a reply");
     match hub.redeem_wait(rt, ticket) {
-        Ok((reply, stub)) => assert!(rt; reply == want && stub.reply() == want),
+        Ok((reply, stub, _begun)) => assert!(rt; reply == want && stub.reply() == want),
         Err((_ticket, refusal)) => refused(rt, refusal),
     }
 }

@@ -1,12 +1,13 @@
 -- `audit` reads both halves in one ghost step.
 use mathlib.Core.Path.{◌≡◌, refl, sym, subst}
 use mathlib.Core.List.{List, [], ◌∷◌}
-use Prim.Native.Nat.{ℕ}
+use Rattle.commit_hub.specs.Tied.{Names}
 use seplogic.Ra.Ura.{Ura}
 use mir.Syntax.{Fn}
 use mir.Val.{Val, vunit, vptr}
 use base.Logic.{SProp, ent, via, fst∗, snd∗}
 use base.Fml.{Fml, ftrue, flft}
+use base.Growing.{prefix_refl}
 use prog.Wp.{WpFn}
 use prog.Model.{Model}
 use types.Logic.{Logic, sem}
@@ -96,9 +97,9 @@ module _ {M : Type 1} {𝓤 : Ura M} (𝓛 : Logic 𝓤) (𝓜 : Model 𝓤 𝓛
         move ! (1 ∷ []) $ hears_last ! (λ named. split ! $ split ! $ move ! (1 ∷ []) $ split ! $ move ! (3 ∷ []) $ fsplit ! $ fsplit3 ! $ drop ! $ move ! (2 ∷ []) $ fsplit ! $ fsplit3 ! $ drop ! $
         keep ! (3 ∷ 4 ∷ 7 ∷ 0 ∷ 1 ∷ 5 ∷ 6 ∷ []) $ enter ! 𝓣.C 𝓣.Λ function (u ∷ v ∷ []) _ $ alloc_all ! (λ l. pass_all ! refl ((tt, tt), ((tt, tt), tt)) $
         opens ! tt A r.ref_ptr.0 r.ref_ptr.1 (λ cs. move ! (5 ∷ 6 ∷ 7 ∷ []) $ opens ! tt B s.ref_ptr.0 s.ref_ptr.1 (λ ds. move ! (1 ∷ []) $ fsplit ! $ move ! (7 ∷ []) $ fsplit ! $ move ! (3 ∷ 1 ∷ []) $
-        rewrite ! 0 (λ (k : ℕ). ‵ (known_owns k b.durable)) {x = a.name} {y = b.name} named refl $
-        use2 𝓛 (later (given (b.durable ≡ a.durable) (‵ (known_owns a.name all) ⊛ ‵ (held_owns a.name all)))) (steps.sets 𝓛 a.name a.durable b.durable all) $
-        await ! tt $ learn ! (λ seen. split ! $ rewrite ! 0 (λ (k : ℕ). ‵ (known_owns k all)) {x = b.name} {y = a.name} (sym named) refl $ move ! (1 ∷ 0 ∷ []) $ move ! (2 ∷ 0 ∷ []) $ fjoin ! $ move ! (2 ∷ 1 ∷ []) $ fjoin ! $
+        rewrite ! 0 (λ (k : Names). ‵ (known_owns k b.durable)) {x = a.name} {y = b.name} named refl $
+        use2 𝓛 (later (given (b.durable ≡ a.durable) (‵ (known_owns a.name all) ⊛ ‵ (held_owns a.name all)))) (steps.sets 𝓛 a.name a.durable b.durable all (prefix_refl all.inputs)) $
+        await ! tt $ learn ! (λ seen. split ! $ rewrite ! 0 (λ (k : Names). ‵ (known_owns k all)) {x = b.name} {y = a.name} (sym named) refl $ move ! (1 ∷ 0 ∷ []) $ move ! (2 ∷ 0 ∷ []) $ fjoin ! $ move ! (2 ∷ 1 ∷ []) $ fjoin ! $
         move ! (2 ∷ 0 ∷ 3 ∷ 4 ∷ 5 ∷ []) $ closes ! tt B b' ds s.ref_ptr.0 s.ref_ptr.1 $ move ! (4 ∷ 3 ∷ 5 ∷ 6 ∷ 7 ∷ []) $ closes ! tt A a' cs r.ref_ptr.0 r.ref_ptr.1 $
         sets ! (of_opd ! (unit_lit !)) refl (tt, tt) $ returns ! (look_at ! 0 refl) $ free_all ! refl $ suffices ! _ (ends_at 𝓛 ended stayed held (At passed) vunit tt (a', (b', tt)) (tt, (tt, tt))) $
         feq_i ! (List Val) (u ∷ []) (u ∷ []) refl $ fjoin3 ! $ move ! (2 ∷ 3 ∷ []) $ feq_i ! (List Val) (v ∷ []) (v ∷ []) refl $ fjoin3 ! $ nothing ! $ move ! (1 ∷ 0 ∷ []) $ fjoin ! $ move ! (1 ∷ 0 ∷ []) $ fjoin ! $

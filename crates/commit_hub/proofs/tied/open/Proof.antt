@@ -1,7 +1,7 @@
 -- `open` makes a ghost name, and hands out its two halves.
 use mathlib.Core.Path.{◌≡◌, refl}
 use mathlib.Core.List.{List, [], ◌∷◌, ◌++◌}
-use Prim.Native.Nat.{ℕ}
+use Rattle.commit_hub.specs.Tied.{Names}
 use seplogic.Ra.Ura.{Ura}
 use mir.Val.{Val, vstruct, vcons, vnil, of_list}
 use base.Logic.{SProp, ent, emp, via, fst∗}
@@ -53,7 +53,7 @@ module _ {M : Type 1} {𝓤 : Ura M} (𝓛 : Logic 𝓤) (mem : Memory → SProp
         let v : Val = vstruct (vcons token (vcons token vnil)) in
         qed 𝓛 (raw (alive 𝓛 function.signature tt tt) ∷ ‵ (owns [] tt tt) ∷ []) ∵ enter ! C Λ code.function [] _ $
         alloc_all ! (λ l. pass_all ! refl tt $
-        use0 𝓛 (later (some (λ (γ : ℕ). ‵ (fsep (known_owns γ none_durable) (held_owns γ none_durable))))) (steps.begins 𝓛) $ await ! tt $ pick ! (λ γ. fsplit ! $
+        use0 𝓛 (later (some (λ (γ : Names). ‵ (fsep (known_owns γ none_durable) (held_owns γ none_durable))))) (steps.begins 𝓛) $ await ! tt $ pick ! (λ γ. fsplit ! $
         let held₀ : A.Denot = record { marker = record {}; name = γ; durable = none_durable } in let known₀ : B.Denot = record { marker = record {}; name = γ; durable = none_durable } in
         sets ! (agg ! (no_more !)) refl (tt, tt) $ sets ! (agg ! (and_then ! (get ! refl) (no_more !))) refl (tt, (tt, tt)) $ sets ! (agg ! (no_more !)) refl (tt, tt) $ sets ! (agg ! (and_then ! (get ! refl) (no_more !))) refl (tt, (tt, tt)) $
         sets ! (agg ! (and_then ! (get ! refl) (and_then ! (get ! refl) (no_more !)))) refl (tt, ((tt, tt), ((tt, tt), tt))) $

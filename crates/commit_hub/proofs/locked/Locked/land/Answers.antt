@@ -1,10 +1,12 @@
-use Rattle.std.proofs.Common.{◌≡◌, ◌+◌, length, sym, ap, ◌∙◌}
+use Rattle.std.proofs.Common.{◌≡◌, ◌+◌, ◌++◌, length, sym, ap, ◌∙◌}
 use Rattle.ring_records.specs.Release.{packets, notices}
 use Rattle.ring_records.proofs.Lists.{none≢some}
 use Rattle.gated_journal.specs.Batch.{landed as receipted}
 use Rattle.group_commit.specs.Desk.{DeskKept, landed}
 use Rattle.commit_hub.specs.Holders.{known_by}
-use Rattle.commit_hub.specs.Tied.{Durable, with_area, with_batch}
+use Rattle.ring_records.specs.States.{flying_in}
+use Rattle.group_commit.proofs.Costs.{flown}
+use Rattle.commit_hub.specs.Tied.{Durable, durable_part, with_area, with_batch}
 use Rattle.commit_hub.specs.Told.{IsBrought}
 use Rattle.commit_hub.proofs.Batches.{brings, named, released}
 use Rattle.commit_hub.proofs.Works.{flew_none, flew_some, lands_area, lands_batch}
@@ -26,6 +28,14 @@ invariant_of-self-in-Ok g c =
       held_is = c.follow.ensures.held;
       next_is = λ b e. none≢some b (sym (ap (λ (d : DeskKept). d.view.state.checkpoint) next) ∙ e);
     }
+
+pub follow-requires-clause-longer : goal.follow-requires-clause-longer
+follow-requires-clause-longer g c =
+    let old = c.args.self.now in
+    let s = old.shared.desk.view.state in (
+      flying_in s,
+      ap (λ (d : Durable). d.inputs ++ flying_in s) old.held_is ∙ (flown s old.counts ∙ sym (ap (λ (d : DeskKept). (durable_part d).inputs) c.in-Ok.ensures.next)),
+    )
 
 pub returns-in-Ok-clause-brought : goal.returns-in-Ok-clause-brought
 returns-in-Ok-clause-brought g c =

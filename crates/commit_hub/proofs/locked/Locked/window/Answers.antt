@@ -1,4 +1,6 @@
-use Rattle.std.proofs.Common.{IfOk}
+use Rattle.std.proofs.Common.{List, sym, subst}
+use Rattle.ring_records.specs.declared.input.Input.{Input}
+use Rattle.commit_hub.specs.Tied.{durable_part}
 use Rattle.commit_hub.specs.Told.{IsWindow}
 use Rattle.commit_hub.proofs.Batches.{is_window, named}
 use Rattle.commit_hub.proofs.locked.Locked.window.Goals as goal
@@ -7,5 +9,6 @@ pub returns-clause-lawful : goal.returns-clause-lawful
 returns-clause-lawful g c =
     let old = c.args.self.now in
     let desk = old.shared.desk in
-    named (λ m opening. IfOk c.window.result (λ list. IsWindow m opening list.items)) desk _ _ old.of old.opening
-    (is_window (λ list. list.items) c.window.result desk c.window.ensures.lawful c.window.ensures.packets)
+    let list = c.in_ok-list.list.items in
+    subst (λ (since : List Input). IsWindow g.A.Node.member g.A.Node.opening since list) (sym c.tell.ensures.begun)
+    (named (λ m opening. IsWindow m opening (durable_part desk).inputs list) desk _ _ old.of old.opening (is_window list desk c.in_ok-list.ensures.lawful c.in_ok-list.ensures.packets))
