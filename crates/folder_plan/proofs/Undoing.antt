@@ -4,7 +4,7 @@ use Rattle.std.specs.List.{Contains, list_any, cons_option}
 use Rattle.std.proofs.lemmas.List.{append-nil, append_assoc}
 use Rattle.std.proofs.lemmas.List.Elements.{Contains-append_left, Contains-append_right, Contains-append_cases, Contains-push, Contains-push_cases}
 use Rattle.folder_plan.specs.declared.step.FolderStep.{FolderStep}
-use Rattle.folder_plan.specs.declared.step.FolderStep.TheVariants.{Clear, Format, Name, Mark, Unmark, Unname, Sync}
+use Rattle.folder_plan.specs.declared.step.FolderStep.TheVariants.{Clear, Format, Name, Mark, Unmark, Unname, Sign, Unsign, Sync}
 use Rattle.folder_plan.specs.Order.{IsForGood, IsUnmarked, MayFollow, Follows, TakesBack, IsTakenBack}
 use Rattle.folder_plan.specs.Undo.{undone, is_mark, unmarking, unnaming}
 use Rattle.folder_plan.proofs.Lists.{not-in_nil, in-head, in-tail, in-cons, in-split, split-at, split-append}
@@ -19,6 +19,8 @@ is_mark_alone (Name i) e = absurd cc
 is_mark_alone (Clear i) e = absurd cc
 is_mark_alone (Unname i) e = absurd cc
 is_mark_alone Unmark e = absurd cc
+is_mark_alone Sign e = absurd cc
+is_mark_alone Unsign e = absurd cc
 is_mark_alone Sync e = absurd cc
 
 either : (a b : Bool) → (a || b) ≡ true → (a ≡ true) ⊎ (b ≡ true)
@@ -86,6 +88,8 @@ takes-back begun (Format i) back there e = let same : Clear i ≡ back = cc in s
 takes-back begun (Name i) back there e = let same : Unname i ≡ back = cc in subst (TakesBack begun) same there
 takes-back begun (Clear i) back there e = absurd cc
 takes-back begun (Unname i) back there e = absurd cc
+takes-back begun Sign back there e = let same : Unsign ≡ back = cc in subst (TakesBack begun) same there
+takes-back begun Unsign back there e = absurd cc
 takes-back begun Mark back there e = absurd cc
 takes-back begun Unmark back there e = absurd cc
 takes-back begun Sync back there e = absurd cc
@@ -96,6 +100,8 @@ may-follow before (Format i) back free e = let same : Clear i ≡ back = cc in s
 may-follow before (Name i) back free e = let same : Unname i ≡ back = cc in subst (MayFollow before) same free
 may-follow before (Clear i) back free e = absurd cc
 may-follow before (Unname i) back free e = absurd cc
+may-follow before Sign back free e = let same : Unsign ≡ back = cc in subst (MayFollow before) same free
+may-follow before Unsign back free e = absurd cc
 may-follow before Mark back free e = absurd cc
 may-follow before Unmark back free e = absurd cc
 may-follow before Sync back free e = absurd cc
@@ -105,6 +111,8 @@ no-mark-back (Format i) e = cc
 no-mark-back (Name i) e = cc
 no-mark-back (Clear i) e = cc
 no-mark-back (Unname i) e = cc
+no-mark-back Sign e = cc
+no-mark-back Unsign e = cc
 no-mark-back Mark e = cc
 no-mark-back Unmark e = cc
 no-mark-back Sync e = cc
@@ -198,5 +206,6 @@ taken-whole begun = record {
   mark = mark-goes begun;
   nodes = λ i there. file-goes begun (Name i) (Unname i) refl there;
   files = λ i there. file-goes begun (Format i) (Clear i) refl there;
+  identity = λ there. file-goes begun Sign Unsign refl there;
   alone = nothing-else begun;
 }

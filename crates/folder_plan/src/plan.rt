@@ -22,13 +22,19 @@ pub fn making(node: NodeNo) -> [FolderStep; 3]
     ]
 }
 
-/// What makes `ring.made` once each node has a file, made by whatever start: all their names are on the disk before.
-pub fn marking() -> [FolderStep; 3]
+/// What makes `ring.made` once each node has a file, made by whatever start: all their names are on the disk before, and the
+/// ring's identity with its name.
+pub fn marking() -> [FolderStep; 4]
     ensures order { (begun : List FolderStep) → Follows begun result }
     ensures marked { IsForGood result FolderStep.Mark }
-    ensures alone { (step : FolderStep) → Contains result step → (step ≡ FolderStep.Mark) ⊎ (step ≡ FolderStep.Sync) }
+    ensures alone { (step : FolderStep) → Contains result step → (step ≡ FolderStep.Sign) ⊎ ((step ≡ FolderStep.Mark) ⊎ (step ≡ FolderStep.Sync)) }
 {
-    [FolderStep::Sync, FolderStep::Mark, FolderStep::Sync]
+    [
+        FolderStep::Sign,
+        FolderStep::Sync,
+        FolderStep::Mark,
+        FolderStep::Sync,
+    ]
 }
 
 /// What takes back all that a refused start left, whose steps were these; of the last one it is not known whether it was
@@ -55,7 +61,7 @@ fn unmarking(alloc: Global, begun: &[FolderStep]) -> Result<Vec<FolderStep>, All
     Ok(plan)
 }
 
-/// What takes back the files of nodes that these steps left, or may have left.
+/// What takes back the files of nodes, and of the ring's identity, that these steps left, or may have left.
 fn unnaming(alloc: Global, begun: &[FolderStep]) -> Result<Vec<FolderStep>, AllocError>
     ensures { IfOk result (λ plan. plan.items ≡ unnaming begun.now) }
 {

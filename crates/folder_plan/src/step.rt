@@ -3,7 +3,7 @@ ghost use Rattle.std.specs.Prelude.{◌≡◌};
 
 use ring_records::NodeNo;
 
-/// A step in a ring's folder. All but `Format` change names alone, and what they change outlives a stop once a `Sync`
+/// A step in a ring's folder. All but `Format` and `Sign` change names alone, and what they change outlives a stop once a `Sync`
 /// stands behind them.
 #[derive(Clone, Copy, Debug, PartialEq, Eq)]
 pub enum FolderStep {
@@ -13,6 +13,10 @@ pub enum FolderStep {
     Format(NodeNo),
     /// The file `node-I.crj.new` gets the name `node-I.crj`.
     Name(NodeNo),
+    /// There is a file `ring.id` then that tells an identity, and all its bytes are on the disk.
+    Sign,
+    /// There is no file `ring.id` then.
+    Unsign,
     /// There is `ring.made` then.
     Mark,
     /// There is no `ring.made` then.
@@ -26,16 +30,18 @@ pub enum FolderStep {
 impl FolderStep {
     ghost use Rattle.folder_plan.specs.Undo.{undone, is_mark};
 
-    /// What takes back a step that left a file of a node, or may have left one.
+    /// What takes back a step that left a file of a node or of the ring's identity, or may have left one.
     pub(crate) fn undone(self) -> Option<FolderStep>
         ensures { result ≡ undone self }
     {
         match self {
             FolderStep::Format(node) => Some(FolderStep::Clear(node)),
             FolderStep::Name(node) => Some(FolderStep::Unname(node)),
+            FolderStep::Sign => Some(FolderStep::Unsign),
             _ => None,
         }
     }
+
     /// Whether it makes `ring.made`.
     pub(crate) fn is_mark(self) -> bool
         ensures { result ≡ is_mark self }
